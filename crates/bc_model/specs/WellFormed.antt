@@ -1,0 +1,66 @@
+-- What a trace may say: its setup is within the ranges, and its phases and operations fit the setup.
+use Rattle.std.specs.Prelude.{◌≡◌, ℕ, ◌+◌, ◌*◌, ◌^◌, ◌<◌, ◌≤◌, List, length}
+use Rattle.std.specs.List.{AllByRecursion}
+use Rattle.bc_model.specs.Lists.{PhaseLists, TraceLists}
+use Rattle.bc_model.specs.declared.operations.Op.{Op}
+use Rattle.bc_model.specs.declared.operations.Op.TheVariants.{New, Who, Len, Set, Cut, Link, Load, Copy, Clear, Same}
+use Rattle.bc_model.specs.declared.traces.Give.{Give}
+use Rattle.bc_model.specs.declared.traces.Setup.{Setup}
+use Rattle.bc_model.specs.declared.values.Slot.{Slot}
+
+-- from least to most, both included
+abbrev pub IsWithin : ℕ → ℕ → ℕ → Type 0
+IsWithin least most n = (least ≤ n) × (n ≤ most)
+
+-- each number of a setup is in its range
+pub record IsSetup (s : Setup) : Type 0 where
+  pub lanes : IsWithin 1 16 s.lanes
+  pub domains : IsWithin 1 64 s.domains
+  pub slots : IsWithin 1 256 s.slots
+  pub superpages : IsWithin 1 4096 s.superpages
+  pub nursery : IsWithin 1 16 s.nursery
+  pub buffer : IsWithin 1 4096 s.buffer
+  pub frames : IsWithin (s.lanes * s.nursery + 2) (s.lanes * s.nursery + 4 * s.superpages) s.frames
+
+-- the setup has such a root slot
+abbrev pub IsSlot : Setup → Slot → Type 0
+IsSlot s p = (p.domain < s.domains) × (p.slot < s.slots)
+
+-- an object has at most 127 fields
+abbrev pub IsField : ℕ → Type 0
+IsField i = i < 127
+
+-- a number that a field or a slot may hold
+abbrev pub IsNumber : ℕ → Type 0
+IsNumber v = v < 2 ^ 63
+
+-- the operation's slots, fields and numbers are in range
+abbrev pub IsOp : Setup → Op → Type 0
+IsOp s (New p n) = IsSlot s p × (n ≤ 127)
+IsOp s (Who p) = IsSlot s p
+IsOp s (Len p) = IsSlot s p
+IsOp s (Set p i v) = IsSlot s p × IsField i × IsNumber v
+IsOp s (Cut p i) = IsSlot s p × IsField i
+IsOp s (Link p i q) = IsSlot s p × IsField i × IsSlot s q
+IsOp s (Load p i q) = IsSlot s p × IsField i × IsSlot s q
+IsOp s (Copy p q) = IsSlot s p × IsSlot s q
+IsOp s (Clear p) = IsSlot s p
+IsOp s (Same p q) = IsSlot s p × IsSlot s q
+
+abbrev pub IsGive : Setup → Give → Type 0
+IsGive s g = (g.domain < s.domains) × (g.lane < s.lanes)
+
+-- a turn's line has at most 64 hints
+abbrev pub IsTurn : List ℕ → Type 0
+IsTurn hints = (length hints ≤ 64) × AllByRecursion (λ h. h < 2 ^ 32) hints
+
+-- a phase has the operations of every lane
+pub record IsPhase (s : Setup) (p : PhaseLists) : Type 0 where
+  pub turns : AllByRecursion IsTurn p.turns
+  pub lanes : length p.lanes ≡ s.lanes
+  pub ops : AllByRecursion (AllByRecursion (IsOp s)) p.lanes
+  pub gives : AllByRecursion (IsGive s) p.gives
+
+pub record IsTrace (t : TraceLists) : Type 0 where
+  pub setup : IsSetup t.setup
+  pub phases : AllByRecursion (IsPhase t.setup) t.phases

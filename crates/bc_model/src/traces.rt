@@ -1,0 +1,76 @@
+use crate::operations::{Op, Reply};
+use std::marker::Model;
+
+/// The size of a run. `docs/TRACE-LANGUAGE.md` has the ranges.
+#[derive(Clone, Copy, Debug, PartialEq, Eq)]
+pub struct Setup {
+    pub lanes: u32,
+    pub domains: u32,
+    /// Root slots of each domain.
+    pub slots: u32,
+    pub superpages: u32,
+    /// Nursery pages of each lane.
+    pub nursery: u32,
+    /// Write-buffer entries of each lane.
+    pub buffer: u32,
+    /// Page frames of the whole run.
+    pub frames: u32,
+}
+
+/// From the end of a phase on, the domain is held by the lane.
+#[derive(Clone, Copy, Debug, PartialEq, Eq)]
+pub struct Give {
+    pub domain: u32,
+    pub lane: u32,
+}
+
+/// A stretch of a run in which no domain changes hands.
+#[derive(Debug, Drop)]
+pub struct Phase {
+    /// The hints of each `turn` line, in the order of the lines.
+    pub turns: Vec<Vec<u32>>,
+    /// The operations of each lane.
+    pub lanes: Vec<Vec<Op>>,
+    /// The domains that change hands at the end, in order.
+    pub gives: Vec<Give>,
+}
+
+impl Model for Phase {
+    ghost use Rattle.std.specs.Prelude.{map};
+    ghost use Rattle.bc_model.specs.Lists.{PhaseLists};
+
+    ghost Value = { PhaseLists };
+
+    ghost view = { λ p. record { turns = map (λ v. v.items) p.turns.items; lanes = map (λ v. v.items) p.lanes.items; gives = p.gives.items } };
+}
+
+/// What a program of several lanes asks of its heap.
+#[derive(Debug, Drop)]
+pub struct Trace {
+    pub setup: Setup,
+    pub phases: Vec<Phase>,
+}
+
+impl Model for Trace {
+    ghost use Rattle.bc_model.specs.Lists.{TraceLists};
+
+    ghost Value = { TraceLists };
+
+    ghost view = { λ t. record { setup = t.setup; phases = t.phases.items } };
+}
+
+/// The replies of a phase.
+#[derive(Debug, Drop)]
+pub struct Replies {
+    /// What each lane was answered, in the order of its operations.
+    pub lanes: Vec<Vec<Reply>>,
+}
+
+impl Model for Replies {
+    ghost use Rattle.std.specs.Prelude.{List, map};
+    ghost use Rattle.bc_model.specs.declared.operations.Reply.{Reply};
+
+    ghost Value = { List (List Reply) };
+
+    ghost view = { λ r. map (λ v. v.items) r.lanes.items };
+}
