@@ -1,2 +1,5 @@
 pub mod Lists
 pub mod WellFormed
+pub mod State
+pub mod Step
+pub mod Run

@@ -1,0 +1,80 @@
+-- The abstract state of a run: objects that are never forgotten, root slots, and holders.
+use Rattle.std.specs.Prelude.{ℕ, ◌+◌, ◌-◌, ◌*◌, ◌<◌, ◌==◌, Bool, List, [], ◌∷◌, ◌++◌, length, slice_index_or, slice_index, slice_set, zero, suc}
+use Rattle.bc_model.specs.declared.traces.Give.{Give}
+use Rattle.bc_model.specs.declared.values.Birth.{Birth}
+use Rattle.bc_model.specs.declared.values.Slot.{Slot}
+use Rattle.bc_model.specs.declared.values.Value.{Value}
+use Rattle.bc_model.specs.declared.values.Value.TheVariants.{Nil}
+
+-- an object: its domain and what its fields hold
+pub record Object : Type 0 where
+  pub domain : ℕ
+  pub fields : List Value
+
+-- `made` has all objects that each lane ever made, in the order of their making, so that the object of
+-- birth l.s stands at s - 1 in the list at l. `slots` has what the root slots hold, domain after domain, `width`
+-- slots each. `holders` has the lane that holds each domain.
+pub record State : Type 0 where
+  pub width : ℕ
+  pub made : List (List Object)
+  pub slots : List Value
+  pub holders : List ℕ
+
+abbrev pub no_object : Object
+no_object = record { domain = 0; fields = [] }
+
+-- all that a lane has made
+abbrev pub made_by : List (List Object) → ℕ → List Object
+made_by made j = slice_index_or made j []
+
+-- the objects that were born
+pub record IsBorn (made : List (List Object)) (b : Birth) : Type 0 where
+  pub lane : b.lane < length made
+  pub positive : 0 < b.serial
+  pub serial : b.serial < length (made_by made b.lane) + 1
+
+abbrev pub object_of : List (List Object) → Birth → Object
+object_of made b = slice_index_or (made_by made b.lane) (b.serial - 1) no_object
+
+abbrev pub with_object : List (List Object) → Birth → Object → List (List Object)
+with_object made b o = slice_set made b.lane (slice_set (made_by made b.lane) (b.serial - 1) o)
+
+-- what the lane makes next has the next serial
+abbrev pub with_made : List (List Object) → ℕ → Object → List (List Object)
+with_made made j o = slice_set made j (made_by made j ++ o ∷ [])
+
+abbrev pub next_birth : List (List Object) → ℕ → Birth
+next_birth made j = record { lane = j; serial = length (made_by made j) + 1 }
+
+-- where a root slot stands
+abbrev pub place_of : ℕ → Slot → ℕ
+place_of width p = width * p.domain + p.slot
+
+abbrev pub slot_of : State → Slot → Value
+slot_of s p = slice_index_or s.slots (place_of s.width p) Nil
+
+abbrev pub with_slot : State → Slot → Value → State
+with_slot s p v = record s { slots = slice_set s.slots (place_of s.width p) v }
+
+abbrev pub field_of : State → Birth → ℕ → Value
+field_of s b i = slice_index_or (object_of s.made b).fields i Nil
+
+-- an object with another value in a field
+abbrev pub with_value : Object → ℕ → Value → Object
+with_value o i v = record o { fields = slice_set o.fields i v }
+
+abbrev pub with_field : State → Birth → ℕ → Value → State
+with_field s b i v = record s { made = with_object s.made b (with_value (object_of s.made b) i v) }
+
+-- the lane holds the domain
+abbrev pub holds : State → ℕ → ℕ → Bool
+holds s j d = slice_index s.holders d == j
+
+-- the domain changes hands
+abbrev pub given : State → Give → State
+given s g = record s { holders = slice_set s.holders g.domain g.lane }
+
+-- the first n numbers
+abbrev pub numbers_below : ℕ → List ℕ
+numbers_below zero = []
+numbers_below (suc n) = numbers_below n ++ n ∷ []

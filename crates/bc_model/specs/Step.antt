@@ -1,0 +1,78 @@
+-- What an operation does, and what it is answered. The tests come in this order, and the first that holds gives the
+-- reply and leaves the state as it was: a domain that the operation names isn't the lane's; the slot holds no object; the
+-- object's domain isn't the lane's; the object has no such field.
+use Rattle.std.specs.Prelude.{ℕ, ◌==◌, ◌&&◌, nat_lt, Bool, true, false, if◌then◌else◌, List, [], ◌∷◌, length, replicate}
+use Rattle.std.specs.List.{list_all}
+use Rattle.bc_model.specs.State.{State, object_of, with_made, next_birth, slot_of, with_slot, field_of, with_field, holds}
+use Rattle.bc_model.specs.declared.operations.Op.{Op}
+use Rattle.bc_model.specs.declared.operations.Op.TheVariants as op
+use Rattle.bc_model.specs.declared.operations.Reply.{Reply}
+use Rattle.bc_model.specs.declared.operations.Reply.TheVariants as reply
+use Rattle.bc_model.specs.declared.values.Birth.{Birth}
+use Rattle.bc_model.specs.declared.values.Slot.{Slot}
+use Rattle.bc_model.specs.declared.values.Value.{Value}
+use Rattle.bc_model.specs.declared.values.Value.TheVariants.{Nil, Num, Obj}
+
+-- the domains that an operation names
+abbrev pub domains_of : Op → List ℕ
+domains_of (op.New p n) = p.domain ∷ []
+domains_of (op.Who p) = p.domain ∷ []
+domains_of (op.Len p) = p.domain ∷ []
+domains_of (op.Set p i v) = p.domain ∷ []
+domains_of (op.Cut p i) = p.domain ∷ []
+domains_of (op.Link p i q) = p.domain ∷ q.domain ∷ []
+domains_of (op.Load p i q) = p.domain ∷ q.domain ∷ []
+domains_of (op.Copy p q) = p.domain ∷ q.domain ∷ []
+domains_of (op.Clear p) = p.domain ∷ []
+domains_of (op.Same p q) = p.domain ∷ q.domain ∷ []
+
+-- the slot holds an object of a domain of the lane's, or the reply says what is wrong
+abbrev pub on_object : State → ℕ → Value → (Birth → State × Reply) → State × Reply
+on_object s j (Obj b) act = if holds s j (object_of s.made b).domain then act b else (s, reply.Foreign)
+on_object s j Nil act = (s, reply.NotObj)
+on_object s j (Num v) act = (s, reply.NotObj)
+
+-- and the object has the field
+abbrev pub on_field : State → ℕ → Value → ℕ → (Birth → State × Reply) → State × Reply
+on_field s j v i act =
+    on_object s j v (λ b. if nat_lt i (length (object_of s.made b).fields) then act b else (s, reply.Range))
+
+-- what a slot holds, told to a lane
+abbrev pub told : State → ℕ → Value → Reply
+told s j Nil = reply.Nil
+told s j (Num v) = reply.Num v
+told s j (Obj b) = if holds s j (object_of s.made b).domain then reply.Obj b else reply.Foreign
+
+-- what was loaded: of an object only that it is one
+abbrev pub loaded : Value → Reply
+loaded Nil = reply.Nil
+loaded (Num v) = reply.Num v
+loaded (Obj b) = reply.Ref
+
+abbrev pub is_same : Value → Value → Bool
+is_same Nil Nil = true
+is_same (Num v) (Num w) = v == w
+is_same (Obj b) (Obj c) = (b.lane == c.lane) && (b.serial == c.serial)
+is_same _ _ = false
+
+-- a new object of nil fields, and the slot that refers to it
+abbrev pub with_new : State → ℕ → Slot → ℕ → State
+with_new s j p n =
+    with_slot (record s { made = with_made s.made j (record { domain = p.domain; fields = replicate n Nil }) }) p (Obj (next_birth s.made j))
+
+-- an operation of a lane that holds all domains that it names
+abbrev pub act : State → ℕ → Op → State × Reply
+act s j (op.New p n) = (with_new s j p n, reply.Obj (next_birth s.made j))
+act s j (op.Who p) = (s, told s j (slot_of s p))
+act s j (op.Len p) = on_object s j (slot_of s p) (λ b. (s, reply.Len (length (object_of s.made b).fields)))
+act s j (op.Set p i v) = on_field s j (slot_of s p) i (λ b. (with_field s b i (Num v), reply.Done))
+act s j (op.Cut p i) = on_field s j (slot_of s p) i (λ b. (with_field s b i Nil, reply.Done))
+act s j (op.Link p i q) = on_field s j (slot_of s p) i (λ b. (with_field s b i (slot_of s q), reply.Done))
+act s j (op.Load p i q) =
+    on_field s j (slot_of s p) i (λ b. (with_slot s q (field_of s b i), loaded (field_of s b i)))
+act s j (op.Copy p q) = (with_slot s q (slot_of s p), reply.Done)
+act s j (op.Clear p) = (with_slot s p Nil, reply.Done)
+act s j (op.Same p q) = (s, if is_same (slot_of s p) (slot_of s q) then reply.Yes else reply.No)
+
+abbrev pub step : State → ℕ → Op → State × Reply
+step s j o = if list_all (holds s j) (domains_of o) then act s j o else (s, reply.Foreign)
