@@ -1,0 +1,16 @@
+-- A set of small numbers as a list of words of 64 bits: bit b is bit b % 64 of word b / 64.
+use Rattle.std.specs.Prelude.{ℕ, ◌*◌, ◌/◌, ◌%◌, ◌^◌, Bool, ◌==◌, List, slice_index, slice_set, bit_and, bit_or}
+use Rattle.std.specs.Int.{bit_at, bit_not, w64}
+
+-- is the bit set? Past the last word none is
+unfoldable pub has : List ℕ → ℕ → Bool
+has words b = bit_at (slice_index words (b / 64)) (b % 64) == 1
+
+-- the same set with this bit set
+unfoldable pub with_bit : List ℕ → ℕ → List ℕ
+with_bit words b = slice_set words (b / 64) (bit_or (slice_index words (b / 64)) (1 * 2 ^ (b % 64) % 2 ^ 64))
+
+-- the same set with this bit clear
+unfoldable pub without_bit : List ℕ → ℕ → List ℕ
+without_bit words b =
+    slice_set words (b / 64) (bit_and (slice_index words (b / 64)) (bit_not w64 (1 * 2 ^ (b % 64) % 2 ^ 64)))

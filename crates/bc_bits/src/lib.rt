@@ -1,0 +1,97 @@
+// Sets of small numbers as bits in words of 64 bits, and how many numbers pass a test.
+//
+// A superpage has up to 1,024 cells, and its header tells by one bit each which of them are allocated,
+// promised, marked, finished and bookmarked: sixteen words a set. This crate has the three steps on such
+// a set (test, set, clear), and the lemmas that the crates above reason with: a bit that was set is set,
+// one that was cleared is clear, and every other bit is as it was, with no premise on its place.
+//
+// Contracts speak of a set by the test `has` alone, which stays shut above this crate: `with_bit` and
+// `without_bit` are sets, and the words in them are nobody's business. The library's laws are the
+// contracts of the three `law_` functions. `count_below` counts what passes a test below a bound,
+// and is the measure of loops that set bits until none is left.
+#![tactic(auto, unfolding(crate::specs::Bits::has, crate::specs::Bits::with_bit, crate::specs::Bits::without_bit))]
+
+ghost use Rattle.std.specs.Prelude.{◌≡◌, ◌≢◌, ℕ, ◌+◌, ◌*◌, ◌<◌, ◌≤◌, ◌↔◌, Bool, true, false, IsTrue, List, length};
+ghost use Rattle.bc_bits.specs.Bits.{has, with_bit, without_bit};
+ghost use Rattle.bc_bits.specs.Counting.{count_below};
+
+/// How many cells a set has a bit for.
+pub const SET_BITS: u32 = 1024;
+
+/// Is this bit of the set set? A bit is below 1,024.
+pub fn contains(set: &[u64; 16], bit: u32) -> bool
+    requires { bit < 1024 }
+    ensures test { result ≡ has set.now bit }
+{
+    let word = set[(bit / 64) as usize];
+    word & (1 << (bit % 64)) != 0
+}
+
+/// Sets this bit, which is below 1,024, and leaves the others.
+pub fn insert(set: &mut [u64; 16], bit: u32)
+    requires { bit < 1024 }
+    ensures change { set.new ≡ with_bit set.old bit }
+{
+    let word = (bit / 64) as usize;
+    set[word] = set[word] | (1 << (bit % 64));
+}
+
+/// Clears this bit, which is below 1,024, and leaves the others.
+pub fn remove(set: &mut [u64; 16], bit: u32)
+    requires { bit < 1024 }
+    ensures change { set.new ≡ without_bit set.old bit }
+{
+    let word = (bit / 64) as usize;
+    set[word] = set[word] & !(1 << (bit % 64));
+}
+
+/// Is no bit set?
+#[tactic(auto)]
+pub fn is_empty(set: &[u64; 16]) -> bool
+    ensures empty { IsTrue result ↔ ((b : ℕ) → has set.now b ≡ false) }
+{
+    for word in set {
+        if *word != 0 {
+            return false;
+        }
+    }
+    true
+}
+
+/// How many bits below a bound, which is at most 1,024, are set.
+#[tactic(auto, unfolding(crate::specs::Counting::count_below))]
+pub fn count(set: &[u64; 16], below: u32) -> u32
+    requires { below ≤ 1024 }
+    ensures count { result ≡ count_below (has set.now) below }
+{
+    let mut total = 0;
+    for bit in 0..below {
+        if contains(set, bit) {
+            total += 1;
+        }
+    }
+    total
+}
+
+/// Law: a bit that is set into a list of words is then set, and no other bit changes.
+pub fn law_with_bit()
+    ensures same { (ws : List ℕ) → (b : ℕ) → b < 64 * length ws → has (with_bit ws b) b ≡ true }
+    ensures others { (ws : List ℕ) → (b i : ℕ) → i ≢ b → has (with_bit ws b) i ≡ has ws i }
+{}
+
+/// Law: a bit that is cleared in a list of words is then clear, and no other bit changes.
+pub fn law_without_bit()
+    ensures same { (ws : List ℕ) → (b : ℕ) → has (without_bit ws b) b ≡ false }
+    ensures others { (ws : List ℕ) → (b i : ℕ) → i ≢ b → has (without_bit ws b) i ≡ has ws i }
+{}
+
+/// Law: where one more number passes a test the count is one more, and it is 0 where none passes.
+pub fn law_count()
+    ensures none { (f : ℕ → Bool) → (n : ℕ) → ((i : ℕ) → i < n → f i ≡ false) → count_below f n ≡ 0 }
+    ensures all { (f : ℕ → Bool) → (n : ℕ) → ((i : ℕ) → i < n → f i ≡ true) → count_below f n ≡ n }
+    ensures more { (f g : ℕ → Bool) → (n b : ℕ) → b < n → f b ≡ false → g b ≡ true
+        → ((i : ℕ) → i ≢ b → g i ≡ f i) → count_below g n ≡ count_below f n + 1 }
+{}
+
+#[cfg(test)]
+mod tests;

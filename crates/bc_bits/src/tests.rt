@@ -1,0 +1,22 @@
+use super::*;
+
+#[test]
+fn set_and_cleared_bits_leave_their_neighbours(rt: HostRuntime) {
+    let mut set = [0; 16];
+    assert!(rt; is_empty(&set));
+    insert(&mut set, 0);
+    insert(&mut set, 63);
+    insert(&mut set, 64);
+    insert(&mut set, 1023);
+    assert!(rt; contains(&set, 63));
+    assert!(rt; !contains(&set, 62));
+    assert!(rt; !is_empty(&set));
+    assert_eq!(rt; count(&set, 1024), 4);
+    assert_eq!(rt; count(&set, 64), 2);
+    remove(&mut set, 63);
+    assert!(rt; !contains(&set, 63));
+    assert!(rt; contains(&set, 64));
+    assert_eq!(rt; set[0], 1);
+    assert_eq!(rt; set[1], 1);
+    assert_eq!(rt; set[15], 9223372036854775808);
+}

@@ -1,0 +1,30 @@
+// Frames, pages and the store: where the boxes of the heap's pages lie.
+//
+// A page of the heap has one box of 512 words for its whole life. While the page is resident its box lies
+// in memory and uses a frame; while it isn't, the box lies in the page's place in the store. This crate
+// has the three things that move: the box (`Page`), the right to a frame (`Frame`) and the two that
+// keep them, `FramePool` for the frames that nobody uses and `Store` for the boxes that aren't resident.
+//
+// A `Frame` can't be copied, so who has one has a frame that nobody else has. A pool is seen as a
+// flag for each frame, true where it is free. It keeps the numbers of the free frames in a list, in which
+// each stands exactly once: `claim` takes the last, and `give` adds one. The list has room for all frames
+// from the start, so `give` takes no memory. The store is seen as the boxes' contents by page.
+//
+// The theorems are the contracts: `claim` gives a frame that was free and no longer is, and nothing exactly
+// where no frame is free; a place of the store gives back what was put there, and `reads` counts each
+// `take_back` and no `take_blank`. Only the two `new` take memory.
+#![tactic(auto)]
+
+mod frames;
+mod pages;
+mod storage;
+
+pub use frames::{Frame, FramePool};
+pub use pages::Page;
+pub use storage::Store;
+
+/// Memory ran out.
+pub type NoMemory = std::alloc::AllocError;
+
+#[cfg(test)]
+mod tests;

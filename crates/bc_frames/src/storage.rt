@@ -1,0 +1,77 @@
+ghost use Rattle.std.specs.Prelude.{◌≡◌, ℕ, ◌<◌, List, Option, Some, None, length, slice_set, replicate, IfOk, IsSome};
+ghost use Rattle.bc_frames.specs.Places.{Places, place_at, one_more};
+
+use crate::pages::Page;
+use std::alloc::{AllocError, Global};
+use std::marker::Model;
+
+/// A place for the box of each page that isn't resident, by the page's number.
+#[derive(Drop)]
+pub struct Store {
+    places: Vec<Option<Page>>,
+    reads: u64,
+}
+
+impl Model for Store {
+    ghost use Rattle.bc_frames.specs.Places.{Places};
+
+    ghost Value = { Places };
+
+    ghost view = { λ s. record { places = s.places.items; reads = s.reads } };
+}
+
+impl Store {
+    /// A store with a box of zeros in the place of each page.
+    pub fn new(alloc: Global, pages: u32) -> Result<Self, AllocError>
+        ensures zeros { IfOk result (λ store. store ≡ record { places = replicate pages (Some (replicate 512 0)); reads = 0 }) }
+    {
+        let mut places = Vec::with_capacity(alloc, pages as usize)?;
+        for _page in 0..pages {
+            places.push_reserved(Some(Page::zeroed(alloc)?));
+        }
+        Ok(Store { places, reads: 0 })
+    }
+
+    /// Puts the box of a page into its place, which is empty.
+    pub fn put(&mut self, page: u32, content: Page)
+        requires page { page < length self.old.places }
+        requires empty { place_at self.old page ≡ None }
+        ensures put { self.new ≡ record self.old { places = slice_set self.old.places page (Some content) } }
+    {
+        self.places[page as usize] = Some(content);
+    }
+
+    /// Takes the box of a page out of its place, which is full, and counts a read.
+    pub fn take_back(&mut self, page: u32) -> Page
+        requires page { page < length self.old.places }
+        requires full { IsSome (place_at self.old page) }
+        ensures content { place_at self.old page ≡ Some result }
+        ensures taken { self.new
+            ≡ record self.old {
+              places = slice_set self.old.places page None;
+              reads = one_more self.old.reads;
+            } }
+    {
+        self.reads = self.reads.saturating_add(1);
+        self.places[page as usize].take().unwrap()
+    }
+
+    /// Takes the box of a page out of its place, which is full, and fills it with zeros. That is no read.
+    pub fn take_blank(&mut self, page: u32) -> Page
+        requires page { page < length self.old.places }
+        requires full { IsSome (place_at self.old page) }
+        ensures zeros { result ≡ replicate 512 0 }
+        ensures taken { self.new ≡ record self.old { places = slice_set self.old.places page None } }
+    {
+        let mut content = self.places[page as usize].take().unwrap();
+        content.clear();
+        content
+    }
+
+    /// How many pages were read back. The count stays at the last value of 64 bits.
+    pub fn reads(&self) -> u64
+        ensures reads { result ≡ self.now.reads }
+    {
+        self.reads
+    }
+}
