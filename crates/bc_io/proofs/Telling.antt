@@ -1,5 +1,8 @@
 -- Several reads, or several writes, are seen as one.
 use Rattle.std.proofs.Common.{◌≡◌, ℕ, ◌+◌, ◌-◌, ◌<◌, ◌≤◌, List, [], ◌∷◌, ◌++◌, length, take, drop, Option, None, Some, refl, sym, ap, ◌∙◌, subst, append_assoc, append-nil, arith, length-append, take-append-drop}
+use Rattle.std.proofs.Math.Seq.{take-append-add}
+use Rattle.std.proofs.lemmas.List.{take_rest, take-append-le}
+use lib.Seq.{take-take}
 use Rattle.std.specs.Prelude.{option_map}
 use Rattle.std.specs.Io.KnownBytes.{append_known, prepend_known, IsAtEnd}
 use Rattle.bc_io.specs.Told.{LeftFalls, HeldGrows, RoomFalls, HasRoom, IsPrefix, GivesAtMost, TakesFront}
@@ -118,3 +121,19 @@ TakesFront-IsPrefix a b k l xs front = (front.rest, front.whole)
 
 pub GivesAtMost-nil : (a : Option (List ℕ)) (most : ℕ) → GivesAtMost a a most
 GivesAtMost-nil a most = record { given = []; count = omega arith; falls = LeftFalls-nil a }
+
+-- ---- parts of lists
+
+-- the first m of the rest
+pub take-take_rest : (xs : List ℕ) (i m : ℕ) → take m (take (length xs - i) (drop i xs)) ≡ take m (drop i xs)
+take-take_rest xs i m = rw take_rest refl
+
+-- bytes were written over those behind `front`: they are what stands there
+pub take-written : (front read behind rest : List ℕ) (len filled count : ℕ) → length front ≡ filled → count ≤ length read → filled + count ≤ len
+    → take (filled + count) (take len (front ++ (read ++ behind) ++ rest)) ≡ front ++ take count read
+take-written front read behind rest len filled count at within short =
+    take-take (filled + count) len (front ++ (read ++ behind) ++ rest) short
+    ∙ ap (λ bytes. take (filled + count) bytes) (append_assoc front (read ++ behind) rest ∙ ap (λ bytes. front ++ bytes) (append_assoc read behind rest))
+    ∙ ap (λ n. take (n + count) (front ++ (read ++ (behind ++ rest)))) (sym at)
+    ∙ take-append-add front (read ++ (behind ++ rest)) count
+    ∙ ap (λ bytes. front ++ bytes) (take-append-le count read (behind ++ rest) within)

@@ -1,6 +1,6 @@
 //! Which calls of a device in memory fail.
 
-ghost use Rattle.std.specs.Prelude.{◌≡◌, ◌+◌, ◌≤◌, ◌↔◌, IsTrue, if◌then◌else◌};
+ghost use Rattle.std.specs.Prelude.{◌≡◌, ◌+◌, ◌<◌, ◌≤◌, ◌↔◌, IsTrue, if◌then◌else◌};
 ghost use Rattle.bc_io.specs.Faults.{counted};
 ghost use Rattle.bc_io.specs.Scripts.{FailsNext};
 
@@ -34,14 +34,22 @@ impl Schedule {
         ensures calls { self.new.calls ≡ counted self.old.calls }
         ensures faults { self.new.faults ≡ (if result then self.old.faults + 1 else self.old.faults) }
     {
-        if self.calls == u64::MAX {
-            return false;
-        }
-        self.calls += 1;
-        let fails = self.failing.contains(&self.calls);
+        let fails = fails_after(&self.failing, self.calls);
+        self.calls = self.calls.saturating_add(1);
         if fails {
             self.faults += 1;
         }
         fails
+    }
+}
+
+/// Whether the call after this many is to fail. The list has no number that a `u64` can't count.
+fn fails_after(failing: &[u64], calls: u64) -> bool
+    ensures fails { IsTrue result ↔ FailsNext failing.now calls }
+    ensures within { IsTrue result → calls < u64.MAX }
+{
+    match calls.checked_add(1) {
+        Some(number) => failing.contains(&number),
+        None => false,
     }
 }
