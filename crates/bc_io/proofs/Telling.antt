@@ -5,7 +5,7 @@ use Rattle.std.proofs.lemmas.List.{take_rest, take-append-le}
 use lib.Seq.{take-take}
 use Rattle.std.specs.Prelude.{option_map}
 use Rattle.std.specs.Io.KnownBytes.{append_known, prepend_known, IsAtEnd}
-use Rattle.bc_io.specs.Told.{LeftFalls, HeldGrows, RoomFalls, HasRoom, IsPrefix, GivesAtMost, TakesFront}
+use Rattle.bc_io.specs.Told.{LeftFalls, HeldGrows, RoomFalls, HasRoom, IsPrefix, GivesAtMost, GivesExactly, TakesFront}
 
 -- ---- what a sink holds
 
@@ -52,6 +52,13 @@ has_rest (Some _) m n room = omega arith
 -- where there was room for both, there is room for the second after the first
 pub HasRoom-rest : (a b : Option ℕ) (m n : ℕ) → HasRoom a (m + n) → RoomFalls a b m → HasRoom b n
 HasRoom-rest a b m n room falls = subst (λ told. HasRoom told n) (sym falls) (has_rest a m n room)
+
+-- there is room for what comes behind the bytes that were taken, where there was room for all
+pub HasRoom-next : (a b : Option ℕ) (xs ys zs : List ℕ) → HasRoom a (length (xs ++ ys ++ zs)) → RoomFalls a b (length xs) → HasRoom b (length ys)
+HasRoom-next a b xs ys zs room falls =
+    let both = length-append (xs ++ ys) zs in
+    let first = length-append xs ys in
+    HasRoom-rest a b (length xs) (length ys) (HasRoom-less a (length xs + length ys) (length (xs ++ ys ++ zs)) (omega (arith, both, first)) room) falls
 
 -- ---- what a source has left
 
@@ -121,6 +128,22 @@ TakesFront-IsPrefix a b k l xs front = (front.rest, front.whole)
 
 pub GivesAtMost-nil : (a : Option (List ℕ)) (most : ℕ) → GivesAtMost a a most
 GivesAtMost-nil a most = record { given = []; count = omega arith; falls = LeftFalls-nil a }
+
+-- more is allowed
+pub GivesAtMost-more : (a b : Option (List ℕ)) (m n : ℕ) → m ≤ n → GivesAtMost a b m → GivesAtMost a b n
+GivesAtMost-more a b m n le gives = record { given = gives.given; count = omega (arith, gives.count); falls = gives.falls }
+
+-- just so many are at most so many
+pub GivesAtMost-from_exactly : (a b : Option (List ℕ)) (n : ℕ) → GivesExactly a b n → GivesAtMost a b n
+GivesAtMost-from_exactly a b n gives = record { given = gives.given; count = omega (arith, gives.counted); falls = gives.falls }
+
+-- so many were given, and then these: their number is the sum
+pub GivesExactly-more : (a b c : Option (List ℕ)) (xs ys : List ℕ) (n : ℕ) → LeftFalls a b xs → LeftFalls b c ys → length xs + length ys ≡ n → GivesExactly a c n
+GivesExactly-more a b c xs ys n p q sum = record {
+  given = xs ++ ys;
+  counted = length-append xs ys ∙ sum;
+  falls = LeftFalls-more a b c xs ys p q;
+}
 
 -- ---- parts of lists
 

@@ -30,6 +30,12 @@ pub record GivesAtMost (old new : Option (List ℕ)) (most : ℕ) : Type 0 where
   pub count : length given ≤ most
   pub falls : LeftFalls old new given
 
+-- A source gave just so many bytes.
+pub record GivesExactly (old new : Option (List ℕ)) (count : ℕ) : Type 0 where
+  pub given : List ℕ
+  pub counted : length given ≡ count
+  pub falls : LeftFalls old new given
+
 -- A sink took a front of the bytes and not all of them: what it holds grew by the front, and its room fell by as many.
 pub record TakesFront (held_old held_new : Option (List ℕ)) (room_old room_new : Option ℕ) (bytes : List ℕ) : Type 0 where
   pub taken : List ℕ

@@ -12,6 +12,10 @@ pub type NoMemory = AllocError;
 pub struct Failed;
 
 impl fmt::Display for Failed {
+    ghost use Rattle.std.specs.Prelude.{Some, codes};
+
+    ghost output = { λ _. Some (codes "the device failed") };
+
     fn fmt<W: fmt::Write>(&self, f: &mut fmt::Formatter<W>) -> fmt::Result {
         write!(f, "the device failed")
     }

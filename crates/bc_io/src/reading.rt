@@ -3,7 +3,7 @@
 ghost use Rattle.std.specs.Prelude.{◌≡◌, ◌≢◌, ℕ, ◌+◌, ◌<◌, ◌≤◌, List, ◌++◌, Ok, Err, Some, length, take, drop, IfOk, OnOk, OnErr, IfSome, vec_len};
 ghost use Rattle.std.specs.Io.KnownBytes.{IsAtEnd};
 ghost use Rattle.bc_io.specs.Faults.{Rose};
-ghost use Rattle.bc_io.specs.Told.{LeftFalls, GivesAtMost};
+ghost use Rattle.bc_io.specs.Told.{LeftFalls, GivesAtMost, GivesExactly};
 
 use std::alloc::{AllocError, Global};
 use std::error::Error;
@@ -27,6 +27,11 @@ pub enum ReadAll {
 }
 
 impl fmt::Display for ReadAll {
+    ghost use Rattle.std.specs.Prelude.{Some};
+    ghost use Rattle.bc_io.specs.Texts.{text_of};
+
+    ghost output = { λ fault. Some (text_of fault) };
+
     fn fmt<W: fmt::Write>(&self, f: &mut fmt::Formatter<W>) -> fmt::Result {
         match self {
             ReadAll::TooLong => write!(f, "the input is too long"),
@@ -72,6 +77,9 @@ pub fn read_all<S: Source>(alloc: Global, source: &mut S, limit: usize) -> Resul
     ensures short { IfOk result (λ bytes. vec_len bytes ≤ limit) }
 
     // It is too long exactly where reads without a fault have given one byte more than the limit.
+    ensures too_long_given { result ≡ Err ReadAll.TooLong
+        → GivesExactly (S.left source.old) (S.left source.new) (limit + 1) }
+    ensures fewer { result ≢ Err ReadAll.TooLong → GivesAtMost (S.left source.old) (S.left source.new) limit }
     ensures too_long { result ≡ Err ReadAll.TooLong → IfSome (S.left source.old) (λ left. limit < length left) }
     ensures one_more { result ≡ Err ReadAll.TooLong
         → IfSome (S.left source.old) (λ left. S.left source.new ≡ Some (drop (limit + 1) left)) }

@@ -15,6 +15,10 @@ use crate::sinks::Sink;
 pub struct WriteFault;
 
 impl fmt::Display for WriteFault {
+    ghost use Rattle.std.specs.Prelude.{Some, codes};
+
+    ghost output = { λ _. Some (codes "writing failed") };
+
     fn fmt<W: fmt::Write>(&self, f: &mut fmt::Formatter<W>) -> fmt::Result {
         write!(f, "writing failed")
     }
