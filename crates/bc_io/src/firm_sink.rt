@@ -5,14 +5,13 @@ ghost use Rattle.bc_io.specs.Faults.{Rose};
 ghost use Rattle.bc_io.specs.Told.{HasRoom, HeldGrows, RoomFalls};
 ghost use Rattle.bc_io.specs.Scripts.{filled_with};
 
+use crate::faults::{Failed, NoMemory};
+use crate::sinks::Sink;
 use std::alloc::Global;
 use std::marker::Model;
 
-use crate::faults::{Failed, NoMemory};
-use crate::sinks::Sink;
-
-/// Takes all bytes that it has room for. The room is taken beforehand, by `reserve`. Contracts see the bytes that it holds
-/// and the room that is to spare.
+/// Takes all bytes that it has room for. The room is taken beforehand, by `reserve`. Contracts see
+/// the bytes that it holds and the room that is to spare.
 #[derive(Drop)]
 pub struct FirmSink {
     bytes: Vec<u8>,
@@ -41,7 +40,8 @@ impl FirmSink {
         }
     }
 
-    /// Sees to it that there is room for `n` more bytes. It takes no memory where that room is there already.
+    /// Sees to it that there is room for `n` more bytes. It takes no memory where that room is
+    /// there already.
     pub fn reserve(&mut self, n: usize) -> Result<(), NoMemory>
         ensures ok { OnOk result (self.new ≡ record self.old { spare = max self.old.spare n }) }
         ensures err { OnErr result (self.new ≡ self.old) }
@@ -84,8 +84,10 @@ impl Sink for FirmSink {
         requires { HasRoom (Some self.old.spare) (length bytes.now) }
         ensures within { IfOk result (λ count. count ≤ length bytes.now) }
         ensures some { 0 < length bytes.now → IfOk result (λ count. 0 < count) }
-        ensures taken { IfOk result (λ count. HeldGrows (Some self.old.held) (Some self.new.held) (take count bytes.now)) }
-        ensures filled { IfOk result (λ count. RoomFalls (Some self.old.spare) (Some self.new.spare) count) }
+        ensures taken { IfOk result (λ count.
+            HeldGrows (Some self.old.held) (Some self.new.held) (take count bytes.now)) }
+        ensures filled { IfOk result (λ count.
+            RoomFalls (Some self.old.spare) (Some self.new.spare) count) }
         ensures kept { OnErr result (Some self.new.held ≡ Some self.old.held) }
         ensures unfilled { OnErr result (Some self.new.spare ≡ Some self.old.spare) }
         ensures cause { OnErr result (Rose 0 0) }

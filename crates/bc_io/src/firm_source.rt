@@ -5,12 +5,12 @@ ghost use Rattle.std.specs.Io.KnownBytes.{IsAtEnd};
 ghost use Rattle.bc_io.specs.Faults.{Rose};
 ghost use Rattle.bc_io.specs.Told.{LeftFalls};
 
-use std::marker::Model;
-
 use crate::faults::Failed;
 use crate::sources::Source;
+use std::marker::Model;
 
-/// Gives the bytes that it was made with, as many in a call as there is room for. Contracts see the bytes that are left.
+/// Gives the bytes that it was made with, as many in a call as there is room for. Contracts see the
+/// bytes that are left.
 #[derive(Drop)]
 pub struct FirmSource {
     bytes: Vec<u8>,
@@ -64,7 +64,8 @@ impl Source for FirmSource {
 
     fn read(&mut self, buf: &mut [u8]) -> Result<usize, Failed>
         ensures within { IfOk result (λ count. count ≤ length buf.new) }
-        ensures given { IfOk result (λ count. LeftFalls (Some self.old) (Some self.new) (take count buf.new)) }
+        ensures given { IfOk result (λ count.
+            LeftFalls (Some self.old) (Some self.new) (take count buf.new)) }
         ensures at_end { result ≡ Ok 0 → 0 < length buf.new → IsAtEnd (Some self.new) }
         ensures kept { OnErr result (self.new ≡ self.old) }
         ensures cause { OnErr result (Rose 0 0) }

@@ -5,14 +5,14 @@ ghost use Rattle.std.specs.Io.KnownBytes.{IsAtEnd};
 ghost use Rattle.bc_io.specs.Faults.{Rose};
 ghost use Rattle.bc_io.specs.Told.{LeftFalls, GivesAtMost, GivesExactly};
 
+use crate::faults::Failed;
+use crate::sources::Source;
 use std::alloc::{AllocError, Global};
 use std::error::Error;
 use std::fmt;
 
-use crate::faults::Failed;
-use crate::sources::Source;
-
-/// `read_all` asks for at least this many bytes in a call, or for as many as the limit leaves and one more.
+/// `read_all` asks for at least this many bytes in a call, or for as many as the limit leaves and
+/// one more.
 const LEAST_ASKED: usize = 4096;
 
 /// Why a source was not read to its end.
@@ -65,26 +65,31 @@ impl From<Failed> for ReadAll {
     }
 }
 
-/// All bytes of a source up to its end, of which there may be at most `limit`. Each read but the last gives at least one
-/// byte, so it ends after at most `limit + 1` of them.
+/// All bytes of a source up to its end, of which there may be at most `limit`. Each read but the
+/// last gives at least one byte, so it ends after at most `limit + 1` of them.
 ///
-/// After a `ReadFault` or `NoMemory` some bytes of the source may be lost: those that were read until then.
+/// After a `ReadFault` or `NoMemory` some bytes of the source may be lost: those that were read
+/// until then.
 pub fn read_all<S: Source>(alloc: Global, source: &mut S, limit: usize) -> Result<Vec<u8>, ReadAll>
     // All bytes up to the end.
     ensures all { IfOk result (λ bytes. IfSome (S.left source.old) (λ left. bytes.items ≡ left)) }
-    ensures given { IfOk result (λ bytes. LeftFalls (S.left source.old) (S.left source.new) bytes.items) }
+    ensures given { IfOk result (λ bytes.
+        LeftFalls (S.left source.old) (S.left source.new) bytes.items) }
     ensures at_end { OnOk result (IsAtEnd (S.left source.new)) }
     ensures short { IfOk result (λ bytes. vec_len bytes ≤ limit) }
 
     // It is too long exactly where reads without a fault have given one byte more than the limit.
     ensures too_long_given { result ≡ Err ReadAll.TooLong
         → GivesExactly (S.left source.old) (S.left source.new) (limit + 1) }
-    ensures fewer { result ≢ Err ReadAll.TooLong → GivesAtMost (S.left source.old) (S.left source.new) limit }
-    ensures too_long { result ≡ Err ReadAll.TooLong → IfSome (S.left source.old) (λ left. limit < length left) }
+    ensures fewer { result ≢ Err ReadAll.TooLong
+        → GivesAtMost (S.left source.old) (S.left source.new) limit }
+    ensures too_long { result ≡ Err ReadAll.TooLong
+        → IfSome (S.left source.old) (λ left. limit < length left) }
     ensures one_more { result ≡ Err ReadAll.TooLong
         → IfSome (S.left source.old) (λ left. S.left source.new ≡ Some (drop (limit + 1) left)) }
 
-    ensures read_fault { result ≡ Err ReadAll.ReadFault → Rose (S.faults source.old) (S.faults source.new) }
+    ensures read_fault { result ≡ Err ReadAll.ReadFault
+        → Rose (S.faults source.old) (S.faults source.new) }
     ensures later { S.faults source.old ≤ S.faults source.new }
 
     // Whatever comes of it, what was read is a front of what was left.
@@ -107,7 +112,12 @@ pub fn read_all<S: Source>(alloc: Global, source: &mut S, limit: usize) -> Resul
 }
 
 /// Reads at most `asked` bytes to behind the first `filled` of `bytes`, and says how many.
-fn read_behind<S: Source>(source: &mut S, bytes: &mut Vec<u8>, filled: usize, asked: usize) -> Result<usize, ReadAll>
+fn read_behind<S: Source>(
+    source: &mut S,
+    bytes: &mut Vec<u8>,
+    filled: usize,
+    asked: usize,
+) -> Result<usize, ReadAll>
     requires filled { filled ≤ vec_len bytes.old }
     requires asked { 0 < asked }
     requires few { asked ≤ 4096 }
@@ -119,7 +129,8 @@ fn read_behind<S: Source>(source: &mut S, bytes: &mut Vec<u8>, filled: usize, as
     ensures at_end { result ≡ Ok 0 → IsAtEnd (S.left source.new) }
     ensures not_too_long { result ≢ Err ReadAll.TooLong }
     ensures kept { OnErr result (S.left source.new ≡ S.left source.old) }
-    ensures read_fault { result ≡ Err ReadAll.ReadFault → Rose (S.faults source.old) (S.faults source.new) }
+    ensures read_fault { result ≡ Err ReadAll.ReadFault
+        → Rose (S.faults source.old) (S.faults source.new) }
     ensures later { S.faults source.old ≤ S.faults source.new }
 {
     let end = filled + asked;

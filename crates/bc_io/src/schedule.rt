@@ -32,7 +32,8 @@ impl Schedule {
         ensures fails { IsTrue result ↔ FailsNext self.old.failing.items self.old.calls }
         ensures failing { self.new.failing ≡ self.old.failing }
         ensures calls { self.new.calls ≡ counted self.old.calls }
-        ensures faults { self.new.faults ≡ (if result then self.old.faults + 1 else self.old.faults) }
+        ensures faults { self.new.faults
+            ≡ (if result then self.old.faults + 1 else self.old.faults) }
     {
         let fails = fails_after(&self.failing, self.calls);
         self.calls = self.calls.saturating_add(1);

@@ -17,13 +17,15 @@ pub trait Sink {
     // For how many more bytes it has room, where it is told.
     ghost room: { Self → Option ℕ };
 
-    /// Takes the first of these bytes and says how many: at least one where there is one, and at most all. After
-    /// `Failed` it holds what it held and has the room that it had, and the call may be made again.
+    /// Takes the first of these bytes and says how many: at least one where there is one, and at
+    /// most all. After `Failed` it holds what it held and has the room that it had, and the call
+    /// may be made again.
     fn write(&mut self, bytes: &[u8]) -> Result<usize, Failed>
         requires { HasRoom (room self.old) (length bytes.now) }
         ensures within { IfOk result (λ count. count ≤ length bytes.now) }
         ensures some { 0 < length bytes.now → IfOk result (λ count. 0 < count) }
-        ensures taken { IfOk result (λ count. HeldGrows (held self.old) (held self.new) (take count bytes.now)) }
+        ensures taken { IfOk result (λ count.
+            HeldGrows (held self.old) (held self.new) (take count bytes.now)) }
         ensures filled { IfOk result (λ count. RoomFalls (room self.old) (room self.new) count) }
 
         // A failed write takes nothing, and the device has counted it.

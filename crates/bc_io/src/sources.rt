@@ -15,12 +15,13 @@ pub trait Source {
     // How often it has failed. It starts at 0.
     ghost faults: { Self → ℕ };
 
-    /// Gives the next bytes, at the front of `buf`, and says how many: at most the length of `buf`, and none into a
-    /// nonempty `buf` only at the end. What stands behind them in `buf` is left open. After `Failed` as much is left as
-    /// before, and the call may be made again.
+    /// Gives the next bytes, at the front of `buf`, and says how many: at most the length of `buf`,
+    /// and none into a nonempty `buf` only at the end. What stands behind them in `buf` is left
+    /// open. After `Failed` as much is left as before, and the call may be made again.
     fn read(&mut self, buf: &mut [u8]) -> Result<usize, Failed>
         ensures within { IfOk result (λ count. count ≤ length buf.new) }
-        ensures given { IfOk result (λ count. LeftFalls (left self.old) (left self.new) (take count buf.new)) }
+        ensures given { IfOk result (λ count.
+            LeftFalls (left self.old) (left self.new) (take count buf.new)) }
         ensures at_end { result ≡ Ok 0 → 0 < length buf.new → IsAtEnd (left self.new) }
 
         // A failed read gives nothing, and the device has counted it.

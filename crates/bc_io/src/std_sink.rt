@@ -5,13 +5,13 @@ ghost use Rattle.std.specs.Io.KnownBytes.{WriteAppends};
 ghost use Rattle.bc_io.specs.Faults.{Rose, counted};
 ghost use Rattle.bc_io.specs.Told.{HasRoom, HeldGrows, RoomFalls};
 
-use std::io::Write;
-
 use crate::faults::Failed;
 use crate::sinks::Sink;
+use std::io::Write;
 
-/// Hands bytes to a writer, and counts each of its errors. A writer that takes none of some bytes has failed too. It tells
-/// neither bytes nor room, and flushes nothing: the writer is one that keeps nothing back.
+/// Hands bytes to a writer, and counts each of its errors. A writer that takes none of some bytes
+/// has failed too. It tells neither bytes nor room, and flushes nothing: the writer is one that
+/// keeps nothing back.
 #[derive(Drop)]
 pub struct StdSink<W> {
     writer: W,
@@ -46,9 +46,11 @@ impl<W: Write> Sink for StdSink<W> {
         ensures later { write_faults_of self.old ≤ write_faults_of self.new }
 
         // The writer took what was taken, and its count rises by one at each error.
-        ensures writer { WriteAppends (W.contents (writer_of self.old)) (W.contents (writer_of self.new)) result bytes.now }
+        ensures writer { WriteAppends (W.contents (writer_of self.old))
+            (W.contents (writer_of self.new)) result bytes.now }
         ensures count { write_faults_of self.new
-            ≡ (if is_ok result then write_faults_of self.old else counted (write_faults_of self.old)) }
+            ≡ (if is_ok result then write_faults_of self.old
+            else counted (write_faults_of self.old)) }
     {
         match self.writer.write(bytes) {
             Ok(count) if count > 0 || bytes.is_empty() => Ok(count),

@@ -5,10 +5,9 @@ ghost use Rattle.std.specs.Io.KnownBytes.{IsAtEnd, ReadConsumes};
 ghost use Rattle.bc_io.specs.Faults.{Rose, counted};
 ghost use Rattle.bc_io.specs.Told.{LeftFalls};
 
-use std::io::Read;
-
 use crate::faults::Failed;
 use crate::sources::Source;
+use std::io::Read;
 
 /// Gives what a reader gives, and counts each of its errors. It tells no bytes.
 #[derive(Drop)]
@@ -43,9 +42,11 @@ impl<R: Read> Source for StdSource<R> {
         ensures later { read_faults_of self.old ≤ read_faults_of self.new }
 
         // It passes on what the reader gave, and its count rises by one at each error.
-        ensures reader { ReadConsumes (R.remaining (reader_of self.old)) (R.remaining (reader_of self.new)) result buf.new }
+        ensures reader { ReadConsumes (R.remaining (reader_of self.old))
+            (R.remaining (reader_of self.new)) result buf.new }
         ensures count { read_faults_of self.new
-            ≡ (if is_ok result then read_faults_of self.old else counted (read_faults_of self.old)) }
+            ≡ (if is_ok result then read_faults_of self.old
+            else counted (read_faults_of self.old)) }
     {
         match self.reader.read(buf) {
             Ok(count) => Ok(count),

@@ -1,19 +1,26 @@
-//! What no clause says: that the calls succeed with ample memory, in how many reads and writes, and what real streams do.
+//! What no clause says: that the calls succeed with ample memory, in how many reads and writes, and
+//! what real streams do.
 
 ghost use Rattle.std.specs.Prelude.{◌<◌};
 
+use crate::{
+    Failed, FirmSink, FirmSource, MemSink, MemSource, ReadAll, Sink, Source, StdSink, StdSource,
+    WriteFault, read_all, write_all,
+};
 use std::alloc::{AllocError, Global};
 use std::fs::File;
 use std::io::Cursor;
 use std::test::Fail;
 
-use crate::{Failed, FirmSink, FirmSource, MemSink, MemSource, ReadAll, Sink, Source, StdSink, StdSource, WriteFault};
-use crate::{read_all, write_all};
-
 const SENTENCE: &[u8] = b"Each phase prints its replies in turn";
 
 /// A source of these bytes that gives such pieces and fails at these calls.
-fn source_of(alloc: Global, bytes: &[u8], piece: usize, failing: &[u64]) -> Result<MemSource, AllocError>
+fn source_of(
+    alloc: Global,
+    bytes: &[u8],
+    piece: usize,
+    failing: &[u64],
+) -> Result<MemSource, AllocError>
     requires { 0 < piece }
 {
     let bytes = bytes.to_vec(alloc)?;
@@ -54,7 +61,9 @@ fn pieces_come_in_order(rt: HostRuntime) -> Result<(), Fail> {
 }
 
 #[test]
-fn a_read_that_fails_in_mid_stream_is_a_fault_and_the_rest_can_still_be_read(rt: HostRuntime) -> Result<(), Fail> {
+fn a_read_that_fails_in_mid_stream_is_a_fault_and_the_rest_can_still_be_read(
+    rt: HostRuntime,
+) -> Result<(), Fail> {
     let mut source = source_of(rt.alloc(), SENTENCE, 16, &[3])?;
     let fault = read_all(rt.alloc(), &mut source, 37).err();
     assert_eq!(rt; fault, Some(ReadAll::ReadFault));
@@ -82,7 +91,9 @@ fn at_least_4096_bytes_are_asked_for(rt: HostRuntime) -> Result<(), Fail> {
 }
 
 #[test]
-fn a_write_that_fails_leaves_a_front_and_the_rest_can_still_be_written(rt: HostRuntime) -> Result<(), Fail> {
+fn a_write_that_fails_leaves_a_front_and_the_rest_can_still_be_written(
+    rt: HostRuntime,
+) -> Result<(), Fail> {
     let failing = [3u64].to_vec(rt.alloc())?;
     let mut sink = MemSink::new(rt.alloc(), 100, 10, failing)?;
     let outcome = write_all(&mut sink, SENTENCE);

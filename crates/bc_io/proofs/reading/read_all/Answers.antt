@@ -6,7 +6,7 @@ pub returns-then-count-limit-clause-too_long_given : goal.returns-then-count-lim
 returns-then-count-limit-clause-too_long_given g c is =
     let given = c.in_ok-count.ensures.given in
     GivesExactly-more _ _ _ _ given.0 _ c.loop-bytes.invariant.given given.3
-      (omega (arith, length-take c.loop-bytes.filled c.loop-bytes.bytes.items, given.1, c.in_ok-count.ensures.within))
+    (omega (arith, length-take c.loop-bytes.filled c.loop-bytes.bytes.items, given.1, c.in_ok-count.ensures.within))
 
 pub returns-then-count-limit-clause-front : goal.returns-then-count-limit-clause-front
 returns-then-count-limit-clause-front g c =
