@@ -1,0 +1,5 @@
+pub mod Faults
+pub mod Told
+pub mod Scripts
+pub mod Edges
+pub mod Texts

@@ -1,0 +1,63 @@
+//! The edge over std's writers.
+
+ghost use Rattle.std.specs.Prelude.{◌≡◌, ℕ, ◌<◌, ◌≤◌, length, take, IfOk, OnErr, None, is_ok, if◌then◌else◌};
+ghost use Rattle.std.specs.Io.KnownBytes.{WriteAppends};
+ghost use Rattle.bc_io.specs.Faults.{Rose, counted};
+ghost use Rattle.bc_io.specs.Told.{HasRoom, HeldGrows, RoomFalls};
+
+use crate::faults::Failed;
+use crate::sinks::Sink;
+use std::io::Write;
+
+/// Hands bytes to a writer, and counts each of its errors. A writer that takes none of some bytes
+/// has failed too. It tells neither bytes nor room, and flushes nothing: the writer is one that
+/// keeps nothing back.
+#[derive(Drop)]
+pub struct StdSink<W> {
+    writer: W,
+    faults: u64,
+}
+
+impl<W: Write> StdSink<W> {
+    ghost use Rattle.bc_io.specs.Edges.{write_faults_of, writer_of};
+
+    /// A sink over this writer, which has not failed yet.
+    pub fn new(writer: W) -> StdSink<W>
+        ensures writer { writer_of result ≡ writer }
+        ensures faults { write_faults_of result ≡ 0 }
+    {
+        StdSink { writer, faults: 0 }
+    }
+}
+
+impl<W: Write> Sink for StdSink<W> {
+    ghost use Rattle.bc_io.specs.Edges.{write_faults_of, writer_of};
+
+    ghost held = { λ _. None };
+
+    ghost faults = { write_faults_of };
+
+    ghost room = { λ _. None };
+
+    fn write(&mut self, bytes: &[u8]) -> Result<usize, Failed>
+        ensures within { IfOk result (λ count. count ≤ length bytes.now) }
+        ensures some { 0 < length bytes.now → IfOk result (λ count. 0 < count) }
+        ensures cause { OnErr result (Rose (write_faults_of self.old) (write_faults_of self.new)) }
+        ensures later { write_faults_of self.old ≤ write_faults_of self.new }
+
+        // The writer took what was taken, and its count rises by one at each error.
+        ensures writer { WriteAppends (W.contents (writer_of self.old))
+            (W.contents (writer_of self.new)) result bytes.now }
+        ensures count { write_faults_of self.new
+            ≡ (if is_ok result then write_faults_of self.old
+            else counted (write_faults_of self.old)) }
+    {
+        match self.writer.write(bytes) {
+            Ok(count) if count > 0 || bytes.is_empty() => Ok(count),
+            _ => {
+                self.faults = self.faults.saturating_add(1);
+                Err(Failed)
+            }
+        }
+    }
+}

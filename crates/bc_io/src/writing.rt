@@ -1,0 +1,53 @@
+//! Writing all of some bytes to a sink.
+
+ghost use Rattle.std.specs.Prelude.{◌≡◌, ◌≤◌, length, OnOk, OnErr};
+ghost use Rattle.bc_io.specs.Faults.{Rose};
+ghost use Rattle.bc_io.specs.Told.{HasRoom, HeldGrows, RoomFalls, TakesFront};
+
+use crate::faults::Failed;
+use crate::sinks::Sink;
+use std::error::Error;
+use std::fmt;
+
+/// A write failed before all bytes were taken, and the sink has counted it.
+#[derive(Clone, Copy, Debug, PartialEq, Eq)]
+pub struct WriteFault;
+
+impl fmt::Display for WriteFault {
+    ghost use Rattle.std.specs.Prelude.{Some, codes};
+
+    ghost output = { λ _. Some (codes "writing failed") };
+
+    fn fmt<W: fmt::Write>(&self, f: &mut fmt::Formatter<W>) -> fmt::Result {
+        write!(f, "writing failed")
+    }
+}
+
+impl Error for WriteFault {}
+
+/// Writes all of these bytes, or a front of them and then meets a fault. Each write takes at least
+/// one byte. It takes no memory, and an empty slice is written with no call of the sink at all.
+///
+/// After a fault the sink holds a front of the bytes, so a second try with all of them would write
+/// that front twice.
+pub fn write_all<K: Sink>(sink: &mut K, bytes: &[u8]) -> Result<(), WriteFault>
+    requires { HasRoom (K.room sink.old) (length bytes.now) }
+    ensures all { OnOk result (HeldGrows (K.held sink.old) (K.held sink.new) bytes.now) }
+    ensures filled { OnOk result
+        (RoomFalls (K.room sink.old) (K.room sink.new) (length bytes.now)) }
+
+    // At a fault a front was taken, and not all.
+    ensures front { OnErr result (TakesFront (K.held sink.old) (K.held sink.new)
+        (K.room sink.old) (K.room sink.new) bytes.now) }
+    ensures cause { OnErr result (Rose (K.faults sink.old) (K.faults sink.new)) }
+    ensures later { K.faults sink.old ≤ K.faults sink.new }
+{
+    let mut done = 0;
+    while done < bytes.len() {
+        match sink.write(&bytes[done..]) {
+            Ok(count) => done += count,
+            Err(Failed) => return Err(WriteFault),
+        }
+    }
+    Ok(())
+}
