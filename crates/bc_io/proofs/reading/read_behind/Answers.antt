@@ -1,4 +1,4 @@
-use Rattle.std.proofs.Common.{◌≡◌, ◌≤◌, take, length, ◌+◌, ◌++◌, ap, ◌∙◌, arith, length-take, vec_len}
+use Rattle.std.proofs.Common.{◌≡◌, take, length, ◌++◌, ap, ◌∙◌, arith, length-take}
 use Rattle.bc_io.proofs.Telling.{take-written}
 use Rattle.bc_io.proofs.reading.read_behind.Goals as goal
 

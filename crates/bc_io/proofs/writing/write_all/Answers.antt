@@ -1,6 +1,5 @@
-use Rattle.std.proofs.Common.{◌≡◌, take, drop, ◌+◌, ◌++◌, ◌∙◌, ap, arith, sym, subst}
+use Rattle.std.proofs.Common.{◌≡◌, take, drop, ◌+◌, ◌++◌, arith}
 use Rattle.std.proofs.Math.Seq.{take-add}
-use Rattle.bc_io.specs.Told.{HeldGrows}
 use Rattle.bc_io.proofs.Telling.{HeldGrows-more, RoomFalls-more, take-take_rest}
 use Rattle.bc_io.proofs.writing.write_all.Goals as goal
 
