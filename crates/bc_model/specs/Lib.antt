@@ -2,4 +2,6 @@ pub mod Lists
 pub mod WellFormed
 pub mod State
 pub mod Step
+pub mod Consistent
 pub mod Run
+pub mod Flat
