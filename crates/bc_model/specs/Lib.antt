@@ -3,5 +3,6 @@ pub mod WellFormed
 pub mod State
 pub mod Step
 pub mod Consistent
-pub mod Run
 pub mod Flat
+pub mod Grows
+pub mod Run

@@ -2,6 +2,7 @@
 #![tactic(auto)]
 
 mod item;
+mod made;
 mod opening;
 mod operations;
 mod plain_heap;

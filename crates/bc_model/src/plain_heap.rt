@@ -9,8 +9,8 @@ ghost use Rattle.bc_model.specs.declared.operations.Op.{Op};
 ghost use Rattle.bc_model.specs.declared.operations.Reply.{Reply};
 ghost use Rattle.bc_model.specs.declared.values.Birth.{Birth};
 
-use crate::item::Item;
-use crate::opening::{first_holders, no_objects};
+use crate::made::Made;
+use crate::opening::first_holders;
 use crate::operations::{Op, Reply};
 use crate::traces::Setup;
 use crate::values::{Birth, Slot, Value};
@@ -22,8 +22,7 @@ use std::marker::Model;
 pub struct Flat {
     /// Root slots of each domain.
     width: u32,
-    /// All that each lane made, in the order of its making.
-    made: Vec<Vec<Item>>,
+    made: Made,
     /// What the root slots hold, domain after domain.
     slots: Vec<Value>,
     /// The lane that holds each domain.
@@ -55,7 +54,7 @@ impl Flat {
         let slots = setup.slots as usize * setup.domains as usize;
         Ok(Flat {
             width: setup.slots,
-            made: no_objects(alloc, setup.lanes)?,
+            made: Made::new(alloc, setup.lanes)?,
             slots: vec![in alloc; Value::Nil; slots]?,
             holders: first_holders(alloc, setup.domains, setup.lanes)?,
         })
@@ -161,8 +160,7 @@ impl Flat {
         ensures fields { result.1 ≡ length (object_of self.now.made birth).fields }
         ensures held { result.0 < length self.now.holders }
     {
-        let item = &self.made[birth.lane as usize][birth.serial as usize - 1];
-        (item.domain(), item.len())
+        self.made.shape(birth)
     }
 
     /// What a field of an object holds.
@@ -172,8 +170,7 @@ impl Flat {
         ensures value { result ≡ field_of self.now birth index }
         ensures held { IsValue self.now.made result }
     {
-        let item = &self.made[birth.lane as usize][birth.serial as usize - 1];
-        item.field(index)
+        self.made.field(birth, index)
     }
 
     /// A field of an object becomes the value.
@@ -183,9 +180,7 @@ impl Flat {
         requires value { IsValue self.old.made value }
         ensures { self.new ≡ with_field self.old birth index value }
     {
-        let objects = &mut self.made[birth.lane as usize];
-        let item = &mut objects[birth.serial as usize - 1];
-        item.set_field(index, value);
+        self.made.set_field(birth, index, value);
     }
 
     /// The object that a value refers to, if its domain is the lane's, or the reply that says what
@@ -234,13 +229,7 @@ impl Flat {
         ensures err { OnErr result (self.new ≡ self.old) }
     {
         let place = self.place(slot);
-        let item = Item::new(alloc, slot.domain, fields)?;
-        let objects = &mut self.made[lane as usize];
-        objects.push(item)?;
-        let birth = Birth {
-            lane,
-            serial: objects.len() as u32,
-        };
+        let birth = self.made.add(alloc, lane, slot.domain, fields)?;
         self.slots[place] = Value::Obj(birth);
         Ok(Reply::Obj(birth))
     }
