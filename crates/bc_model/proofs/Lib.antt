@@ -1,3 +1,6 @@
 pub mod Objects
 pub mod States
 pub mod Views
+pub mod Effects
+pub mod Steps
+pub mod Openings

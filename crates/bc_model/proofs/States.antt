@@ -127,3 +127,12 @@ pub IsState-written : (s : State) (made : List (List Object)) (slots : List Valu
 IsState-written s made slots e f h =
     subst (λ (m : List (List Object)). IsState (record { width = s.width; made = m; slots = slots; holders = s.holders })) (sym e)
       (subst (λ (xs : List Value). IsState (record { width = s.width; made = s.made; slots = xs; holders = s.holders })) (sym f) h)
+
+-- a state is its four parts
+pub same_state : (s t : State) → s.width ≡ t.width → s.made ≡ t.made → s.slots ≡ t.slots → s.holders ≡ t.holders → s ≡ t
+same_state s t w m x h =
+    let of = λ (w' : ℕ) (m' : List (List Object)) (x' : List Value) (h' : List ℕ). (let r : State = record { width = w'; made = m'; slots = x'; holders = h' } in r) in
+    ap (λ (w' : ℕ). of w' s.made s.slots s.holders) w
+    ∙ ap (λ (m' : List (List Object)). of t.width m' s.slots s.holders) m
+    ∙ ap (λ (x' : List Value). of t.width t.made x' s.holders) x
+    ∙ ap (λ (h' : List ℕ). of t.width t.made t.slots h') h

@@ -1,4 +1,4 @@
-ghost use Rattle.std.specs.Prelude.{◌≡◌, ℕ, ◌+◌, ◌*◌, ◌^◌, ◌<◌, IfOk, OnErr, MatchResult, IsTrue, length, ◌==◌, if◌then◌else◌};
+ghost use Rattle.std.specs.Prelude.{◌≡◌, ℕ, ◌+◌, ◌*◌, ◌^◌, ◌<◌, ◌≤◌, IfOk, OnErr, MatchResult, IsTrue, length, ◌==◌, if◌then◌else◌};
 ghost use Rattle.std.specs.List.{list_all};
 ghost use Rattle.bc_model.specs.Consistent.{IsState, IsValue, sizes_of, HasSizes, HasSerials};
 ghost use Rattle.bc_model.specs.State.{State, IsBorn, made_by, given, holds, field_of, object_of, slot_of, with_field, with_slot};
@@ -68,10 +68,25 @@ impl Flat {
         requires serials { length (made_by self.old.made lane) + 1 < 2 ^ 32 }
         ensures ok { IfOk result (λ reply. (self.new, reply) ≡ step self.old lane op.now) }
         ensures err { OnErr result (self.new ≡ self.old) }
+
+        // What the next step asks: the sizes stay, and at most one object more was made.
+        ensures sizes { sizes_of self.new ≡ sizes_of self.old }
+        ensures more { (j : ℕ) → length (made_by self.new.made j) ≤ length (made_by self.old.made j) + 1 }
     {
         if !self.holds_all(lane, op) {
             return Ok(Reply::Foreign);
         }
+        self.act(alloc, lane, op)
+    }
+
+    /// An operation of a lane that holds all domains that it names.
+    fn act(&mut self, alloc: Global, lane: u32, op: &Op) -> Result<Reply, AllocError>
+        requires lane { lane < length self.old.made }
+        requires op { IsOp (sizes_of self.old) op.now }
+        requires serials { length (made_by self.old.made lane) + 1 < 2 ^ 32 }
+        ensures ok { IfOk result (λ reply. (self.new, reply) ≡ act self.old lane op.now) }
+        ensures err { OnErr result (self.new ≡ self.old) }
+    {
         match *op {
             Op::New(slot, fields) => self.make(alloc, lane, slot, fields),
             Op::Who(slot) => Ok(self.who(lane, slot)),
@@ -90,7 +105,8 @@ impl Flat {
     pub fn give(&mut self, domain: u32, lane: u32)
         requires domain { domain < length self.old.holders }
         requires lane { lane < length self.old.made }
-        ensures { self.new ≡ given self.old (record { domain = domain; lane = lane }) }
+        ensures given { self.new ≡ given self.old (record { domain = domain; lane = lane }) }
+        ensures sizes { sizes_of self.new ≡ sizes_of self.old }
     {
         self.holders[domain as usize] = lane;
     }
@@ -98,7 +114,8 @@ impl Flat {
     /// Whether the lane holds the domain.
     fn holds(&self, lane: u32, domain: u32) -> bool
         requires { domain < length self.now.holders }
-        ensures { result ≡ holds self.now lane domain }
+        ensures held { result ≡ holds self.now lane domain }
+        ensures state { IsState self.now }
     {
         self.holders[domain as usize] == lane
     }
@@ -106,7 +123,8 @@ impl Flat {
     /// Whether the lane holds all domains that the operation names.
     fn holds_all(&self, lane: u32, op: &Op) -> bool
         requires { IsOp (sizes_of self.now) op.now }
-        ensures { result ≡ list_all (holds self.now lane) (domains_of op.now) }
+        ensures held { result ≡ list_all (holds self.now lane) (domains_of op.now) }
+        ensures state { IsState self.now }
     {
         match *op {
             Op::New(slot, _)

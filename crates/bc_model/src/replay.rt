@@ -1,4 +1,4 @@
-ghost use Rattle.std.specs.Prelude.{◌≡◌, ℕ, ◌+◌, ◌^◌, ◌<◌, IfOk, OnOk, length};
+ghost use Rattle.std.specs.Prelude.{◌≡◌, ℕ, ◌+◌, ◌^◌, ◌<◌, ◌≤◌, IfOk, OnOk, length};
 ghost use Rattle.std.specs.List.{AllByRecursion};
 ghost use Rattle.bc_model.specs.Consistent.{HasSerials, HasSizes, sizes_of};
 ghost use Rattle.bc_model.specs.Run.{after_gives, after_ops, after_phase, ops_of, replies_to, replies_to_lanes};
@@ -43,6 +43,8 @@ impl Flat {
         requires serials { length (made_by self.old.made lane) + length ops.now < 2 ^ 32 }
         ensures replies { IfOk result (λ r. r.items ≡ replies_to self.old lane ops.now) }
         ensures state { OnOk result (self.new ≡ after_ops self.old lane ops.now) }
+        ensures sizes { sizes_of self.new ≡ sizes_of self.old }
+        ensures more { (j : ℕ) → length (made_by self.new.made j) ≤ length (made_by self.old.made j) + length ops.now }
     {
         let mut replies = Vec::with_capacity(alloc, ops.len())?;
         for op in ops {
@@ -54,7 +56,9 @@ impl Flat {
 
     fn give_all(&mut self, gives: &[Give])
         requires { AllByRecursion (IsGive (sizes_of self.old)) gives.now }
-        ensures { self.new ≡ after_gives self.old gives.now }
+        ensures state { self.new ≡ after_gives self.old gives.now }
+        ensures sizes { sizes_of self.new ≡ sizes_of self.old }
+        ensures same { self.new.made ≡ self.old.made }
     {
         for give in gives {
             self.give(give.domain, give.lane);

@@ -1,19 +1,26 @@
-use Rattle.std.proofs.Common.{rules, ◌≡◌, ℕ, ◌+◌, ◌*◌, ◌^◌, ◌<◌, IfOk, OnErr, MatchResult, IsTrue, length, ◌==◌, if◌then◌else◌, ◌-◌, ◌≤◌, ◌/◌, ◌%◌, Bool, true, false, nat_eq, nat_lt, List, [], ◌∷◌, ◌++◌, slice_index_or, slice_set, bit_and, bit_or, Fits, w8, w32, w64, Bor, MutBor}
-use Rattle.std.specs.List.{list_all}
-use Rattle.bc_model.specs.Consistent.{IsState, IsValue, sizes_of, HasSizes, HasSerials}
-use Rattle.bc_model.specs.State.{State, IsBorn, made_by, given, holds, field_of, object_of, slot_of, with_field, with_slot}
-use Rattle.bc_model.specs.Step.{act, domains_of, is_same, loaded, on_field, on_object, step}
+use Rattle.std.proofs.Common.{sym, subst, refl}
+use Rattle.bc_model.specs.Consistent.{IsState, HasSizes, HasSerials}
+use Rattle.bc_model.specs.Flat.{state_of}
 use Rattle.bc_model.specs.Run.{opening}
-use Rattle.bc_model.specs.WellFormed.{IsField, IsNumber, IsOp, IsSetup, IsSlot}
-use Rattle.bc_model.specs.declared.operations.Op.{Op}
-use Rattle.bc_model.specs.declared.operations.Reply.{Reply}
-use Rattle.bc_model.specs.declared.values.Birth.{Birth}
+use Rattle.bc_model.specs.State.{State}
+use Rattle.bc_model.proofs.Openings.{IsState-opening, HasSizes-opening, HasSerials-opening}
+use Rattle.bc_model.proofs.States.{same_state}
 use Rattle.bc_model.proofs.plain_heap.Flat.new.Goals as goal
 
--- src/plain_heap.rt:55:9
 pub invariant_of-result : goal.invariant_of-result
-invariant_of-result c = ?
+invariant_of-result c =
+    let s = opening c.args.setup.now in
+    let same = same_state _ s refl c.in_ok-new.ensures (c.in_ok-vec.ensures.items_if_clones_equal (λ y e. e)) c.in_ok-first_holders.ensures in
+    subst (λ (x : State). IsState x) (sym same) (IsState-opening c.args.setup.now c.requires)
 
--- src/plain_heap.rt:48:5
 pub returns-clause-sizes : goal.returns-clause-sizes
-returns-clause-sizes c = ?
+returns-clause-sizes c =
+    let s = opening c.args.setup.now in
+    let same = same_state _ s refl c.in_ok-new.ensures (c.in_ok-vec.ensures.items_if_clones_equal (λ y e. e)) c.in_ok-first_holders.ensures in
+    subst (λ (x : State). HasSizes c.args.setup.now x) (sym same) (HasSizes-opening c.args.setup.now)
+
+pub returns-clause-serials : goal.returns-clause-serials
+returns-clause-serials c = λ n h.
+    let s = opening c.args.setup.now in
+    let same = same_state _ s refl c.in_ok-new.ensures (c.in_ok-vec.ensures.items_if_clones_equal (λ y e. e)) c.in_ok-first_holders.ensures in
+    subst (λ (x : State). HasSerials n x) (sym same) (HasSerials-opening c.args.setup.now n h)

@@ -1,4 +1,4 @@
-use Rattle.std.proofs.Common.{◌≡◌, ℕ, ◌+◌, ◌^◌, ◌<◌, IfOk, OnOk, length, ◌-◌, ◌*◌, ◌≤◌}
+use Rattle.std.proofs.Common.{◌≡◌, ℕ, ◌+◌, ◌^◌, ◌<◌, ◌≤◌, IfOk, OnOk, length, ◌-◌, ◌*◌}
 use Rattle.std.specs.List.{AllByRecursion}
 use Rattle.bc_model.specs.Consistent.{HasSerials, HasSizes, sizes_of}
 use Rattle.bc_model.specs.Run.{after_gives, after_ops, after_phase, ops_of, replies_to, replies_to_lanes}
