@@ -1,60 +1,39 @@
-use Rattle.std.proofs.Common.{rules, ◌≡◌, ℕ, ◌+◌, ◌^◌, ◌<◌, ◌≤◌, IfOk, OnOk, length, ◌-◌, ◌*◌, ◌/◌, ◌%◌, Bool, true, false, nat_eq, nat_lt, List, [], ◌∷◌, ◌++◌, slice_index_or, slice_set, bit_and, bit_or, Fits, w8, w32, w64, Bor, MutBor}
-use Rattle.std.specs.List.{AllByRecursion}
-use Rattle.bc_model.specs.Consistent.{HasSerials, HasSizes, sizes_of}
-use Rattle.bc_model.specs.Run.{after_gives, after_ops, after_phase, ops_of, replies_to, replies_to_lanes}
-use Rattle.bc_model.specs.State.{made_by}
-use Rattle.bc_model.specs.WellFormed.{IsGive, IsOp, IsPhase}
-use Rattle.bc_model.specs.declared.traces.Setup.{Setup}
+use Rattle.std.proofs.Common.{ℕ, ◌+◌, ◌≤◌, ◌∷◌, [], ◌++◌, List, length, get_or, drop, sym, ap, ◌∙◌, append_assoc, append-nil, arith}
+use Rattle.std.proofs.lemmas.List.{get_or_default}
+use Rattle.bc_model.specs.State.{State}
+use Rattle.bc_model.specs.Run.{after_ops, replies_to}
+use Rattle.bc_model.specs.declared.operations.Op.{Op}
+use Rattle.bc_model.specs.declared.operations.Op.TheVariants.{New}
+use Rattle.bc_model.specs.declared.operations.Reply.{Reply}
+use Rattle.bc_model.proofs.Runs.{after_ops-more, replies_to-more, after_ops-end, replies_to-end, run-state, run-reply}
 use Rattle.bc_model.proofs.plain_heap.Flat.replay.Goals as goal
 
--- src/replay.rt:50:9
-pub loop-op-init : goal.loop-op-init
-loop-op-init c = ?
-
--- src/replay.rt:51:25
-pub step-requires-clause-lane : goal.step-requires-clause-lane
-step-requires-clause-lane c = ?
-
--- src/replay.rt:51:25
-pub step-requires-clause-op : goal.step-requires-clause-op
-step-requires-clause-op c = ?
-
--- src/replay.rt:51:25
-pub step-requires-clause-serials : goal.step-requires-clause-serials
-step-requires-clause-serials c = ?
-
--- src/replay.rt:51:25
-pub returns-in_err-reply-clause-sizes : goal.returns-in_err-reply-clause-sizes
-returns-in_err-reply-clause-sizes c = ?
-
--- src/replay.rt:51:25
-pub returns-in_err-reply-clause-more : goal.returns-in_err-reply-clause-more
-returns-in_err-reply-clause-more c = ?
-
--- src/replay.rt:52:13
-pub returns-in_err-push-clause-sizes : goal.returns-in_err-push-clause-sizes
-returns-in_err-push-clause-sizes c = ?
-
--- src/replay.rt:52:13
-pub returns-in_err-push-clause-more : goal.returns-in_err-push-clause-more
-returns-in_err-push-clause-more c = ?
-
--- src/replay.rt:50:9
 pub loop-op-preserved : goal.loop-op-preserved
-loop-op-preserved c = ?
+loop-op-preserved c =
+    let ops = c.args.ops.now in
+    let i = c.loop-op.op-index in
+    let s = c.loop-op.self in
+    let any : Op = New (record { domain = 0; slot = 0 }) 0 in
+    let o = get_or ops i any in
+    let is = get_or_default ops i any o c.loop-op-test.true in
+    let ok = c.in_ok-reply.ensures.ok in
+    record {
+      state = run-state s c.step.new.self c.args.lane ops i o c.in_ok-reply.reply c.loop-op-test.true is ok ∙ c.loop-op.invariant.state;
+      replies =
+        ap (λ (rs : List Reply). rs ++ replies_to c.step.new.self c.args.lane (drop (i + 1) ops)) c.in_ok-push.ensures.items
+        ∙ run-reply s c.step.new.self c.args.lane ops i o c.in_ok-reply.reply c.loop-op.replies.items c.loop-op-test.true is ok
+        ∙ c.loop-op.invariant.replies;
+      sizes = c.step.ensures.sizes ∙ c.loop-op.invariant.sizes;
+      more = λ j. omega (arith, c.step.ensures.more j, c.loop-op.invariant.more j);
+    }
 
--- src/replay.rt:40:5
 pub returns-clause-replies : goal.returns-clause-replies
-returns-clause-replies c = ?
+returns-clause-replies c =
+    let items = c.loop-op.replies.items in
+    sym (append-nil items)
+    ∙ ap (λ (rs : List Reply). items ++ rs) (sym (replies_to-end c.loop-op.self c.args.lane c.args.ops.now c.loop-op.op-index c.loop-op-test.false))
+    ∙ c.loop-op.invariant.replies
 
--- src/replay.rt:40:5
 pub returns-clause-state : goal.returns-clause-state
-returns-clause-state c = ?
-
--- src/replay.rt:40:5
-pub returns-clause-sizes : goal.returns-clause-sizes
-returns-clause-sizes c = ?
-
--- src/replay.rt:40:5
-pub returns-clause-more : goal.returns-clause-more
-returns-clause-more c = ?
+returns-clause-state c =
+    sym (after_ops-end c.loop-op.self c.args.lane c.args.ops.now c.loop-op.op-index c.loop-op-test.false) ∙ c.loop-op.invariant.state
