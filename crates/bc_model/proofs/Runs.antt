@@ -1,17 +1,15 @@
 -- Runs of a lane's operations and of gives, one at a time.
-use Rattle.std.proofs.Common.{append_assoc, ◌≡◌, ℕ, ◌+◌, ◌-◌, ◌<◌, ◌≤◌, List, [], ◌∷◌, ◌++◌, length, get_or, drop, refl, sym, ap, subst, ◌∙◌, arith}
+use Rattle.std.proofs.Common.{append_assoc, Vec, Global, ◌≡◌, ℕ, ◌+◌, ◌<◌, ◌≤◌, List, [], ◌∷◌, ◌++◌, length, get_or, drop, sym, ap, ◌∙◌}
 use Rattle.std.specs.List.{AllByRecursion}
-use Rattle.std.proofs.lemmas.List.{drop_more, drop_all}
+use Rattle.std.proofs.lemmas.List.{drop_more, drop_all, get_or-map}
 use Rattle.std.proofs.lemmas.List.Elements.{All-from_recursion, All-get_or}
-use Rattle.bc_model.specs.Consistent.{sizes_of}
+use Rattle.bc_model.specs.Lists.{lists_of}
 use Rattle.bc_model.specs.Run.{after_ops, replies_to, after_lanes, replies_to_lanes, after_gives}
 use Rattle.bc_model.specs.State.{State, given}
 use Rattle.bc_model.specs.Step.{step}
-use Rattle.bc_model.specs.WellFormed.{IsOp}
 use Rattle.bc_model.specs.declared.operations.Op.{Op}
 use Rattle.bc_model.specs.declared.operations.Reply.{Reply}
 use Rattle.bc_model.specs.declared.traces.Give.{Give}
-use Rattle.bc_model.specs.declared.traces.Setup.{Setup}
 
 pub at-index : {X : Type 0} (P : X → Type 0) (xs : List X) (i : ℕ) (d : X) → AllByRecursion P xs → i < length xs → P (get_or xs i d)
 at-index P xs i d h within = All-get_or P xs i d within (All-from_recursion P xs h)
@@ -71,3 +69,19 @@ run-reply s t j ops i o r rs within is ok =
     append_assoc rs (r ∷ []) (replies_to t j (drop (i + 1) ops))
     ∙ ap (λ (x : State × Reply). rs ++ x.1 ∷ replies_to x.0 j (drop (i + 1) ops)) ok
     ∙ ap (λ (xs : List Reply). rs ++ xs) (sym (replies_to-more s j ops i o within is))
+
+-- the list of what is behind the element at i
+pub lists_of-at : {X : Type 0} (vs : List (Vec X Global)) (i : ℕ) (v : Vec X Global) (xs : List X) → i < length vs → v ≡ get_or vs i v → xs ≡ v.items → xs ≡ get_or (lists_of vs) i xs
+lists_of-at vs i v xs within is e = e ∙ ap (λ x. x.items) is ∙ sym (get_or-map (λ x. x.items) vs i v xs within)
+
+-- one more lane of a run
+pub lane-state : (s t : State) (j : ℕ) (lanes : List (List Op)) (ops : List Op) → j < length lanes → ops ≡ get_or lanes j ops → t ≡ after_ops s j ops → after_lanes t (j + 1) (drop (j + 1) lanes) ≡ after_lanes s j (drop j lanes)
+lane-state s t j lanes ops within is after =
+    ap (λ (x : State). after_lanes x (j + 1) (drop (j + 1) lanes)) after ∙ sym (after_lanes-more s j lanes j ops within is)
+
+pub lane-replies : (s t : State) (j : ℕ) (lanes : List (List Op)) (ops : List Op) (r : List Reply) (rs : List (List Reply)) → j < length lanes → ops ≡ get_or lanes j ops → t ≡ after_ops s j ops → r ≡ replies_to s j ops → (rs ++ r ∷ []) ++ replies_to_lanes t (j + 1) (drop (j + 1) lanes) ≡ rs ++ replies_to_lanes s j (drop j lanes)
+lane-replies s t j lanes ops r rs within is after replied =
+    append_assoc rs (r ∷ []) (replies_to_lanes t (j + 1) (drop (j + 1) lanes))
+    ∙ ap (λ (x : State). rs ++ r ∷ replies_to_lanes x (j + 1) (drop (j + 1) lanes)) after
+    ∙ ap (λ (x : List Reply). rs ++ x ∷ replies_to_lanes (after_ops s j ops) (j + 1) (drop (j + 1) lanes)) replied
+    ∙ ap (λ (xs : List (List Reply)). rs ++ xs) (sym (replies_to_lanes-more s j lanes j ops within is))

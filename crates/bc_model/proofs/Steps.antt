@@ -1,23 +1,21 @@
 -- What a step keeps: the sizes, the holders, what is true of every state, and all that was born.
-use Rattle.std.proofs.Common.{◌≡◌, ◌≢◌, ℕ, ◌+◌, ◌-◌, ◌*◌, ◌^◌, ◌<◌, ◌≤◌, Bool, true, false, List, [], ◌∷◌, ◌++◌, length, set, map, replicate, Result, IfOk, OnErr, Ok, Err, refl, sym, ap, subst, ◌∙◌, inl, inr, arith, length-set}
+use Rattle.std.proofs.Common.{◌≡◌, ◌≢◌, ℕ, ◌+◌, ◌<◌, ◌≤◌, true, List, length, replicate, Result, IfOk, OnErr, Ok, Err, refl, sym, ap, subst, ◌∙◌, inl, inr, arith, length-set}
 use Rattle.std.specs.List.{AllByRecursion, list_all}
 use Rattle.std.proofs.lemmas.Bool.{cases_eq}
 use Rattle.std.proofs.lemmas.List.{length_push}
-use Rattle.bc_model.specs.Consistent.{IsValue, IsState, sizes_of, HasSizes, HasSerials}
+use Rattle.bc_model.specs.Consistent.{IsState, sizes_of}
 use Rattle.bc_model.specs.Grows.{Grows}
-use Rattle.bc_model.specs.State.{State, Object, IsBorn, made_by, object_of, next_birth, with_object, with_made, with_value, with_slot, with_field, given, holds}
-use Rattle.bc_model.specs.Step.{step, act, domains_of, with_new}
-use Rattle.bc_model.specs.WellFormed.{IsSlot, IsOp}
+use Rattle.bc_model.specs.State.{State, Object, made_by, object_of, with_object, with_made, with_value, holds}
+use Rattle.bc_model.specs.Step.{step, act, domains_of}
+use Rattle.bc_model.specs.WellFormed.{IsOp}
 use Rattle.bc_model.specs.declared.operations.Op.{Op}
 use Rattle.bc_model.specs.declared.operations.Reply.{Reply}
 use Rattle.bc_model.specs.declared.traces.Setup.{Setup}
 use Rattle.bc_model.specs.declared.values.Birth.{Birth}
-use Rattle.bc_model.specs.declared.values.Slot.{Slot}
-use Rattle.bc_model.specs.declared.values.Value.{Value}
 use Rattle.bc_model.specs.declared.values.Value.TheVariants.{Nil}
 use Rattle.bc_model.proofs.Objects.{cases_birth, length-made_by-with_object, IsBorn-with_object, object_of-with_object_same, object_of-with_object_other, made_by-with_made_same, made_by-with_made_other, length-with_made, IsBorn-with_made, object_of-with_made_other}
 use Rattle.bc_model.proofs.States.{IsState-with_slot, IsState-with_field, IsState-with_new}
-use Rattle.bc_model.proofs.Effects.{Effect, Keep, Put, Write, Make, after_effect, IsOwn, Does, Does-act, Does-step}
+use Rattle.bc_model.proofs.Effects.{Effect, Keep, Put, Write, Make, after_effect, IsOwn, Does-act, Does-step}
 
 -- the sizes and the holders stay
 pub record SameSizes (s t : State) : Type 0 where

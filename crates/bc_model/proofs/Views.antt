@@ -1,7 +1,7 @@
 -- Lists of lists behind a view: what is read at a place, and what a write leaves.
-use Rattle.std.proofs.Common.{add-one, ◌≡◌, ℕ, ◌+◌, ◌-◌, ◌<◌, List, [], ◌∷◌, ◌++◌, length, get_or, set, map, Result, OnErr, Ok, Err, refl, sym, ap, subst, ◌∙◌, arith}
-use Rattle.std.proofs.lemmas.List.{map-set, length-map, get_or-map, get_or_read, set-get_or, map_push, replicate_more}
-use Rattle.bc_model.specs.State.{Object, IsBorn, made_by, object_of, no_object, with_object, with_value, with_made, numbers_below}
+use Rattle.std.proofs.Common.{add-one, ◌≡◌, ℕ, ◌+◌, ◌-◌, ◌<◌, List, [], ◌∷◌, ◌++◌, length, get_or, set, map, Result, OnErr, Ok, Err, sym, ap, ◌∙◌, arith}
+use Rattle.std.proofs.lemmas.List.{map-set, length-map, get_or-map, get_or_read, set-get_or, map_push}
+use Rattle.bc_model.specs.State.{Object, IsBorn, made_by, object_of, no_object, numbers_below}
 use Rattle.bc_model.specs.declared.values.Birth.{Birth}
 
 pub on_err : {T E : Type 0} {P : Type 0} (r : Result T E) → P → OnErr r P

@@ -33,6 +33,14 @@ impl Made {
         Ok(Made { lanes: made })
     }
 
+    /// How many lanes there are.
+    pub fn lanes(&self) -> u32
+        requires { length self.now < 2 ^ 32 }
+        ensures { result ≡ length self.now }
+    {
+        self.lanes.len() as u32
+    }
+
     /// The domain of an object, and how many fields it has.
     pub fn shape(&self, birth: Birth) -> (u32, u32)
         requires born { IsBorn self.now birth }

@@ -60,6 +60,13 @@ impl Flat {
         })
     }
 
+    /// How many lanes there are.
+    pub fn lanes(&self) -> u32
+        ensures { result ≡ length self.now.made }
+    {
+        self.made.lanes()
+    }
+
     /// Does one operation of a lane. Takes memory for a new object alone; where there is none, the
     /// heap is as it was.
     pub fn step(&mut self, alloc: Global, lane: u32, op: &Op) -> Result<Reply, AllocError>

@@ -1,7 +1,8 @@
-ghost use Rattle.std.specs.Prelude.{◌≡◌, ℕ, ◌+◌, ◌^◌, ◌<◌, ◌≤◌, IfOk, OnOk, length};
+ghost use Rattle.std.specs.Prelude.{◌≡◌, ℕ, ◌+◌, ◌^◌, ◌<◌, ◌≤◌, IfOk, OnOk, length, sum_by};
 ghost use Rattle.std.specs.List.{AllByRecursion};
 ghost use Rattle.bc_model.specs.Consistent.{HasSerials, HasSizes, sizes_of};
-ghost use Rattle.bc_model.specs.Run.{after_gives, after_ops, after_phase, ops_of, replies_to, replies_to_lanes};
+ghost use Rattle.bc_model.specs.Lists.{lists_of};
+ghost use Rattle.bc_model.specs.Run.{after_gives, after_lanes, after_ops, after_phase, ops_of, replies_to, replies_to_lanes};
 ghost use Rattle.bc_model.specs.State.{made_by};
 ghost use Rattle.bc_model.specs.WellFormed.{IsGive, IsOp, IsPhase};
 ghost use Rattle.bc_model.specs.declared.traces.Setup.{Setup};
@@ -25,15 +26,27 @@ impl Flat {
         ensures sizes { OnOk result ((setup : Setup) → HasSizes setup self.old → HasSizes setup self.new) }
         ensures more { OnOk result ((n : ℕ) → HasSerials (n + ops_of phase.now) self.old → HasSerials n self.new) }
     {
-        let mut lanes = Vec::with_capacity(alloc, phase.lanes.len())?;
-        let mut lane = 0;
-        for ops in &phase.lanes {
-            let replies = self.replay(alloc, lane, ops)?;
-            lanes.push(replies)?;
-            lane += 1;
-        }
+        let lanes = self.replay_lanes(alloc, &phase.lanes)?;
         self.give_all(&phase.gives);
         Ok(Replies { lanes })
+    }
+
+    /// Does the operations of each lane, in the order of the lanes.
+    fn replay_lanes(&mut self, alloc: Global, lanes: &[Vec<Op>]) -> Result<Vec<Vec<Reply>>, AllocError>
+        requires lanes { length lanes.now ≡ length self.old.made }
+        requires ops { AllByRecursion (AllByRecursion (IsOp (sizes_of self.old))) (lists_of lanes.now) }
+        requires serials { HasSerials (sum_by length (lists_of lanes.now)) self.old }
+        ensures replies { IfOk result (λ r. lists_of r.items ≡ replies_to_lanes self.old 0 (lists_of lanes.now)) }
+        ensures state { OnOk result (self.new ≡ after_lanes self.old 0 (lists_of lanes.now)) }
+        ensures sizes { OnOk result (sizes_of self.new ≡ sizes_of self.old) }
+        ensures more { OnOk result ((j : ℕ) → length (made_by self.new.made j) ≤ length (made_by self.old.made j) + sum_by length (lists_of lanes.now)) }
+    {
+        let mut replies = Vec::with_capacity(alloc, lanes.len())?;
+        for lane in 0..self.lanes() {
+            let of_lane = self.replay(alloc, lane, &lanes[lane as usize])?;
+            replies.push(of_lane)?;
+        }
+        Ok(replies)
     }
 
     /// Does a lane's operations.

@@ -1,5 +1,5 @@
-use Rattle.std.proofs.Common.{ap, ◌∙◌, set, slice_set, ◌-◌, List}
-use Rattle.bc_model.specs.State.{Object, made_by, object_of, with_value}
+use Rattle.std.proofs.Common.{ap, ◌∙◌, slice_set, ◌-◌, List}
+use Rattle.bc_model.specs.State.{Object, made_by, with_value}
 use Rattle.bc_model.proofs.Views.{view-at, view-set, object-at}
 use Rattle.bc_model.proofs.made.Made.set_field.Goals as goal
 

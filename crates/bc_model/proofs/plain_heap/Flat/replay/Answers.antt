@@ -1,11 +1,10 @@
-use Rattle.std.proofs.Common.{ℕ, ◌+◌, ◌≤◌, ◌∷◌, [], ◌++◌, List, length, get_or, drop, sym, ap, ◌∙◌, append_assoc, append-nil, arith}
+use Rattle.std.proofs.Common.{◌+◌, ◌++◌, List, get_or, drop, sym, ap, ◌∙◌, append-nil, arith}
 use Rattle.std.proofs.lemmas.List.{get_or_default}
-use Rattle.bc_model.specs.State.{State}
-use Rattle.bc_model.specs.Run.{after_ops, replies_to}
+use Rattle.bc_model.specs.Run.{replies_to}
 use Rattle.bc_model.specs.declared.operations.Op.{Op}
 use Rattle.bc_model.specs.declared.operations.Op.TheVariants.{New}
 use Rattle.bc_model.specs.declared.operations.Reply.{Reply}
-use Rattle.bc_model.proofs.Runs.{after_ops-more, replies_to-more, after_ops-end, replies_to-end, run-state, run-reply}
+use Rattle.bc_model.proofs.Runs.{after_ops-end, replies_to-end, run-state, run-reply}
 use Rattle.bc_model.proofs.plain_heap.Flat.replay.Goals as goal
 
 pub loop-op-preserved : goal.loop-op-preserved
