@@ -5,3 +5,4 @@ pub mod Effects
 pub mod Steps
 pub mod Openings
 pub mod Runs
+pub mod Callers

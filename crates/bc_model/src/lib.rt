@@ -2,6 +2,7 @@
 #![tactic(auto)]
 
 mod item;
+pub mod laws;
 mod made;
 mod opening;
 mod operations;
