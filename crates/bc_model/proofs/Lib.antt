@@ -6,3 +6,4 @@ pub mod Steps
 pub mod Openings
 pub mod Runs
 pub mod Callers
+pub mod Agreeing

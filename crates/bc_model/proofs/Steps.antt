@@ -5,13 +5,14 @@ use Rattle.std.proofs.lemmas.Bool.{cases_eq}
 use Rattle.std.proofs.lemmas.List.{length_push}
 use Rattle.bc_model.specs.Consistent.{IsState, sizes_of}
 use Rattle.bc_model.specs.Grows.{Grows}
-use Rattle.bc_model.specs.State.{State, Object, made_by, object_of, with_object, with_made, with_value, holds}
+use Rattle.bc_model.specs.State.{IsBorn, with_field, State, Object, made_by, object_of, with_object, with_made, with_value, holds}
 use Rattle.bc_model.specs.Step.{step, act, domains_of}
 use Rattle.bc_model.specs.WellFormed.{IsOp}
 use Rattle.bc_model.specs.declared.operations.Op.{Op}
 use Rattle.bc_model.specs.declared.operations.Reply.{Reply}
 use Rattle.bc_model.specs.declared.traces.Setup.{Setup}
 use Rattle.bc_model.specs.declared.values.Birth.{Birth}
+use Rattle.bc_model.specs.declared.values.Value.{Value}
 use Rattle.bc_model.specs.declared.values.Value.TheVariants.{Nil}
 use Rattle.bc_model.proofs.Objects.{cases_birth, length-made_by-with_object, IsBorn-with_object, object_of-with_object_same, object_of-with_object_other, made_by-with_made_same, made_by-with_made_other, length-with_made, IsBorn-with_made, object_of-with_made_other}
 use Rattle.bc_model.proofs.States.{IsState-with_slot, IsState-with_field, IsState-with_new}
@@ -72,21 +73,24 @@ Grows-then a b c g h = record {
   fields = λ x k. h.fields x (g.born x k) ∙ g.fields x k;
 }
 
-pub Grows-after_effect : (s : State) (k : ℕ) (e : Effect) → k < length s.made → IsOwn s k e → Grows s.made (after_effect s k e).made
-Grows-after_effect s k Keep lane own = Grows-itself s.made
-Grows-after_effect s k (Put p v) lane own = Grows-itself s.made
-Grows-after_effect s k (Write b i v) lane own =
+pub Grows-after_write : (s : State) (b : Birth) (i : ℕ) (v : Value) → IsBorn s.made b → Grows s.made (with_field s b i v).made
+Grows-after_write s b i v born =
     let o : Object = with_value (object_of s.made b) i v in
     record {
       lanes = length-set s.made b.lane _;
-      born = λ c h. IsBorn-with_object s.made b o c own.0 h;
+      born = λ c h. IsBorn-with_object s.made b o c born h;
       domain = λ c h. elim (cases_birth c b) [
-        inl e ↦ ap (λ (x : Birth). (object_of (with_object s.made b o) x).domain) e ∙ ap (λ (x : Object). x.domain) (object_of-with_object_same s.made b o own.0) ∙ ap (λ (x : Birth). (object_of s.made x).domain) (sym e)
-      | inr ne ↦ ap (λ (x : Object). x.domain) (object_of-with_object_other s.made b o c own.0 h ne) ];
+        inl e ↦ ap (λ (x : Birth). (object_of (with_object s.made b o) x).domain) e ∙ ap (λ (x : Object). x.domain) (object_of-with_object_same s.made b o born) ∙ ap (λ (x : Birth). (object_of s.made x).domain) (sym e)
+      | inr ne ↦ ap (λ (x : Object). x.domain) (object_of-with_object_other s.made b o c born h ne) ];
       fields = λ c h. elim (cases_birth c b) [
-        inl e ↦ ap (λ (x : Birth). length (object_of (with_object s.made b o) x).fields) e ∙ ap (λ (x : Object). length x.fields) (object_of-with_object_same s.made b o own.0) ∙ length-set (object_of s.made b).fields i v ∙ ap (λ (x : Birth). length (object_of s.made x).fields) (sym e)
-      | inr ne ↦ ap (λ (x : Object). length x.fields) (object_of-with_object_other s.made b o c own.0 h ne) ];
+        inl e ↦ ap (λ (x : Birth). length (object_of (with_object s.made b o) x).fields) e ∙ ap (λ (x : Object). length x.fields) (object_of-with_object_same s.made b o born) ∙ length-set (object_of s.made b).fields i v ∙ ap (λ (x : Birth). length (object_of s.made x).fields) (sym e)
+      | inr ne ↦ ap (λ (x : Object). length x.fields) (object_of-with_object_other s.made b o c born h ne) ];
     }
+
+pub Grows-after_effect : (s : State) (k : ℕ) (e : Effect) → k < length s.made → IsOwn s k e → Grows s.made (after_effect s k e).made
+Grows-after_effect s k Keep lane own = Grows-itself s.made
+Grows-after_effect s k (Put p v) lane own = Grows-itself s.made
+Grows-after_effect s k (Write b i v) lane own = Grows-after_write s b i v own.0
 Grows-after_effect s k (Make p n) lane own =
     let o : Object = record { domain = p.domain; fields = replicate n Nil } in
     record {

@@ -6,3 +6,6 @@ pub mod Consistent
 pub mod Flat
 pub mod Grows
 pub mod Run
+pub mod Reached
+pub mod Need
+pub mod Interleaving
