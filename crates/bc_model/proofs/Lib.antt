@@ -7,3 +7,6 @@ pub mod Openings
 pub mod Runs
 pub mod Callers
 pub mod Agreeing
+pub mod Orders
+pub mod InOrder
+pub mod SameParts

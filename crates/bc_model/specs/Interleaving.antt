@@ -35,8 +35,15 @@ ops_by j xs = map (λ x. x.op) (filter (λ x. x.lane == j) xs)
 abbrev pub FitSteps : State → List LaneOp → Type 0
 FitSteps s xs = AllByRecursion (λ x. (x.lane < length s.made) × IsOp (sizes_of s) x.op) xs
 
--- the lists of the lanes' operations, one for each lane of the state
+-- the steps are the operations of the lanes, those of each lane in their order: there is a list for each lane of the
+-- state, of operations that fit its sizes
 pub record IsInterleaving (s : State) (lanes : List (List Op)) (xs : List LaneOp) : Type 0 where
-  pub lanes : length lanes ≡ length s.made
-  pub fits : FitSteps s xs
+  pub each : length lanes ≡ length s.made
+  pub fits : AllByRecursion (AllByRecursion (IsOp (sizes_of s))) lanes
+  pub below : AllByRecursion (λ x. x.lane < length s.made) xs
   pub ops : (j : ℕ) → j < length lanes → ops_by j xs ≡ slice_index_or lanes j []
+
+-- the state and the replies are those of lane after lane
+pub record IsAsInOrder (s : State) (lanes : List (List Op)) (xs : List LaneOp) : Type 0 where
+  pub state : after_steps s xs ≡ after_lanes s 0 lanes
+  pub replies : (j : ℕ) → j < length lanes → replies_by s j xs ≡ slice_index_or (replies_to_lanes s 0 lanes) j []

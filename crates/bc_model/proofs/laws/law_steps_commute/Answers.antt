@@ -1,5 +1,6 @@
-use Rattle.bc_model.proofs.Agreeing.{own-effect, other-effect}
+use Rattle.bc_model.proofs.InOrder.{AloneInOrder-lanes}
+use Rattle.bc_model.proofs.SameParts.{same_parts}
 use Rattle.bc_model.proofs.laws.law_steps_commute.Goals as goal
 
 pub returns : goal.returns
-returns c = let x = own-effect in let y = other-effect in ?
+returns c = let x = AloneInOrder-lanes in let y = same_parts in ?
