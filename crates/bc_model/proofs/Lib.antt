@@ -10,3 +10,4 @@ pub mod Agreeing
 pub mod Orders
 pub mod InOrder
 pub mod SameParts
+pub mod AnyOrder

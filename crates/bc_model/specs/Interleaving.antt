@@ -47,3 +47,9 @@ pub record IsInterleaving (s : State) (lanes : List (List Op)) (xs : List LaneOp
 pub record IsAsInOrder (s : State) (lanes : List (List Op)) (xs : List LaneOp) : Type 0 where
   pub state : after_steps s xs ≡ after_lanes s 0 lanes
   pub replies : (j : ℕ) → j < length lanes → replies_by s j xs ≡ slice_index_or (replies_to_lanes s 0 lanes) j []
+
+-- two steps in either order: one state, and each gets the reply that it gets alone
+pub record Commute (s : State) (j : ℕ) (o : Op) (k : ℕ) (p : Op) : Type 0 where
+  pub state : (step (step s j o).0 k p).0 ≡ (step (step s k p).0 j o).0
+  pub first : (step (step s k p).0 j o).1 ≡ (step s j o).1
+  pub second : (step (step s j o).0 k p).1 ≡ (step s k p).1
