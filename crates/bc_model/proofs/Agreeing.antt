@@ -30,7 +30,7 @@ holds-same : (s t : State) (k d : ℕ) → t.holders ≡ s.holders → holds s k
 holds-same s t k d e h = subst (λ (hs : List ℕ). (slice_index_or hs d 0 == k) ≡ true) (sym e) h
 
 -- where a slot of the sizes stands
-place-within : (s : State) (p : Slot) → length s.slots ≡ s.width * length s.holders → IsSlot (sizes_of s) p → place_of s.width p < length s.slots
+pub place-within : (s : State) (p : Slot) → length s.slots ≡ s.width * length s.holders → IsSlot (sizes_of s) p → place_of s.width p < length s.slots
 place-within s p slots h =
     omega (arith, slots, mul-add-lt p.domain s.width p.slot (length s.holders) h.0 h.1, mul_comm p.domain s.width)
 

@@ -11,3 +11,4 @@ pub mod Orders
 pub mod InOrder
 pub mod SameParts
 pub mod AnyOrder
+pub mod StepLaws
