@@ -12,3 +12,4 @@ pub mod InOrder
 pub mod SameParts
 pub mod AnyOrder
 pub mod StepLaws
+pub mod Needs

@@ -11,6 +11,9 @@ mod replay;
 mod traces;
 mod values;
 
+#[cfg(test)]
+mod tests;
+
 pub use operations::{Op, Reply};
 pub use plain_heap::Flat;
 pub use traces::{Give, Phase, Replies, Setup, Trace};
