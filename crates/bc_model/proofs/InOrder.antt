@@ -33,7 +33,7 @@ SameSizes-after_ops s j [] hs lane fits = SameSizes-itself s
 SameSizes-after_ops s j (o ∷ ops) hs lane fits =
     let same = SameSizes-step s j o hs fits.0 in
     SameSizes-then s (step s j o).0 (after_ops (step s j o).0 j ops) same
-      (SameSizes-after_ops (step s j o).0 j ops (IsState-step s j o hs lane fits.0) (omega (arith, lane, same.lanes)) (IsOps-same s (step s j o).0 ops same fits.1))
+    (SameSizes-after_ops (step s j o).0 j ops (IsState-step s j o hs lane fits.0) (omega (arith, lane, same.lanes)) (IsOps-same s (step s j o).0 ops same fits.1))
 
 Agrees-other_ops : (k j : ℕ) (a b : State) (ops : List Op) → Agrees k a b → IsState b → j ≢ k → j < length b.made → AllByRecursion (IsOp (sizes_of b)) ops → Agrees k a (after_ops b j ops)
 unfolding after_ops
@@ -90,7 +90,7 @@ AloneInOrder-lanes k zero j a b (ops ∷ lanes) at within h ha hb few fits =
     let same = SameSizes-after_ops b k ops hb lane fits.0 in
     record {
       part =
-        subst (λ (l : ℕ). Agrees k (after_ops a k ops) (after_lanes (after_ops b l ops) (l + 1) lanes)) is
+          subst (λ (l : ℕ). Agrees k (after_ops a k ops) (after_lanes (after_ops b l ops) (l + 1) lanes)) is
           (Agrees-other_lanes k (k + 1) (after_ops a k ops) (after_ops b k ops) lanes (omega arith) own.0 (IsState-after_ops b k ops hb lane fits.0) (omega (arith, few, is, same.lanes)) (FitLanes-same b (after_ops b k ops) lanes same fits.1));
       replies = ap (λ (l : ℕ). replies_to b l ops) (sym is) ∙ own.1;
     }

@@ -8,11 +8,10 @@ mod opening;
 mod operations;
 mod plain_heap;
 mod replay;
-mod traces;
-mod values;
-
 #[cfg(test)]
 mod tests;
+mod traces;
+mod values;
 
 pub use operations::{Op, Reply};
 pub use plain_heap::Flat;

@@ -246,7 +246,13 @@ impl Flat {
         }
     }
 
-    fn make(&mut self, alloc: Global, lane: u32, slot: Slot, fields: u32) -> Result<Reply, AllocError>
+    fn make(
+        &mut self,
+        alloc: Global,
+        lane: u32,
+        slot: Slot,
+        fields: u32,
+    ) -> Result<Reply, AllocError>
         requires lane { lane < length self.old.made }
         requires op { IsOp (sizes_of self.old) (Op.New slot fields) }
         requires serials { length (made_by self.old.made lane) + 1 < 2 ^ 32 }
