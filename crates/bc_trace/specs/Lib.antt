@@ -1,0 +1,7 @@
+pub mod Words
+pub mod Lines
+pub mod Grammar
+pub mod Faults
+pub mod Replies
+pub mod Answers
+pub mod Causes
