@@ -24,7 +24,7 @@ abbrev pub reply_text : Reply → List ℕ
 reply_text r = reply_word r ++ 10 ∷ []
 
 -- a lane's line, and its replies
-abbrev pub lane_text : ℕ → List Reply → List ℕ
+unfoldable pub lane_text : ℕ → List Reply → List ℕ
 lane_text j rs = codes "lane " ++ decimal j ++ 10 ∷ [] ++ flat_map reply_text rs
 
 -- the lanes from lane j on

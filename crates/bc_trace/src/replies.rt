@@ -14,6 +14,15 @@ pub fn push_number(out: &mut Vec<u8>, number: u64) -> Result<(), AllocError>
     out.extend_from_slice(buffer.format(number).as_bytes())
 }
 
+/// Puts a line at the end: the word, which ends with its space, and the number.
+fn push_numbered(out: &mut Vec<u8>, word: &[u8], number: u64) -> Result<(), AllocError>
+    ensures { OnOk result (out.new.items ≡ out.old.items ++ (word.now ++ decimal number ++ 10 ∷ [])) }
+{
+    out.extend_from_slice(word)?;
+    push_number(out, number)?;
+    out.extend_from_slice(b"\n")
+}
+
 /// Puts the line of a reply at the end.
 #[tactic(auto, unfolding(crate::specs::Replies::reply_word))]
 fn push_reply(out: &mut Vec<u8>, reply: &Reply) -> Result<(), AllocError>
@@ -47,12 +56,11 @@ fn push_reply(out: &mut Vec<u8>, reply: &Reply) -> Result<(), AllocError>
 }
 
 /// Puts a lane's line and those of its replies at the end.
+#[tactic(auto, unfolding(crate::specs::Replies::lane_text))]
 fn push_lane(out: &mut Vec<u8>, lane: u64, replies: &[Reply]) -> Result<(), AllocError>
     ensures { OnOk result (out.new.items ≡ out.old.items ++ lane_text lane replies.now) }
 {
-    out.extend_from_slice(b"lane ")?;
-    push_number(out, lane)?;
-    out.extend_from_slice(b"\n")?;
+    push_numbered(out, b"lane ", lane)?;
     for reply in replies {
         push_reply(out, reply)?;
     }
@@ -73,9 +81,8 @@ pub fn reply_line(alloc: Global, reply: &Reply) -> Result<Vec<u8>, AllocError>
 pub fn phase_text(alloc: Global, number: u32, replies: &Replies) -> Result<Vec<u8>, AllocError>
     ensures { IfOk result (λ text. text.items ≡ phase_text number replies.now) }
 {
-    let mut text = Vec::from_slice(alloc, b"phase ")?;
-    push_number(&mut text, number as u64)?;
-    text.extend_from_slice(b"\n")?;
+    let mut text = Vec::new(alloc);
+    push_numbered(&mut text, b"phase ", number as u64)?;
     for (lane, its_replies) in replies.lanes.iter().enumerate() {
         push_lane(&mut text, lane as u64, its_replies)?;
     }
