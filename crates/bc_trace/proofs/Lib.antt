@@ -1,1 +1,4 @@
 pub mod Texts
+pub mod Parts
+pub mod Numerals
+pub mod Operands

@@ -18,16 +18,20 @@ use Rattle.bc_trace.specs.Lines.{Line, version, setting, phase, turn, lane, op, 
 abbrev pub start : State
 start = record { place = places.Start; setup = record { lanes = 0; domains = 0; slots = 0; superpages = 0; nursery = 0; buffer = 0; frames = 0 }; stood = 0 }
 
+unfoldable pub same_setting : Setting → Setting → Bool
+same_setting settings.Lanes settings.Lanes = true
+same_setting settings.Domains settings.Domains = true
+same_setting settings.Slots settings.Slots = true
+same_setting settings.Superpages settings.Superpages = true
+same_setting settings.Nursery settings.Nursery = true
+same_setting settings.Buffer settings.Buffer = true
+same_setting settings.Frames settings.Frames = true
+same_setting _ _ = false
+
 -- the header's lines stand in one order; in a phase the turns come first, then all lanes, then the gives
 unfoldable pub may_stand : Word → Place → Bool → Bool
 may_stand words.Version places.Start all = true
-may_stand (words.Setting settings.Lanes) (places.Awaiting settings.Lanes) all = true
-may_stand (words.Setting settings.Domains) (places.Awaiting settings.Domains) all = true
-may_stand (words.Setting settings.Slots) (places.Awaiting settings.Slots) all = true
-may_stand (words.Setting settings.Superpages) (places.Awaiting settings.Superpages) all = true
-may_stand (words.Setting settings.Nursery) (places.Awaiting settings.Nursery) all = true
-may_stand (words.Setting settings.Buffer) (places.Awaiting settings.Buffer) all = true
-may_stand (words.Setting settings.Frames) (places.Awaiting settings.Frames) all = true
+may_stand (words.Setting k) (places.Awaiting awaited) all = same_setting k awaited
 may_stand words.Phase places.Phases all = true
 may_stand words.Done places.Phases all = true
 may_stand words.Turn places.Turns all = true
@@ -101,22 +105,15 @@ pub record Passes (s : State) (l : Line) : Type 0 where
   pub range : InRange s l
   pub frames : FramesFit s l
 
-abbrev pub place_after : Word → Place
-place_after words.Version = places.Awaiting settings.Lanes
-place_after (words.Setting settings.Lanes) = places.Awaiting settings.Domains
-place_after (words.Setting settings.Domains) = places.Awaiting settings.Slots
-place_after (words.Setting settings.Slots) = places.Awaiting settings.Superpages
-place_after (words.Setting settings.Superpages) = places.Awaiting settings.Nursery
-place_after (words.Setting settings.Nursery) = places.Awaiting settings.Buffer
-place_after (words.Setting settings.Buffer) = places.Awaiting settings.Frames
-place_after (words.Setting settings.Frames) = places.Phases
-place_after words.Phase = places.Turns
-place_after words.Turn = places.Turns
-place_after words.Lane = places.Ops
-place_after (words.Op v) = places.Ops
-place_after words.Give = places.Gives
-place_after words.End = places.Phases
-place_after words.Done = places.Finished
+-- the header's settings stand in this order
+abbrev pub place_after_setting : Setting → Place
+place_after_setting settings.Lanes = places.Awaiting settings.Domains
+place_after_setting settings.Domains = places.Awaiting settings.Slots
+place_after_setting settings.Slots = places.Awaiting settings.Superpages
+place_after_setting settings.Superpages = places.Awaiting settings.Nursery
+place_after_setting settings.Nursery = places.Awaiting settings.Buffer
+place_after_setting settings.Buffer = places.Awaiting settings.Frames
+place_after_setting settings.Frames = places.Phases
 
 abbrev pub with_setting : Setting → ℕ → Setup → Setup
 with_setting settings.Lanes n s = record s { lanes = n }
@@ -130,7 +127,7 @@ with_setting settings.Frames n s = record s { frames = n }
 -- the state behind a line
 abbrev pub after : Line → State → State
 after (version n) s = record s { place = places.Awaiting settings.Lanes }
-after (setting k n) s = record s { place = place_after (words.Setting k); setup = with_setting k n s.setup }
+after (setting k n) s = record s { place = place_after_setting k; setup = with_setting k n s.setup }
 after phase s = record s { place = places.Turns; stood = 0 }
 after (turn hints) s = record s { place = places.Turns }
 after (lane j) s = record s { place = places.Ops; stood = s.stood + 1 }

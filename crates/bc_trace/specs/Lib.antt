@@ -5,3 +5,6 @@ pub mod Faults
 pub mod Replies
 pub mod Answers
 pub mod Causes
+pub mod Drafts
+pub mod Reading
+pub mod Said

@@ -1,9 +1,13 @@
 // The trace language: what a trace's text is, its reader and its writer, and the texts of a replay.
 #![tactic(auto)]
 
+mod cutting;
+mod draft;
 mod fault;
 mod grammar;
 mod laws;
+mod line;
+mod numbers;
 mod reading;
 mod replies;
 mod words;
