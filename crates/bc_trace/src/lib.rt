@@ -1,6 +1,7 @@
 // The trace language: what a trace's text is, its reader and its writer, and the texts of a replay.
 #![tactic(auto)]
 
+mod checking;
 mod cutting;
 mod draft;
 mod fault;

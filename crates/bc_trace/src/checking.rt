@@ -1,0 +1,97 @@
+// What a line says once its word and its numbers are read: the tests of counts and ranges.
+ghost use Rattle.std.specs.Prelude.{◌≡◌, ◌+◌, ◌*◌, ◌^◌, ◌<◌, ◌≤◌, ◌==◌, ◌&&◌, if◌then◌else◌, nat_lt, nat_le, true, length, slice_index, Some, None, Ok, Err, MatchResult};
+ghost use Rattle.std.specs.List.{list_all};
+ghost use Rattle.bc_trace.specs.declared.words.Word.TheVariants as words;
+ghost use Rattle.bc_trace.specs.Grammar.{arity};
+ghost use Rattle.bc_trace.specs.Reading.{has_count, slot_at, op_of, is_slot, is_op, is_within, is_setting, least_frames, most_frames, in_range, frames_fit, line_of, with_line};
+ghost use Rattle.bc_trace.specs.Said.{said};
+
+use crate::fault::Cause;
+use crate::grammar::State;
+use crate::line::Line;
+use crate::words::{Setting, Verb, Word};
+use bc_model::{Give, Op, Setup, Slot};
+
+/// How many numbers follow the word, `turn` aside.
+#[tactic(auto, unfolding(crate::specs::Grammar::arity))]
+fn arity(word: Word) -> usize
+    ensures { result ≡ arity word }
+{
+    match word {
+        Word::Version | Word::Setting(_) | Word::Lane => 1,
+        Word::Phase | Word::Turn | Word::End | Word::Done => 0,
+        Word::Give => 2,
+        Word::Op(verb) => match verb {
+            Verb::Who | Verb::Len | Verb::Clear => 2,
+            Verb::New | Verb::Cut => 3,
+            Verb::Set | Verb::Copy | Verb::Same => 4,
+            Verb::Link | Verb::Load => 5,
+        },
+    }
+}
+
+/// Whether so many numbers may follow the word.
+#[tactic(auto, unfolding(crate::specs::Reading::has_count))]
+pub fn has_count(word: Word, count: usize) -> bool
+    ensures { result ≡ has_count word count }
+{
+    match word {
+        Word::Turn => count <= 64,
+        _ => count == arity(word),
+    }
+}
+
+/// The number, if it is below the limit.
+fn below(number: u64, limit: u32) -> Option<u32>
+    ensures { result ≡ (if nat_lt number limit then Some number else None) }
+{
+    if number < limit as u64 {
+        Some(number as u32)
+    } else {
+        None
+    }
+}
+
+/// The slot whose domain and number stand at `at`, if there is one.
+fn slot_at(setup: &Setup, numbers: &[u64], at: usize) -> Option<Slot>
+    requires { at + 1 < length numbers.now }
+    ensures { result ≡ (if is_slot setup.now (slot_at numbers.now at) then Some (slot_at numbers.now at) else None) }
+{
+    let domain = below(numbers[at], setup.domains)?;
+    let slot = below(numbers[at + 1], setup.slots)?;
+    Some(Slot { domain, slot })
+}
+
+/// The operation, if its numbers are in range.
+#[tactic(auto, unfolding(crate::specs::Reading::is_op, crate::specs::Grammar::arity))]
+fn op_of(setup: &Setup, verb: Verb, numbers: &[u64]) -> Option<Op>
+    requires { length numbers.now ≡ arity (words.Op verb) }
+    ensures { result ≡ (if is_op setup.now (op_of verb numbers.now) then Some (op_of verb numbers.now) else None) }
+{
+    let first = slot_at(setup, numbers, 0)?;
+    match verb {
+        Verb::New => Some(Op::New(first, below(numbers[2], 128)?)),
+        Verb::Who => Some(Op::Who(first)),
+        Verb::Len => Some(Op::Len(first)),
+        Verb::Set => {
+            let field = below(numbers[2], 127)?;
+            if numbers[3] < 1 << 63 {
+                Some(Op::Set(first, field, numbers[3]))
+            } else {
+                None
+            }
+        }
+        Verb::Cut => Some(Op::Cut(first, below(numbers[2], 127)?)),
+        Verb::Link => {
+            let field = below(numbers[2], 127)?;
+            Some(Op::Link(first, field, slot_at(setup, numbers, 3)?))
+        }
+        Verb::Load => {
+            let field = below(numbers[2], 127)?;
+            Some(Op::Load(first, field, slot_at(setup, numbers, 3)?))
+        }
+        Verb::Copy => Some(Op::Copy(first, slot_at(setup, numbers, 2)?)),
+        Verb::Clear => Some(Op::Clear(first)),
+        Verb::Same => Some(Op::Same(first, slot_at(setup, numbers, 2)?)),
+    }
+}
