@@ -1,5 +1,7 @@
 -- What a line of the reader stands for.
-use Rattle.std.specs.Prelude.{ℕ, List, take}
+use Rattle.std.specs.Prelude.{◌≡◌, ℕ, ◌≤◌, List, take, Result, Ok, Err}
+use Rattle.bc_trace.specs.declared.fault.Cause.{Cause}
+use Rattle.bc_trace.specs.declared.grammar.State.{State}
 use Rattle.bc_trace.specs.declared.line.Line.{Line as ReadLine}
 use Rattle.bc_trace.specs.declared.line.Line.TheVariants as lines
 use Rattle.bc_trace.specs.Lines.{Line, version, setting, phase, turn, lane, op, give, end, done}
@@ -15,3 +17,15 @@ said (lines.Op o) ns = op o
 said (lines.Give g) ns = give g
 said lines.End ns = end
 said lines.Done ns = done
+
+-- the function's answer is the reader's
+abbrev pub Reads : Result Line Cause → Result ReadLine Cause → List ℕ → Type 0
+Reads line (Ok l) ns = line ≡ Ok (said l ns)
+Reads line (Err cause) ns = line ≡ Err cause
+
+-- the setup's numbers are in range, and no more lanes stood than n
+pub record IsSmall (s : State) (n : ℕ) : Type 0 where
+  pub lanes : s.setup.lanes ≤ 16
+  pub nursery : s.setup.nursery ≤ 16
+  pub superpages : s.setup.superpages ≤ 4096
+  pub stood : s.stood ≤ n

@@ -1,10 +1,11 @@
 // What a line says once its word and its numbers are read: the tests of counts and ranges.
-ghost use Rattle.std.specs.Prelude.{◌≡◌, ◌+◌, ◌*◌, ◌^◌, ◌<◌, ◌≤◌, ◌==◌, ◌&&◌, if◌then◌else◌, nat_lt, nat_le, true, length, slice_index, Some, None, Ok, Err, MatchResult};
+ghost use Rattle.std.specs.Prelude.{◌≡◌, ◌+◌, ◌*◌, ◌^◌, ◌<◌, ◌≤◌, ◌==◌, ◌&&◌, [], if◌then◌else◌, nat_lt, nat_le, true, length, slice_index, Some, None, Ok, Err, MatchResult};
 ghost use Rattle.std.specs.List.{list_all};
 ghost use Rattle.bc_trace.specs.declared.words.Word.TheVariants as words;
 ghost use Rattle.bc_trace.specs.Grammar.{arity};
-ghost use Rattle.bc_trace.specs.Reading.{has_count, slot_at, op_of, is_slot, is_op, is_within, is_setting, least_frames, most_frames, in_range, frames_fit, line_of, with_line};
-ghost use Rattle.bc_trace.specs.Said.{said};
+ghost use Rattle.bc_trace.specs.Reading.{most_of, has_count, slot_at, op_of, is_slot, is_op, is_within, is_setting, least_frames, most_frames, in_range, frames_fit, line_of, with_line};
+ghost use Rattle.bc_trace.specs.Lines.{setting as setting_of};
+ghost use Rattle.bc_trace.specs.Said.{Reads, IsSmall};
 
 use crate::fault::Cause;
 use crate::grammar::State;
@@ -93,5 +94,62 @@ fn op_of(setup: &Setup, verb: Verb, numbers: &[u64]) -> Option<Op>
         Verb::Copy => Some(Op::Copy(first, slot_at(setup, numbers, 2)?)),
         Verb::Clear => Some(Op::Clear(first)),
         Verb::Same => Some(Op::Same(first, slot_at(setup, numbers, 2)?)),
+    }
+}
+
+/// Whether each number may be a hint.
+fn are_hints(numbers: &[u64]) -> bool
+    ensures { result ≡ list_all (λ h. nat_lt h (2 ^ 32)) numbers.now }
+{
+    numbers.iter().all(|hint| *hint < 1 << 32)
+}
+
+/// Whether there may be so many frames.
+fn fits_frames(setup: &Setup, number: u64) -> bool
+    requires lanes { setup.now.lanes ≤ 16 }
+    requires nursery { setup.now.nursery ≤ 16 }
+    requires superpages { setup.now.superpages ≤ 4096 }
+    ensures { result ≡ is_within (least_frames setup.now) (most_frames setup.now) number }
+{
+    let nurseries = setup.lanes * setup.nursery;
+    let least = nurseries + 2;
+    let most = nurseries + 4 * setup.superpages;
+    least as u64 <= number && number <= most as u64
+}
+
+/// The most that a setting other than the frames may say.
+fn most_of(setting: Setting) -> u64
+    ensures { result ≡ most_of setting }
+{
+    match setting {
+        Setting::Lanes | Setting::Nursery => 16,
+        Setting::Domains => 64,
+        Setting::Slots => 256,
+        Setting::Superpages | Setting::Buffer => 4096,
+        Setting::Frames => 0,
+    }
+}
+
+/// What the line of a setting says.
+#[tactic(auto, unfolding(crate::specs::Reading::with_line, crate::specs::Reading::in_range, crate::specs::Reading::frames_fit, crate::specs::Reading::is_setting))]
+fn setting_line(state: &State, setting: Setting, number: u64) -> Result<Line, Cause>
+    requires { IsSmall state.now state.now.stood }
+    ensures { Reads (with_line state.now (setting_of setting number)) result [] }
+{
+    match setting {
+        Setting::Frames => {
+            if fits_frames(&state.setup, number) {
+                Ok(Line::Setting(setting, number as u32))
+            } else {
+                Err(Cause::Frames)
+            }
+        }
+        _ => {
+            if 1 <= number && number <= most_of(setting) {
+                Ok(Line::Setting(setting, number as u32))
+            } else {
+                Err(Cause::Range)
+            }
+        }
     }
 }
