@@ -125,6 +125,9 @@ op_of verbs.Copy ns = ops.Copy (slot_at ns 0) (slot_at ns 2)
 op_of verbs.Clear ns = ops.Clear (slot_at ns 0)
 op_of verbs.Same ns = ops.Same (slot_at ns 0) (slot_at ns 2)
 
+abbrev pub give_at : List ℕ → Give
+give_at ns = record { domain = slice_index ns 0; lane = slice_index ns 1 }
+
 -- what the word and its numbers say
 abbrev pub line_of : Word → List ℕ → Line
 line_of words.Version ns = version (slice_index ns 0)
@@ -132,7 +135,7 @@ line_of (words.Setting k) ns = setting k (slice_index ns 0)
 line_of words.Phase ns = phase
 line_of words.Turn ns = turn ns
 line_of words.Lane ns = lane (slice_index ns 0)
-line_of words.Give ns = give (record { domain = slice_index ns 0; lane = slice_index ns 1 })
+line_of words.Give ns = give (give_at ns)
 line_of words.End ns = end
 line_of words.Done ns = done
 line_of (words.Op v) ns = op (op_of v ns)

@@ -3,7 +3,7 @@ ghost use Rattle.std.specs.Prelude.{◌≡◌, ◌+◌, ◌*◌, ◌^◌, ◌<�
 ghost use Rattle.std.specs.List.{list_all};
 ghost use Rattle.bc_trace.specs.declared.words.Word.TheVariants as words;
 ghost use Rattle.bc_trace.specs.Grammar.{arity};
-ghost use Rattle.bc_trace.specs.Reading.{most_of, has_count, slot_at, op_of, is_slot, is_op, is_within, is_setting, least_frames, most_frames, in_range, frames_fit, line_of, with_line};
+ghost use Rattle.bc_trace.specs.Reading.{most_of, has_count, slot_at, op_of, give_at, is_slot, is_op, is_within, is_setting, least_frames, most_frames, in_range, frames_fit, line_of, with_line};
 ghost use Rattle.bc_trace.specs.Lines.{setting as setting_of};
 ghost use Rattle.bc_trace.specs.Said.{Reads, IsSmall};
 
@@ -97,6 +97,16 @@ fn op_of(setup: &Setup, verb: Verb, numbers: &[u64]) -> Option<Op>
     }
 }
 
+/// The give, if its numbers are in range.
+fn give_of(setup: &Setup, numbers: &[u64]) -> Option<Give>
+    requires { length numbers.now ≡ 2 }
+    ensures { result ≡ (if nat_lt (slice_index numbers.now 0) setup.now.domains && nat_lt (slice_index numbers.now 1) setup.now.lanes then Some (give_at numbers.now) else None) }
+{
+    let domain = below(numbers[0], setup.domains)?;
+    let lane = below(numbers[1], setup.lanes)?;
+    Some(Give { domain, lane })
+}
+
 /// Whether each number may be a hint.
 fn are_hints(numbers: &[u64]) -> bool
     ensures { result ≡ list_all (λ h. nat_lt h (2 ^ 32)) numbers.now }
@@ -151,5 +161,49 @@ fn setting_line(state: &State, setting: Setting, number: u64) -> Result<Line, Ca
                 Err(Cause::Range)
             }
         }
+    }
+}
+
+/// What a line says: its word, and as many numbers as may follow it.
+#[tactic(auto, unfolding(crate::specs::Reading::with_line, crate::specs::Reading::in_range, crate::specs::Reading::frames_fit, crate::specs::Reading::has_count, crate::specs::Grammar::arity))]
+pub fn line_of(state: &State, word: Word, numbers: &[u64]) -> Result<Line, Cause>
+    requires small { IsSmall state.now state.now.stood }
+    requires count { has_count word (length numbers.now) ≡ true }
+    ensures { Reads (with_line state.now (line_of word numbers.now)) result numbers.now }
+{
+    match word {
+        Word::Version => {
+            if numbers[0] == 1 {
+                Ok(Line::Version)
+            } else {
+                Err(Cause::Range)
+            }
+        }
+        Word::Setting(setting) => setting_line(state, setting, numbers[0]),
+        Word::Phase => Ok(Line::Phase),
+        Word::Turn => {
+            if are_hints(numbers) {
+                Ok(Line::Turn(numbers.len()))
+            } else {
+                Err(Cause::Range)
+            }
+        }
+        Word::Lane => {
+            if numbers[0] == state.stood as u64 {
+                Ok(Line::Lane(state.stood))
+            } else {
+                Err(Cause::Range)
+            }
+        }
+        Word::Give => match give_of(&state.setup, numbers) {
+            Some(give) => Ok(Line::Give(give)),
+            None => Err(Cause::Range),
+        },
+        Word::End => Ok(Line::End),
+        Word::Done => Ok(Line::Done),
+        Word::Op(verb) => match op_of(&state.setup, verb, numbers) {
+            Some(op) => Ok(Line::Op(op)),
+            None => Err(Cause::Range),
+        },
     }
 }
