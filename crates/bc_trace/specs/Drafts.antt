@@ -25,22 +25,23 @@ shown d = record { state = d.state; phases = d.phases.items; turns = map (λ v. 
 abbrev pub empty_draft : DraftLists
 empty_draft = record { state = start; phases = []; turns = []; lanes = []; ops = []; gives = [] }
 
--- the lanes that were begun, but for the last one where a new one begins
-abbrev pub lanes_before : DraftLists → List (List Op)
-lanes_before d = if d.state.stood == 0 then d.lanes else d.lanes ++ d.ops ∷ []
+-- the lane that was begun last stands among the others
+abbrev pub lanes_ended : DraftLists → DraftLists
+lanes_ended d = record d { lanes = d.lanes ++ d.ops ∷ []; ops = [] }
 
--- the phase that was read
-abbrev pub open_phase : DraftLists → PhaseLists
-open_phase d = record { turns = d.turns; lanes = d.lanes ++ d.ops ∷ []; gives = d.gives }
+-- the phase stands among the others
+abbrev pub phase_ended : DraftLists → DraftLists
+phase_ended d = record { state = d.state; phases = d.phases ++ record { turns = d.turns; lanes = d.lanes ++ d.ops ∷ []; gives = d.gives } ∷ []; turns = []; lanes = []; ops = []; gives = [] }
+
+-- the lists with one more line
+unfoldable pub put_lists : Line → DraftLists → DraftLists
+put_lists (turn hints) d = record d { turns = d.turns ++ hints ∷ [] }
+put_lists (lane j) d = if d.state.stood == 0 then d else lanes_ended d
+put_lists (op o) d = record d { ops = d.ops ++ o ∷ [] }
+put_lists (give g) d = record d { gives = d.gives ++ g ∷ [] }
+put_lists end d = phase_ended d
+put_lists l d = d
 
 -- with one more line
 abbrev pub put : Line → DraftLists → DraftLists
-put (version n) d = record d { state = after (version n) d.state }
-put (setting k n) d = record d { state = after (setting k n) d.state }
-put phase d = record d { state = after phase d.state }
-put (turn hints) d = record d { state = after (turn hints) d.state; turns = d.turns ++ hints ∷ [] }
-put (lane j) d = record d { state = after (lane j) d.state; lanes = lanes_before d; ops = [] }
-put (op o) d = record d { state = after (op o) d.state; ops = d.ops ++ o ∷ [] }
-put (give g) d = record d { state = after (give g) d.state; gives = d.gives ++ g ∷ [] }
-put end d = record { state = after end d.state; phases = d.phases ++ open_phase d ∷ []; turns = []; lanes = []; ops = []; gives = [] }
-put done d = record d { state = after done d.state }
+put l d = record (put_lists l d) { state = after l d.state }

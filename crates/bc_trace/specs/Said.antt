@@ -1,5 +1,5 @@
 -- What a line of the reader stands for.
-use Rattle.std.specs.Prelude.{◌≡◌, ℕ, ◌≤◌, List, take, Result, Ok, Err}
+use Rattle.std.specs.Prelude.{◌≡◌, ℕ, ◌<◌, ◌≤◌, ◌^◌, ⊤, List, length, take, slice_index, Result, Ok, Err}
 use Rattle.bc_trace.specs.declared.fault.Cause.{Cause}
 use Rattle.bc_trace.specs.declared.grammar.State.{State}
 use Rattle.bc_trace.specs.declared.line.Line.{Line as ReadLine}
@@ -22,6 +22,14 @@ said lines.Done ns = done
 abbrev pub Reads : Result Line Cause → Result ReadLine Cause → List ℕ → Type 0
 Reads line (Ok l) ns = line ≡ Ok (said l ns)
 Reads line (Err cause) ns = line ≡ Err cause
+
+abbrev pub AreHints : List ℕ → Type 0
+AreHints ns = (i : ℕ) → slice_index ns i < 2 ^ 32
+
+-- the hints of a turn stand in the buffer
+abbrev pub FitsBuffer : ReadLine → List ℕ → Type 0
+FitsBuffer (lines.Turn count) ns = (count ≤ length ns) × AreHints (take count ns)
+FitsBuffer l ns = ⊤
 
 -- the setup's numbers are in range, and no more lanes stood than n
 pub record IsSmall (s : State) (n : ℕ) : Type 0 where
