@@ -26,6 +26,11 @@ Reads line (Err cause) ns = line ≡ Err cause
 abbrev pub AreHints : List ℕ → Type 0
 AreHints ns = (i : ℕ) → slice_index ns i < 2 ^ 32
 
+-- the hints of a turn are all of these numbers
+abbrev pub IsWhole : ReadLine → List ℕ → Type 0
+IsWhole (lines.Turn count) ns = (count ≡ length ns) × AreHints ns
+IsWhole l ns = ⊤
+
 -- the hints of a turn stand in the buffer
 abbrev pub FitsBuffer : ReadLine → List ℕ → Type 0
 FitsBuffer (lines.Turn count) ns = (count ≤ length ns) × AreHints (take count ns)

@@ -1,11 +1,11 @@
 // What a line says once its word and its numbers are read: the tests of counts and ranges.
-ghost use Rattle.std.specs.Prelude.{◌≡◌, ◌+◌, ◌*◌, ◌^◌, ◌<◌, ◌≤◌, ◌==◌, ◌&&◌, [], if◌then◌else◌, nat_lt, nat_le, true, length, slice_index, Some, None, Ok, Err, MatchResult};
+ghost use Rattle.std.specs.Prelude.{◌≡◌, ◌+◌, ◌*◌, ◌^◌, ◌<◌, ◌≤◌, ◌==◌, ◌&&◌, [], if◌then◌else◌, nat_lt, nat_le, true, length, slice_index, Some, None, Ok, Err, IfOk};
 ghost use Rattle.std.specs.List.{list_all};
 ghost use Rattle.bc_trace.specs.declared.words.Word.TheVariants as words;
 ghost use Rattle.bc_trace.specs.Grammar.{arity};
 ghost use Rattle.bc_trace.specs.Reading.{most_of, has_count, slot_at, op_of, give_at, is_slot, is_op, is_within, is_setting, least_frames, most_frames, in_range, frames_fit, line_of, with_line};
 ghost use Rattle.bc_trace.specs.Lines.{setting as setting_of};
-ghost use Rattle.bc_trace.specs.Said.{Reads, IsSmall};
+ghost use Rattle.bc_trace.specs.Said.{Reads, IsSmall, IsWhole};
 
 use crate::fault::Cause;
 use crate::grammar::State;
@@ -169,7 +169,8 @@ fn setting_line(state: &State, setting: Setting, number: u64) -> Result<Line, Ca
 pub fn line_of(state: &State, word: Word, numbers: &[u64]) -> Result<Line, Cause>
     requires small { IsSmall state.now state.now.stood }
     requires count { has_count word (length numbers.now) ≡ true }
-    ensures { Reads (with_line state.now (line_of word numbers.now)) result numbers.now }
+    ensures reads { Reads (with_line state.now (line_of word numbers.now)) result numbers.now }
+    ensures whole { IfOk result (λ l. IsWhole l numbers.now) }
 {
     match word {
         Word::Version => {
