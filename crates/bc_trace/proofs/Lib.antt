@@ -4,3 +4,6 @@ pub mod Numerals
 pub mod Operands
 pub mod Hints
 pub mod Tests
+pub mod Ranges
+pub mod Meaning
+pub mod Runs
