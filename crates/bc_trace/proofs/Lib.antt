@@ -7,3 +7,4 @@ pub mod Tests
 pub mod Ranges
 pub mod Meaning
 pub mod Runs
+pub mod Written

@@ -135,3 +135,62 @@ pub fn word_of(word: &[u8]) -> Option<Word>
     }
     setting_of(word).map(Word::Setting)
 }
+
+impl Verb {
+    /// How the word is written.
+    #[tactic(auto, unfolding(crate::specs::Words::verb_name))]
+    fn name(self) -> &'static [u8]
+        ensures { result.now ≡ verb_name self }
+    {
+        match self {
+            Verb::New => b"new",
+            Verb::Who => b"who",
+            Verb::Len => b"len",
+            Verb::Set => b"set",
+            Verb::Cut => b"cut",
+            Verb::Link => b"link",
+            Verb::Load => b"load",
+            Verb::Copy => b"copy",
+            Verb::Clear => b"clear",
+            Verb::Same => b"same",
+        }
+    }
+}
+
+impl Setting {
+    /// How the word is written.
+    #[tactic(auto, unfolding(crate::specs::Words::setting_name))]
+    fn name(self) -> &'static [u8]
+        ensures { result.now ≡ setting_name self }
+    {
+        match self {
+            Setting::Lanes => b"lanes",
+            Setting::Domains => b"domains",
+            Setting::Slots => b"slots",
+            Setting::Superpages => b"superpages",
+            Setting::Nursery => b"nursery",
+            Setting::Buffer => b"buffer",
+            Setting::Frames => b"frames",
+        }
+    }
+}
+
+impl Word {
+    /// How the word is written.
+    #[tactic(auto, unfolding(crate::specs::Words::name))]
+    pub fn name(self) -> &'static [u8]
+        ensures { result.now ≡ name self }
+    {
+        match self {
+            Word::Version => b"bc-trace",
+            Word::Setting(setting) => setting.name(),
+            Word::Phase => b"phase",
+            Word::Turn => b"turn",
+            Word::Lane => b"lane",
+            Word::Give => b"give",
+            Word::End => b"end",
+            Word::Done => b"done",
+            Word::Op(verb) => verb.name(),
+        }
+    }
+}
