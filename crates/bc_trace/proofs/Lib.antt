@@ -8,3 +8,6 @@ pub mod Ranges
 pub mod Meaning
 pub mod Runs
 pub mod Written
+pub mod LineMeaning
+pub mod Judged
+pub mod Whole

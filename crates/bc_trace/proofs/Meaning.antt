@@ -31,7 +31,7 @@ use Rattle.bc_trace.specs.Reading.{next_fresh, where_some, is_within, formed_fro
 
 -- ---- words of visible bytes
 
-Decides-within : (least most n : ℕ) → Decides (is_within least most n) (IsWithin least most n)
+pub Decides-within : (least most n : ℕ) → Decides (is_within least most n) (IsWithin least most n)
 Decides-within least most n = Decides-and (leb least n) (leb n most) (leb-true least n, le-leb least n) (leb-true n most, le-leb n most)
 
 -- what is left of a word, which may be nothing where the word has begun
@@ -131,7 +131,7 @@ word_of-name (words.Op verbs.Same) = refl
 
 -- ---- numbers
 
-own : IsNumeralModel (λ ds. all_ascii_digits ds ≡ true) (read_on 0)
+pub own : IsNumeralModel (λ ds. all_ascii_digits ds ≡ true) (read_on 0)
 own = numerals_by_fold _ (search rules) read_on (search rules)
 
 digits_of-is : (word : List ℕ) (n : ℕ) → 0 < length word → (get_or word 0 0 ≡ 48 → length word ≡ 1) → digits_of word ≡ Some n → (word ≡ decimal n) × IsNumber n

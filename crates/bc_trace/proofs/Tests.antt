@@ -10,6 +10,10 @@ use Rattle.bc_trace.specs.Faults.{words_of}
 use Rattle.bc_trace.specs.Reading.{formed_from, word_of, has_count, numbers_of, line_of, with_line, line_at}
 use Rattle.bc_trace.proofs.Hints.{has_count-many}
 
+pub line_at-unformed : (s : State) (line : List ℕ) → formed_from true line ≡ false → line_at s line ≡ Err causes.Form
+unfolding line_at
+line_at-unformed s line e = rw e refl
+
 module _ (s : State) (line first : List ℕ) (others : List (List ℕ)) (formed : formed_from true line ≡ true) (parts : words_of line ≡ first ∷ others) where
   pub line_at-unknown : word_of first ≡ None → line_at s line ≡ Err causes.Word
   unfolding line_at

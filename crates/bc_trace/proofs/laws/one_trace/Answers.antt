@@ -1,4 +1,4 @@
-use Rattle.bc_trace.proofs.Meaning.{number_of-decimal}
+use Rattle.bc_trace.proofs.Whole.{forward}
 use Rattle.bc_trace.proofs.laws.one_trace.Goals as goal
 
 pub returns : goal.returns
