@@ -11,3 +11,4 @@ pub mod Written
 pub mod LineMeaning
 pub mod Judged
 pub mod Whole
+pub mod Again
