@@ -12,3 +12,4 @@ pub mod LineMeaning
 pub mod Judged
 pub mod Whole
 pub mod Again
+pub mod Shapes

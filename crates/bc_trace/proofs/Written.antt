@@ -15,7 +15,7 @@ text_of ls = flat_map line_text ls
 pub then : (a b c x y : List ℕ) → b ≡ a ++ x → c ≡ b ++ y → c ≡ a ++ (x ++ y)
 then a b c x y p q = q ∙ ap (λ t. t ++ y) p ∙ append_assoc a x y
 
-lane_lines-append : (j : ℕ) (xs : List (List Op)) (y : List Op) → lane_lines j (xs ++ y ∷ []) ≡ lane_lines j xs ++ lane (j + length xs) ∷ map op y
+pub lane_lines-append : (j : ℕ) (xs : List (List Op)) (y : List Op) → lane_lines j (xs ++ y ∷ []) ≡ lane_lines j xs ++ lane (j + length xs) ∷ map op y
 lane_lines-append j [] y = ap (λ ls. lane j ∷ ls) (append-nil (map op y)) ∙ ap (λ k. lane k ∷ map op y) (omega arith)
 lane_lines-append j (x ∷ xs) y =
     let k : suc j + length xs ≡ j + suc (length xs) = omega arith in
