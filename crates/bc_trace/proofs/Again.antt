@@ -158,7 +158,7 @@ module _ (s : Setup) (setup : IsSetup s) where
           last = rest.last;
           all = rest.all ∙ append_assoc front (os ∷ []) (more ∷ lanes);
           runs = runs-cons (ops_draft (suc j) front os) (ops_draft s.lanes rest.before rest.last) (lane (suc j)) (map op more ++ lane_lines (suc (suc j)) lanes) line
-            (runs-from (put (lane (suc j)) (ops_draft (suc j) front os)) (ops_draft (suc (suc j)) (front ++ os ∷ []) []) (ops_draft s.lanes rest.before rest.last) (map op more ++ lane_lines (suc (suc j)) lanes) here
+              (runs-from (put (lane (suc j)) (ops_draft (suc j) front os)) (ops_draft (suc (suc j)) (front ++ os ∷ []) []) (ops_draft s.lanes rest.before rest.last) (map op more ++ lane_lines (suc (suc j)) lanes) here
               (runs-append (ops_draft (suc (suc j)) (front ++ os ∷ []) []) (ops_draft (suc (suc j)) (front ++ os ∷ []) more) (ops_draft s.lanes rest.before rest.last) (map op more) (lane_lines (suc (suc j)) lanes) its rest.runs));
         }
 
@@ -186,7 +186,7 @@ module _ (s : Setup) (setup : IsSetup s) where
           last = rest.last;
           all = rest.all;
           runs = runs-cons (draft (state places.Turns s 0) ps ts [] [] []) (ops_draft s.lanes rest.before rest.last) (lane 0) (map op os ++ lane_lines 1 lanes) first_lane
-            (runs-from (put (lane 0) (draft (state places.Turns s 0) ps ts [] [] [])) (ops_draft 1 [] []) (ops_draft s.lanes rest.before rest.last) (map op os ++ lane_lines 1 lanes) put_first_lane
+              (runs-from (put (lane 0) (draft (state places.Turns s 0) ps ts [] [] [])) (ops_draft 1 [] []) (ops_draft s.lanes rest.before rest.last) (map op os ++ lane_lines 1 lanes) put_first_lane
               (runs-append (ops_draft 1 [] []) (ops_draft 1 [] os) (ops_draft s.lanes rest.before rest.last) (map op os) (lane_lines 1 lanes) its rest.runs));
         }
 
@@ -252,9 +252,11 @@ module _ (s : Setup) (setup : IsSetup s) where
   unfolding between
   runs_phases [] k ps h = (k, record { pass = tt; makes = ap (λ (xs : List PhaseLists). between k xs) (sym (append-nil ps)) })
   runs_phases (p ∷ more) k ps h =
-      let rest = runs_phases more s.lanes (ps ++ p ∷ []) h.1 in
-      (rest.0, runs-at (between k ps) (between rest.0 ((ps ++ p ∷ []) ++ more)) (between rest.0 (ps ++ p ∷ more)) (flat_map phase_lines (p ∷ more)) (ap (λ (xs : List PhaseLists). between rest.0 xs) (append_assoc ps (p ∷ []) more))
-        (runs-append (between k ps) (between s.lanes (ps ++ p ∷ [])) (between rest.0 ((ps ++ p ∷ []) ++ more)) (phase_lines p) (flat_map phase_lines more) (runs_phase p k ps h.0) rest.1))
+      let rest = runs_phases more s.lanes (ps ++ p ∷ []) h.1 in (
+        rest.0,
+        runs-at (between k ps) (between rest.0 ((ps ++ p ∷ []) ++ more)) (between rest.0 (ps ++ p ∷ more)) (flat_map phase_lines (p ∷ more)) (ap (λ (xs : List PhaseLists). between rest.0 xs) (append_assoc ps (p ∷ []) more))
+            (runs-append (between k ps) (between s.lanes (ps ++ p ∷ [])) (between rest.0 ((ps ++ p ∷ []) ++ more)) (phase_lines p) (flat_map phase_lines more) (runs_phase p k ps h.0) rest.1),
+      )
 
   done_line : (k : ℕ) → Passes (state places.Phases s k) done
   unfolding may_stand arity

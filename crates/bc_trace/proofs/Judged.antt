@@ -183,9 +183,9 @@ module _ (s : State) (line : List ℕ) where
   judged_line l e readable =
       elim (cases_Bool (in_range s l)) [
         | inl range ↦ elim (cases_Bool (frames_fit s l)) [
-            | inl frames ↦ inl (l, e ∙ rw (range, frames) refl, readable.text, record { stands = readable.stands; count = readable.count; numbers = readable.numbers; range = (Decides-range s l).0 range; frames = (Decides-frames s l).0 frames })
-            | inr misfit ↦ inr (causes.Frames, e ∙ rw (range, misfit) refl, record { says = l; readable = readable; range = (Decides-range s l).0 range; frames = not_from_Decides (frames_fit s l) (Decides-frames s l) misfit })
-          ]
+          | inl frames ↦ inl (l, e ∙ rw (range, frames) refl, readable.text, record { stands = readable.stands; count = readable.count; numbers = readable.numbers; range = (Decides-range s l).0 range; frames = (Decides-frames s l).0 frames })
+          | inr misfit ↦ inr (causes.Frames, e ∙ rw (range, misfit) refl, record { says = l; readable = readable; range = (Decides-range s l).0 range; frames = not_from_Decides (frames_fit s l) (Decides-frames s l) misfit })
+        ]
         | inr out ↦ inr (causes.Range, e ∙ rw out refl, record { says = l; readable = readable; range = not_from_Decides (in_range s l) (Decides-range s l) out })
       ]
 
@@ -214,12 +214,12 @@ module _ (s : State) (line : List ℕ) where
           elim (cases_Bool (may_stand w s.place (eqb s.stood s.setup.lanes))) [
             | inr misplaced ↦ inr (causes.Order, line_at-misplaced s line first others formed parts w is misplaced, record { formed = (Decides-formed line).0 formed; word = w; others = others; begins = begins; order = λ h. both_ways _ misplaced h })
             | inl stands ↦ elim (cases_Bool (has_count w (length others))) [
-                | inr miscounted ↦ inr (causes.Form, line_at-miscounted s line first others formed parts w is stands miscounted, inr (record { formed = (Decides-formed line).0 formed; word = w; others = others; begins = begins; stands = stands; count = not_from_Decides (has_count w (length others)) (Decides-count w (length others)) miscounted }))
-                | inl count ↦ elim (cases_Option (numbers_of others)) [
-                    | inl none ↦ inr (causes.Number, line_at-no_numbers s line first others formed parts w is stands count none, record { formed = (Decides-formed line).0 formed; word = w; others = others; begins = begins; stands = stands; count = (Decides-count w (length others)).0 count; number = λ h. not_none others none h })
-                    | inr (ns, numbers) ↦ judged_numbers stands count ns numbers
-                  ]
+              | inr miscounted ↦ inr (causes.Form, line_at-miscounted s line first others formed parts w is stands miscounted, inr (record { formed = (Decides-formed line).0 formed; word = w; others = others; begins = begins; stands = stands; count = not_from_Decides (has_count w (length others)) (Decides-count w (length others)) miscounted }))
+              | inl count ↦ elim (cases_Option (numbers_of others)) [
+                | inl none ↦ inr (causes.Number, line_at-no_numbers s line first others formed parts w is stands count none, record { formed = (Decides-formed line).0 formed; word = w; others = others; begins = begins; stands = stands; count = (Decides-count w (length others)).0 count; number = λ h. not_none others none h })
+                | inr (ns, numbers) ↦ judged_numbers stands count ns numbers
               ]
+            ]
           ]
 
     judged_words : Judgement s line

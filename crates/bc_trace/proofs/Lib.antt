@@ -13,3 +13,5 @@ pub mod Judged
 pub mod Whole
 pub mod Again
 pub mod Shapes
+pub mod Lengths
+pub mod Answered

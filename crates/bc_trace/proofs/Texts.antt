@@ -5,7 +5,7 @@ use Rattle.std.proofs.lemmas.List.{map_more, append-nil, length-map, length-take
 use Rattle.bc_model.specs.declared.operations.Reply.{Reply}
 use Rattle.std.specs.Prelude.{codes}
 use Rattle.std.specs.Fmt.{decimal}
-use Rattle.bc_trace.specs.Replies.{lane_text, lanes_text, phase_text}
+use Rattle.bc_trace.specs.Replies.{lane_text, lanes_text, phase_text, phases_text}
 
 lanes_text-append : (j : ℕ) (xs : List (List Reply)) (y : List Reply) → lanes_text j (xs ++ y ∷ []) ≡ lanes_text j xs ++ lane_text (j + length xs) y
 lanes_text-append j [] y = append-nil (lane_text j y) ∙ ap (λ k. lane_text k y) (omega arith)
@@ -24,3 +24,20 @@ lanes_text-more f vs i d before text new lt so_far e =
 pub phase_text-made : (k : ℕ) (lanes : List (List Reply)) (head text : List ℕ) → head ≡ codes "phase " ++ decimal k ++ 10 ∷ [] → text ≡ head ++ lanes_text 0 lanes → text ≡ phase_text k lanes
 unfolding phase_text
 phase_text-made k lanes head text h e = e ∙ ap (λ t. t ++ lanes_text 0 lanes) h
+
+-- ---- the texts of phases
+
+pub phases_text-nil : (k : ℕ) → phases_text k [] ≡ []
+unfolding phases_text
+phases_text-nil k = refl
+
+pub phases_text-cons : (k : ℕ) (p : List (List Reply)) (ps : List (List (List Reply))) → phases_text k (p ∷ ps) ≡ phase_text k p ++ phases_text (suc k) ps
+unfolding phases_text
+phases_text-cons k p ps = refl
+
+pub phases_text-append : (k : ℕ) (ps : List (List (List Reply))) (p : List (List Reply)) → phases_text k (ps ++ p ∷ []) ≡ phases_text k ps ++ phase_text (k + length ps) p
+unfolding phases_text
+phases_text-append k [] p = append-nil (phase_text k p) ∙ ap (λ n. phase_text n p) (omega arith)
+phases_text-append k (q ∷ ps) p =
+    let n : suc k + length ps ≡ k + suc (length ps) = omega arith in
+    ap (λ t. phase_text k q ++ t) (phases_text-append (suc k) ps p ∙ rw n refl) ∙ sym (append_assoc (phase_text k q) (phases_text (suc k) ps) (phase_text (k + suc (length ps)) p))

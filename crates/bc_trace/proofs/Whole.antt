@@ -201,32 +201,44 @@ front line l bytes rest e h = rw (e, h) (sym (append_assoc (spelling (word_of_li
 
 module _ (d : DraftLists) (n : ℕ) (line : List ℕ) (l : Line) (parts : List (List ℕ)) (some : 0 < length parts) (says : line_at d.state line ≡ Ok l) (text : line ≡ spelling (word_of_line l) (operands l)) (passes : Passes d.state l) where
   one_more : line ++ 10 ∷ join_with_byte 10 parts ≡ join_with_byte 10 (line ∷ parts) → Verdict (put l d) (n + 1) parts → Verdict d n (line ∷ parts)
-  one_more join (inl (t, e, h)) = inl (t, reading-go d n line parts l some says ∙ e, record {
-    lines = l ∷ h.lines;
-    text = sym join ∙ front line l (join_with_byte 10 parts) (flat_map line_text h.lines) text h.text;
-    pass = (passes, h.pass);
-    place = h.place;
-    trace = h.trace;
-  })
-  one_more join (inr (f, e, inl h)) = inr (f, reading-go d n line parts l some says ∙ e, inl (record {
-    before = l ∷ h.before;
-    bad = h.bad;
-    rest = h.rest;
-    text = sym join ∙ front line l (join_with_byte 10 parts) (flat_map line_text h.before ++ (h.bad ++ 10 ∷ h.rest)) text h.text ∙ sym (append_assoc (line_text l) (flat_map line_text h.before) (h.bad ++ 10 ∷ h.rest));
-    whole = h.whole;
-    pass = (passes, h.pass);
-    number = h.number ∙ omega arith;
-    fails = h.fails;
-  }))
-  one_more join (inr (f, e, inr h)) = inr (f, reading-go d n line parts l some says ∙ e, inr (record {
-    before = l ∷ h.before;
-    rest = h.rest;
-    text = sym join ∙ front line l (join_with_byte 10 parts) (flat_map line_text h.before ++ h.rest) text h.text ∙ sym (append_assoc (line_text l) (flat_map line_text h.before) h.rest);
-    begun = h.begun;
-    pass = (passes, h.pass);
-    number = h.number ∙ omega arith;
-    ends = h.ends;
-  }))
+  one_more join (inl (t, e, h)) = inl (
+    t,
+    reading-go d n line parts l some says ∙ e,
+    record {
+      lines = l ∷ h.lines;
+      text = sym join ∙ front line l (join_with_byte 10 parts) (flat_map line_text h.lines) text h.text;
+      pass = (passes, h.pass);
+      place = h.place;
+      trace = h.trace;
+    },
+  )
+  one_more join (inr (f, e, inl h)) = inr (
+    f,
+    reading-go d n line parts l some says ∙ e,
+    inl (record {
+      before = l ∷ h.before;
+      bad = h.bad;
+      rest = h.rest;
+      text = sym join ∙ front line l (join_with_byte 10 parts) (flat_map line_text h.before ++ (h.bad ++ 10 ∷ h.rest)) text h.text ∙ sym (append_assoc (line_text l) (flat_map line_text h.before) (h.bad ++ 10 ∷ h.rest));
+      whole = h.whole;
+      pass = (passes, h.pass);
+      number = h.number ∙ omega arith;
+      fails = h.fails;
+    }),
+  )
+  one_more join (inr (f, e, inr h)) = inr (
+    f,
+    reading-go d n line parts l some says ∙ e,
+    inr (record {
+      before = l ∷ h.before;
+      rest = h.rest;
+      text = sym join ∙ front line l (join_with_byte 10 parts) (flat_map line_text h.before ++ h.rest) text h.text ∙ sym (append_assoc (line_text l) (flat_map line_text h.before) h.rest);
+      begun = h.begun;
+      pass = (passes, h.pass);
+      number = h.number ∙ omega arith;
+      ends = h.ends;
+    }),
+  )
 
 verdict : (parts : List (List ℕ)) (d : DraftLists) (n : ℕ) → 0 < length parts → AllByRecursion IsClear parts → Verdict d n parts
 verdict [] d n some clear = absurd (omega arith)
@@ -234,16 +246,20 @@ verdict (rest ∷ []) d n some clear = verdict_end d n rest clear.0 (reading-end
 verdict (line ∷ next ∷ parts) d n some clear = verdict_line (judged d.state line) (λ d n. verdict (next ∷ parts) d n (omega arith) clear.1) where
   verdict_line : Judgement d.state line → ((d : DraftLists) (n : ℕ) → Verdict d n (next ∷ parts)) → Verdict d n (line ∷ next ∷ parts)
   verdict_line (inl (l, e, text, passes)) more = one_more d n line l (next ∷ parts) (omega arith) e text passes refl (more (put l d) (n + 1))
-  verdict_line (inr (cause, e, fails)) more = inr (fault (n + 1) cause, reading-stop d n line (next ∷ parts) cause (omega arith) e, inl (record {
-    before = [];
-    bad = line;
-    rest = join_with_byte 10 (next ∷ parts);
-    text = refl;
-    whole = clear.0;
-    pass = tt;
-    number = ap (λ k. k + 1) (sym (add-zero n));
-    fails = fails;
-  }))
+  verdict_line (inr (cause, e, fails)) more = inr (
+    fault (n + 1) cause,
+    reading-stop d n line (next ∷ parts) cause (omega arith) e,
+    inl (record {
+      before = [];
+      bad = line;
+      rest = join_with_byte 10 (next ∷ parts);
+      text = refl;
+      whole = clear.0;
+      pass = tt;
+      number = ap (λ k. k + 1) (sym (add-zero n));
+      fails = fails;
+    }),
+  )
 
 -- ---- the same of bytes
 

@@ -8,3 +8,4 @@ pub mod Causes
 pub mod Drafts
 pub mod Reading
 pub mod Said
+pub mod Sizes

@@ -37,7 +37,7 @@ unfoldable pub phase_text : ℕ → List (List Reply) → List ℕ
 phase_text k lanes = codes "phase " ++ decimal k ++ 10 ∷ [] ++ lanes_text 0 lanes
 
 -- the texts of the phases from phase k on
-abbrev pub phases_text : ℕ → List (List (List Reply)) → List ℕ
+unfoldable pub phases_text : ℕ → List (List (List Reply)) → List ℕ
 phases_text k [] = []
 phases_text k (p ∷ ps) = phase_text k p ++ phases_text (suc k) ps
 

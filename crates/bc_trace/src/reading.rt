@@ -7,6 +7,7 @@ ghost use Rattle.bc_trace.specs.Faults.{Fault};
 ghost use Rattle.bc_trace.specs.Drafts.{shown};
 ghost use Rattle.bc_trace.specs.Reading.{line_at, ended, read_of};
 ghost use Rattle.bc_trace.specs.Said.{Reads, IsSmall, FitsBuffer};
+ghost use Rattle.bc_trace.specs.Sizes.{ops_in};
 ghost use Rattle.bc_trace.specs.Answers.{Gives, TellsFault, IsFaultOrMemory};
 
 use crate::checking::{has_count, line_of};
@@ -102,6 +103,9 @@ pub fn read(alloc: Global, bytes: &[u8]) -> Result<Trace, ReadTrace>
     // What is read is spelled so, and what is spelled so is read, unless memory runs out.
     ensures found { IfOk result (Spells bytes.now) }
     ensures spelled { (t : TraceLists) → Spells bytes.now t → MatchResult result (λ x. x ≡ t) (λ e. e ≡ NoMemory) }
+
+    // A text has a byte or more for each phase and each operation.
+    ensures short { IfOk result (λ t. ops_in t.phases + length t.phases ≤ length bytes.now) }
 
     // A fault that is answered is the text's, and a text's fault is answered, unless memory runs out.
     ensures fault { IfErr result (TellsFault bytes.now) }

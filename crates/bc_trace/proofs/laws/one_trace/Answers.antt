@@ -1,7 +1,5 @@
-use Rattle.bc_trace.proofs.Again.{trace_read}
-use Rattle.bc_trace.proofs.Shapes as shapes
-use Rattle.bc_trace.proofs.Whole.{forward, read_means, fault_read}
+use Rattle.bc_trace.proofs.Answered.{same_trace}
 use Rattle.bc_trace.proofs.laws.one_trace.Goals as goal
 
 pub returns : goal.returns
-returns c = ?
+returns c = same_trace
