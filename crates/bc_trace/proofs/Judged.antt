@@ -26,7 +26,7 @@ use Rattle.bc_trace.specs.Grammar.{may_stand, MayStand, IsCount, InRange, Frames
 use Rattle.bc_trace.specs.Faults.{words_of, IsWord, IsFormed, BeginsWith, IsNumeral, WordFails, OrderFails, CountFails, NumberFails, IsReadable, RangeFails, FramesFails, Fails}
 use Rattle.bc_trace.specs.Reading.{is_within, formed_from, word_of, has_count, numbers_of, line_of, in_range, frames_fit, with_line, line_at}
 use Rattle.bc_trace.proofs.Operands.{words_of-some}
-use Rattle.bc_trace.proofs.Tests.{line_at-unformed, line_at-unknown, line_at-misplaced, line_at-miscounted, line_at-no_numbers, line_at-says}
+use Rattle.bc_trace.proofs.InOrder.{line_at-unformed, line_at-unknown, line_at-misplaced, line_at-miscounted, line_at-no_numbers, line_at-says}
 use Rattle.bc_trace.proofs.Meaning.{own, Decides-within, Decides-formed, word_of-is, word_of-name, numbers_of-is, numbers_of-decimal, numerals, are_numerals}
 use Rattle.bc_trace.proofs.LineMeaning.{Decides-count, word_of_line-line_of, operands-line_of, line_of-line, Decides-range, Decides-frames}
 

@@ -3,7 +3,7 @@ pub mod Parts
 pub mod Numerals
 pub mod Operands
 pub mod Hints
-pub mod Tests
+pub mod InOrder
 pub mod Ranges
 pub mod Meaning
 pub mod Runs

@@ -19,3 +19,6 @@ pub use laws::{one_fault, one_text, one_trace};
 pub use reading::read;
 pub use replies::{phase_text, reply_line};
 pub use writing::write;
+
+#[cfg(test)]
+mod tests;
