@@ -1,0 +1,39 @@
+-- The tests of a line, one after the other.
+use Rattle.std.proofs.Common.{◌≡◌, ℕ, ◌<◌, Bool, true, false, eqb, List, [], ◌∷◌, length, Option, Some, None, Result, Ok, Err, refl, sym, ap, ◌∙◌}
+use Rattle.bc_trace.specs.declared.fault.Cause.{Cause}
+use Rattle.bc_trace.specs.declared.fault.Cause.TheVariants as causes
+use Rattle.bc_trace.specs.declared.grammar.State.{State}
+use Rattle.bc_trace.specs.declared.words.Word.{Word}
+use Rattle.bc_trace.specs.Lines.{Line}
+use Rattle.bc_trace.specs.Grammar.{may_stand}
+use Rattle.bc_trace.specs.Faults.{words_of}
+use Rattle.bc_trace.specs.Reading.{formed_from, word_of, has_count, numbers_of, line_of, with_line, line_at}
+use Rattle.bc_trace.proofs.Hints.{has_count-many}
+
+pub line_at-unformed : (s : State) (line : List ℕ) → formed_from true line ≡ false → line_at s line ≡ Err causes.Form
+unfolding line_at
+line_at-unformed s line e = rw e refl
+
+module _ (s : State) (line first : List ℕ) (others : List (List ℕ)) (formed : formed_from true line ≡ true) (parts : words_of line ≡ first ∷ others) where
+  pub line_at-unknown : word_of first ≡ None → line_at s line ≡ Err causes.Word
+  unfolding line_at
+  line_at-unknown e = rw (formed, parts, e) refl
+
+  pub line_at-misplaced : (w : Word) → word_of first ≡ Some w → may_stand w s.place (eqb s.stood s.setup.lanes) ≡ false → line_at s line ≡ Err causes.Order
+  unfolding line_at
+  line_at-misplaced w e order = rw (formed, parts, e, order) refl
+
+  pub line_at-miscounted : (w : Word) → word_of first ≡ Some w → may_stand w s.place (eqb s.stood s.setup.lanes) ≡ true → has_count w (length others) ≡ false → line_at s line ≡ Err causes.Form
+  unfolding line_at
+  line_at-miscounted w e stands count = rw (formed, parts, e, stands, count) refl
+
+  pub line_at-many : (w : Word) → word_of first ≡ Some w → may_stand w s.place (eqb s.stood s.setup.lanes) ≡ true → 64 < length others → line_at s line ≡ Err causes.Form
+  line_at-many w e stands many = line_at-miscounted w e stands (has_count-many w (length others) many)
+
+  pub line_at-no_numbers : (w : Word) → word_of first ≡ Some w → may_stand w s.place (eqb s.stood s.setup.lanes) ≡ true → has_count w (length others) ≡ true → numbers_of others ≡ None → line_at s line ≡ Err causes.Number
+  unfolding line_at
+  line_at-no_numbers w e stands count numbers = rw (formed, parts, e, stands, count, numbers) refl
+
+  pub line_at-says : (w : Word) (ns : List ℕ) → word_of first ≡ Some w → may_stand w s.place (eqb s.stood s.setup.lanes) ≡ true → has_count w (length others) ≡ true → numbers_of others ≡ Some ns → line_at s line ≡ with_line s (line_of w ns)
+  unfolding line_at
+  line_at-says w ns e stands count numbers = rw (formed, parts, e, stands, count, numbers) refl

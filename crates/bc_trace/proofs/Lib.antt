@@ -1,0 +1,17 @@
+pub mod Texts
+pub mod Parts
+pub mod Numerals
+pub mod Operands
+pub mod Hints
+pub mod InOrder
+pub mod Ranges
+pub mod Meaning
+pub mod Runs
+pub mod Written
+pub mod LineMeaning
+pub mod Judged
+pub mod Whole
+pub mod Again
+pub mod Shapes
+pub mod Lengths
+pub mod Answered

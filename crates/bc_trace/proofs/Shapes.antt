@@ -1,0 +1,370 @@
+-- Lines that pass up to the end are those of a well-formed trace.
+use Rattle.std.proofs.Common.{◌≡◌, ◌≢◌, ℕ, zero, suc, ◌+◌, ◌<◌, ◌≤◌, Bool, true, false, not, eqb, List, [], ◌∷◌, ◌++◌, length, map, Result, Ok, Err, refl, sym, ap, subst, ◌∙◌, append_assoc, inl, inr, arith, add-zero}
+use Rattle.std.specs.List.{AllByRecursion, flat_map}
+use Rattle.std.proofs.lemmas.Bool.{eqb-true, eqb-false, eq-eqb, ne_eqb}
+use Rattle.std.proofs.lemmas.List.{append-nil, length-append, map-append}
+use Rattle.std.proofs.lemmas.List.Concat.{flat_map-append}
+use Rattle.bc_model.specs.Lists.{PhaseLists, TraceLists}
+use Rattle.bc_model.specs.WellFormed.{IsWithin, IsSetup, IsNumber, IsOp, IsGive, IsTurn, IsPhase, IsTrace}
+use Rattle.bc_model.specs.declared.operations.Op.{Op}
+use Rattle.bc_model.specs.declared.traces.Give.{Give}
+use Rattle.bc_model.specs.declared.traces.Setup.{Setup}
+use Rattle.bc_trace.specs.declared.grammar.Place.{Place}
+use Rattle.bc_trace.specs.declared.grammar.Place.TheVariants as places
+use Rattle.bc_trace.specs.declared.grammar.State.{State}
+use Rattle.bc_trace.specs.declared.words.Setting.{Setting}
+use Rattle.bc_trace.specs.declared.words.Setting.TheVariants as settings
+use Rattle.bc_trace.specs.declared.words.Word.TheVariants as words
+use Rattle.bc_trace.specs.Lines.{Line, version, setting, phase, turn, lane, op, give, end, done, word_of_line, operands, setup_lines, lane_lines, phase_lines, trace_lines}
+use Rattle.bc_trace.specs.Grammar.{start, may_stand, same_setting, IsCount, InRange, FramesFit, Passes, after, Follow}
+use Rattle.bc_trace.specs.Drafts.{DraftLists, empty_draft, put, put_lists}
+use Rattle.bc_trace.specs.Reading.{finished}
+use Rattle.bc_trace.proofs.Whole.{put_all}
+use Rattle.bc_trace.proofs.Written.{lane_lines-append}
+
+all-push : {X : Type 0} (P : X → Type 0) (xs : List X) (x : X) → AllByRecursion P xs → P x → AllByRecursion P (xs ++ x ∷ [])
+all-push P [] x h g = (g, tt)
+all-push P (y ∷ xs) x h g = (h.0, all-push P xs x h.1 g)
+
+-- nothing was read of a phase
+record NoPhase (d : DraftLists) : Type 0 where
+  turns : d.turns ≡ []
+  lanes : d.lanes ≡ []
+  ops : d.ops ≡ []
+  gives : d.gives ≡ []
+
+-- no phase was read either
+record NoPhases (d : DraftLists) : Type 0 where
+  phases : d.phases ≡ []
+  begun : NoPhase d
+
+-- the lines of whole phases
+abbrev closed_lines : DraftLists → List Line
+closed_lines d = version 1 ∷ (setup_lines d.state.setup ++ flat_map phase_lines d.phases)
+
+-- the header and the phases are well formed
+record IsClosed (d : DraftLists) : Type 0 where
+  setup : IsSetup d.state.setup
+  phases : AllByRecursion (IsPhase d.state.setup) d.phases
+
+-- what was read of a phase, its gives aside, is well formed
+record IsOpen (d : DraftLists) : Type 0 where
+  closed : IsClosed d
+  turns : AllByRecursion IsTurn d.turns
+  stood : d.state.stood ≡ length d.lanes + 1
+  lanes : AllByRecursion (AllByRecursion (IsOp d.state.setup)) d.lanes
+  ops : AllByRecursion (IsOp d.state.setup) d.ops
+
+abbrev open_lines : DraftLists → List Line
+open_lines d = phase ∷ (map turn d.turns ++ lane_lines 0 (d.lanes ++ d.ops ∷ []))
+
+record AtTurns (d : DraftLists) (ls : List Line) : Type 0 where
+  lines : ls ≡ closed_lines d ++ phase ∷ map turn d.turns
+  closed : IsClosed d
+  turns : AllByRecursion IsTurn d.turns
+  stood : d.state.stood ≡ 0
+  lanes : d.lanes ≡ []
+  ops : d.ops ≡ []
+  gives : d.gives ≡ []
+
+record AtOps (d : DraftLists) (ls : List Line) : Type 0 where
+  lines : ls ≡ closed_lines d ++ open_lines d
+  begun : IsOpen d
+  gives : d.gives ≡ []
+
+record AtGives (d : DraftLists) (ls : List Line) : Type 0 where
+  lines : ls ≡ closed_lines d ++ (open_lines d ++ map give d.gives)
+  begun : IsOpen d
+  all : d.state.stood ≡ d.state.setup.lanes
+  gives : AllByRecursion (IsGive d.state.setup) d.gives
+
+-- what the lines so far make
+Shape : Place → DraftLists → List Line → Type 0
+Shape places.Start d ls = (ls ≡ []) × NoPhases d
+Shape (places.Awaiting settings.Lanes) d ls = (ls ≡ version 1 ∷ []) × NoPhases d
+Shape (places.Awaiting settings.Domains) d ls = (ls ≡ version 1 ∷ setting settings.Lanes d.state.setup.lanes ∷ []) × NoPhases d × IsWithin 1 16 d.state.setup.lanes
+Shape (places.Awaiting settings.Slots) d ls = (ls ≡ version 1 ∷ setting settings.Lanes d.state.setup.lanes ∷ setting settings.Domains d.state.setup.domains ∷ []) × NoPhases d × IsWithin 1 16 d.state.setup.lanes × IsWithin 1 64 d.state.setup.domains
+Shape (places.Awaiting settings.Superpages) d ls = (ls ≡ version 1 ∷ setting settings.Lanes d.state.setup.lanes ∷ setting settings.Domains d.state.setup.domains ∷ setting settings.Slots d.state.setup.slots ∷ []) × NoPhases d × IsWithin 1 16 d.state.setup.lanes × IsWithin 1 64 d.state.setup.domains × IsWithin 1 256 d.state.setup.slots
+Shape (places.Awaiting settings.Nursery) d ls = (ls ≡ version 1 ∷ setting settings.Lanes d.state.setup.lanes ∷ setting settings.Domains d.state.setup.domains ∷ setting settings.Slots d.state.setup.slots ∷ setting settings.Superpages d.state.setup.superpages ∷ []) × NoPhases d × IsWithin 1 16 d.state.setup.lanes × IsWithin 1 64 d.state.setup.domains × IsWithin 1 256 d.state.setup.slots × IsWithin 1 4096 d.state.setup.superpages
+Shape (places.Awaiting settings.Buffer) d ls = (ls ≡ version 1 ∷ setting settings.Lanes d.state.setup.lanes ∷ setting settings.Domains d.state.setup.domains ∷ setting settings.Slots d.state.setup.slots ∷ setting settings.Superpages d.state.setup.superpages ∷ setting settings.Nursery d.state.setup.nursery ∷ []) × NoPhases d × IsWithin 1 16 d.state.setup.lanes × IsWithin 1 64 d.state.setup.domains × IsWithin 1 256 d.state.setup.slots × IsWithin 1 4096 d.state.setup.superpages × IsWithin 1 16 d.state.setup.nursery
+Shape (places.Awaiting settings.Frames) d ls = (ls ≡ version 1 ∷ setting settings.Lanes d.state.setup.lanes ∷ setting settings.Domains d.state.setup.domains ∷ setting settings.Slots d.state.setup.slots ∷ setting settings.Superpages d.state.setup.superpages ∷ setting settings.Nursery d.state.setup.nursery ∷ setting settings.Buffer d.state.setup.buffer ∷ []) × NoPhases d × IsWithin 1 16 d.state.setup.lanes × IsWithin 1 64 d.state.setup.domains × IsWithin 1 256 d.state.setup.slots × IsWithin 1 4096 d.state.setup.superpages × IsWithin 1 16 d.state.setup.nursery × IsWithin 1 4096 d.state.setup.buffer
+Shape places.Phases d ls = (ls ≡ closed_lines d) × IsClosed d × NoPhase d
+Shape places.Turns d ls = AtTurns d ls
+Shape places.Ops d ls = AtOps d ls
+Shape places.Gives d ls = AtGives d ls
+Shape places.Finished d ls = (ls ≡ trace_lines (finished d)) × IsTrace (finished d)
+
+-- ---- one more line
+
+abbrev Step : Line → Place → DraftLists → List Line → Type 0
+Step l p d ls = may_stand (word_of_line l) p (eqb d.state.stood d.state.setup.lanes) ≡ true → IsCount (word_of_line l) (length (operands l)) → InRange d.state l → FramesFit d.state l → Shape p d ls → Shape (after l d.state).place (put l d) (ls ++ l ∷ [])
+
+no_phases : (d e : DraftLists) → e.phases ≡ d.phases → e.turns ≡ d.turns → e.lanes ≡ d.lanes → e.ops ≡ d.ops → e.gives ≡ d.gives → NoPhases d → NoPhases e
+no_phases d e p1 p2 p3 p4 p5 h = record { phases = p1 ∙ h.phases; begun = record { turns = p2 ∙ h.begun.turns; lanes = p3 ∙ h.begun.lanes; ops = p4 ∙ h.begun.ops; gives = p5 ∙ h.begun.gives } }
+
+on : (xs ys : List Line) (l : Line) → xs ≡ ys → xs ++ l ∷ [] ≡ ys ++ l ∷ []
+on xs ys l e = ap (λ (zs : List Line). zs ++ l ∷ []) e
+
+step_version : (n : ℕ) (p : Place) (d : DraftLists) (ls : List Line) → Step (version n) p d ls
+unfolding may_stand put_lists Shape
+step_version n places.Start d ls stands count range frames h = (on ls [] (version n) h.0 ∙ ap (λ k. version k ∷ []) range, no_phases d (put (version n) d) refl refl refl refl refl h.1)
+step_version n (places.Awaiting k) d ls stands count range frames h = absurd cc
+step_version n places.Phases d ls stands count range frames h = absurd cc
+step_version n places.Turns d ls stands count range frames h = absurd cc
+step_version n places.Ops d ls stands count range frames h = absurd cc
+step_version n places.Gives d ls stands count range frames h = absurd cc
+step_version n places.Finished d ls stands count range frames h = absurd cc
+
+first_setting : (k : Setting) (n : ℕ) (p : Place) (d : DraftLists) (ls : List Line) → Step (setting k n) p d ls
+unfolding may_stand same_setting put_lists Shape
+first_setting settings.Lanes n (places.Awaiting settings.Lanes) d ls stands count range frames h = (on ls (version 1 ∷ []) (setting settings.Lanes n) h.0, no_phases d (put (setting settings.Lanes n) d) refl refl refl refl refl h.1, range)
+first_setting settings.Domains n (places.Awaiting settings.Domains) d ls stands count range frames h = (ap (λ (zs : List Line). zs ++ setting settings.Domains n ∷ []) h.0, no_phases d (put (setting settings.Domains n) d) refl refl refl refl refl h.1, h.2, range)
+first_setting settings.Slots n (places.Awaiting settings.Slots) d ls stands count range frames h = (ap (λ (zs : List Line). zs ++ setting settings.Slots n ∷ []) h.0, no_phases d (put (setting settings.Slots n) d) refl refl refl refl refl h.1, h.2, h.3, range)
+first_setting settings.Superpages n (places.Awaiting settings.Superpages) d ls stands count range frames h = (ap (λ (zs : List Line). zs ++ setting settings.Superpages n ∷ []) h.0, no_phases d (put (setting settings.Superpages n) d) refl refl refl refl refl h.1, h.2, h.3, h.4, range)
+first_setting settings.Nursery n (places.Awaiting settings.Nursery) d ls stands count range frames h = (ap (λ (zs : List Line). zs ++ setting settings.Nursery n ∷ []) h.0, no_phases d (put (setting settings.Nursery n) d) refl refl refl refl refl h.1, h.2, h.3, h.4, h.5, range)
+first_setting settings.Buffer n (places.Awaiting settings.Buffer) d ls stands count range frames h = (ap (λ (zs : List Line). zs ++ setting settings.Buffer n ∷ []) h.0, no_phases d (put (setting settings.Buffer n) d) refl refl refl refl refl h.1, h.2, h.3, h.4, h.5, h.6, range)
+first_setting settings.Frames n (places.Awaiting settings.Frames) d ls stands count range frames h = (
+  ap (λ (zs : List Line). zs ++ setting settings.Frames n ∷ []) h.0 ∙ ap (λ (ps : List PhaseLists). version 1 ∷ (setup_lines (record d.state.setup { frames = n }) ++ flat_map phase_lines ps)) (sym h.1.phases),
+  record { setup = record { lanes = h.2; domains = h.3; slots = h.4; superpages = h.5; nursery = h.6; buffer = h.7; frames = frames }; phases = subst (λ (ps : List PhaseLists). AllByRecursion (IsPhase (record d.state.setup { frames = n })) ps) (sym h.1.phases) tt },
+  record { turns = h.1.begun.turns; lanes = h.1.begun.lanes; ops = h.1.begun.ops; gives = h.1.begun.gives },
+)
+first_setting _ n _ d ls stands count range frames h = absurd cc
+
+step_phase : (p : Place) (d : DraftLists) (ls : List Line) → Step phase p d ls
+unfolding may_stand put_lists Shape
+step_phase places.Phases d ls stands count range frames h = record {
+  lines = on ls (closed_lines d) phase h.0 ∙ ap (λ (ts : List (List ℕ)). closed_lines d ++ phase ∷ map turn ts) (sym h.2.turns);
+  closed = record { setup = h.1.setup; phases = h.1.phases };
+  turns = subst (λ (ts : List (List ℕ)). AllByRecursion IsTurn ts) (sym h.2.turns) tt;
+  stood = refl;
+  lanes = h.2.lanes;
+  ops = h.2.ops;
+  gives = h.2.gives;
+}
+step_phase places.Start d ls stands count range frames h = absurd cc
+step_phase (places.Awaiting k) d ls stands count range frames h = absurd cc
+step_phase places.Turns d ls stands count range frames h = absurd cc
+step_phase places.Ops d ls stands count range frames h = absurd cc
+step_phase places.Gives d ls stands count range frames h = absurd cc
+step_phase places.Finished d ls stands count range frames h = absurd cc
+
+step_turn : (hints : List ℕ) (p : Place) (d : DraftLists) (ls : List Line) → Step (turn hints) p d ls
+unfolding may_stand put_lists Shape
+step_turn hints places.Turns d ls stands count range frames h = record {
+  lines = on ls (closed_lines d ++ phase ∷ map turn d.turns) (turn hints) h.lines ∙ append_assoc (closed_lines d) (phase ∷ map turn d.turns) (turn hints ∷ []) ∙ ap (λ (ts : List Line). closed_lines d ++ phase ∷ ts) (sym (map-append turn d.turns (hints ∷ [])));
+  closed = record { setup = h.closed.setup; phases = h.closed.phases };
+  turns = all-push IsTurn d.turns hints h.turns (count, range);
+  stood = h.stood;
+  lanes = h.lanes;
+  ops = h.ops;
+  gives = h.gives;
+}
+step_turn hints places.Start d ls stands count range frames h = absurd cc
+step_turn hints (places.Awaiting k) d ls stands count range frames h = absurd cc
+step_turn hints places.Phases d ls stands count range frames h = absurd cc
+step_turn hints places.Ops d ls stands count range frames h = absurd cc
+step_turn hints places.Gives d ls stands count range frames h = absurd cc
+step_turn hints places.Finished d ls stands count range frames h = absurd cc
+
+-- ---- a lane begins
+
+begun_first : DraftLists → ℕ → DraftLists
+begun_first d j = record d { state = after (lane j) d.state }
+
+begun_next : DraftLists → ℕ → DraftLists
+begun_next d j = record d { state = after (lane j) d.state; lanes = d.lanes ++ d.ops ∷ []; ops = [] }
+
+put_first : (d : DraftLists) (j : ℕ) → d.state.stood ≡ 0 → begun_first d j ≡ put (lane j) d
+unfolding put_lists begun_first
+put_first d j e = rw (eq-eqb d.state.stood 0 e) refl
+
+put_next : (d : DraftLists) (j : ℕ) → d.state.stood ≢ 0 → begun_next d j ≡ put (lane j) d
+unfolding put_lists begun_next
+put_next d j e = rw (ne_eqb d.state.stood 0 e) refl
+
+first_lines : (d : DraftLists) (ls : List Line) (j : ℕ) → j ≡ 0 → ls ≡ closed_lines d ++ phase ∷ map turn d.turns → (lanes : List (List Op)) (os : List Op) → lanes ≡ [] → os ≡ [] → ls ++ lane j ∷ [] ≡ closed_lines d ++ phase ∷ (map turn d.turns ++ lane_lines 0 (lanes ++ os ∷ []))
+first_lines d ls j zero-is lines lanes os none no_ops = rw (zero-is, lines, none, no_ops) (append_assoc (closed_lines d) (phase ∷ map turn d.turns) (lane 0 ∷ []))
+
+next_lines : (d : DraftLists) (ls : List Line) (j : ℕ) → j ≡ length d.lanes + 1 → ls ≡ closed_lines d ++ open_lines d → ls ++ lane j ∷ [] ≡ closed_lines d ++ phase ∷ (map turn d.turns ++ lane_lines 0 ((d.lanes ++ d.ops ∷ []) ++ [] ∷ []))
+next_lines d ls j number lines =
+    let long : 0 + length (d.lanes ++ d.ops ∷ []) ≡ j = omega (arith, length-append d.lanes (d.ops ∷ [])) in
+    let more : lane_lines 0 ((d.lanes ++ d.ops ∷ []) ++ [] ∷ []) ≡ lane_lines 0 (d.lanes ++ d.ops ∷ []) ++ lane j ∷ [] = lane_lines-append 0 (d.lanes ++ d.ops ∷ []) [] ∙ ap (λ k. lane_lines 0 (d.lanes ++ d.ops ∷ []) ++ lane k ∷ []) long in
+    rw (lines, more) (append_assoc (closed_lines d) (open_lines d) (lane j ∷ []) ∙ ap (λ (xs : List Line). closed_lines d ++ phase ∷ xs) (append_assoc (map turn d.turns) (lane_lines 0 (d.lanes ++ d.ops ∷ [])) (lane j ∷ [])))
+
+step_lane : (j : ℕ) (p : Place) (d : DraftLists) (ls : List Line) → Step (lane j) p d ls
+unfolding may_stand Shape begun_first begun_next
+step_lane j places.Turns d ls stands count range frames h =
+    let made : AtOps (begun_first d j) (ls ++ lane j ∷ []) = record {
+      lines = first_lines d ls j (range ∙ h.stood) h.lines d.lanes d.ops h.lanes h.ops;
+      begun = record {
+        closed = record { setup = h.closed.setup; phases = h.closed.phases };
+        turns = h.turns;
+        stood = ap (λ k. k + 1) (h.stood ∙ ap (λ (xs : List (List Op)). length xs) (sym h.lanes));
+        lanes = subst (λ (xs : List (List Op)). AllByRecursion (AllByRecursion (IsOp d.state.setup)) xs) (sym h.lanes) tt;
+        ops = subst (λ (xs : List Op). AllByRecursion (IsOp d.state.setup) xs) (sym h.ops) tt;
+      };
+      gives = h.gives;
+    } in
+    subst (λ e. AtOps e (ls ++ lane j ∷ [])) (put_first d j h.stood) made
+step_lane j places.Ops d ls stands count range frames h =
+    let made : AtOps (begun_next d j) (ls ++ lane j ∷ []) = record {
+      lines = next_lines d ls j (range ∙ h.begun.stood) h.lines;
+      begun = record {
+        closed = record { setup = h.begun.closed.setup; phases = h.begun.closed.phases };
+        turns = h.begun.turns;
+        stood = ap (λ k. k + 1) (h.begun.stood ∙ sym (length-append d.lanes (d.ops ∷ [])));
+        lanes = all-push (AllByRecursion (IsOp d.state.setup)) d.lanes d.ops h.begun.lanes h.begun.ops;
+        ops = tt;
+      };
+      gives = h.gives;
+    } in
+    subst (λ e. AtOps e (ls ++ lane j ∷ [])) (put_next d j (λ z. absurd (omega (arith, h.begun.stood)))) made
+step_lane j places.Start d ls stands count range frames h = absurd cc
+step_lane j (places.Awaiting k) d ls stands count range frames h = absurd cc
+step_lane j places.Phases d ls stands count range frames h = absurd cc
+step_lane j places.Gives d ls stands count range frames h = absurd cc
+step_lane j places.Finished d ls stands count range frames h = absurd cc
+
+-- ---- operations, gives, ends
+
+op_lines : (lanes : List (List Op)) (os : List Op) (o : Op) → lane_lines 0 (lanes ++ os ∷ []) ++ op o ∷ [] ≡ lane_lines 0 (lanes ++ (os ++ o ∷ []) ∷ [])
+op_lines lanes os o =
+    rw (lane_lines-append 0 lanes os, lane_lines-append 0 lanes (os ++ o ∷ []), map-append op os (o ∷ [])) (append_assoc (lane_lines 0 lanes) (lane (0 + length lanes) ∷ map op os) (op o ∷ []))
+
+step_op : (o : Op) (p : Place) (d : DraftLists) (ls : List Line) → Step (op o) p d ls
+unfolding may_stand put_lists Shape
+step_op o places.Ops d ls stands count range frames h = record {
+  lines = on ls (closed_lines d ++ open_lines d) (op o) h.lines ∙ append_assoc (closed_lines d) (open_lines d) (op o ∷ []) ∙ ap (λ (xs : List Line). closed_lines d ++ phase ∷ xs) (append_assoc (map turn d.turns) (lane_lines 0 (d.lanes ++ d.ops ∷ [])) (op o ∷ []) ∙ ap (λ (xs : List Line). map turn d.turns ++ xs) (op_lines d.lanes d.ops o));
+  begun = record {
+    closed = record { setup = h.begun.closed.setup; phases = h.begun.closed.phases };
+    turns = h.begun.turns;
+    stood = h.begun.stood;
+    lanes = h.begun.lanes;
+    ops = all-push (IsOp d.state.setup) d.ops o h.begun.ops range;
+  };
+  gives = h.gives;
+}
+step_op o places.Start d ls stands count range frames h = absurd cc
+step_op o (places.Awaiting k) d ls stands count range frames h = absurd cc
+step_op o places.Phases d ls stands count range frames h = absurd cc
+step_op o places.Turns d ls stands count range frames h = absurd cc
+step_op o places.Gives d ls stands count range frames h = absurd cc
+step_op o places.Finished d ls stands count range frames h = absurd cc
+
+give_lines : (d : DraftLists) (g : Give) → (closed_lines d ++ (open_lines d ++ map give d.gives)) ++ give g ∷ [] ≡ closed_lines d ++ (open_lines d ++ map give (d.gives ++ g ∷ []))
+give_lines d g = append_assoc (closed_lines d) (open_lines d ++ map give d.gives) (give g ∷ []) ∙ ap (λ (xs : List Line). closed_lines d ++ xs) (append_assoc (open_lines d) (map give d.gives) (give g ∷ []) ∙ ap (λ (xs : List Line). open_lines d ++ xs) (sym (map-append give d.gives (g ∷ []))))
+
+-- all lanes stood, and no give yet
+as_gives : (d : DraftLists) (ls : List Line) → eqb d.state.stood d.state.setup.lanes ≡ true → AtOps d ls → AtGives d ls
+as_gives d ls stands h = record {
+  lines = h.lines ∙ ap (λ (xs : List Line). closed_lines d ++ xs) (sym (ap (λ (gs : List Give). open_lines d ++ map give gs) h.gives ∙ append-nil (open_lines d)));
+  begun = h.begun;
+  all = eqb-true d.state.stood d.state.setup.lanes stands;
+  gives = subst (λ (gs : List Give). AllByRecursion (IsGive d.state.setup) gs) (sym h.gives) tt;
+}
+
+more_gives : (g : Give) (d : DraftLists) (ls : List Line) → IsGive d.state.setup g → AtGives d ls → AtGives (put (give g) d) (ls ++ give g ∷ [])
+unfolding put_lists
+more_gives g d ls range h = record {
+  lines = on ls (closed_lines d ++ (open_lines d ++ map give d.gives)) (give g) h.lines ∙ give_lines d g;
+  begun = record {
+    closed = record { setup = h.begun.closed.setup; phases = h.begun.closed.phases };
+    turns = h.begun.turns;
+    stood = h.begun.stood;
+    lanes = h.begun.lanes;
+    ops = h.begun.ops;
+  };
+  all = h.all;
+  gives = all-push (IsGive d.state.setup) d.gives g h.gives range;
+}
+
+step_give : (g : Give) (p : Place) (d : DraftLists) (ls : List Line) → Step (give g) p d ls
+unfolding may_stand Shape
+step_give g places.Ops d ls stands count range frames h = more_gives g d ls range (as_gives d ls stands h)
+step_give g places.Gives d ls stands count range frames h = more_gives g d ls range h
+step_give g places.Start d ls stands count range frames h = absurd cc
+step_give g (places.Awaiting k) d ls stands count range frames h = absurd cc
+step_give g places.Phases d ls stands count range frames h = absurd cc
+step_give g places.Turns d ls stands count range frames h = absurd cc
+step_give g places.Finished d ls stands count range frames h = absurd cc
+
+regroup : (ts ls gs es : List Line) → ((ts ++ ls) ++ gs) ++ es ≡ ts ++ (ls ++ (gs ++ es))
+regroup ts ls gs es = simp append_assoc
+
+end_lines : (s : Setup) (ps : List PhaseLists) (p : PhaseLists) → ((version 1 ∷ (setup_lines s ++ flat_map phase_lines ps)) ++ ((phase ∷ (map turn p.turns ++ lane_lines 0 p.lanes)) ++ map give p.gives)) ++ end ∷ [] ≡ version 1 ∷ (setup_lines s ++ flat_map phase_lines (ps ++ p ∷ []))
+end_lines s ps p =
+    let closed : List Line = version 1 ∷ (setup_lines s ++ flat_map phase_lines ps) in
+    let body : List Line = (phase ∷ (map turn p.turns ++ lane_lines 0 p.lanes)) ++ map give p.gives in
+    let same : body ++ end ∷ [] ≡ phase_lines p = ap (λ (xs : List Line). phase ∷ xs) (regroup (map turn p.turns) (lane_lines 0 p.lanes) (map give p.gives) (end ∷ [])) in
+    let more : flat_map phase_lines (ps ++ p ∷ []) ≡ flat_map phase_lines ps ++ phase_lines p = flat_map-append phase_lines ps (p ∷ []) ∙ ap (λ (xs : List Line). flat_map phase_lines ps ++ xs) (append-nil (phase_lines p)) in
+    append_assoc closed body (end ∷ [])
+    ∙ ap (λ (xs : List Line). closed ++ xs) same
+    ∙ append_assoc (version 1 ∷ setup_lines s) (flat_map phase_lines ps) (phase_lines p)
+    ∙ ap (λ (xs : List Line). version 1 ∷ (setup_lines s ++ xs)) (sym more)
+
+phase_ends : (d : DraftLists) (ls : List Line) → AtGives d ls → Shape places.Phases (put end d) (ls ++ end ∷ [])
+unfolding put_lists Shape
+phase_ends d ls h =
+    let p : PhaseLists = record { turns = d.turns; lanes = d.lanes ++ d.ops ∷ []; gives = d.gives } in
+    let formed : IsPhase d.state.setup p = record {
+      turns = h.begun.turns;
+      lanes = length-append d.lanes (d.ops ∷ []) ∙ sym h.begun.stood ∙ h.all;
+      ops = all-push (AllByRecursion (IsOp d.state.setup)) d.lanes d.ops h.begun.lanes h.begun.ops;
+      gives = h.gives;
+    } in (
+      on ls (closed_lines d ++ (open_lines d ++ map give d.gives)) end h.lines ∙ end_lines d.state.setup d.phases p,
+      record { setup = h.begun.closed.setup; phases = all-push (IsPhase d.state.setup) d.phases p h.begun.closed.phases formed },
+      record { turns = refl; lanes = refl; ops = refl; gives = refl },
+    )
+
+step_end : (p : Place) (d : DraftLists) (ls : List Line) → Step end p d ls
+unfolding may_stand Shape
+step_end places.Ops d ls stands count range frames h = phase_ends d ls (as_gives d ls stands h)
+step_end places.Gives d ls stands count range frames h = phase_ends d ls h
+step_end places.Start d ls stands count range frames h = absurd cc
+step_end (places.Awaiting k) d ls stands count range frames h = absurd cc
+step_end places.Phases d ls stands count range frames h = absurd cc
+step_end places.Turns d ls stands count range frames h = absurd cc
+step_end places.Finished d ls stands count range frames h = absurd cc
+
+step_done : (p : Place) (d : DraftLists) (ls : List Line) → Step done p d ls
+unfolding may_stand put_lists Shape
+step_done places.Phases d ls stands count range frames h = (
+  on ls (closed_lines d) done h.0 ∙ append_assoc (version 1 ∷ setup_lines d.state.setup) (flat_map phase_lines d.phases) (done ∷ []),
+  record { setup = h.1.setup; phases = h.1.phases },
+)
+step_done places.Start d ls stands count range frames h = absurd cc
+step_done (places.Awaiting k) d ls stands count range frames h = absurd cc
+step_done places.Turns d ls stands count range frames h = absurd cc
+step_done places.Ops d ls stands count range frames h = absurd cc
+step_done places.Gives d ls stands count range frames h = absurd cc
+step_done places.Finished d ls stands count range frames h = absurd cc
+
+step : (l : Line) (p : Place) (d : DraftLists) (ls : List Line) → Step l p d ls
+step (version n) p d ls = step_version n p d ls
+step (setting k n) p d ls = first_setting k n p d ls
+step phase p d ls = step_phase p d ls
+step (turn hints) p d ls = step_turn hints p d ls
+step (lane j) p d ls = step_lane j p d ls
+step (op o) p d ls = step_op o p d ls
+step (give g) p d ls = step_give g p d ls
+step end p d ls = step_end p d ls
+step done p d ls = step_done p d ls
+
+steps : (more : List Line) (d : DraftLists) (ls : List Line) → Shape d.state.place d ls → Follow d.state more → Shape (put_all d more).state.place (put_all d more) (ls ++ more)
+steps [] d ls h f = subst (λ (xs : List Line). Shape d.state.place d xs) (sym (append-nil ls)) h
+steps (l ∷ more) d ls h f =
+    let one = step l d.state.place d ls f.0.stands f.0.count f.0.range f.0.frames h in
+    subst (λ (xs : List Line). Shape (put_all d (l ∷ more)).state.place (put_all d (l ∷ more)) xs) (append_assoc ls (l ∷ []) more) (steps more (put l d) (ls ++ l ∷ []) one f.1)
+
+at_start : Shape places.Start empty_draft []
+unfolding Shape
+at_start = (refl, record { phases = refl; begun = record { turns = refl; lanes = refl; ops = refl; gives = refl } })
+
+finished_shape : (d : DraftLists) (ls : List Line) → Shape places.Finished d ls → (ls ≡ trace_lines (finished d)) × IsTrace (finished d)
+unfolding Shape
+finished_shape d ls h = h
+
+-- lines that pass from the first to `done` are those of a well-formed trace
+pub passing_lines : (ls : List Line) → Follow start ls → (put_all empty_draft ls).state.place ≡ places.Finished → (ls ≡ trace_lines (finished (put_all empty_draft ls))) × IsTrace (finished (put_all empty_draft ls))
+passing_lines ls f is = finished_shape (put_all empty_draft ls) ls (subst (λ p. Shape p (put_all empty_draft ls) ls) is (steps ls empty_draft [] at_start f))

@@ -1,0 +1,146 @@
+-- Which lines may stand where, and what they may say.
+use Rattle.std.specs.Prelude.{◌≡◌, ℕ, ◌+◌, ◌*◌, ◌^◌, ◌<◌, ◌≤◌, ◌==◌, Bool, true, false, not, IsTrue, ⊤, List, [], ◌∷◌, length}
+use Rattle.std.specs.List.{AllByRecursion}
+use Rattle.bc_model.specs.WellFormed.{IsWithin, IsNumber, IsOp, IsGive}
+use Rattle.bc_model.specs.declared.traces.Setup.{Setup}
+use Rattle.bc_trace.specs.declared.grammar.Place.{Place}
+use Rattle.bc_trace.specs.declared.grammar.Place.TheVariants as places
+use Rattle.bc_trace.specs.declared.grammar.State.{State}
+use Rattle.bc_trace.specs.declared.words.Setting.{Setting}
+use Rattle.bc_trace.specs.declared.words.Setting.TheVariants as settings
+use Rattle.bc_trace.specs.declared.words.Verb.{Verb}
+use Rattle.bc_trace.specs.declared.words.Verb.TheVariants as verbs
+use Rattle.bc_trace.specs.declared.words.Word.{Word}
+use Rattle.bc_trace.specs.declared.words.Word.TheVariants as words
+use Rattle.bc_trace.specs.Lines.{Line, version, setting, phase, turn, lane, op, give, end, done, word_of_line, operands}
+
+-- before the first line
+abbrev pub start : State
+start = record { place = places.Start; setup = record { lanes = 0; domains = 0; slots = 0; superpages = 0; nursery = 0; buffer = 0; frames = 0 }; stood = 0 }
+
+unfoldable pub same_setting : Setting → Setting → Bool
+same_setting settings.Lanes settings.Lanes = true
+same_setting settings.Domains settings.Domains = true
+same_setting settings.Slots settings.Slots = true
+same_setting settings.Superpages settings.Superpages = true
+same_setting settings.Nursery settings.Nursery = true
+same_setting settings.Buffer settings.Buffer = true
+same_setting settings.Frames settings.Frames = true
+same_setting _ _ = false
+
+-- the header's lines stand in one order; in a phase the turns come first, then all lanes, then the gives
+unfoldable pub may_stand : Word → Place → Bool → Bool
+may_stand words.Version places.Start all = true
+may_stand (words.Setting k) (places.Awaiting awaited) all = same_setting k awaited
+may_stand words.Phase places.Phases all = true
+may_stand words.Done places.Phases all = true
+may_stand words.Turn places.Turns all = true
+may_stand words.Lane places.Turns all = true
+may_stand words.Lane places.Ops all = not all
+may_stand (words.Op v) places.Ops all = true
+may_stand words.Give places.Ops all = all
+may_stand words.Give places.Gives all = true
+may_stand words.End places.Ops all = all
+may_stand words.End places.Gives all = true
+may_stand _ _ all = false
+
+-- the word may stand next; all lanes have stood where as many have stood as there are lanes
+abbrev pub MayStand : State → Word → Type 0
+MayStand s w = may_stand w s.place (s.stood == s.setup.lanes) ≡ true
+
+-- how many numbers follow a word other than `turn`
+unfoldable pub arity : Word → ℕ
+arity words.Version = 1
+arity (words.Setting s) = 1
+arity words.Phase = 0
+arity words.Turn = 0
+arity words.Lane = 1
+arity words.Give = 2
+arity words.End = 0
+arity words.Done = 0
+arity (words.Op verbs.New) = 3
+arity (words.Op verbs.Who) = 2
+arity (words.Op verbs.Len) = 2
+arity (words.Op verbs.Set) = 4
+arity (words.Op verbs.Cut) = 3
+arity (words.Op verbs.Link) = 5
+arity (words.Op verbs.Load) = 5
+arity (words.Op verbs.Copy) = 4
+arity (words.Op verbs.Clear) = 2
+arity (words.Op verbs.Same) = 4
+
+-- so many numbers may follow the word
+abbrev pub IsCount : Word → ℕ → Type 0
+IsCount words.Turn n = n ≤ 64
+IsCount w n = n ≡ arity w
+
+-- the numbers are in their ranges, that of frames aside
+abbrev pub InRange : State → Line → Type 0
+InRange s (version n) = n ≡ 1
+InRange s (setting settings.Lanes n) = IsWithin 1 16 n
+InRange s (setting settings.Domains n) = IsWithin 1 64 n
+InRange s (setting settings.Slots n) = IsWithin 1 256 n
+InRange s (setting settings.Superpages n) = IsWithin 1 4096 n
+InRange s (setting settings.Nursery n) = IsWithin 1 16 n
+InRange s (setting settings.Buffer n) = IsWithin 1 4096 n
+InRange s (setting settings.Frames n) = ⊤
+InRange s phase = ⊤
+InRange s (turn hints) = AllByRecursion (λ h. h < 2 ^ 32) hints
+InRange s (lane j) = j ≡ s.stood
+InRange s (op o) = IsOp s.setup o
+InRange s (give g) = IsGive s.setup g
+InRange s end = ⊤
+InRange s done = ⊤
+
+-- two frames beyond the nurseries, and at most one for each page
+abbrev pub FramesFit : State → Line → Type 0
+FramesFit s (setting settings.Frames n) = IsWithin (s.setup.lanes * s.setup.nursery + 2) (s.setup.lanes * s.setup.nursery + 4 * s.setup.superpages) n
+FramesFit s l = ⊤
+
+-- the line may stand next, and says what it may say
+pub record Passes (s : State) (l : Line) : Type 0 where
+  pub stands : MayStand s (word_of_line l)
+  pub count : IsCount (word_of_line l) (length (operands l))
+  pub numbers : AllByRecursion IsNumber (operands l)
+  pub range : InRange s l
+  pub frames : FramesFit s l
+
+-- the header's settings stand in this order
+abbrev pub place_after_setting : Setting → Place
+place_after_setting settings.Lanes = places.Awaiting settings.Domains
+place_after_setting settings.Domains = places.Awaiting settings.Slots
+place_after_setting settings.Slots = places.Awaiting settings.Superpages
+place_after_setting settings.Superpages = places.Awaiting settings.Nursery
+place_after_setting settings.Nursery = places.Awaiting settings.Buffer
+place_after_setting settings.Buffer = places.Awaiting settings.Frames
+place_after_setting settings.Frames = places.Phases
+
+abbrev pub with_setting : Setting → ℕ → Setup → Setup
+with_setting settings.Lanes n s = record s { lanes = n }
+with_setting settings.Domains n s = record s { domains = n }
+with_setting settings.Slots n s = record s { slots = n }
+with_setting settings.Superpages n s = record s { superpages = n }
+with_setting settings.Nursery n s = record s { nursery = n }
+with_setting settings.Buffer n s = record s { buffer = n }
+with_setting settings.Frames n s = record s { frames = n }
+
+-- the state behind a line
+abbrev pub after : Line → State → State
+after (version n) s = record s { place = places.Awaiting settings.Lanes }
+after (setting k n) s = record s { place = place_after_setting k; setup = with_setting k n s.setup }
+after phase s = record s { place = places.Turns; stood = 0 }
+after (turn hints) s = record s { place = places.Turns }
+after (lane j) s = record s { place = places.Ops; stood = s.stood + 1 }
+after (op o) s = record s { place = places.Ops }
+after (give g) s = record s { place = places.Gives }
+after end s = record s { place = places.Phases }
+after done s = record s { place = places.Finished }
+
+abbrev pub after_all : State → List Line → State
+after_all s [] = s
+after_all s (l ∷ ls) = after_all (after l s) ls
+
+-- each line passes, given those before it
+abbrev pub Follow : State → List Line → Type 0
+Follow s [] = ⊤
+Follow s (l ∷ ls) = Passes s l × Follow (after l s) ls

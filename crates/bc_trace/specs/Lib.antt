@@ -1,0 +1,11 @@
+pub mod Words
+pub mod Lines
+pub mod Grammar
+pub mod Faults
+pub mod Replies
+pub mod Answers
+pub mod Causes
+pub mod Drafts
+pub mod Reading
+pub mod Said
+pub mod Sizes

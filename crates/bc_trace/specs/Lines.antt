@@ -1,0 +1,108 @@
+-- The lines of a trace, and its one text.
+use Rattle.std.specs.Prelude.{◌≡◌, ℕ, suc, List, [], ◌∷◌, ◌++◌, map}
+use Rattle.std.specs.List.{flat_map}
+use Rattle.std.specs.Fmt.{decimal}
+use Rattle.bc_model.specs.Lists.{PhaseLists, TraceLists}
+use Rattle.bc_model.specs.WellFormed.{IsTrace}
+use Rattle.bc_model.specs.declared.operations.Op.{Op}
+use Rattle.bc_model.specs.declared.operations.Op.TheVariants as ops
+use Rattle.bc_model.specs.declared.traces.Give.{Give}
+use Rattle.bc_model.specs.declared.traces.Setup.{Setup}
+use Rattle.bc_trace.specs.declared.words.Setting.{Setting}
+use Rattle.bc_trace.specs.declared.words.Setting.TheVariants as settings
+use Rattle.bc_trace.specs.declared.words.Verb.{Verb}
+use Rattle.bc_trace.specs.declared.words.Verb.TheVariants as verbs
+use Rattle.bc_trace.specs.declared.words.Word.{Word}
+use Rattle.bc_trace.specs.declared.words.Word.TheVariants as words
+use Rattle.bc_trace.specs.Words.{name}
+
+-- a line, with what its operands say
+pub data Line : Type 0 where
+  version : ℕ → Line
+  setting : Setting → ℕ → Line
+  phase : Line
+  turn : List ℕ → Line
+  lane : ℕ → Line
+  op : Op → Line
+  give : Give → Line
+  end : Line
+  done : Line
+
+abbrev pub verb_of_op : Op → Verb
+verb_of_op (ops.New p n) = verbs.New
+verb_of_op (ops.Who p) = verbs.Who
+verb_of_op (ops.Len p) = verbs.Len
+verb_of_op (ops.Set p i v) = verbs.Set
+verb_of_op (ops.Cut p i) = verbs.Cut
+verb_of_op (ops.Link p i q) = verbs.Link
+verb_of_op (ops.Load p i q) = verbs.Load
+verb_of_op (ops.Copy p q) = verbs.Copy
+verb_of_op (ops.Clear p) = verbs.Clear
+verb_of_op (ops.Same p q) = verbs.Same
+
+abbrev pub operands_of_op : Op → List ℕ
+operands_of_op (ops.New p n) = p.domain ∷ p.slot ∷ n ∷ []
+operands_of_op (ops.Who p) = p.domain ∷ p.slot ∷ []
+operands_of_op (ops.Len p) = p.domain ∷ p.slot ∷ []
+operands_of_op (ops.Set p i v) = p.domain ∷ p.slot ∷ i ∷ v ∷ []
+operands_of_op (ops.Cut p i) = p.domain ∷ p.slot ∷ i ∷ []
+operands_of_op (ops.Link p i q) = p.domain ∷ p.slot ∷ i ∷ q.domain ∷ q.slot ∷ []
+operands_of_op (ops.Load p i q) = p.domain ∷ p.slot ∷ i ∷ q.domain ∷ q.slot ∷ []
+operands_of_op (ops.Copy p q) = p.domain ∷ p.slot ∷ q.domain ∷ q.slot ∷ []
+operands_of_op (ops.Clear p) = p.domain ∷ p.slot ∷ []
+operands_of_op (ops.Same p q) = p.domain ∷ p.slot ∷ q.domain ∷ q.slot ∷ []
+
+-- the word that a line begins with
+abbrev pub word_of_line : Line → Word
+word_of_line (version n) = words.Version
+word_of_line (setting s n) = words.Setting s
+word_of_line phase = words.Phase
+word_of_line (turn hints) = words.Turn
+word_of_line (lane j) = words.Lane
+word_of_line (op o) = words.Op (verb_of_op o)
+word_of_line (give g) = words.Give
+word_of_line end = words.End
+word_of_line done = words.Done
+
+-- the numbers that follow it
+abbrev pub operands : Line → List ℕ
+operands (version n) = n ∷ []
+operands (setting s n) = n ∷ []
+operands phase = []
+operands (turn hints) = hints
+operands (lane j) = j ∷ []
+operands (op o) = operands_of_op o
+operands (give g) = g.domain ∷ g.lane ∷ []
+operands end = []
+operands done = []
+
+-- a word and numbers, single spaces between them
+unfoldable pub spelling : Word → List ℕ → List ℕ
+spelling w ns = name w ++ flat_map (λ n. 32 ∷ decimal n) ns
+
+-- the bytes of a line, its line feed too
+unfoldable pub line_text : Line → List ℕ
+line_text l = spelling (word_of_line l) (operands l) ++ 10 ∷ []
+
+abbrev pub setup_lines : Setup → List Line
+setup_lines s = setting settings.Lanes s.lanes ∷ setting settings.Domains s.domains ∷ setting settings.Slots s.slots ∷ setting settings.Superpages s.superpages ∷ setting settings.Nursery s.nursery ∷ setting settings.Buffer s.buffer ∷ setting settings.Frames s.frames ∷ []
+
+-- the lanes from lane j on, each followed by its operations
+abbrev pub lane_lines : ℕ → List (List Op) → List Line
+lane_lines j [] = []
+lane_lines j (os ∷ lanes) = lane j ∷ (map op os ++ lane_lines (suc j) lanes)
+
+abbrev pub phase_lines : PhaseLists → List Line
+phase_lines p = phase ∷ (map turn p.turns ++ (lane_lines 0 p.lanes ++ (map give p.gives ++ end ∷ [])))
+
+abbrev pub trace_lines : TraceLists → List Line
+trace_lines t = version 1 ∷ (setup_lines t.setup ++ (flat_map phase_lines t.phases ++ done ∷ []))
+
+-- the one text of a trace
+unfoldable pub trace_text : TraceLists → List ℕ
+trace_text t = flat_map line_text (trace_lines t)
+
+-- the bytes are the text of the trace, which is well formed
+pub record Spells (bytes : List ℕ) (t : TraceLists) : Type 0 where
+  pub trace : IsTrace t
+  pub text : bytes ≡ trace_text t

@@ -1,0 +1,244 @@
+-- Reading, as a function of the bytes. What it means is said by `Spells` and `Fault`: laws tie it to them.
+use Rattle.std.specs.Prelude.{◌≡◌, ℕ, ◌+◌, ◌-◌, ◌*◌, ◌^◌, ◌==◌, ◌&&◌, nat_lt, nat_le, Bool, true, false, not, if◌then◌else◌, ⊤, List, [], ◌∷◌, ◌++◌, length, slice_index, Option, Some, None, Result, Ok, Err}
+use Rattle.std.specs.List.{list_all, slice_split}
+use Rattle.std.specs.Str.{bytes_eq, all_ascii_digits}
+use Rattle.bc_model.specs.Lists.{TraceLists}
+use Rattle.bc_model.specs.declared.operations.Op.{Op}
+use Rattle.bc_model.specs.declared.operations.Op.TheVariants as ops
+use Rattle.bc_model.specs.declared.traces.Give.{Give}
+use Rattle.bc_model.specs.declared.traces.Setup.{Setup}
+use Rattle.bc_model.specs.declared.values.Slot.{Slot}
+use Rattle.bc_trace.specs.declared.fault.Cause.{Cause}
+use Rattle.bc_trace.specs.declared.fault.Cause.TheVariants as causes
+use Rattle.bc_trace.specs.declared.fault.TraceFault.{TraceFault}
+use Rattle.bc_trace.specs.declared.grammar.Place.{Place}
+use Rattle.bc_trace.specs.declared.grammar.Place.TheVariants as places
+use Rattle.bc_trace.specs.declared.grammar.State.{State}
+use Rattle.bc_trace.specs.declared.words.Setting.{Setting}
+use Rattle.bc_trace.specs.declared.words.Setting.TheVariants as settings
+use Rattle.bc_trace.specs.declared.words.Verb.{Verb}
+use Rattle.bc_trace.specs.declared.words.Verb.TheVariants as verbs
+use Rattle.bc_trace.specs.declared.words.Word.{Word}
+use Rattle.bc_trace.specs.declared.words.Word.TheVariants as words
+use Rattle.bc_trace.specs.Words.{setting_name, verb_name, name}
+use Rattle.bc_trace.specs.Lines.{Line, version, setting, phase, turn, lane, op, give, end, done}
+use Rattle.bc_trace.specs.Grammar.{start, may_stand, arity}
+use Rattle.bc_trace.specs.Drafts.{DraftLists, empty_draft, put}
+use Rattle.bc_trace.specs.Faults.{words_of, lines_begun}
+
+-- ---- words
+
+abbrev pub is_within : ℕ → ℕ → ℕ → Bool
+is_within least most n = nat_le least n && nat_le n most
+
+-- whether a word must begin behind this byte, if the byte may stand; fresh where a word must begin at it
+unfoldable pub next_fresh : Bool → ℕ → Option Bool
+next_fresh fresh b = if b == 32 then (if fresh then None else Some true) else (if is_within 33 126 b then Some false else None)
+
+abbrev pub where_some : Option Bool → (Bool → Bool) → Bool
+where_some None next = false
+where_some (Some fresh) next = next fresh
+
+-- what is left of a line is formed
+unfoldable pub formed_from : Bool → List ℕ → Bool
+formed_from fresh [] = not fresh
+formed_from fresh (b ∷ bs) = where_some (next_fresh fresh b) (λ f. formed_from f bs)
+
+-- the words of what follows a line's first word, from the space on
+abbrev pub words_after : List ℕ → List (List ℕ)
+words_after [] = []
+words_after (b ∷ bs) = words_of bs
+
+-- the first of these that is written so
+abbrev pub named : {W : Type 0} → (W → List ℕ) → List W → List ℕ → Option W
+named f [] bytes = None
+named f (w ∷ ws) bytes = if bytes_eq bytes (f w) then Some w else named f ws bytes
+
+abbrev pub all_verbs : List Verb
+all_verbs = verbs.New ∷ verbs.Link ∷ verbs.Load ∷ verbs.Copy ∷ verbs.Set ∷ verbs.Clear ∷ verbs.Who ∷ verbs.Len ∷ verbs.Cut ∷ verbs.Same ∷ []
+
+abbrev pub all_settings : List Setting
+all_settings = settings.Lanes ∷ settings.Domains ∷ settings.Slots ∷ settings.Superpages ∷ settings.Nursery ∷ settings.Buffer ∷ settings.Frames ∷ []
+
+-- the words that are neither
+abbrev pub all_others : List Word
+all_others = words.Turn ∷ words.Lane ∷ words.Give ∷ words.Phase ∷ words.End ∷ words.Done ∷ words.Version ∷ []
+
+abbrev pub or_word : Option Word → Option Word → Option Word
+or_word None other = other
+or_word (Some w) other = Some w
+
+abbrev pub op_word : Option Verb → Option Word
+op_word None = None
+op_word (Some v) = Some (words.Op v)
+
+abbrev pub setting_word : Option Setting → Option Word
+setting_word None = None
+setting_word (Some s) = Some (words.Setting s)
+
+unfoldable pub word_of : List ℕ → Option Word
+word_of bytes = or_word (op_word (named verb_name all_verbs bytes)) (or_word (named name all_others bytes) (setting_word (named setting_name all_settings bytes)))
+
+-- ---- numbers
+
+-- the value of digits that follow those of n
+abbrev pub read_on : ℕ → List ℕ → ℕ
+read_on n [] = n
+read_on n (c ∷ cs) = read_on (n * 10 + (c - 48)) cs
+
+unfoldable pub digits_of : List ℕ → Option ℕ
+digits_of word = if all_ascii_digits word && nat_lt (read_on 0 word) (2 ^ 63) then Some (read_on 0 word) else None
+
+unfoldable pub number_of : List ℕ → Option ℕ
+number_of [] = None
+number_of (b ∷ []) = digits_of (b ∷ [])
+number_of (b ∷ c ∷ bs) = if b == 48 then None else digits_of (b ∷ c ∷ bs)
+
+abbrev pub both : Option ℕ → Option (List ℕ) → Option (List ℕ)
+both None ns = None
+both (Some n) None = None
+both (Some n) (Some ns) = Some (n ∷ ns)
+
+unfoldable pub numbers_of : List (List ℕ) → Option (List ℕ)
+numbers_of [] = Some []
+numbers_of (w ∷ ws) = both (number_of w) (numbers_of ws)
+
+-- ---- lines
+
+unfoldable pub has_count : Word → ℕ → Bool
+has_count words.Turn n = nat_le n 64
+has_count w n = n == arity w
+
+-- the slot whose domain is the number at i
+abbrev pub slot_at : List ℕ → ℕ → Slot
+slot_at ns i = record { domain = slice_index ns i; slot = slice_index ns (i + 1) }
+
+abbrev pub op_of : Verb → List ℕ → Op
+op_of verbs.New ns = ops.New (slot_at ns 0) (slice_index ns 2)
+op_of verbs.Who ns = ops.Who (slot_at ns 0)
+op_of verbs.Len ns = ops.Len (slot_at ns 0)
+op_of verbs.Set ns = ops.Set (slot_at ns 0) (slice_index ns 2) (slice_index ns 3)
+op_of verbs.Cut ns = ops.Cut (slot_at ns 0) (slice_index ns 2)
+op_of verbs.Link ns = ops.Link (slot_at ns 0) (slice_index ns 2) (slot_at ns 3)
+op_of verbs.Load ns = ops.Load (slot_at ns 0) (slice_index ns 2) (slot_at ns 3)
+op_of verbs.Copy ns = ops.Copy (slot_at ns 0) (slot_at ns 2)
+op_of verbs.Clear ns = ops.Clear (slot_at ns 0)
+op_of verbs.Same ns = ops.Same (slot_at ns 0) (slot_at ns 2)
+
+abbrev pub give_at : List ℕ → Give
+give_at ns = record { domain = slice_index ns 0; lane = slice_index ns 1 }
+
+-- what the word and its numbers say
+abbrev pub line_of : Word → List ℕ → Line
+line_of words.Version ns = version (slice_index ns 0)
+line_of (words.Setting k) ns = setting k (slice_index ns 0)
+line_of words.Phase ns = phase
+line_of words.Turn ns = turn ns
+line_of words.Lane ns = lane (slice_index ns 0)
+line_of words.Give ns = give (give_at ns)
+line_of words.End ns = end
+line_of words.Done ns = done
+line_of (words.Op v) ns = op (op_of v ns)
+
+abbrev pub is_slot : Setup → Slot → Bool
+is_slot s p = nat_lt p.domain s.domains && nat_lt p.slot s.slots
+
+unfoldable pub is_op : Setup → Op → Bool
+is_op s (ops.New p n) = is_slot s p && nat_lt n 128
+is_op s (ops.Who p) = is_slot s p
+is_op s (ops.Len p) = is_slot s p
+is_op s (ops.Set p i v) = is_slot s p && (nat_lt i 127 && nat_lt v (2 ^ 63))
+is_op s (ops.Cut p i) = is_slot s p && nat_lt i 127
+is_op s (ops.Link p i q) = is_slot s p && (nat_lt i 127 && is_slot s q)
+is_op s (ops.Load p i q) = is_slot s p && (nat_lt i 127 && is_slot s q)
+is_op s (ops.Copy p q) = is_slot s p && is_slot s q
+is_op s (ops.Clear p) = is_slot s p
+is_op s (ops.Same p q) = is_slot s p && is_slot s q
+
+abbrev pub most_of : Setting → ℕ
+most_of settings.Lanes = 16
+most_of settings.Domains = 64
+most_of settings.Slots = 256
+most_of settings.Superpages = 4096
+most_of settings.Nursery = 16
+most_of settings.Buffer = 4096
+most_of settings.Frames = 0
+
+unfoldable pub is_setting : Setting → ℕ → Bool
+is_setting settings.Frames n = true
+is_setting k n = is_within 1 (most_of k) n
+
+unfoldable pub in_range : State → Line → Bool
+in_range s (version n) = n == 1
+in_range s (setting k n) = is_setting k n
+in_range s phase = true
+in_range s (turn hints) = list_all (λ h. nat_lt h (2 ^ 32)) hints
+in_range s (lane j) = j == s.stood
+in_range s (op o) = is_op s.setup o
+in_range s (give g) = nat_lt g.domain s.setup.domains && nat_lt g.lane s.setup.lanes
+in_range s end = true
+in_range s done = true
+
+abbrev pub least_frames : Setup → ℕ
+least_frames s = s.lanes * s.nursery + 2
+
+abbrev pub most_frames : Setup → ℕ
+most_frames s = s.lanes * s.nursery + 4 * s.superpages
+
+unfoldable pub frames_fit : State → Line → Bool
+frames_fit s (setting settings.Frames n) = is_within (least_frames s.setup) (most_frames s.setup) n
+frames_fit s l = true
+
+-- ---- the tests of a line, in their order
+
+unfoldable pub with_line : State → Line → Result Line Cause
+with_line s l = if in_range s l then (if frames_fit s l then Ok l else Err causes.Frames) else Err causes.Range
+
+abbrev pub with_numbers : State → Word → Option (List ℕ) → Result Line Cause
+with_numbers s w None = Err causes.Number
+with_numbers s w (Some ns) = with_line s (line_of w ns)
+
+abbrev pub with_word : State → Option Word → List (List ℕ) → Result Line Cause
+with_word s None others = Err causes.Word
+with_word s (Some w) others = if may_stand w s.place (s.stood == s.setup.lanes) then (if has_count w (length others) then with_numbers s w (numbers_of others) else Err causes.Form) else Err causes.Order
+
+abbrev pub with_words : State → List (List ℕ) → Result Line Cause
+with_words s [] = Err causes.Form
+with_words s (first ∷ others) = with_word s (word_of first) others
+
+unfoldable pub line_at : State → List ℕ → Result Line Cause
+line_at s line = if formed_from true line then with_words s (words_of line) else Err causes.Form
+
+-- ---- whole texts
+
+-- the whole lines, and then the rest
+abbrev pub lines_of : List ℕ → List (List ℕ)
+lines_of bytes = slice_split (λ b. b == 10) bytes
+
+abbrev pub fault : ℕ → Cause → TraceFault
+fault line cause = record { line = line; cause = cause }
+
+abbrev pub finished : DraftLists → TraceLists
+finished d = record { setup = d.state.setup; phases = d.phases }
+
+-- behind n whole lines and the rest
+abbrev pub ended_at : Place → DraftLists → ℕ → List ℕ → Result TraceLists TraceFault
+ended_at places.Finished d n [] = Ok (finished d)
+ended_at places.Finished d n (b ∷ bs) = Err (fault (n + 1) causes.Order)
+ended_at _ d n rest = Err (fault (n + lines_begun rest) causes.End)
+
+unfoldable pub ended : DraftLists → ℕ → List ℕ → Result TraceLists TraceFault
+ended d n rest = ended_at d.state.place d n rest
+
+abbrev pub go_on : ℕ → Result Line Cause → (Line → Result TraceLists TraceFault) → Result TraceLists TraceFault
+go_on n (Ok l) next = next l
+go_on n (Err cause) next = Err (fault n cause)
+
+-- n lines were read, and these follow
+unfoldable pub reading : DraftLists → ℕ → List (List ℕ) → Result TraceLists TraceFault
+reading d n [] = ended d n []
+reading d n (rest ∷ []) = ended d n rest
+reading d n (line ∷ next ∷ parts) = go_on (n + 1) (line_at d.state line) (λ l. reading (put l d) (n + 1) (next ∷ parts))
+
+unfoldable pub read_of : List ℕ → Result TraceLists TraceFault
+read_of bytes = reading empty_draft 0 (lines_of bytes)

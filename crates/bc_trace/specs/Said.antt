@@ -1,0 +1,44 @@
+-- What a line of the reader stands for.
+use Rattle.std.specs.Prelude.{◌≡◌, ℕ, ◌<◌, ◌≤◌, ◌^◌, ⊤, List, length, take, slice_index, Result, Ok, Err}
+use Rattle.bc_trace.specs.declared.fault.Cause.{Cause}
+use Rattle.bc_trace.specs.declared.grammar.State.{State}
+use Rattle.bc_trace.specs.declared.line.Line.{Line as ReadLine}
+use Rattle.bc_trace.specs.declared.line.Line.TheVariants as lines
+use Rattle.bc_trace.specs.Lines.{Line, version, setting, phase, turn, lane, op, give, end, done}
+
+-- by the numbers of the buffer
+abbrev pub said : ReadLine → List ℕ → Line
+said lines.Version ns = version 1
+said (lines.Setting k n) ns = setting k n
+said lines.Phase ns = phase
+said (lines.Turn count) ns = turn (take count ns)
+said (lines.Lane j) ns = lane j
+said (lines.Op o) ns = op o
+said (lines.Give g) ns = give g
+said lines.End ns = end
+said lines.Done ns = done
+
+-- the function's answer is the reader's
+abbrev pub Reads : Result Line Cause → Result ReadLine Cause → List ℕ → Type 0
+Reads line (Ok l) ns = line ≡ Ok (said l ns)
+Reads line (Err cause) ns = line ≡ Err cause
+
+abbrev pub AreHints : List ℕ → Type 0
+AreHints ns = (i : ℕ) → slice_index ns i < 2 ^ 32
+
+-- the hints of a turn are all of these numbers
+abbrev pub IsWhole : ReadLine → List ℕ → Type 0
+IsWhole (lines.Turn count) ns = (count ≡ length ns) × AreHints ns
+IsWhole l ns = ⊤
+
+-- the hints of a turn stand in the buffer
+abbrev pub FitsBuffer : ReadLine → List ℕ → Type 0
+FitsBuffer (lines.Turn count) ns = (count ≤ length ns) × AreHints (take count ns)
+FitsBuffer l ns = ⊤
+
+-- the setup's numbers are in range, and no more lanes stood than n
+pub record IsSmall (s : State) (n : ℕ) : Type 0 where
+  pub lanes : s.setup.lanes ≤ 16
+  pub nursery : s.setup.nursery ≤ 16
+  pub superpages : s.setup.superpages ≤ 4096
+  pub stood : s.stood ≤ n

@@ -1,0 +1,115 @@
+ghost use Rattle.std.specs.Prelude.{◌≡◌, ◌+◌, ◌^◌, ◌<◌, ◌≤◌, ℕ, List, length, IfOk, IfErr, IsErrAnd, MatchResult};
+ghost use Rattle.bc_model.specs.Lists.{TraceLists};
+ghost use Rattle.bc_trace.specs.declared.fault.ReadTrace.TheVariants.{NoMemory};
+ghost use Rattle.bc_trace.specs.declared.fault.TraceFault.{TraceFault};
+ghost use Rattle.bc_trace.specs.Lines.{Spells};
+ghost use Rattle.bc_trace.specs.Faults.{Fault};
+ghost use Rattle.bc_trace.specs.Drafts.{shown};
+ghost use Rattle.bc_trace.specs.Reading.{line_at, ended, read_of};
+ghost use Rattle.bc_trace.specs.Said.{Reads, IsSmall, FitsBuffer};
+ghost use Rattle.bc_trace.specs.Sizes.{ops_in};
+ghost use Rattle.bc_trace.specs.Answers.{Gives, TellsFault, IsFaultOrMemory};
+
+use crate::checking::{has_count, line_of};
+use crate::cutting::{cut_line, first_word, is_formed};
+use crate::draft::Draft;
+use crate::fault::{Cause, ReadTrace, TraceFault};
+use crate::grammar::{Place, State};
+use crate::line::Line;
+use crate::numbers::operands_of;
+use crate::words::word_of;
+use bc_model::Trace;
+use std::alloc::Global;
+
+/// What a line says, or the first test that it fails. The hints of a turn are put into the buffer.
+#[tactic(auto, unfolding(crate::specs::Reading::line_at))]
+fn line_at(state: &State, line: &[u8], operands: &mut [u64; 64]) -> Result<Line, Cause>
+    requires { IsSmall state.now state.now.stood }
+    ensures reads { Reads (line_at state.now line.now) result operands.new }
+    ensures buffer { IfOk result (λ l. FitsBuffer l operands.new) }
+{
+    if !is_formed(line) {
+        return Err(Cause::Form);
+    }
+    let (first, rest) = first_word(line);
+    let word = match word_of(first) {
+        Some(word) => word,
+        None => return Err(Cause::Word),
+    };
+    if !state.may_stand(word) {
+        return Err(Cause::Order);
+    }
+    let (count, all_numbers) = match operands_of(rest, operands) {
+        Some(found) => found,
+        None => return Err(Cause::Form),
+    };
+    if !has_count(word, count) {
+        return Err(Cause::Form);
+    }
+    if !all_numbers {
+        return Err(Cause::Number);
+    }
+    line_of(state, word, &operands[..count])
+}
+
+/// What the text ends with, behind `lines` whole lines.
+#[tactic(auto, unfolding(crate::specs::Reading::ended))]
+fn end(draft: Draft, lines: u32, rest: &[u8]) -> Result<Trace, ReadTrace>
+    requires { lines + length rest.now < 2 ^ 32 }
+    ensures { Gives result (ended (shown draft) lines rest.now) }
+{
+    let setup = draft.state.setup;
+    let done = match draft.state.place {
+        Place::Finished => true,
+        _ => false,
+    };
+    let begun = if rest.is_empty() { 0 } else { 1 };
+    if done && rest.is_empty() {
+        return Ok(Trace {
+            setup,
+            phases: draft.phases,
+        });
+    }
+    let cause = if done { Cause::Order } else { Cause::End };
+    Err(ReadTrace::Fault(TraceFault {
+        line: lines + begun,
+        cause,
+    }))
+}
+
+/// The trace, or the fault, of the text.
+fn read_lines(alloc: Global, bytes: &[u8]) -> Result<Trace, ReadTrace>
+    requires { length bytes.now < 2 ^ 32 }
+    ensures { Gives result (read_of bytes.now) }
+{
+    let mut draft = Draft::new(alloc);
+    let mut operands = [0; 64];
+    let mut lines = 0;
+    let mut rest = bytes;
+    while let Some((line, after)) = cut_line(rest) {
+        lines += 1;
+        match line_at(&draft.state, line, &mut operands) {
+            Ok(says) => draft.put(alloc, says, &operands)?,
+            Err(cause) => return Err(ReadTrace::Fault(TraceFault { line: lines, cause })),
+        }
+        rest = after;
+    }
+    end(draft, lines, rest)
+}
+
+/// The trace that the bytes spell, all of the bytes, or their one fault.
+pub fn read(alloc: Global, bytes: &[u8]) -> Result<Trace, ReadTrace>
+    requires { length bytes.now < 2 ^ 32 }
+    // What is read is spelled so, and what is spelled so is read, unless memory runs out.
+    ensures found { IfOk result (Spells bytes.now) }
+    ensures spelled { (t : TraceLists) → Spells bytes.now t → MatchResult result (λ x. x ≡ t) (λ e. e ≡ NoMemory) }
+
+    // A text has a byte or more for each phase and each operation.
+    ensures short { IfOk result (λ t. ops_in t.phases + length t.phases ≤ length bytes.now) }
+
+    // A fault that is answered is the text's, and a text's fault is answered, unless memory runs out.
+    ensures fault { IfErr result (TellsFault bytes.now) }
+    ensures faulty { (f : TraceFault) → Fault bytes.now f.line f.cause → IsErrAnd result (IsFaultOrMemory f) }
+{
+    read_lines(alloc, bytes)
+}

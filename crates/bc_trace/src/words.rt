@@ -1,0 +1,196 @@
+ghost use Rattle.std.specs.Prelude.{◌≡◌};
+ghost use Rattle.bc_trace.specs.Words.{setting_name, verb_name, name};
+ghost use Rattle.bc_trace.specs.Reading.{all_verbs, all_settings, all_others, named, word_of};
+
+/// A line of the header below the first one.
+#[derive(Clone, Copy, Debug)]
+pub enum Setting {
+    Lanes,
+    Domains,
+    Slots,
+    Superpages,
+    Nursery,
+    Buffer,
+    Frames,
+}
+
+/// The first word of an operation's line.
+#[derive(Clone, Copy, Debug)]
+pub enum Verb {
+    New,
+    Who,
+    Len,
+    Set,
+    Cut,
+    Link,
+    Load,
+    Copy,
+    Clear,
+    Same,
+}
+
+/// The first word of a line.
+#[derive(Clone, Copy, Debug)]
+pub enum Word {
+    /// `bc-trace`
+    Version,
+    Setting(Setting),
+    Phase,
+    Turn,
+    Lane,
+    Give,
+    End,
+    Done,
+    Op(Verb),
+}
+
+/// The operation's word that is written so.
+#[tactic(auto, unfolding(crate::specs::Words::verb_name))]
+fn verb_of(word: &[u8]) -> Option<Verb>
+    ensures { result ≡ named verb_name all_verbs word.now }
+{
+    if word == b"new".as_slice() {
+        Some(Verb::New)
+    } else if word == b"link".as_slice() {
+        Some(Verb::Link)
+    } else if word == b"load".as_slice() {
+        Some(Verb::Load)
+    } else if word == b"copy".as_slice() {
+        Some(Verb::Copy)
+    } else if word == b"set".as_slice() {
+        Some(Verb::Set)
+    } else if word == b"clear".as_slice() {
+        Some(Verb::Clear)
+    } else if word == b"who".as_slice() {
+        Some(Verb::Who)
+    } else if word == b"len".as_slice() {
+        Some(Verb::Len)
+    } else if word == b"cut".as_slice() {
+        Some(Verb::Cut)
+    } else if word == b"same".as_slice() {
+        Some(Verb::Same)
+    } else {
+        None
+    }
+}
+
+/// The word of the header that is written so.
+#[tactic(auto, unfolding(crate::specs::Words::setting_name))]
+fn setting_of(word: &[u8]) -> Option<Setting>
+    ensures { result ≡ named setting_name all_settings word.now }
+{
+    if word == b"lanes".as_slice() {
+        Some(Setting::Lanes)
+    } else if word == b"domains".as_slice() {
+        Some(Setting::Domains)
+    } else if word == b"slots".as_slice() {
+        Some(Setting::Slots)
+    } else if word == b"superpages".as_slice() {
+        Some(Setting::Superpages)
+    } else if word == b"nursery".as_slice() {
+        Some(Setting::Nursery)
+    } else if word == b"buffer".as_slice() {
+        Some(Setting::Buffer)
+    } else if word == b"frames".as_slice() {
+        Some(Setting::Frames)
+    } else {
+        None
+    }
+}
+
+/// The other word that is written so.
+#[tactic(auto, unfolding(crate::specs::Words::name))]
+fn other_of(word: &[u8]) -> Option<Word>
+    ensures { result ≡ named name all_others word.now }
+{
+    if word == b"turn".as_slice() {
+        Some(Word::Turn)
+    } else if word == b"lane".as_slice() {
+        Some(Word::Lane)
+    } else if word == b"give".as_slice() {
+        Some(Word::Give)
+    } else if word == b"phase".as_slice() {
+        Some(Word::Phase)
+    } else if word == b"end".as_slice() {
+        Some(Word::End)
+    } else if word == b"done".as_slice() {
+        Some(Word::Done)
+    } else if word == b"bc-trace".as_slice() {
+        Some(Word::Version)
+    } else {
+        None
+    }
+}
+
+/// The word of the language that is written so.
+#[tactic(auto, unfolding(crate::specs::Reading::word_of))]
+pub fn word_of(word: &[u8]) -> Option<Word>
+    ensures { result ≡ word_of word.now }
+{
+    if let Some(verb) = verb_of(word) {
+        return Some(Word::Op(verb));
+    }
+    if let Some(other) = other_of(word) {
+        return Some(other);
+    }
+    setting_of(word).map(Word::Setting)
+}
+
+impl Verb {
+    /// How the word is written.
+    #[tactic(auto, unfolding(crate::specs::Words::verb_name))]
+    fn name(self) -> &'static [u8]
+        ensures { result.now ≡ verb_name self }
+    {
+        match self {
+            Verb::New => b"new",
+            Verb::Who => b"who",
+            Verb::Len => b"len",
+            Verb::Set => b"set",
+            Verb::Cut => b"cut",
+            Verb::Link => b"link",
+            Verb::Load => b"load",
+            Verb::Copy => b"copy",
+            Verb::Clear => b"clear",
+            Verb::Same => b"same",
+        }
+    }
+}
+
+impl Setting {
+    /// How the word is written.
+    #[tactic(auto, unfolding(crate::specs::Words::setting_name))]
+    fn name(self) -> &'static [u8]
+        ensures { result.now ≡ setting_name self }
+    {
+        match self {
+            Setting::Lanes => b"lanes",
+            Setting::Domains => b"domains",
+            Setting::Slots => b"slots",
+            Setting::Superpages => b"superpages",
+            Setting::Nursery => b"nursery",
+            Setting::Buffer => b"buffer",
+            Setting::Frames => b"frames",
+        }
+    }
+}
+
+impl Word {
+    /// How the word is written.
+    #[tactic(auto, unfolding(crate::specs::Words::name))]
+    pub fn name(self) -> &'static [u8]
+        ensures { result.now ≡ name self }
+    {
+        match self {
+            Word::Version => b"bc-trace",
+            Word::Setting(setting) => setting.name(),
+            Word::Phase => b"phase",
+            Word::Turn => b"turn",
+            Word::Lane => b"lane",
+            Word::Give => b"give",
+            Word::End => b"end",
+            Word::Done => b"done",
+            Word::Op(verb) => verb.name(),
+        }
+    }
+}

@@ -1,0 +1,231 @@
+ghost use Rattle.std.specs.Prelude.{◌≡◌, ◌++◌, [], ◌∷◌, map, OnOk, IfOk};
+ghost use Rattle.std.specs.List.{flat_map};
+ghost use Rattle.std.specs.Fmt.{decimal};
+ghost use Rattle.bc_model.specs.WellFormed.{IsTrace};
+ghost use Rattle.bc_trace.specs.Lines.{setting as setting_line, turn as turn_line, lane as lane_line, op as op_line, give as give_line, setup_lines, lane_lines, phase_lines, trace_text, spelling, line_text};
+
+use crate::replies::push_number;
+use crate::words::{Setting, Verb, Word};
+use bc_model::{Give, Op, Phase, Setup, Trace};
+use std::alloc::{AllocError, Global};
+
+/// Puts each number behind a space at the end.
+fn push_operands(out: &mut Vec<u8>, numbers: &[u64]) -> Result<(), AllocError>
+    ensures { OnOk result (out.new.items ≡ out.old.items ++ flat_map (λ n. 32 ∷ decimal n) numbers.now) }
+{
+    for number in numbers {
+        out.push(b' ')?;
+        push_number(out, *number)?;
+    }
+    Ok(())
+}
+
+/// Puts the line of the word and the numbers at the end.
+#[tactic(auto, unfolding(crate::specs::Lines::spelling))]
+fn push_line(out: &mut Vec<u8>, word: Word, numbers: &[u64]) -> Result<(), AllocError>
+    ensures { OnOk result (out.new.items ≡ out.old.items ++ (spelling word numbers.now ++ 10 ∷ [])) }
+{
+    out.extend_from_slice(word.name())?;
+    push_operands(out, numbers)?;
+    out.extend_from_slice(b"\n")
+}
+
+/// Puts the line of a setting at the end.
+#[tactic(auto, unfolding(crate::specs::Lines::line_text))]
+fn push_setting(out: &mut Vec<u8>, setting: Setting, number: u32) -> Result<(), AllocError>
+    ensures { OnOk result (out.new.items ≡ out.old.items ++ line_text (setting_line setting number)) }
+{
+    push_line(out, Word::Setting(setting), &[number as u64])
+}
+
+/// Puts the lines of a setup at the end.
+fn push_setup(out: &mut Vec<u8>, setup: &Setup) -> Result<(), AllocError>
+    ensures { OnOk result (out.new.items ≡ out.old.items ++ flat_map line_text (setup_lines setup.now)) }
+{
+    push_setting(out, Setting::Lanes, setup.lanes)?;
+    push_setting(out, Setting::Domains, setup.domains)?;
+    push_setting(out, Setting::Slots, setup.slots)?;
+    push_setting(out, Setting::Superpages, setup.superpages)?;
+    push_setting(out, Setting::Nursery, setup.nursery)?;
+    push_setting(out, Setting::Buffer, setup.buffer)?;
+    push_setting(out, Setting::Frames, setup.frames)?;
+    Ok(())
+}
+
+/// Puts the line of a turn at the end.
+#[tactic(auto, unfolding(crate::specs::Lines::line_text, crate::specs::Lines::spelling))]
+fn push_turn(out: &mut Vec<u8>, hints: &[u32]) -> Result<(), AllocError>
+    ensures { OnOk result (out.new.items ≡ out.old.items ++ line_text (turn_line hints.now)) }
+{
+    out.extend_from_slice(Word::Turn.name())?;
+    for hint in hints {
+        out.push(b' ')?;
+        push_number(out, *hint as u64)?;
+    }
+    out.extend_from_slice(b"\n")
+}
+
+/// Puts the line of an operation at the end.
+#[tactic(auto, unfolding(crate::specs::Lines::line_text))]
+fn push_op(out: &mut Vec<u8>, op: &Op) -> Result<(), AllocError>
+    ensures { OnOk result (out.new.items ≡ out.old.items ++ line_text (op_line op.now)) }
+{
+    match *op {
+        Op::New(slot, fields) => push_line(
+            out,
+            Word::Op(Verb::New),
+            &[slot.domain as u64, slot.slot as u64, fields as u64],
+        ),
+        Op::Who(slot) => push_line(
+            out,
+            Word::Op(Verb::Who),
+            &[slot.domain as u64, slot.slot as u64],
+        ),
+        Op::Len(slot) => push_line(
+            out,
+            Word::Op(Verb::Len),
+            &[slot.domain as u64, slot.slot as u64],
+        ),
+        Op::Set(slot, field, number) => push_line(
+            out,
+            Word::Op(Verb::Set),
+            &[slot.domain as u64, slot.slot as u64, field as u64, number],
+        ),
+        Op::Cut(slot, field) => push_line(
+            out,
+            Word::Op(Verb::Cut),
+            &[slot.domain as u64, slot.slot as u64, field as u64],
+        ),
+        Op::Link(slot, field, other) => push_line(
+            out,
+            Word::Op(Verb::Link),
+            &[
+                slot.domain as u64,
+                slot.slot as u64,
+                field as u64,
+                other.domain as u64,
+                other.slot as u64,
+            ],
+        ),
+        Op::Load(slot, field, other) => push_line(
+            out,
+            Word::Op(Verb::Load),
+            &[
+                slot.domain as u64,
+                slot.slot as u64,
+                field as u64,
+                other.domain as u64,
+                other.slot as u64,
+            ],
+        ),
+        Op::Copy(slot, other) => push_line(
+            out,
+            Word::Op(Verb::Copy),
+            &[
+                slot.domain as u64,
+                slot.slot as u64,
+                other.domain as u64,
+                other.slot as u64,
+            ],
+        ),
+        Op::Clear(slot) => push_line(
+            out,
+            Word::Op(Verb::Clear),
+            &[slot.domain as u64, slot.slot as u64],
+        ),
+        Op::Same(slot, other) => push_line(
+            out,
+            Word::Op(Verb::Same),
+            &[
+                slot.domain as u64,
+                slot.slot as u64,
+                other.domain as u64,
+                other.slot as u64,
+            ],
+        ),
+    }
+}
+
+/// Puts a lane's line at the end.
+#[tactic(auto, unfolding(crate::specs::Lines::line_text))]
+fn push_lane_line(out: &mut Vec<u8>, lane: u64) -> Result<(), AllocError>
+    ensures { OnOk result (out.new.items ≡ out.old.items ++ line_text (lane_line lane)) }
+{
+    push_line(out, Word::Lane, &[lane])
+}
+
+/// Puts a lane's line and those of its operations at the end.
+fn push_lane(out: &mut Vec<u8>, lane: u64, ops: &[Op]) -> Result<(), AllocError>
+    ensures { OnOk result (out.new.items ≡ out.old.items ++ (line_text (lane_line lane) ++ flat_map line_text (map op_line ops.now))) }
+{
+    push_lane_line(out, lane)?;
+    for op in ops {
+        push_op(out, op)?;
+    }
+    Ok(())
+}
+
+/// Puts the lines of all lanes at the end.
+fn push_lanes(out: &mut Vec<u8>, lanes: &[Vec<Op>]) -> Result<(), AllocError>
+    ensures { OnOk result (out.new.items ≡ out.old.items ++ flat_map line_text (lane_lines 0 (map (λ v. v.items) lanes.now))) }
+{
+    for (lane, ops) in lanes.iter().enumerate() {
+        push_lane(out, lane as u64, ops)?;
+    }
+    Ok(())
+}
+
+/// Puts the lines of all turns at the end.
+fn push_turns(out: &mut Vec<u8>, turns: &[Vec<u32>]) -> Result<(), AllocError>
+    ensures { OnOk result (out.new.items ≡ out.old.items ++ flat_map line_text (map turn_line (map (λ v. v.items) turns.now))) }
+{
+    for hints in turns {
+        push_turn(out, hints)?;
+    }
+    Ok(())
+}
+
+/// Puts the line of a give at the end.
+#[tactic(auto, unfolding(crate::specs::Lines::line_text))]
+fn push_give(out: &mut Vec<u8>, give: &Give) -> Result<(), AllocError>
+    ensures { OnOk result (out.new.items ≡ out.old.items ++ line_text (give_line give.now)) }
+{
+    push_line(out, Word::Give, &[give.domain as u64, give.lane as u64])
+}
+
+/// Puts the lines of all gives at the end.
+fn push_gives(out: &mut Vec<u8>, gives: &[Give]) -> Result<(), AllocError>
+    ensures { OnOk result (out.new.items ≡ out.old.items ++ flat_map line_text (map give_line gives.now)) }
+{
+    for give in gives {
+        push_give(out, give)?;
+    }
+    Ok(())
+}
+
+/// Puts the lines of a phase at the end.
+fn push_phase(out: &mut Vec<u8>, phase: &Phase) -> Result<(), AllocError>
+    ensures { OnOk result (out.new.items ≡ out.old.items ++ flat_map line_text (phase_lines phase.now)) }
+{
+    push_line(out, Word::Phase, &[])?;
+    push_turns(out, &phase.turns)?;
+    push_lanes(out, &phase.lanes)?;
+    push_gives(out, &phase.gives)?;
+    push_line(out, Word::End, &[])?;
+    Ok(())
+}
+
+/// The one text of a well-formed trace.
+pub fn write(alloc: Global, trace: &Trace) -> Result<Vec<u8>, AllocError>
+    requires { IsTrace trace.now }
+    ensures { IfOk result (λ text. text.items ≡ trace_text trace.now) }
+{
+    let mut text = Vec::new(alloc);
+    push_line(&mut text, Word::Version, &[1])?;
+    push_setup(&mut text, &trace.setup)?;
+    for phase in &trace.phases {
+        push_phase(&mut text, phase)?;
+    }
+    push_line(&mut text, Word::Done, &[])?;
+    Ok(text)
+}
