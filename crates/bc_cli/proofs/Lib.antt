@@ -1,0 +1,7 @@
+pub mod Pieces
+pub mod Sizes
+pub mod Bytes
+pub mod Replies
+pub mod Outgoing
+pub mod Incoming
+pub mod Room

@@ -1,0 +1,120 @@
+-- The texts of phases, one after another.
+use Rattle.std.proofs.Common.{◌≡◌, ℕ, ◌+◌, suc, ◌<◌, ◌≤◌, List, [], ◌∷◌, ◌++◌, length, take, drop, get_or, refl, sym, ap, ◌∙◌, append_assoc, append-nil, arith, add-one, add-zero, take-append-drop, length-append, subst, Option, inl, inr}
+use Rattle.std.proofs.lemmas.List.{take_more, length-take-le}
+use Rattle.bc_io.specs.Faults.{Rose}
+use Rattle.bc_io.specs.Told.{HasRoom, HeldGrows, IsPrefix, RoomFalls, TakesFront}
+use Rattle.bc_io.proofs.Telling.{HasRoom-less, HasRoom-rest, HeldGrows-more, IsPrefix-trans, append-IsPrefix}
+use Rattle.bc_cli.specs.Outcomes.{WritesFront}
+use Rattle.bc_model.specs.Lists.{PhaseLists}
+use Rattle.bc_model.specs.Run.{after_phase, after_phases, replies_of_phases, replies_to_lanes}
+use Rattle.bc_model.specs.State.{State}
+use Rattle.bc_model.specs.declared.operations.Reply.{Reply}
+use Rattle.bc_trace.specs.Replies.{phase_text, phases_text}
+use Rattle.bc_cli.specs.Output.{texts_from}
+
+-- the state after some phases and then one more
+pub after_phases-append : (s : State) (ps qs : List PhaseLists) → after_phases s (ps ++ qs) ≡ after_phases (after_phases s ps) qs
+unfolding after_phases
+after_phases-append s [] qs = refl
+after_phases-append s (p ∷ ps) qs = after_phases-append (after_phase s p) ps qs
+
+pub replies-append : (s : State) (ps qs : List PhaseLists) → replies_of_phases s (ps ++ qs) ≡ replies_of_phases s ps ++ replies_of_phases (after_phases s ps) qs
+unfolding after_phases replies_of_phases
+replies-append s [] qs = refl
+replies-append s (p ∷ ps) qs = ap (λ rs. replies_to_lanes s 0 p.lanes ∷ rs) (replies-append (after_phase s p) ps qs)
+
+pub length-replies : (s : State) (ps : List PhaseLists) → length (replies_of_phases s ps) ≡ length ps
+unfolding replies_of_phases
+length-replies s [] = refl
+length-replies s (p ∷ ps) = ap suc (length-replies (after_phase s p) ps)
+
+pub phases_text-append : (k : ℕ) (rs qs : List (List (List Reply))) → phases_text k (rs ++ qs) ≡ phases_text k rs ++ phases_text (k + length rs) qs
+unfolding phases_text
+phases_text-append k [] qs = ap (λ n. phases_text n qs) (omega arith)
+phases_text-append k (r ∷ rs) qs =
+    ap (λ t. phase_text k r ++ t) (phases_text-append (suc k) rs qs)
+    ∙ sym (append_assoc (phase_text k r) (phases_text (suc k) rs) _)
+    ∙ ap (λ n. (phase_text k r ++ phases_text (suc k) rs) ++ phases_text n qs) (omega arith)
+
+-- phases and then one more
+pub texts-more : (s : State) (ps : List PhaseLists) (p : PhaseLists) (n : ℕ) → n ≡ length ps + 1
+    → texts_from s (ps ++ p ∷ []) ≡ texts_from s ps ++ phase_text n (replies_to_lanes (after_phases s ps) 0 p.lanes)
+unfolding texts_from replies_of_phases phases_text
+texts-more s ps p n e =
+    let r = replies_to_lanes (after_phases s ps) 0 p.lanes in
+    ap (phases_text 1) (replies-append s ps (p ∷ []))
+    ∙ phases_text-append 1 (replies_of_phases s ps) (r ∷ [])
+    ∙ ap (λ t. phases_text 1 (replies_of_phases s ps) ++ t) (append-nil (phase_text (1 + length (replies_of_phases s ps)) r))
+    ∙ ap (λ m. phases_text 1 (replies_of_phases s ps) ++ phase_text m r) (omega (arith, length-replies s ps))
+
+-- the texts of some phases are the front of those of these phases and more
+pub texts-front : (s : State) (ps qs : List PhaseLists) → IsPrefix (texts_from s ps) (texts_from s (ps ++ qs))
+unfolding texts_from
+texts-front s ps qs = (
+  phases_text (1 + length (replies_of_phases s ps)) (replies_of_phases (after_phases s ps) qs),
+  ap (phases_text 1) (replies-append s ps qs) ∙ phases_text-append 1 (replies_of_phases s ps) (replies_of_phases (after_phases s ps) qs),
+)
+
+pub texts-none : (s : State) → texts_from s [] ≡ []
+unfolding texts_from replies_of_phases phases_text
+texts-none s = refl
+
+-- the step of a loop over phases: the texts so far, and then that of the phase at i
+pub texts-step : (s : State) (ps : List PhaseLists) (i : ℕ) (d : PhaseLists) → i < length ps
+    → texts_from s (take (i + 1) ps)
+    ≡ texts_from s (take i ps) ++ phase_text (i + 1) (replies_to_lanes (after_phases s (take i ps)) 0 (get_or ps i d).lanes)
+texts-step s ps i d lt =
+    let few : i ≤ length ps = omega arith in
+    ap (texts_from s) (take_more ps i d lt) ∙ texts-more s (take i ps) (get_or ps i d) (i + 1) (omega (arith, length-take-le i ps few))
+
+pub state-step : (s : State) (ps : List PhaseLists) (i : ℕ) (d : PhaseLists) → i < length ps
+    → after_phases s (take (i + 1) ps) ≡ after_phase (after_phases s (take i ps)) (get_or ps i d)
+unfolding after_phases
+state-step s ps i d lt =
+    ap (after_phases s) (take_more ps i d lt) ∙ after_phases-append s (take i ps) (get_or ps i d ∷ [])
+
+-- the texts of the first phases are a front of those of all
+pub texts_before-front : (s : State) (ps : List PhaseLists) (i : ℕ) → IsPrefix (texts_from s (take i ps)) (texts_from s ps)
+texts_before-front s ps i = subst (λ qs. IsPrefix (texts_from s (take i ps)) (texts_from s qs)) (take-append-drop i ps) (texts-front s (take i ps) (drop i ps))
+
+pub state-none : (s : State) → s ≡ after_phases s []
+unfolding after_phases
+state-none s = refl
+
+-- the same, where the state and the phase are known by equations
+pub texts-told : (s st : State) (ps : List PhaseLists) (i : ℕ) (p : PhaseLists) → i < length ps → st ≡ after_phases s (take i ps) → p ≡ get_or ps i p
+    → texts_from s (take (i + 1) ps) ≡ texts_from s (take i ps) ++ phase_text (i + 1) (replies_to_lanes st 0 p.lanes)
+texts-told s st ps i p lt e is =
+    texts-step s ps i p lt
+    ∙ ap (λ q. texts_from s (take i ps) ++ phase_text (i + 1) (replies_to_lanes (after_phases s (take i ps)) 0 q.lanes)) (sym is)
+    ∙ ap (λ t. texts_from s (take i ps) ++ phase_text (i + 1) (replies_to_lanes t 0 p.lanes)) (sym e)
+
+pub told-front : (s st : State) (ps : List PhaseLists) (i : ℕ) (p : PhaseLists) → i < length ps → st ≡ after_phases s (take i ps) → p ≡ get_or ps i p
+    → IsPrefix (texts_from s (take i ps) ++ phase_text (i + 1) (replies_to_lanes st 0 p.lanes)) (texts_from s ps)
+told-front s st ps i p lt e is =
+    subst (λ t. IsPrefix t (texts_from s ps)) (texts-told s st ps i p lt e is) (texts_before-front s ps (i + 1))
+
+pub IsPrefix-length : (xs ys : List ℕ) → IsPrefix xs ys → length xs ≤ length ys
+IsPrefix-length xs ys p = omega (arith, ap length p.1, length-append xs p.0)
+
+-- the room that is left holds the next text
+pub room-for-next : (a b : Option ℕ) (xs ys whole : List ℕ) → HasRoom a (length whole) → RoomFalls a b (length xs) → IsPrefix (xs ++ ys) whole → HasRoom b (length ys)
+room-for-next a b xs ys whole room falls p =
+    let few : length xs + length ys ≤ length whole = omega (arith, IsPrefix-length (xs ++ ys) whole p, length-append xs ys) in
+    HasRoom-rest a b (length xs) (length ys) (HasRoom-less a (length xs + length ys) (length whole) few room) falls
+
+-- what was written, and then a front of the next text, is a front of the whole
+pub front-more : (a b c : Option (List ℕ)) (xs ys whole : List ℕ) → HeldGrows a b xs → WritesFront b c ys → IsPrefix (xs ++ ys) whole → WritesFront a c whole
+front-more a b c xs ys whole held w p = record {
+  front = xs ++ w.front;
+  is_front = IsPrefix-trans (xs ++ w.front) (xs ++ ys) whole (append-IsPrefix xs w.front ys w.is_front) p;
+  written = HeldGrows-more a b c xs w.front held w.written;
+}
+
+pub Rose-later : (a b c : ℕ) → a ≤ b → Rose b c → Rose a c
+Rose-later a b c le (inl lt) = inl (omega arith)
+Rose-later a b c le (inr e) = inr e
+
+-- what a failed write took is a front
+pub front-taken : (a b : Option (List ℕ)) (k l : Option ℕ) (xs : List ℕ) → TakesFront a b k l xs → WritesFront a b xs
+front-taken a b k l xs t = record { front = t.taken; is_front = (t.rest, t.whole); written = t.grows }

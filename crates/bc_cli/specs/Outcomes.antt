@@ -1,0 +1,80 @@
+-- What each status says of the source, from its left bytes before and after, and of the sink, from its held bytes before and
+-- after. Where a source or a sink doesn't tell its bytes, what is said of them holds of some bytes.
+use Rattle.std.specs.Prelude.{◌≡◌, ℕ, ◌≤◌, ◌⊎◌, List, [], length, Option, Some, None}
+use Rattle.std.specs.Io.KnownBytes.{IsAtEnd}
+use Rattle.bc_io.specs.Told.{LeftFalls, HeldGrows, HasRoom, IsPrefix}
+use Rattle.bc_model.specs.Lists.{TraceLists}
+use Rattle.bc_trace.specs.Faults.{Fault}
+use Rattle.bc_trace.specs.Lines.{Spells}
+use Rattle.bc_trace.specs.declared.fault.Cause.{Cause}
+use Rattle.bc_cli.specs.Output.{texts_before, whole_text}
+use Rattle.bc_cli.specs.declared.status.Status.{Status}
+use Rattle.bc_cli.specs.declared.status.Status.TheVariants.{BadTrace, OutOfHeap, NoMemory}
+
+abbrev pub longest_trace : ℕ
+longest_trace = 16777216
+
+-- The source was read to its end, and gave these bytes.
+pub record ReadWhole (old new : Option (List ℕ)) (bytes : List ℕ) : Type 0 where
+  pub falls : LeftFalls old new bytes
+  pub end : IsAtEnd new
+  pub short : length bytes ≤ longest_trace
+
+-- The source was read to its end, and gave the text of this trace.
+pub record ReadTrace (old new : Option (List ℕ)) (t : TraceLists) : Type 0 where
+  pub bytes : List ℕ
+  pub whole : ReadWhole old new bytes
+  pub spelled : Spells bytes t
+
+-- A trace was read, and its whole output is written.
+pub record Replayed (left left' held held' : Option (List ℕ)) : Type 0 where
+  pub trace : TraceLists
+  pub read : ReadTrace left left' trace
+  pub written : HeldGrows held held' (whole_text trace)
+
+-- A front of these bytes is written.
+pub record WritesFront (held held' : Option (List ℕ)) (whole : List ℕ) : Type 0 where
+  pub front : List ℕ
+  pub is_front : IsPrefix front whole
+  pub written : HeldGrows held held' front
+
+-- A trace was read, and a front of its output is written.
+pub record ReplayedInPart (left left' held held' : Option (List ℕ)) : Type 0 where
+  pub trace : TraceLists
+  pub read : ReadTrace left left' trace
+  pub written : WritesFront held held' (whole_text trace)
+
+-- A trace was read, and the whole texts of its first phases are written.
+pub record ReplayedTo (left left' held held' : Option (List ℕ)) : Type 0 where
+  pub trace : TraceLists
+  pub read : ReadTrace left left' trace
+  pub phases : ℕ
+  pub written : HeldGrows held held' (texts_before trace phases)
+
+-- The source was read to its end. Its bytes are no trace, and this is their first fault.
+pub record Faulty (left left' : Option (List ℕ)) (line : ℕ) (cause : Cause) : Type 0 where
+  pub bytes : List ℕ
+  pub whole : ReadWhole left left' bytes
+  pub fault : Fault bytes line cause
+
+abbrev pub IfBadTrace : Status → (ℕ → Cause → Type 0) → Type 0
+IfBadTrace (BadTrace line cause) P = P line cause
+IfBadTrace _ P = Unit {0}
+
+abbrev pub IsOutOfHeap : Status → Type 0
+IsOutOfHeap (OutOfHeap need) = Unit {0}
+IsOutOfHeap _ = ⊥
+
+-- This status, unless memory ran out.
+abbrev pub IsOrNoMemory : Status → Status → Type 0
+IsOrNoMemory status wanted = (status ≡ wanted) ⊎ (status ≡ NoMemory)
+
+-- The source may give these bytes up to its end: those that it tells, or any where it tells none.
+abbrev pub MayGive : Option (List ℕ) → List ℕ → Type 0
+MayGive (Some left) bytes = left ≡ bytes
+MayGive None bytes = length bytes ≤ longest_trace
+
+-- What a run on these bytes may write fits the room that the sink tells.
+abbrev pub HasRoomFor : Option (List ℕ) → Option ℕ → Type 0
+HasRoomFor left room =
+    (bytes : List ℕ) → (t : TraceLists) → MayGive left bytes → Spells bytes t → HasRoom room (length (whole_text t))

@@ -1,0 +1,22 @@
+-- Statuses, and the exit status of each.
+use Rattle.std.specs.Prelude.{ℕ}
+use Rattle.bc_trace.specs.declared.fault.ReadTrace.{ReadTrace}
+use Rattle.bc_trace.specs.declared.fault.ReadTrace.TheVariants as answers
+use Rattle.bc_cli.specs.declared.status.Status.{Status}
+use Rattle.bc_cli.specs.declared.status.Status.TheVariants.{Done, BadWords, BadTrace, TooLong, ReadFault, WriteFault, OutOfHeap, NoMemory}
+
+-- the exit status of the program, by how the run ended
+abbrev pub exit_code_of : Status → ℕ
+exit_code_of Done = 0
+exit_code_of BadWords = 2
+exit_code_of (BadTrace line cause) = 3
+exit_code_of TooLong = 3
+exit_code_of ReadFault = 4
+exit_code_of WriteFault = 5
+exit_code_of (OutOfHeap need) = 6
+exit_code_of NoMemory = 7
+
+-- the status of a run whose input was not read as a trace
+abbrev pub refusal_of : ReadTrace → Status
+refusal_of (answers.Fault f) = BadTrace f.line f.cause
+refusal_of answers.NoMemory = NoMemory

@@ -1,0 +1,78 @@
+// bc: replays an allocation trace under a budget of page frames, and prints each lane's replies.
+//
+// `top` does all that the program does: it reads the words, reads a trace from a source, replays it,
+// and writes the replies to a sink. Its contract is the theorem of this repository: whatever
+// the heap below does, the replies printed for each lane are those of a heap that never frees, moves or
+// pages, all of them where the run is done, and else a front of them, with the exact cause of the
+// refusal. The definitions that the contract cites are in `specs/`: `Output` has the texts, `Outcomes`
+// what each status says, `Words` the command line.
+//
+// `main` only makes the real source and sink, calls `top`, prints the fault and ends with its status.
+// What it does is shown by tests of the built program.
+//
+//     words -> command_of -> run:  read_all -> read -> replay:  for each phase, Flat::phase -> phase_text -> write_all
+//
+// The heap is the plain one yet, `bc_model::Flat`. Each phase is written by one `write_all` as soon as it has
+// run, so memory for replies is that of a phase and not of the run.
+#![tactic(auto)]
+
+mod command;
+mod laws;
+mod replay;
+mod status;
+
+use bc_io::{StdSink, StdSource};
+pub use bc_pins::{Gate, OpenGate};
+pub use laws::law_output;
+pub use replay::{Outcome, top};
+pub use status::{Fault, Status};
+use std::alloc::AllocError;
+use std::env;
+use std::io::{ErrorKind, Read, Write};
+use std::process::ExitCode;
+use std::thread::Threads;
+
+/// The words after the program's name. Words that are no text are no command.
+fn words_of(rt: &HostRuntime) -> Result<Vec<String>, Status> {
+    match env::args(rt) {
+        Ok(words) => words
+            .skip(1)
+            .collect(rt.alloc())
+            .map_err(|_| Status::NoMemory),
+        Err(error) if error.kind() == ErrorKind::OutOfMemory => Err(Status::NoMemory),
+        Err(_) => Err(Status::BadWords),
+    }
+}
+
+/// Does what the words ask for, over these streams.
+fn run<R, I, O>(rt: &R, words: &[String], input: I, output: O) -> Status
+where
+    R: AllocGlobal + Threads + Sync,
+    I: Read + Drop,
+    O: Write + Drop,
+{
+    let texts: Result<Vec<&str>, AllocError> = words
+        .iter()
+        .map(|word| word.as_str())
+        .collect(rt.alloc());
+    let Ok(texts) = texts else {
+        return Status::NoMemory;
+    };
+    let mut source = StdSource::new(input);
+    let mut sink = StdSink::new(output);
+    top(rt, rt.alloc(), &texts, &mut source, &mut sink, &OpenGate).status
+}
+
+fn main(rt: HostRuntime) -> ExitCode {
+    let status = match words_of(&rt) {
+        Ok(words) => run(&rt, &words, rt.stdin(), rt.stdout()),
+        Err(status) => status,
+    };
+    if let Err(fault) = status.checked() {
+        let _ = eprintln!(rt; "{fault}");
+    }
+    ExitCode::from(status.exit_code())
+}
+
+#[cfg(test)]
+mod tests;

@@ -1,0 +1,78 @@
+ghost use Rattle.std.specs.Prelude.{◌≡◌, ◌↔◌, IsOk};
+ghost use Rattle.bc_cli.specs.Statuses.{exit_code_of};
+
+use bc_trace::Cause;
+use thiserror::Error;
+
+/// How a run ended.
+#[derive(Clone, Copy, Debug, PartialEq, Eq)]
+pub enum Status {
+    /// All replies and the last line are written.
+    Done,
+    /// The words are no command. Nothing was read or written.
+    BadWords,
+    /// The input is no trace: its first fault. Nothing was written.
+    BadTrace { line: u32, cause: Cause },
+    /// The input is longer than 16,777,216 bytes. Nothing was written.
+    TooLong,
+    /// The source failed. Nothing was written.
+    ReadFault,
+    /// The sink failed. A front of the output is written.
+    WriteFault,
+    /// The heap is too small for what is reached: so many superpages would do. No run ends so yet.
+    OutOfHeap { need: u64 },
+    /// Memory ran out. The whole texts of some first phases are written, or nothing.
+    NoMemory,
+}
+
+/// What is wrong with a run, as the line on standard error tells it.
+#[derive(Clone, Copy, Debug, Error)]
+pub enum Fault {
+    #[error("bc: bad command line")]
+    BadWords,
+    #[error("bc: line {line}: {cause}")]
+    BadTrace { line: u32, cause: Cause },
+    #[error("bc: input longer than 16777216 bytes")]
+    TooLong,
+    #[error("bc: read failed")]
+    ReadFault,
+    #[error("bc: write failed")]
+    WriteFault,
+    #[error("bc: out of heap, {need} superpages needed")]
+    OutOfHeap { need: u64 },
+    #[error("bc: out of memory")]
+    NoMemory,
+}
+
+impl Status {
+    /// Whether the run was done, and else what is wrong with it.
+    pub fn checked(self) -> Result<(), Fault>
+        ensures { IsOk result ↔ (self ≡ Status.Done) }
+    {
+        match self {
+            Status::Done => Ok(()),
+            Status::BadWords => Err(Fault::BadWords),
+            Status::BadTrace { line, cause } => Err(Fault::BadTrace { line, cause }),
+            Status::TooLong => Err(Fault::TooLong),
+            Status::ReadFault => Err(Fault::ReadFault),
+            Status::WriteFault => Err(Fault::WriteFault),
+            Status::OutOfHeap { need } => Err(Fault::OutOfHeap { need }),
+            Status::NoMemory => Err(Fault::NoMemory),
+        }
+    }
+
+    /// The exit status of the program.
+    pub fn exit_code(self) -> u8
+        ensures { result ≡ exit_code_of self }
+    {
+        match self {
+            Status::Done => 0,
+            Status::BadWords => 2,
+            Status::BadTrace { .. } | Status::TooLong => 3,
+            Status::ReadFault => 4,
+            Status::WriteFault => 5,
+            Status::OutOfHeap { .. } => 6,
+            Status::NoMemory => 7,
+        }
+    }
+}
