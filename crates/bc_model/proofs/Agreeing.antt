@@ -1,17 +1,16 @@
 -- Lane k's part stays the same when other lanes work, and changes alike where lane k does the same in both states.
-use Rattle.std.proofs.Common.{◌≡◌, ◌≢◌, ℕ, ◌+◌, ◌-◌, ◌*◌, ◌/◌, ◌%◌, ◌<◌, ◌≤◌, Bool, true, false, ◌==◌, List, [], ◌∷◌, ◌++◌, length, get_or, set, replicate, slice_index_or, refl, sym, ap, ap₂, subst, ◌∙◌, inl, inr, arith, length-set, get_or-set_same, get_or-set_other, eqb-true, eq-eqb, mul_comm}
+use Rattle.std.proofs.Common.{◌≡◌, ◌≢◌, ℕ, ◌+◌, ◌*◌, ◌<◌, true, ◌==◌, List, length, get_or, set, replicate, slice_index_or, refl, sym, ap, subst, ◌∙◌, inl, inr, arith, get_or-set_same, get_or-set_other, eqb-true, mul_comm}
 use Rattle.std.proofs.lemmas.Bool.{cases_eq}
 use Rattle.std.proofs.lemmas.List.{length_push}
 use Rattle.std.proofs.lemmas.Nat.{mul-add-lt, same_from_place}
-use Rattle.bc_model.specs.Consistent.{IsValue, IsState, sizes_of}
-use Rattle.bc_model.specs.State.{State, Object, IsBorn, made_by, object_of, next_birth, with_object, with_made, with_value, with_slot, with_field, slot_of, place_of, holds}
-use Rattle.bc_model.specs.Step.{with_new}
+use Rattle.bc_model.specs.Consistent.{IsState, sizes_of}
+use Rattle.bc_model.specs.State.{State, Object, IsBorn, made_by, object_of, next_birth, with_object, with_made, with_value, with_slot, with_field, place_of, holds}
 use Rattle.bc_model.specs.WellFormed.{IsSlot}
 use Rattle.bc_model.specs.declared.values.Birth.{Birth}
 use Rattle.bc_model.specs.declared.values.Slot.{Slot}
 use Rattle.bc_model.specs.declared.values.Value.{Value}
 use Rattle.bc_model.specs.declared.values.Value.TheVariants.{Nil, Obj}
-use Rattle.bc_model.proofs.Objects.{cases_birth, length-made_by-with_object, IsBorn-with_object, IsBorn-from_with_object, object_of-with_object_same, object_of-with_object_other, made_by-with_made_same, made_by-with_made_other, length-with_made, IsBorn-with_made, IsBorn-next_birth, IsBorn-from_with_made, object_of-with_made_same, object_of-with_made_other}
+use Rattle.bc_model.proofs.Objects.{cases_birth, length-made_by-with_object, IsBorn-from_with_object, object_of-with_object_same, object_of-with_object_other, made_by-with_made_same, made_by-with_made_other, length-with_made, IsBorn-with_made, IsBorn-next_birth, IsBorn-from_with_made, object_of-with_made_same, object_of-with_made_other}
 use Rattle.bc_model.proofs.Steps.{Grows-after_write}
 use Rattle.bc_model.proofs.Effects.{Effect, Keep, Put, Write, Make, after_effect, IsOwn, Agrees, Agrees-itself}
 

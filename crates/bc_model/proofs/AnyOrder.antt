@@ -1,21 +1,19 @@
 -- The law of any order, and that two steps commute.
-use Rattle.std.proofs.Common.{◌≡◌, ◌≢◌, ℕ, ◌+◌, ◌-◌, ◌<◌, ◌≤◌, Bool, true, false, cond, ◌==◌, List, [], ◌∷◌, length, get_or, map, refl, sym, ap, subst, ◌∙◌, inl, inr, arith, eqb-true, eq-eqb, eq-zero-or-pos}
+use Rattle.std.proofs.Common.{◌≡◌, ◌≢◌, ℕ, ◌+◌, ◌<◌, ◌≤◌, Bool, true, false, cond, ◌==◌, List, [], ◌∷◌, length, get_or, map, refl, sym, ap, subst, ◌∙◌, inl, inr, arith, eqb-true, eq-eqb, eq-zero-or-pos}
 use Rattle.std.specs.List.{AllByRecursion, filter}
-use Rattle.std.proofs.lemmas.Bool.{cases_eq, cases_Bool, ne_eqb}
 use Rattle.bc_model.specs.Consistent.{IsState, sizes_of}
-use Rattle.bc_model.specs.Interleaving.{LaneOp, after_steps, replies_by, ops_by, FitSteps, IsInterleaving, IsAsInOrder, Commute}
-use Rattle.bc_model.specs.Run.{after_ops, replies_to, after_lanes, replies_to_lanes}
+use Rattle.bc_model.specs.Interleaving.{LaneOp, after_steps, ops_by, FitSteps, IsInterleaving, IsAsInOrder, Commute}
+use Rattle.bc_model.specs.Run.{after_ops, replies_to, after_lanes}
 use Rattle.bc_model.specs.State.{State}
 use Rattle.bc_model.specs.Step.{step}
 use Rattle.bc_model.specs.WellFormed.{IsOp}
 use Rattle.bc_model.specs.declared.operations.Op.{Op}
-use Rattle.bc_model.specs.declared.operations.Reply.{Reply}
 use Rattle.bc_model.proofs.Effects.{Agrees, Agrees-itself}
 use Rattle.bc_model.proofs.InOrder.{AloneInOrder, AloneInOrder-lanes, IsState-after_lanes, IsState-after_steps, SameSizes-after_ops}
 use Rattle.bc_model.proofs.Orders.{Alone, Alone-steps, Agrees-other_step, reply-own_step}
 use Rattle.bc_model.proofs.Runs.{at-index}
 use Rattle.bc_model.proofs.SameParts.{same_parts}
-use Rattle.bc_model.proofs.Steps.{SameSizes, SameSizes-step, IsState-step, IsOp-same}
+use Rattle.bc_model.proofs.Steps.{SameSizes-step, IsState-step, IsOp-same}
 
 -- what is among a lane's operations before one more step is among them after it
 ops_by-rest : (P : Op → Type 0) (j : ℕ) (x : LaneOp) (xs : List LaneOp) (t : Bool) → AllByRecursion P (map (λ (y : LaneOp). y.op) (cond t (x ∷ filter (λ (y : LaneOp). y.lane == j) xs) (filter (λ (y : LaneOp). y.lane == j) xs))) → AllByRecursion P (ops_by j xs)

@@ -1,22 +1,17 @@
 -- Lane after lane: each lane runs as if it were alone.
-use Rattle.std.proofs.Common.{◌≡◌, ◌≢◌, ℕ, ◌+◌, ◌-◌, ◌*◌, ◌/◌, ◌%◌, ◌<◌, ◌≤◌, Bool, true, false, cond, ◌==◌, zero, suc, List, [], ◌∷◌, ◌++◌, length, get_or, map, slice_index_or, slice_index, refl, sym, ap, subst, ◌∙◌, inl, inr, arith, ext_get_or, eqb-true, eq-eqb, add-one, add-zero, mul_comm}
-use Rattle.std.specs.List.{AllByRecursion, filter}
-use Rattle.std.proofs.lemmas.Bool.{cases_eq, cases_Bool}
+use Rattle.std.proofs.Common.{◌≡◌, ◌≢◌, ℕ, ◌+◌, ◌<◌, ◌≤◌, zero, suc, List, [], ◌∷◌, length, get_or, refl, sym, ap, subst, ◌∙◌, arith}
+use Rattle.std.specs.List.{AllByRecursion}
 use Rattle.bc_model.specs.Consistent.{IsState, sizes_of}
-use Rattle.bc_model.specs.Interleaving.{LaneOp, after_steps, replies_by, ops_by, FitSteps, IsInterleaving, IsAsInOrder}
+use Rattle.bc_model.specs.Interleaving.{LaneOp, after_steps, FitSteps}
 use Rattle.bc_model.specs.Run.{after_ops, replies_to, after_lanes, replies_to_lanes}
-use Rattle.bc_model.specs.State.{State, Object, IsBorn, made_by, object_of, no_object, slot_of, place_of, holds}
+use Rattle.bc_model.specs.State.{State}
 use Rattle.bc_model.specs.Step.{step}
-use Rattle.bc_model.specs.WellFormed.{IsSlot, IsOp}
+use Rattle.bc_model.specs.WellFormed.{IsOp}
 use Rattle.bc_model.specs.declared.operations.Op.{Op}
 use Rattle.bc_model.specs.declared.operations.Reply.{Reply}
 use Rattle.bc_model.specs.declared.traces.Setup.{Setup}
-use Rattle.bc_model.specs.declared.values.Birth.{Birth}
-use Rattle.bc_model.specs.declared.values.Slot.{Slot}
-use Rattle.bc_model.specs.declared.values.Value.TheVariants.{Nil}
-use Rattle.bc_model.proofs.Effects.{Agrees, Agrees-itself}
-use Rattle.bc_model.proofs.Orders.{Agrees-other_step, Agrees-own_step, reply-own_step, Alone, Alone-steps, FitSteps-step, SameSizes-agreeing}
-use Rattle.bc_model.proofs.States.{same_state}
+use Rattle.bc_model.proofs.Effects.{Agrees}
+use Rattle.bc_model.proofs.Orders.{Agrees-other_step, Agrees-own_step, reply-own_step, FitSteps-step, SameSizes-agreeing}
 use Rattle.bc_model.proofs.Steps.{SameSizes, SameSizes-itself, SameSizes-then, SameSizes-step, sizes_of-same, IsState-step, IsOp-same, IsOps-same}
 
 -- after a lane's operations
@@ -52,7 +47,7 @@ Agrees-own_ops k a b (o ∷ ops) h ha hb lane fits =
     (rest.0, ap (λ (r : Reply). r ∷ replies_to (step b k o).0 k ops) (reply-own_step k a b o h ha fits.0) ∙ ap (λ (rs : List Reply). (step a k o).1 ∷ rs) rest.1)
 
 -- the lists of all lanes fit a state of the same sizes
-FitLanes-same : (s t : State) (lanes : List (List Op)) → SameSizes s t → AllByRecursion (AllByRecursion (IsOp (sizes_of s))) lanes → AllByRecursion (AllByRecursion (IsOp (sizes_of t))) lanes
+pub FitLanes-same : (s t : State) (lanes : List (List Op)) → SameSizes s t → AllByRecursion (AllByRecursion (IsOp (sizes_of s))) lanes → AllByRecursion (AllByRecursion (IsOp (sizes_of t))) lanes
 FitLanes-same s t lanes same h = subst (λ (z : Setup). AllByRecursion (AllByRecursion (IsOp z)) lanes) (sym (sizes_of-same s t same)) h
 
 -- after the operations of the lanes from j on

@@ -1,24 +1,18 @@
 -- Steps of several lanes in any order: each lane runs as if it were alone, and the state is the same in every order.
-use Rattle.std.proofs.Common.{◌≡◌, ◌≢◌, ℕ, ◌+◌, ◌-◌, ◌*◌, ◌/◌, ◌%◌, ◌<◌, ◌≤◌, Bool, true, false, cond, ◌==◌, if◌then◌else◌, zero, suc, List, [], ◌∷◌, ◌++◌, length, get_or, map, slice_index_or, refl, sym, ap, subst, ◌∙◌, inl, inr, arith, ext_get_or, eqb-true, eq-eqb, add-one}
+use Rattle.std.proofs.Common.{◌≡◌, ◌≢◌, ℕ, ◌<◌, Bool, true, false, cond, ◌==◌, if◌then◌else◌, List, [], ◌∷◌, length, map, refl, sym, ap, subst, ◌∙◌, arith, eqb-true, eq-eqb}
 use Rattle.std.specs.List.{AllByRecursion, filter}
-use Rattle.std.proofs.lemmas.Bool.{cases_eq, cases_lt, ne_eqb}
 use Rattle.bc_model.specs.Consistent.{IsState, sizes_of}
-use Rattle.bc_model.specs.Interleaving.{LaneOp, after_steps, replies_by, ops_by, FitSteps, IsInterleaving}
-use Rattle.bc_model.specs.Run.{after_ops, replies_to, after_lanes, replies_to_lanes}
-use Rattle.bc_model.specs.State.{State, Object, IsBorn, made_by, object_of, no_object, slot_of, place_of, holds}
+use Rattle.bc_model.specs.Interleaving.{LaneOp, after_steps, replies_by, ops_by, FitSteps}
+use Rattle.bc_model.specs.Run.{after_ops, replies_to}
+use Rattle.bc_model.specs.State.{State}
 use Rattle.bc_model.specs.Step.{step}
-use Rattle.bc_model.specs.WellFormed.{IsSlot, IsOp}
+use Rattle.bc_model.specs.WellFormed.{IsOp}
 use Rattle.bc_model.specs.declared.operations.Op.{Op}
 use Rattle.bc_model.specs.declared.operations.Reply.{Reply}
 use Rattle.bc_model.specs.declared.traces.Setup.{Setup}
-use Rattle.bc_model.specs.declared.values.Birth.{Birth}
-use Rattle.bc_model.specs.declared.values.Slot.{Slot}
-use Rattle.bc_model.specs.declared.values.Value.{Value}
-use Rattle.bc_model.specs.declared.values.Value.TheVariants.{Nil}
 use Rattle.bc_model.proofs.Agreeing.{Agrees-then, other-effect, own-effect}
-use Rattle.bc_model.proofs.Effects.{Agrees, Agrees-itself, after_effect, Does, Does-step, Same, Same-step}
-use Rattle.bc_model.proofs.States.{same_state}
-use Rattle.bc_model.proofs.Steps.{SameSizes, SameSizes-then, SameSizes-step, sizes_of-same, IsState-step, IsOp-same, IsOps-same}
+use Rattle.bc_model.proofs.Effects.{Agrees, after_effect, Does-step, Same-step}
+use Rattle.bc_model.proofs.Steps.{SameSizes, SameSizes-step, sizes_of-same, IsState-step, IsOp-same}
 
 -- another lane's step leaves lane k's part
 pub Agrees-other_step : (k j : ℕ) (a b : State) (o : Op) → Agrees k a b → IsState b → j ≢ k → j < length b.made → IsOp (sizes_of b) o → Agrees k a (step b j o).0

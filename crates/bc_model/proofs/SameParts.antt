@@ -1,11 +1,10 @@
 -- States of which every lane's part is the same are the same.
-use Rattle.std.proofs.Common.{◌≡◌, ◌≢◌, ℕ, ◌+◌, ◌-◌, ◌*◌, ◌/◌, ◌%◌, ◌<◌, ◌≤◌, Bool, true, false, ◌==◌, List, [], ◌∷◌, length, get_or, slice_index_or, refl, sym, ap, subst, ◌∙◌, inl, inr, arith, ext_get_or, eq-eqb, mul_comm, eq-zero-or-pos, div-lt_iff_lt-mul}
+use Rattle.std.proofs.Common.{◌≡◌, ℕ, ◌+◌, ◌-◌, ◌*◌, ◌/◌, ◌%◌, ◌<◌, true, ◌==◌, List, [], length, get_or, slice_index_or, refl, sym, ap, subst, ◌∙◌, inl, inr, arith, ext_get_or, eq-eqb, mul_comm, eq-zero-or-pos, div-lt_iff_lt-mul}
 use Rattle.bc_model.specs.Consistent.{IsState, sizes_of}
-use Rattle.bc_model.specs.State.{State, Object, IsBorn, made_by, object_of, no_object, slot_of, place_of, holds}
+use Rattle.bc_model.specs.State.{State, Object, IsBorn, made_by, object_of, no_object, slot_of, holds}
 use Rattle.bc_model.specs.WellFormed.{IsSlot}
 use Rattle.bc_model.specs.declared.values.Birth.{Birth}
 use Rattle.bc_model.specs.declared.values.Slot.{Slot}
-use Rattle.bc_model.specs.declared.values.Value.{Value}
 use Rattle.bc_model.specs.declared.values.Value.TheVariants.{Nil}
 use Rattle.bc_model.proofs.Effects.{Agrees}
 use Rattle.bc_model.proofs.States.{same_state}

@@ -1,13 +1,13 @@
 -- Laws of one step and of two: what stays untouched, who after new, load after set.
-use Rattle.std.proofs.Common.{replicate, ◌≡◌, ◌≢◌, ℕ, ◌+◌, ◌-◌, ◌*◌, ◌<◌, ◌≤◌, Bool, true, false, ◌&&◌, ◌==◌, nat_lt, if◌then◌else◌, List, [], ◌∷◌, length, map, take, get_or, set, slice_index_or, refl, sym, ap, ap₂, subst, ◌∙◌, inl, inr, arith, eqb-true, eq-eqb, length-set, get_or-set_same, ltb-true, lt-ltb, take_all, le_refl}
+use Rattle.std.proofs.Common.{replicate, ◌≡◌, ◌≢◌, ℕ, ◌<◌, Bool, true, false, ◌&&◌, nat_lt, if◌then◌else◌, List, [], ◌∷◌, length, map, slice_index_or, refl, sym, ap, ap₂, subst, ◌∙◌, eq-eqb, length-set, get_or-set_same, ltb-true, take_all, le_refl}
 use Rattle.std.specs.List.{list_all}
-use Rattle.std.proofs.lemmas.Bool.{and_parts, and_from}
+use Rattle.std.proofs.lemmas.Bool.{and_from}
 use Rattle.bc_model.specs.Consistent.{IsState, IsValue, sizes_of}
 use Rattle.bc_model.specs.Grows.{Grows}
 use Rattle.bc_model.specs.Interleaving.{LaneOp, after_steps, FitSteps}
 use Rattle.bc_model.specs.Run.{cut_lanes}
-use Rattle.bc_model.specs.State.{State, Object, IsBorn, made_by, object_of, next_birth, with_object, with_made, with_value, with_slot, with_field, field_of, slot_of, place_of, holds}
-use Rattle.bc_model.specs.Step.{step, act, domains_of, on_object, on_field, told, loaded, with_new}
+use Rattle.bc_model.specs.State.{State, Object, IsBorn, object_of, next_birth, with_value, with_slot, with_field, field_of, slot_of, place_of, holds}
+use Rattle.bc_model.specs.Step.{step, act, domains_of, on_field, told, loaded, with_new}
 use Rattle.bc_model.specs.WellFormed.{IsSlot, IsOp}
 use Rattle.bc_model.specs.declared.operations.Op.{Op}
 use Rattle.bc_model.specs.declared.operations.Op.TheVariants as op
@@ -18,7 +18,7 @@ use Rattle.bc_model.specs.declared.values.Slot.{Slot}
 use Rattle.bc_model.specs.declared.values.Value.{Value}
 use Rattle.bc_model.specs.declared.values.Value.TheVariants.{Nil, Num, Obj}
 use Rattle.bc_model.proofs.Agreeing.{other-effect, place-within}
-use Rattle.bc_model.proofs.Effects.{Agrees, Does, Does-step}
+use Rattle.bc_model.proofs.Effects.{Agrees, Does-step}
 use Rattle.bc_model.proofs.Objects.{object_of-with_made_same, object_of-with_object_same}
 use Rattle.bc_model.proofs.Orders.{FitSteps-step}
 use Rattle.bc_model.proofs.Steps.{Grows-itself, Grows-then, Grows-step, IsState-step}

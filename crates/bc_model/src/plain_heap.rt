@@ -60,9 +60,10 @@ impl Flat {
         })
     }
 
-    /// How many lanes there are.
+    /// How many lanes there are. What is true of every state is true of this one.
     pub fn lanes(&self) -> u32
-        ensures { result ≡ length self.now.made }
+        ensures lanes { result ≡ length self.now.made }
+        ensures state { IsState self.now }
     {
         self.made.lanes()
     }
@@ -355,8 +356,8 @@ impl Flat {
         ensures state { self.new ≡ with_slot self.old to (slot_of self.old from) }
         ensures reply { result ≡ Reply.Done }
     {
-        let value = self.slot(from);
-        self.set_slot(to, value);
+        let held = self.slot(from);
+        self.set_slot(to, held);
         Reply::Done
     }
 
