@@ -1,5 +1,5 @@
 -- The text of a well-formed trace is read, and gives that trace.
-use Rattle.std.proofs.Common.{◌≡◌, ◌≢◌, ℕ, zero, suc, ◌+◌, ◌*◌, ◌^◌, ◌<◌, ◌≤◌, Bool, true, false, not, eqb, List, [], ◌∷◌, ◌++◌, length, map, Result, Ok, Err, refl, sym, ap, subst, ◌∙◌, append_assoc, inl, inr, arith, add-zero}
+use Rattle.std.proofs.Common.{◌≡◌, ℕ, suc, ◌+◌, ◌*◌, ◌^◌, ◌<◌, ◌≤◌, true, eqb, List, [], ◌∷◌, ◌++◌, length, map, Ok, refl, sym, ap, subst, ◌∙◌, append_assoc, arith, add-zero}
 use Rattle.std.specs.List.{AllByRecursion, flat_map}
 use Rattle.std.proofs.lemmas.Bool.{eq-eqb, ne_eqb}
 use Rattle.std.proofs.lemmas.List.{append-nil}
@@ -12,12 +12,11 @@ use Rattle.bc_model.specs.declared.traces.Setup.{Setup}
 use Rattle.bc_trace.specs.declared.grammar.Place.{Place}
 use Rattle.bc_trace.specs.declared.grammar.Place.TheVariants as places
 use Rattle.bc_trace.specs.declared.grammar.State.{State}
-use Rattle.bc_trace.specs.declared.words.Setting.TheVariants as settings
 use Rattle.bc_trace.specs.declared.words.Word.TheVariants as words
-use Rattle.bc_trace.specs.Lines.{Line, version, setting, phase, turn, lane, op, give, end, done, word_of_line, operands, verb_of_op, operands_of_op, setup_lines, lane_lines, phase_lines, trace_lines, trace_text, line_text}
+use Rattle.bc_trace.specs.Lines.{Line, version, phase, turn, lane, op, give, end, done, verb_of_op, operands_of_op, setup_lines, lane_lines, phase_lines, trace_lines, trace_text, line_text}
 use Rattle.bc_trace.specs.Grammar.{start, may_stand, same_setting, arity, IsCount, Passes, after, after_all, Follow}
 use Rattle.bc_trace.specs.Drafts.{DraftLists, empty_draft, put, put_lists}
-use Rattle.bc_trace.specs.Reading.{lines_of, finished, ended, reading, read_of}
+use Rattle.bc_trace.specs.Reading.{lines_of, ended, reading, read_of}
 use Rattle.bc_trace.proofs.Runs.{reading-end, read_of-is}
 use Rattle.bc_trace.proofs.Whole.{put_all, put_all-state, forward}
 

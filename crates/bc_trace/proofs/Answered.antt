@@ -1,13 +1,12 @@
 -- What the reader's answer says of the text.
-use Rattle.std.proofs.Common.{◌≡◌, ℕ, ◌+◌, ◌≤◌, List, length, Result, Ok, Err, refl, sym, ap, subst, ◌∙◌, inl, inr, arith}
+use Rattle.std.proofs.Common.{◌≡◌, ℕ, ◌+◌, ◌≤◌, List, length, Result, Ok, Err, refl, ap, subst, ◌∙◌, inl, inr}
 use Rattle.std.specs.Prelude.{◌⊎◌, IfOk, IfErr, IsErrAnd, MatchResult}
 use Rattle.bc_model.specs.Lists.{TraceLists}
-use Rattle.bc_model.specs.WellFormed.{IsTrace}
 use Rattle.bc_trace.specs.declared.fault.Cause.{Cause}
 use Rattle.bc_trace.specs.declared.fault.ReadTrace.{ReadTrace}
 use Rattle.bc_trace.specs.declared.fault.ReadTrace.TheVariants as answers
 use Rattle.bc_trace.specs.declared.fault.TraceFault.{TraceFault}
-use Rattle.bc_trace.specs.Lines.{trace_text, trace_lines, line_text, Spells}
+use Rattle.bc_trace.specs.Lines.{trace_text, line_text, Spells}
 use Rattle.bc_trace.specs.Faults.{Fault}
 use Rattle.bc_trace.specs.Drafts.{empty_draft}
 use Rattle.bc_trace.specs.Reading.{fault, finished, read_of}

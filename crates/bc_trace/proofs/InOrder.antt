@@ -1,10 +1,8 @@
 -- The tests of a line, one after the other.
-use Rattle.std.proofs.Common.{◌≡◌, ℕ, ◌<◌, Bool, true, false, eqb, List, [], ◌∷◌, length, Option, Some, None, Result, Ok, Err, refl, sym, ap, ◌∙◌}
-use Rattle.bc_trace.specs.declared.fault.Cause.{Cause}
+use Rattle.std.proofs.Common.{◌≡◌, ℕ, ◌<◌, true, false, eqb, List, ◌∷◌, length, Some, None, Err, refl}
 use Rattle.bc_trace.specs.declared.fault.Cause.TheVariants as causes
 use Rattle.bc_trace.specs.declared.grammar.State.{State}
 use Rattle.bc_trace.specs.declared.words.Word.{Word}
-use Rattle.bc_trace.specs.Lines.{Line}
 use Rattle.bc_trace.specs.Grammar.{may_stand}
 use Rattle.bc_trace.specs.Faults.{words_of}
 use Rattle.bc_trace.specs.Reading.{formed_from, word_of, has_count, numbers_of, line_of, with_line, line_at}

@@ -1,8 +1,8 @@
 -- A line passes all tests, or one of them is the first that it fails; the reader says which.
-use Rattle.std.proofs.Common.{◌≡◌, ◌≢◌, ℕ, ◌+◌, ◌^◌, ◌<◌, Bool, true, false, eqb, leb, ◌≤◌, List, [], ◌∷◌, ◌++◌, length, map, Option, Some, None, Result, Ok, Err, refl, sym, ap, subst, ◌∙◌, append_assoc, inl, inr, arith}
+use Rattle.std.proofs.Common.{◌≡◌, ℕ, ◌<◌, Bool, true, false, eqb, leb, ◌≤◌, List, [], ◌∷◌, ◌++◌, length, map, Option, Some, None, Ok, Err, refl, sym, ap, subst, ◌∙◌, inl, inr, arith}
 use Rattle.std.specs.Prelude.{◌⊎◌}
 use Rattle.std.specs.Bool.{Decides}
-use Rattle.std.specs.List.{AllByRecursion, flat_map, slice_split, join_with_byte, list_all}
+use Rattle.std.specs.List.{AllByRecursion, flat_map, join_with_byte, list_all}
 use Rattle.std.specs.Fmt.{decimal}
 use Rattle.std.proofs.lemmas.Bool.{cases_Bool, both_ways, false_from_ne_true, and_parts, ne_eqb, leb-true}
 use Rattle.std.specs.Char.{is_ascii_digit}
@@ -22,7 +22,7 @@ use Rattle.bc_trace.specs.declared.words.Word.{Word}
 use Rattle.bc_trace.specs.declared.words.Word.TheVariants as words
 use Rattle.bc_trace.specs.Words.{name, verb_name, setting_name}
 use Rattle.bc_trace.specs.Lines.{Line, word_of_line, operands, spelling}
-use Rattle.bc_trace.specs.Grammar.{may_stand, MayStand, IsCount, InRange, FramesFit, Passes}
+use Rattle.bc_trace.specs.Grammar.{may_stand, MayStand, IsCount, Passes}
 use Rattle.bc_trace.specs.Faults.{words_of, IsWord, IsFormed, BeginsWith, IsNumeral, WordFails, OrderFails, CountFails, NumberFails, IsReadable, RangeFails, FramesFails, Fails}
 use Rattle.bc_trace.specs.Reading.{is_within, formed_from, word_of, has_count, numbers_of, line_of, in_range, frames_fit, with_line, line_at}
 use Rattle.bc_trace.proofs.Operands.{words_of-some}

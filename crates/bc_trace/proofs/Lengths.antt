@@ -1,10 +1,10 @@
 -- A text is at least as long as what it spells.
-use Rattle.std.proofs.Common.{◌≡◌, ℕ, suc, ◌+◌, ◌<◌, ◌≤◌, List, [], ◌∷◌, ◌++◌, length, map, ap, arith}
+use Rattle.std.proofs.Common.{ℕ, suc, ◌+◌, ◌<◌, ◌≤◌, List, [], ◌∷◌, ◌++◌, length, map, ap, arith}
 use Rattle.std.specs.List.{flat_map}
 use Rattle.std.proofs.lemmas.List.{length-append, length-map}
 use Rattle.bc_model.specs.Lists.{PhaseLists, TraceLists}
 use Rattle.bc_model.specs.declared.operations.Op.{Op}
-use Rattle.bc_trace.specs.Lines.{Line, phase, turn, lane, op, give, end, done, word_of_line, operands, setup_lines, lane_lines, phase_lines, trace_lines, trace_text, spelling, line_text, Spells}
+use Rattle.bc_trace.specs.Lines.{Line, turn, op, give, end, done, word_of_line, operands, lane_lines, phase_lines, trace_lines, trace_text, spelling, line_text, Spells}
 use Rattle.bc_trace.specs.Sizes.{ops_in_lanes, ops_in}
 
 line_some : (l : Line) → 0 < length (line_text l)

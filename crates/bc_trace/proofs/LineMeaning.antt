@@ -1,24 +1,22 @@
 -- What the tests of counts and ranges mean.
-use Rattle.std.proofs.Common.{◌≡◌, ◌≢◌, ℕ, zero, suc, ◌+◌, ◌*◌, ◌^◌, ◌<◌, ◌≤◌, Bool, true, false, ◌&&◌, cond, eqb, leb, ltb, List, [], ◌∷◌, length, get_or, refl, sym, ap, ◌∙◌, arith}
+use Rattle.std.proofs.Common.{◌≡◌, ℕ, ◌^◌, ◌<◌, true, ◌&&◌, ltb, List, [], ◌∷◌, length, get_or, refl, ap, arith}
 use Rattle.std.specs.Bool.{Decides}
 use Rattle.std.specs.List.{AllByRecursion, list_all}
-use Rattle.std.proofs.lemmas.Bool.{eqb-true, eq-eqb, leb-true, le-leb, ltb-true, lt-ltb}
+use Rattle.std.proofs.lemmas.Bool.{leb-true, le-leb}
 use Rattle.std.proofs.lemmas.Bool.Decides.{Decides-eqb, Decides-ltb, Decides-and, Decides-like}
-use Rattle.bc_model.specs.WellFormed.{IsWithin, IsNumber, IsSlot, IsOp, IsGive}
+use Rattle.bc_model.specs.WellFormed.{IsSlot, IsOp}
 use Rattle.bc_model.specs.declared.operations.Op.{Op}
 use Rattle.bc_model.specs.declared.operations.Op.TheVariants as ops
 use Rattle.bc_model.specs.declared.traces.Setup.{Setup}
 use Rattle.bc_model.specs.declared.values.Slot.{Slot}
 use Rattle.bc_trace.specs.declared.grammar.State.{State}
-use Rattle.bc_trace.specs.declared.words.Setting.{Setting}
 use Rattle.bc_trace.specs.declared.words.Setting.TheVariants as settings
-use Rattle.bc_trace.specs.declared.words.Verb.{Verb}
 use Rattle.bc_trace.specs.declared.words.Verb.TheVariants as verbs
 use Rattle.bc_trace.specs.declared.words.Word.{Word}
 use Rattle.bc_trace.specs.declared.words.Word.TheVariants as words
 use Rattle.bc_trace.specs.Lines.{Line, version, setting, phase, turn, lane, op, give, end, done, word_of_line, operands}
 use Rattle.bc_trace.specs.Grammar.{arity, IsCount, InRange, FramesFit}
-use Rattle.bc_trace.specs.Reading.{has_count, is_within, slot_at, op_of, line_of, is_slot, is_op, is_setting, most_of, in_range, least_frames, most_frames, frames_fit}
+use Rattle.bc_trace.specs.Reading.{has_count, line_of, is_slot, is_op, is_setting, in_range, least_frames, most_frames, frames_fit}
 use Rattle.bc_trace.proofs.Meaning.{Decides-within}
 
 -- ---- counts

@@ -1,22 +1,16 @@
 -- What each test of a line means.
-use Rattle.std.proofs.Common.{rules, ◌≡◌, ◌≢◌, ℕ, zero, suc, ◌+◌, ◌-◌, ◌*◌, ◌^◌, ◌<◌, ◌≤◌, Bool, true, false, not, ◌&&◌, cond, eqb, leb, ltb, List, [], ◌∷◌, ◌++◌, length, get_or, map, Option, Some, None, refl, sym, ap, subst, ◌∙◌, append_assoc, inl, inr, arith}
-use Rattle.std.specs.Prelude.{◌⊎◌, codes}
+use Rattle.std.proofs.Common.{rules, ◌≡◌, ℕ, zero, suc, ◌^◌, ◌<◌, Bool, true, false, not, ◌&&◌, cond, eqb, leb, ltb, List, [], ◌∷◌, length, get_or, map, Option, Some, None, refl, sym, ap, subst, ◌∙◌, inl, inr, arith}
 use Rattle.std.specs.Bool.{Decides}
-use Rattle.std.specs.List.{AllByRecursion, flat_map, list_all, slice_split, onto_first, join_with_byte}
+use Rattle.std.specs.List.{AllByRecursion, onto_first}
 use Rattle.std.specs.Str.{bytes_eq, all_ascii_digits}
 use Rattle.std.specs.Fmt.{decimal}
-use Rattle.std.proofs.lemmas.Bool.{cases_Bool, eqb-true, eqb-false, eq-eqb, ne_eqb, leb-true, le-leb, lt-leb, ltb-true, lt-ltb, le-ltb, and_parts, and_from}
-use Rattle.std.proofs.lemmas.Bool.Decides.{Decides-eqb, Decides-ltb, Decides-and, Decides-like}
-use Rattle.std.proofs.lemmas.List.Splits.{slice_split-cons_yes, slice_split-cons_no, slice_split_none, slice_split_at, join_with_byte-slice_split}
+use Rattle.std.proofs.lemmas.Bool.{cases_Bool, eqb-true, eqb-false, leb-true, le-leb, ltb-true, lt-ltb}
+use Rattle.std.proofs.lemmas.Bool.Decides.{Decides-and, Decides-like}
+use Rattle.std.proofs.lemmas.List.Splits.{slice_split-cons_yes, slice_split-cons_no}
 use Rattle.std.proofs.lemmas.Slice.Eq.{bytes_eq-Decides}
-use Rattle.std.proofs.lemmas.Str.Parse.{IsNumeralModel, numerals_by_fold, parse_gives}
-use Rattle.std.proofs.lemmas.Fmt.{decimal_digit, decimal-digits_value, digits_decimal, digits_value-decimal, decimal_nonempty, first_decimal, decimal_injective}
-use Rattle.bc_model.specs.WellFormed.{IsWithin, IsNumber, IsSlot, IsOp, IsGive}
-use Rattle.bc_model.specs.declared.operations.Op.{Op}
-use Rattle.bc_model.specs.declared.operations.Op.TheVariants as ops
-use Rattle.bc_model.specs.declared.traces.Setup.{Setup}
-use Rattle.bc_model.specs.declared.values.Slot.{Slot}
-use Rattle.bc_trace.specs.declared.grammar.State.{State}
+use Rattle.std.proofs.lemmas.Str.Parse.{IsNumeralModel, numerals_by_fold}
+use Rattle.std.proofs.lemmas.Fmt.{decimal_digit, decimal-digits_value, digits_decimal, digits_value-decimal, decimal_nonempty, first_decimal}
+use Rattle.bc_model.specs.WellFormed.{IsWithin, IsNumber}
 use Rattle.bc_trace.specs.declared.words.Setting.{Setting}
 use Rattle.bc_trace.specs.declared.words.Setting.TheVariants as settings
 use Rattle.bc_trace.specs.declared.words.Verb.{Verb}
@@ -24,10 +18,8 @@ use Rattle.bc_trace.specs.declared.words.Verb.TheVariants as verbs
 use Rattle.bc_trace.specs.declared.words.Word.{Word}
 use Rattle.bc_trace.specs.declared.words.Word.TheVariants as words
 use Rattle.bc_trace.specs.Words.{name, verb_name, setting_name}
-use Rattle.bc_trace.specs.Lines.{Line, version, setting, phase, turn, lane, op, give, end, done, word_of_line, operands}
-use Rattle.bc_trace.specs.Grammar.{arity, IsCount, InRange, FramesFit}
 use Rattle.bc_trace.specs.Faults.{words_of, IsWord, IsFormed, IsNumeral}
-use Rattle.bc_trace.specs.Reading.{next_fresh, where_some, is_within, formed_from, named, word_of, op_word, setting_word, or_word, all_verbs, all_settings, all_others, read_on, digits_of, number_of, both, numbers_of, has_count, slot_at, op_of, line_of, is_slot, is_op, is_setting, most_of, in_range, least_frames, most_frames, frames_fit}
+use Rattle.bc_trace.specs.Reading.{next_fresh, where_some, is_within, formed_from, named, word_of, op_word, setting_word, or_word, all_verbs, all_settings, all_others, read_on, digits_of, number_of, both, numbers_of}
 
 -- ---- words of visible bytes
 

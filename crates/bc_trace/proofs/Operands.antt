@@ -1,6 +1,6 @@
 -- Operands, read one after the other.
 use Rattle.std.proofs.lemmas.List.Splits.{length-slice_split}
-use Rattle.std.proofs.Common.{◌≡◌, ◌≢◌, eqb, ℕ, zero, suc, ◌+◌, ◌<◌, Bool, true, false, List, [], ◌∷◌, ◌++◌, length, get_or, set, take, drop, Option, Some, None, refl, sym, ap, ◌∙◌, append_assoc, arith, cond}
+use Rattle.std.proofs.Common.{◌≡◌, ◌≢◌, eqb, ℕ, ◌+◌, ◌<◌, Bool, true, false, List, [], ◌∷◌, ◌++◌, length, set, take, drop, Option, Some, None, refl, sym, ap, ◌∙◌, append_assoc, arith, cond}
 use Rattle.std.proofs.lemmas.List.{take_more_set, append-nil}
 use Rattle.bc_trace.specs.Faults.{words_of}
 use Rattle.bc_trace.specs.Reading.{both, number_of, numbers_of, words_after}

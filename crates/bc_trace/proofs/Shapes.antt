@@ -1,22 +1,20 @@
 -- Lines that pass up to the end are those of a well-formed trace.
-use Rattle.std.proofs.Common.{◌≡◌, ◌≢◌, ℕ, zero, suc, ◌+◌, ◌<◌, ◌≤◌, Bool, true, false, not, eqb, List, [], ◌∷◌, ◌++◌, length, map, Result, Ok, Err, refl, sym, ap, subst, ◌∙◌, append_assoc, inl, inr, arith, add-zero}
+use Rattle.std.proofs.Common.{◌≡◌, ◌≢◌, ℕ, ◌+◌, true, eqb, List, [], ◌∷◌, ◌++◌, length, map, refl, sym, ap, subst, ◌∙◌, append_assoc, arith}
 use Rattle.std.specs.List.{AllByRecursion, flat_map}
-use Rattle.std.proofs.lemmas.Bool.{eqb-true, eqb-false, eq-eqb, ne_eqb}
+use Rattle.std.proofs.lemmas.Bool.{eqb-true, eq-eqb, ne_eqb}
 use Rattle.std.proofs.lemmas.List.{append-nil, length-append, map-append}
 use Rattle.std.proofs.lemmas.List.Concat.{flat_map-append}
-use Rattle.bc_model.specs.Lists.{PhaseLists, TraceLists}
-use Rattle.bc_model.specs.WellFormed.{IsWithin, IsSetup, IsNumber, IsOp, IsGive, IsTurn, IsPhase, IsTrace}
+use Rattle.bc_model.specs.Lists.{PhaseLists}
+use Rattle.bc_model.specs.WellFormed.{IsWithin, IsSetup, IsOp, IsGive, IsTurn, IsPhase, IsTrace}
 use Rattle.bc_model.specs.declared.operations.Op.{Op}
 use Rattle.bc_model.specs.declared.traces.Give.{Give}
 use Rattle.bc_model.specs.declared.traces.Setup.{Setup}
 use Rattle.bc_trace.specs.declared.grammar.Place.{Place}
 use Rattle.bc_trace.specs.declared.grammar.Place.TheVariants as places
-use Rattle.bc_trace.specs.declared.grammar.State.{State}
 use Rattle.bc_trace.specs.declared.words.Setting.{Setting}
 use Rattle.bc_trace.specs.declared.words.Setting.TheVariants as settings
-use Rattle.bc_trace.specs.declared.words.Word.TheVariants as words
 use Rattle.bc_trace.specs.Lines.{Line, version, setting, phase, turn, lane, op, give, end, done, word_of_line, operands, setup_lines, lane_lines, phase_lines, trace_lines}
-use Rattle.bc_trace.specs.Grammar.{start, may_stand, same_setting, IsCount, InRange, FramesFit, Passes, after, Follow}
+use Rattle.bc_trace.specs.Grammar.{start, may_stand, same_setting, IsCount, InRange, FramesFit, after, Follow}
 use Rattle.bc_trace.specs.Drafts.{DraftLists, empty_draft, put, put_lists}
 use Rattle.bc_trace.specs.Reading.{finished}
 use Rattle.bc_trace.proofs.Whole.{put_all}

@@ -1,10 +1,9 @@
 -- Whole texts: the reader goes over lines that pass, and stops at the first that doesn't.
-use Rattle.std.proofs.Common.{◌≡◌, ◌≢◌, ℕ, zero, suc, ◌+◌, ◌<◌, ◌≤◌, Bool, true, false, eqb, List, [], ◌∷◌, ◌++◌, length, map, Result, Ok, Err, refl, sym, ap, subst, ◌∙◌, append_assoc, inl, inr, arith, add-zero}
+use Rattle.std.proofs.Common.{◌≡◌, ◌≢◌, ℕ, suc, ◌+◌, ◌<◌, false, eqb, List, [], ◌∷◌, ◌++◌, length, map, Result, Ok, Err, refl, sym, ap, subst, ◌∙◌, append_assoc, inl, inr, arith, add-zero}
 use Rattle.std.specs.Prelude.{◌⊎◌}
-use Rattle.std.specs.List.{AllByRecursion, flat_map, slice_split, onto_first, join_with_byte}
+use Rattle.std.specs.List.{AllByRecursion, flat_map, onto_first, join_with_byte}
 use Rattle.std.specs.Fmt.{decimal}
-use Rattle.std.proofs.lemmas.Bool.{cases_Bool, eqb-true, eqb-false, ne_eqb}
-use Rattle.std.proofs.lemmas.List.{append-nil}
+use Rattle.std.proofs.lemmas.Bool.{cases_Bool, eqb-false, ne_eqb}
 use Rattle.std.proofs.lemmas.List.Elements.{All-from_recursion}
 use Rattle.std.proofs.lemmas.List.Splits.{slice_split_at, slice_split_none, slice_split-cons_yes, slice_split-cons_no, join_with_byte-slice_split}
 use Rattle.bc_model.specs.Lists.{TraceLists}
@@ -18,7 +17,7 @@ use Rattle.bc_trace.specs.declared.grammar.State.{State}
 use Rattle.bc_trace.specs.declared.words.Word.{Word}
 use Rattle.bc_trace.specs.Words.{name}
 use Rattle.bc_trace.specs.Lines.{Line, word_of_line, operands, spelling, line_text}
-use Rattle.bc_trace.specs.Grammar.{start, Passes, after, after_all, Follow}
+use Rattle.bc_trace.specs.Grammar.{start, Passes, after_all, Follow}
 use Rattle.bc_trace.specs.Faults.{IsWord, Fails, FaultOfLine, FaultAtEnd, EndFails, lines_begun, Fault}
 use Rattle.bc_trace.specs.Drafts.{DraftLists, empty_draft, put}
 use Rattle.bc_trace.specs.Reading.{line_at, lines_of, fault, finished, ended, ended_at, reading, read_of}

@@ -1,12 +1,12 @@
 -- Texts of lines, joined.
 use Rattle.std.proofs.Common.{◌≡◌, ℕ, suc, ◌+◌, ◌<◌, List, [], ◌∷◌, ◌++◌, length, take, get_or, map, refl, sym, ap, ◌∙◌, append_assoc, arith}
 use Rattle.std.specs.List.{flat_map}
-use Rattle.std.proofs.lemmas.List.{map_more, append-nil, length-map, length-take, take_more}
-use Rattle.std.proofs.lemmas.List.Concat.{flat_map-append, flat_map-cons}
+use Rattle.std.proofs.lemmas.List.{map_more, append-nil, length-map, length-take}
+use Rattle.std.proofs.lemmas.List.Concat.{flat_map-append}
 use Rattle.bc_model.specs.Lists.{PhaseLists, TraceLists}
 use Rattle.bc_model.specs.declared.operations.Op.{Op}
 use Rattle.bc_trace.specs.declared.words.Word.TheVariants as words
-use Rattle.bc_trace.specs.Lines.{Line, version, phase, turn, lane, op, give, end, done, setup_lines, lane_lines, phase_lines, trace_lines, trace_text, spelling, line_text}
+use Rattle.bc_trace.specs.Lines.{Line, turn, lane, op, give, end, done, setup_lines, lane_lines, phase_lines, trace_text, spelling, line_text}
 
 abbrev text_of : List Line → List ℕ
 text_of ls = flat_map line_text ls

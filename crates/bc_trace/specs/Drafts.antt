@@ -1,12 +1,11 @@
 -- A trace that is being read: the lines so far, put together.
 use Rattle.std.specs.Prelude.{ℕ, ◌==◌, if◌then◌else◌, List, [], ◌∷◌, ◌++◌, map}
-use Rattle.std.specs.Global.{Vec}
 use Rattle.bc_model.specs.Lists.{PhaseLists}
 use Rattle.bc_model.specs.declared.operations.Op.{Op}
 use Rattle.bc_model.specs.declared.traces.Give.{Give}
 use Rattle.bc_trace.specs.declared.draft.Draft.{Draft}
 use Rattle.bc_trace.specs.declared.grammar.State.{State}
-use Rattle.bc_trace.specs.Lines.{Line, version, setting, phase, turn, lane, op, give, end, done}
+use Rattle.bc_trace.specs.Lines.{Line, turn, lane, op, give, end}
 use Rattle.bc_trace.specs.Grammar.{start, after}
 
 -- the phases that were read, and what was read of the next one: its turns, the lanes before the

@@ -1,5 +1,5 @@
 -- Which lines may stand where, and what they may say.
-use Rattle.std.specs.Prelude.{◌≡◌, ℕ, ◌+◌, ◌*◌, ◌^◌, ◌<◌, ◌≤◌, ◌==◌, Bool, true, false, not, IsTrue, ⊤, List, [], ◌∷◌, length}
+use Rattle.std.specs.Prelude.{◌≡◌, ℕ, ◌+◌, ◌*◌, ◌^◌, ◌<◌, ◌≤◌, ◌==◌, Bool, true, false, not, ⊤, List, [], ◌∷◌, length}
 use Rattle.std.specs.List.{AllByRecursion}
 use Rattle.bc_model.specs.WellFormed.{IsWithin, IsNumber, IsOp, IsGive}
 use Rattle.bc_model.specs.declared.traces.Setup.{Setup}
@@ -8,7 +8,6 @@ use Rattle.bc_trace.specs.declared.grammar.Place.TheVariants as places
 use Rattle.bc_trace.specs.declared.grammar.State.{State}
 use Rattle.bc_trace.specs.declared.words.Setting.{Setting}
 use Rattle.bc_trace.specs.declared.words.Setting.TheVariants as settings
-use Rattle.bc_trace.specs.declared.words.Verb.{Verb}
 use Rattle.bc_trace.specs.declared.words.Verb.TheVariants as verbs
 use Rattle.bc_trace.specs.declared.words.Word.{Word}
 use Rattle.bc_trace.specs.declared.words.Word.TheVariants as words

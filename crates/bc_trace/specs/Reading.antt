@@ -1,5 +1,5 @@
 -- Reading, as a function of the bytes. What it means is said by `Spells` and `Fault`: laws tie it to them.
-use Rattle.std.specs.Prelude.{◌≡◌, ℕ, ◌+◌, ◌-◌, ◌*◌, ◌^◌, ◌==◌, ◌&&◌, nat_lt, nat_le, Bool, true, false, not, if◌then◌else◌, ⊤, List, [], ◌∷◌, ◌++◌, length, slice_index, Option, Some, None, Result, Ok, Err}
+use Rattle.std.specs.Prelude.{ℕ, ◌+◌, ◌-◌, ◌*◌, ◌^◌, ◌==◌, ◌&&◌, nat_lt, nat_le, Bool, true, false, not, if◌then◌else◌, List, [], ◌∷◌, length, slice_index, Option, Some, None, Result, Ok, Err}
 use Rattle.std.specs.List.{list_all, slice_split}
 use Rattle.std.specs.Str.{bytes_eq, all_ascii_digits}
 use Rattle.bc_model.specs.Lists.{TraceLists}
@@ -22,7 +22,7 @@ use Rattle.bc_trace.specs.declared.words.Word.{Word}
 use Rattle.bc_trace.specs.declared.words.Word.TheVariants as words
 use Rattle.bc_trace.specs.Words.{setting_name, verb_name, name}
 use Rattle.bc_trace.specs.Lines.{Line, version, setting, phase, turn, lane, op, give, end, done}
-use Rattle.bc_trace.specs.Grammar.{start, may_stand, arity}
+use Rattle.bc_trace.specs.Grammar.{may_stand, arity}
 use Rattle.bc_trace.specs.Drafts.{DraftLists, empty_draft, put}
 use Rattle.bc_trace.specs.Faults.{words_of, lines_begun}
 

@@ -1,4 +1,22 @@
-// The trace language: what a trace's text is, its reader and its writer, and the texts of a replay.
+// The trace language: its reader, its writer, and the texts that a replay prints.
+//
+// A trace is a text of lines. A line is words with single spaces between them: the first is one of
+// the language's 24 words, and the others are numbers. The header has eight lines, and each phase
+// has its turns, every lane with its operations, and the gives. `specs/Lines.antt` says which text
+// spells which trace: it lists the lines of a trace in order and writes each of them, and knows
+// nothing of reading.
+//
+// The reader goes over the bytes once. `cutting` takes off a line and its words, `words` and
+// `numbers` say what they are, `grammar` whether such a line may stand next, `checking` whether its
+// numbers are in range, and `draft` puts what it says behind what was read so far. A line is tested
+// in seven steps, and the first test that fails gives the fault (`specs/Faults.antt`). Between two
+// lines the reader keeps a draft of the trace and a `State`: the place in the text, the setup, and
+// how many lanes of the phase have stood. The operands of a line go through one buffer of 64.
+//
+// In contracts the reader is a function of the bytes (`specs/Reading.antt`), which each function of
+// the code mirrors. What counts are the clauses of `read`, which don't name it: a trace is answered
+// exactly where the bytes spell it, and a fault exactly where it is the text's fault. `laws` has
+// what the definitions say together: one trace a text, one text a trace, and one fault a bad text.
 #![tactic(auto)]
 
 mod checking;

@@ -1,4 +1,4 @@
-use Rattle.std.proofs.Common.{get_or, arith}
+use Rattle.std.proofs.Common.{arith}
 use Rattle.std.proofs.lemmas.List.{take_rest}
 use Rattle.bc_trace.proofs.Parts.{parts_at, parts_none, words_after-drop}
 use Rattle.bc_trace.proofs.cutting.first_word.Goals as goal

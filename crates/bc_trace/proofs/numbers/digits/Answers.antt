@@ -1,4 +1,4 @@
-use Rattle.std.proofs.Common.{◌≡◌, ◌+◌, ◌-◌, ◌*◌, ◌^◌, ◌≤◌, get_or, sym, ◌∙◌, arith}
+use Rattle.std.proofs.Common.{◌+◌, ◌-◌, ◌*◌, ◌^◌, ◌≤◌, get_or, sym, ◌∙◌, arith}
 use Rattle.bc_trace.proofs.Numerals.{digits_of-on, digits_on-next, digits_on-other, digits_on-great, digits_on-end}
 use Rattle.bc_trace.proofs.numbers.digits.Goals as goal
 

@@ -1,9 +1,8 @@
-use Rattle.std.proofs.Common.{◌≡◌, ◌≢◌, ◌+◌, ◌-◌, ◌<◌, ◌∷◌, List, ℕ, length, take, drop, sym, ap, ◌∙◌, arith}
+use Rattle.std.proofs.Common.{◌≡◌, ◌≢◌, ◌+◌, ◌∷◌, List, ℕ, length, take, drop, sym, ap, ◌∙◌, arith}
 use Rattle.std.proofs.lemmas.Bool.{eqb-true, eqb-false}
 use Rattle.std.proofs.lemmas.List.{take_rest}
-use Rattle.bc_trace.specs.Faults.{words_of}
 use Rattle.bc_trace.specs.Reading.{numbers_of, words_after}
-use Rattle.bc_trace.proofs.Operands.{with_front, step-number, step-other, front-all, words_after-rest, words_of-some}
+use Rattle.bc_trace.proofs.Operands.{step-number, step-other, front-all, words_after-rest, words_of-some}
 use Rattle.bc_trace.proofs.numbers.operands_of.Goals as goal
 use Rattle.bc_trace.proofs.numbers.operands_of.Goals.{in-Some, in-None}
 

@@ -1,6 +1,5 @@
 use Rattle.std.proofs.Common.{◌≡◌, true, length, take, Some, sym, ap, ◌∙◌}
 use Rattle.bc_trace.specs.Reading.{has_count, numbers_of, words_after, line_of, with_line}
-use Rattle.bc_trace.specs.Said.{Reads}
 use Rattle.bc_trace.proofs.Hints.{Reads-take, FitsBuffer-take}
 use Rattle.bc_trace.proofs.InOrder.{line_at-many, line_at-says}
 use Rattle.bc_trace.proofs.reading.line_at.Goals as goal

@@ -1,6 +1,6 @@
-use Rattle.std.proofs.Common.{◌≡◌, ◌++◌, ◌∷◌, map, take}
+use Rattle.std.proofs.Common.{◌≡◌, ◌++◌, map, take}
 use Rattle.std.specs.List.{flat_map}
-use Rattle.bc_trace.specs.Lines.{turn, op, give, lane_lines, phase_lines, line_text}
+use Rattle.bc_trace.specs.Lines.{give, line_text}
 use Rattle.bc_trace.proofs.writing.push_gives.Given as goal
 
 abbrev pub invariant-loop-give : goal.invariant-loop-give

@@ -1,7 +1,6 @@
-use Rattle.std.proofs.Common.{◌≡◌, ◌++◌, ◌∷◌, map, take}
+use Rattle.std.proofs.Common.{◌≡◌, ◌++◌, map, take}
 use Rattle.std.specs.List.{flat_map}
-use Rattle.std.specs.Fmt.{decimal}
-use Rattle.bc_trace.specs.Lines.{turn, op, give, lane_lines, phase_lines, line_text}
+use Rattle.bc_trace.specs.Lines.{lane_lines, line_text}
 use Rattle.bc_trace.proofs.writing.push_lanes.Given as goal
 
 abbrev pub invariant-loop-lane : goal.invariant-loop-lane

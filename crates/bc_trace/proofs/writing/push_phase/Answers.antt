@@ -1,10 +1,7 @@
-use Rattle.std.proofs.Common.{◌≡◌, ◌++◌, List, map, ap, subst, ◌∙◌}
+use Rattle.std.proofs.Common.{◌≡◌, ◌++◌, map, subst}
 use Rattle.std.specs.List.{flat_map}
-use Rattle.std.specs.Global.{Vec}
 use Rattle.bc_model.specs.Lists.{PhaseLists}
-use Rattle.bc_model.specs.declared.operations.Op.{Op}
-use Rattle.bc_model.specs.declared.traces.Give.{Give}
-use Rattle.bc_trace.specs.Lines.{turn, give, lane_lines, phase_lines, line_text}
+use Rattle.bc_trace.specs.Lines.{phase_lines, line_text}
 use Rattle.bc_trace.proofs.Written.{phase_written}
 use Rattle.bc_trace.proofs.writing.push_phase.Goals as goal
 
