@@ -22,7 +22,7 @@ use Rattle.bc_cli.specs.Outcomes.{HasRoomFor, longest_trace}
 use Rattle.bc_cli.specs.Output.{texts_from, whole_text}
 use Rattle.bc_cli.proofs.Incoming.{IsModest, length-ops_text, length-lane_text, phase_frame, length-trace_text}
 use Rattle.bc_cli.proofs.Outgoing.{Ready, Ready-less, Goes-ops, length-replies_text, lanes-same, after_phase-keeps}
-use Rattle.bc_cli.proofs.Sizes.{phases_too}
+use Rattle.bc_cli.proofs.Sizes.{phases-from_setup}
 
 modest_sizes : (s : State) → IsState s → IsModest (sizes_of s)
 modest_sizes s h = record { domains = h.domains; slots = h.width }
@@ -105,7 +105,7 @@ length-whole_text t h few small =
     let s = opening t.setup in
     let sizes = HasSizes-opening t.setup in
     let ready : Ready (sum_by ops_of t.phases) s = record { state = IsState-opening t.setup h.setup; serials = HasSerials-opening t.setup _ small } in
-    let fits = phases_too t.setup (sizes_of s) (record { lanes = sym sizes.lanes; domains = sym sizes.domains; slots = sym sizes.slots }) t.phases h.phases in
+    let fits = phases-from_setup t.setup s t.phases sizes h.phases in
     let phases = phases_room 1 s t.phases (omega arith) fits ready in
     let lines = flat_map phase_lines t.phases in
     omega (

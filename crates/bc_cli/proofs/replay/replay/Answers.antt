@@ -12,7 +12,7 @@ use Rattle.bc_trace.specs.Replies.{done_text}
 use Rattle.bc_cli.specs.Outcomes.{WritesFront}
 use Rattle.bc_cli.specs.Output.{texts_from, texts_before, whole_text}
 use Rattle.bc_cli.proofs.Pieces.{texts-none, room-for-next, front-more, Rose-later, front-taken}
-use Rattle.bc_cli.proofs.Sizes.{phases_too}
+use Rattle.bc_cli.proofs.Sizes.{phases-from_setup}
 use Rattle.bc_cli.proofs.replay.replay.Goals as goal
 
 -- the phases of a trace fit the heap that is opened for it
@@ -20,8 +20,7 @@ fits_opened : (t u : TraceLists) (ps : List PhaseLists) (st : State) → u ≡ t
 fits_opened t u ps st e p h z =
     let phases : ps ≡ t.phases = p ∙ ap (λ (x : TraceLists). x.phases) e in
     let sizes : HasSizes t.setup st = subst (λ (x : TraceLists). HasSizes x.setup st) e z in
-    subst (AllByRecursion (IsPhase (sizes_of st))) (sym phases)
-    (phases_too t.setup (sizes_of st) (record { lanes = sym sizes.lanes; domains = sym sizes.domains; slots = sym sizes.slots }) t.phases h.phases)
+    subst (AllByRecursion (IsPhase (sizes_of st))) (sym phases) (phases-from_setup t.setup st t.phases sizes h.phases)
 
 -- what is run on that heap is what is run from the opening state
 texts-opened : (t u : TraceLists) (ps : List PhaseLists) (st : State) (F : List PhaseLists → List PhaseLists) → u ≡ t → ps ≡ u.phases → st ≡ opening u.setup → texts_from st (F ps) ≡ texts_from (opening t.setup) (F t.phases)

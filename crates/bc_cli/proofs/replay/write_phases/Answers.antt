@@ -9,7 +9,7 @@ use Rattle.bc_model.specs.Run.{replies_to_lanes, after_phases, after_phase, ops_
 use Rattle.bc_trace.specs.Replies.{phase_text}
 use Rattle.bc_cli.specs.Output.{texts_from}
 use Rattle.bc_cli.proofs.Pieces.{texts-none, state-none, texts-told, told-front, state-step, front-more, room-for-next, Rose-later}
-use Rattle.bc_cli.proofs.Sizes.{phase_at_too}
+use Rattle.bc_cli.proofs.Sizes.{phase-from_setup}
 use Rattle.bc_model.specs.Lists.{PhaseLists}
 use Rattle.bc_cli.proofs.replay.write_phases.Goals as goal
 
@@ -28,7 +28,7 @@ loop-index-init g c = record {
 
 pub write_phase-requires-clause-phase : goal.write_phase-requires-clause-phase
 write_phase-requires-clause-phase g c =
-    phase_at_too _ c.loop-index.heap c.args.phases.now c.loop-index.index _ c.requires.phases c.loop-index.invariant.sizes (omega arith) c.index-phases-index.is
+    phase-from_setup _ c.loop-index.heap c.args.phases.now c.loop-index.index _ c.requires.phases c.loop-index.invariant.sizes (omega arith) c.index-phases-index.is
 
 pub write_phase-requires-clause-room : goal.write_phase-requires-clause-room
 write_phase-requires-clause-room g c =
