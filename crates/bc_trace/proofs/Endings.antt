@@ -1,8 +1,6 @@
 -- Lines that pass can be gone on with up to the end of a trace.
-use Rattle.std.proofs.Common.{◌≡◌, ◌≢◌, ℕ, zero, suc, ◌+◌, ◌-◌, ◌*◌, ◌^◌, ◌<◌, ◌≤◌, Bool, true, false, eqb, List, [], ◌∷◌, ◌++◌, length, refl, sym, ap, subst, ◌∙◌, append_assoc, arith}
-use Rattle.std.specs.List.{AllByRecursion}
+use Rattle.std.proofs.Common.{◌≡◌, ℕ, zero, suc, ◌+◌, ◌-◌, ◌*◌, ◌≤◌, true, eqb, List, [], ◌∷◌, ◌++◌, refl, sym, ap, subst, ◌∙◌, arith}
 use Rattle.std.proofs.lemmas.Bool.{eq-eqb, ne_eqb}
-use Rattle.bc_model.specs.Lists.{TraceLists}
 use Rattle.bc_model.specs.WellFormed.{IsWithin, IsSetup, IsOp}
 use Rattle.bc_model.specs.declared.operations.Op.{Op}
 use Rattle.bc_model.specs.declared.operations.Op.TheVariants as ops
@@ -20,11 +18,11 @@ use Rattle.bc_trace.specs.declared.words.Word.{Word}
 use Rattle.bc_trace.specs.declared.words.Word.TheVariants as words
 use Rattle.bc_trace.specs.Lines.{Line, version, setting, phase, turn, lane, op, give, end, done, word_of_line, verb_of_op}
 use Rattle.bc_trace.specs.Grammar.{start, may_stand, same_setting, arity, MayStand, Passes, after, after_all, Follow, Begins, GoesOn}
-use Rattle.bc_trace.specs.Drafts.{DraftLists, empty_draft, put}
+use Rattle.bc_trace.specs.Drafts.{DraftLists, empty_draft}
 use Rattle.bc_trace.specs.Reading.{finished}
 use Rattle.bc_trace.proofs.Whole.{put_all, put_all-state}
 use Rattle.bc_trace.proofs.Again.{follow-append, product_small, right_count, op_numbers, trace_passes}
-use Rattle.bc_trace.proofs.Shapes.{Shape, step, steps, at_start, passing_lines}
+use Rattle.bc_trace.proofs.Shapes.{Shape, steps, at_start, passing_lines}
 
 -- some lines go on to the end
 record Ends (s : State) : Type 0 where
