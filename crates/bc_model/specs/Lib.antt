@@ -2,4 +2,10 @@ pub mod Lists
 pub mod WellFormed
 pub mod State
 pub mod Step
+pub mod Consistent
+pub mod Flat
+pub mod Grows
 pub mod Run
+pub mod Reached
+pub mod Need
+pub mod Interleaving

@@ -1,6 +1,6 @@
 -- A run of the one-thread heap: phase after phase, in each the operations of lane 0, then those of lane 1, and so on, and
 -- then the gives.
-use Rattle.std.specs.Prelude.{ℕ, ◌+◌, ◌*◌, ◌%◌, List, [], ◌∷◌, map, replicate, take, slice_index_or}
+use Rattle.std.specs.Prelude.{ℕ, ◌+◌, ◌*◌, ◌%◌, List, [], ◌∷◌, map, replicate, length, sum_by, take, slice_index_or}
 use Rattle.bc_model.specs.Lists.{PhaseLists, TraceLists}
 use Rattle.bc_model.specs.State.{State, given, numbers_below}
 use Rattle.bc_model.specs.Step.{step}
@@ -49,6 +49,13 @@ after_phase s p = after_gives (after_lanes s 0 p.lanes) p.gives
 unfoldable pub after_phases : State → List PhaseLists → State
 after_phases s [] = s
 after_phases s (p ∷ phases) = after_phases (after_phase s p) phases
+
+-- how many operations a phase has, and a whole trace
+abbrev pub ops_of : PhaseLists → ℕ
+ops_of p = sum_by length p.lanes
+
+abbrev pub all_ops_of : TraceLists → ℕ
+all_ops_of t = sum_by ops_of t.phases
 
 -- the replies of each phase
 unfoldable pub replies_of_phases : State → List PhaseLists → List (List (List Reply))

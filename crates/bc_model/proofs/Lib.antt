@@ -1,0 +1,15 @@
+pub mod Objects
+pub mod States
+pub mod Views
+pub mod Effects
+pub mod Steps
+pub mod Openings
+pub mod Runs
+pub mod Callers
+pub mod Agreeing
+pub mod Orders
+pub mod InOrder
+pub mod SameParts
+pub mod AnyOrder
+pub mod StepLaws
+pub mod Needs
