@@ -1,17 +1,16 @@
 -- Lane k's part stays the same when other lanes work, and changes alike where lane k does the same in both states.
-use Rattle.std.proofs.Common.{◌≡◌, ◌≢◌, ℕ, ◌+◌, ◌-◌, ◌*◌, ◌/◌, ◌%◌, ◌<◌, ◌≤◌, Bool, true, false, ◌==◌, List, [], ◌∷◌, ◌++◌, length, get_or, set, replicate, slice_index_or, refl, sym, ap, ap₂, subst, ◌∙◌, inl, inr, arith, length-set, get_or-set_same, get_or-set_other, eqb-true, eq-eqb, mul_comm}
+use Rattle.std.proofs.Common.{◌≡◌, ◌≢◌, ℕ, ◌+◌, ◌*◌, ◌<◌, true, ◌==◌, List, length, get_or, set, replicate, slice_index_or, refl, sym, ap, subst, ◌∙◌, inl, inr, arith, get_or-set_same, get_or-set_other, eqb-true, mul_comm}
 use Rattle.std.proofs.lemmas.Bool.{cases_eq}
 use Rattle.std.proofs.lemmas.List.{length_push}
 use Rattle.std.proofs.lemmas.Nat.{mul-add-lt, same_from_place}
-use Rattle.bc_model.specs.Consistent.{IsValue, IsState, sizes_of}
-use Rattle.bc_model.specs.State.{State, Object, IsBorn, made_by, object_of, next_birth, with_object, with_made, with_value, with_slot, with_field, slot_of, place_of, holds}
-use Rattle.bc_model.specs.Step.{with_new}
+use Rattle.bc_model.specs.Consistent.{IsState, sizes_of}
+use Rattle.bc_model.specs.State.{State, Object, IsBorn, made_by, object_of, next_birth, with_object, with_made, with_value, with_slot, with_field, place_of, holds}
 use Rattle.bc_model.specs.WellFormed.{IsSlot}
 use Rattle.bc_model.specs.declared.values.Birth.{Birth}
 use Rattle.bc_model.specs.declared.values.Slot.{Slot}
 use Rattle.bc_model.specs.declared.values.Value.{Value}
 use Rattle.bc_model.specs.declared.values.Value.TheVariants.{Nil, Obj}
-use Rattle.bc_model.proofs.Objects.{cases_birth, length-made_by-with_object, IsBorn-with_object, IsBorn-from_with_object, object_of-with_object_same, object_of-with_object_other, made_by-with_made_same, made_by-with_made_other, length-with_made, IsBorn-with_made, IsBorn-next_birth, IsBorn-from_with_made, object_of-with_made_same, object_of-with_made_other}
+use Rattle.bc_model.proofs.Objects.{cases_birth, length-made_by-with_object, IsBorn-from_with_object, object_of-with_object_same, object_of-with_object_other, made_by-with_made_same, made_by-with_made_other, length-with_made, IsBorn-with_made, IsBorn-next_birth, IsBorn-from_with_made, object_of-with_made_same, object_of-with_made_other}
 use Rattle.bc_model.proofs.Steps.{Grows-after_write}
 use Rattle.bc_model.proofs.Effects.{Effect, Keep, Put, Write, Make, after_effect, IsOwn, Agrees, Agrees-itself}
 
@@ -44,12 +43,12 @@ Agrees-then k a b c g h = record {
   born = λ x m. h.born x (g.born x m);
   domain = λ x m. h.domain x (g.born x m) ∙ g.domain x m;
   object = λ x m held.
-    h.object x (g.born x m) (holds-same a b k _ g.holders (subst (λ (d : ℕ). holds a k d ≡ true) (sym (g.domain x m)) held)) ∙ g.object x m held;
+      h.object x (g.born x m) (holds-same a b k _ g.holders (subst (λ (d : ℕ). holds a k d ≡ true) (sym (g.domain x m)) held)) ∙ g.object x m held;
   mine = λ x m held.
-    let before : IsBorn b.made x = h.mine x m (holds-same a b k _ g.holders held) in
-    g.mine x before (subst (λ (d : ℕ). holds a k d ≡ true) (h.domain x before) held);
+      let before : IsBorn b.made x = h.mine x m (holds-same a b k _ g.holders held) in
+      g.mine x before (subst (λ (d : ℕ). holds a k d ≡ true) (h.domain x before) held);
   slot = λ p fits held.
-    h.slot p (omega (arith, fits.0, ap length g.holders), omega (arith, fits.1, g.width)) (holds-same a b k _ g.holders held) ∙ g.slot p fits held;
+      h.slot p (omega (arith, fits.0, ap length g.holders), omega (arith, fits.1, g.width)) (holds-same a b k _ g.holders held) ∙ g.slot p fits held;
 }
 
 -- another lane writes a slot
@@ -64,7 +63,7 @@ other-put k j s p v ne fits own = record {
   object = λ x m held. refl;
   mine = λ x m held. m;
   slot = λ q fits' held.
-    get_or-set_other s.slots (place_of s.width p) (place_of s.width q) v Nil
+      get_or-set_other s.slots (place_of s.width p) (place_of s.width q) v Nil
       (apart s.width q p fits'.1 fits (λ e. ne (one_holder s j k p.domain q.domain own held (sym e))));
 }
 
@@ -81,7 +80,7 @@ other-write k j s c i v ne born own =
       born = grows.born;
       domain = grows.domain;
       object = λ x m held.
-        object_of-with_object_other s.made c o x born m
+          object_of-with_object_other s.made c o x born m
           (λ e. ne (one_holder s j k _ _ own held (sym (ap (λ (y : Birth). (object_of s.made y).domain) e))));
       mine = λ x m held. IsBorn-from_with_object s.made c o x born m;
       slot = λ q fits held. refl;
@@ -98,11 +97,12 @@ other-made k j s o ne lane own = record {
   domain = λ x m. ap (λ (y : Object). y.domain) (object_of-with_made_other s.made j o x lane m);
   object = λ x m held. object_of-with_made_other s.made j o x lane m;
   mine = λ x m held.
-    elim (IsBorn-from_with_made s.made j o x lane m) [
-      inl before ↦ before
-    | inr e ↦
-        let domain = ap (λ (y : Birth). (object_of (with_made s.made j o) y).domain) e ∙ ap (λ (y : Object). y.domain) (object_of-with_made_same s.made j o lane) in
-        absurd (ne (one_holder s j k _ _ own held (sym domain))) ];
+      elim (IsBorn-from_with_made s.made j o x lane m) [
+        | inl before ↦ before
+        | inr e ↦
+            let domain = ap (λ (y : Birth). (object_of (with_made s.made j o) y).domain) e ∙ ap (λ (y : Object). y.domain) (object_of-with_made_same s.made j o lane) in
+            absurd (ne (one_holder s j k _ _ own held (sym domain)))
+      ];
   slot = λ q fits held. refl;
 }
 
@@ -114,7 +114,7 @@ other-effect k j s (Make p n) ne lane own =
     let o : Object = record { domain = p.domain; fields = replicate n Nil } in
     let more : State = record s { made = with_made s.made j o } in
     Agrees-then k s more (with_slot more p (Obj (next_birth s.made j))) (other-made k j s o ne lane own.1)
-      (other-put k j more p (Obj (next_birth s.made j)) ne own.0.1 own.1)
+    (other-put k j more p (Obj (next_birth s.made j)) ne own.0.1 own.1)
 
 -- lane k writes a slot in both
 own-put : (k : ℕ) (s t : State) (p : Slot) (v : Value) → Agrees k s t → length s.slots ≡ s.width * length s.holders → length t.slots ≡ t.width * length t.holders → IsSlot (sizes_of s) p → Agrees k (with_slot s p v) (with_slot t p v)
@@ -130,15 +130,16 @@ own-put k s t p v a hs ht fits =
       object = a.object;
       mine = a.mine;
       slot = λ q at held.
-        elim (cases_eq (place_of s.width q) (place_of s.width p)) [
-          inl e ↦
-            let e' : place_of t.width q ≡ place_of t.width p = subst (λ (w : ℕ). place_of w q ≡ place_of w p) (sym a.width) e in
-            ap (λ (x : ℕ). get_or (set t.slots (place_of t.width p) v) x Nil) e' ∙ get_or-set_same t.slots (place_of t.width p) v Nil (place-within t p ht fits')
-            ∙ sym (ap (λ (x : ℕ). get_or (set s.slots (place_of s.width p) v) x Nil) e ∙ get_or-set_same s.slots (place_of s.width p) v Nil (place-within s p hs fits))
-        | inr ne ↦
-            let ne' : place_of t.width q ≡ place_of t.width p → ⊥ = subst (λ (w : ℕ). place_of w q ≡ place_of w p → ⊥) (sym a.width) ne in
-            get_or-set_other t.slots (place_of t.width p) (place_of t.width q) v Nil ne' ∙ a.slot q at held
-            ∙ sym (get_or-set_other s.slots (place_of s.width p) (place_of s.width q) v Nil ne) ];
+          elim (cases_eq (place_of s.width q) (place_of s.width p)) [
+            | inl e ↦
+                let e' : place_of t.width q ≡ place_of t.width p = subst (λ (w : ℕ). place_of w q ≡ place_of w p) (sym a.width) e in
+                ap (λ (x : ℕ). get_or (set t.slots (place_of t.width p) v) x Nil) e' ∙ get_or-set_same t.slots (place_of t.width p) v Nil (place-within t p ht fits')
+                ∙ sym (ap (λ (x : ℕ). get_or (set s.slots (place_of s.width p) v) x Nil) e ∙ get_or-set_same s.slots (place_of s.width p) v Nil (place-within s p hs fits))
+            | inr ne ↦
+                let ne' : place_of t.width q ≡ place_of t.width p → ⊥ = subst (λ (w : ℕ). place_of w q ≡ place_of w p → ⊥) (sym a.width) ne in
+                get_or-set_other t.slots (place_of t.width p) (place_of t.width q) v Nil ne' ∙ a.slot q at held
+                ∙ sym (get_or-set_other s.slots (place_of s.width p) (place_of s.width q) v Nil ne)
+          ];
     }
 
 -- a field
@@ -156,22 +157,23 @@ own-write k s t c i v a born own =
       next = length-made_by-with_object t.made c ot k born' ∙ a.next ∙ sym (length-made_by-with_object s.made c os k born);
       born = λ x m. gt.born x (a.born x (IsBorn-from_with_object s.made c os x born m));
       domain = λ x m.
-        let before = IsBorn-from_with_object s.made c os x born m in
-        gt.domain x (a.born x before) ∙ a.domain x before ∙ sym (gs.domain x before);
+          let before = IsBorn-from_with_object s.made c os x born m in
+          gt.domain x (a.born x before) ∙ a.domain x before ∙ sym (gs.domain x before);
       object = λ x m held.
-        let before = IsBorn-from_with_object s.made c os x born m in
-        elim (cases_birth x c) [
-          inl e ↦
-            ap (λ (y : Birth). object_of (with_object t.made c ot) y) e ∙ object_of-with_object_same t.made c ot born'
-            ∙ ap (λ (y : Object). with_value y i v) (a.object c born own)
-            ∙ sym (ap (λ (y : Birth). object_of (with_object s.made c os) y) e ∙ object_of-with_object_same s.made c os born)
-        | inr ne ↦
-            object_of-with_object_other t.made c ot x born' (a.born x before) ne
-            ∙ a.object x before (subst (λ (d : ℕ). holds s k d ≡ true) (gs.domain x before) held)
-            ∙ sym (object_of-with_object_other s.made c os x born before ne) ];
+          let before = IsBorn-from_with_object s.made c os x born m in
+          elim (cases_birth x c) [
+            | inl e ↦
+                ap (λ (y : Birth). object_of (with_object t.made c ot) y) e ∙ object_of-with_object_same t.made c ot born'
+                ∙ ap (λ (y : Object). with_value y i v) (a.object c born own)
+                ∙ sym (ap (λ (y : Birth). object_of (with_object s.made c os) y) e ∙ object_of-with_object_same s.made c os born)
+            | inr ne ↦
+                object_of-with_object_other t.made c ot x born' (a.born x before) ne
+                ∙ a.object x before (subst (λ (d : ℕ). holds s k d ≡ true) (gs.domain x before) held)
+                ∙ sym (object_of-with_object_other s.made c os x born before ne)
+          ];
       mine = λ x m held.
-        let before = IsBorn-from_with_object t.made c ot x born' m in
-        gs.born x (a.mine x before (subst (λ (d : ℕ). holds s k d ≡ true) (gt.domain x before) held));
+          let before = IsBorn-from_with_object t.made c ot x born' m in
+          gs.born x (a.mine x before (subst (λ (d : ℕ). holds s k d ≡ true) (gt.domain x before) held));
       slot = a.slot;
     }
 
@@ -186,24 +188,28 @@ own-made k s t o a lane =
       lanes = length-with_made t.made k o ∙ a.lanes ∙ sym (length-with_made s.made k o);
       next = omega (arith, ap length (made_by-with_made_same t.made k o lane'), ap length (made_by-with_made_same s.made k o lane), length_push (made_by t.made k) o, length_push (made_by s.made k) o, a.next);
       born = λ x m.
-        elim (IsBorn-from_with_made s.made k o x lane m) [
-          inl before ↦ IsBorn-with_made t.made k o x lane' (a.born x before)
-        | inr e ↦ subst (λ (y : Birth). IsBorn (with_made t.made k o) y) (next ∙ sym e) (IsBorn-next_birth t.made k o lane') ];
+          elim (IsBorn-from_with_made s.made k o x lane m) [
+            | inl before ↦ IsBorn-with_made t.made k o x lane' (a.born x before)
+            | inr e ↦ subst (λ (y : Birth). IsBorn (with_made t.made k o) y) (next ∙ sym e) (IsBorn-next_birth t.made k o lane')
+          ];
       domain = λ x m.
-        elim (IsBorn-from_with_made s.made k o x lane m) [
-          inl before ↦ ap (λ (y : Object). y.domain) (object_of-with_made_other t.made k o x lane' (a.born x before)) ∙ a.domain x before ∙ sym (ap (λ (y : Object). y.domain) (object_of-with_made_other s.made k o x lane before))
-        | inr e ↦ ap (λ (y : Object). y.domain) (new_in s t o a lane x e) ];
+          elim (IsBorn-from_with_made s.made k o x lane m) [
+            | inl before ↦ ap (λ (y : Object). y.domain) (object_of-with_made_other t.made k o x lane' (a.born x before)) ∙ a.domain x before ∙ sym (ap (λ (y : Object). y.domain) (object_of-with_made_other s.made k o x lane before))
+            | inr e ↦ ap (λ (y : Object). y.domain) (new_in s t o a lane x e)
+          ];
       object = λ x m held.
-        elim (IsBorn-from_with_made s.made k o x lane m) [
-          inl before ↦
-            object_of-with_made_other t.made k o x lane' (a.born x before)
-            ∙ a.object x before (subst (λ (y : Object). holds s k y.domain ≡ true) (object_of-with_made_other s.made k o x lane before) held)
-            ∙ sym (object_of-with_made_other s.made k o x lane before)
-        | inr e ↦ new_in s t o a lane x e ];
+          elim (IsBorn-from_with_made s.made k o x lane m) [
+            | inl before ↦
+                object_of-with_made_other t.made k o x lane' (a.born x before)
+                ∙ a.object x before (subst (λ (y : Object). holds s k y.domain ≡ true) (object_of-with_made_other s.made k o x lane before) held)
+                ∙ sym (object_of-with_made_other s.made k o x lane before)
+            | inr e ↦ new_in s t o a lane x e
+          ];
       mine = λ x m held.
-        elim (IsBorn-from_with_made t.made k o x lane' m) [
-          inl before ↦ IsBorn-with_made s.made k o x lane (a.mine x before (subst (λ (y : Object). holds s k y.domain ≡ true) (object_of-with_made_other t.made k o x lane' before) held))
-        | inr e ↦ subst (λ (y : Birth). IsBorn (with_made s.made k o) y) (sym (e ∙ next)) (IsBorn-next_birth s.made k o lane) ];
+          elim (IsBorn-from_with_made t.made k o x lane' m) [
+            | inl before ↦ IsBorn-with_made s.made k o x lane (a.mine x before (subst (λ (y : Object). holds s k y.domain ≡ true) (object_of-with_made_other t.made k o x lane' before) held))
+            | inr e ↦ subst (λ (y : Birth). IsBorn (with_made s.made k o) y) (sym (e ∙ next)) (IsBorn-next_birth s.made k o lane)
+          ];
       slot = a.slot;
     }
   where
@@ -224,4 +230,4 @@ own-effect k s t (Make p n) a hs ht lane own =
     let mt : State = record t { made = with_made t.made k o } in
     let next : next_birth t.made k ≡ next_birth s.made k = ap (λ (n : ℕ). let b : Birth = record { lane = k; serial = n + 1 } in b) a.next in
     subst (λ (b : Birth). Agrees k (with_slot ms p (Obj (next_birth s.made k))) (with_slot mt p (Obj b))) (sym next)
-      (own-put k ms mt p (Obj (next_birth s.made k)) (own-made k s t o a lane) hs.slots ht.slots own.0)
+    (own-put k ms mt p (Obj (next_birth s.made k)) (own-made k s t o a lane) hs.slots ht.slots own.0)

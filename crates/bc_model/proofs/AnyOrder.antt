@@ -1,21 +1,19 @@
 -- The law of any order, and that two steps commute.
-use Rattle.std.proofs.Common.{◌≡◌, ◌≢◌, ℕ, ◌+◌, ◌-◌, ◌<◌, ◌≤◌, Bool, true, false, cond, ◌==◌, List, [], ◌∷◌, length, get_or, map, refl, sym, ap, subst, ◌∙◌, inl, inr, arith, eqb-true, eq-eqb, eq-zero-or-pos}
+use Rattle.std.proofs.Common.{◌≡◌, ◌≢◌, ℕ, ◌+◌, ◌<◌, ◌≤◌, Bool, true, false, cond, ◌==◌, List, [], ◌∷◌, length, get_or, map, refl, sym, ap, subst, ◌∙◌, inl, inr, arith, eqb-true, eq-eqb, eq-zero-or-pos}
 use Rattle.std.specs.List.{AllByRecursion, filter}
-use Rattle.std.proofs.lemmas.Bool.{cases_eq, cases_Bool, ne_eqb}
 use Rattle.bc_model.specs.Consistent.{IsState, sizes_of}
-use Rattle.bc_model.specs.Interleaving.{LaneOp, after_steps, replies_by, ops_by, FitSteps, IsInterleaving, IsAsInOrder, Commute}
-use Rattle.bc_model.specs.Run.{after_ops, replies_to, after_lanes, replies_to_lanes}
+use Rattle.bc_model.specs.Interleaving.{LaneOp, after_steps, ops_by, FitSteps, IsInterleaving, IsAsInOrder, Commute}
+use Rattle.bc_model.specs.Run.{after_ops, replies_to, after_lanes}
 use Rattle.bc_model.specs.State.{State}
 use Rattle.bc_model.specs.Step.{step}
 use Rattle.bc_model.specs.WellFormed.{IsOp}
 use Rattle.bc_model.specs.declared.operations.Op.{Op}
-use Rattle.bc_model.specs.declared.operations.Reply.{Reply}
 use Rattle.bc_model.proofs.Effects.{Agrees, Agrees-itself}
 use Rattle.bc_model.proofs.InOrder.{AloneInOrder, AloneInOrder-lanes, IsState-after_lanes, IsState-after_steps, SameSizes-after_ops}
 use Rattle.bc_model.proofs.Orders.{Alone, Alone-steps, Agrees-other_step, reply-own_step}
 use Rattle.bc_model.proofs.Runs.{at-index}
 use Rattle.bc_model.proofs.SameParts.{same_parts}
-use Rattle.bc_model.proofs.Steps.{SameSizes, SameSizes-step, IsState-step, IsOp-same}
+use Rattle.bc_model.proofs.Steps.{SameSizes-step, IsState-step, IsOp-same}
 
 -- what is among a lane's operations before one more step is among them after it
 ops_by-rest : (P : Op → Type 0) (j : ℕ) (x : LaneOp) (xs : List LaneOp) (t : Bool) → AllByRecursion P (map (λ (y : LaneOp). y.op) (cond t (x ∷ filter (λ (y : LaneOp). y.lane == j) xs) (filter (λ (y : LaneOp). y.lane == j) xs))) → AllByRecursion P (ops_by j xs)
@@ -32,9 +30,9 @@ fit_steps n P (x ∷ xs) below h =
 FitSteps-interleaving : (s : State) (lanes : List (List Op)) (xs : List LaneOp) → IsInterleaving s lanes xs → FitSteps s xs
 FitSteps-interleaving s lanes xs h =
     fit_steps (length s.made) (IsOp (sizes_of s)) xs h.below (λ j within.
-      let inside : j < length lanes = omega (arith, within, h.each) in
-      subst (λ (ops : List Op). AllByRecursion (IsOp (sizes_of s)) ops) (sym (h.ops j inside))
-        (at-index (AllByRecursion (IsOp (sizes_of s))) lanes j [] h.fits inside))
+    let inside : j < length lanes = omega (arith, within, h.each) in
+    subst (λ (ops : List Op). AllByRecursion (IsOp (sizes_of s)) ops) (sym (h.ops j inside))
+    (at-index (AllByRecursion (IsOp (sizes_of s))) lanes j [] h.fits inside))
 
 -- with no lane there is no step
 as_none : (s : State) (lanes : List (List Op)) (xs : List LaneOp) → length s.made ≡ 0 → IsInterleaving s lanes xs → IsAsInOrder s lanes xs
@@ -51,20 +49,20 @@ as_some s lanes xs some hs h =
     let in_steps : (k : ℕ) → k < length s.made → Alone k s s xs = λ k lane. Alone-steps k s s xs (Agrees-itself k s) hs hs lane fits in
     let in_order : (k : ℕ) → k < length s.made → AloneInOrder k k 0 s s lanes = λ k lane. AloneInOrder-lanes k k 0 s s lanes (omega arith) (omega (arith, lane, h.each)) (Agrees-itself k s) hs hs few h.fits in
     let by_steps : (k : ℕ) → k < length s.made → Agrees k (alone k) (after_steps s xs) = λ k lane.
-      subst (λ (ops : List Op). Agrees k (after_ops s k ops) (after_steps s xs)) (h.ops k (omega (arith, lane, h.each))) (in_steps k lane).part in
+    subst (λ (ops : List Op). Agrees k (after_ops s k ops) (after_steps s xs)) (h.ops k (omega (arith, lane, h.each))) (in_steps k lane).part in
     let inside : 0 < length lanes = omega (arith, some, h.each) in
     let sized = SameSizes-after_ops s 0 (get_or lanes 0 []) hs some (at-index (AllByRecursion (IsOp (sizes_of s))) lanes 0 [] h.fits inside) in
     let long : length (after_steps s xs).made ≡ length s.made = (by_steps 0 some).lanes ∙ sized.lanes in
     let long' : length (after_lanes s 0 lanes).made ≡ length s.made = (in_order 0 some).part.lanes ∙ sized.lanes in
     record {
       state = same_parts alone (after_steps s xs) (after_lanes s 0 lanes) (omega (arith, some, long)) (long ∙ sym long')
-        (λ k lane. by_steps k (omega (arith, lane, long)))
-        (λ k lane. (in_order k (omega (arith, lane, long))).part)
-        (IsState-after_steps s xs hs fits)
-        (IsState-after_lanes s 0 lanes hs few h.fits);
+          (λ k lane. by_steps k (omega (arith, lane, long)))
+          (λ k lane. (in_order k (omega (arith, lane, long))).part)
+          (IsState-after_steps s xs hs fits)
+          (IsState-after_lanes s 0 lanes hs few h.fits);
       replies = λ k within.
-        let lane : k < length s.made = omega (arith, within, h.each) in
-        (in_steps k lane).replies ∙ ap (replies_to s k) (h.ops k within) ∙ sym (in_order k lane).replies;
+          let lane : k < length s.made = omega (arith, within, h.each) in
+          (in_steps k lane).replies ∙ ap (replies_to s k) (h.ops k within) ∙ sym (in_order k lane).replies;
     }
 
 pub as_in_order : (s : State) (lanes : List (List Op)) (xs : List LaneOp) → IsState s → IsInterleaving s lanes xs → IsAsInOrder s lanes xs
@@ -95,10 +93,10 @@ commute s j k o p hs lane-j lane-k ne fits-o fits-p =
     let fits-yx : FitSteps s (y ∷ x ∷ []) = ((lane-k, fits-p), ((lane-j, fits-o), tt)) in
     let alone : ℕ → State = λ i. after_ops s i (ops_by i (x ∷ y ∷ [])) in
     let xy : (i : ℕ) → i < length s.made → Agrees i (alone i) (after_steps s (x ∷ y ∷ [])) = λ i lane.
-      (Alone-steps i s s (x ∷ y ∷ []) (Agrees-itself i s) hs hs lane fits-xy).part in
+    (Alone-steps i s s (x ∷ y ∷ []) (Agrees-itself i s) hs hs lane fits-xy).part in
     let yx : (i : ℕ) → i < length s.made → Agrees i (alone i) (after_steps s (y ∷ x ∷ [])) = λ i lane.
-      subst (λ (ops : List Op). Agrees i (after_ops s i ops) (after_steps s (y ∷ x ∷ []))) (sym (ops_by-swap i x y ne))
-        (Alone-steps i s s (y ∷ x ∷ []) (Agrees-itself i s) hs hs lane fits-yx).part in
+    subst (λ (ops : List Op). Agrees i (after_ops s i ops) (after_steps s (y ∷ x ∷ []))) (sym (ops_by-swap i x y ne))
+    (Alone-steps i s s (y ∷ x ∷ []) (Agrees-itself i s) hs hs lane fits-yx).part in
     let same-o = SameSizes-step s j o hs fits-o in
     let same-p = SameSizes-step s k p hs fits-p in
     let st = (step s j o).0 in
@@ -106,18 +104,18 @@ commute s j k o p hs lane-j lane-k ne fits-o fits-p =
     let fits-p' = IsOp-same s st p same-o fits-p in
     let fits-o' = IsOp-same s su o same-p fits-o in
     let long : length (after_steps s (x ∷ y ∷ [])).made ≡ length s.made =
-      ap (λ (u : State). length u.made) (two_steps s x y) ∙ (SameSizes-step st k p (IsState-step s j o hs lane-j fits-o) fits-p').lanes ∙ same-o.lanes in
+    ap (λ (u : State). length u.made) (two_steps s x y) ∙ (SameSizes-step st k p (IsState-step s j o hs lane-j fits-o) fits-p').lanes ∙ same-o.lanes in
     let long' : length (after_steps s (y ∷ x ∷ [])).made ≡ length s.made =
-      ap (λ (u : State). length u.made) (two_steps s y x) ∙ (SameSizes-step su j o (IsState-step s k p hs lane-k fits-p) fits-o').lanes ∙ same-p.lanes in
+    ap (λ (u : State). length u.made) (two_steps s y x) ∙ (SameSizes-step su j o (IsState-step s k p hs lane-k fits-p) fits-o').lanes ∙ same-p.lanes in
     record {
       state =
-        sym (two_steps s x y)
-        ∙ same_parts alone (after_steps s (x ∷ y ∷ [])) (after_steps s (y ∷ x ∷ [])) (omega (arith, lane-j, long)) (long ∙ sym long')
+          sym (two_steps s x y)
+          ∙ same_parts alone (after_steps s (x ∷ y ∷ [])) (after_steps s (y ∷ x ∷ [])) (omega (arith, lane-j, long)) (long ∙ sym long')
           (λ i lane. xy i (omega (arith, lane, long)))
           (λ i lane. yx i (omega (arith, lane, long)))
           (IsState-after_steps s (x ∷ y ∷ []) hs fits-xy)
           (IsState-after_steps s (y ∷ x ∷ []) hs fits-yx)
-        ∙ two_steps s y x;
+          ∙ two_steps s y x;
       first = reply-own_step j s su o (Agrees-other_step j k s s p (Agrees-itself j s) hs ne' lane-k fits-p) hs fits-o;
       second = reply-own_step k s st p (Agrees-other_step k j s s o (Agrees-itself k s) hs ne lane-j fits-o) hs fits-p;
     }

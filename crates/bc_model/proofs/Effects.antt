@@ -73,13 +73,13 @@ Same-on_object k s t Nil f g a hv h = Same-keep k s t reply.NotObj reply.NotObj 
 Same-on_object k s t (Num n) f g a hv h = Same-keep k s t reply.NotObj reply.NotObj refl
 Same-on_object k s t (Obj b) f g a hv h =
     Same-if k s t reply.Foreign (f b) (g b) (holds s k (object_of s.made b).domain) (holds t k (object_of t.made b).domain)
-      (ap₂ (λ (hs : List ℕ) (d : ℕ). slice_index_or hs d 0 == k) a.holders (a.domain b hv))
-      (h b hv)
+    (ap₂ (λ (hs : List ℕ) (d : ℕ). slice_index_or hs d 0 == k) a.holders (a.domain b hv))
+    (h b hv)
 
 Same-on_field : (k : ℕ) (s t : State) (v : Value) (i : ℕ) (f g : Birth → State × Reply) → Agrees k s t → IsValue s.made v → ((b : Birth) → IsBorn s.made b → holds s k (object_of s.made b).domain ≡ true → Same k s t (f b) (g b)) → Same k s t (on_field s k v i f) (on_field t k v i g)
 Same-on_field k s t v i f g a hv h =
     Same-on_object k s t v _ _ a hv (λ b born held.
-      Same-if k s t reply.Range (f b) (g b) _ _ (ap (λ (o : Object). nat_lt i (length o.fields)) (a.object b born held)) (λ _. h b born held))
+    Same-if k s t reply.Range (f b) (g b) _ _ (ap (λ (o : Object). nat_lt i (length o.fields)) (a.object b born held)) (λ _. h b born held))
 
 told-same : (k : ℕ) (s t : State) (v : Value) → Agrees k s t → IsValue s.made v → told t k v ≡ told s k v
 told-same k s t Nil a hv = refl
@@ -100,37 +100,37 @@ Same-act k s t (op.Who p) a hs ho held =
     Same-keep k s t _ _ (ap (told t k) (a.slot p ho (and_parts _ _ held).0) ∙ told-same k s t (slot_of s p) a (hs.values _))
 Same-act k s t (op.Len p) a hs ho held =
     subst (λ (v : Value). Same k s t (act s k (op.Len p)) (on_object t k v (λ b. (t, reply.Len (length (object_of t.made b).fields))))) (sym (a.slot p ho (and_parts _ _ held).0))
-      (Same-on_object k s t (slot_of s p) _ _ a (hs.values _) (λ b born mine.
-        Same-keep k s t _ _ (ap (λ (o : Object). reply.Len (length o.fields)) (a.object b born mine))))
+    (Same-on_object k s t (slot_of s p) _ _ a (hs.values _) (λ b born mine.
+    Same-keep k s t _ _ (ap (λ (o : Object). reply.Len (length o.fields)) (a.object b born mine))))
 Same-act k s t (op.Set p i v) a hs ho held =
     subst (λ (x : Value). Same k s t (act s k (op.Set p i v)) (on_field t k x i (λ b. (with_field t b i (Num v), reply.Done)))) (sym (a.slot p ho.0 (and_parts _ _ held).0))
-      (Same-on_field k s t (slot_of s p) i _ _ a (hs.values _) (λ b born mine.
-        record { effect = Write b i (Num v); answer = reply.Done; own = (born, mine, ho.2); here = refl; there = refl }))
+    (Same-on_field k s t (slot_of s p) i _ _ a (hs.values _) (λ b born mine.
+    record { effect = Write b i (Num v); answer = reply.Done; own = (born, mine, ho.2); here = refl; there = refl }))
 Same-act k s t (op.Cut p i) a hs ho held =
     subst (λ (x : Value). Same k s t (act s k (op.Cut p i)) (on_field t k x i (λ b. (with_field t b i Nil, reply.Done)))) (sym (a.slot p ho.0 (and_parts _ _ held).0))
-      (Same-on_field k s t (slot_of s p) i _ _ a (hs.values _) (λ b born mine.
-        record { effect = Write b i Nil; answer = reply.Done; own = (born, mine, tt); here = refl; there = refl }))
+    (Same-on_field k s t (slot_of s p) i _ _ a (hs.values _) (λ b born mine.
+    record { effect = Write b i Nil; answer = reply.Done; own = (born, mine, tt); here = refl; there = refl }))
 Same-act k s t (op.Link p i q) a hs ho held =
     let from = a.slot q ho.2 (and_parts _ _ (and_parts _ _ held).1).0 in
     subst (λ (x : Value). Same k s t (act s k (op.Link p i q)) (on_field t k x i (λ b. (with_field t b i (slot_of t q), reply.Done)))) (sym (a.slot p ho.0 (and_parts _ _ held).0))
-      (Same-on_field k s t (slot_of s p) i _ _ a (hs.values _) (λ b born mine.
-        record {
-          effect = Write b i (slot_of s q);
-          answer = reply.Done;
-          own = (born, mine, hs.values _);
-          here = refl;
-          there = ap (λ (x : Value). (with_field t b i x, reply.Done)) from;
-        }))
+    (Same-on_field k s t (slot_of s p) i _ _ a (hs.values _) (λ b born mine.
+    record {
+      effect = Write b i (slot_of s q);
+      answer = reply.Done;
+      own = (born, mine, hs.values _);
+      here = refl;
+      there = ap (λ (x : Value). (with_field t b i x, reply.Done)) from;
+    }))
 Same-act k s t (op.Load p i q) a hs ho held =
     subst (λ (x : Value). Same k s t (act s k (op.Load p i q)) (on_field t k x i (λ b. (with_slot t q (field_of t b i), loaded (field_of t b i))))) (sym (a.slot p ho.0 (and_parts _ _ held).0))
-      (Same-on_field k s t (slot_of s p) i _ _ a (hs.values _) (λ b born mine.
-        record {
-          effect = Put q (field_of s b i);
-          answer = loaded (field_of s b i);
-          own = (ho.2, (and_parts _ _ (and_parts _ _ held).1).0, (hs.objects b born).values i);
-          here = refl;
-          there = ap (λ (o : Object). (with_slot t q (slice_index_or o.fields i Nil), loaded (slice_index_or o.fields i Nil))) (a.object b born mine);
-        }))
+    (Same-on_field k s t (slot_of s p) i _ _ a (hs.values _) (λ b born mine.
+    record {
+      effect = Put q (field_of s b i);
+      answer = loaded (field_of s b i);
+      own = (ho.2, (and_parts _ _ (and_parts _ _ held).1).0, (hs.objects b born).values i);
+      here = refl;
+      there = ap (λ (o : Object). (with_slot t q (slice_index_or o.fields i Nil), loaded (slice_index_or o.fields i Nil))) (a.object b born mine);
+    }))
 Same-act k s t (op.Copy p q) a hs ho held = record {
   effect = Put q (slot_of s p);
   answer = reply.Done;
@@ -147,14 +147,14 @@ Same-act k s t (op.Clear p) a hs ho held = record {
 }
 Same-act k s t (op.Same p q) a hs ho held =
     Same-keep k s t _ _ (ap₂ (λ (x y : Value). if is_same x y then reply.Yes else reply.No)
-      (a.slot p ho.0 (and_parts _ _ held).0) (a.slot q ho.1 (and_parts _ _ (and_parts _ _ held).1).0))
+    (a.slot p ho.0 (and_parts _ _ held).0) (a.slot q ho.1 (and_parts _ _ (and_parts _ _ held).1).0))
 
 -- a step of a lane, from two states that agree on its part
 pub Same-step : (k : ℕ) (s t : State) (o : Op) → Agrees k s t → IsState s → IsOp (sizes_of s) o → Same k s t (step s k o) (step t k o)
 Same-step k s t o a hs ho =
     Same-if k s t reply.Foreign (act s k o) (act t k o) (list_all (holds s k) (domains_of o)) (list_all (holds t k) (domains_of o))
-      (ap (λ (h : List ℕ). list_all (λ d. slice_index_or h d 0 == k) (domains_of o)) a.holders)
-      (Same-act k s t o a hs ho)
+    (ap (λ (h : List ℕ). list_all (λ d. slice_index_or h d 0 == k) (domains_of o)) a.holders)
+    (Same-act k s t o a hs ho)
 
 pub Agrees-itself : (k : ℕ) (s : State) → Agrees k s s
 Agrees-itself k s = record {

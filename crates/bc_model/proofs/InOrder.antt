@@ -1,22 +1,17 @@
 -- Lane after lane: each lane runs as if it were alone.
-use Rattle.std.proofs.Common.{◌≡◌, ◌≢◌, ℕ, ◌+◌, ◌-◌, ◌*◌, ◌/◌, ◌%◌, ◌<◌, ◌≤◌, Bool, true, false, cond, ◌==◌, zero, suc, List, [], ◌∷◌, ◌++◌, length, get_or, map, slice_index_or, slice_index, refl, sym, ap, subst, ◌∙◌, inl, inr, arith, ext_get_or, eqb-true, eq-eqb, add-one, add-zero, mul_comm}
-use Rattle.std.specs.List.{AllByRecursion, filter}
-use Rattle.std.proofs.lemmas.Bool.{cases_eq, cases_Bool}
+use Rattle.std.proofs.Common.{◌≡◌, ◌≢◌, ℕ, ◌+◌, ◌<◌, ◌≤◌, zero, suc, List, [], ◌∷◌, length, get_or, refl, sym, ap, subst, ◌∙◌, arith}
+use Rattle.std.specs.List.{AllByRecursion}
 use Rattle.bc_model.specs.Consistent.{IsState, sizes_of}
-use Rattle.bc_model.specs.Interleaving.{LaneOp, after_steps, replies_by, ops_by, FitSteps, IsInterleaving, IsAsInOrder}
+use Rattle.bc_model.specs.Interleaving.{LaneOp, after_steps, FitSteps}
 use Rattle.bc_model.specs.Run.{after_ops, replies_to, after_lanes, replies_to_lanes}
-use Rattle.bc_model.specs.State.{State, Object, IsBorn, made_by, object_of, no_object, slot_of, place_of, holds}
+use Rattle.bc_model.specs.State.{State}
 use Rattle.bc_model.specs.Step.{step}
-use Rattle.bc_model.specs.WellFormed.{IsSlot, IsOp}
+use Rattle.bc_model.specs.WellFormed.{IsOp}
 use Rattle.bc_model.specs.declared.operations.Op.{Op}
 use Rattle.bc_model.specs.declared.operations.Reply.{Reply}
 use Rattle.bc_model.specs.declared.traces.Setup.{Setup}
-use Rattle.bc_model.specs.declared.values.Birth.{Birth}
-use Rattle.bc_model.specs.declared.values.Slot.{Slot}
-use Rattle.bc_model.specs.declared.values.Value.TheVariants.{Nil}
-use Rattle.bc_model.proofs.Effects.{Agrees, Agrees-itself}
-use Rattle.bc_model.proofs.Orders.{Agrees-other_step, Agrees-own_step, reply-own_step, Alone, Alone-steps, FitSteps-step, SameSizes-agreeing}
-use Rattle.bc_model.proofs.States.{same_state}
+use Rattle.bc_model.proofs.Effects.{Agrees}
+use Rattle.bc_model.proofs.Orders.{Agrees-other_step, Agrees-own_step, reply-own_step, FitSteps-step, SameSizes-agreeing}
 use Rattle.bc_model.proofs.Steps.{SameSizes, SameSizes-itself, SameSizes-then, SameSizes-step, sizes_of-same, IsState-step, IsOp-same, IsOps-same}
 
 -- after a lane's operations
@@ -33,7 +28,7 @@ SameSizes-after_ops s j [] hs lane fits = SameSizes-itself s
 SameSizes-after_ops s j (o ∷ ops) hs lane fits =
     let same = SameSizes-step s j o hs fits.0 in
     SameSizes-then s (step s j o).0 (after_ops (step s j o).0 j ops) same
-      (SameSizes-after_ops (step s j o).0 j ops (IsState-step s j o hs lane fits.0) (omega (arith, lane, same.lanes)) (IsOps-same s (step s j o).0 ops same fits.1))
+    (SameSizes-after_ops (step s j o).0 j ops (IsState-step s j o hs lane fits.0) (omega (arith, lane, same.lanes)) (IsOps-same s (step s j o).0 ops same fits.1))
 
 Agrees-other_ops : (k j : ℕ) (a b : State) (ops : List Op) → Agrees k a b → IsState b → j ≢ k → j < length b.made → AllByRecursion (IsOp (sizes_of b)) ops → Agrees k a (after_ops b j ops)
 unfolding after_ops
@@ -52,7 +47,7 @@ Agrees-own_ops k a b (o ∷ ops) h ha hb lane fits =
     (rest.0, ap (λ (r : Reply). r ∷ replies_to (step b k o).0 k ops) (reply-own_step k a b o h ha fits.0) ∙ ap (λ (rs : List Reply). (step a k o).1 ∷ rs) rest.1)
 
 -- the lists of all lanes fit a state of the same sizes
-FitLanes-same : (s t : State) (lanes : List (List Op)) → SameSizes s t → AllByRecursion (AllByRecursion (IsOp (sizes_of s))) lanes → AllByRecursion (AllByRecursion (IsOp (sizes_of t))) lanes
+pub FitLanes-same : (s t : State) (lanes : List (List Op)) → SameSizes s t → AllByRecursion (AllByRecursion (IsOp (sizes_of s))) lanes → AllByRecursion (AllByRecursion (IsOp (sizes_of t))) lanes
 FitLanes-same s t lanes same h = subst (λ (z : Setup). AllByRecursion (AllByRecursion (IsOp z)) lanes) (sym (sizes_of-same s t same)) h
 
 -- after the operations of the lanes from j on
@@ -90,7 +85,7 @@ AloneInOrder-lanes k zero j a b (ops ∷ lanes) at within h ha hb few fits =
     let same = SameSizes-after_ops b k ops hb lane fits.0 in
     record {
       part =
-        subst (λ (l : ℕ). Agrees k (after_ops a k ops) (after_lanes (after_ops b l ops) (l + 1) lanes)) is
+          subst (λ (l : ℕ). Agrees k (after_ops a k ops) (after_lanes (after_ops b l ops) (l + 1) lanes)) is
           (Agrees-other_lanes k (k + 1) (after_ops a k ops) (after_ops b k ops) lanes (omega arith) own.0 (IsState-after_ops b k ops hb lane fits.0) (omega (arith, few, is, same.lanes)) (FitLanes-same b (after_ops b k ops) lanes same fits.1));
       replies = ap (λ (l : ℕ). replies_to b l ops) (sym is) ∙ own.1;
     }

@@ -13,3 +13,4 @@ pub mod SameParts
 pub mod AnyOrder
 pub mod StepLaws
 pub mod Needs
+pub mod RunStates

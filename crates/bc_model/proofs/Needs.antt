@@ -1,9 +1,9 @@
 -- Reached by paths; one need; rounding up.
-use Rattle.std.proofs.Common.{◌≡◌, ℕ, ◌+◌, ◌-◌, ◌*◌, ◌/◌, ◌≤◌, ◌⊎◌, ◌↔◌, cond, List, [], ◌∷◌, ◌++◌, length, get_or, refl, sym, ap, subst, ◌∙◌, inl, inr, arith}
+use Rattle.std.proofs.Common.{◌≡◌, ℕ, ◌+◌, ◌-◌, ◌*◌, ◌/◌, ◌≤◌, ◌↔◌, cond, List, [], ◌∷◌, ◌++◌, length, get_or, refl, sym, ap, subst, ◌∙◌, inl, inr, arith}
 use Rattle.std.proofs.Math.Path.{fun_ext}
 use Rattle.bc_classes.specs.Classes.{IsClass, cap}
-use Rattle.bc_reach.specs.Distinct.{Has, Distinct, HasSame}
-use Rattle.bc_reach.specs.Reach.{Reach, begin, onward}
+use Rattle.bc_reach.specs.Distinct.{HasSame}
+use Rattle.bc_reach.specs.Reach.{begin, onward}
 use Rattle.bc_reach.proofs.Reaching.{Reach-least}
 use Rattle.bc_reach.proofs.Sums.{same_sums}
 use Rattle.bc_model.specs.Need.{IsNeed, is_of, need_of, count_of, superpages_for}
@@ -21,16 +21,18 @@ value_along-append made (Num n) (x ∷ path) i = refl
 
 -- one field more
 path-onward : (slots : List Value) (made : List (List Object)) (a b : Birth) → HasPath slots made a → FieldHolds made a b → HasPath slots made b
-path-onward slots made a b h e =
-    (h.0, h.1 ++ e.0 ∷ [],
-     value_along-append made (get_or slots h.0 Nil) h.1 e.0 ∙ ap (λ (v : Value). value_along made v (e.0 ∷ [])) h.2 ∙ e.1)
+path-onward slots made a b h e = (
+  h.0,
+  h.1 ++ e.0 ∷ [],
+  value_along-append made (get_or slots h.0 Nil) h.1 e.0 ∙ ap (λ (v : Value). value_along made v (e.0 ∷ [])) h.2 ∙ e.1,
+)
 
 pub HasPath-reached : (slots : List Value) (made : List (List Object)) (b : Birth) → Reached slots made b → HasPath slots made b
 HasPath-reached slots made b h =
     Reach-least (Holds slots) (FieldHolds made) (HasPath slots made)
-      (λ a k. (k.0, [], k.1))
-      (λ x y _ k e. path-onward slots made x y k e)
-      b h
+    (λ a k. (k.0, [], k.1))
+    (λ x y _ k e. path-onward slots made x y k e)
+    b h
 
 -- past a value that is no object a path leads to nil
 not_object : {X : Type 0} (b : Birth) → Nil ≡ Obj b → X
@@ -53,7 +55,7 @@ pub IsNeed-unique : (s : State) (m n : ℕ) → IsNeed s m → IsNeed s n → m 
 IsNeed-unique s m n h k =
     let same : HasSame h.births k.births = λ b. (λ x. (k.members b).1 ((h.members b).0 x), λ x. (h.members b).1 ((k.members b).0 x)) in
     let counts : count_of s.made h.births ≡ count_of s.made k.births =
-      fun_ext (λ d. fun_ext (λ c. same_sums (λ (b : Birth). cond (is_of d c (object_of s.made b)) 1 0) h.births k.births h.distinct k.distinct same)) in
+    fun_ext (λ d. fun_ext (λ c. same_sums (λ (b : Birth). cond (is_of d c (object_of s.made b)) 1 0) h.births k.births h.distinct k.distinct same)) in
     h.need ∙ ap (need_of (length s.holders)) counts ∙ sym k.need
 
 -- at each of the classes

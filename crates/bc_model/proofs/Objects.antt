@@ -23,9 +23,10 @@ made_by-set_other made j k xs ne = get_or-set_other made j k xs [] ne
 pub length-made_by-with_object : (made : List (List Object)) (c : Birth) (o : Object) (j : ℕ) → IsBorn made c → length (made_by (with_object made c o) j) ≡ length (made_by made j)
 length-made_by-with_object made c o j h =
     elim (cases_eq j c.lane) [
-      inl e ↦ subst (λ (k : ℕ). length (made_by (with_object made c o) k) ≡ length (made_by made k)) (sym e)
-        (ap length (made_by-set_same made c.lane _ h.lane) ∙ length-set (made_by made c.lane) (c.serial - 1) o)
-    | inr ne ↦ ap length (made_by-set_other made c.lane j _ ne) ]
+      | inl e ↦ subst (λ (k : ℕ). length (made_by (with_object made c o) k) ≡ length (made_by made k)) (sym e)
+          (ap length (made_by-set_same made c.lane _ h.lane) ∙ length-set (made_by made c.lane) (c.serial - 1) o)
+      | inr ne ↦ ap length (made_by-set_other made c.lane j _ ne)
+    ]
 
 pub IsBorn-with_object : (made : List (List Object)) (c : Birth) (o : Object) (b : Birth) → IsBorn made c → IsBorn made b → IsBorn (with_object made c o) b
 IsBorn-with_object made c o b h k = record {
@@ -49,22 +50,25 @@ object_of-with_object_same made c o h =
 pub object_of-with_object_other : (made : List (List Object)) (c : Birth) (o : Object) (b : Birth) → IsBorn made c → IsBorn made b → (b ≡ c → ⊥) → object_of (with_object made c o) b ≡ object_of made b
 object_of-with_object_other made c o b h k ne =
     elim (cases_eq b.lane c.lane) [
-      inl e ↦
-        let apart : b.serial - 1 ≡ c.serial - 1 → ⊥ = λ f. ne (same_birth b c e (omega (arith, f, h.positive, k.positive))) in
-        ap (λ (l : ℕ). get_or (made_by (with_object made c o) l) (b.serial - 1) no_object) e
-        ∙ ap (λ (xs : List Object). get_or xs (b.serial - 1) no_object) (made_by-set_same made c.lane (set (made_by made c.lane) (c.serial - 1) o) h.lane)
-        ∙ get_or-set_other (made_by made c.lane) (c.serial - 1) (b.serial - 1) o no_object apart
-        ∙ ap (λ (l : ℕ). get_or (made_by made l) (b.serial - 1) no_object) (sym e)
-    | inr f ↦ ap (λ (xs : List Object). get_or xs (b.serial - 1) no_object) (made_by-set_other made c.lane b.lane (set (made_by made c.lane) (c.serial - 1) o) f) ]
+      | inl e ↦
+          let apart : b.serial - 1 ≡ c.serial - 1 → ⊥ = λ f. ne (same_birth b c e (omega (arith, f, h.positive, k.positive))) in
+          ap (λ (l : ℕ). get_or (made_by (with_object made c o) l) (b.serial - 1) no_object) e
+          ∙ ap (λ (xs : List Object). get_or xs (b.serial - 1) no_object) (made_by-set_same made c.lane (set (made_by made c.lane) (c.serial - 1) o) h.lane)
+          ∙ get_or-set_other (made_by made c.lane) (c.serial - 1) (b.serial - 1) o no_object apart
+          ∙ ap (λ (l : ℕ). get_or (made_by made l) (b.serial - 1) no_object) (sym e)
+      | inr f ↦ ap (λ (xs : List Object). get_or xs (b.serial - 1) no_object) (made_by-set_other made c.lane b.lane (set (made_by made c.lane) (c.serial - 1) o) f)
+    ]
 
 -- two births are one or not
 pub cases_birth : (b c : Birth) → (b ≡ c) ⊎ (b ≡ c → ⊥)
 cases_birth b c =
     elim (cases_eq b.lane c.lane) [
-      inl e ↦ elim (cases_eq b.serial c.serial) [
-        inl f ↦ inl (same_birth b c e f)
-      | inr f ↦ inr (λ g. f (ap (λ (x : Birth). x.serial) g)) ]
-    | inr e ↦ inr (λ g. e (ap (λ (x : Birth). x.lane) g)) ]
+      | inl e ↦ elim (cases_eq b.serial c.serial) [
+        | inl f ↦ inl (same_birth b c e f)
+        | inr f ↦ inr (λ g. f (ap (λ (x : Birth). x.serial) g))
+      ]
+      | inr e ↦ inr (λ g. e (ap (λ (x : Birth). x.lane) g))
+    ]
 
 -- a new object: its lane has made one more, the others as many as before
 pub made_by-with_made_same : (made : List (List Object)) (j : ℕ) (o : Object) → j < length made → made_by (with_made made j o) j ≡ made_by made j ++ o ∷ []
@@ -81,10 +85,11 @@ IsBorn-with_made made j o b h k = record {
   lane = omega (arith, k.lane, length-with_made made j o);
   positive = k.positive;
   serial = elim (cases_eq b.lane j) [
-    inl e ↦ subst (λ (l : ℕ). b.serial < length (made_by (with_made made j o) l) + 1) (sym e)
-      (let same : b.serial < length (made_by made j) + 1 = subst (λ (l : ℕ). b.serial < length (made_by made l) + 1) e k.serial in
-       omega (arith, same, ap length (made_by-with_made_same made j o h), length_push (made_by made j) o))
-  | inr ne ↦ omega (arith, k.serial, ap length (made_by-with_made_other made j b.lane o ne)) ];
+    | inl e ↦ subst (λ (l : ℕ). b.serial < length (made_by (with_made made j o) l) + 1) (sym e)
+        (let same : b.serial < length (made_by made j) + 1 = subst (λ (l : ℕ). b.serial < length (made_by made l) + 1) e k.serial in
+        omega (arith, same, ap length (made_by-with_made_same made j o h), length_push (made_by made j) o))
+    | inr ne ↦ omega (arith, k.serial, ap length (made_by-with_made_other made j b.lane o ne))
+  ];
 }
 
 pub IsBorn-next_birth : (made : List (List Object)) (j : ℕ) (o : Object) → j < length made → IsBorn (with_made made j o) (next_birth made j)
@@ -99,22 +104,24 @@ pub IsBorn-from_with_made : (made : List (List Object)) (j : ℕ) (o : Object) (
 IsBorn-from_with_made made j o b h k =
     let lane : b.lane < length made = omega (arith, k.lane, length-with_made made j o) in
     elim (cases_eq b.lane j) [
-      inl e ↦
-        let below : b.serial < length (made_by made j) + 1 + 1 =
+      | inl e ↦
+          let below : b.serial < length (made_by made j) + 1 + 1 =
           (let at : b.serial < length (made_by (with_made made j o) j) + 1 = subst (λ (l : ℕ). b.serial < length (made_by (with_made made j o) l) + 1) e k.serial in
-           omega (arith, at, ap length (made_by-with_made_same made j o h), length_push (made_by made j) o)) in
-        elim (cases_eq b.serial (length (made_by made j) + 1)) [
-          inl f ↦ inr (same_birth b (next_birth made j) e f)
-        | inr f ↦ inl (record {
-            lane = lane;
-            positive = k.positive;
-            serial = subst (λ (l : ℕ). b.serial < length (made_by made l) + 1) (sym e) (omega (arith, below, f));
-          }) ]
-    | inr ne ↦ inl (record {
+          omega (arith, at, ap length (made_by-with_made_same made j o h), length_push (made_by made j) o)) in
+          elim (cases_eq b.serial (length (made_by made j) + 1)) [
+            | inl f ↦ inr (same_birth b (next_birth made j) e f)
+            | inr f ↦ inl (record {
+              lane = lane;
+              positive = k.positive;
+              serial = subst (λ (l : ℕ). b.serial < length (made_by made l) + 1) (sym e) (omega (arith, below, f));
+            })
+          ]
+      | inr ne ↦ inl (record {
         lane = lane;
         positive = k.positive;
         serial = omega (arith, k.serial, ap length (made_by-with_made_other made j b.lane o ne));
-      }) ]
+      })
+    ]
 
 pub object_of-with_made_same : (made : List (List Object)) (j : ℕ) (o : Object) → j < length made → object_of (with_made made j o) (next_birth made j) ≡ o
 object_of-with_made_same made j o h =
@@ -124,12 +131,13 @@ object_of-with_made_same made j o h =
 pub object_of-with_made_other : (made : List (List Object)) (j : ℕ) (o : Object) (b : Birth) → j < length made → IsBorn made b → object_of (with_made made j o) b ≡ object_of made b
 object_of-with_made_other made j o b h k =
     elim (cases_eq b.lane j) [
-      inl e ↦
-        let within : b.serial - 1 < length (made_by made j) =
+      | inl e ↦
+          let within : b.serial - 1 < length (made_by made j) =
           (let at : b.serial < length (made_by made j) + 1 = subst (λ (l : ℕ). b.serial < length (made_by made l) + 1) e k.serial in
-           omega (arith, at, k.positive)) in
-        ap (λ (l : ℕ). get_or (made_by (with_made made j o) l) (b.serial - 1) no_object) e
-        ∙ ap (λ (xs : List Object). get_or xs (b.serial - 1) no_object) (made_by-with_made_same made j o h)
-        ∙ get_or_append_left (made_by made j) (o ∷ []) no_object (b.serial - 1) within
-        ∙ ap (λ (l : ℕ). get_or (made_by made l) (b.serial - 1) no_object) (sym e)
-    | inr ne ↦ ap (λ (xs : List Object). get_or xs (b.serial - 1) no_object) (made_by-with_made_other made j b.lane o ne) ]
+          omega (arith, at, k.positive)) in
+          ap (λ (l : ℕ). get_or (made_by (with_made made j o) l) (b.serial - 1) no_object) e
+          ∙ ap (λ (xs : List Object). get_or xs (b.serial - 1) no_object) (made_by-with_made_same made j o h)
+          ∙ get_or_append_left (made_by made j) (o ∷ []) no_object (b.serial - 1) within
+          ∙ ap (λ (l : ℕ). get_or (made_by made l) (b.serial - 1) no_object) (sym e)
+      | inr ne ↦ ap (λ (xs : List Object). get_or xs (b.serial - 1) no_object) (made_by-with_made_other made j b.lane o ne)
+    ]

@@ -18,8 +18,9 @@ length-numbers_below (suc n) = omega (arith, length_push (numbers_below n) n, le
 pub made_by-opening : (n j : ℕ) → made_by (replicate n []) j ≡ []
 made_by-opening n j =
     elim (cases_lt j n) [
-      inl within ↦ get_or-replicate n j [] [] within
-    | inr past ↦ get_or_past (replicate n []) j [] (let e = length-replicate {A = List Object} n [] in omega (arith, past, e)) ]
+      | inl within ↦ get_or-replicate n j [] [] within
+      | inr past ↦ get_or_past (replicate n []) j [] (let e = length-replicate {A = List Object} n [] in omega (arith, past, e))
+    ]
 
 length-holders : (s : Setup) → length (opening s).holders ≡ s.domains
 length-holders s = length-map (numbers_below s.domains) (λ d. d % s.lanes) ∙ length-numbers_below s.domains
@@ -42,9 +43,9 @@ IsState-opening s h = record {
   values = AreValues-nil (opening s).made (s.slots * s.domains);
   objects = λ b born. absurd (omega (arith, born.serial, born.positive, ap length (made_by-opening s.lanes b.lane)));
   holders = λ d within.
-    let positive : 0 < s.lanes = omega (arith, h.lanes.0) in
-    let at : d < length (numbers_below s.domains) = omega (arith, within, length-map (numbers_below s.domains) (λ d. d % s.lanes)) in
-    let value = get_or-map (λ d. d % s.lanes) (numbers_below s.domains) d 0 0 at in
-    let low : get_or (numbers_below s.domains) d 0 % s.lanes < s.lanes = omega (arith, positive) in
-    omega (arith, value, low, length-lanes s);
+      let positive : 0 < s.lanes = omega (arith, h.lanes.0) in
+      let at : d < length (numbers_below s.domains) = omega (arith, within, length-map (numbers_below s.domains) (λ d. d % s.lanes)) in
+      let value = get_or-map (λ d. d % s.lanes) (numbers_below s.domains) d 0 0 at in
+      let low : get_or (numbers_below s.domains) d 0 % s.lanes < s.lanes = omega (arith, positive) in
+      omega (arith, value, low, length-lanes s);
 }

@@ -1,11 +1,10 @@
 -- States of which every lane's part is the same are the same.
-use Rattle.std.proofs.Common.{◌≡◌, ◌≢◌, ℕ, ◌+◌, ◌-◌, ◌*◌, ◌/◌, ◌%◌, ◌<◌, ◌≤◌, Bool, true, false, ◌==◌, List, [], ◌∷◌, length, get_or, slice_index_or, refl, sym, ap, subst, ◌∙◌, inl, inr, arith, ext_get_or, eq-eqb, mul_comm, eq-zero-or-pos, div-lt_iff_lt-mul}
+use Rattle.std.proofs.Common.{◌≡◌, ℕ, ◌+◌, ◌-◌, ◌*◌, ◌/◌, ◌%◌, ◌<◌, true, ◌==◌, List, [], length, get_or, slice_index_or, refl, sym, ap, subst, ◌∙◌, inl, inr, arith, ext_get_or, eq-eqb, mul_comm, eq-zero-or-pos, div-lt_iff_lt-mul}
 use Rattle.bc_model.specs.Consistent.{IsState, sizes_of}
-use Rattle.bc_model.specs.State.{State, Object, IsBorn, made_by, object_of, no_object, slot_of, place_of, holds}
+use Rattle.bc_model.specs.State.{State, Object, IsBorn, made_by, object_of, no_object, slot_of, holds}
 use Rattle.bc_model.specs.WellFormed.{IsSlot}
 use Rattle.bc_model.specs.declared.values.Birth.{Birth}
 use Rattle.bc_model.specs.declared.values.Slot.{Slot}
-use Rattle.bc_model.specs.declared.values.Value.{Value}
 use Rattle.bc_model.specs.declared.values.Value.TheVariants.{Nil}
 use Rattle.bc_model.proofs.Effects.{Agrees}
 use Rattle.bc_model.proofs.States.{same_state}
@@ -33,35 +32,36 @@ same-object alone x y b hx hy sx born =
 same-made : (alone : ℕ → State) (x y : State) → ((k : ℕ) → k < length x.made → Agrees k (alone k) x) → ((k : ℕ) → k < length x.made → Agrees k (alone k) y) → IsState x → length x.made ≡ length y.made → x.made ≡ y.made
 same-made alone x y hx hy sx lanes =
     ext_get_or [] x.made y.made lanes (λ l within.
-      let count : length (made_by x.made l) ≡ length (made_by y.made l) = (hx l within).next ∙ sym (hy l within).next in
-      ext_get_or no_object (made_by x.made l) (made_by y.made l) count (λ i inside.
-        let b : Birth = record { lane = l; serial = i + 1 } in
-        let born : IsBorn x.made b = record { lane = within; positive = omega arith; serial = omega arith } in
-        let at : i ≡ i + 1 - 1 = omega arith in
-        subst (λ (n : ℕ). get_or (made_by x.made l) n no_object ≡ get_or (made_by y.made l) n no_object) (sym at)
-          (same-object alone x y b hx hy sx born)))
+    let count : length (made_by x.made l) ≡ length (made_by y.made l) = (hx l within).next ∙ sym (hy l within).next in
+    ext_get_or no_object (made_by x.made l) (made_by y.made l) count (λ i inside.
+    let b : Birth = record { lane = l; serial = i + 1 } in
+    let born : IsBorn x.made b = record { lane = within; positive = omega arith; serial = omega arith } in
+    let at : i ≡ i + 1 - 1 = omega arith in
+    subst (λ (n : ℕ). get_or (made_by x.made l) n no_object ≡ get_or (made_by y.made l) n no_object) (sym at)
+    (same-object alone x y b hx hy sx born)))
 
 -- the slot that stands at a place
 slot-at : (width n i : ℕ) → i < width * n → (d : ℕ) × (p : ℕ) × (d < n) × (p < width) × (i ≡ width * d + p)
 slot-at width n i h =
     elim (eq-zero-or-pos width) [
-      inl e ↦ absurd (omega (arith, subst (λ (w : ℕ). i < w * n) e h))
-    | inr pos ↦ (i / width, i % width, omega (arith, (div-lt_iff_lt-mul pos).1 (subst (λ (m : ℕ). i < m) (mul_comm width n) h)), omega arith, omega arith) ]
+      | inl e ↦ absurd (omega (arith, subst (λ (w : ℕ). i < w * n) e h))
+      | inr pos ↦ (i / width, i % width, omega (arith, (div-lt_iff_lt-mul pos).1 (subst (λ (m : ℕ). i < m) (mul_comm width n) h)), omega arith, omega arith)
+    ]
 
 same-slots : (alone : ℕ → State) (x y : State) → ((k : ℕ) → k < length x.made → Agrees k (alone k) x) → ((k : ℕ) → k < length x.made → Agrees k (alone k) y) → IsState x → IsState y → x.width ≡ y.width → x.holders ≡ y.holders → x.slots ≡ y.slots
 same-slots alone x y hx hy sx sy width holders =
     let many : length x.slots ≡ length y.slots =
-      sx.slots ∙ ap (λ (w : ℕ). w * length x.holders) width ∙ ap (λ (hs : List ℕ). y.width * length hs) holders ∙ sym sy.slots in
+    sx.slots ∙ ap (λ (w : ℕ). w * length x.holders) width ∙ ap (λ (hs : List ℕ). y.width * length hs) holders ∙ sym sy.slots in
     ext_get_or Nil x.slots y.slots many (λ i within.
-      let at = slot-at x.width (length x.holders) i (omega (arith, within, sx.slots)) in
-      let p : Slot = record { domain = at.0; slot = at.1 } in
-      let k = slice_index_or x.holders at.0 0 in
-      let lane : k < length x.made = sx.holders at.0 at.2 in
-      let fits : IsSlot (sizes_of (alone k)) p = (omega (arith, at.2, ap length (hx k lane).holders), omega (arith, at.3, (hx k lane).width)) in
-      let held : holds (alone k) k at.0 ≡ true = subst (λ (hs : List ℕ). (slice_index_or hs at.0 0 == k) ≡ true) (hx k lane).holders (holder-holds x at.0) in
-      let same : slot_of x p ≡ slot_of y p = (hx k lane).slot p fits held ∙ sym ((hy k lane).slot p fits held) in
-      ap (λ (n : ℕ). get_or x.slots n Nil) at.4 ∙ same
-      ∙ ap (λ (w : ℕ). get_or y.slots (w * at.0 + at.1) Nil) (sym width) ∙ ap (λ (n : ℕ). get_or y.slots n Nil) (sym at.4))
+    let at = slot-at x.width (length x.holders) i (omega (arith, within, sx.slots)) in
+    let p : Slot = record { domain = at.0; slot = at.1 } in
+    let k = slice_index_or x.holders at.0 0 in
+    let lane : k < length x.made = sx.holders at.0 at.2 in
+    let fits : IsSlot (sizes_of (alone k)) p = (omega (arith, at.2, ap length (hx k lane).holders), omega (arith, at.3, (hx k lane).width)) in
+    let held : holds (alone k) k at.0 ≡ true = subst (λ (hs : List ℕ). (slice_index_or hs at.0 0 == k) ≡ true) (hx k lane).holders (holder-holds x at.0) in
+    let same : slot_of x p ≡ slot_of y p = (hx k lane).slot p fits held ∙ sym ((hy k lane).slot p fits held) in
+    ap (λ (n : ℕ). get_or x.slots n Nil) at.4 ∙ same
+    ∙ ap (λ (w : ℕ). get_or y.slots (w * at.0 + at.1) Nil) (sym width) ∙ ap (λ (n : ℕ). get_or y.slots n Nil) (sym at.4))
 
 pub same_parts : (alone : ℕ → State) (x y : State) → 0 < length x.made → length x.made ≡ length y.made → ((k : ℕ) → k < length x.made → Agrees k (alone k) x) → ((k : ℕ) → k < length x.made → Agrees k (alone k) y) → IsState x → IsState y → x ≡ y
 same_parts alone x y some lanes hx hy sx sy =

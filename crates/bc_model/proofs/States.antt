@@ -24,16 +24,19 @@ AreValues-kept old new kept values h = λ i. IsValue-kept old new kept (get_or v
 pub AreValues-set : (made : List (List Object)) (values : List Value) (i : ℕ) (v : Value) → AreValues made values → IsValue made v → AreValues made (set values i v)
 AreValues-set made values i v h hv = λ k.
     elim (cases_lt i (length values)) [
-      inl within ↦ elim (cases_eq k i) [
-        inl e ↦ subst (λ (x : Value). IsValue made x) (sym (ap (λ (n : ℕ). get_or (set values i v) n Nil) e ∙ get_or-set_same values i v Nil within)) hv
-      | inr ne ↦ subst (λ (x : Value). IsValue made x) (sym (get_or-set_other values i k v Nil ne)) (h k) ]
-    | inr past ↦ subst (λ (xs : List Value). IsValue made (get_or xs k Nil)) (sym (set_past values i v past)) (h k) ]
+      | inl within ↦ elim (cases_eq k i) [
+        | inl e ↦ subst (λ (x : Value). IsValue made x) (sym (ap (λ (n : ℕ). get_or (set values i v) n Nil) e ∙ get_or-set_same values i v Nil within)) hv
+        | inr ne ↦ subst (λ (x : Value). IsValue made x) (sym (get_or-set_other values i k v Nil ne)) (h k)
+      ]
+      | inr past ↦ subst (λ (xs : List Value). IsValue made (get_or xs k Nil)) (sym (set_past values i v past)) (h k)
+    ]
 
 pub AreValues-nil : (made : List (List Object)) (n : ℕ) → AreValues made (replicate n Nil)
 AreValues-nil made n = λ k.
     elim (cases_lt k n) [
-      inl within ↦ subst (λ (x : Value). IsValue made x) (sym (get_or-replicate n k Nil Nil within)) tt
-    | inr past ↦ subst (λ (x : Value). IsValue made x) (sym (get_or_past (replicate n Nil) k Nil (omega (arith, past, length-replicate n Nil)))) tt ]
+      | inl within ↦ subst (λ (x : Value). IsValue made x) (sym (get_or-replicate n k Nil Nil within)) tt
+      | inr past ↦ subst (λ (x : Value). IsValue made x) (sym (get_or_past (replicate n Nil) k Nil (omega (arith, past, length-replicate n Nil)))) tt
+    ]
 
 pub IsState-with_slot : (s : State) (p : Slot) (v : Value) → IsState s → IsValue s.made v → IsState (with_slot s p v)
 IsState-with_slot s p v h hv = record {
@@ -67,13 +70,14 @@ IsState-with_field s b i v h born hv =
       slots = h.slots;
       values = AreValues-kept s.made new kept s.slots h.values;
       objects = λ c k.
-        elim (cases_birth c b) [
-          inl e ↦ subst (λ (x : Object). IsObject new (length s.holders) x)
-            (sym (ap (λ (x : Birth). object_of new x) e ∙ object_of-with_object_same s.made b o born)) whole
-        | inr ne ↦
-            let before : IsBorn s.made c = IsBorn-from_with_object s.made b o c born k in
-            subst (λ (x : Object). IsObject new (length s.holders) x) (sym (object_of-with_object_other s.made b o c born before ne))
-              (IsObject-kept s.made new kept (length s.holders) (object_of s.made c) (h.objects c before)) ];
+          elim (cases_birth c b) [
+            | inl e ↦ subst (λ (x : Object). IsObject new (length s.holders) x)
+                (sym (ap (λ (x : Birth). object_of new x) e ∙ object_of-with_object_same s.made b o born)) whole
+            | inr ne ↦
+                let before : IsBorn s.made c = IsBorn-from_with_object s.made b o c born k in
+                subst (λ (x : Object). IsObject new (length s.holders) x) (sym (object_of-with_object_other s.made b o c born before ne))
+                (IsObject-kept s.made new kept (length s.holders) (object_of s.made c) (h.objects c before))
+          ];
       holders = λ d k. omega (arith, h.holders d k, length-set s.made b.lane (set (made_by s.made b.lane) (b.serial - 1) o));
     }
 
@@ -95,11 +99,12 @@ IsState-with_new s j p n h lane domain few =
       slots = h.slots;
       values = AreValues-kept s.made new kept s.slots h.values;
       objects = λ c k.
-        elim (IsBorn-from_with_made s.made j o c lane k) [
-          inl before ↦ subst (λ (x : Object). IsObject new (length s.holders) x) (sym (object_of-with_made_other s.made j o c lane before))
-            (IsObject-kept s.made new kept (length s.holders) (object_of s.made c) (h.objects c before))
-        | inr e ↦ subst (λ (x : Object). IsObject new (length s.holders) x)
-            (sym (ap (λ (x : Birth). object_of new x) e ∙ object_of-with_made_same s.made j o lane)) whole ];
+          elim (IsBorn-from_with_made s.made j o c lane k) [
+            | inl before ↦ subst (λ (x : Object). IsObject new (length s.holders) x) (sym (object_of-with_made_other s.made j o c lane before))
+                (IsObject-kept s.made new kept (length s.holders) (object_of s.made c) (h.objects c before))
+            | inr e ↦ subst (λ (x : Object). IsObject new (length s.holders) x)
+                (sym (ap (λ (x : Birth). object_of new x) e ∙ object_of-with_made_same s.made j o lane)) whole
+          ];
       holders = λ d k. omega (arith, h.holders d k, length-with_made s.made j o);
     } in
     IsState-with_slot more p (Obj (next_birth s.made j)) grown (IsBorn-next_birth s.made j o lane)
@@ -112,21 +117,22 @@ IsState-given s g h lane = record {
   slots = h.slots ∙ ap (λ (n : ℕ). s.width * n) (sym (length-set s.holders g.domain g.lane));
   values = h.values;
   objects = λ b k.
-    let o = h.objects b k in
-    record { domain = omega (arith, o.domain, length-set s.holders g.domain g.lane); fields = o.fields; values = o.values };
+      let o = h.objects b k in
+      record { domain = omega (arith, o.domain, length-set s.holders g.domain g.lane); fields = o.fields; values = o.values };
   holders = λ d k.
-    elim (cases_eq d g.domain) [
-      inl e ↦ subst (λ (n : ℕ). get_or (set s.holders g.domain g.lane) n 0 < length s.made) (sym e)
-        (let within : g.domain < length s.holders = omega (arith, k, e, length-set s.holders g.domain g.lane) in
-         omega (arith, lane, get_or-set_same s.holders g.domain g.lane 0 within))
-    | inr ne ↦ omega (arith, get_or-set_other s.holders g.domain d g.lane 0 ne, h.holders d (omega (arith, k, length-set s.holders g.domain g.lane))) ];
+      elim (cases_eq d g.domain) [
+        | inl e ↦ subst (λ (n : ℕ). get_or (set s.holders g.domain g.lane) n 0 < length s.made) (sym e)
+            (let within : g.domain < length s.holders = omega (arith, k, e, length-set s.holders g.domain g.lane) in
+            omega (arith, lane, get_or-set_same s.holders g.domain g.lane 0 within))
+        | inr ne ↦ omega (arith, get_or-set_other s.holders g.domain d g.lane 0 ne, h.holders d (omega (arith, k, length-set s.holders g.domain g.lane)))
+      ];
 }
 
 -- the same state, its objects and slots written otherwise
 pub IsState-written : (s : State) (made : List (List Object)) (slots : List Value) → made ≡ s.made → slots ≡ s.slots → IsState s → IsState (record { width = s.width; made = made; slots = slots; holders = s.holders })
 IsState-written s made slots e f h =
     subst (λ (m : List (List Object)). IsState (record { width = s.width; made = m; slots = slots; holders = s.holders })) (sym e)
-      (subst (λ (xs : List Value). IsState (record { width = s.width; made = s.made; slots = xs; holders = s.holders })) (sym f) h)
+    (subst (λ (xs : List Value). IsState (record { width = s.width; made = s.made; slots = xs; holders = s.holders })) (sym f) h)
 
 -- a state is its four parts
 pub same_state : (s t : State) → s.width ≡ t.width → s.made ≡ t.made → s.slots ≡ t.slots → s.holders ≡ t.holders → s ≡ t

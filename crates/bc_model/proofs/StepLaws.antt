@@ -1,13 +1,13 @@
 -- Laws of one step and of two: what stays untouched, who after new, load after set.
-use Rattle.std.proofs.Common.{replicate, ◌≡◌, ◌≢◌, ℕ, ◌+◌, ◌-◌, ◌*◌, ◌<◌, ◌≤◌, Bool, true, false, ◌&&◌, ◌==◌, nat_lt, if◌then◌else◌, List, [], ◌∷◌, length, map, take, get_or, set, slice_index_or, refl, sym, ap, ap₂, subst, ◌∙◌, inl, inr, arith, eqb-true, eq-eqb, length-set, get_or-set_same, ltb-true, lt-ltb, take_all, le_refl}
+use Rattle.std.proofs.Common.{replicate, ◌≡◌, ◌≢◌, ℕ, ◌<◌, Bool, true, false, ◌&&◌, nat_lt, if◌then◌else◌, List, [], ◌∷◌, length, map, slice_index_or, refl, sym, ap, ap₂, subst, ◌∙◌, eq-eqb, length-set, get_or-set_same, ltb-true, take_all, le_refl}
 use Rattle.std.specs.List.{list_all}
-use Rattle.std.proofs.lemmas.Bool.{and_parts, and_from}
+use Rattle.std.proofs.lemmas.Bool.{and_from}
 use Rattle.bc_model.specs.Consistent.{IsState, IsValue, sizes_of}
 use Rattle.bc_model.specs.Grows.{Grows}
 use Rattle.bc_model.specs.Interleaving.{LaneOp, after_steps, FitSteps}
 use Rattle.bc_model.specs.Run.{cut_lanes}
-use Rattle.bc_model.specs.State.{State, Object, IsBorn, made_by, object_of, next_birth, with_object, with_made, with_value, with_slot, with_field, field_of, slot_of, place_of, holds}
-use Rattle.bc_model.specs.Step.{step, act, domains_of, on_object, on_field, told, loaded, with_new}
+use Rattle.bc_model.specs.State.{State, Object, IsBorn, object_of, next_birth, with_value, with_slot, with_field, field_of, slot_of, place_of, holds}
+use Rattle.bc_model.specs.Step.{step, act, domains_of, on_field, told, loaded, with_new}
 use Rattle.bc_model.specs.WellFormed.{IsSlot, IsOp}
 use Rattle.bc_model.specs.declared.operations.Op.{Op}
 use Rattle.bc_model.specs.declared.operations.Op.TheVariants as op
@@ -18,7 +18,7 @@ use Rattle.bc_model.specs.declared.values.Slot.{Slot}
 use Rattle.bc_model.specs.declared.values.Value.{Value}
 use Rattle.bc_model.specs.declared.values.Value.TheVariants.{Nil, Num, Obj}
 use Rattle.bc_model.proofs.Agreeing.{other-effect, place-within}
-use Rattle.bc_model.proofs.Effects.{Agrees, Does, Does-step}
+use Rattle.bc_model.proofs.Effects.{Agrees, Does-step}
 use Rattle.bc_model.proofs.Objects.{object_of-with_made_same, object_of-with_object_same}
 use Rattle.bc_model.proofs.Orders.{FitSteps-step}
 use Rattle.bc_model.proofs.Steps.{Grows-itself, Grows-then, Grows-step, IsState-step}
@@ -29,7 +29,7 @@ foreign-step s j d o hs lane fits foreign =
     let does = Does-step s j o hs fits in
     let ne : j ≢ slice_index_or s.holders d 0 = λ e. false_true (sym foreign ∙ eq-eqb (slice_index_or s.holders d 0) j (sym e)) in
     subst (λ (t : State). Agrees (slice_index_or s.holders d 0) s t) (sym does.state)
-      (other-effect (slice_index_or s.holders d 0) j s does.effect ne lane does.own)
+    (other-effect (slice_index_or s.holders d 0) j s does.effect ne lane does.own)
   where
     false_true : false ≡ true → ⊥
     false_true p = cc
@@ -48,7 +48,7 @@ Grows-steps s [] hs fits = Grows-itself s.made
 Grows-steps s (x ∷ xs) hs fits =
     let t = (step s x.lane x.op).0 in
     Grows-then s.made t.made (after_steps t xs).made (Grows-step s x.lane x.op hs fits.0.0 fits.0.1)
-      (Grows-steps t xs (IsState-step s x.lane x.op hs fits.0.0 fits.0.1) (FitSteps-step s x.lane x.op xs hs fits.0.1 fits.1))
+    (Grows-steps t xs (IsState-step s x.lane x.op hs fits.0.0 fits.0.1) (FitSteps-step s x.lane x.op xs hs fits.0.1 fits.1))
 
 -- an operation of a lane that holds its one domain
 step-held : (s : State) (j : ℕ) (o : Op) → list_all (holds s j) (domains_of o) ≡ true → step s j o ≡ act s j o
@@ -95,15 +95,18 @@ done-set s j p i v done = first (holds s j p.domain) refl done
     fourth : (b : Birth) → holds s j p.domain ≡ true → slot_of s p ≡ Obj b → holds s j (object_of s.made b).domain ≡ true → (t : Bool) → nat_lt i (length (object_of s.made b).fields) ≡ t → (choose t (set_field s b i v) (refused s reply.Range)).1 ≡ reply.Done → DoneSet s j p i
     fourth b named slot held true e d = record { named = named; birth = b; slot = slot; held = held; field = e }
     fourth b named slot held false e d = absurd (cc)
+
     -- whether its domain is the lane's
     third : (b : Birth) → holds s j p.domain ≡ true → slot_of s p ≡ Obj b → (t : Bool) → holds s j (object_of s.made b).domain ≡ t → (choose t (choose (nat_lt i (length (object_of s.made b).fields)) (set_field s b i v) (refused s reply.Range)) (refused s reply.Foreign)).1 ≡ reply.Done → DoneSet s j p i
     third b named slot true e d = fourth b named slot e (nat_lt i (length (object_of s.made b).fields)) refl d
     third b named slot false e d = absurd (cc)
+
     -- whether the slot holds an object
     second : holds s j p.domain ≡ true → (x : Value) → slot_of s p ≡ x → (on_field s j x i (λ b. set_field s b i v)).1 ≡ reply.Done → DoneSet s j p i
     second named Nil e d = absurd (cc)
     second named (Num w) e d = absurd (cc)
     second named (Obj b) e d = third b named e (holds s j (object_of s.made b).domain) refl d
+
     first : (t : Bool) → holds s j p.domain ≡ t → (choose (t && true) (act s j (op.Set p i v)) (refused s reply.Foreign)).1 ≡ reply.Done → DoneSet s j p i
     first true e d = second e (slot_of s p) refl d
     first false e d = absurd (cc)
@@ -122,16 +125,16 @@ load-after-set s j p q i v hs done held-q =
     let there : object_of t.made b ≡ o = object_of-with_object_same s.made b o born in
     let has : State → Bool = λ x. nat_lt i (length (object_of x.made b).fields) in
     let first : (step s j (op.Set p i v)).0 ≡ t =
-      ap (λ (x : State × Reply). x.0) (step-held s j (op.Set p i v) (and_from _ _ d.named refl))
-      ∙ ap (λ (x : Value). (on_field s j x i (λ c. set_field s c i v)).0) d.slot
-      ∙ ap (λ (x : Bool). (choose x (choose (has s) (set_field s b i v) (refused s reply.Range)) (refused s reply.Foreign)).0) d.held
-      ∙ ap (λ (x : Bool). (choose x (set_field s b i v) (refused s reply.Range)).0) d.field in
+    ap (λ (x : State × Reply). x.0) (step-held s j (op.Set p i v) (and_from _ _ d.named refl))
+    ∙ ap (λ (x : Value). (on_field s j x i (λ c. set_field s c i v)).0) d.slot
+    ∙ ap (λ (x : Bool). (choose x (choose (has s) (set_field s b i v) (refused s reply.Range)) (refused s reply.Foreign)).0) d.held
+    ∙ ap (λ (x : Bool). (choose x (set_field s b i v) (refused s reply.Range)).0) d.field in
     let domain : holds t j (object_of t.made b).domain ≡ true = ap (λ (x : Object). holds s j x.domain) there ∙ d.held in
     let field : has t ≡ true =
-      ap (λ (x : Object). nat_lt i (length x.fields)) there ∙ ap (nat_lt i) (length-set (object_of s.made b).fields i (Num v)) ∙ d.field in
+    ap (λ (x : Object). nat_lt i (length x.fields)) there ∙ ap (nat_lt i) (length-set (object_of s.made b).fields i (Num v)) ∙ d.field in
     let value : field_of t b i ≡ Num v =
-      ap (λ (x : Object). slice_index_or x.fields i Nil) there
-      ∙ get_or-set_same (object_of s.made b).fields i (Num v) Nil (ltb-true i (length (object_of s.made b).fields) d.field) in
+    ap (λ (x : Object). slice_index_or x.fields i Nil) there
+    ∙ get_or-set_same (object_of s.made b).fields i (Num v) Nil (ltb-true i (length (object_of s.made b).fields) d.field) in
     ap (λ (x : State). (step x j (op.Load p i q)).1) first
     ∙ ap (λ (x : State × Reply). x.1) (step-held t j (op.Load p i q) (and_from _ _ d.named (and_from _ _ held-q refl)))
     ∙ ap (λ (x : Value). (on_field t j x i (λ c. load_field t c i q)).1) d.slot

@@ -51,9 +51,10 @@ made-after_effect s k (Write b i v) j lane own = omega (arith, length-made_by-wi
 made-after_effect s k (Make p n) j lane own =
     let o : Object = record { domain = p.domain; fields = replicate n Nil } in
     elim (cases_eq j k) [
-      inl e ↦ subst (λ (l : ℕ). length (made_by (with_made s.made k o) l) ≤ length (made_by s.made l) + 1) (sym e)
-        (omega (arith, ap length (made_by-with_made_same s.made k o lane), length_push (made_by s.made k) o))
-    | inr ne ↦ omega (arith, ap length (made_by-with_made_other s.made k j o ne)) ]
+      | inl e ↦ subst (λ (l : ℕ). length (made_by (with_made s.made k o) l) ≤ length (made_by s.made l) + 1) (sym e)
+          (omega (arith, ap length (made_by-with_made_same s.made k o lane), length_push (made_by s.made k) o))
+      | inr ne ↦ omega (arith, ap length (made_by-with_made_other s.made k j o ne))
+    ]
 
 -- and another lane none
 made-other-after_effect : (s : State) (k : ℕ) (e : Effect) (j : ℕ) → j ≢ k → IsOwn s k e → length (made_by (after_effect s k e).made j) ≡ length (made_by s.made j)
@@ -80,11 +81,13 @@ Grows-after_write s b i v born =
       lanes = length-set s.made b.lane _;
       born = λ c h. IsBorn-with_object s.made b o c born h;
       domain = λ c h. elim (cases_birth c b) [
-        inl e ↦ ap (λ (x : Birth). (object_of (with_object s.made b o) x).domain) e ∙ ap (λ (x : Object). x.domain) (object_of-with_object_same s.made b o born) ∙ ap (λ (x : Birth). (object_of s.made x).domain) (sym e)
-      | inr ne ↦ ap (λ (x : Object). x.domain) (object_of-with_object_other s.made b o c born h ne) ];
+        | inl e ↦ ap (λ (x : Birth). (object_of (with_object s.made b o) x).domain) e ∙ ap (λ (x : Object). x.domain) (object_of-with_object_same s.made b o born) ∙ ap (λ (x : Birth). (object_of s.made x).domain) (sym e)
+        | inr ne ↦ ap (λ (x : Object). x.domain) (object_of-with_object_other s.made b o c born h ne)
+      ];
       fields = λ c h. elim (cases_birth c b) [
-        inl e ↦ ap (λ (x : Birth). length (object_of (with_object s.made b o) x).fields) e ∙ ap (λ (x : Object). length x.fields) (object_of-with_object_same s.made b o born) ∙ length-set (object_of s.made b).fields i v ∙ ap (λ (x : Birth). length (object_of s.made x).fields) (sym e)
-      | inr ne ↦ ap (λ (x : Object). length x.fields) (object_of-with_object_other s.made b o c born h ne) ];
+        | inl e ↦ ap (λ (x : Birth). length (object_of (with_object s.made b o) x).fields) e ∙ ap (λ (x : Object). length x.fields) (object_of-with_object_same s.made b o born) ∙ length-set (object_of s.made b).fields i v ∙ ap (λ (x : Birth). length (object_of s.made x).fields) (sym e)
+        | inr ne ↦ ap (λ (x : Object). length x.fields) (object_of-with_object_other s.made b o c born h ne)
+      ];
     }
 
 pub Grows-after_effect : (s : State) (k : ℕ) (e : Effect) → k < length s.made → IsOwn s k e → Grows s.made (after_effect s k e).made

@@ -8,10 +8,10 @@ ghost use Rattle.bc_model.specs.Interleaving.{after_steps, Commute, FitSteps, Is
 ghost use Rattle.bc_model.specs.Lists.{PhaseLists, TraceLists};
 ghost use Rattle.bc_model.specs.Need.{IsNeed, superpages_for};
 ghost use Rattle.bc_model.specs.Reached.{HasPath, Reached};
-ghost use Rattle.bc_model.specs.Run.{after_cut, before, cut_lanes, opening};
+ghost use Rattle.bc_model.specs.Run.{after_cut, before, cut_lanes};
 ghost use Rattle.bc_model.specs.State.{given, holds, IsBorn, next_birth, Object, object_of, slot_of, State};
 ghost use Rattle.bc_model.specs.Step.{step};
-ghost use Rattle.bc_model.specs.WellFormed.{IsOp, IsPhase, IsSetup, IsSlot, IsTrace};
+ghost use Rattle.bc_model.specs.WellFormed.{IsOp, IsPhase, IsSlot, IsTrace};
 ghost use Rattle.bc_model.specs.declared.operations.Op.{Op};
 ghost use Rattle.bc_model.specs.declared.operations.Reply.{Reply};
 ghost use Rattle.bc_model.specs.declared.traces.Give.{Give};
@@ -63,6 +63,14 @@ pub fn law_load_after_set()
     ensures { (s : State) → (j : ℕ) → (p q : Slot) → (i v : ℕ) → IsState s → (step s j (Op.Set p i v)).1 ≡ Reply.Done
         → holds s j q.domain ≡ true
         → (step (step s j (Op.Set p i v)).0 j (Op.Load p i q)).1 ≡ Reply.Num v }
+{}
+
+/// Law: what is true of every state is true in each part of a run of a well-formed trace, and the sizes are
+/// those of its setup.
+pub fn law_states_of_a_run()
+    ensures before { (t : TraceLists) → (k : ℕ) → IsTrace t → IsState (before t k) × HasSizes t.setup (before t k) }
+    ensures cut { (t : TraceLists) → (k : ℕ) → (cut : List ℕ) → IsTrace t
+        → IsState (after_cut t k cut) × HasSizes t.setup (after_cut t k cut) }
 {}
 
 /// Law: a cut at the ends of all lanes leaves the lanes whole.

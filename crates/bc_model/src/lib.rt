@@ -1,4 +1,18 @@
-// The heap that never frees, moves or pages, and the traces that are replayed on it.
+// The meaning that every heap of this repository is held to, and the plain heap that meets it.
+//
+// A trace is a program of several lanes: each phase gives each lane its operations, and at its end domains
+// change hands. `specs/` says what it means: the state of a run (all objects that were ever made, the root
+// slots, the holders), the step of an operation with its reply, the run over phases, what a state reaches,
+// and how many superpages it needs. It speaks of lanes, births and paths, and of nothing that a heap is made of.
+//
+// `Flat` is the heap that never frees, moves or pages. It keeps a list for each lane of what it made, the
+// slots of one domain after another, and the holders; each step costs no more than the object that it touches.
+// Its invariant, `IsState`, says that every reference is to an object that was born, every number and
+// number of fields is in range, and every domain is a lane's.
+//
+// The theorem stands on `Flat::step`, `Flat::give` and `Flat::phase`: they do exactly what the definitions say,
+// and for want of memory nothing. The laws in `laws` say what the definitions mean: lanes commute in
+// any order, objects stay, a lane touches its own domains alone.
 #![tactic(auto)]
 
 mod item;
@@ -8,11 +22,10 @@ mod opening;
 mod operations;
 mod plain_heap;
 mod replay;
-mod traces;
-mod values;
-
 #[cfg(test)]
 mod tests;
+mod traces;
+mod values;
 
 pub use operations::{Op, Reply};
 pub use plain_heap::Flat;

@@ -76,7 +76,13 @@ impl Made {
     }
 
     /// The lane makes an object of so many nil fields in the domain.
-    pub fn add(&mut self, alloc: Global, lane: u32, domain: u32, fields: u32) -> Result<Birth, AllocError>
+    pub fn add(
+        &mut self,
+        alloc: Global,
+        lane: u32,
+        domain: u32,
+        fields: u32,
+    ) -> Result<Birth, AllocError>
         requires lane { lane < length self.old }
         requires serials { length (made_by self.old lane) + 1 < 2 ^ 32 }
         ensures birth { IfOk result (λ birth. birth ≡ next_birth self.old lane) }

@@ -60,9 +60,10 @@ impl Flat {
         })
     }
 
-    /// How many lanes there are.
+    /// How many lanes there are. What is true of every state is true of this one.
     pub fn lanes(&self) -> u32
-        ensures { result ≡ length self.now.made }
+        ensures lanes { result ≡ length self.now.made }
+        ensures state { IsState self.now }
     {
         self.made.lanes()
     }
@@ -246,7 +247,13 @@ impl Flat {
         }
     }
 
-    fn make(&mut self, alloc: Global, lane: u32, slot: Slot, fields: u32) -> Result<Reply, AllocError>
+    fn make(
+        &mut self,
+        alloc: Global,
+        lane: u32,
+        slot: Slot,
+        fields: u32,
+    ) -> Result<Reply, AllocError>
         requires lane { lane < length self.old.made }
         requires op { IsOp (sizes_of self.old) (Op.New slot fields) }
         requires serials { length (made_by self.old.made lane) + 1 < 2 ^ 32 }
@@ -349,8 +356,8 @@ impl Flat {
         ensures state { self.new ≡ with_slot self.old to (slot_of self.old from) }
         ensures reply { result ≡ Reply.Done }
     {
-        let value = self.slot(from);
-        self.set_slot(to, value);
+        let held = self.slot(from);
+        self.set_slot(to, held);
         Reply::Done
     }
 

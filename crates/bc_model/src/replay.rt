@@ -32,7 +32,11 @@ impl Flat {
     }
 
     /// Does the operations of each lane, in the order of the lanes.
-    fn replay_lanes(&mut self, alloc: Global, lanes: &[Vec<Op>]) -> Result<Vec<Vec<Reply>>, AllocError>
+    fn replay_lanes(
+        &mut self,
+        alloc: Global,
+        lanes: &[Vec<Op>],
+    ) -> Result<Vec<Vec<Reply>>, AllocError>
         requires lanes { length lanes.now ≡ length self.old.made }
         requires ops { AllByRecursion (AllByRecursion (IsOp (sizes_of self.old))) (lists_of lanes.now) }
         requires serials { HasSerials (sum_by length (lists_of lanes.now)) self.old }

@@ -1,4 +1,3 @@
-use Rattle.std.proofs.Common.{refl}
 use Rattle.bc_model.proofs.StepLaws.{Grows-steps}
 use Rattle.bc_model.proofs.laws.law_objects_stay.Goals as goal
 

@@ -14,9 +14,9 @@ loop-give-preserved c =
     let g = get_or gives i any in
     record {
       state =
-        ap (λ (s : State). after_gives s (drop (i + 1) gives)) c.give.ensures.given
-        ∙ sym (after_gives-more c.loop-give.self gives i g c.loop-give-test.true (get_or_default gives i any g c.loop-give-test.true))
-        ∙ c.loop-give.invariant.state;
+          ap (λ (s : State). after_gives s (drop (i + 1) gives)) c.give.ensures.given
+          ∙ sym (after_gives-more c.loop-give.self gives i g c.loop-give-test.true (get_or_default gives i any g c.loop-give-test.true))
+          ∙ c.loop-give.invariant.state;
       sizes = c.give.ensures.sizes ∙ c.loop-give.invariant.sizes;
       made = ap (λ (s : State). s.made) c.give.ensures.given ∙ c.loop-give.invariant.made;
     }

@@ -13,8 +13,8 @@ invariant_of-self-2 c =
     let slot = c.args.slot in
     let place = c.place-place.ensures.place ∙ ap (λ (x : State). x.width * slot.domain + slot.slot) (sym c.self.view_is) in
     IsState-written (with_new s c.args.lane slot c.args.fields) c.add.new.self _ c.in_ok-birth.ensures.made
-      (ap₂ (λ (p : ℕ) (b : Birth). slice_set s.slots p (Obj b)) place c.in_ok-birth.ensures.birth)
-      (IsState-with_new s c.args.lane slot c.args.fields c.self.invariant
-        (subst (λ (x : State). c.args.lane < length x.made) (sym c.self.view_is) c.requires.lane)
-        (subst (λ (x : State). slot.domain < length x.holders) (sym c.self.view_is) c.requires.op.0.0)
-        c.requires.op.1)
+    (ap₂ (λ (p : ℕ) (b : Birth). slice_set s.slots p (Obj b)) place c.in_ok-birth.ensures.birth)
+    (IsState-with_new s c.args.lane slot c.args.fields c.self.invariant
+    (subst (λ (x : State). c.args.lane < length x.made) (sym c.self.view_is) c.requires.lane)
+    (subst (λ (x : State). slot.domain < length x.holders) (sym c.self.view_is) c.requires.op.0.0)
+    c.requires.op.1)

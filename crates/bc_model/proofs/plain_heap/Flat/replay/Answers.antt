@@ -19,9 +19,9 @@ loop-op-preserved c =
     record {
       state = run-state s c.step.new.self c.args.lane ops i o c.in_ok-reply.reply c.loop-op-test.true is ok ∙ c.loop-op.invariant.state;
       replies =
-        ap (λ (rs : List Reply). rs ++ replies_to c.step.new.self c.args.lane (drop (i + 1) ops)) c.in_ok-push.ensures.items
-        ∙ run-reply s c.step.new.self c.args.lane ops i o c.in_ok-reply.reply c.loop-op.replies.items c.loop-op-test.true is ok
-        ∙ c.loop-op.invariant.replies;
+          ap (λ (rs : List Reply). rs ++ replies_to c.step.new.self c.args.lane (drop (i + 1) ops)) c.in_ok-push.ensures.items
+          ∙ run-reply s c.step.new.self c.args.lane ops i o c.in_ok-reply.reply c.loop-op.replies.items c.loop-op-test.true is ok
+          ∙ c.loop-op.invariant.replies;
       sizes = c.step.ensures.sizes ∙ c.loop-op.invariant.sizes;
       more = λ j. omega (arith, c.step.ensures.more j, c.loop-op.invariant.more j);
     }

@@ -22,7 +22,7 @@ replay-requires-clause-ops c =
     let inside : j < length lanes = omega (arith, within, length-map c.args.lanes.now (λ v. v.items)) in
     let fits = at-index (AllByRecursion (IsOp (sizes_of c.args.self.now))) lanes j ops c.requires.ops inside in
     subst (λ (z : Setup). AllByRecursion (IsOp z) ops) (sym c.loop-lane.invariant.sizes)
-      (subst (λ (xs : List Op). AllByRecursion (IsOp (sizes_of c.args.self.now)) xs) (sym is) fits)
+    (subst (λ (xs : List Op). AllByRecursion (IsOp (sizes_of c.args.self.now)) xs) (sym is) fits)
 
 pub replay-requires-clause-serials : goal.replay-requires-clause-serials
 replay-requires-clause-serials c =
@@ -46,10 +46,10 @@ loop-lane-preserved c =
     record {
       state = lane-state c.loop-lane.self c.replay.new.self j lanes ops inside is ensures'.state ∙ c.loop-lane.invariant.state;
       replies =
-        ap (λ (rs : List (List Reply)). rs ++ replies_to_lanes c.replay.new.self (j + 1) (drop (j + 1) lanes))
+          ap (λ (rs : List (List Reply)). rs ++ replies_to_lanes c.replay.new.self (j + 1) (drop (j + 1) lanes))
           (ap lists_of c.in_ok-push.ensures.items ∙ map_push (λ v. v.items) c.loop-lane.replies.items c.in_ok-of_lane.of_lane)
-        ∙ lane-replies c.loop-lane.self c.replay.new.self j lanes ops c.in_ok-of_lane.of_lane.items (lists_of c.loop-lane.replies.items) inside is ensures'.state ensures'.replies
-        ∙ c.loop-lane.invariant.replies;
+          ∙ lane-replies c.loop-lane.self c.replay.new.self j lanes ops c.in_ok-of_lane.of_lane.items (lists_of c.loop-lane.replies.items) inside is ensures'.state ensures'.replies
+          ∙ c.loop-lane.invariant.replies;
       sizes = ensures'.sizes ∙ c.loop-lane.invariant.sizes;
       more = λ k. omega (arith, ensures'.more k, c.loop-lane.invariant.more k, sum_by_more length lanes j ops inside, ap length is);
     }

@@ -12,4 +12,4 @@ invariant_of-self c =
     let born = subst (λ (m : List (List Object)). IsBorn m c.args.birth) made c.requires.born in
     let value = subst (λ (m : List (List Object)). IsValue m c.args.value) made c.requires.value in
     IsState-written (with_field s c.args.birth c.args.index c.args.value) c.set_field.new.self s.slots c.set_field.ensures refl
-      (IsState-with_field s c.args.birth c.args.index c.args.value c.self.invariant born value)
+    (IsState-with_field s c.args.birth c.args.index c.args.value c.self.invariant born value)
