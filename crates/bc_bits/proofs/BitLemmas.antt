@@ -1,12 +1,12 @@
 -- A bit that was set is set, one that was cleared is clear, and the others are as they were.
-use Rattle.std.proofs.Common.{◌≡◌, ◌≢◌, ℕ, ◌+◌, ◌*◌, ◌/◌, ◌%◌, ◌^◌, ◌<◌, ◌≤◌, inl, inr, true, false, not, nat_eq, List, length, get_or, bit_and, refl, arith, tests, w64, get_or-set_same, get_or-set_other, length-set, replicate}
+use Rattle.std.proofs.Common.{◌≡◌, ◌≢◌, ℕ, ◌+◌, ◌*◌, ◌/◌, ◌%◌, ◌^◌, ◌<◌, ◌≤◌, inl, inr, Bool, true, false, sym, ◌∙◌, ◌==◌, ◌&&◌, [], ◌∷◌, not, nat_eq, List, length, get_or, bit_and, refl, arith, tests, w64, get_or-set_same, get_or-set_other, length-set, replicate}
 use Rattle.std.proofs.lemmas.List.{set_past, get_or_past}
 use Prim.Native.Nat.{zero, suc}
 use Rattle.std.specs.Int.{bit_at, trailing_zeros}
 use Rattle.std.proofs.lemmas.Nat.{one_shl, pow_pos}
 use Rattle.std.proofs.lemmas.Nat.Bits.{and_pow, bit_at_set_same, bit_at_set_other, bit_at_clear_same, bit_at_clear_other, bit_at-zero, bit_at-trailing_zeros}
-use Rattle.std.proofs.lemmas.Bool.{cases_eq, cases_lt}
-use Rattle.bc_bits.specs.Bits.{has, with_bit, without_bit}
+use Rattle.std.proofs.lemmas.Bool.{cases_eq, cases_lt, cases_Bool}
+use Rattle.bc_bits.specs.Bits.{has, with_bit, without_bit, none_set}
 
 -- the test of one bit of a word
 pub word_test : (n k : ℕ) → k < 64 → not (nat_eq (bit_and n (1 * 2 ^ k % 2 ^ 64)) 0) ≡ nat_eq (bit_at n k) 1
@@ -93,3 +93,49 @@ some_set ws i ne fits =
     let word : (64 * i + k) / 64 ≡ i = omega arith in
     let place : (64 * i + k) % 64 ≡ k = omega arith in
     (64 * i + k, word, rw (word, place) (rw (lowest.1) refl))
+
+none_head : (w : ℕ) (rest : Bool) → ((w == 0) && rest) ≡ true → w ≡ 0
+none_head w rest none = grind (arith, tests)
+
+none_tail : (w : ℕ) (rest : Bool) → ((w == 0) && rest) ≡ true → rest ≡ true
+none_tail w rest none = grind (arith, tests)
+
+some_tail : (w : ℕ) (rest : Bool) → w ≡ 0 → ((w == 0) && rest) ≡ false → rest ≡ false
+some_tail w rest zero_here none = grind (arith, tests)
+
+zero_word : (ws : List ℕ) (k : ℕ) → none_set ws ≡ true → k < length ws → get_or ws k 0 ≡ 0
+zero_word [] k none lt = absurd (omega arith)
+zero_word (w ∷ ws) zero none lt = none_head w (none_set ws) none
+zero_word (w ∷ ws) (suc k) none lt = zero_word ws k (none_tail w (none_set ws) none) (omega arith)
+
+other_word : (ws : List ℕ) → none_set ws ≡ false → (i : ℕ) × (get_or ws i 0 ≢ 0)
+other_word [] none = absurd (let e : true ≡ false = none in cc)
+other_word (w ∷ ws) none =
+    elim (cases_eq w 0) [
+        inl here ↦ let found = other_word ws (some_tail w (none_set ws) here none) in (suc found.0, found.1)
+        | inr other ↦ (0, other)
+    ]
+
+-- a set whose words are all 0 has no bit
+pub has-none_set : (ws : List ℕ) (b : ℕ) → none_set ws ≡ true → has ws b ≡ false
+has-none_set ws b none = has-none ws b (λ k lt. zero_word ws k none lt)
+
+-- any other set has one
+pub some_set-none_set : (ws : List ℕ) → ((i : ℕ) → get_or ws i 0 < 2 ^ 64) → none_set ws ≡ false → (b : ℕ) × (has ws b ≡ true)
+some_set-none_set ws fits none =
+    let place = other_word ws none in
+    let found = some_set ws place.0 place.1 (fits place.0) in
+    (found.0, found.2)
+
+-- a set of zeros has none
+pub none_set-zeros : (n : ℕ) → none_set (replicate {A = ℕ} n 0) ≡ true
+none_set-zeros zero = refl
+none_set-zeros (suc n) = none_set-zeros n
+
+-- a set with a bit is not all zeros
+pub none_set-has : (ws : List ℕ) (b : ℕ) → has ws b ≡ true → none_set ws ≡ false
+none_set-has ws b on =
+    elim (cases_Bool (none_set ws)) [
+        inl none ↦ absurd (let e : false ≡ true = sym (has-none_set ws b none) ∙ on in cc)
+        | inr some ↦ some
+    ]

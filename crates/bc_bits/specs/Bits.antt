@@ -1,5 +1,6 @@
 -- A set of small numbers as a list of words of 64 bits: bit b is bit b % 64 of word b / 64.
 use Rattle.std.specs.Prelude.{ℕ, ◌*◌, ◌/◌, ◌%◌, ◌^◌, Bool, ◌==◌, List, slice_index, slice_set, bit_and, bit_or}
+use Rattle.std.specs.List.{list_all}
 use Rattle.std.specs.Int.{bit_at, bit_not, w64}
 
 -- is the bit set? Past the last word none is
@@ -14,3 +15,7 @@ with_bit words b = slice_set words (b / 64) (bit_or (slice_index words (b / 64))
 unfoldable pub without_bit : List ℕ → ℕ → List ℕ
 without_bit words b =
     slice_set words (b / 64) (bit_and (slice_index words (b / 64)) (bit_not w64 (1 * 2 ^ (b % 64) % 2 ^ 64)))
+
+-- is no bit of the set set? Its words are all 0
+abbrev pub none_set : List ℕ → Bool
+none_set words = list_all (λ w. w == 0) words

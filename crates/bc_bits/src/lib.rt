@@ -11,8 +11,8 @@
 // and is the measure of loops that set bits until none is left.
 #![tactic(auto, unfolding(crate::specs::Bits::has, crate::specs::Bits::with_bit, crate::specs::Bits::without_bit))]
 
-ghost use Rattle.std.specs.Prelude.{◌≡◌, ◌≢◌, ℕ, ◌+◌, ◌*◌, ◌<◌, ◌≤◌, ◌↔◌, Bool, true, false, IsTrue, List, length};
-ghost use Rattle.bc_bits.specs.Bits.{has, with_bit, without_bit};
+ghost use Rattle.std.specs.Prelude.{◌≡◌, ◌≢◌, ℕ, ◌+◌, ◌*◌, ◌<◌, ◌≤◌, Bool, true, false, List, length, slice_index, ◌^◌};
+ghost use Rattle.bc_bits.specs.Bits.{has, with_bit, without_bit, none_set};
 ghost use Rattle.bc_bits.specs.Counting.{count_below};
 
 /// How many cells a set has a bit for.
@@ -48,14 +48,19 @@ pub fn remove(set: &mut [u64; 16], bit: u32)
 /// Is no bit set?
 #[tactic(auto)]
 pub fn is_empty(set: &[u64; 16]) -> bool
-    ensures empty { IsTrue result ↔ ((b : ℕ) → has set.now b ≡ false) }
+    ensures zeros { result ≡ none_set set.now }
 {
-    for word in set {
-        if *word != 0 {
-            return false;
-        }
+    set.iter().all(|word| *word == 0)
+}
+
+/// Law: a set whose words are all 0 has no bit, and one with another word has one.
+pub fn law_none_set()
+    ensures none { (ws : List ℕ) → none_set ws ≡ true → (b : ℕ) → has ws b ≡ false }
+    ensures some {
+        (ws : List ℕ) → ((i : ℕ) → slice_index ws i < 2 ^ 64) → none_set ws ≡ false
+            → (b : ℕ) × (has ws b ≡ true)
     }
-    true
+{
 }
 
 /// How many bits below a bound, which is at most 1,024, are set.
