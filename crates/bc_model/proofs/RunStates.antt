@@ -25,7 +25,7 @@ SameSizes-after_lanes s j (ops ∷ lanes) hs few fits =
     let lane : j < length s.made = omega arith in
     let same = SameSizes-after_ops s j ops hs lane fits.0 in
     SameSizes-then s (after_ops s j ops) _ same
-      (SameSizes-after_lanes (after_ops s j ops) (j + 1) lanes (IsState-after_ops s j ops hs lane fits.0) (omega (arith, few, same.lanes)) (FitLanes-same s (after_ops s j ops) lanes same fits.1))
+    (SameSizes-after_lanes (after_ops s j ops) (j + 1) lanes (IsState-after_ops s j ops hs lane fits.0) (omega (arith, few, same.lanes)) (FitLanes-same s (after_ops s j ops) lanes same fits.1))
 
 -- a state of a run of this setup
 pub record OfSetup (setup : Setup) (s : State) : Type 0 where
@@ -43,11 +43,11 @@ unfolding after_gives
 OfSetup-after_gives setup s [] h fits = h
 OfSetup-after_gives setup s (g ∷ gives) h fits =
     OfSetup-after_gives setup (given s g) gives
-      (record {
-        state = IsState-given s g h.state (omega (arith, fits.0.1, h.sizes.lanes));
-        sizes = record { lanes = h.sizes.lanes; domains = length-set s.holders g.domain g.lane ∙ h.sizes.domains; slots = h.sizes.slots };
-      })
-      fits.1
+    (record {
+      state = IsState-given s g h.state (omega (arith, fits.0.1, h.sizes.lanes));
+      sizes = record { lanes = h.sizes.lanes; domains = length-set s.holders g.domain g.lane ∙ h.sizes.domains; slots = h.sizes.slots };
+    })
+    fits.1
 
 -- after some of the lanes' operations that fit
 OfSetup-after_lanes : (setup : Setup) (s : State) (lanes : List (List Op)) → OfSetup setup s → length lanes ≤ length s.made → AllByRecursion (AllByRecursion (IsOp (sizes_of s))) lanes → OfSetup setup (after_lanes s 0 lanes)
@@ -59,7 +59,7 @@ OfSetup-after_phase : (setup : Setup) (s : State) (p : PhaseLists) → OfSetup s
 OfSetup-after_phase setup s p h fits =
     let here = IsPhase-from_setup setup s p h.sizes fits in
     OfSetup-after_gives setup (after_lanes s 0 p.lanes) p.gives
-      (OfSetup-after_lanes setup s p.lanes h (omega (arith, here.lanes)) here.ops) fits.gives
+    (OfSetup-after_lanes setup s p.lanes h (omega (arith, here.lanes)) here.ops) fits.gives
 
 OfSetup-after_phases : (setup : Setup) (s : State) (k : ℕ) (phases : List PhaseLists) → OfSetup setup s → AllByRecursion (IsPhase setup) phases → OfSetup setup (after_phases s (take k phases))
 unfolding after_phases
@@ -70,7 +70,7 @@ OfSetup-after_phases setup s (suc k) (p ∷ phases) h fits = OfSetup-after_phase
 pub OfSetup-before : (t : TraceLists) (k : ℕ) → IsTrace t → OfSetup t.setup (before t k)
 OfSetup-before t k h =
     OfSetup-after_phases t.setup (opening t.setup) k t.phases
-      (record { state = IsState-opening t.setup h.setup; sizes = HasSizes-opening t.setup }) h.phases
+    (record { state = IsState-opening t.setup h.setup; sizes = HasSizes-opening t.setup }) h.phases
 
 -- a cut's operations fit where the lanes' do
 fits-take : (P : Op → Type 0) (n : ℕ) (ops : List Op) → AllByRecursion P ops → AllByRecursion P (take n ops)
@@ -94,17 +94,18 @@ length-cut_lanes (n ∷ cut) (ops ∷ lanes) = ap suc (length-cut_lanes cut lane
 lanes-fit : (t : TraceLists) (k : ℕ) (s : State) → IsTrace t → HasSizes t.setup s → (length (phase_at t k).lanes ≤ length s.made) × AllByRecursion (AllByRecursion (IsOp (sizes_of s))) (phase_at t k).lanes
 lanes-fit t k s h sizes =
     elim (cases_lt k (length t.phases)) [
-      inl within ↦
-        let here = IsPhase-from_setup t.setup s (phase_at t k) sizes (at-index (IsPhase t.setup) t.phases k no_phase h.phases within) in
-        (omega (arith, here.lanes), here.ops)
-    | inr past ↦
-        subst (λ (p : PhaseLists). (length p.lanes ≤ length s.made) × AllByRecursion (AllByRecursion (IsOp (sizes_of s))) p.lanes)
-          (sym (get_or_past t.phases k no_phase past)) (omega arith, tt) ]
+      | inl within ↦
+          let here = IsPhase-from_setup t.setup s (phase_at t k) sizes (at-index (IsPhase t.setup) t.phases k no_phase h.phases within) in
+          (omega (arith, here.lanes), here.ops)
+      | inr past ↦
+          subst (λ (p : PhaseLists). (length p.lanes ≤ length s.made) × AllByRecursion (AllByRecursion (IsOp (sizes_of s))) p.lanes)
+          (sym (get_or_past t.phases k no_phase past)) (omega arith, tt)
+    ]
 
 pub OfSetup-after_cut : (t : TraceLists) (k : ℕ) (cut : List ℕ) → IsTrace t → OfSetup t.setup (after_cut t k cut)
 OfSetup-after_cut t k cut h =
     let start = OfSetup-before t k h in
     let fit = lanes-fit t k (before t k) h start.sizes in
     OfSetup-after_lanes t.setup (before t k) (cut_lanes cut (phase_at t k).lanes) start
-      (omega (arith, fit.0, length-cut_lanes cut (phase_at t k).lanes))
-      (fits-cut (IsOp (sizes_of (before t k))) cut (phase_at t k).lanes fit.1)
+    (omega (arith, fit.0, length-cut_lanes cut (phase_at t k).lanes))
+    (fits-cut (IsOp (sizes_of (before t k))) cut (phase_at t k).lanes fit.1)
