@@ -25,11 +25,11 @@ record Runs (d : DraftLists) (ls : List Line) (d' : DraftLists) : Type 0 where
   pass : Follow d.state ls
   makes : put_all d ls ≡ d'
 
-follow-append : (xs ys : List Line) (s : State) → Follow s xs → Follow (after_all s xs) ys → Follow s (xs ++ ys)
+pub follow-append : (xs ys : List Line) (s : State) → Follow s xs → Follow (after_all s xs) ys → Follow s (xs ++ ys)
 follow-append [] ys s h g = g
 follow-append (x ∷ xs) ys s h g = (h.0, follow-append xs ys (after x s) h.1 g)
 
-put_all-append : (xs ys : List Line) (d : DraftLists) → put_all d (xs ++ ys) ≡ put_all (put_all d xs) ys
+pub put_all-append : (xs ys : List Line) (d : DraftLists) → put_all d (xs ++ ys) ≡ put_all (put_all d xs) ys
 put_all-append [] ys d = refl
 put_all-append (x ∷ xs) ys d = put_all-append xs ys (put x d)
 
@@ -58,7 +58,7 @@ draft st ps ts ls os gs = record { state = st; phases = ps; turns = ts; lanes = 
 
 -- ---- the header
 
-product_small : (a b : ℕ) → a ≤ 16 → b ≤ 16 → a * b ≤ 16 * 16
+pub product_small : (a b : ℕ) → a ≤ 16 → b ≤ 16 → a * b ≤ 16 * 16
 product_small a b h g = grind arith
 
 frames_small : (s : Setup) → IsSetup s → s.frames < 2 ^ 63
@@ -90,7 +90,7 @@ module _ (s : Setup) (ps : List PhaseLists) where
 
 -- ---- operations and lanes
 
-right_count : (o : Op) → IsCount (words.Op (verb_of_op o)) (length (operands_of_op o))
+pub right_count : (o : Op) → IsCount (words.Op (verb_of_op o)) (length (operands_of_op o))
 unfolding arity
 right_count (ops.New p n) = refl
 right_count (ops.Who p) = refl
@@ -104,7 +104,7 @@ right_count (ops.Clear p) = refl
 right_count (ops.Same p q) = refl
 
 module _ (s : Setup) (setup : IsSetup s) where
-  op_numbers : (o : Op) → IsOp s o → AllByRecursion IsNumber (operands_of_op o)
+  pub op_numbers : (o : Op) → IsOp s o → AllByRecursion IsNumber (operands_of_op o)
   op_numbers (ops.New p n) h = (omega (arith, h.0, setup.domains), (omega (arith, h.0, setup.slots), (omega (arith, h.1), tt)))
   op_numbers (ops.Who p) h = (omega (arith, h.0, setup.domains), (omega (arith, h.1, setup.slots), tt))
   op_numbers (ops.Len p) h = (omega (arith, h.0, setup.domains), (omega (arith, h.1, setup.slots), tt))

@@ -15,3 +15,4 @@ pub mod Again
 pub mod Shapes
 pub mod Lengths
 pub mod Answered
+pub mod Endings

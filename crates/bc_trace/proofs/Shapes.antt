@@ -1,7 +1,7 @@
 -- Lines that pass up to the end are those of a well-formed trace.
-use Rattle.std.proofs.Common.{◌≡◌, ◌≢◌, ℕ, ◌+◌, true, eqb, List, [], ◌∷◌, ◌++◌, length, map, refl, sym, ap, subst, ◌∙◌, append_assoc, arith}
+use Rattle.std.proofs.Common.{◌≤◌, ◌≡◌, ◌≢◌, ℕ, ◌+◌, true, eqb, List, [], ◌∷◌, ◌++◌, length, map, refl, sym, ap, subst, ◌∙◌, append_assoc, arith}
 use Rattle.std.specs.List.{AllByRecursion, flat_map}
-use Rattle.std.proofs.lemmas.Bool.{eqb-true, eq-eqb, ne_eqb}
+use Rattle.std.proofs.lemmas.Bool.{not-true, eqb-true, eqb-false, eq-eqb, ne_eqb}
 use Rattle.std.proofs.lemmas.List.{append-nil, length-append, map-append}
 use Rattle.std.proofs.lemmas.List.Concat.{flat_map-append}
 use Rattle.bc_model.specs.Lists.{PhaseLists}
@@ -25,59 +25,60 @@ all-push P [] x h g = (g, tt)
 all-push P (y ∷ xs) x h g = (h.0, all-push P xs x h.1 g)
 
 -- nothing was read of a phase
-record NoPhase (d : DraftLists) : Type 0 where
-  turns : d.turns ≡ []
-  lanes : d.lanes ≡ []
-  ops : d.ops ≡ []
-  gives : d.gives ≡ []
+pub record NoPhase (d : DraftLists) : Type 0 where
+  pub turns : d.turns ≡ []
+  pub lanes : d.lanes ≡ []
+  pub ops : d.ops ≡ []
+  pub gives : d.gives ≡ []
 
 -- no phase was read either
-record NoPhases (d : DraftLists) : Type 0 where
-  phases : d.phases ≡ []
-  begun : NoPhase d
+pub record NoPhases (d : DraftLists) : Type 0 where
+  pub phases : d.phases ≡ []
+  pub begun : NoPhase d
 
 -- the lines of whole phases
-abbrev closed_lines : DraftLists → List Line
+abbrev pub closed_lines : DraftLists → List Line
 closed_lines d = version 1 ∷ (setup_lines d.state.setup ++ flat_map phase_lines d.phases)
 
 -- the header and the phases are well formed
-record IsClosed (d : DraftLists) : Type 0 where
-  setup : IsSetup d.state.setup
-  phases : AllByRecursion (IsPhase d.state.setup) d.phases
+pub record IsClosed (d : DraftLists) : Type 0 where
+  pub setup : IsSetup d.state.setup
+  pub phases : AllByRecursion (IsPhase d.state.setup) d.phases
 
 -- what was read of a phase, its gives aside, is well formed
-record IsOpen (d : DraftLists) : Type 0 where
-  closed : IsClosed d
-  turns : AllByRecursion IsTurn d.turns
-  stood : d.state.stood ≡ length d.lanes + 1
-  lanes : AllByRecursion (AllByRecursion (IsOp d.state.setup)) d.lanes
-  ops : AllByRecursion (IsOp d.state.setup) d.ops
+pub record IsOpen (d : DraftLists) : Type 0 where
+  pub closed : IsClosed d
+  pub turns : AllByRecursion IsTurn d.turns
+  pub stood : d.state.stood ≡ length d.lanes + 1
+  pub room : d.state.stood ≤ d.state.setup.lanes
+  pub lanes : AllByRecursion (AllByRecursion (IsOp d.state.setup)) d.lanes
+  pub ops : AllByRecursion (IsOp d.state.setup) d.ops
 
-abbrev open_lines : DraftLists → List Line
+abbrev pub open_lines : DraftLists → List Line
 open_lines d = phase ∷ (map turn d.turns ++ lane_lines 0 (d.lanes ++ d.ops ∷ []))
 
-record AtTurns (d : DraftLists) (ls : List Line) : Type 0 where
-  lines : ls ≡ closed_lines d ++ phase ∷ map turn d.turns
-  closed : IsClosed d
-  turns : AllByRecursion IsTurn d.turns
-  stood : d.state.stood ≡ 0
-  lanes : d.lanes ≡ []
-  ops : d.ops ≡ []
-  gives : d.gives ≡ []
+pub record AtTurns (d : DraftLists) (ls : List Line) : Type 0 where
+  pub lines : ls ≡ closed_lines d ++ phase ∷ map turn d.turns
+  pub closed : IsClosed d
+  pub turns : AllByRecursion IsTurn d.turns
+  pub stood : d.state.stood ≡ 0
+  pub lanes : d.lanes ≡ []
+  pub ops : d.ops ≡ []
+  pub gives : d.gives ≡ []
 
-record AtOps (d : DraftLists) (ls : List Line) : Type 0 where
-  lines : ls ≡ closed_lines d ++ open_lines d
-  begun : IsOpen d
-  gives : d.gives ≡ []
+pub record AtOps (d : DraftLists) (ls : List Line) : Type 0 where
+  pub lines : ls ≡ closed_lines d ++ open_lines d
+  pub begun : IsOpen d
+  pub gives : d.gives ≡ []
 
-record AtGives (d : DraftLists) (ls : List Line) : Type 0 where
-  lines : ls ≡ closed_lines d ++ (open_lines d ++ map give d.gives)
-  begun : IsOpen d
-  all : d.state.stood ≡ d.state.setup.lanes
-  gives : AllByRecursion (IsGive d.state.setup) d.gives
+pub record AtGives (d : DraftLists) (ls : List Line) : Type 0 where
+  pub lines : ls ≡ closed_lines d ++ (open_lines d ++ map give d.gives)
+  pub begun : IsOpen d
+  pub all : d.state.stood ≡ d.state.setup.lanes
+  pub gives : AllByRecursion (IsGive d.state.setup) d.gives
 
 -- what the lines so far make
-Shape : Place → DraftLists → List Line → Type 0
+unfoldable pub Shape : Place → DraftLists → List Line → Type 0
 Shape places.Start d ls = (ls ≡ []) × NoPhases d
 Shape (places.Awaiting settings.Lanes) d ls = (ls ≡ version 1 ∷ []) × NoPhases d
 Shape (places.Awaiting settings.Domains) d ls = (ls ≡ version 1 ∷ setting settings.Lanes d.state.setup.lanes ∷ []) × NoPhases d × IsWithin 1 16 d.state.setup.lanes
@@ -94,7 +95,7 @@ Shape places.Finished d ls = (ls ≡ trace_lines (finished d)) × IsTrace (finis
 
 -- ---- one more line
 
-abbrev Step : Line → Place → DraftLists → List Line → Type 0
+abbrev pub Step : Line → Place → DraftLists → List Line → Type 0
 Step l p d ls = may_stand (word_of_line l) p (eqb d.state.stood d.state.setup.lanes) ≡ true → IsCount (word_of_line l) (length (operands l)) → InRange d.state l → FramesFit d.state l → Shape p d ls → Shape (after l d.state).place (put l d) (ls ++ l ∷ [])
 
 no_phases : (d e : DraftLists) → e.phases ≡ d.phases → e.turns ≡ d.turns → e.lanes ≡ d.lanes → e.ops ≡ d.ops → e.gives ≡ d.gives → NoPhases d → NoPhases e
@@ -198,6 +199,7 @@ step_lane j places.Turns d ls stands count range frames h =
         closed = record { setup = h.closed.setup; phases = h.closed.phases };
         turns = h.turns;
         stood = ap (λ k. k + 1) (h.stood ∙ ap (λ (xs : List (List Op)). length xs) (sym h.lanes));
+        room = omega (arith, h.stood, h.closed.setup.lanes);
         lanes = subst (λ (xs : List (List Op)). AllByRecursion (AllByRecursion (IsOp d.state.setup)) xs) (sym h.lanes) tt;
         ops = subst (λ (xs : List Op). AllByRecursion (IsOp d.state.setup) xs) (sym h.ops) tt;
       };
@@ -211,6 +213,7 @@ step_lane j places.Ops d ls stands count range frames h =
         closed = record { setup = h.begun.closed.setup; phases = h.begun.closed.phases };
         turns = h.begun.turns;
         stood = ap (λ k. k + 1) (h.begun.stood ∙ sym (length-append d.lanes (d.ops ∷ [])));
+        room = omega (arith, h.begun.room, eqb-false d.state.stood d.state.setup.lanes (not-true (eqb d.state.stood d.state.setup.lanes) stands));
         lanes = all-push (AllByRecursion (IsOp d.state.setup)) d.lanes d.ops h.begun.lanes h.begun.ops;
         ops = tt;
       };
@@ -237,6 +240,7 @@ step_op o places.Ops d ls stands count range frames h = record {
     closed = record { setup = h.begun.closed.setup; phases = h.begun.closed.phases };
     turns = h.begun.turns;
     stood = h.begun.stood;
+    room = h.begun.room;
     lanes = h.begun.lanes;
     ops = all-push (IsOp d.state.setup) d.ops o h.begun.ops range;
   };
@@ -269,6 +273,7 @@ more_gives g d ls range h = record {
     closed = record { setup = h.begun.closed.setup; phases = h.begun.closed.phases };
     turns = h.begun.turns;
     stood = h.begun.stood;
+    room = h.begun.room;
     lanes = h.begun.lanes;
     ops = h.begun.ops;
   };
@@ -338,7 +343,7 @@ step_done places.Ops d ls stands count range frames h = absurd cc
 step_done places.Gives d ls stands count range frames h = absurd cc
 step_done places.Finished d ls stands count range frames h = absurd cc
 
-step : (l : Line) (p : Place) (d : DraftLists) (ls : List Line) → Step l p d ls
+pub step : (l : Line) (p : Place) (d : DraftLists) (ls : List Line) → Step l p d ls
 step (version n) p d ls = step_version n p d ls
 step (setting k n) p d ls = first_setting k n p d ls
 step phase p d ls = step_phase p d ls
@@ -349,13 +354,13 @@ step (give g) p d ls = step_give g p d ls
 step end p d ls = step_end p d ls
 step done p d ls = step_done p d ls
 
-steps : (more : List Line) (d : DraftLists) (ls : List Line) → Shape d.state.place d ls → Follow d.state more → Shape (put_all d more).state.place (put_all d more) (ls ++ more)
+pub steps : (more : List Line) (d : DraftLists) (ls : List Line) → Shape d.state.place d ls → Follow d.state more → Shape (put_all d more).state.place (put_all d more) (ls ++ more)
 steps [] d ls h f = subst (λ (xs : List Line). Shape d.state.place d xs) (sym (append-nil ls)) h
 steps (l ∷ more) d ls h f =
     let one = step l d.state.place d ls f.0.stands f.0.count f.0.range f.0.frames h in
     subst (λ (xs : List Line). Shape (put_all d (l ∷ more)).state.place (put_all d (l ∷ more)) xs) (append_assoc ls (l ∷ []) more) (steps more (put l d) (ls ++ l ∷ []) one f.1)
 
-at_start : Shape places.Start empty_draft []
+pub at_start : Shape places.Start empty_draft []
 unfolding Shape
 at_start = (refl, record { phases = refl; begun = record { turns = refl; lanes = refl; ops = refl; gives = refl } })
 
