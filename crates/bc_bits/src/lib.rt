@@ -9,7 +9,7 @@
 // `without_bit` are sets, and the words in them are nobody's business. The library's laws are the
 // contracts of the three `law_` functions. `count_below` counts what passes a test below a bound,
 // and is the measure of loops that set bits until none is left.
-#![tactic(auto, unfolding(crate::specs::Bits::has, crate::specs::Bits::with_bit, crate::specs::Bits::without_bit))]
+#![tactic(auto)]
 
 ghost use Rattle.std.specs.Prelude.{◌≡◌, ◌≢◌, ℕ, ◌+◌, ◌*◌, ◌<◌, ◌≤◌, Bool, true, false, List, length, slice_index, ◌^◌};
 ghost use Rattle.bc_bits.specs.Bits.{has, with_bit, without_bit, none_set};
@@ -28,6 +28,7 @@ pub fn contains(set: &[u64; 16], bit: u32) -> bool
 }
 
 /// Sets this bit, which is below 1,024, and leaves the others.
+#[tactic(auto, unfolding(crate::specs::Bits::with_bit))]
 pub fn insert(set: &mut [u64; 16], bit: u32)
     requires { bit < 1024 }
     ensures change { set.new ≡ with_bit set.old bit }
@@ -37,6 +38,7 @@ pub fn insert(set: &mut [u64; 16], bit: u32)
 }
 
 /// Clears this bit, which is below 1,024, and leaves the others.
+#[tactic(auto, unfolding(crate::specs::Bits::without_bit))]
 pub fn remove(set: &mut [u64; 16], bit: u32)
     requires { bit < 1024 }
     ensures change { set.new ≡ without_bit set.old bit }
@@ -46,7 +48,6 @@ pub fn remove(set: &mut [u64; 16], bit: u32)
 }
 
 /// Is no bit set?
-#[tactic(auto)]
 pub fn is_empty(set: &[u64; 16]) -> bool
     ensures zeros { result ≡ none_set set.now }
 {

@@ -6,7 +6,7 @@ ghost use Rattle.bc_trace.specs.Lines.{setting as setting_line, turn as turn_lin
 
 use crate::replies::push_number;
 use crate::words::{Setting, Verb, Word};
-use bc_model::{Give, Op, Phase, Setup, Trace};
+use bc_model::{Give, Op, Phase, Setup, Slot, Trace};
 use std::alloc::{AllocError, Global};
 
 /// Puts each number behind a space at the end.
@@ -65,85 +65,48 @@ fn push_turn(out: &mut Vec<u8>, hints: &[u32]) -> Result<(), AllocError>
     out.extend_from_slice(b"\n")
 }
 
+/// Puts the line of an operation on a slot at the end, with the operands that follow the slot.
+#[tactic(auto, unfolding(crate::specs::Lines::spelling))]
+fn push_on(out: &mut Vec<u8>, verb: Verb, slot: Slot, operands: &[u64]) -> Result<(), AllocError>
+    ensures { OnOk result (out.new.items
+        ≡ out.old.items ++ (spelling (Word.Op verb) (slot.domain ∷ slot.slot ∷ operands.now) ++ 10 ∷ [])) }
+{
+    out.extend_from_slice(Word::Op(verb).name())?;
+    push_operands(out, &[slot.domain as u64, slot.slot as u64])?;
+    push_operands(out, operands)?;
+    out.extend_from_slice(b"\n")
+}
+
 /// Puts the line of an operation at the end.
 #[tactic(auto, unfolding(crate::specs::Lines::line_text))]
 fn push_op(out: &mut Vec<u8>, op: &Op) -> Result<(), AllocError>
     ensures { OnOk result (out.new.items ≡ out.old.items ++ line_text (op_line op.now)) }
 {
     match *op {
-        Op::New(slot, fields) => push_line(
-            out,
-            Word::Op(Verb::New),
-            &[slot.domain as u64, slot.slot as u64, fields as u64],
-        ),
-        Op::Who(slot) => push_line(
-            out,
-            Word::Op(Verb::Who),
-            &[slot.domain as u64, slot.slot as u64],
-        ),
-        Op::Len(slot) => push_line(
-            out,
-            Word::Op(Verb::Len),
-            &[slot.domain as u64, slot.slot as u64],
-        ),
-        Op::Set(slot, field, number) => push_line(
-            out,
-            Word::Op(Verb::Set),
-            &[slot.domain as u64, slot.slot as u64, field as u64, number],
-        ),
-        Op::Cut(slot, field) => push_line(
-            out,
-            Word::Op(Verb::Cut),
-            &[slot.domain as u64, slot.slot as u64, field as u64],
-        ),
-        Op::Link(slot, field, other) => push_line(
-            out,
-            Word::Op(Verb::Link),
-            &[
-                slot.domain as u64,
-                slot.slot as u64,
-                field as u64,
-                other.domain as u64,
-                other.slot as u64,
-            ],
-        ),
-        Op::Load(slot, field, other) => push_line(
-            out,
-            Word::Op(Verb::Load),
-            &[
-                slot.domain as u64,
-                slot.slot as u64,
-                field as u64,
-                other.domain as u64,
-                other.slot as u64,
-            ],
-        ),
-        Op::Copy(slot, other) => push_line(
-            out,
-            Word::Op(Verb::Copy),
-            &[
-                slot.domain as u64,
-                slot.slot as u64,
-                other.domain as u64,
-                other.slot as u64,
-            ],
-        ),
-        Op::Clear(slot) => push_line(
-            out,
-            Word::Op(Verb::Clear),
-            &[slot.domain as u64, slot.slot as u64],
-        ),
-        Op::Same(slot, other) => push_line(
-            out,
-            Word::Op(Verb::Same),
-            &[
-                slot.domain as u64,
-                slot.slot as u64,
-                other.domain as u64,
-                other.slot as u64,
-            ],
-        ),
+        Op::New(slot, fields) => push_on(out, Verb::New, slot, &[fields as u64]),
+        Op::Who(slot) => push_on(out, Verb::Who, slot, &[]),
+        Op::Len(slot) => push_on(out, Verb::Len, slot, &[]),
+        Op::Set(slot, field, number) => push_on(out, Verb::Set, slot, &[field as u64, number]),
+        Op::Cut(slot, field) => push_on(out, Verb::Cut, slot, &[field as u64]),
+        Op::Link(slot, field, other) => {
+            let [domain, place] = numbers_of(other);
+            push_on(out, Verb::Link, slot, &[field as u64, domain, place])
+        }
+        Op::Load(slot, field, other) => {
+            let [domain, place] = numbers_of(other);
+            push_on(out, Verb::Load, slot, &[field as u64, domain, place])
+        }
+        Op::Copy(slot, other) => push_on(out, Verb::Copy, slot, &numbers_of(other)),
+        Op::Clear(slot) => push_on(out, Verb::Clear, slot, &[]),
+        Op::Same(slot, other) => push_on(out, Verb::Same, slot, &numbers_of(other)),
     }
+}
+
+/// The domain and the number of a slot.
+fn numbers_of(slot: Slot) -> [u64; 2]
+    ensures { result ≡ slot.domain ∷ slot.slot ∷ [] }
+{
+    [slot.domain as u64, slot.slot as u64]
 }
 
 /// Puts a lane's line at the end.
