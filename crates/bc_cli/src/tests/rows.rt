@@ -149,6 +149,14 @@ fn unfinished_trace(rt: HostRuntime) -> Result<(), Fail> {
 }
 
 #[test]
+fn the_first_path_without_its_last_line(rt: HostRuntime) -> Result<(), Fail> {
+    let mut text = header(rt.alloc(), SMALL)?;
+    text.push_str("phase\nlane 0\nnew 0 0 2\nset 0 0 1 7\nload 0 0 1 0 1\nend\n")?;
+    shows_fault(&rt, rt.alloc(), &text, 14, Cause::End)?;
+    Ok(())
+}
+
+#[test]
 fn ten_thousand_objects(rt: HostRuntime) -> Result<(), Fail> {
     let mut lines = String::new(rt.alloc());
     let mut output = String::from_str(rt.alloc(), "phase 1\nlane 0\n")?;
