@@ -1,7 +1,9 @@
 -- Statuses, and the exit status of each.
-use Rattle.std.specs.Prelude.{ℕ}
+use Rattle.std.specs.Prelude.{ℕ, Option, Some, None}
 use Rattle.bc_trace.specs.declared.fault.ReadTrace.{ReadTrace}
 use Rattle.bc_trace.specs.declared.fault.ReadTrace.TheVariants as answers
+use Rattle.bc_cli.specs.declared.status.Fault.{Fault}
+use Rattle.bc_cli.specs.declared.status.Fault.TheVariants as faults
 use Rattle.bc_cli.specs.declared.status.Status.{Status}
 use Rattle.bc_cli.specs.declared.status.Status.TheVariants.{Done, BadWords, BadTrace, TooLong, ReadFault, WriteFault, OutOfHeap, NoMemory}
 
@@ -20,3 +22,14 @@ exit_code_of NoMemory = 7
 abbrev pub refusal_of : ReadTrace → Status
 refusal_of (answers.Fault f) = BadTrace f.line f.cause
 refusal_of answers.NoMemory = NoMemory
+
+-- what is wrong with a run, by how it ended
+abbrev pub fault_of : Status → Option Fault
+fault_of Done = None
+fault_of BadWords = Some faults.BadWords
+fault_of (BadTrace line cause) = Some (faults.BadTrace line cause)
+fault_of TooLong = Some faults.TooLong
+fault_of ReadFault = Some faults.ReadFault
+fault_of WriteFault = Some faults.WriteFault
+fault_of (OutOfHeap need) = Some (faults.OutOfHeap need)
+fault_of NoMemory = Some faults.NoMemory

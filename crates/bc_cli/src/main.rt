@@ -68,7 +68,7 @@ fn main(rt: HostRuntime) -> ExitCode {
         Ok(words) => run(&rt, &words, rt.stdin(), rt.stdout()),
         Err(status) => status,
     };
-    if let Err(fault) = status.checked() {
+    if let Some(fault) = status.fault() {
         let _ = eprintln!(rt; "{fault}");
     }
     ExitCode::from(status.exit_code())

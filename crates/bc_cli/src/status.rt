@@ -1,5 +1,5 @@
-ghost use Rattle.std.specs.Prelude.{◌≡◌, ◌↔◌, IsOk};
-ghost use Rattle.bc_cli.specs.Statuses.{exit_code_of};
+ghost use Rattle.std.specs.Prelude.{◌≡◌};
+ghost use Rattle.bc_cli.specs.Statuses.{exit_code_of, fault_of};
 
 use bc_trace::Cause;
 use thiserror::Error;
@@ -45,19 +45,19 @@ pub enum Fault {
 }
 
 impl Status {
-    /// Whether the run was done, and else what is wrong with it.
-    pub fn checked(self) -> Result<(), Fault>
-        ensures { IsOk result ↔ (self ≡ Status.Done) }
+    /// What is wrong with the run, if it wasn't done.
+    pub fn fault(self) -> Option<Fault>
+        ensures { result ≡ fault_of self }
     {
         match self {
-            Status::Done => Ok(()),
-            Status::BadWords => Err(Fault::BadWords),
-            Status::BadTrace { line, cause } => Err(Fault::BadTrace { line, cause }),
-            Status::TooLong => Err(Fault::TooLong),
-            Status::ReadFault => Err(Fault::ReadFault),
-            Status::WriteFault => Err(Fault::WriteFault),
-            Status::OutOfHeap { need } => Err(Fault::OutOfHeap { need }),
-            Status::NoMemory => Err(Fault::NoMemory),
+            Status::Done => None,
+            Status::BadWords => Some(Fault::BadWords),
+            Status::BadTrace { line, cause } => Some(Fault::BadTrace { line, cause }),
+            Status::TooLong => Some(Fault::TooLong),
+            Status::ReadFault => Some(Fault::ReadFault),
+            Status::WriteFault => Some(Fault::WriteFault),
+            Status::OutOfHeap { need } => Some(Fault::OutOfHeap { need }),
+            Status::NoMemory => Some(Fault::NoMemory),
         }
     }
 
