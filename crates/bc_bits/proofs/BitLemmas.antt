@@ -112,8 +112,8 @@ other_word : (ws : List ℕ) → none_set ws ≡ false → (i : ℕ) × (get_or 
 other_word [] none = absurd (let e : true ≡ false = none in cc)
 other_word (w ∷ ws) none =
     elim (cases_eq w 0) [
-        inl here ↦ let found = other_word ws (some_tail w (none_set ws) here none) in (suc found.0, found.1)
-        | inr other ↦ (0, other)
+      | inl here ↦ let found = other_word ws (some_tail w (none_set ws) here none) in (suc found.0, found.1)
+      | inr other ↦ (0, other)
     ]
 
 -- a set whose words are all 0 has no bit
@@ -136,6 +136,6 @@ none_set-zeros (suc n) = none_set-zeros n
 pub none_set-has : (ws : List ℕ) (b : ℕ) → has ws b ≡ true → none_set ws ≡ false
 none_set-has ws b on =
     elim (cases_Bool (none_set ws)) [
-        inl none ↦ absurd (let e : false ≡ true = sym (has-none_set ws b none) ∙ on in cc)
-        | inr some ↦ some
+      | inl none ↦ absurd (let e : false ≡ true = sym (has-none_set ws b none) ∙ on in cc)
+      | inr some ↦ some
     ]

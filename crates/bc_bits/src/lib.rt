@@ -56,12 +56,9 @@ pub fn is_empty(set: &[u64; 16]) -> bool
 /// Law: a set whose words are all 0 has no bit, and one with another word has one.
 pub fn law_none_set()
     ensures none { (ws : List ℕ) → none_set ws ≡ true → (b : ℕ) → has ws b ≡ false }
-    ensures some {
-        (ws : List ℕ) → ((i : ℕ) → slice_index ws i < 2 ^ 64) → none_set ws ≡ false
-            → (b : ℕ) × (has ws b ≡ true)
-    }
-{
-}
+    ensures some { (ws : List ℕ) → ((i : ℕ) → slice_index ws i < 2 ^ 64) → none_set ws ≡ false
+        → (b : ℕ) × (has ws b ≡ true) }
+{}
 
 /// How many bits below a bound, which is at most 1,024, are set.
 #[tactic(auto, unfolding(crate::specs::Counting::count_below))]
