@@ -2,8 +2,9 @@
 //
 // A superpage has up to 1,024 cells, and its header tells by one bit each which of them are allocated,
 // promised, marked, finished and bookmarked: sixteen words a set. This crate has the three steps on such
-// a set (test, set, clear), and the lemmas that the crates above reason with: a bit that was set is set,
-// one that was cleared is clear, and every other bit is as it was, with no premise on its place.
+// a set (test, set, clear), the search for the first bit that one set has and another hasn't, and the
+// lemmas that the crates above reason with: a bit that was set is set, one that was cleared is clear, and
+// every other bit is as it was, with no premise on its place.
 //
 // Contracts speak of a set by the test `has` alone, which stays shut above this crate: `with_bit` and
 // `without_bit` are sets, and the words in them are nobody's business. The library's laws are the
@@ -11,7 +12,7 @@
 // and is the measure of loops that set bits until none is left.
 #![tactic(auto)]
 
-ghost use Rattle.std.specs.Prelude.{◌≡◌, ◌≢◌, ℕ, ◌+◌, ◌*◌, ◌<◌, ◌≤◌, Bool, true, false, List, length, slice_index, ◌^◌};
+ghost use Rattle.std.specs.Prelude.{◌≡◌, ◌≢◌, ℕ, ◌+◌, ◌*◌, ◌<◌, ◌≤◌, Bool, true, false, IfSome, IfNone, List, length, slice_index, ◌^◌};
 ghost use Rattle.bc_bits.specs.Bits.{has, with_bit, without_bit, none_set};
 ghost use Rattle.bc_bits.specs.Counting.{count_below};
 
@@ -54,6 +55,13 @@ pub fn is_empty(set: &[u64; 16]) -> bool
     set.iter().all(|word| *word == 0)
 }
 
+/// A set that isn't empty has a bit. It does nothing.
+pub fn facts(set: &[u64])
+    ensures some { none_set set.now ≡ false → (b : ℕ) × (has set.now b ≡ true) }
+{
+    let _words = set;
+}
+
 /// Law: a set whose words are all 0 has no bit, and one with another word has one.
 pub fn law_none_set()
     ensures none { (ws : List ℕ) → none_set ws ≡ true → (b : ℕ) → has ws b ≡ false }
@@ -74,6 +82,31 @@ pub fn count(set: &[u64; 16], below: u32) -> u32
         }
     }
     total
+}
+
+/// The first bit from one number on, and below another, which is at most 1,024, that a set has and the other set
+/// hasn't. A word that has none is passed over at one look.
+pub fn first_outside(set: &[u64; 16], other: &[u64; 16], from: u32, below: u32) -> Option<u32>
+    requires { below ≤ 1024 }
+    ensures some { IfSome result (λ b.
+        (from ≤ b) × (b < below) × (has set.now b ≡ true) × (has other.now b ≡ false)) }
+    ensures first { IfSome result (λ b. (i : ℕ) → from ≤ i → i < b → has set.now i ≡ true → has other.now i ≡ true) }
+    ensures none { IfNone result ((i : ℕ) → from ≤ i → i < below → has set.now i ≡ true → has other.now i ≡ true) }
+{
+    let mut bit = from;
+    while bit < below {
+        let word = (bit / 64) as usize;
+        let rest = (set[word] & !other[word]) >> (bit % 64);
+        if rest != 0 {
+            let found = bit + rest.trailing_zeros();
+            if found < below {
+                return Some(found);
+            }
+            return None;
+        }
+        bit = 64 * (bit / 64 + 1);
+    }
+    None
 }
 
 /// Law: a bit that is set into a list of words is then set, and no other bit changes.

@@ -20,3 +20,20 @@ fn set_and_cleared_bits_leave_their_neighbours(rt: HostRuntime) {
     assert_eq!(rt; set[1], 1);
     assert_eq!(rt; set[15], 9223372036854775808);
 }
+
+#[test]
+fn first_bit_that_another_set_lacks(rt: HostRuntime) {
+    let mut set = [0; 16];
+    let mut other = [0; 16];
+    insert(&mut set, 3);
+    insert(&mut set, 200);
+    insert(&mut set, 201);
+    insert(&mut other, 3);
+    insert(&mut other, 200);
+    assert_eq!(rt; first_outside(&set, &other, 0, 1024), Some(201));
+    assert_eq!(rt; first_outside(&set, &other, 0, 201), None);
+    assert_eq!(rt; first_outside(&set, &other, 202, 1024), None);
+    remove(&mut other, 3);
+    assert_eq!(rt; first_outside(&set, &other, 0, 1024), Some(3));
+    assert_eq!(rt; first_outside(&set, &other, 4, 1024), Some(201));
+}

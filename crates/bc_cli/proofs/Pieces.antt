@@ -1,5 +1,5 @@
 -- The texts of phases, one after another.
-use Rattle.std.proofs.Common.{◌≡◌, ℕ, ◌+◌, suc, ◌<◌, ◌≤◌, List, [], ◌∷◌, ◌++◌, length, take, drop, get_or, refl, sym, ap, ◌∙◌, append_assoc, append-nil, arith, add-one, add-zero, take-append-drop, length-append, subst, Option, inl, inr}
+use Rattle.std.proofs.Common.{◌≡◌, ℕ, ◌+◌, suc, ◌<◌, ◌≤◌, List, [], ◌∷◌, ◌++◌, length, take, drop, get_or, refl, sym, ap, ◌∙◌, append-nil, arith, add-one, add-zero, take-append-drop, length-append, subst, Option, inl, inr}
 use Rattle.std.proofs.lemmas.List.{take_more, length-take-le}
 use Rattle.bc_io.specs.Faults.{Rose}
 use Rattle.bc_io.specs.Told.{HasRoom, HeldGrows, IsPrefix, RoomFalls, TakesFront}
@@ -8,8 +8,8 @@ use Rattle.bc_cli.specs.Outcomes.{WritesFront}
 use Rattle.bc_model.specs.Lists.{PhaseLists}
 use Rattle.bc_model.specs.Run.{after_phase, after_phases, replies_of_phases, replies_to_lanes}
 use Rattle.bc_model.specs.State.{State}
-use Rattle.bc_model.specs.declared.operations.Reply.{Reply}
 use Rattle.bc_trace.specs.Replies.{phase_text, phases_text}
+use Rattle.bc_trace.proofs.Texts.{phases_text-append}
 use Rattle.bc_cli.specs.Output.{texts_from}
 
 -- the state after some phases and then one more
@@ -27,14 +27,6 @@ pub length-replies : (s : State) (ps : List PhaseLists) → length (replies_of_p
 unfolding replies_of_phases
 length-replies s [] = refl
 length-replies s (p ∷ ps) = ap suc (length-replies (after_phase s p) ps)
-
-pub phases_text-append : (k : ℕ) (rs qs : List (List (List Reply))) → phases_text k (rs ++ qs) ≡ phases_text k rs ++ phases_text (k + length rs) qs
-unfolding phases_text
-phases_text-append k [] qs = ap (λ n. phases_text n qs) (omega arith)
-phases_text-append k (r ∷ rs) qs =
-    ap (λ t. phase_text k r ++ t) (phases_text-append (suc k) rs qs)
-    ∙ sym (append_assoc (phase_text k r) (phases_text (suc k) rs) _)
-    ∙ ap (λ n. (phase_text k r ++ phases_text (suc k) rs) ++ phases_text n qs) (omega arith)
 
 -- phases and then one more
 pub texts-more : (s : State) (ps : List PhaseLists) (p : PhaseLists) (n : ℕ) → n ≡ length ps + 1

@@ -1,4 +1,4 @@
-//! The worked rows, on `top`.
+//! Whole runs of `top`.
 
 mod devices;
 mod rows;

@@ -1,10 +1,11 @@
 -- A pool's list of free frames through a claim and a give.
-use Rattle.std.proofs.Common.{◌≡◌, ◌≢◌, ℕ, ◌+◌, ◌^◌, ◌<◌, ◌≤◌, ◌==◌, nat_lt, inl, inr, Bool, true, false, List, [], ◌∷◌, ◌++◌, length, set, count_by, replicate, refl, ap, sym, ◌∙◌, arith, tests, length-append, length-set, get_or-set_same, get_or-set_other}
-use Rattle.std.proofs.lemmas.Bool.{cases_eq, cases_lt, cases_Bool}
+use Rattle.std.proofs.Common.{◌≡◌, ℕ, ◌+◌, ◌^◌, ◌<◌, ◌≤◌, ◌==◌, nat_lt, inl, inr, Bool, true, false, List, [], ◌∷◌, ◌++◌, length, set, count_by, replicate, refl, ap, sym, ◌∙◌, arith, tests, length-append, length-set, get_or-set_same, get_or-set_other}
+use Rattle.std.proofs.lemmas.Bool.{cases_eq, cases_lt, cases_Bool, eq-eqb, ne_eqb}
 use Rattle.std.proofs.lemmas.List.{get_or_past, get_or-replicate, length-replicate}
 use Rattle.std.proofs.lemmas.List.Sums.{sum_by-set, sum_by-cons, sum_by_push, count_by-le-length}
 use Prim.Native.Nat.{zero, suc}
 use Rattle.bc_bits.specs.Counting.{one_if}
+use Rattle.bc_bits.proofs.CountLemmas.{one_if-le}
 use Rattle.bc_frames.specs.Pool.{is_free, free_count}
 use Rattle.bc_frames.specs.Listed.{IsListed}
 
@@ -16,12 +17,6 @@ free-below fs n free =
       | inr out ↦ absurd (let e : false ≡ true = sym (get_or_past fs n false out) ∙ free in cc)
     ]
 
-same_number : (n : ℕ) → (n == n) ≡ true
-same_number n = grind (arith, tests)
-
-other_number : (n m : ℕ) → n ≢ m → (n == m) ≡ false
-other_number n m ne = grind (arith, tests)
-
 one_if-same : (b c : Bool) → b ≡ c → one_if b ≡ one_if c
 one_if-same b c same = ap one_if same
 
@@ -31,16 +26,12 @@ count-push ns n m = sum_by_push _ ns n
 pub free_count-set : (fs : List Bool) (n : ℕ) (v : Bool) → n < length fs → free_count (set fs n v) + one_if (is_free fs n) ≡ free_count fs + one_if v
 free_count-set fs n v lt = sum_by-set _ fs n v false lt
 
-one_if-le : (b : Bool) → one_if b ≤ 1
-one_if-le true = omega arith
-one_if-le false = omega arith
-
 -- the last number of the list is that of a free frame
 pub claim-free : (fs : List Bool) (ns : List ℕ) (n room : ℕ) → IsListed fs (ns ++ n ∷ []) room → is_free fs n ≡ true
 claim-free fs ns n room h =
     let once = h.once n in
     let push = count-push ns n n in
-    let here : one_if (n == n) ≡ 1 = one_if-same _ _ (same_number n) in
+    let here : one_if (n == n) ≡ 1 = one_if-same _ _ (eq-eqb n n refl) in
     elim (cases_Bool (is_free fs n)) [
       | inl free ↦ free
       | inr taken ↦ absurd (let none : one_if (is_free fs n) ≡ 0 = one_if-same _ _ taken in omega arith)
@@ -67,13 +58,13 @@ IsListed-claim fs ns n room h =
         let push = count-push ns n m in
         elim (cases_eq m n) [
           | inl same ↦
-              let here : one_if (n == m) ≡ 1 = one_if-same (n == m) true (rw same (same_number n)) in
+              let here : one_if (n == m) ≡ 1 = one_if-same (n == m) true (eq-eqb n m (sym same)) in
               let most = one_if-le (is_free fs m) in
               let none : count_by (λ k. k == m) ns ≡ 0 = omega arith in
               let after : is_free (set fs n false) m ≡ false = rw same (rw get_or-set_same refl) in
               none ∙ sym (one_if-same (is_free (set fs n false) m) false after)
           | inr other ↦
-              let here : one_if (n == m) ≡ 0 = one_if-same (n == m) false (other_number n m (λ e. other (sym e))) in
+              let here : one_if (n == m) ≡ 0 = one_if-same (n == m) false (ne_eqb n m (λ e. other (sym e))) in
               rw get_or-set_other (omega arith)
         ]
 
@@ -96,13 +87,13 @@ IsListed-give fs ns n room h lt taken =
         let push = count-push ns n m in
         elim (cases_eq m n) [
           | inl same ↦
-              let here : one_if (n == m) ≡ 1 = one_if-same (n == m) true (rw same (same_number n)) in
+              let here : one_if (n == m) ≡ 1 = one_if-same (n == m) true (eq-eqb n m (sym same)) in
               let before : one_if (is_free fs m) ≡ 0 = rw same none in
               let total : count_by (λ k. k == m) (ns ++ n ∷ []) ≡ 1 = omega arith in
               let after : is_free (set fs n true) m ≡ true = rw same (rw get_or-set_same refl) in
               total ∙ sym (one_if-same (is_free (set fs n true) m) true after)
           | inr other ↦
-              let here : one_if (n == m) ≡ 0 = one_if-same (n == m) false (other_number n m (λ e. other (sym e))) in
+              let here : one_if (n == m) ≡ 0 = one_if-same (n == m) false (ne_eqb n m (λ e. other (sym e))) in
               rw get_or-set_other (omega arith)
         ]
 
@@ -133,14 +124,24 @@ none-free fs room n h =
       | inr taken ↦ taken
     ]
 
-free_count-all : (n : ℕ) → free_count (replicate n true) ≡ n
+-- where no frame is free their number is 0
+pub free_count-none : (fs : List Bool) → ((n : ℕ) → is_free fs n ≡ false) → free_count fs ≡ 0
+free_count-none [] none = refl
+free_count-none (b ∷ fs) none =
+    let here : one_if b ≡ 0 = one_if-same _ _ (none 0) in
+    let rest = free_count-none fs (λ n. none (suc n)) in
+    let more = sum_by-cons (λ (c : Bool). one_if c) b fs in
+    omega arith
+
+-- a pool in which all frames are free
+pub free_count-all : (n : ℕ) → free_count (replicate n true) ≡ n
 free_count-all zero = refl
 free_count-all (suc n) =
     let more = sum_by-cons (λ (b : Bool). one_if b) true (replicate n true) in
     let rest = free_count-all n in
     omega arith
 
-is_free-all : (n m : ℕ) → is_free (replicate n true) m ≡ nat_lt m n
+pub is_free-all : (n m : ℕ) → is_free (replicate n true) m ≡ nat_lt m n
 is_free-all n m =
     elim (cases_lt m n) [
       | inl lt ↦ rw (get_or-replicate n m true false lt) (grind (arith, tests))

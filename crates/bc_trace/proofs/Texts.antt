@@ -34,9 +34,10 @@ pub phases_text-cons : (k : ℕ) (p : List (List Reply)) (ps : List (List (List 
 unfolding phases_text
 phases_text-cons k p ps = refl
 
-pub phases_text-append : (k : ℕ) (ps : List (List (List Reply))) (p : List (List Reply)) → phases_text k (ps ++ p ∷ []) ≡ phases_text k ps ++ phase_text (k + length ps) p
+pub phases_text-append : (k : ℕ) (ps qs : List (List (List Reply))) → phases_text k (ps ++ qs) ≡ phases_text k ps ++ phases_text (k + length ps) qs
 unfolding phases_text
-phases_text-append k [] p = append-nil (phase_text k p) ∙ ap (λ n. phase_text n p) (omega arith)
-phases_text-append k (q ∷ ps) p =
-    let n : suc k + length ps ≡ k + suc (length ps) = omega arith in
-    ap (λ t. phase_text k q ++ t) (phases_text-append (suc k) ps p ∙ rw n refl) ∙ sym (append_assoc (phase_text k q) (phases_text (suc k) ps) (phase_text (k + suc (length ps)) p))
+phases_text-append k [] qs = ap (λ n. phases_text n qs) (omega arith)
+phases_text-append k (p ∷ ps) qs =
+    ap (λ t. phase_text k p ++ t) (phases_text-append (suc k) ps qs)
+    ∙ sym (append_assoc (phase_text k p) (phases_text (suc k) ps) _)
+    ∙ ap (λ n. (phase_text k p ++ phases_text (suc k) ps) ++ phases_text n qs) (omega arith)
