@@ -1,0 +1,12 @@
+pub mod ObjectLemmas
+pub mod MeaningLemmas
+pub mod TellingLemmas
+pub mod RootLemmas
+pub mod StateLemmas
+pub mod VecLemmas
+pub mod WritingLemmas
+pub mod RecordLemmas
+pub mod MatureLemmas
+pub mod YoungLemmas
+pub mod NewLemmas
+pub mod StepLemmas

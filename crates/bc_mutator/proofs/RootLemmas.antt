@@ -1,0 +1,249 @@
+-- A root slot becomes another word: the heap stays closed, and it stands for the state with that value in the slot.
+use Rattle.std.proofs.Common.{◌≡◌, ◌⊎◌, true, ℕ, ◌<◌, List, length, get_or, set, Some, refl, sym, ap, subst, ◌∙◌, inl, inr, arith, get_or-set_same, get_or-set_other}
+use Rattle.std.proofs.lemmas.Bool.{cases_eq, cases_lt}
+use Rattle.std.proofs.lemmas.List.{set-get_or, set_past, map-set}
+use Rattle.std.proofs.lemmas.Nat.{same_from_place}
+use Rattle.bc_cycle.specs.declared.heaps.Heap.{Heap}
+use Rattle.bc_heap.specs.Closed.{chunk_of, buffer_of, IsCellOrYoung, IsRecorded}
+use Rattle.bc_heap.specs.Heaps.{end_of, heap_memory, root_words}
+use Rattle.bc_heap.specs.Running.{IsRunning, StandsAs}
+use Rattle.bc_memory.specs.Memory.{Cell, Memory}
+use Rattle.bc_model.specs.Consistent.{IsValue}
+use Rattle.bc_model.specs.State.{State, place_of, slot_of, field_of, with_slot}
+use Rattle.bc_model.specs.Step.{act, loaded}
+use Rattle.bc_model.specs.declared.operations.Op.{Op}
+use Rattle.bc_model.specs.declared.operations.Op.TheVariants.{Load}
+use Rattle.bc_model.specs.declared.operations.Reply.{Reply}
+use Rattle.bc_model.specs.declared.values.Birth.{Birth}
+use Rattle.bc_model.specs.declared.values.Slot.{Slot}
+use Rattle.bc_model.specs.declared.values.Value.{Value}
+use Rattle.bc_model.specs.declared.values.Value.TheVariants as value
+use Rattle.bc_model.proofs.States.{IsState-with_slot}
+use Rattle.bc_nursery.specs.Entries.{Entries}
+use Rattle.bc_nursery.specs.Objects.{Nursery, has_object}
+use Rattle.bc_standing.specs.Standing.{birth_of, births, Stands, StandsFor, AllBorn}
+use Rattle.bc_standing.proofs.Keeping.{AllBorn-reached}
+use Rattle.bc_standing.proofs.Reading.{read_birth}
+use Rattle.bc_standing.proofs.Writing.{Stands-slot}
+use Rattle.bc_superpages.specs.Layout.{Layout, IsAllocated}
+use Rattle.bc_superpages.specs.Memory as space
+use Rattle.bc_superpages.specs.RootWords.{RootWords, root_place}
+use Rattle.bc_superpages.proofs.MemoryLemmas.{memory_of-cell}
+use Rattle.bc_word.proofs.WordLemmas.{word_of_bits-word_bits}
+use Rattle.bc_word.specs.Words.{word_bits, word_of_bits, FitsWord}
+use Rattle.bc_word.specs.declared.addresses.Address.{Address}
+use Rattle.bc_word.specs.declared.words.Word.{Word}
+use Rattle.bc_word.specs.declared.words.Word.TheVariants as word
+use Rattle.bc_mutator.specs.Effects.{with_root, Answers, Leaves, HasRecorded, IsDone}
+use Rattle.bc_mutator.specs.Objects.{Runs, Means, IsReady, IsRead, IsOwn, IsOfLane, ActsOnField, RefusesField, memory_of, own_chunk, cell_of, slot_word, loaded_as}
+use Rattle.bc_mutator.proofs.MeaningLemmas.{same_place, read-nil, read-num, read-ref, read-field, home-ref}
+use Rattle.bc_mutator.proofs.ObjectLemmas.{there-below, there-above, cell_of-below, cell_of-above, memory-there}
+use Rattle.bc_mutator.proofs.TellingLemmas.{word-read, is-object}
+
+-- a word of the list is as before, or it is the one that is written
+set_cases : (ws : List ℕ) (i n k : ℕ) (P : ℕ → Type 0) → P (get_or ws k 0) → (k ≡ i → P n) → P (get_or (set ws i n) k 0)
+set_cases ws i n k P old new = elim (cases_eq k i) [
+  | inl e ↦ elim (cases_lt i (length ws)) [
+    | inl within ↦ subst (λ (j : ℕ). P (get_or (set ws i n) j 0)) (sym e) (subst P (sym (get_or-set_same ws i n 0 within)) (new e))
+    | inr past ↦ subst (λ (xs : List ℕ). P (get_or xs k 0)) (sym (set_past ws i n past)) old
+  ]
+  | inr ne ↦ subst P (sym (get_or-set_other ws i k n 0 ne)) old
+]
+
+-- the heap stays closed
+pub running-root : (s : Layout) (r : RootWords) (cs : List Nursery) (bs : List Entries) (hs : List ℕ) (p : Slot) (w : Word) → IsRunning s r cs bs hs → p.slot < r.slots → IsOwn s (chunk_of cs (get_or hs p.domain 0)) w → IsRunning s (with_root r p w) cs bs hs
+running-root s r cs bs hs p w run within own = record {
+  none_gone = run.none_gone;
+  none_promised = run.none_promised;
+  laid = run.laid;
+  once = run.once;
+  closed = record {
+    lanes = run.closed.lanes;
+    domains = run.closed.domains;
+    holder = run.closed.holder;
+    root = λ d t a lt fits. set_cases r.words (root_place r p.domain p.slot) (word_bits w) (root_place r d t)
+        (λ (n : ℕ). word_of_bits n ≡ word.Ref a → IsCellOrYoung s (chunk_of cs (get_or hs d 0)) a.0)
+        (run.closed.root d t a lt fits) (λ e. here d t a fits e);
+    young_domain = run.closed.young_domain;
+    young = run.closed.young;
+    mature_domain = run.closed.mature_domain;
+    mature = run.closed.mature;
+    entries = run.closed.entries;
+  };
+}
+  where
+    here : (d t : ℕ) (a : Address) → t < r.slots → root_place r d t ≡ root_place r p.domain p.slot → word_of_bits (word_bits w) ≡ word.Ref a → IsCellOrYoung s (chunk_of cs (get_or hs d 0)) a.0
+    here d t a fits e is =
+        subst (λ (x : ℕ). IsCellOrYoung s (chunk_of cs (get_or hs x 0)) a.0) (sym (same_from_place d t p.domain p.slot r.slots fits within e).0)
+        (own a (sym (word_of_bits-word_bits w) ∙ is))
+
+-- what a word is read as may be held
+pub value-held : (m : Memory) (roots : List Word) (state : State) (w : Word) (v : Value) → StandsFor m roots state → AllBorn m state.made → FitsWord w → IsRead m state w v → IsValue state.made v
+value-held m roots state w value.Nil stands born fits h = tt
+value-held m roots state word.Nil (value.Num n) stands born fits h = absurd (none h.value)
+  where
+    none : Some value.Nil ≡ Some (value.Num n) → ⊥
+    none e = cc
+value-held m roots state (word.Num k) (value.Num n) stands born fits h = let e = same h.value in omega arith
+  where
+    same : Some (value.Num k) ≡ Some (value.Num n) → k ≡ n
+    same e = cc
+value-held m roots state (word.Ref a) (value.Num n) stands born fits h = let f = read_birth (births m a.0) (value.Num n) h.value in absurd (none f.0 f.2)
+  where
+    none : (b : Birth) → value.Num n ≡ value.Obj b → ⊥
+    none b e = cc
+value-held m roots state w (value.Obj b) stands born fits h = AllBorn-reached m roots state.slots state.made b stands born (h.reached b refl)
+
+-- the root words
+pub root_words-set : (r : RootWords) (p : Slot) (w : Word) → root_words (with_root r p w) ≡ set (root_words r) (root_place r p.domain p.slot) w
+root_words-set r p w =
+    map-set word_of_bits r.words (root_place r p.domain p.slot) (word_bits w)
+    ∙ ap (λ (x : Word). set (root_words r) (root_place r p.domain p.slot) x) (word_of_bits-word_bits w)
+
+-- the heap stands for the state with the value in the slot
+pub stands-root : (s : Layout) (r : RootWords) (cs : List Nursery) (hs serials : List ℕ) (state : State) (p : Slot) (w : Word) (v : Value) → StandsAs s r cs hs serials state → FitsWord w → IsRead (heap_memory s cs) state w v → StandsAs s (with_root r p w) cs hs serials (with_slot state p v)
+stands-root s r cs hs serials state p w v h fits read = record {
+  consistent = IsState-with_slot state p v h.consistent (value-held m (root_words r) state w v h.stands h.born fits read);
+  stands = subst (λ (ws : List Word). Stands m ws (set state.slots (place_of state.width p) v) state.made) (sym words)
+      (Stands-slot m (root_words r) state.slots state.made (place_of state.width p) w v h.stands read.value read.reached);
+  born = h.born;
+  held = h.held;
+  births = h.births;
+  domains = h.domains;
+  slots = h.slots;
+  lanes = h.lanes;
+}
+  where
+    m : Memory
+    m = heap_memory s cs
+
+    words : root_words (with_root r p w) ≡ set (root_words r) (place_of state.width p) w
+    words = root_words-set r p w ∙ ap (λ (i : ℕ). set (root_words r) i w) (same_place r state.width p h.slots)
+
+-- the list of births stays where a lane's number stays
+pub same_serials : (serials : List ℕ) (lane serial : ℕ) → get_or serials lane 0 ≡ serial → set serials lane serial ≡ serials
+same_serials serials lane serial e = sym (ap (λ (n : ℕ). set serials lane n) e) ∙ set-get_or serials lane 0
+
+pub Leaves-itself : (h : Heap) (lane : ℕ) → Leaves lane h h
+Leaves-itself h lane = record {
+  others = λ l ne. (refl, refl);
+  space = refl;
+  roots = refl;
+  chunk = refl;
+  lists = (refl, refl, refl);
+  capacity = refl;
+  unrecorded = λ none. (refl, refl);
+}
+
+-- an operation that changes nothing is done
+pub done-answers : (h : Heap) (hs : List ℕ) (lane serial : ℕ) (op : Op) (reply : Reply) → Runs h hs → Answers h hs lane op reply → HasRecorded h h hs lane op reply → IsDone h h hs lane serial serial op reply
+done-answers h hs lane serial op reply runs answers recorded = record {
+  step = λ serials state means e.
+      let is = answers serials state means in (
+        ap (λ (x : State × Reply). x.1) is,
+        subst (λ (xs : List ℕ). Means h hs xs (act state lane op).0) (sym (same_serials serials lane serial e))
+            (subst (λ (x : State). Means h hs serials x) (sym (ap (λ (x : State × Reply). x.0) is)) means),
+      );
+  running = λ none. runs;
+  later = λ none. none;
+  others_later = λ l n ne none. none;
+  leaves = Leaves-itself h lane;
+  recorded = recorded;
+}
+
+-- so is one that writes a root slot
+pub done-root : (h : Heap) (r : RootWords) (hs : List ℕ) (lane serial : ℕ) (p : Slot) (w : Word) (op : Op) (reply : Reply) → IsReady h hs lane → r ≡ with_root h.roots p w → p.slot < h.roots.slots → get_or hs p.domain 0 ≡ lane → IsOwn h.space (own_chunk h lane) w → FitsWord w → ((serials : List ℕ) → (state : State) → Means h hs serials state → (v : Value) × IsRead (memory_of h) state w v × (act state lane op ≡ (with_slot state p v, reply))) → HasRecorded h h hs lane op reply → IsDone h (record h { roots = r }) hs lane serial serial op reply
+done-root h r hs lane serial p w op reply ready is within held own fits effect recorded = subst (λ (x : RootWords). IsDone h (record h { roots = x }) hs lane serial serial op reply) (sym is) (record {
+  step = λ serials state means e.
+      let k = effect serials state means in (
+        ap (λ (x : State × Reply). x.1) k.2,
+        subst (λ (xs : List ℕ). StandsAs h.space (with_root h.roots p w) h.chunks.items hs xs (act state lane op).0) (sym (same_serials serials lane serial e))
+            (subst (λ (x : State). StandsAs h.space (with_root h.roots p w) h.chunks.items hs serials x) (sym (ap (λ (x : State × Reply). x.0) k.2))
+            (stands-root h.space h.roots h.chunks.items hs serials state p w k.0 means fits k.1)),
+      );
+  running = λ none. running-root h.space h.roots h.chunks.items h.buffers.items hs p w ready.running within
+      (subst (λ (l : ℕ). IsOwn h.space (chunk_of h.chunks.items l) w) (sym held) own);
+  later = λ none. none;
+  others_later = λ l n ne none. none;
+  leaves = record {
+    others = λ l ne. (refl, refl);
+    space = refl;
+    roots = refl;
+    chunk = refl;
+    lists = (refl, refl, refl);
+    capacity = refl;
+    unrecorded = λ none. (refl, refl);
+  };
+  recorded = recorded;
+})
+
+-- nil is nobody's reference, and is read as nil
+pub own-nil : (s : Layout) (c : Nursery) → IsOwn s c word.Nil
+own-nil s c = λ a e. absurd (none a e)
+  where
+    none : (b : Address) → word.Nil ≡ word.Ref b → ⊥
+    none b f = cc
+
+pub own-num : (s : Layout) (c : Nursery) (n : ℕ) → IsOwn s c (word.Num n)
+own-num s c n = λ a e. absurd (none a e)
+  where
+    none : (b : Address) → word.Num n ≡ word.Ref b → ⊥
+    none b f = cc
+
+pub nil-read : (m : Memory) (state : State) → IsRead m state word.Nil value.Nil
+nil-read m state = record { value = refl; reached = λ b e. absurd (none b e) }
+  where
+    none : (c : Birth) → value.Nil ≡ value.Obj c → ⊥
+    none c f = cc
+
+pub num-read : (m : Memory) (state : State) (n : ℕ) → IsRead m state (word.Num n) (value.Num n)
+num-read m state n = record { value = refl; reached = λ b e. absurd (none b e) }
+  where
+    none : (c : Birth) → value.Num n ≡ value.Obj c → ⊥
+    none c f = cc
+
+-- a field of an object of the lane's has a word of the lane's
+pub own-field : (h : Heap) (hs : List ℕ) (lane i : ℕ) (w : Word) (a : Address) → IsReady h hs lane → IsOfLane h hs lane w a → IsOwn h.space (own_chunk h lane) (get_or (cell_of h.space (own_chunk h lane) a.0).fields i word.Nil)
+own-field h hs lane i w a ready of = λ b e. elim (cases_lt a.0 (end_of h.space)) [
+  | inl below ↦
+      let on = there-below h.space (own_chunk h lane) a.0 ready.behind of.there below in
+      let is = cell_of-below h.space (own_chunk h lane) a.0 below in
+      let c = space.cell_at h.space.pages a.0 in
+      let held : get_or hs c.head.domain 0 ≡ lane = subst (λ (x : Cell). get_or hs x.head.domain 0 ≡ lane) is of.held in
+      named b c held (ready.running.closed.mature a.0 i c b (memory_of-cell h.space.classes h.space.cells h.space.pages a.0 on)
+      (subst (λ (x : Cell). get_or x.fields i word.Nil ≡ word.Ref b) is e))
+  | inr above ↦
+      let on = there-above h.space (own_chunk h lane) a.0 ready.layout of.there above in
+      ready.running.closed.young lane a.0 i b ready.lane_within on
+      (subst (λ (x : Cell). get_or x.fields i word.Nil ≡ word.Ref b) (cell_of-above h.space (own_chunk h lane) a.0 above) e)
+]
+  where
+    named : (b : Address) (c : Cell) → get_or hs c.head.domain 0 ≡ lane → IsAllocated h.space b.0 ⊎ ((has_object (own_chunk h (get_or hs c.head.domain 0)) b.0 ≡ true) × IsRecorded (buffer_of h.buffers.items (get_or hs c.head.domain 0)) a.0 i) → IsCellOrYoung h.space (own_chunk h lane) b.0
+    named b c held (inl on) = inl on
+    named b c held (inr on) = inr (subst (λ (l : ℕ). has_object (own_chunk h l) b.0 ≡ true) held on.0)
+
+-- what is told of what is loaded
+pub loaded-read : (m : Memory) (state : State) (w : Word) (v : Value) → IsRead m state w v → loaded v ≡ loaded_as w
+loaded-read m state word.Nil v h = ap loaded (read-nil m state word.Nil v refl h)
+loaded-read m state (word.Num n) v h = ap loaded (read-num m state (word.Num n) v n refl h)
+loaded-read m state (word.Ref a) v h = ap loaded (is-object m state (word.Ref a) v a refl h).1
+
+-- a load, where it is done: the field's word goes to the second slot
+pub load-effect : (h : Heap) (hs serials : List ℕ) (lane i : ℕ) (p q : Slot) (w : Word) (a : Address) (reply : Reply) (state : State) → IsReady h hs lane → w ≡ slot_word h.roots p → IsOfLane h hs lane w a → ActsOnField h hs lane w i a → reply ≡ loaded_as (get_or (cell_of h.space (own_chunk h lane) a.0).fields i word.Nil) → Means h hs serials state → (v : Value) × IsRead (memory_of h) state (get_or (cell_of h.space (own_chunk h lane) a.0).fields i word.Nil) v × (act state lane (Load p i q) ≡ (with_slot state q v, reply))
+load-effect h hs serials lane i p q w a reply state ready e of acts is means =
+    let c = cell_of h.space (own_chunk h lane) a.0 in
+    let b = birth_of c.head in
+    let read = word-read h hs serials state p w e means in
+    let at = memory-there h.space h.chunks.items lane a.0 ready.layout ready.apart ready.lane_within of.there in
+    let home = home-ref (memory_of h) (root_words h.roots) state w (slot_of state p) a c means.stands of.refers at read in
+    let reached = read.reached b (read-ref (memory_of h) state w (slot_of state p) a c of.refers at read) in
+    let field = read-field (memory_of h) state b a.0 i c reached home in (
+      field_of state b i,
+      field,
+      acts serials state (slot_of state p) means read (λ x. (with_slot state q (field_of state x i), loaded (field_of state x i)))
+          ∙ ap (λ (r : Reply). let pair : State × Reply = (with_slot state q (field_of state b i), r) in pair) (loaded-read (memory_of h) state (get_or c.fields i word.Nil) (field_of state b i) field ∙ sym is),
+    )
+
+pub load-refuses : (h : Heap) (hs : List ℕ) (lane i : ℕ) (p q : Slot) (w : Word) (r : Reply) → w ≡ slot_word h.roots p → RefusesField h hs lane w i r → Answers h hs lane (Load p i q) r
+load-refuses h hs lane i p q w r e refuses = λ serials state means.
+    refuses serials state (slot_of state p) means (word-read h hs serials state p w e means) (λ x. (with_slot state q (field_of state x i), loaded (field_of state x i)))

@@ -1,0 +1,110 @@
+-- The objects that an operation of a lane may look at: allocated cells, and objects of the lane's own chunk.
+use Rattle.std.specs.Prelude.{◌≡◌, ℕ, ◌<◌, ◌≤◌, nat_lt, if◌then◌else◌, true, List, length, slice_index, Some}
+use Rattle.bc_cycle.specs.declared.heaps.Heap.{Heap}
+use Rattle.bc_heap.specs.Closed.{chunk_of, IsCellOrYoung}
+use Rattle.bc_heap.specs.Heaps.{end_of, heap_memory, mature, young, AreApart}
+use Rattle.bc_heap.specs.Running.{IsRunning, StandsAs}
+use Rattle.bc_memory.specs.Memory.{Cell, Memory}
+use Rattle.bc_model.specs.Reached.{Reached}
+use Rattle.bc_model.specs.State.{State}
+use Rattle.bc_model.specs.Step.{on_object, on_field}
+use Rattle.bc_model.specs.declared.operations.Reply.{Reply}
+use Rattle.bc_model.specs.declared.operations.Reply.TheVariants as reply
+use Rattle.bc_model.specs.declared.values.Birth.{Birth}
+use Rattle.bc_model.specs.declared.values.Slot.{Slot}
+use Rattle.bc_model.specs.declared.values.Value.{Value}
+use Rattle.bc_model.specs.declared.values.Value.TheVariants.{Obj}
+use Rattle.bc_nursery.specs.Objects.{Nursery, IsChunk, has_object, the_object}
+use Rattle.bc_standing.specs.Standing.{birth_of, births, read}
+use Rattle.bc_superpages.specs.Kept.{IsLayout}
+use Rattle.bc_superpages.specs.Layout.{Layout}
+use Rattle.bc_superpages.specs.Memory as space
+use Rattle.bc_superpages.specs.RootWords.{RootWords, root_at}
+use Rattle.bc_word.specs.declared.addresses.Address.{Address}
+use Rattle.bc_word.specs.declared.words.Word.{Word}
+use Rattle.bc_word.specs.declared.words.Word.TheVariants.{Nil, Num, Ref}
+use Rattle.bc_word.specs.Words.{word_of_bits}
+
+-- a heap between operations, and what it stands for
+abbrev pub Runs : Heap → List ℕ → Type 0
+Runs h holders = IsRunning h.space h.roots h.chunks.items h.buffers.items holders
+
+abbrev pub Means : Heap → List ℕ → List ℕ → State → Type 0
+Means h holders serials state = StandsAs h.space h.roots h.chunks.items holders serials state
+
+-- the chunk of a lane, and the heap as a memory
+abbrev pub own_chunk : Heap → ℕ → Nursery
+own_chunk h lane = chunk_of h.chunks.items lane
+
+abbrev pub memory_of : Heap → Memory
+memory_of h = heap_memory h.space h.chunks.items
+
+-- the type of each chunk keeps what it does
+abbrev pub AreWhole : List Nursery → Type 0
+AreWhole chunks = (l : ℕ) → l < length chunks → IsChunk (chunk_of chunks l)
+
+-- the chunk's objects lie behind the superpages
+abbrev pub LieBehind : Layout → Nursery → Type 0
+LieBehind s chunk = (a : ℕ) → has_object chunk a ≡ true → end_of s ≤ a
+
+-- the object at an address, of a cell or of the chunk
+abbrev pub cell_of : Layout → Nursery → ℕ → Cell
+cell_of s chunk a = if nat_lt a (end_of s) then mature (space.cell_at s.pages a) else young (the_object chunk a)
+
+-- a word of the lane's: what it refers to is an allocated cell or an object of the lane's chunk
+abbrev pub IsOwn : Layout → Nursery → Word → Type 0
+IsOwn s chunk word = (a : Address) → word ≡ Ref a → IsCellOrYoung s chunk a.0
+
+-- the word in a root slot
+abbrev pub slot_word : RootWords → Slot → Word
+slot_word roots p = word_of_bits (root_at roots p.domain p.slot)
+
+-- what a lane is answered that loads the word
+abbrev pub loaded_as : Word → Reply
+loaded_as Nil = reply.Nil
+loaded_as (Num n) = reply.Num n
+loaded_as (Ref a) = reply.Ref
+
+-- a lane may do an operation
+pub record IsReady (h : Heap) (holders : List ℕ) (lane : ℕ) : Type 0 where
+  pub running : Runs h holders
+  pub layout : IsLayout h.space
+  pub few_domains : h.roots.domains ≤ 64
+  pub lane_within : lane < length h.chunks.items
+  pub whole : AreWhole h.chunks.items
+  pub apart : AreApart (end_of h.space) h.chunks.items
+  pub behind : LieBehind h.space (own_chunk h lane)
+
+-- the word is read as the value, and what it refers to is reached
+pub record IsRead (m : Memory) (state : State) (word : Word) (v : Value) : Type 0 where
+  pub value : read (births m) word ≡ Some v
+  pub reached : (b : Birth) → v ≡ Obj b → Reached state.slots state.made b
+
+-- the word refers to an object of a domain that the lane holds
+pub record IsOfLane (h : Heap) (holders : List ℕ) (lane : ℕ) (word : Word) (a : Address) : Type 0 where
+  pub refers : word ≡ Ref a
+  pub there : IsCellOrYoung h.space (own_chunk h lane) a.0
+  pub held : slice_index holders (cell_of h.space (own_chunk h lane) a.0).head.domain ≡ lane
+
+-- an operation on the object that the word is read as is done to the object at this address
+abbrev pub ActsOn : Heap → List ℕ → ℕ → Word → Address → Type 0
+ActsOn h holders lane word a =
+    (serials : List ℕ) → (state : State) → (v : Value) → Means h holders serials state → IsRead (memory_of h) state word v
+    → (next : Birth → State × Reply) → on_object state lane v next ≡ next (birth_of (cell_of h.space (own_chunk h lane) a.0).head)
+
+-- or it changes nothing, and is answered this
+abbrev pub Refuses : Heap → List ℕ → ℕ → Word → Reply → Type 0
+Refuses h holders lane word reply =
+    (serials : List ℕ) → (state : State) → (v : Value) → Means h holders serials state → IsRead (memory_of h) state word v
+    → (next : Birth → State × Reply) → on_object state lane v next ≡ (state, reply)
+
+-- the same of an operation on a field
+abbrev pub ActsOnField : Heap → List ℕ → ℕ → Word → ℕ → Address → Type 0
+ActsOnField h holders lane word index a =
+    (serials : List ℕ) → (state : State) → (v : Value) → Means h holders serials state → IsRead (memory_of h) state word v
+    → (next : Birth → State × Reply) → on_field state lane v index next ≡ next (birth_of (cell_of h.space (own_chunk h lane) a.0).head)
+
+abbrev pub RefusesField : Heap → List ℕ → ℕ → Word → ℕ → Reply → Type 0
+RefusesField h holders lane word index reply =
+    (serials : List ℕ) → (state : State) → (v : Value) → Means h holders serials state → IsRead (memory_of h) state word v
+    → (next : Birth → State × Reply) → on_field state lane v index next ≡ (state, reply)
