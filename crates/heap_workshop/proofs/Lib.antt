@@ -1,0 +1,5 @@
+pub mod RunningLemmas
+pub mod CollectedLemmas
+pub mod CountLemmas
+pub mod OpeningLemmas
+pub mod SoundLemmas

@@ -1,0 +1,86 @@
+-- A heap to be worked on by tests and benches.
+use Rattle.std.specs.Prelude.{◌≡◌, ℕ, ◌+◌, ◌*◌, ◌%◌, ◌<◌, ◌≤◌, false, List, [], length, map, replicate, slice_index, slice_index_or, Some}
+use Rattle.std.specs.List.{sum_by}
+use Rattle.bc_bits.specs.Bits.{has}
+use Rattle.bc_bits.specs.Counting.{count_below}
+use Rattle.bc_cycle.specs.Emptying.{Parts}
+use Rattle.bc_cycle.specs.declared.heaps.Heap.{Heap}
+use Rattle.bc_heap.specs.Heaps.{HasFrames, heap_memory}
+use Rattle.bc_heap.specs.Running.{IsRunning, StandsAs}
+use Rattle.bc_model.specs.State.{State, numbers_below}
+use Rattle.bc_model.specs.declared.values.Birth.{Birth}
+use Rattle.bc_mutator.specs.Operations.{NoneLater}
+use Rattle.bc_nursery.specs.Entries.{Entries}
+use Rattle.bc_nursery.specs.Objects.{Nursery}
+use Rattle.bc_standing.specs.Standing.{births}
+use Rattle.bc_superpages.specs.Calls.{opening}
+use Rattle.bc_superpages.specs.Layout.{Layout, superpages, set_of}
+use Rattle.bc_superpages.specs.RootWords.{RootWords}
+use Rattle.heap_workshop.specs.declared.workshops.Sizes.{Sizes}
+
+-- the heap, the lane that holds each domain, and the number of births of each lane
+pub record Bench : Type 0 where
+  pub space : Layout
+  pub roots : RootWords
+  pub chunks : List Nursery
+  pub buffers : List Entries
+  pub holders : List ℕ
+  pub serials : List ℕ
+
+-- the workshop of a heap, the heap alone, and what it stands for
+abbrev pub bench_of : Heap → List ℕ → List ℕ → Bench
+bench_of h holders serials = record { space = h.space; roots = h.roots; chunks = h.chunks.items; buffers = h.buffers.items; holders = holders; serials = serials }
+
+abbrev pub parts_of : Bench → Parts
+parts_of w = record { space = w.space; roots = w.roots; chunks = w.chunks; buffers = w.buffers }
+
+abbrev pub Stands : Bench → State → Type 0
+Stands w state = StandsAs w.space w.roots w.chunks w.holders w.serials state
+
+-- what is true between operations and collections: the heap is running, no object of it has a later birth of a lane than the
+-- lane's last one, and there is a frame for every page
+pub record IsSound (w : Bench) : Type 0 where
+  pub running : IsRunning w.space w.roots w.chunks w.buffers w.holders
+  pub later : (l : ℕ) → l < length w.serials → NoneLater w.space w.chunks l (slice_index w.serials l)
+  pub frames : HasFrames w.space
+  pub lanes : length w.chunks ≡ length w.serials
+  pub few : length w.serials ≤ 16
+
+-- each size is in its range
+pub record AreSizes (z : Sizes) : Type 0 where
+  pub some_lanes : 1 ≤ z.lanes
+  pub lanes : z.lanes ≤ 16
+  pub domains : z.domains ≤ 64
+  pub slots : z.slots ≤ 256
+  pub superpages : z.superpages ≤ 4096
+  pub nursery : z.nursery ≤ 4096
+
+-- the chunk of a lane at the opening: chunks follow one another behind the superpages
+abbrev pub new_chunk : Sizes → ℕ → Nursery
+new_chunk z lane = record { base = 2048 * z.superpages + 512 * z.nursery * lane; words = 512 * z.nursery; objects = [] }
+
+-- a workshop that opens: no object, every slot nil, a frame for every page, and domain d is held by lane d % lanes
+abbrev pub new_workshop : Sizes → Bench
+new_workshop z = record {
+  space = opening z.superpages (z.lanes * z.nursery + 4 * z.superpages) (z.lanes * z.nursery);
+  roots = record { domains = z.domains; slots = z.slots; words = replicate (z.domains * z.slots) 0 };
+  chunks = map (new_chunk z) (numbers_below z.lanes);
+  buffers = replicate z.lanes (record { capacity = z.buffer; entries = [] });
+  holders = map (λ d. d % z.lanes) (numbers_below z.domains);
+  serials = replicate z.lanes 0;
+}
+
+-- what a collection leaves: a heap that is running, in which no birth comes from nowhere, and as many frames and lanes
+pub record Collects (s : Layout) (r : RootWords) (cs : List Nursery) (t : Layout) (q : RootWords) (ds : List Nursery) (es : List Entries) (hs : List ℕ) : Type 0 where
+  pub running : IsRunning t q ds es hs
+  pub born : (x : ℕ) → (b : Birth) → births (heap_memory t ds) x ≡ Some b → (a : ℕ) × (births (heap_memory s cs) a ≡ Some b)
+  pub frames : HasFrames s → HasFrames t
+  pub lanes : length ds ≡ length cs
+
+-- how many superpages are in use
+abbrev pub used_count : Layout → ℕ
+used_count s = count_below (λ q. slice_index_or s.used q false) (superpages s)
+
+-- how many cells are allocated: those of each superpage
+abbrev pub allocated_count : Layout → ℕ
+allocated_count s = sum_by (λ q. count_below (has (set_of s.cells q)) 1024) (numbers_below (superpages s))

@@ -1,0 +1,94 @@
+//! Heaps built by hand, and what their collections leave of them.
+
+mod emptying;
+mod failsafe;
+
+use super::*;
+use bc_failsafe::Need;
+use bc_model::{Birth, Op, Reply, Slot};
+use std::process::Abort;
+use std::test::Fail;
+
+// Slots of domain 0, and two of domain 1.
+const A: Slot = Slot { domain: 0, slot: 0 };
+
+const B: Slot = Slot { domain: 0, slot: 1 };
+
+const C: Slot = Slot { domain: 0, slot: 2 };
+
+const D: Slot = Slot { domain: 0, slot: 3 };
+
+const X: Slot = Slot { domain: 1, slot: 0 };
+
+const Y: Slot = Slot { domain: 1, slot: 1 };
+
+/// One lane, one domain, and room for few objects.
+const SMALL: Sizes = Sizes {
+    lanes: 1,
+    domains: 1,
+    slots: 4,
+    superpages: 2,
+    nursery: 1,
+    buffer: 2,
+};
+
+/// One superpage, which 1,024 objects of one field fill, and room for more of them in the chunk.
+const ONE_SUPERPAGE: Sizes = Sizes {
+    lanes: 1,
+    domains: 1,
+    slots: 4,
+    superpages: 1,
+    nursery: 5,
+    buffer: 2,
+};
+
+/// The object of this birth of lane 0.
+fn object(serial: u32) -> Reply {
+    Reply::Obj(Birth { lane: 0, serial })
+}
+
+/// The lane does the operation, and is answered so.
+fn expect_of(rt: &impl Abort, workshop: &mut Workshop, lane: u32, op: Op, reply: Reply) {
+    assert_eq!(rt; workshop.operate(lane, &op), Ok(reply));
+}
+
+/// The same of lane 0.
+fn expect(rt: &impl Abort, workshop: &mut Workshop, op: Op, reply: Reply) {
+    expect_of(rt, workshop, 0, op, reply);
+}
+
+/// So many superpages are in use, and so many objects lie in cells.
+fn counted(rt: &impl Abort, workshop: &Workshop, superpages: u32, objects: u32) {
+    assert_eq!(rt; workshop.superpages_in_use(), superpages);
+    assert_eq!(rt; workshop.objects_in_cells(), objects);
+}
+
+/// Makes so many objects of one field, the first one with this serial number, and has each refer to what slot A refers to, and
+/// A to it. So they become a chain. B is used.
+fn chain(rt: &impl Abort, workshop: &mut Workshop, first: u32, objects: u32) {
+    for serial in 0..objects {
+        expect(
+            rt,
+            workshop,
+            Op::New(B, 1),
+            object(first.wrapping_add(serial)),
+        );
+        expect(rt, workshop, Op::Link(B, 0, A), Reply::Done);
+        expect(rt, workshop, Op::Copy(B, A), Reply::Done);
+    }
+    expect(rt, workshop, Op::Clear(B), Reply::Done);
+}
+
+/// From slot A on lies a chain of the first objects, the last one first. C is used.
+fn follow(rt: &impl Abort, workshop: &mut Workshop, objects: u32) {
+    expect(rt, workshop, Op::Copy(A, C), Reply::Done);
+    for serial in 0..objects {
+        expect(rt, workshop, Op::Who(C), object(objects - serial));
+        let next = if serial + 1 == objects {
+            Reply::Nil
+        } else {
+            Reply::Ref
+        };
+        expect(rt, workshop, Op::Load(C, 0, C), next);
+    }
+}
