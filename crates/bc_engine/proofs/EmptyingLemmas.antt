@@ -1,0 +1,120 @@
+-- What an emptying of the nurseries, or its refusal, means to an engine.
+use Rattle.std.proofs.Common.{◌≡◌, ℕ, List, length, map, sym, ap, subst, ◌∙◌}
+use Rattle.std.proofs.Math.ListN.{get_or-map}
+use Rattle.std.proofs.lemmas.List.{length-map}
+use Rattle.bc_cycle.specs.Emptying.{Parts, IsEmptied, IsAsBefore, bare_chunk}
+use Rattle.bc_failsafe.specs.Packing.{NeedOfHeap, without_entries}
+use Rattle.bc_heap.specs.Closed.{chunk_of, buffer_of, no_buffer}
+use Rattle.bc_heap.specs.Heaps.{heap_memory, root_words, no_chunk}
+use Rattle.bc_memory.specs.Memory.{Memory}
+use Rattle.bc_model.specs.State.{State}
+use Rattle.bc_model.specs.declared.traces.Setup.{Setup}
+use Rattle.bc_nursery.specs.Entries.{Entries}
+use Rattle.bc_nursery.specs.Objects.{Nursery, emptied}
+use Rattle.bc_standing.specs.Standing.{StandsFor, AllBorn}
+use Rattle.bc_promotion.specs.Promises.{HasDomainsBelow}
+use Rattle.bc_superpages.specs.RootWords.{RootWords}
+use Rattle.bc_engine.specs.Engines.{HasEmptyChunks, HasSetup, IsReady, IsUnrecorded, Stands}
+
+chunk-emptied : (cs : List Nursery) (l : ℕ) → chunk_of (map emptied cs) l ≡ emptied (chunk_of cs l)
+chunk-emptied cs l = get_or-map emptied cs l no_chunk
+
+buffer-emptied : (bs : List Entries) (l : ℕ) → buffer_of (map without_entries bs) l ≡ without_entries (buffer_of bs l)
+buffer-emptied bs l = get_or-map without_entries bs l no_buffer
+
+-- chunks that differ only in what is kept beside their objects are as many, and have as many words
+length-alike : (cs ds : List Nursery) → map bare_chunk ds ≡ map bare_chunk cs → length ds ≡ length cs
+length-alike cs ds e = sym (length-map ds bare_chunk) ∙ ap length e ∙ length-map cs bare_chunk
+
+words-alike : (cs ds : List Nursery) (l : ℕ) → map bare_chunk ds ≡ map bare_chunk cs → (chunk_of ds l).words ≡ (chunk_of cs l).words
+words-alike cs ds l e =
+    ap (λ (c : Nursery). c.words) (sym (get_or-map bare_chunk ds l no_chunk)) ∙ ap (λ (xs : List Nursery). (chunk_of xs l).words) e ∙ ap (λ (c : Nursery). c.words) (get_or-map bare_chunk cs l no_chunk)
+
+pub empty-chunks : (h k : Parts) → IsEmptied h k → HasEmptyChunks k
+empty-chunks h k is l = ap (λ (cs : List Nursery). (chunk_of cs l).objects) is.cleared ∙ ap (λ (c : Nursery). c.objects) (chunk-emptied h.chunks l)
+
+pub empty-buffers : (h k : Parts) → IsEmptied h k → IsUnrecorded k
+empty-buffers h k is = record {
+  entries = λ l. ap (λ (bs : List Entries). (buffer_of bs l).entries) is.unrecorded ∙ ap (λ (b : Entries). b.entries) (buffer-emptied h.buffers l);
+  remembered = is.none_remembered;
+}
+
+pub stands-emptied : (hs serials : List ℕ) (h k : Parts) (state : State) → IsEmptied h k → Stands h hs serials state → Stands k hs serials state
+stands-emptied hs serials h k state is st = record {
+  consistent = st.consistent;
+  stands = is.keeps state.slots state.made st.stands;
+  born = λ a b e. let from = is.born a b e in st.born from.0 b from.1;
+  held = st.held;
+  births = st.births;
+  domains = is.sizes.roots_domains ∙ st.domains;
+  slots = is.sizes.roots_slots ∙ st.slots;
+  lanes = ap length is.cleared ∙ length-map h.chunks emptied ∙ st.lanes;
+}
+
+-- superpages in use stay within the setup's domains
+used-kept : (setup : Setup) (h k : Parts) → h.roots.domains ≡ setup.domains → (HasDomainsBelow h.space h.roots.domains → HasDomainsBelow k.space h.roots.domains) → HasDomainsBelow h.space setup.domains → HasDomainsBelow k.space setup.domains
+used-kept setup h k domains keeps used =
+    subst (λ (n : ℕ). HasDomainsBelow k.space n) domains (keeps (subst (λ (n : ℕ). HasDomainsBelow h.space n) (sym domains) used))
+
+fits-emptied : (setup : Setup) (h k : Parts) → IsEmptied h k → HasSetup h setup → HasSetup k setup
+fits-emptied setup h k is fits = record {
+  supers = is.sizes.supers ∙ fits.supers;
+  domains = is.sizes.roots_domains ∙ fits.domains;
+  slots = is.sizes.roots_slots ∙ fits.slots;
+  lanes = ap length is.cleared ∙ length-map h.chunks emptied ∙ fits.lanes;
+  words = λ l lt. ap (λ (cs : List Nursery). (chunk_of cs l).words) is.cleared ∙ ap (λ (c : Nursery). c.words) (chunk-emptied h.chunks l) ∙ fits.words l lt;
+  entries = λ l lt. ap (λ (bs : List Entries). (buffer_of bs l).capacity) is.unrecorded ∙ ap (λ (b : Entries). b.capacity) (buffer-emptied h.buffers l) ∙ fits.entries l lt;
+  nursery = is.sizes.nursery ∙ fits.nursery;
+  frames = is.sizes.frames ∙ fits.frames;
+  used = used-kept setup h k fits.domains is.domains fits.used;
+}
+
+pub ready-emptied : (setup : Setup) (hs serials : List ℕ) (h k : Parts) → IsEmptied h k → IsReady setup hs serials h → IsReady setup hs serials k
+ready-emptied setup hs serials h k is ready = record {
+  range = ready.range;
+  order = is.order hs ready.order;
+  fits = fits-emptied setup h k is ready.fits;
+  lanes = ready.lanes;
+  meant = (ready.meant.0, stands-emptied hs serials h k ready.meant.0 is ready.meant.1);
+}
+
+-- a heap that is as before stands for what it stood for
+pub stands-before : (hs serials : List ℕ) (h k : Parts) (state : State) → IsAsBefore h k → Stands h hs serials state → Stands k hs serials state
+stands-before hs serials h k state is st = record {
+  consistent = st.consistent;
+  stands = subst (λ (m : Memory). StandsFor m (root_words k.roots) state) (sym is.memory)
+      (subst (λ (r : RootWords). StandsFor (heap_memory h.space h.chunks) (root_words r) state) (sym is.slots) st.stands);
+  born = subst (λ (m : Memory). AllBorn m state.made) (sym is.memory) st.born;
+  held = st.held;
+  births = st.births;
+  domains = is.sizes.roots_domains ∙ st.domains;
+  slots = is.sizes.roots_slots ∙ st.slots;
+  lanes = length-alike h.chunks k.chunks is.chunks ∙ st.lanes;
+}
+
+pub ready-before : (setup : Setup) (hs serials : List ℕ) (h k : Parts) → IsAsBefore h k → IsReady setup hs serials h → IsReady setup hs serials k
+ready-before setup hs serials h k is ready = record {
+  range = ready.range;
+  order = is.order hs ready.order;
+  fits = record {
+    supers = is.sizes.supers ∙ ready.fits.supers;
+    domains = is.sizes.roots_domains ∙ ready.fits.domains;
+    slots = is.sizes.roots_slots ∙ ready.fits.slots;
+    lanes = length-alike h.chunks k.chunks is.chunks ∙ ready.fits.lanes;
+    words = λ l lt. words-alike h.chunks k.chunks l is.chunks ∙ ready.fits.words l lt;
+    entries = λ l lt. ap (λ (bs : List Entries). (buffer_of bs l).capacity) is.entries ∙ ready.fits.entries l lt;
+    nursery = is.sizes.nursery ∙ ready.fits.nursery;
+    frames = is.sizes.frames ∙ ready.fits.frames;
+    used = used-kept setup h k ready.fits.domains is.domains ready.fits.used;
+  };
+  lanes = ready.lanes;
+  meant = (ready.meant.0, stands-before hs serials h k ready.meant.0 is ready.meant.1);
+}
+
+-- and has the same need
+pub need-before : (h k : Parts) (n : ℕ) → IsAsBefore h k → NeedOfHeap h.space h.roots h.chunks n → NeedOfHeap k.space k.roots k.chunks n
+need-before h k n is need state stands domains =
+    need state
+    (subst (λ (r : RootWords). StandsFor (heap_memory h.space h.chunks) (root_words r) state) is.slots
+    (subst (λ (m : Memory). StandsFor m (root_words k.roots) state) is.memory stands))
+    (domains ∙ ap (λ (r : RootWords). r.domains) is.slots)

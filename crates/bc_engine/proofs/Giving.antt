@@ -1,0 +1,70 @@
+-- A domain changes hands while all chunks and buffers are empty: only the holders change.
+use Rattle.std.proofs.Common.{◌≡◌, ℕ, ◌<◌, List, [], length, get_or, set, sym, ap, subst, ◌∙◌, inl, inr, arith, get_or-set_same, get_or-set_other, length-set}
+use Rattle.std.proofs.lemmas.Bool.{cases_eq}
+use Rattle.bc_cycle.specs.Emptying.{Parts}
+use Rattle.bc_heap.specs.Closed.{chunk_of, buffer_of, IsCellOrYoung, IsClosedHeap}
+use Rattle.bc_model.specs.State.{State, given}
+use Rattle.bc_model.specs.declared.traces.Setup.{Setup}
+use Rattle.bc_model.proofs.States.{IsState-given}
+use Rattle.bc_nursery.specs.Entries.{Entries}
+use Rattle.bc_nursery.specs.Objects.{Nursery}
+use Rattle.bc_superpages.specs.Layout.{Layout, IsAllocated}
+use Rattle.bc_superpages.specs.RootWords.{RootWords}
+use Rattle.bc_engine.specs.Engines.{HasEmptyChunks, IsReady, IsUnrecorded, Stands}
+use Rattle.bc_engine.proofs.Sizes.{none-young}
+
+-- what refers to a cell or to an object of an empty chunk refers to a cell
+only-cell : (s : Layout) (c : Nursery) (a : ℕ) → c.objects ≡ [] → IsCellOrYoung s c a → IsAllocated s a
+only-cell s c a none h = elim h [ inl cell ↦ cell | inr young ↦ none-young c a none young ]
+
+closed-given : (s : Layout) (roots : RootWords) (cs : List Nursery) (bs : List Entries) (hs : List ℕ) (d l : ℕ) → ((n : ℕ) → (chunk_of cs n).objects ≡ []) → ((n : ℕ) → (buffer_of bs n).entries ≡ []) → l < length cs → IsClosedHeap s roots cs bs hs → IsClosedHeap s roots cs bs (set hs d l)
+closed-given s roots cs bs hs d l none empty within h =
+    let long : length (set hs d l) ≡ length hs = length-set hs d l in
+    record {
+      lanes = h.lanes;
+      domains = long ∙ h.domains;
+      holder = λ n lt. elim (cases_eq n d) [
+        | inl e ↦ subst (λ (m : ℕ). get_or (set hs d l) m 0 < length cs) (sym e)
+            (let at : d < length hs = omega (arith, lt, long, e) in
+            subst (λ (m : ℕ). m < length cs) (sym (get_or-set_same hs d l 0 at)) within)
+        | inr ne ↦ subst (λ (m : ℕ). m < length cs) (sym (get_or-set_other hs d n l 0 ne)) (h.holder n (omega (arith, lt, long)))
+      ];
+      root = λ n t a in_domains in_slots e. inl (only-cell s (chunk_of cs (get_or hs n 0)) a.0 (none (get_or hs n 0)) (h.root n t a in_domains in_slots e));
+      young_domain = λ m a lt has. none-young (chunk_of cs m) a (none m) has;
+      young = λ m a k b lt has e. none-young (chunk_of cs m) a (none m) has;
+      mature_domain = λ a c e. omega (arith, h.mature_domain a c e, long);
+      mature = λ a k c b e f. elim (h.mature a k c b e f) [
+        | inl cell ↦ inl cell
+        | inr young ↦ none-young (chunk_of cs (get_or hs c.head.domain 0)) b.0 (none (get_or hs c.head.domain 0)) young.0
+      ];
+      entries = λ m i lt there. absurd (omega (arith, there, ap length (empty m)));
+    }
+
+pub stands-given : (setup : Setup) (hs serials : List ℕ) (h : Parts) (d l : ℕ) (state : State) → IsReady setup hs serials h → l < setup.lanes → Stands h hs serials state → Stands h (set hs d l) serials (given state (record { domain = d; lane = l }))
+stands-given setup hs serials h d l state ready within st = record {
+  consistent = IsState-given state (record { domain = d; lane = l }) st.consistent (omega (arith, within, st.lanes, ready.fits.lanes));
+  stands = st.stands;
+  born = st.born;
+  held = ap (λ (xs : List ℕ). set xs d l) st.held;
+  births = st.births;
+  domains = st.domains ∙ sym (length-set state.holders d l);
+  slots = st.slots;
+  lanes = st.lanes;
+}
+
+pub ready-given : (setup : Setup) (hs serials : List ℕ) (h : Parts) (d l : ℕ) → HasEmptyChunks h → IsUnrecorded h → l < setup.lanes → IsReady setup hs serials h → IsReady setup (set hs d l) serials h
+ready-given setup hs serials h d l none empty within ready =
+    let order = ready.order in
+    record {
+      range = ready.range;
+      order = record {
+        none_gone = order.none_gone;
+        none_promised = order.none_promised;
+        laid = order.laid;
+        once = order.once;
+        closed = closed-given h.space h.roots h.chunks h.buffers hs d l none empty.entries (omega (arith, within, ready.fits.lanes)) order.closed;
+      };
+      fits = ready.fits;
+      lanes = ready.lanes;
+      meant = (given ready.meant.0 (record { domain = d; lane = l }), stands-given setup hs serials h d l ready.meant.0 ready within ready.meant.1);
+    }

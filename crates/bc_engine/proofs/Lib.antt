@@ -1,0 +1,11 @@
+pub mod Sizes
+pub mod Attempts
+pub mod Giving
+pub mod OpeningLemmas
+pub mod StepLists
+pub mod GoingLemmas
+pub mod EmptyingLemmas
+pub mod CutLemmas
+pub mod RunLemmas
+pub mod RoundLemmas
+pub mod PhaseLemmas

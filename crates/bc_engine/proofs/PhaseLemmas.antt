@@ -1,0 +1,198 @@
+-- A phase: what its rounds and gives do to the states that the engine stands for.
+use Rattle.std.proofs.Common.{Vec, Global, vec_capacity, ◌≡◌, ℕ, ◌<◌, ◌≤◌, List, [], ◌∷◌, ◌++◌, length, take, map, get_or, None, Err, refl, sym, ap, subst, ◌∙◌, inl, inr, arith}
+use Prim.Native.Nat.{zero, suc}
+use Rattle.std.proofs.lemmas.Bool.{cases_lt}
+use Rattle.std.proofs.lemmas.List.{get_or_append_left, get_or_push, length-map, length_push}
+use Rattle.std.specs.List.{AllByRecursion}
+use Rattle.bc_cycle.specs.Emptying.{Parts}
+use Rattle.bc_heap.specs.Closed.{chunk_of}
+use Rattle.bc_heap.specs.Heaps.{heap_memory, object_in, root_words}
+use Rattle.bc_model.specs.Consistent.{sizes_of}
+use Rattle.bc_model.specs.Interleaving.{replies_by, ops_by}
+use Rattle.bc_model.specs.Lists.{PhaseLists, lists_of}
+use Rattle.bc_model.specs.Need.{IsNeed}
+use Rattle.bc_model.specs.Run.{after_gives, after_lanes, cut_lanes, replies_to_lanes}
+use Rattle.bc_model.specs.State.{State}
+use Rattle.bc_model.specs.WellFormed.{IsOp, IsPhase}
+use Rattle.bc_model.specs.declared.operations.Op.{Op}
+use Rattle.bc_model.specs.declared.operations.Reply.{Reply}
+use Rattle.bc_nursery.specs.Objects.{Nursery}
+use Rattle.bc_standing.specs.Standing.{StandsFor}
+use Rattle.bc_superpages.specs.Kept.{IsLayout}
+use Rattle.bc_superpages.specs.Layout.{Layout, superpages}
+use Rattle.bc_word.specs.declared.words.Word.{Word}
+use Rattle.bc_engine.specs.Engines.{EngineView, EngineStands, HasEmptyChunks, HasRoomForBirths, IsEngine, IsReady, Stands}
+use Rattle.bc_engine.specs.Lanes.{of_lane, AreDone, Goes, HasSerials, HasRoomForOps}
+use Rattle.bc_engine.specs.Phases.{CutPhase, DidPhase}
+use Rattle.bc_engine.specs.Rounds.{GoesOn, IfTooSmall, IsRoomFor, IsThrough, IsTooSmall, IsUnderwayOn}
+use Rattle.bc_engine.specs.declared.engines.Ended.{Ended}
+use Rattle.bc_engine.specs.declared.engines.Ended.TheVariants.{OutOfHeap}
+use Rattle.bc_engine.proofs.CutLemmas.{length-cut, mixed-cut, mixed-whole, run-lanes}
+use Rattle.bc_engine.proofs.Sizes.{no-object, op-of_heap, op-of_state}
+
+-- room for a birth by each operation of the phase, and n more
+pub fits-births : (e : EngineView) (p : PhaseLists) (told : List (List Reply)) (n : ℕ) → HasRoomForOps e p.lanes n → HasSerials p.lanes e.serials told n
+fits-births e p told n fits j = omega (arith, fits j)
+
+pub fits-later : (lanes : List (List Op)) (e : EngineView) (told : List (List Reply)) (n : ℕ) → HasSerials lanes e.serials told n → HasRoomForBirths e n
+fits-later lanes e told n fits j = omega (arith, fits j)
+
+-- births that aren't made leave room
+pub fits-less : (e : EngineView) (lanes : List (List Op)) (n : ℕ) → HasRoomForOps e lanes n → HasRoomForBirths e n
+fits-less e lanes n fits j = omega (arith, fits j)
+
+pub underway-begun : (e : EngineView) (p : PhaseLists) (vs : List (Vec Reply Global)) → IsEngine e → IsPhase e.setup p → HasRoomForOps e p.lanes 0 → length vs ≡ length p.lanes → IsRoomFor p.lanes vs → IsUnderwayOn e p.lanes vs
+underway-begun e p vs engine phase fits long room = record {
+  ready = engine.ready;
+  each = phase.lanes;
+  ops = phase.ops;
+  long = long ∙ phase.lanes;
+  room = λ j v lt is. (room j v lt is).1;
+  births = fits-births e p (lists_of vs) 0 fits;
+}
+
+-- there is no reply yet
+none-told : (vs : List (Vec Reply Global)) → ((j : ℕ) (v : Vec Reply Global) → j < length vs → v ≡ get_or vs j v → v.items ≡ []) → (j : ℕ) → of_lane (lists_of vs) j ≡ []
+none-told [] none j = refl
+none-told (v ∷ vs) none zero = none 0 v (omega arith) refl
+none-told (v ∷ vs) none (suc j) = none-told vs (λ i x lt is. none (suc i) x (omega arith) is) j
+
+pub none-yet : (lanes : List (List Op)) (vs : List (Vec Reply Global)) → IsRoomFor lanes vs → (j : ℕ) → of_lane (lists_of vs) j ≡ []
+none-yet lanes vs room j = none-told vs (λ i v lt is. (room i v lt is).0) j
+
+-- what lanes did that had no reply before
+ops-begun : (lanes : List (List Op)) (hs : List ℕ) (h k : Parts) (serials next : List ℕ) (told answers : List (List Reply)) (g : Goes lanes hs h serials told k next answers) → ((j : ℕ) → of_lane told j ≡ []) → (j : ℕ) → ops_by j g.steps ≡ take (length (of_lane answers j)) (of_lane lanes j)
+ops-begun lanes hs h k serials next told answers g none j =
+    sym (g.ops j ∙ ap (λ (rs : List Reply). take (length rs) (of_lane lanes j) ++ ops_by j g.steps) (none j))
+
+replies-begun : (lanes : List (List Op)) (hs : List ℕ) (h k : Parts) (serials next : List ℕ) (told answers : List (List Reply)) (g : Goes lanes hs h serials told k next answers) → ((j : ℕ) → of_lane told j ≡ []) → (s : State) → Stands h hs serials s → (j : ℕ) → of_lane answers j ≡ replies_by s j g.steps
+replies-begun lanes hs h k serials next told answers g none s st j =
+    g.replies s st j ∙ ap (λ (rs : List Reply). rs ++ replies_by s j g.steps) (none j)
+
+-- the operations of a phase fit each state that the heap stands for
+all-weaker : {X : Type 0} (P Q : X → Type 0) → ((x : X) → P x → Q x) → (xs : List X) → AllByRecursion P xs → AllByRecursion Q xs
+all-weaker P Q f [] h = tt
+all-weaker P Q f (x ∷ xs) h = (f x h.0, all-weaker P Q f xs h.1)
+
+ops-fit : (e : EngineView) (lanes : List (List Op)) (s : State) → IsReady e.setup e.holders e.serials e.heap → EngineStands e s → AllByRecursion (AllByRecursion (IsOp e.setup)) lanes → AllByRecursion (AllByRecursion (IsOp (sizes_of s))) lanes
+ops-fit e lanes s ready st ops =
+    all-weaker (AllByRecursion (IsOp e.setup)) (AllByRecursion (IsOp (sizes_of s)))
+    (λ os fits. all-weaker (IsOp e.setup) (IsOp (sizes_of s)) (λ o fit. op-of_state e.heap e.holders e.serials s o st (op-of_heap e.setup e.heap o ready.fits fit)) os fits) lanes ops
+
+-- what the lanes of a phase did, up to a cut
+pub record IsCutOf (e : EngineView) (lanes : List (List Op)) (k : Parts) (next : List ℕ) (answers : List (List Reply)) (s : State) : Type 0 where
+  pub replies : answers ≡ replies_to_lanes s 0 (cut_lanes (map length answers) lanes)
+  pub stands : Stands k e.holders next (after_lanes s 0 (cut_lanes (map length answers) lanes))
+
+each-lane : (e : EngineView) (p : PhaseLists) (s : State) → IsReady e.setup e.holders e.serials e.heap → IsPhase e.setup p → EngineStands e s → length p.lanes ≡ length s.made
+each-lane e p s ready phase st = phase.lanes ∙ sym ready.fits.lanes ∙ st.lanes
+
+pub cut-run : (e : EngineView) (p : PhaseLists) (k : Parts) (next : List ℕ) (told answers : List (List Reply)) → IsReady e.setup e.holders e.serials e.heap → IsPhase e.setup p → ((j : ℕ) → of_lane told j ≡ []) → length answers ≡ length p.lanes → Goes p.lanes e.holders e.heap e.serials told k next answers → (s : State) → EngineStands e s → IsCutOf e p.lanes k next answers s
+cut-run e p k next told answers ready phase none long goes s st =
+    let cut = map length answers in
+    let mixed = mixed-cut s p.lanes answers goes.steps (each-lane e p s ready phase st) (ops-fit e p.lanes s ready st phase.ops) goes.below (ops-begun p.lanes e.holders e.heap k e.serials next told answers goes none) in
+    let run = run-lanes s (cut_lanes cut p.lanes) answers goes.steps st.consistent mixed (long ∙ sym (length-cut cut p.lanes)) (replies-begun p.lanes e.holders e.heap k e.serials next told answers goes none s st) in
+    record { replies = run.replies; stands = subst (λ (t : State). Stands k e.holders next t) run.state (goes.means s st) }
+
+-- or to their ends
+pub record IsWhole (e : EngineView) (lanes : List (List Op)) (k : Parts) (next : List ℕ) (answers : List (List Reply)) (s : State) : Type 0 where
+  pub replies : answers ≡ replies_to_lanes s 0 lanes
+  pub stands : Stands k e.holders next (after_lanes s 0 lanes)
+
+pub whole-run : (e : EngineView) (p : PhaseLists) (k : Parts) (next : List ℕ) (told answers : List (List Reply)) → IsReady e.setup e.holders e.serials e.heap → IsPhase e.setup p → ((j : ℕ) → of_lane told j ≡ []) → length answers ≡ length p.lanes → AreDone p.lanes answers → Goes p.lanes e.holders e.heap e.serials told k next answers → (s : State) → EngineStands e s → IsWhole e p.lanes k next answers s
+whole-run e p k next told answers ready phase none long done goes s st =
+    let mixed = mixed-whole s p.lanes answers goes.steps (each-lane e p s ready phase st) (ops-fit e p.lanes s ready st phase.ops) goes.below done (ops-begun p.lanes e.holders e.heap k e.serials next told answers goes none) in
+    let run = run-lanes s p.lanes answers goes.steps st.consistent mixed long (replies-begun p.lanes e.holders e.heap k e.serials next told answers goes none s st) in
+    record { replies = run.replies; stands = subst (λ (t : State). Stands k e.holders next t) run.state (goes.means s st) }
+
+-- what a phase begins with: an engine in order, and room for replies, of which there are none
+pub record HasBegun (e : EngineView) (p : PhaseLists) (vs : List (Vec Reply Global)) : Type 0 where
+  pub engine : IsEngine e
+  pub phase : IsPhase e.setup p
+  pub room : IsRoomFor p.lanes vs
+
+-- rounds that end for want of heap cut the phase
+pub cut-by : (e f : EngineView) (p : PhaseLists) (vs ws : List (Vec Reply Global)) (need : ℕ) → HasBegun e p vs → IsEngine f → f.holders ≡ e.holders → length ws ≡ length p.lanes → IsTooSmall p.lanes e vs f ws need → CutPhase e p f (lists_of ws) need
+cut-by e f p vs ws need begun engine holders long small =
+    let answers = lists_of ws in
+    let cut = map length answers in
+    let run : (s : State) → EngineStands e s → IsCutOf e p.lanes f.heap f.serials answers s = λ s st.
+    cut-run e p f.heap f.serials (lists_of vs) answers begun.engine.ready begun.phase (none-yet p.lanes vs begun.room) (length-map ws (λ (v : Vec Reply Global). v.items) ∙ long) small.goes s st in
+    record {
+      cause = small.cause;
+      stands = λ s st. (
+        cut,
+        (run s st).replies,
+        subst (λ (hs : List ℕ). Stands f.heap hs f.serials (after_lanes s 0 (cut_lanes cut p.lanes))) (sym holders) (run s st).stands,
+        small.needs (after_lanes s 0 (cut_lanes cut p.lanes)) (run s st).stands.stands (sym (run s st).stands.domains),
+      );
+      above = omega (arith, small.above, engine.ready.fits.supers);
+    }
+
+-- rounds that end with all lanes at their ends, and then the gives, do it
+pub did-by : (e f g : EngineView) (p : PhaseLists) (vs ws : List (Vec Reply Global)) → HasBegun e p vs → f.holders ≡ e.holders → length ws ≡ length p.lanes → GoesOn p.lanes e vs f ws → IsThrough p.lanes f ws → ((s : State) → EngineStands f s → EngineStands g (after_gives s p.gives)) → g ≡ record f { holders = g.holders } → ((s : State) (n : ℕ) → EngineStands g s → IsNeed s n → n ≤ g.setup.superpages) → DidPhase e p g (lists_of ws)
+did-by e f g p vs ws begun holders long on through gave same room =
+    let run : (s : State) → EngineStands e s → IsWhole e p.lanes f.heap f.serials (lists_of ws) s = λ s st.
+    whole-run e p f.heap f.serials (lists_of vs) (lists_of ws) begun.engine.ready begun.phase (none-yet p.lanes vs begun.room) (length-map ws (λ (v : Vec Reply Global). v.items) ∙ long) through.done on.runs.goes s st in
+    record {
+      going = ap (λ (x : EngineView). x.ended) same ∙ on.going;
+      empty = λ l. ap (λ (x : EngineView). (chunk_of x.heap.chunks l).objects) same ∙ through.empty l;
+      stands = λ s st. (
+        (run s st).replies,
+        gave (after_lanes s 0 p.lanes) (subst (λ (hs : List ℕ). Stands f.heap hs f.serials (after_lanes s 0 p.lanes)) (sym holders) (run s st).stands),
+      );
+      need = room;
+    }
+
+-- a list with room for the next lane's replies
+pub room-push : (lanes : List (List Op)) (vs : List (Vec Reply Global)) (w : Vec Reply Global) (i : ℕ) → length vs ≡ i → IsRoomFor lanes vs → w.items ≡ [] → length (of_lane lanes i) ≤ vec_capacity w → IsRoomFor lanes (vs ++ w ∷ [])
+room-push lanes vs w i long room none wide j v lt is = elim (cases_lt j (length vs)) [
+  | inl below ↦ room j v below (is ∙ get_or_append_left vs (w ∷ []) v j below)
+  | inr past ↦
+      let same : i ≡ j = omega (arith, lt, length_push vs w, past, long) in
+      let at : v ≡ w = is ∙ get_or_push vs w v j (long ∙ same) in
+      (ap (λ (x : Vec Reply Global). x.items) at ∙ none, omega (arith, wide, ap vec_capacity at, ap (λ (n : ℕ). length (of_lane lanes n)) same))
+]
+
+-- one give after another changes the holders alone
+pub holders-then : (e f g : EngineView) (hs : List ℕ) → f ≡ record e { holders = f.holders } → g ≡ record f { holders = hs } → g ≡ record e { holders = g.holders }
+holders-then e f g hs first second =
+    second
+    ∙ ap (λ (x : EngineView). let y : EngineView = record x { holders = hs } in y) first
+    ∙ ap (λ (xs : List ℕ). let y : EngineView = record e { holders = xs } in y) (sym (ap (λ (x : EngineView). x.holders) second))
+
+-- with empty chunks there is room for what the engine stands for
+pub has-room : (e : EngineView) → ((s : Layout) → (chunks : List Nursery) → (roots : List Word) → (state : State) → (n : ℕ) → IsLayout s → ((a : ℕ) → object_in chunks a ≡ None) → StandsFor (heap_memory s chunks) roots state → IsNeed state n → n ≤ superpages s) → IsLayout e.heap.space → IsEngine e → HasEmptyChunks e.heap → (s : State) (n : ℕ) → EngineStands e s → IsNeed s n → n ≤ e.setup.superpages
+has-room e law layout engine none s n st need =
+    let within = law e.heap.space e.heap.chunks (root_words e.heap.roots) s n layout (no-object e.heap.chunks none) st.stands need in
+    omega (arith, within, engine.ready.fits.supers)
+
+-- the phase as the code has it: `os` are its operations as they were lent to the rounds, `us` the lists for replies
+pub did-lent : (e f g : EngineView) (p : PhaseLists) (os : List (List Op)) (us vs ws xs : List (Vec Reply Global)) → HasBegun e p vs → os ≡ p.lanes → us ≡ vs → xs ≡ ws → f.holders ≡ e.holders → length ws ≡ length p.lanes → GoesOn os e us f ws → IsThrough os f ws → ((s : State) → EngineStands f s → EngineStands g (after_gives s p.gives)) → g ≡ record f { holders = g.holders } → ((s : State) (n : ℕ) → EngineStands g s → IsNeed s n → n ≤ g.setup.superpages) → DidPhase e p g (lists_of xs)
+did-lent e f g p os us vs ws xs begun lanes lent back holders long on through gave same room =
+    subst (λ (ys : List (Vec Reply Global)). DidPhase e p g (lists_of ys)) (sym back)
+    (did-by e f g p vs ws begun holders long
+    (subst (λ (ls : List (List Op)). GoesOn ls e vs f ws) lanes (subst (λ (ys : List (Vec Reply Global)). GoesOn os e ys f ws) lent on))
+    (subst (λ (ls : List (List Op)). IsThrough ls f ws) lanes through) gave same room)
+
+pub cut-lent : (e f : EngineView) (p : PhaseLists) (os : List (List Op)) (us vs ws xs : List (Vec Reply Global)) (need : ℕ) → HasBegun e p vs → IsEngine f → os ≡ p.lanes → us ≡ vs → xs ≡ ws → f.holders ≡ e.holders → length ws ≡ length p.lanes → IsTooSmall os e us f ws need → CutPhase e p f (lists_of xs) need
+cut-lent e f p os us vs ws xs need begun engine lanes lent back holders long small =
+    subst (λ (ys : List (Vec Reply Global)). CutPhase e p f (lists_of ys) need) (sym back)
+    (cut-by e f p vs ws need begun engine holders long
+    (subst (λ (ls : List (List Op)). IsTooSmall ls e vs f ws need) lanes (subst (λ (ys : List (Vec Reply Global)). IsTooSmall os e ys f ws need) lent small)))
+
+pub underway-lent : (e : EngineView) (p : PhaseLists) (os : List (List Op)) (us vs : List (Vec Reply Global)) → HasBegun e p vs → HasRoomForOps e p.lanes 0 → length vs ≡ length p.lanes → os ≡ p.lanes → us ≡ vs → IsUnderwayOn e os us
+underway-lent e p os us vs begun fits long lanes lent =
+    subst (λ (ls : List (List Op)). IsUnderwayOn e ls us) (sym lanes)
+    (subst (λ (ys : List (Vec Reply Global)). IsUnderwayOn e p.lanes ys) (sym lent)
+    (underway-begun e p vs begun.engine begun.phase fits long begun.room))
+
+pub births-lent : (e f : EngineView) (p : PhaseLists) (os : List (List Op)) (us vs ws : List (Vec Reply Global)) → os ≡ p.lanes → us ≡ vs → ((n : ℕ) → HasSerials os e.serials (lists_of us) n → HasSerials os f.serials (lists_of ws) n) → (n : ℕ) → HasRoomForOps e p.lanes n → HasRoomForBirths f n
+births-lent e f p os us vs ws lanes lent births n fits =
+    fits-later os f (lists_of ws) n
+    (births n
+    (subst (λ (ls : List (List Op)). HasSerials ls e.serials (lists_of us) n) (sym lanes)
+    (subst (λ (ys : List (Vec Reply Global)). HasSerials p.lanes e.serials (lists_of ys) n) (sym lent) (fits-births e p (lists_of vs) n fits))))
+
+pub small-at : (T : Type 0) (P : ℕ → Type 0) (ended : Ended) (n : ℕ) → ended ≡ OutOfHeap n → IfTooSmall {T = T} (Err ended) P → P n
+small-at T P ended n is small = subst (λ (x : Ended). IfTooSmall {T = T} (Err x) P) is small

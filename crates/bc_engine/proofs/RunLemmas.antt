@@ -1,0 +1,153 @@
+-- Stretches of a phase, as the code keeps its replies.
+use Rattle.std.proofs.Common.{Vec, Global, vec_capacity, vec_len, ◌≡◌, ℕ, ◌+◌, ◌-◌, ◌^◌, ◌<◌, ◌≤◌, Bool, true, false, List, [], ◌∷◌, ◌++◌, length, get_or, set, refl, sym, ap, subst, ◌∙◌, inl, inr, arith, get_or-set_same, get_or-set_other, length-set}
+use Prim.Native.Nat.{zero, suc}
+use Rattle.std.proofs.lemmas.Bool.{cases_eq}
+use Rattle.std.proofs.lemmas.List.{get_or-map, map-set, length_push, length-map}
+use Rattle.bc_cycle.specs.Emptying.{Parts}
+use Rattle.bc_cycle.specs.declared.heaps.Heap.{Heap}
+use Rattle.std.specs.List.{AllByRecursion}
+use Rattle.bc_model.specs.Lists.{lists_of}
+use Rattle.bc_model.specs.WellFormed.{IsOp}
+use Rattle.bc_model.proofs.Runs.{at-index}
+use Rattle.bc_model.specs.State.{State}
+use Rattle.bc_model.specs.declared.operations.Op.{Op}
+use Rattle.bc_model.specs.declared.operations.Reply.{Reply}
+use Rattle.bc_model.specs.declared.traces.Setup.{Setup}
+use Rattle.bc_engine.specs.Engines.{IsReady, Stands}
+use Rattle.bc_engine.specs.Lanes.{of_lane, parts_of, Does, EachFurther, Goes, HasSerials, IsOneMore, Runs, left}
+use Rattle.bc_engine.proofs.GoingLemmas.{with_reply, goes-none, goes-then, goes-step}
+
+-- nothing was done, and the heap stands for what it stood for
+pub runs-none : (lanes : List (List Op)) (hs : List ℕ) (h k : Parts) (serials : List ℕ) (told : List (Vec Reply Global)) → ((state : State) → Stands h hs serials state → Stands k hs serials state) → ((setup : Setup) → IsReady setup hs serials h → IsReady setup hs serials k) → Runs lanes hs h serials told k serials told
+runs-none lanes hs h k serials told means ready = record {
+  goes = goes-none lanes hs h k serials (lists_of told) means;
+  underway = λ setup u. record { ready = ready setup u.ready; each = u.each; ops = u.ops; long = u.long; room = u.room; births = u.births };
+  births = λ n fits. fits;
+}
+
+pub runs-same : (lanes : List (List Op)) (hs : List ℕ) (x y : Heap) (serials next : List ℕ) (told : List (Vec Reply Global)) → y ≡ x → next ≡ serials → Runs lanes hs (parts_of x) serials told (parts_of y) next told
+runs-same lanes hs x y serials next told heap born =
+    subst (λ (z : Heap). Runs lanes hs (parts_of x) serials told (parts_of z) next told) (sym heap)
+    (subst (λ (ns : List ℕ). Runs lanes hs (parts_of x) serials told (parts_of x) ns told) (sym born)
+    (runs-none lanes hs (parts_of x) (parts_of x) serials told (λ state st. st) (λ setup ready. ready)))
+
+pub runs-then : (lanes : List (List Op)) (hs : List ℕ) (h k l : Parts) (ns ms ls : List ℕ) (told mid answers : List (Vec Reply Global)) → Runs lanes hs h ns told k ms mid → Runs lanes hs k ms mid l ls answers → Runs lanes hs h ns told l ls answers
+runs-then lanes hs h k l ns ms ls told mid answers g e = record {
+  goes = goes-then lanes hs h k l ns ms ls (lists_of told) (lists_of mid) (lists_of answers) g.goes e.goes;
+  underway = λ setup u. e.underway setup (g.underway setup u);
+  births = λ n fits. e.births n (g.births n fits);
+}
+
+-- the list behind a lane's Vec
+pub of_lane-vec : {X : Type 0} (vs : List (Vec X Global)) (lane : ℕ) (v : Vec X Global) → lane < length vs → v ≡ get_or vs lane v → of_lane (lists_of vs) lane ≡ v.items
+of_lane-vec {X} vs lane v within is = get_or-map (λ (x : Vec X Global). x.items) vs lane v [] within ∙ ap (λ (x : Vec X Global). x.items) (sym is)
+
+lists-pushed : (vs : List (Vec Reply Global)) (lane : ℕ) (v w : Vec Reply Global) (reply : Reply) → lane < length vs → v ≡ get_or vs lane v → w.items ≡ v.items ++ reply ∷ [] → lists_of (set vs lane w) ≡ with_reply (lists_of vs) lane reply
+lists-pushed vs lane v w reply within is pushed =
+    map-set (λ (x : Vec Reply Global). x.items) vs lane w
+    ∙ ap (set (lists_of vs) lane) (pushed ∙ ap (λ (rs : List Reply). rs ++ reply ∷ []) (sym (of_lane-vec vs lane v within is)))
+
+-- one reply more leaves one operation less, and one birth more at most
+births-step : (lanes : List (List Op)) (hs : List ℕ) (lane : ℕ) (op : Op) (h k : Parts) (serials next : List ℕ) (reply : Reply) (told : List (List Reply)) (n : ℕ) → lane < length told → length (of_lane told lane) < length (of_lane lanes lane) → Does hs lane op h serials reply k next → HasSerials lanes serials told n → HasSerials lanes next (with_reply told lane reply) n
+births-step lanes hs lane op h k serials next reply told n within less does fits j =
+    let answers = with_reply told lane reply in
+    elim (cases_eq j lane) [
+      | inl e ↦
+          let long : length (of_lane answers lane) ≡ length (of_lane told lane) + 1 = ap length (get_or-set_same told lane (of_lane told lane ++ reply ∷ []) [] within) ∙ length_push (of_lane told lane) reply in
+          subst (λ (m : ℕ). get_or next m 0 + (length (of_lane lanes m) - length (of_lane answers m)) + n < 2 ^ 32) (sym e) (omega (arith, fits lane, long, less, does.own))
+      | inr ne ↦
+          let same : length (of_lane answers j) ≡ length (of_lane told j) = ap length (get_or-set_other told lane j (of_lane told lane ++ reply ∷ []) [] ne) in
+          omega (arith, fits j, same, does.others j ne)
+    ]
+
+room-step : (lanes : List (List Op)) (vs : List (Vec Reply Global)) (lane : ℕ) (v w : Vec Reply Global) → lane < length vs → v ≡ get_or vs lane v → vec_capacity w ≡ vec_capacity v → ((j : ℕ) → (x : Vec Reply Global) → j < length vs → x ≡ get_or vs j x → length (of_lane lanes j) ≤ vec_capacity x) → (j : ℕ) (x : Vec Reply Global) → j < length (set vs lane w) → x ≡ get_or (set vs lane w) j x → length (of_lane lanes j) ≤ vec_capacity x
+room-step lanes vs lane v w within is capacity room j x below there = elim (cases_eq j lane) [
+  | inl e ↦
+      let at : x ≡ w = there ∙ ap (λ (m : ℕ). get_or (set vs lane w) m x) e ∙ get_or-set_same vs lane w x within in
+      subst (λ (m : ℕ). length (of_lane lanes m) ≤ vec_capacity x) (sym e) (omega (arith, room lane v within is, capacity, ap vec_capacity at))
+  | inr ne ↦ room j x (omega (arith, below, length-set vs lane w)) (there ∙ get_or-set_other vs lane j w x ne)
+]
+
+-- how many items the Vec has
+pub of_lane-long : {X : Type 0} (vs : List (Vec X Global)) (lane n : ℕ) (v : Vec X Global) → lane < length vs → v ≡ get_or vs lane v → n ≡ vec_len v → length (of_lane (lists_of vs) lane) ≡ n
+of_lane-long {X} vs lane n v within is count = ap length (of_lane-vec vs lane v within is) ∙ sym v.ok.0 ∙ sym count
+
+-- an operation of it
+pub of_lane-at : {X : Type 0} (vs : List (Vec X Global)) (lane n : ℕ) (v : Vec X Global) (x : X) → lane < length vs → v ≡ get_or vs lane v → x ≡ get_or v.items n x → x ≡ get_or (of_lane (lists_of vs) lane) n x
+of_lane-at {X} vs lane n v x within is at = at ∙ ap (λ (xs : List X). get_or xs n x) (sym (of_lane-vec vs lane v within is))
+
+-- it fits the setup
+pub op-fits : (setup : Setup) (lanes : List (List Op)) (lane n : ℕ) (op : Op) → AllByRecursion (AllByRecursion (IsOp setup)) lanes → lane < length lanes → n < length (of_lane lanes lane) → op ≡ get_or (of_lane lanes lane) n op → IsOp setup op
+op-fits setup lanes lane n op ops within less at =
+    subst (IsOp setup) (sym at) (at-index (IsOp setup) (of_lane lanes lane) n op (at-index (AllByRecursion (IsOp setup)) lanes lane [] ops within) less)
+
+-- what an operation that was done has to do with the lists: it was the lane's next one, and its reply was kept behind the others
+pub record IsKept (lanes : List (List Op)) (lane : ℕ) (op : Op) (reply : Reply) (vs : List (Vec Reply Global)) (w : Vec Reply Global) : Type 0 where
+  pub within : lane < length lanes
+  pub there : lane < length vs
+  pub less : length (of_lane (lists_of vs) lane) < length (of_lane lanes lane)
+  pub at : op ≡ get_or (of_lane lanes lane) (length (of_lane (lists_of vs) lane)) op
+  pub before : Vec Reply Global
+  pub is : before ≡ get_or vs lane before
+  pub pushed : w.items ≡ before.items ++ reply ∷ []
+  pub capacity : vec_capacity w ≡ vec_capacity before
+
+-- an operation was done, and its reply was kept
+pub runs-step : (lanes : List (List Op)) (hs : List ℕ) (h k : Parts) (serials next : List ℕ) (vs : List (Vec Reply Global)) (lane : ℕ) (op : Op) (reply : Reply) (w : Vec Reply Global) → IsKept lanes lane op reply vs w → Does hs lane op h serials reply k next → ((setup : Setup) → IsReady setup hs serials h → IsReady setup hs next k) → Runs lanes hs h serials vs k next (set vs lane w)
+runs-step lanes hs h k serials next vs lane op reply w kept does ready =
+    let told = lists_of vs in
+    let answers : lists_of (set vs lane w) ≡ with_reply told lane reply = lists-pushed vs lane kept.before w reply kept.there kept.is kept.pushed in
+    let there : lane < length told = omega (arith, kept.there, length-map vs (λ (x : Vec Reply Global). x.items)) in
+    let births : (n : ℕ) → HasSerials lanes serials told n → HasSerials lanes next (lists_of (set vs lane w)) n = λ n fits.
+    subst (λ (rs : List (List Reply)). HasSerials lanes next rs n) (sym answers) (births-step lanes hs lane op h k serials next reply told n there kept.less does fits) in
+    record {
+      goes = subst (λ (rs : List (List Reply)). Goes lanes hs h serials told k next rs) (sym answers) (goes-step lanes hs h k serials next told lane op reply kept.within there kept.less kept.at does);
+      underway = λ setup u. record {
+        ready = ready setup u.ready;
+        each = u.each;
+        ops = u.ops;
+        long = length-set vs lane w ∙ u.long;
+        room = room-step lanes vs lane kept.before w kept.there kept.is kept.capacity u.room;
+        births = births 0 u.births;
+      };
+      births = births;
+    }
+
+pub one-more : (lanes : List (List Op)) (vs : List (Vec Reply Global)) (lane : ℕ) (op : Op) (reply : Reply) (w : Vec Reply Global) → IsKept lanes lane op reply vs w → IsOneMore (of_lane lanes lane) (of_lane (lists_of vs) lane) (of_lane (lists_of (set vs lane w)) lane)
+one-more lanes vs lane op reply w kept =
+    let told = lists_of vs in
+    let there : lane < length told = omega (arith, kept.there, length-map vs (λ (x : Vec Reply Global). x.items)) in (
+      kept.less,
+      ap (λ (rs : List (List Reply)). length (of_lane rs lane)) (lists-pushed vs lane kept.before w reply kept.there kept.is kept.pushed)
+          ∙ ap length (get_or-set_same told lane (of_lane told lane ++ reply ∷ []) [] there) ∙ length_push (of_lane told lane) reply,
+    )
+
+-- what is to come gets less
+pub left-le : (lanes : List (List Op)) (told answers : List (List Reply)) → ((j : ℕ) → length (of_lane told j) ≤ length (of_lane answers j)) → left lanes answers ≤ left lanes told
+left-le [] told answers more = omega arith
+left-le (ops ∷ lanes) [] [] more = omega arith
+left-le (ops ∷ lanes) [] (a ∷ bs) more = omega (arith, left-le lanes [] bs (λ j. more (suc j)))
+left-le (ops ∷ lanes) (t ∷ ts) [] more = omega (arith, more 0, left-le lanes ts [] (λ j. more (suc j)))
+left-le (ops ∷ lanes) (t ∷ ts) (a ∷ bs) more = omega (arith, more 0, left-le lanes ts bs (λ j. more (suc j)))
+
+pub left-less : (lanes : List (List Op)) (told answers : List (List Reply)) (j : ℕ) → ((i : ℕ) → length (of_lane told i) ≤ length (of_lane answers i)) → j < length lanes → length (of_lane told j) < length (of_lane lanes j) → length (of_lane told j) < length (of_lane answers j) → left lanes answers < left lanes told
+left-less [] told answers j more within some further = absurd (omega arith)
+left-less (ops ∷ lanes) [] [] j more within some further = absurd (omega arith)
+left-less (ops ∷ lanes) [] (a ∷ bs) zero more within some further = omega (arith, left-le lanes [] bs (λ i. more (suc i)))
+left-less (ops ∷ lanes) [] (a ∷ bs) (suc j) more within some further = omega (arith, left-less lanes [] bs j (λ i. more (suc i)) (omega arith) some further)
+left-less (ops ∷ lanes) (t ∷ ts) [] j more within some further = absurd (omega (arith, further))
+left-less (ops ∷ lanes) (t ∷ ts) (a ∷ bs) zero more within some further = omega (arith, left-le lanes ts bs (λ i. more (suc i)))
+left-less (ops ∷ lanes) (t ∷ ts) (a ∷ bs) (suc j) more within some further = omega (arith, more 0, left-less lanes ts bs j (λ i. more (suc i)) (omega arith) some further)
+
+-- one lane more has done an operation, unless it was at its end
+pub each-further : (lanes : List (List Op)) (told mid answers : List (List Reply)) (n : ℕ) (b : Bool) → ((j : ℕ) → length (of_lane told j) ≤ length (of_lane mid j)) → ((j : ℕ) → length (of_lane mid j) ≤ length (of_lane answers j)) → EachFurther n lanes told mid → (b ≡ true → IsOneMore (of_lane lanes n) (of_lane mid n) (of_lane answers n)) → (b ≡ false → length (of_lane lanes n) ≤ length (of_lane answers n)) → EachFurther (n + 1) lanes told answers
+each-further lanes told mid answers n b first second each one none j lt some = elim (cases_eq j n) [
+  | inl e ↦
+      subst (λ (m : ℕ). length (of_lane told m) < length (of_lane answers m)) (sym e)
+      (here b one none (subst (λ (m : ℕ). length (of_lane told m) < length (of_lane lanes m)) e some))
+  | inr ne ↦ omega (arith, each j (omega arith) some, second j)
+]
+  where
+    here : (t : Bool) → (t ≡ true → IsOneMore (of_lane lanes n) (of_lane mid n) (of_lane answers n)) → (t ≡ false → length (of_lane lanes n) ≤ length (of_lane answers n)) → length (of_lane told n) < length (of_lane lanes n) → length (of_lane told n) < length (of_lane answers n)
+    here true yes_one at_end less = omega (arith, (yes_one refl).1, first n)
+    here false yes_one at_end less = omega (arith, at_end refl)

@@ -1,0 +1,93 @@
+-- What an operation and an emptying leave as it was: the sizes of a heap, and which operations fit it.
+use Rattle.std.proofs.Common.{◌≡◌, ◌≢◌, ℕ, Bool, true, false, ◌==◌, List, [], length, None, sym, ap, subst, ◌∙◌, inl, inr, arith}
+use Rattle.std.proofs.lemmas.Bool.{cases_eq}
+use Rattle.std.specs.List.{find}
+use Rattle.std.specs.Option.{is_some}
+use Rattle.bc_cycle.specs.Emptying.{Parts}
+use Rattle.bc_heap.specs.Closed.{chunk_of, buffer_of}
+use Rattle.bc_heap.specs.Heaps.{object_in}
+use Rattle.bc_heap.proofs.ChunkLemmas.{object_in-none}
+use Rattle.bc_model.specs.Consistent.{sizes_of}
+use Rattle.bc_model.specs.State.{State}
+use Rattle.bc_model.specs.WellFormed.{IsOp}
+use Rattle.bc_model.specs.declared.operations.Op.{Op}
+use Rattle.bc_model.specs.declared.traces.Setup.{Setup}
+use Rattle.bc_mutator.specs.Operations.{IsOpOf}
+use Rattle.bc_nursery.specs.Entries.{Entries}
+use Rattle.bc_nursery.specs.Objects.{ChunkObject, Nursery, has_object}
+use Rattle.bc_promotion.specs.Promises.{HasDomainsBelow}
+use Rattle.bc_superpages.specs.Layout.{Layout, superpages}
+use Rattle.bc_superpages.specs.RootWords.{RootWords}
+use Rattle.bc_engine.specs.Engines.{HasSetup, IsReady, Stands}
+
+-- an operation fits whatever has as many domains and slots
+made_up : ℕ → ℕ → Setup
+made_up d w = record { lanes = 0; domains = d; slots = w; superpages = 0; nursery = 0; buffer = 0; frames = 0 }
+
+op-like : (s : Setup) (d w : ℕ) (o : Op) → d ≡ s.domains → w ≡ s.slots → IsOp s o → IsOp (made_up d w) o
+unfolding made_up
+op-like s d w o domains slots h =
+    subst (λ (n : ℕ). IsOp (made_up n w) o) (sym domains) (subst (λ (n : ℕ). IsOp (made_up s.domains n) o) (sym slots) h)
+
+pub op-of_heap : (setup : Setup) (h : Parts) (o : Op) → HasSetup h setup → IsOp setup o → IsOpOf h.roots o
+unfolding made_up
+op-of_heap setup h o fits op = op-like setup h.roots.domains h.roots.slots o fits.domains fits.slots op
+
+pub op-of_state : (h : Parts) (hs serials : List ℕ) (state : State) (o : Op) → Stands h hs serials state → IsOpOf h.roots o → IsOp (sizes_of state) o
+unfolding made_up
+op-of_state h hs serials state o st op =
+    let like = op-like (made_up h.roots.domains h.roots.slots) (length state.holders) state.width o (sym st.domains) (sym st.slots) op in
+    like
+
+-- what an operation of a lane leaves
+pub record StaysBut (lane : ℕ) (h k : Parts) : Type 0 where
+  pub space : k.space ≡ record h.space { states = k.space.states; pages = k.space.pages }
+  pub roots : k.roots ≡ record h.roots { words = k.roots.words }
+  pub chunk : chunk_of k.chunks lane ≡ record (chunk_of h.chunks lane) { objects = (chunk_of k.chunks lane).objects }
+  pub others : (l : ℕ) → l ≢ lane → (chunk_of k.chunks l ≡ chunk_of h.chunks l) × (buffer_of k.buffers l ≡ buffer_of h.buffers l)
+  pub long : length k.chunks ≡ length h.chunks
+  pub capacity : (buffer_of k.buffers lane).capacity ≡ (buffer_of h.buffers lane).capacity
+
+pub fits-step : (setup : Setup) (lane : ℕ) (h k : Parts) → StaysBut lane h k → HasSetup h setup → HasSetup k setup
+fits-step setup lane h k stays fits = record {
+  supers = ap (λ (s : Layout). superpages s) stays.space ∙ fits.supers;
+  domains = ap (λ (r : RootWords). r.domains) stays.roots ∙ fits.domains;
+  slots = ap (λ (r : RootWords). r.slots) stays.roots ∙ fits.slots;
+  lanes = stays.long ∙ fits.lanes;
+  words = λ l lt. elim (cases_eq l lane) [
+    | inl e ↦ ap (λ (n : ℕ). (chunk_of k.chunks n).words) e ∙ ap (λ (c : Nursery). c.words) stays.chunk ∙ ap (λ (n : ℕ). (chunk_of h.chunks n).words) (sym e) ∙ fits.words l lt
+    | inr ne ↦ ap (λ (c : Nursery). c.words) (stays.others l ne).0 ∙ fits.words l lt
+  ];
+  entries = λ l lt. elim (cases_eq l lane) [
+    | inl e ↦ ap (λ (n : ℕ). (buffer_of k.buffers n).capacity) e ∙ stays.capacity ∙ ap (λ (n : ℕ). (buffer_of h.buffers n).capacity) (sym e) ∙ fits.entries l lt
+    | inr ne ↦ ap (λ (b : Entries). b.capacity) (stays.others l ne).1 ∙ fits.entries l lt
+  ];
+  nursery = ap (λ (s : Layout). s.nursery) stays.space ∙ fits.nursery;
+  frames = ap (λ (s : Layout). s.frames) stays.space ∙ fits.frames;
+  used = subst (λ (s : Layout). HasDomainsBelow s setup.domains) (sym stays.space) fits.used;
+}
+
+-- an empty chunk has no object
+pub none-young : {X : Type 0} (c : Nursery) (a : ℕ) → c.objects ≡ [] → has_object c a ≡ true → X
+none-young c a none has =
+    absurd (false_true (sym (ap (λ (os : List ChunkObject). is_some (find (λ o. nat_same o.address a) os)) none) ∙ has))
+  where
+    nat_same : ℕ → ℕ → Bool
+    nat_same x y = x == y
+
+    false_true : false ≡ true → ⊥
+    false_true e = cc
+
+-- nor has a list of empty chunks
+none-in : (c : Nursery) (a : ℕ) → c.objects ≡ [] → has_object c a ≡ false
+none-in c a none = grind (arith, none)
+
+pub no-object : (cs : List Nursery) → ((l : ℕ) → (chunk_of cs l).objects ≡ []) → (a : ℕ) → object_in cs a ≡ None
+no-object cs none a = object_in-none cs a (λ k lt. none-in (chunk_of cs k) a (none k))
+
+-- a heap that is ready, through slices that the holders and serials were lent as
+pub ready-through : (setup : Setup) (hs ks ns ms ls js : List ℕ) (h k : Parts) → ks ≡ hs → ms ≡ ns → js ≡ ls → ((s : Setup) → IsReady s ks ms h → IsReady s ks ls k) → IsReady setup hs ns h → IsReady setup hs js k
+ready-through setup hs ks ns ms ls js h k holders before after keeps ready =
+    subst (λ (xs : List ℕ). IsReady setup hs xs k) (sym after)
+    (subst (λ (xs : List ℕ). IsReady setup xs ls k) holders
+    (keeps setup (subst (λ (xs : List ℕ). IsReady setup xs ms h) (sym holders) (subst (λ (xs : List ℕ). IsReady setup hs xs h) (sym before) ready))))

@@ -1,0 +1,61 @@
+use Rattle.std.proofs.Common.{length, sym, ap, subst, ◌∙◌, arith}
+use Rattle.std.proofs.lemmas.List.{take_at}
+use Rattle.bc_model.specs.Lists.{PhaseLists, lists_of}
+use Rattle.bc_model.specs.Run.{after_gives}
+use Rattle.bc_engine.specs.Engines.{EngineView, EngineStands, HasRoomForBirths}
+use Rattle.bc_engine.specs.Rounds.{IsTooSmall}
+use Rattle.bc_engine.proofs.PhaseLemmas.{births-lent, cut-lent, did-lent, small-at, underway-lent}
+use Rattle.bc_engine.proofs.engines.Engine.replay.Goals as goal
+
+pub rounds-requires-clause-underway : goal.rounds-requires-clause-underway
+rounds-requires-clause-underway g c κs within =
+    underway-lent c.args.self.now c.args.phase.now (lists_of c.deref.result.now) c.deref_mut.result.now c.args.replies.items
+    (record { engine = c.facts.ensures; phase = c.requires.phase; room = c.requires.room })
+    c.requires.births c.requires.long
+    (ap lists_of c.deref.ensures.value ∙ ap (λ (p : PhaseLists). p.lanes) c.phase.view_is) c.deref_mut.ensures.value
+
+pub returns-in-Ok-clause-done : goal.returns-in-Ok-clause-done
+returns-in-Ok-clause-done g c =
+    let phase = c.args.phase.now in
+    let same = c.rounds.auto.replies in
+    let lent = ap length c.deref_mut.ensures.value in
+    let len = c.deref_mut.ensures.len in
+    let gives = c.deref-in-Ok.ensures.value ∙ ap (λ (p : PhaseLists). p.gives) c.phase.view_is in
+    did-lent c.args.self.now c.rounds.new.self c.give_all.new.self phase (lists_of c.deref.result.now) c.deref_mut.result.now c.args.replies.items c.rounds.new.replies _
+    (record { engine = c.facts.ensures; phase = c.requires.phase; room = c.requires.room })
+    (ap lists_of c.deref.ensures.value ∙ ap (λ (p : PhaseLists). p.lanes) c.phase.view_is) c.deref_mut.ensures.value
+    (take_at c.rounds.new.replies _ c.args.replies.len (omega arith))
+    c.rounds.ensures.same.0 (omega (arith, c.requires.long)) c.in-Ok.ensures.on c.in-Ok.ensures.through
+    (λ s st. subst (λ gs. EngineStands c.give_all.new.self (after_gives s gs)) gives (c.give_all.ensures.given s st))
+    c.give_all.ensures.same c.room_facts.ensures
+
+pub returns-in-Ok-clause-births : goal.returns-in-Ok-clause-births
+returns-in-Ok-clause-births g c = λ n fits.
+    subst (λ (e : EngineView). HasRoomForBirths e n) (sym c.give_all.ensures.same)
+    (births-lent c.args.self.now c.rounds.new.self c.args.phase.now (lists_of c.deref.result.now) c.deref_mut.result.now c.args.replies.items c.rounds.new.replies
+    (ap lists_of c.deref.ensures.value ∙ ap (λ (p : PhaseLists). p.lanes) c.phase.view_is) c.deref_mut.ensures.value c.rounds.ensures.births n fits)
+
+pub returns-in-Err-OutOfHeap-clause-cut : goal.returns-in-Err-OutOfHeap-clause-cut
+returns-in-Err-OutOfHeap-clause-cut g c =
+    let same = c.rounds.auto.replies in
+    let lent = ap length c.deref_mut.ensures.value in
+    let len = c.deref_mut.ensures.len in
+    let os = lists_of c.deref.result.now in
+    rw c.in-Err-OutOfHeap.field-0-is
+    (cut-lent c.args.self.now c.rounds.new.self c.args.phase.now os c.deref_mut.result.now c.args.replies.items c.rounds.new.replies _ c.in-Err-OutOfHeap.need
+    (record { engine = c.facts.ensures; phase = c.requires.phase; room = c.requires.room })
+    c.facts-in-Err-OutOfHeap.ensures
+    (ap lists_of c.deref.ensures.value ∙ ap (λ (p : PhaseLists). p.lanes) c.phase.view_is) c.deref_mut.ensures.value
+    (take_at c.rounds.new.replies _ c.args.replies.len (omega arith))
+    c.rounds.ensures.same.0 (omega (arith, c.requires.long))
+    (small-at (Unit {0}) (IsTooSmall os c.args.self.now c.deref_mut.result.now c.rounds.new.self c.rounds.new.replies) c.in-Err-OutOfHeap.field-0 c.in-Err-OutOfHeap.need c.in-Err-OutOfHeap.field-0-is c.in-Err-OutOfHeap.ensures.cut))
+
+pub returns-in-Err-OutOfHeap-clause-births : goal.returns-in-Err-OutOfHeap-clause-births
+returns-in-Err-OutOfHeap-clause-births g c =
+    births-lent c.args.self.now c.rounds.new.self c.args.phase.now (lists_of c.deref.result.now) c.deref_mut.result.now c.args.replies.items c.rounds.new.replies
+    (ap lists_of c.deref.ensures.value ∙ ap (λ (p : PhaseLists). p.lanes) c.phase.view_is) c.deref_mut.ensures.value c.rounds.ensures.births
+
+pub returns-in-Err-NoMemory-clause-births : goal.returns-in-Err-NoMemory-clause-births
+returns-in-Err-NoMemory-clause-births g c =
+    births-lent c.args.self.now c.rounds.new.self c.args.phase.now (lists_of c.deref.result.now) c.deref_mut.result.now c.args.replies.items c.rounds.new.replies
+    (ap lists_of c.deref.ensures.value ∙ ap (λ (p : PhaseLists). p.lanes) c.phase.view_is) c.deref_mut.ensures.value c.rounds.ensures.births

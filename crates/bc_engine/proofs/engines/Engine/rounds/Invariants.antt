@@ -1,0 +1,16 @@
+use Rattle.std.proofs.Common.{◌≡◌, ℕ}
+use Rattle.bc_model.specs.Lists.{lists_of}
+use Rattle.bc_engine.specs.Lanes.{HasSerials, left}
+use Rattle.bc_engine.specs.Rounds.{GoesOn, IsUnderwayOn}
+use Rattle.bc_engine.proofs.engines.Engine.rounds.Given as goal
+
+abbrev pub invariant-rounds : goal.invariant-rounds
+invariant-rounds g l = record {
+  same : (l.self.holders ≡ l.initial.self.holders) × (l.self.setup ≡ l.initial.self.setup);
+  births : (n : ℕ) → HasSerials (lists_of l.lanes) l.initial.self.serials (lists_of l.initial.replies) n → HasSerials (lists_of l.lanes) l.self.serials (lists_of l.replies) n;
+  on : GoesOn (lists_of l.lanes) l.initial.self l.initial.replies l.self l.replies;
+  underway : IsUnderwayOn l.self (lists_of l.lanes) l.replies;
+}
+
+abbrev pub decreases-rounds : goal.decreases-rounds
+decreases-rounds g l = left (lists_of l.lanes) (lists_of l.replies)

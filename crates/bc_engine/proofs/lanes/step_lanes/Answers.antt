@@ -1,0 +1,30 @@
+use Rattle.std.proofs.Common.{refl, ◌≢◌, ◌∙◌, ap, arith}
+use Rattle.bc_model.specs.Lists.{lists_of}
+use Rattle.bc_nursery.specs.Objects.{Nursery}
+use Rattle.bc_engine.specs.Lanes.{parts_of}
+use Rattle.bc_engine.proofs.RunLemmas.{runs-same, runs-then, each-further}
+use Rattle.bc_engine.proofs.lanes.step_lanes.Goals as goal
+
+pub loop-lane-init : goal.loop-lane-init
+loop-lane-init c = record {
+  runs = runs-same (lists_of c.args.lanes.now) c.args.holders.now c.args.heap.now c.args.heap.now c.args.serials.now c.args.serials.now c.args.replies.now refl refl;
+  unrecorded = c.requires.unrecorded;
+  empty = λ n le. c.requires.empty n;
+  each = λ j lt. absurd (omega arith);
+}
+
+pub loop-lane-preserved : goal.loop-lane-preserved
+loop-lane-preserved c =
+    let e = c.advance-further.ensures in
+    let lane = c.loop-lane.lane in
+    let before = c.loop-lane.invariant in
+    let here = before.empty lane (omega arith) in
+    record {
+      runs = runs-then (lists_of c.args.lanes.now) c.args.holders.now (parts_of c.args.heap.now) (parts_of c.loop-lane.heap) (parts_of c.advance-further.new.heap) c.args.serials.now c.loop-lane.serials c.advance-further.new.serials c.args.replies.now c.loop-lane.replies c.advance-further.new.replies before.runs e.runs;
+      unrecorded = e.unrecorded here before.unrecorded;
+      empty = λ n le.
+          let ne : n ≢ lane = omega arith in
+          ap (λ (x : Nursery). x.objects) (e.others n ne) ∙ before.empty n (omega arith);
+      each = each-further (lists_of c.args.lanes.now) (lists_of c.args.replies.now) (lists_of c.loop-lane.replies) (lists_of c.advance-further.new.replies) lane c.advance-further.result
+          before.runs.goes.more e.runs.goes.more before.each e.further (e.alone here);
+    }

@@ -1,0 +1,73 @@
+-- An engine: a heap, and for each domain and lane who holds it and how many births it made.
+use Rattle.std.specs.Prelude.{◌≡◌, ◌≢◌, ℕ, ◌+◌, ◌*◌, ◌^◌, ◌<◌, List, [], length, Option, Some, None, slice_index}
+use Rattle.bc_cycle.specs.Emptying.{Parts, IsInOrder}
+use Rattle.bc_heap.specs.Closed.{chunk_of, buffer_of}
+use Rattle.bc_heap.specs.Heaps.{NoneRemembered}
+use Rattle.bc_heap.specs.Running.{StandsAs}
+use Rattle.bc_model.specs.State.{State}
+use Rattle.bc_model.specs.WellFormed.{IsSetup}
+use Rattle.bc_model.specs.declared.traces.Setup.{Setup}
+use Rattle.bc_promotion.specs.Promises.{HasDomainsBelow}
+use Rattle.bc_superpages.specs.Layout.{superpages}
+use Rattle.bc_engine.specs.declared.engines.Ended.{Ended}
+use Rattle.bc_engine.specs.declared.engines.Ended.TheVariants.{NoMemory}
+
+pub record EngineView : Type 0 where
+  pub heap : Parts
+  pub holders : List ℕ
+  pub serials : List ℕ
+  pub setup : Setup
+  -- how it ended, once it has
+  pub ended : Option Ended
+
+-- the heap has the setup's superpages, root slots, chunks, buffers and frames: a frame for every page. Superpages are in use for the
+-- setup's domains
+pub record HasSetup (h : Parts) (setup : Setup) : Type 0 where
+  pub supers : superpages h.space ≡ setup.superpages
+  pub domains : h.roots.domains ≡ setup.domains
+  pub slots : h.roots.slots ≡ setup.slots
+  pub lanes : length h.chunks ≡ setup.lanes
+  pub words : (l : ℕ) → l < setup.lanes → (chunk_of h.chunks l).words ≡ 512 * setup.nursery
+  pub entries : (l : ℕ) → l < setup.lanes → (buffer_of h.buffers l).capacity ≡ setup.buffer
+  pub nursery : h.space.nursery ≡ setup.lanes * setup.nursery
+  pub frames : h.space.frames ≡ setup.lanes * setup.nursery + 4 * setup.superpages
+  pub used : HasDomainsBelow h.space setup.domains
+
+-- all write buffers are empty, and no page is remembered
+pub record IsUnrecorded (h : Parts) : Type 0 where
+  pub entries : (l : ℕ) → (buffer_of h.buffers l).entries ≡ []
+  pub remembered : NoneRemembered h.space
+
+-- all chunks are empty
+abbrev pub HasEmptyChunks : Parts → Type 0
+HasEmptyChunks h = (l : ℕ) → (chunk_of h.chunks l).objects ≡ []
+
+-- the heap stands for the state, with these holders and births
+abbrev pub Stands : Parts → List ℕ → List ℕ → State → Type 0
+Stands h holders serials state = StandsAs h.space h.roots h.chunks holders serials state
+
+-- what is true of a heap that lanes can run on: it is in order, it has the setup's sizes, and there is a state that it stands for
+pub record IsReady (setup : Setup) (holders serials : List ℕ) (h : Parts) : Type 0 where
+  pub range : IsSetup setup
+  pub order : IsInOrder h holders
+  pub fits : HasSetup h setup
+  pub lanes : length serials ≡ setup.lanes
+  pub meant : (state : State) × Stands h holders serials state
+
+-- what is true of an engine whose heap is in order: that of one that hasn't run out of memory. As long as it hasn't ended,
+-- nothing is recorded
+pub record IsEngine (e : EngineView) : Type 0 where
+  pub ready : IsReady e.setup e.holders e.serials e.heap
+  pub going : e.ended ≡ None → IsUnrecorded e.heap
+
+-- the engine stands for the state
+abbrev pub EngineStands : EngineView → State → Type 0
+EngineStands e state = Stands e.heap e.holders e.serials state
+
+-- every lane can make n objects more, all with serials below 2 ^ 32
+abbrev pub HasRoomForBirths : EngineView → ℕ → Type 0
+HasRoomForBirths e n = (j : ℕ) → slice_index e.serials j + n < 2 ^ 32
+
+-- what the type keeps: until it runs out of memory an engine's heap is in order
+abbrev pub IsSound : EngineView → Type 0
+IsSound e = e.ended ≢ Some NoMemory → IsEngine e

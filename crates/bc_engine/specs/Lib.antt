@@ -1,0 +1,6 @@
+pub mod Engines
+pub mod Phases
+pub mod Answers
+pub mod Lanes
+pub mod Openings
+pub mod Rounds

@@ -1,0 +1,133 @@
+ghost use Rattle.std.specs.Prelude.{◌≡◌, ◌≢◌, ℕ, ◌+◌, ◌^◌, ◌<◌, ◌≤◌, List, [], length, slice_index, true, false, IfOk, OnErr};
+ghost use Rattle.bc_engine.specs.Engines.{HasEmptyChunks, IsReady, IsUnrecorded};
+ghost use Rattle.bc_engine.specs.Lanes.{of_lane, parts_of, AreDone, Does, EachFurther, HasMore, IsOneMore, IsUnderway, Runs};
+ghost use Rattle.bc_heap.specs.Closed.{chunk_of};
+ghost use Rattle.bc_model.specs.Lists.{lists_of};
+ghost use Rattle.bc_model.specs.declared.traces.Setup.{Setup};
+ghost use Rattle.bc_mutator.specs.Operations.{IsOpOf};
+
+use bc_cycle::Heap;
+use bc_model::{Op, Reply};
+use bc_mutator::{Stop, operate};
+
+/// Does one operation of a lane, or stops with nothing changed. With an empty chunk it doesn't stop.
+pub(crate) fn attempt(
+    heap: &mut Heap,
+    holders: &[u32],
+    serials: &mut [u32],
+    lane: u32,
+    op: &Op,
+) -> Result<Reply, Stop>
+    requires ready { (setup : Setup) × IsReady setup holders.now serials.old (parts_of heap.old) }
+    requires lane { lane < length heap.old.chunks.items }
+    requires op { IsOpOf heap.old.roots op.now }
+    requires serial { slice_index serials.old lane + 1 < 2 ^ 32 }
+    ensures done { IfOk result (λ reply. Does holders.now lane op.now (parts_of heap.old) serials.old reply (parts_of heap.new) serials.new) }
+    ensures same { OnErr result ((heap.new ≡ heap.old) × (serials.new ≡ serials.old)) }
+    ensures ready { (setup : Setup) → IsReady setup holders.now serials.old (parts_of heap.old) → IsReady setup holders.now serials.new (parts_of heap.new) }
+    ensures alone { (chunk_of heap.old.chunks.items lane).objects ≡ [] → OnErr result ⊥ }
+    ensures unrecorded { (chunk_of heap.old.chunks.items lane).objects ≡ [] → IsUnrecorded (parts_of heap.old) → IsUnrecorded (parts_of heap.new) }
+    ensures others { (l : ℕ) → l ≢ lane → chunk_of heap.new.chunks.items l ≡ chunk_of heap.old.chunks.items l }
+{
+    operate(heap, holders, &mut serials[lane as usize], lane, op)
+}
+
+/// Does the next operation of a lane and keeps its reply. It answers `false` where the lane is at its end, or its operation
+/// stops; then nothing has changed.
+fn advance(
+    heap: &mut Heap,
+    holders: &[u32],
+    serials: &mut [u32],
+    lanes: &[Vec<Op>],
+    replies: &mut [Vec<Reply>],
+    lane: u32,
+) -> bool
+    requires lane { lane < length lanes.now }
+    requires underway { (setup : Setup) × IsUnderway setup (lists_of lanes.now) holders.now (parts_of heap.old) serials.old replies.old }
+    ensures runs { Runs (lists_of lanes.now) holders.now (parts_of heap.old) serials.old replies.old (parts_of heap.new) serials.new replies.new }
+    ensures further { result ≡ true → IsOneMore (of_lane (lists_of lanes.now) lane) (of_lane (lists_of replies.old) lane) (of_lane (lists_of replies.new) lane) }
+    ensures alone { (chunk_of heap.old.chunks.items lane).objects ≡ [] → result ≡ false
+        → length (of_lane (lists_of lanes.now) lane) ≤ length (of_lane (lists_of replies.new) lane) }
+    ensures unrecorded { (chunk_of heap.old.chunks.items lane).objects ≡ [] → IsUnrecorded (parts_of heap.old) → IsUnrecorded (parts_of heap.new) }
+    ensures others { (l : ℕ) → l ≢ lane → chunk_of heap.new.chunks.items l ≡ chunk_of heap.old.chunks.items l }
+{
+    let index = lane as usize;
+    let done = replies[index].len();
+    if done >= lanes[index].len() {
+        return false;
+    }
+    match attempt(heap, holders, serials, lane, &lanes[index][done]) {
+        Ok(reply) => {
+            replies[index].push_reserved(reply);
+            true
+        }
+        Err(_) => false,
+    }
+}
+
+/// Does operations of a lane until it is at its end, or one stops.
+fn run_lane(
+    heap: &mut Heap,
+    holders: &[u32],
+    serials: &mut [u32],
+    lanes: &[Vec<Op>],
+    replies: &mut [Vec<Reply>],
+    lane: u32,
+)
+    requires lane { lane < length lanes.now }
+    requires underway { (setup : Setup) × IsUnderway setup (lists_of lanes.now) holders.now (parts_of heap.old) serials.old replies.old }
+    ensures { Runs (lists_of lanes.now) holders.now (parts_of heap.old) serials.old replies.old (parts_of heap.new) serials.new replies.new }
+{
+    'operations: while advance(heap, holders, serials, lanes, replies, lane) {}
+}
+
+/// Does operations of each lane, in the order of the lanes, until it is at its end or one stops.
+pub(crate) fn run_lanes(
+    heap: &mut Heap,
+    holders: &[u32],
+    serials: &mut [u32],
+    lanes: &[Vec<Op>],
+    replies: &mut [Vec<Reply>],
+)
+    requires { (setup : Setup) × IsUnderway setup (lists_of lanes.now) holders.now (parts_of heap.old) serials.old replies.old }
+    ensures { Runs (lists_of lanes.now) holders.now (parts_of heap.old) serials.old replies.old (parts_of heap.new) serials.new replies.new }
+{
+    for lane in 0..lanes.len() as u32 {
+        run_lane(heap, holders, serials, lanes, replies, lane);
+    }
+}
+
+/// Does one operation of each lane that isn't at its end, in the order of the lanes. All chunks and write buffers are empty, so
+/// none stops.
+pub(crate) fn step_lanes(
+    heap: &mut Heap,
+    holders: &[u32],
+    serials: &mut [u32],
+    lanes: &[Vec<Op>],
+    replies: &mut [Vec<Reply>],
+)
+    requires underway { (setup : Setup) × IsUnderway setup (lists_of lanes.now) holders.now (parts_of heap.old) serials.old replies.old }
+    requires empty { HasEmptyChunks (parts_of heap.old) }
+    requires unrecorded { IsUnrecorded (parts_of heap.old) }
+    ensures runs { Runs (lists_of lanes.now) holders.now (parts_of heap.old) serials.old replies.old (parts_of heap.new) serials.new replies.new }
+    ensures unrecorded { IsUnrecorded (parts_of heap.new) }
+    ensures each { EachFurther (length lanes.now) (lists_of lanes.now) (lists_of replies.old) (lists_of replies.new) }
+{
+    for lane in 0..lanes.len() as u32 {
+        let _further = advance(heap, holders, serials, lanes, replies, lane);
+    }
+}
+
+/// Are all lanes at their ends?
+pub(crate) fn are_done(lanes: &[Vec<Op>], replies: &[Vec<Reply>]) -> bool
+    requires { length replies.now ≡ length lanes.now }
+    ensures done { result ≡ true → AreDone (lists_of lanes.now) (lists_of replies.now) }
+    ensures more { result ≡ false → HasMore (lists_of lanes.now) (lists_of replies.now) }
+{
+    for lane in 0..lanes.len() {
+        if replies[lane].len() < lanes[lane].len() {
+            return false;
+        }
+    }
+    true
+}

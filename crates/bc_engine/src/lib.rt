@@ -1,0 +1,43 @@
+// The engine: it replays the phases of a trace on the collector's heap.
+//
+// An `Engine` keeps one heap (a space of cells, root slots, and for each lane a chunk and a write buffer), the lane that
+// holds each domain, and how many objects each lane has made, by which it numbers the next one. It knows the setup that it
+// was opened with and, once it has ended, how: what it stands for needs more superpages than there are, or memory ran out.
+// An engine that has ended replays no other phase.
+//
+// A phase (`phases`) begins by taking room for the replies to all its operations, so that none of them takes memory. Then
+// it goes in rounds (`rounds`). In a round each lane does operations (`lanes`) until it is at its end or one stops, since
+// the lane's chunk or its write buffer is full. An operation that stops has changed nothing. Then the nurseries are
+// emptied, and if all lanes are at their ends the rounds are through. If not, each lane that has operations left does one
+// more on empty chunks. That one can't stop: an empty chunk has room for any object, and where a chunk is empty no
+// reference to it can be stored. Nor does it record anything, so all buffers are empty still. So each round that isn't the
+// last does an operation of every lane that had any left, and the operations that are left get fewer. When the rounds are
+// through, the domains change hands: all chunks are empty then, so nothing refers to the chunk of the lane that loses one.
+//
+// An emptying may find that the heap is too small. Then the heap is as it was, what it stands for needs more
+// superpages than there are, and the phase ends there with the replies so far. Whatever the lanes have done is a cut of
+// the phase: so many of the first operations of each lane. They were done in the order of the rounds and not lane after
+// lane, but a lane looks at no more than its own domains lead to, so each order gives the same replies and the same state.
+// The proofs keep the list of the steps that were done, in their order (`Goes`), and turn to lane after lane at
+// the phase's end alone (proofs/CutLemmas.antt).
+//
+// What is true of every engine between calls, until memory runs out (`IsEngine`): its heap is in order, so that lanes can
+// run on it (`IsRunning` in `bc_heap`); it has the sizes of the setup, with a frame for every page, and superpages are in
+// use for the setup's domains alone; and there is a state of the heap that never frees, moves or pages that it stands for,
+// with just these holders and births. As long as it hasn't ended, write buffers are empty and no page is remembered.
+//
+// The theorem is the contract of `Engine::phase`. Done, the replies are those of the heap that never frees, to every
+// operation, the engine stands for the state after the phase, and its superpages are at least that state's need
+// (`DidPhase`). Refused for want of heap, the replies and the state are those of a cut, and the need that is answered
+// is the need of that state and above the number of superpages (`CutPhase`). `Engine::open`, `give` and `serial`
+// say the same of the opening state, of one give and of one operation.
+#![tactic(auto)]
+
+mod engines;
+mod lanes;
+mod openings;
+mod phases;
+mod rounds;
+
+pub use engines::Engine;
+pub use phases::PhaseNo;

@@ -1,0 +1,156 @@
+ghost use Rattle.std.specs.Prelude.{◌≡◌, ◌≢◌, ℕ, ◌+◌, ◌^◌, ◌<◌, ◌≤◌, List, [], length, map, Option, Some, None, Result, Ok, Err, OnErr, IfOk};
+ghost use Rattle.std.specs.List.{AllByRecursion};
+ghost use Rattle.bc_engine.specs.Answers.{IfOutOfHeap, IsOutOfHeap, IsNoMemory};
+ghost use Rattle.bc_engine.specs.Engines.{EngineView, EngineStands, HasEmptyChunks, HasRoomForBirths, IsUnrecorded};
+ghost use Rattle.bc_engine.specs.Lanes.{HasRoomForOps};
+ghost use Rattle.bc_engine.specs.Phases.{DidPhase, CutPhase};
+ghost use Rattle.bc_engine.specs.Rounds.{IsRoomFor};
+ghost use Rattle.bc_model.specs.Lists.{lists_of};
+ghost use Rattle.bc_model.specs.Need.{IsNeed};
+ghost use Rattle.bc_model.specs.Run.{after_gives};
+ghost use Rattle.bc_model.specs.State.{State};
+ghost use Rattle.bc_model.specs.WellFormed.{IsGive, IsPhase};
+
+use crate::engines::{Ended, Engine};
+use bc_failsafe::law_room;
+use bc_model::{Give, Op, Phase, Replies, Reply};
+use bc_pins::Gate;
+use std::alloc::{AllocError, Global};
+use std::thread::Threads;
+
+/// Why a phase isn't done.
+#[derive(Drop)]
+pub enum PhaseNo {
+    /// What the engine stands for after these replies needs this many superpages, which is more than there are. On an engine that
+    /// had ended so, there are no replies.
+    OutOfHeap { replies: Replies, need: u64 },
+    /// There is no memory for the replies or for an emptying of the nurseries, now or in an earlier phase. The engine may be used
+    /// only to be dropped.
+    NoMemory,
+}
+
+impl Engine {
+    /// Does a phase, which fits the setup: the operations of all lanes, and then the gives. Each lane's births so far and its
+    /// operations in the phase together are fewer than 2^32.
+    ///
+    /// It answers `OutOfHeap` where an emptying of the nurseries finds that the heap is too small, with the replies up to there,
+    /// and `NoMemory` where there is no memory for all replies or for an emptying. Both end the engine. One that ended for want of
+    /// heap answers the same need again with no replies, and changes nothing; one that ended for want of memory answers that
+    /// alone. No page leaves the heap, so the hints of the phase's turns change nothing.
+    pub fn phase<R, G>(
+        &mut self,
+        rt: &R,
+        alloc: Global,
+        phase: &Phase,
+        gate: &G,
+    ) -> Result<Replies, PhaseNo>
+    where
+        R: Threads + Sync,
+        G: Gate + Sync,
+        requires phase { IsPhase self.old.setup phase.now }
+        requires births { HasRoomForOps self.old phase.now.lanes 0 }
+        ensures done { self.old.ended ≡ None → IfOk result (λ replies. DidPhase self.old phase.now self.new replies) }
+        ensures cut { self.old.ended ≡ None → IfOutOfHeap result (λ replies need. CutPhase self.old phase.now self.new replies need) }
+        ensures again { (need : ℕ) → self.old.ended ≡ Some (Ended.OutOfHeap need) → IsOutOfHeap result [] need }
+        ensures ended { self.old.ended ≢ None → self.new ≡ self.old }
+        ensures gone { self.old.ended ≡ Some Ended.NoMemory → IsNoMemory result }
+        ensures setup { self.new.setup ≡ self.old.setup }
+        ensures no_memory { IsNoMemory result → self.new.ended ≡ Some Ended.NoMemory }
+        ensures births { (n : ℕ) → HasRoomForOps self.old phase.now.lanes n → HasRoomForBirths self.new n }
+    {
+        match self.ended {
+            None => {}
+            Some(Ended::OutOfHeap { need }) => {
+                let replies = Replies {
+                    lanes: Vec::new(alloc),
+                };
+                return Err(PhaseNo::OutOfHeap { replies, need });
+            }
+            Some(Ended::NoMemory) => return Err(PhaseNo::NoMemory),
+        }
+        match room_for(alloc, &phase.lanes) {
+            Ok(replies) => self.replay(rt, alloc, phase, replies, gate),
+            Err(_) => {
+                self.ended = Some(Ended::NoMemory);
+                Err(PhaseNo::NoMemory)
+            }
+        }
+    }
+
+    /// Does a phase on an engine that hasn't ended, with room for the reply to each operation.
+    fn replay<R, G>(
+        &mut self,
+        rt: &R,
+        alloc: Global,
+        phase: &Phase,
+        mut replies: Vec<Vec<Reply>>,
+        gate: &G,
+    ) -> Result<Replies, PhaseNo>
+    where
+        R: Threads + Sync,
+        G: Gate + Sync,
+        requires going { self.old.ended ≡ None }
+        requires phase { IsPhase self.old.setup phase.now }
+        requires births { HasRoomForOps self.old phase.now.lanes 0 }
+        requires long { length replies.items ≡ length phase.now.lanes }
+        requires room { IsRoomFor phase.now.lanes replies.items }
+        ensures done { IfOk result (λ told. DidPhase self.old phase.now self.new told) }
+        ensures cut { IfOutOfHeap result (λ told need. CutPhase self.old phase.now self.new told need) }
+        ensures setup { self.new.setup ≡ self.old.setup }
+        ensures no_memory { IsNoMemory result → self.new.ended ≡ Some Ended.NoMemory }
+        ensures births { (n : ℕ) → HasRoomForOps self.old phase.now.lanes n → HasRoomForBirths self.new n }
+    {
+        self.facts();
+        match self.rounds(rt, alloc, &phase.lanes, &mut replies, gate) {
+            Ok(()) => {
+                self.facts();
+                self.give_all(&phase.gives);
+                self.room_facts();
+                Ok(Replies { lanes: replies })
+            }
+            Err(Ended::OutOfHeap { need }) => {
+                self.facts();
+                let replies = Replies { lanes: replies };
+                Err(PhaseNo::OutOfHeap { replies, need })
+            }
+            Err(Ended::NoMemory) => Err(PhaseNo::NoMemory),
+        }
+    }
+
+    /// Has the domains change hands, one after the other. All chunks and write buffers are empty, and no page is remembered.
+    fn give_all(&mut self, gives: &[Give])
+        requires alive { self.old.ended ≢ Some Ended.NoMemory }
+        requires empty { HasEmptyChunks self.old.heap }
+        requires unrecorded { IsUnrecorded self.old.heap }
+        requires gives { AllByRecursion (IsGive self.old.setup) gives.now }
+        ensures given { (s : State) → EngineStands self.old s → EngineStands self.new (after_gives s gives.now) }
+        ensures same { self.new ≡ record self.old { holders = self.new.holders } }
+    {
+        for give in gives {
+            self.give(give.domain, give.lane);
+        }
+    }
+
+    /// With empty chunks there are at least as many superpages as are needed, told to a caller. It does nothing.
+    fn room_facts(&self)
+        requires going { self.now.ended ≡ None }
+        requires empty { HasEmptyChunks self.now.heap }
+        ensures { (s : State) (n : ℕ) → EngineStands self.now s → IsNeed s n → n ≤ self.now.setup.superpages }
+    {
+        law_room();
+        self.heap.space.facts();
+    }
+}
+
+/// A list for the replies of each lane, with room for a reply to each of its operations.
+fn room_for(alloc: Global, lanes: &[Vec<Op>]) -> Result<Vec<Vec<Reply>>, AllocError>
+    ensures long { IfOk result (λ replies. length replies.items ≡ length lanes.now) }
+    ensures room { IfOk result (λ replies. IsRoomFor (lists_of lanes.now) replies.items) }
+{
+    let mut replies = Vec::with_capacity(alloc, lanes.len())?;
+    for ops in lanes {
+        let room = Vec::with_capacity(alloc, ops.len())?;
+        replies.push(room)?;
+    }
+    Ok(replies)
+}
