@@ -1,5 +1,5 @@
 -- How long the text of a trace is, by how many operations it has.
-use Rattle.std.proofs.Common.{◌≡◌, ℕ, ◌+◌, ◌*◌, ◌^◌, ◌<◌, ◌≤◌, List, [], ◌∷◌, ◌++◌, length, arith, map, suc, ap, length-append}
+use Rattle.std.proofs.Common.{ℕ, ◌+◌, ◌*◌, ◌^◌, ◌<◌, ◌≤◌, List, [], ◌∷◌, ◌++◌, length, arith, map, suc, ap, length-append}
 use Rattle.std.specs.Prelude.{sum_by}
 use Rattle.std.proofs.lemmas.List.Concat.{flat_map-append}
 use Rattle.std.proofs.lemmas.List.Sums.{sum_by-cons}
@@ -16,7 +16,6 @@ use Rattle.bc_trace.specs.Lines.{lane, op, phase, turn, give, end, done, version
 use Rattle.bc_trace.specs.Words.{name, verb_name}
 use Rattle.bc_trace.specs.declared.words.Verb.{Verb}
 use Rattle.bc_trace.specs.declared.words.Verb.TheVariants as verbs
-use Rattle.bc_trace.specs.declared.words.Word.{Word}
 use Rattle.bc_trace.specs.declared.words.Word.TheVariants as words
 
 -- a verb has three letters at least

@@ -5,3 +5,7 @@ pub mod Replies
 pub mod Outgoing
 pub mod Incoming
 pub mod Room
+pub mod Running
+pub mod NeedRoom
+pub mod CutRoom
+pub mod Finishing

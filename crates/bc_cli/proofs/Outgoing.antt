@@ -1,16 +1,15 @@
 -- How long the text of a lane's replies is, by how many operations it has.
-use Rattle.std.proofs.Common.{◌≡◌, ℕ, ◌+◌, ◌-◌, ◌*◌, ◌^◌, ◌<◌, ◌≤◌, List, [], ◌∷◌, ◌++◌, length, arith, sym, subst, ap, ◌∙◌, length-append, length-set, refl, suc}
+use Rattle.std.proofs.Common.{◌≡◌, ℕ, ◌+◌, ◌*◌, ◌<◌, ◌≤◌, List, [], ◌∷◌, length, arith, sym, subst, ap, ◌∙◌, length-append, length-set, refl, suc}
 use Rattle.std.specs.List.{AllByRecursion, flat_map}
 use Rattle.std.specs.Prelude.{sum_by}
 use Rattle.std.proofs.lemmas.List.Sums.{sum_by-cons}
 use Rattle.bc_model.specs.Consistent.{IsState, HasSerials, sizes_of}
 use Rattle.bc_model.specs.Lists.{PhaseLists}
 use Rattle.bc_model.specs.Run.{after_ops, replies_to, after_lanes, after_gives, after_phase, ops_of}
-use Rattle.bc_model.specs.State.{State, made_by, given}
+use Rattle.bc_model.specs.State.{State, given}
 use Rattle.bc_model.specs.Step.{step}
 use Rattle.bc_model.specs.WellFormed.{IsOp, IsGive, IsPhase}
 use Rattle.bc_model.specs.declared.operations.Op.{Op}
-use Rattle.bc_model.specs.declared.operations.Reply.{Reply}
 use Rattle.bc_model.specs.declared.traces.Give.{Give}
 use Rattle.bc_model.specs.declared.traces.Setup.{Setup}
 use Rattle.bc_model.proofs.Steps.{SameSizes, sizes_of-same, IsState-step, SameSizes-step, made-step, IsOps-same, SameSizes-itself, SameSizes-then}

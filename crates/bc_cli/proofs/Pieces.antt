@@ -1,10 +1,10 @@
 -- The texts of phases, one after another.
-use Rattle.std.proofs.Common.{◌≡◌, ℕ, ◌+◌, suc, ◌<◌, ◌≤◌, List, [], ◌∷◌, ◌++◌, length, take, drop, get_or, refl, sym, ap, ◌∙◌, append-nil, arith, add-one, add-zero, take-append-drop, length-append, subst, Option, inl, inr}
+use Rattle.std.proofs.Common.{◌≡◌, ℕ, ◌+◌, suc, ◌<◌, ◌≤◌, List, [], ◌∷◌, ◌++◌, length, take, drop, get_or, refl, ap, ◌∙◌, append-nil, arith, take-append-drop, length-append, subst, Option, inl, inr}
 use Rattle.std.proofs.lemmas.List.{take_more, length-take-le}
 use Rattle.bc_io.specs.Faults.{Rose}
 use Rattle.bc_io.specs.Told.{HasRoom, HeldGrows, IsPrefix, RoomFalls, TakesFront}
-use Rattle.bc_io.proofs.Telling.{HasRoom-less, HasRoom-rest, HeldGrows-more, IsPrefix-trans, append-IsPrefix}
-use Rattle.bc_cli.specs.Outcomes.{WritesFront}
+use Rattle.bc_io.proofs.Telling.{HasRoom-less, HasRoom-rest, HeldGrows-more}
+use Rattle.bc_cli.specs.Endings.{WritesFront, WritesFrontAfter}
 use Rattle.bc_model.specs.Lists.{PhaseLists}
 use Rattle.bc_model.specs.Run.{after_phase, after_phases, replies_of_phases, replies_to_lanes}
 use Rattle.bc_model.specs.State.{State}
@@ -73,19 +73,6 @@ pub state-none : (s : State) → s ≡ after_phases s []
 unfolding after_phases
 state-none s = refl
 
--- the same, where the state and the phase are known by equations
-pub texts-told : (s st : State) (ps : List PhaseLists) (i : ℕ) (p : PhaseLists) → i < length ps → st ≡ after_phases s (take i ps) → p ≡ get_or ps i p
-    → texts_from s (take (i + 1) ps) ≡ texts_from s (take i ps) ++ phase_text (i + 1) (replies_to_lanes st 0 p.lanes)
-texts-told s st ps i p lt e is =
-    texts-step s ps i p lt
-    ∙ ap (λ q. texts_from s (take i ps) ++ phase_text (i + 1) (replies_to_lanes (after_phases s (take i ps)) 0 q.lanes)) (sym is)
-    ∙ ap (λ t. texts_from s (take i ps) ++ phase_text (i + 1) (replies_to_lanes t 0 p.lanes)) (sym e)
-
-pub told-front : (s st : State) (ps : List PhaseLists) (i : ℕ) (p : PhaseLists) → i < length ps → st ≡ after_phases s (take i ps) → p ≡ get_or ps i p
-    → IsPrefix (texts_from s (take i ps) ++ phase_text (i + 1) (replies_to_lanes st 0 p.lanes)) (texts_from s ps)
-told-front s st ps i p lt e is =
-    subst (λ t. IsPrefix t (texts_from s ps)) (texts-told s st ps i p lt e is) (texts_before-front s ps (i + 1))
-
 pub IsPrefix-length : (xs ys : List ℕ) → IsPrefix xs ys → length xs ≤ length ys
 IsPrefix-length xs ys p = omega (arith, ap length p.1, length-append xs p.0)
 
@@ -95,11 +82,11 @@ room-for-next a b xs ys whole room falls p =
     let few : length xs + length ys ≤ length whole = omega (arith, IsPrefix-length (xs ++ ys) whole p, length-append xs ys) in
     HasRoom-rest a b (length xs) (length ys) (HasRoom-less a (length xs + length ys) (length whole) few room) falls
 
--- what was written, and then a front of the next text, is a front of the whole
-pub front-more : (a b c : Option (List ℕ)) (xs ys whole : List ℕ) → HeldGrows a b xs → WritesFront b c ys → IsPrefix (xs ++ ys) whole → WritesFront a c whole
-front-more a b c xs ys whole held w p = record {
-  front = xs ++ w.front;
-  is_front = IsPrefix-trans (xs ++ w.front) (xs ++ ys) whole (append-IsPrefix xs w.front ys w.is_front) p;
+-- what was written, and then a front of the next text
+pub front-behind : (a b c : Option (List ℕ)) (xs ys : List ℕ) → HeldGrows a b xs → WritesFront b c ys → WritesFrontAfter a c xs ys
+front-behind a b c xs ys held w = record {
+  front = w.front;
+  is_front = w.is_front;
   written = HeldGrows-more a b c xs w.front held w.written;
 }
 

@@ -1,11 +1,10 @@
 -- How long the line of a reply is.
-use Rattle.std.proofs.Common.{◌≡◌, ℕ, ◌+◌, ◌-◌, ◌*◌, ◌^◌, ◌<◌, ◌≤◌, List, [], ◌∷◌, ◌++◌, length, get_or, Bool, true, false, nat_lt, arith, sym, subst, length-append}
+use Rattle.std.proofs.Common.{ℕ, ◌^◌, ◌<◌, ◌≤◌, length, Bool, true, false, nat_lt, arith, length-append}
 use Rattle.std.specs.Prelude.{if◌then◌else◌}
 use Rattle.std.proofs.lemmas.Fmt.{length-decimal-le}
-use Rattle.bc_model.specs.Consistent.{IsState, IsObject, IsValue, AreValues, HasSerials, sizes_of}
-use Rattle.bc_model.specs.State.{State, IsBorn, made_by, object_of, slot_of, field_of, holds, next_birth}
+use Rattle.bc_model.specs.Consistent.{IsState, IsValue, HasSerials}
+use Rattle.bc_model.specs.State.{State, IsBorn, object_of, slot_of, field_of, holds}
 use Rattle.bc_model.specs.Step.{act, domains_of, on_object, on_field, step, told, loaded, is_same}
-use Rattle.bc_model.specs.WellFormed.{IsOp}
 use Rattle.bc_model.specs.declared.operations.Op.{Op}
 use Rattle.bc_model.specs.declared.operations.Op.TheVariants as op
 use Rattle.bc_model.specs.declared.operations.Reply.{Reply}

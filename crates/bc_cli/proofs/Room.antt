@@ -1,12 +1,12 @@
 -- A run writes at most four times as many bytes as its trace has.
-use Rattle.std.proofs.Common.{◌≡◌, ℕ, ◌+◌, ◌-◌, ◌*◌, ◌^◌, ◌<◌, ◌≤◌, List, [], ◌∷◌, ◌++◌, length, arith, map, suc, sym, ◌∙◌, ap, subst, length-append, Option, None, Some, take, codes}
+use Rattle.std.proofs.Common.{◌≡◌, ℕ, ◌+◌, ◌*◌, ◌^◌, ◌<◌, ◌≤◌, List, [], ◌∷◌, ◌++◌, length, arith, map, suc, sym, ap, subst, length-append, codes}
 use Rattle.std.specs.List.{AllByRecursion, flat_map}
 use Rattle.std.specs.Prelude.{sum_by}
 use Rattle.std.specs.Fmt.{decimal}
-use Rattle.std.proofs.lemmas.Fmt.{length-decimal-le, decimal_nonempty}
+use Rattle.std.proofs.lemmas.Fmt.{length-decimal-le}
 use Rattle.std.proofs.lemmas.List.Sums.{sum_by-cons}
 use Rattle.std.proofs.lemmas.List.Concat.{flat_map-append}
-use Rattle.bc_model.specs.Consistent.{IsState, HasSizes, HasSerials, sizes_of}
+use Rattle.bc_model.specs.Consistent.{IsState, sizes_of}
 use Rattle.bc_model.specs.Lists.{PhaseLists, TraceLists}
 use Rattle.bc_model.specs.Run.{opening, after_ops, after_phase, replies_to, replies_to_lanes, replies_of_phases, ops_of, all_ops_of}
 use Rattle.bc_model.specs.State.{State}
@@ -14,11 +14,10 @@ use Rattle.bc_model.specs.WellFormed.{IsOp, IsPhase, IsTrace}
 use Rattle.bc_model.specs.declared.operations.Op.{Op}
 use Rattle.bc_model.specs.declared.traces.Setup.{Setup}
 use Rattle.bc_model.proofs.Openings.{HasSizes-opening, HasSerials-opening, IsState-opening}
-use Rattle.bc_model.proofs.Steps.{sizes_of-same}
-use Rattle.bc_trace.specs.Lines.{Line, lane, op, phase, turn, give, end, done, version, line_text, lane_lines, phase_lines, setup_lines, trace_lines, trace_text, spelling, Spells}
+use Rattle.bc_trace.specs.Lines.{lane, op, done, version, line_text, lane_lines, phase_lines, setup_lines, trace_text, spelling, Spells}
 use Rattle.bc_trace.specs.Replies.{reply_text, lane_text, lanes_text, phase_text, phases_text, done_text}
 use Rattle.bc_trace.specs.Words.{name}
-use Rattle.bc_cli.specs.Outcomes.{HasRoomFor, longest_trace}
+use Rattle.bc_cli.specs.Outcomes.{longest_trace}
 use Rattle.bc_cli.specs.Output.{texts_from, whole_text}
 use Rattle.bc_cli.proofs.Incoming.{IsModest, length-ops_text, length-lane_text, phase_frame, length-trace_text}
 use Rattle.bc_cli.proofs.Outgoing.{Ready, Ready-less, Goes-ops, length-replies_text, lanes-same, after_phase-keeps}
@@ -27,7 +26,7 @@ use Rattle.bc_cli.proofs.Sizes.{phases-from_setup}
 modest_sizes : (s : State) → IsState s → IsModest (sizes_of s)
 modest_sizes s h = record { domains = h.domains; slots = h.width }
 
-lanes_room : (s : State) (j : ℕ) (lanes : List (List Op)) → j + length lanes ≤ length s.made → AllByRecursion (AllByRecursion (IsOp (sizes_of s))) lanes → Ready (sum_by length lanes) s
+pub lanes_room : (s : State) (j : ℕ) (lanes : List (List Op)) → j + length lanes ≤ length s.made → AllByRecursion (AllByRecursion (IsOp (sizes_of s))) lanes → Ready (sum_by length lanes) s
     → length (lanes_text j (replies_to_lanes s j lanes)) ≤ 4 * length (flat_map line_text (lane_lines j lanes))
 unfolding replies_to_lanes lane_text
 lanes_room s j [] lt ok r = omega arith
@@ -63,7 +62,7 @@ lanes_room s j (ops ∷ lanes) lt ok r =
       length-append (flat_map line_text (map op ops)) (flat_map line_text (lane_lines (suc j) lanes)),
     )
 
-phase_room : (k : ℕ) (s : State) (p : PhaseLists) → k < 2 ^ 32 → IsPhase (sizes_of s) p → Ready (ops_of p) s
+pub phase_room : (k : ℕ) (s : State) (p : PhaseLists) → k < 2 ^ 32 → IsPhase (sizes_of s) p → Ready (ops_of p) s
     → length (phase_text k (replies_to_lanes s 0 p.lanes)) ≤ 4 * length (flat_map line_text (phase_lines p))
 unfolding phase_text
 phase_room k s p small ok r =
@@ -125,12 +124,6 @@ output_short bytes t short h =
     let size : length bytes ≡ length (trace_text t) = ap length h.text in
     let count = length-trace_text t h.trace in
     omega (arith, size, length-whole_text t h.trace (omega arith) (omega arith))
-
--- a sink with four times the room of what the source has left has room for the run
-pub room_enough : (bytes : List ℕ) (room : ℕ) → length bytes ≤ longest_trace → 4 * length bytes ≤ room → HasRoomFor (Some bytes) (Some room)
-room_enough bytes room short wide = λ read t same h.
-    let size : length bytes ≡ length read = ap length same in
-    omega (arith, output_short read t (omega arith) h)
 
 -- a trace that was read has few phases and operations
 pub few_phases : (bytes : List ℕ) (t : TraceLists) → length bytes ≤ longest_trace → Spells bytes t → length t.phases < 2 ^ 32

@@ -1,4 +1,5 @@
 pub mod Words
 pub mod Statuses
 pub mod Output
+pub mod Endings
 pub mod Outcomes

@@ -1,15 +1,16 @@
 -- What each status says of the source, from its left bytes before and after, and of the sink, from its held bytes before and
 -- after. Where a source or a sink doesn't tell its bytes, what is said of them holds of some bytes.
-use Rattle.std.specs.Prelude.{◌≡◌, ℕ, ◌≤◌, ◌⊎◌, List, [], length, Option, Some, None}
+use Rattle.std.specs.Prelude.{◌≡◌, ℕ, ◌≤◌, ◌⊎◌, List, length, Option, Some, None}
 use Rattle.std.specs.Io.KnownBytes.{IsAtEnd}
-use Rattle.bc_io.specs.Told.{LeftFalls, HeldGrows, HasRoom, IsPrefix}
+use Rattle.bc_engine.specs.Engines.{EngineView}
+use Rattle.bc_io.specs.Told.{LeftFalls}
 use Rattle.bc_model.specs.Lists.{TraceLists}
 use Rattle.bc_trace.specs.Faults.{Fault}
 use Rattle.bc_trace.specs.Lines.{Spells}
 use Rattle.bc_trace.specs.declared.fault.Cause.{Cause}
-use Rattle.bc_cli.specs.Output.{texts_before, whole_text}
+use Rattle.bc_cli.specs.Endings.{EndsDone, EndsOutOfHeap, EndsInFault, StopsBefore, HasRunRoom}
 use Rattle.bc_cli.specs.declared.status.Status.{Status}
-use Rattle.bc_cli.specs.declared.status.Status.TheVariants.{BadTrace, OutOfHeap, NoMemory}
+use Rattle.bc_cli.specs.declared.status.Status.TheVariants.{Done, BadWords, BadTrace, TooLong, ReadFault, WriteFault, OutOfHeap, NoMemory}
 
 abbrev pub longest_trace : ℕ
 longest_trace = 16777216
@@ -26,30 +27,29 @@ pub record ReadTrace (old new : Option (List ℕ)) (t : TraceLists) : Type 0 whe
   pub whole : ReadWhole old new bytes
   pub spelled : Spells bytes t
 
--- A trace was read, and its whole output is written.
-pub record Replayed (left left' held held' : Option (List ℕ)) : Type 0 where
+-- A trace was read, and it is done: its whole output is written.
+pub record Replayed (left left' held held' : Option (List ℕ)) (heap : Option EngineView) : Type 0 where
   pub trace : TraceLists
   pub read : ReadTrace left left' trace
-  pub written : HeldGrows held held' (whole_text trace)
+  pub ending : EndsDone trace held held' heap
 
--- A front of these bytes is written.
-pub record WritesFront (held held' : Option (List ℕ)) (whole : List ℕ) : Type 0 where
-  pub front : List ℕ
-  pub is_front : IsPrefix front whole
-  pub written : HeldGrows held held' front
-
--- A trace was read, and a front of its output is written.
-pub record ReplayedInPart (left left' held held' : Option (List ℕ)) : Type 0 where
+-- A trace was read, and one of its phases ended for want of heap, by this need.
+pub record RanOutOfHeap (left left' held held' : Option (List ℕ)) (heap : Option EngineView) (need : ℕ) : Type 0 where
   pub trace : TraceLists
   pub read : ReadTrace left left' trace
-  pub written : WritesFront held held' (whole_text trace)
+  pub ending : EndsOutOfHeap trace held held' heap need
 
--- A trace was read, and the whole texts of its first phases are written.
+-- A trace was read, and a front of what its replay writes is written.
+pub record ReplayedInPart (left left' held held' : Option (List ℕ)) (heap : Option EngineView) : Type 0 where
+  pub trace : TraceLists
+  pub read : ReadTrace left left' trace
+  pub ending : EndsInFault trace held held' heap
+
+-- A trace was read, and the whole texts of the phases before one of its phases are written.
 pub record ReplayedTo (left left' held held' : Option (List ℕ)) : Type 0 where
   pub trace : TraceLists
   pub read : ReadTrace left left' trace
-  pub phases : ℕ
-  pub written : HeldGrows held held' (texts_before trace phases)
+  pub ending : StopsBefore trace held held'
 
 -- The source was read to its end. Its bytes are no trace, and this is their first fault.
 pub record Faulty (left left' : Option (List ℕ)) (line : ℕ) (cause : Cause) : Type 0 where
@@ -61,9 +61,26 @@ abbrev pub IfBadTrace : Status → (ℕ → Cause → Type 0) → Type 0
 IfBadTrace (BadTrace line cause) P = P line cause
 IfBadTrace _ P = Unit {0}
 
-abbrev pub IsOutOfHeap : Status → Type 0
-IsOutOfHeap (OutOfHeap need) = Unit {0}
-IsOutOfHeap _ = ⊥
+abbrev pub IfOutOfHeap : Status → (ℕ → Type 0) → Type 0
+IfOutOfHeap (OutOfHeap need) P = P need
+IfOutOfHeap _ P = Unit {0}
+
+-- the statuses of a run that hands back no heap
+abbrev pub IfHeapless : Status → Type 0 → Type 0
+IfHeapless BadWords P = P
+IfHeapless (BadTrace line cause) P = P
+IfHeapless TooLong P = P
+IfHeapless ReadFault P = P
+IfHeapless NoMemory P = P
+IfHeapless _ P = Unit {0}
+
+-- how a run can end that has read a trace
+abbrev pub IsEnding : Status → Type 0
+IsEnding Done = Unit {0}
+IsEnding WriteFault = Unit {0}
+IsEnding (OutOfHeap need) = Unit {0}
+IsEnding NoMemory = Unit {0}
+IsEnding _ = ⊥
 
 -- This status, unless memory ran out.
 abbrev pub IsOrNoMemory : Status → Status → Type 0
@@ -72,9 +89,10 @@ IsOrNoMemory status wanted = (status ≡ wanted) ⊎ (status ≡ NoMemory)
 -- The source may give these bytes up to its end: those that it tells, or any where it tells none.
 abbrev pub MayGive : Option (List ℕ) → List ℕ → Type 0
 MayGive (Some left) bytes = left ≡ bytes
-MayGive None bytes = length bytes ≤ longest_trace
+MayGive None bytes = Unit {0}
 
--- What a run on these bytes may write fits the room that the sink tells.
+-- What a run on these bytes may write fits the room that the sink tells. Of bytes that are no trace, or too many, nothing is
+-- written.
 abbrev pub HasRoomFor : Option (List ℕ) → Option ℕ → Type 0
 HasRoomFor left room =
-    (bytes : List ℕ) → (t : TraceLists) → MayGive left bytes → Spells bytes t → HasRoom room (length (whole_text t))
+    (bytes : List ℕ) → (t : TraceLists) → MayGive left bytes → length bytes ≤ longest_trace → Spells bytes t → HasRunRoom room t

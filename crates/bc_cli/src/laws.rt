@@ -1,16 +1,21 @@
 //! What the definitions say together. The function does nothing: its contract is the law.
 
-ghost use Rattle.std.specs.Prelude.{◌≡◌, ℕ, ◌*◌, ◌≤◌, List, Some, length};
+ghost use Rattle.std.specs.Prelude.{ℕ, ◌+◌, ◌*◌, ◌≤◌, ◌++◌, List, Some, length};
 ghost use Rattle.bc_model.specs.Lists.{TraceLists};
 ghost use Rattle.bc_trace.specs.Lines.{Spells};
+ghost use Rattle.bc_trace.specs.Replies.{out_of_heap_text};
+ghost use Rattle.bc_cli.specs.Endings.{NeedsMore};
 ghost use Rattle.bc_cli.specs.Outcomes.{HasRoomFor, longest_trace};
-ghost use Rattle.bc_cli.specs.Output.{whole_text};
+ghost use Rattle.bc_cli.specs.Output.{whole_text, cut_text};
 
-/// A run writes at most four times as many bytes as its trace has, so a sink with room for as many meets the condition
-/// of `top`.
+/// A run that is done writes at most four times as many bytes as its trace has, and one that ends for want of heap
+/// at most 40 more. So a sink with room for as many meets the condition of `top`.
 pub fn law_output()
     ensures short { (bytes : List ℕ) (t : TraceLists) → length bytes ≤ longest_trace → Spells bytes t →
         length (whole_text t) ≤ 4 * length bytes }
-    ensures room { (bytes : List ℕ) (room : ℕ) → length bytes ≤ longest_trace → 4 * length bytes ≤ room →
+    ensures cut_short { (bytes : List ℕ) (t : TraceLists) (k : ℕ) (cut : List ℕ) (need : ℕ) →
+        length bytes ≤ longest_trace → Spells bytes t → NeedsMore t k cut need →
+        length (cut_text t k cut ++ out_of_heap_text need) ≤ 4 * length bytes + 40 }
+    ensures room { (bytes : List ℕ) (room : ℕ) → 4 * length bytes + 40 ≤ room →
         HasRoomFor (Some bytes) (Some room) }
 {}

@@ -4,22 +4,26 @@
 // and writes the replies to a sink. Its contract is the theorem of this repository: whatever
 // the heap below does, the replies printed for each lane are those of a heap that never frees, moves or
 // pages, all of them where the run is done, and else a front of them, with the exact cause of the
-// refusal. The definitions that the contract cites are in `specs/`: `Output` has the texts, `Outcomes`
-// what each status says, `Words` the command line.
+// refusal. The definitions that the contract cites are in `specs/`: `Output` has the texts, `Endings` how a
+// replay ends and what its heap stands for then, `Outcomes` what each status says, `Words` the command line.
 //
 // `main` only makes the real source and sink, calls `top`, prints the fault and ends with its status.
 // What it does is shown by tests of the built program.
 //
-//     words -> command_of -> run:  read_all -> read -> replay:  for each phase, Flat::phase -> phase_text -> write_all
+//     words -> command_of -> run:  read_all -> read -> replay:  for each phase, Engine::phase -> phase_text -> write_all
 //
-// The heap is the plain one yet, `bc_model::Flat`. Each phase is written by one `write_all` as soon as it has
-// run, so memory for replies is that of a phase and not of the run.
+// The replay keeps `HasRun`: after k phases the engine stands for the state that the plain heap has then, and the texts of
+// k phases are written. Each is written as soon as the phase has run, so memory for replies is that of a phase and not of
+// the run. A phase that ends for want of heap gives its replies up to a cut of its lanes, and the need of what is reached
+// there. They are written, and the run ends. The heap goes back to the caller, who may look at what it stands for.
 #![tactic(auto)]
 
 mod command;
 mod laws;
+mod phases;
 mod replay;
 mod status;
+mod texts;
 
 use bc_io::{StdSink, StdSource};
 pub use bc_pins::{Gate, OpenGate};

@@ -17,11 +17,20 @@ pub enum Status {
     TooLong,
     /// The source failed. Nothing was written.
     ReadFault,
-    /// The sink failed. A front of the output is written.
+    /// The sink failed. A front of what the run writes is written.
     WriteFault,
-    /// The heap is too small for what is reached: so many superpages would do. No run ends so yet.
+    /// The heap is too small for what is reached: so many superpages would do. The replies before that are written, and
+    /// the line of the need.
     OutOfHeap { need: u64 },
-    /// Memory ran out. The whole texts of some first phases are written, or nothing.
+    /// Memory ran out. The whole texts of the phases before some phase are written, or nothing.
+    NoMemory,
+}
+
+/// Why a replay stopped.
+#[derive(Clone, Copy, Debug, PartialEq, Eq)]
+pub(crate) enum Stop {
+    WriteFault,
+    OutOfHeap { need: u64 },
     NoMemory,
 }
 

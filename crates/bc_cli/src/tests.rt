@@ -1,6 +1,8 @@
-//! Whole runs of `top`.
+//! The worked rows, on `top`.
 
 mod devices;
+mod engines;
+mod heaps;
 mod rows;
 mod sink;
 
@@ -12,17 +14,24 @@ use std::alloc::{AllocError, Global};
 use std::process::Abort;
 use std::thread::Threads;
 
-/// What a run of the words over these bytes ends with, and what it writes.
-pub fn run_words<R: Threads + Sync>(
-    rt: &R,
-    alloc: Global,
-    words: &[&str],
-    input: Vec<u8>,
-) -> (Status, Vec<u8>) {
+/// What a run ended with, whether it handed back a heap, and what it wrote.
+#[derive(Drop)]
+pub struct Ran {
+    pub status: Status,
+    pub has_heap: bool,
+    pub written: Vec<u8>,
+}
+
+/// Runs the words over these bytes.
+pub fn run_words<R: Threads + Sync>(rt: &R, alloc: Global, words: &[&str], input: Vec<u8>) -> Ran {
     let mut source = MemSource::new(input, 4096, Vec::new(alloc));
     let mut sink = Paper::new(alloc);
     let outcome = top(rt, alloc, words, &mut source, &mut sink, &OpenGate);
-    (outcome.status, sink.into_bytes())
+    Ran {
+        status: outcome.status,
+        has_heap: outcome.heap.is_some(),
+        written: sink.into_bytes(),
+    }
 }
 
 /// Shows that `run` over this text is done, and what it writes.
@@ -32,9 +41,10 @@ pub fn shows_done<R: Threads + Sync + Abort>(
     input: &str,
     output: &str,
 ) -> Result<(), AllocError> {
-    let (status, written) = run_words(rt, alloc, &["run"], input.as_bytes().to_vec(alloc)?);
-    assert_eq!(rt; status, Status::Done);
-    assert!(rt; written.as_slice() == output.as_bytes(), "at {input}");
+    let ran = run_words(rt, alloc, &["run"], input.as_bytes().to_vec(alloc)?);
+    assert_eq!(rt; ran.status, Status::Done);
+    assert!(rt; ran.has_heap);
+    assert!(rt; ran.written.as_slice() == output.as_bytes(), "at {input}");
     Ok(())
 }
 
@@ -46,9 +56,10 @@ pub fn shows_fault<R: Threads + Sync + Abort>(
     line: u32,
     cause: Cause,
 ) -> Result<(), AllocError> {
-    let (status, written) = run_words(rt, alloc, &["run"], input.as_bytes().to_vec(alloc)?);
-    assert_eq!(rt; status, Status::BadTrace { line, cause });
-    assert!(rt; written.is_empty());
+    let ran = run_words(rt, alloc, &["run"], input.as_bytes().to_vec(alloc)?);
+    assert_eq!(rt; ran.status, Status::BadTrace { line, cause });
+    assert!(rt; !ran.has_heap);
+    assert!(rt; ran.written.is_empty());
     Ok(())
 }
 

@@ -1,6 +1,6 @@
 //! Faults of the devices.
 
-ghost use Rattle.std.specs.Prelude.{◌*◌, ◌<◌, ◌≤◌, length};
+ghost use Rattle.std.specs.Prelude.{◌+◌, ◌*◌, ◌<◌, ◌≤◌, length};
 
 use crate::{OpenGate, Status, top};
 use bc_io::{MemSink, MemSource};
@@ -19,8 +19,7 @@ fn run_between<R: Threads + Sync>(
     mut source: MemSource,
     mut sink: MemSink,
 ) -> (Status, MemSink)
-    requires short { length source.left ≤ 16777216 }
-    requires room { 4 * length source.left ≤ sink.room }
+    requires room { 4 * length source.left + 40 ≤ sink.room }
 {
     let outcome = top(rt, alloc, &["run"], &mut source, &mut sink, &OpenGate);
     (outcome.status, sink)
@@ -39,7 +38,7 @@ fn first_path_between<R: Threads + Sync>(
     let bytes = FIRST_PATH.to_vec(alloc)?;
     let failing = vec![in alloc; writes.1]?;
     let source = MemSource::new(bytes, reads.0, vec![in alloc; reads.1]?);
-    let sink = MemSink::new(alloc, 548, writes.0, failing)?;
+    let sink = MemSink::new(alloc, 588, writes.0, failing)?;
     let (status, sink) = run_between(rt, alloc, source, sink);
     Ok((status, sink.held().to_vec(alloc)?))
 }

@@ -173,23 +173,16 @@ fn ten_thousand_objects(rt: HostRuntime) -> Result<(), Fail> {
 
 #[test]
 fn too_long(rt: HostRuntime) -> Result<(), Fail> {
-    let (status, written) = run_words(
-        &rt,
-        rt.alloc(),
-        &["run"],
-        vec![in rt.alloc(); b'a'; 16_777_217]?,
-    );
-    assert_eq!(rt; status, Status::TooLong);
-    assert!(rt; written.is_empty());
-    let (status, written) = run_words(
-        &rt,
-        rt.alloc(),
-        &["run"],
-        vec![in rt.alloc(); b'a'; 16_777_216]?,
-    );
+    let input = vec![in rt.alloc(); b'a'; 16_777_217]?;
+    let ran = run_words(&rt, rt.alloc(), &["run"], input);
+    assert_eq!(rt; ran.status, Status::TooLong);
+    assert!(rt; !ran.has_heap);
+    assert!(rt; ran.written.is_empty());
+    let input = vec![in rt.alloc(); b'a'; 16_777_216]?;
+    let ran = run_words(&rt, rt.alloc(), &["run"], input);
     let cause = Cause::End;
-    assert_eq!(rt; status, Status::BadTrace { line: 1, cause });
-    assert!(rt; written.is_empty());
+    assert_eq!(rt; ran.status, Status::BadTrace { line: 1, cause });
+    assert!(rt; ran.written.is_empty());
     Ok(())
 }
 
@@ -197,17 +190,18 @@ fn too_long(rt: HostRuntime) -> Result<(), Fail> {
 fn no_command(rt: HostRuntime) -> Result<(), Fail> {
     let text = one_phase(rt.alloc(), SMALL, "")?;
     let input = text.as_bytes();
-    let (walk, written) = run_words(&rt, rt.alloc(), &["walk"], input.to_vec(rt.alloc())?);
-    assert_eq!(rt; walk, Status::BadWords);
-    assert!(rt; written.is_empty());
-    let (workers, _) = run_words(
+    let walk = run_words(&rt, rt.alloc(), &["walk"], input.to_vec(rt.alloc())?);
+    assert_eq!(rt; walk.status, Status::BadWords);
+    assert!(rt; !walk.has_heap);
+    assert!(rt; walk.written.is_empty());
+    let workers = run_words(
         &rt,
         rt.alloc(),
         &["run", "--workers", "0"],
         input.to_vec(rt.alloc())?,
     );
-    assert_eq!(rt; workers, Status::BadWords);
-    let (none, _) = run_words(&rt, rt.alloc(), &[], input.to_vec(rt.alloc())?);
-    assert_eq!(rt; none, Status::BadWords);
+    assert_eq!(rt; workers.status, Status::BadWords);
+    let none = run_words(&rt, rt.alloc(), &[], input.to_vec(rt.alloc())?);
+    assert_eq!(rt; none.status, Status::BadWords);
     Ok(())
 }

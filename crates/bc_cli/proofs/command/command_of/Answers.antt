@@ -1,4 +1,4 @@
-use Rattle.std.proofs.Common.{rules, arith, ◌≡◌, map, ℕ, ◌<◌, ◌≤◌, length, true, nat_eq, List, [], ◌∷◌, slice_index_or, Bor, ap, codes}
+use Rattle.std.proofs.Common.{rules, arith, ◌≡◌, map, ℕ, ◌<◌, ◌≤◌, length, List, [], ◌∷◌, slice_index_or, Bor, ap, codes}
 use Rattle.bc_cli.proofs.command.command_of.Goals as goal
 
 -- a list of one word is that word

@@ -1,0 +1,111 @@
+//! Traces that fill their heap, and what they print.
+
+use super::{header, run_words, shows_done};
+use crate::Status;
+use std::alloc::{AllocError, Global};
+use std::process::Abort;
+use std::test::Fail;
+use std::thread::Threads;
+
+/// One lane, one domain, two slots, one superpage.
+const SMALL: [u32; 7] = [1, 1, 2, 1, 1, 4, 3];
+
+/// Shows that `run` over this text ends for want of heap by this need, and what it writes.
+fn shows_need<R: Threads + Sync + Abort>(
+    rt: &R,
+    alloc: Global,
+    input: &str,
+    output: &str,
+    need: u64,
+) -> Result<(), AllocError> {
+    let ran = run_words(rt, alloc, &["run"], input.as_bytes().to_vec(alloc)?);
+    assert_eq!(rt; ran.status, Status::OutOfHeap { need });
+    assert!(rt; ran.has_heap);
+    assert!(rt; ran.written.as_slice() == output.as_bytes(), "at {input}");
+    Ok(())
+}
+
+/// Puts operations and their replies behind a chain's first object, so that the chain has this many objects. Slots 0 and
+/// 1 hold the last one, and each refers to the one before.
+fn push_chain(
+    alloc: Global,
+    lines: &mut String,
+    output: &mut String,
+    objects: u32,
+) -> Result<(), AllocError> {
+    for serial in 2..=objects {
+        lines.push_str("new 0 1 1\nlink 0 1 0 0 0\ncopy 0 1 0 0\n")?;
+        let replies = format!(in alloc; "obj 0.{serial}\nok\nok\n")?;
+        output.push_str(&replies)?;
+    }
+    Ok(())
+}
+
+/// A trace of one phase that makes a chain of so many objects, and the text of its replies.
+fn chain(alloc: Global, objects: u32) -> Result<(String, String), AllocError> {
+    let mut text = header(alloc, SMALL)?;
+    text.push_str("phase\nlane 0\nnew 0 0 1\ncopy 0 0 0 1\n")?;
+    let mut output = String::from_str(alloc, "phase 1\nlane 0\nobj 0.1\nok\n")?;
+    push_chain(alloc, &mut text, &mut output, objects)?;
+    text.push_str("end\ndone\n")?;
+    Ok((text, output))
+}
+
+#[test]
+fn dropped_two_cycles(rt: HostRuntime) -> Result<(), Fail> {
+    let mut text = header(rt.alloc(), SMALL)?;
+    let mut output = String::new(rt.alloc());
+    for number in 1..=600u32 {
+        text.push_str("phase\nlane 0\nnew 0 0 1\nnew 0 1 1\n")?;
+        text.push_str("link 0 0 0 0 1\nlink 0 1 0 0 0\nend\n")?;
+        let first = number * 2 - 1;
+        let second = number * 2;
+        let replies = format!(in rt.alloc();
+            "phase {number}\nlane 0\nobj 0.{first}\nobj 0.{second}\nok\nok\n"
+        )?;
+        output.push_str(&replies)?;
+    }
+    text.push_str("done\n")?;
+    output.push_str("done\n")?;
+    shows_done(&rt, rt.alloc(), &text, &output)?;
+    Ok(())
+}
+
+#[test]
+fn full_superpage(rt: HostRuntime) -> Result<(), Fail> {
+    let (text, mut output) = chain(rt.alloc(), 1024)?;
+    output.push_str("done\n")?;
+    shows_done(&rt, rt.alloc(), &text, &output)?;
+    Ok(())
+}
+
+#[test]
+fn one_object_too_many(rt: HostRuntime) -> Result<(), Fail> {
+    let (text, mut output) = chain(rt.alloc(), 1025)?;
+    output.push_str("out of heap 2\n")?;
+    shows_need(&rt, rt.alloc(), &text, &output, 2)?;
+    Ok(())
+}
+
+#[test]
+fn domains_apart(rt: HostRuntime) -> Result<(), Fail> {
+    let mut text = header(rt.alloc(), [1, 2, 1, 1, 1, 4, 3])?;
+    text.push_str("phase\nlane 0\nnew 0 0 0\nnew 1 0 0\nend\ndone\n")?;
+    let output = "phase 1\nlane 0\nobj 0.1\nobj 0.2\nout of heap 2\n";
+    shows_need(&rt, rt.alloc(), &text, output, 2)?;
+    Ok(())
+}
+
+#[test]
+fn compaction_makes_room(rt: HostRuntime) -> Result<(), Fail> {
+    let mut text = header(rt.alloc(), [1, 1, 4, 2, 1, 4, 9])?;
+    text.push_str("phase\nlane 0\nnew 0 0 1\ncopy 0 0 0 3\ncopy 0 0 0 1\n")?;
+    let mut output = String::from_str(rt.alloc(), "phase 1\nlane 0\nobj 0.1\nok\nok\n")?;
+    push_chain(rt.alloc(), &mut text, &mut output, 1200)?;
+    text.push_str("end\nphase\nlane 0\ncut 0 0 0\nnew 0 2 2\nend\n")?;
+    text.push_str("phase\nlane 0\nsame 0 0 0 1\nwho 0 3\nwho 0 0\nend\ndone\n")?;
+    output.push_str("phase 2\nlane 0\nok\nobj 0.1201\n")?;
+    output.push_str("phase 3\nlane 0\nyes\nobj 0.1\nobj 0.1200\ndone\n")?;
+    shows_done(&rt, rt.alloc(), &text, &output)?;
+    Ok(())
+}
