@@ -5,8 +5,8 @@
 //! give (`left`), what it holds (`held`), for how many bytes it has room (`room`), and how often it
 //! has failed (`faults`). Each of the first three is told or not told: the devices in memory tell
 //! them, the real streams don't. The count of faults is always told and never falls. A call answers
-//! `Failed` only where that count rose, so no layer above can blame a device for a fault that it
-//! didn't have.
+//! `Failed` only where that count rose, and is `Ok` only where it didn't, so no layer above can blame
+//! a device for a fault that it didn't have, or pass over one that it had.
 //!
 //! `read_all` and `write_all` are the two loops over these calls, and the theorem of this crate
 //! stands on them: a read to the end gives all bytes, or says that they are more than the limit, or

@@ -1,6 +1,6 @@
 //! A sink in memory that takes pieces and fails at chosen calls.
 
-ghost use Rattle.std.specs.Prelude.{◌≡◌, ℕ, ◌<◌, ◌≤◌, ◌↔◌, [], min, length, take, IfOk, IsErr, OnErr, Some};
+ghost use Rattle.std.specs.Prelude.{◌≡◌, ℕ, ◌<◌, ◌≤◌, ◌↔◌, [], min, length, take, IfOk, IsErr, OnOk, OnErr, Some};
 ghost use Rattle.bc_io.specs.Faults.{Rose};
 ghost use Rattle.bc_io.specs.Told.{HasRoom, HeldGrows, RoomFalls};
 ghost use Rattle.bc_io.specs.Scripts.{FailsNext, after_write};
@@ -94,6 +94,7 @@ impl Sink for MemSink {
         ensures kept { OnErr result (Some self.new.held ≡ Some self.old.held) }
         ensures unfilled { OnErr result (Some self.new.room ≡ Some self.old.room) }
         ensures cause { OnErr result (Rose self.old.faults self.new.faults) }
+        ensures firm { OnOk result (self.new.faults ≡ self.old.faults) }
         ensures later { self.old.faults ≤ self.new.faults }
 
         // It fails exactly at the calls that it was made with, and else takes a piece.

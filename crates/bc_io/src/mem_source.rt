@@ -1,6 +1,6 @@
 //! A source in memory that gives pieces and fails at chosen calls.
 
-ghost use Rattle.std.specs.Prelude.{◌≡◌, ℕ, ◌<◌, ◌≤◌, ◌↔◌, min, length, take, IfOk, IsErr, OnErr, Ok, Some};
+ghost use Rattle.std.specs.Prelude.{◌≡◌, ℕ, ◌<◌, ◌≤◌, ◌↔◌, min, length, take, IfOk, IsErr, OnOk, OnErr, Ok, Some};
 ghost use Rattle.std.specs.Io.KnownBytes.{IsAtEnd};
 ghost use Rattle.bc_io.specs.Faults.{Rose};
 ghost use Rattle.bc_io.specs.Told.{LeftFalls};
@@ -71,6 +71,7 @@ impl Source for MemSource {
         ensures at_end { result ≡ Ok 0 → 0 < length buf.new → IsAtEnd (Some self.new.left) }
         ensures kept { OnErr result (Some self.new.left ≡ Some self.old.left) }
         ensures cause { OnErr result (Rose self.old.faults self.new.faults) }
+        ensures firm { OnOk result (self.new.faults ≡ self.old.faults) }
         ensures later { self.old.faults ≤ self.new.faults }
 
         // It fails exactly at the calls that it was made with, and else gives a piece.

@@ -90,6 +90,7 @@ pub fn read_all<S: Source>(alloc: Global, source: &mut S, limit: usize) -> Resul
 
     ensures read_fault { result ≡ Err ReadAll.ReadFault
         → Rose (S.faults source.old) (S.faults source.new) }
+    ensures firm { result ≢ Err ReadAll.ReadFault → S.faults source.new ≡ S.faults source.old }
     ensures later { S.faults source.old ≤ S.faults source.new }
 
     // Whatever comes of it, what was read is a front of what was left.
@@ -131,6 +132,7 @@ fn read_behind<S: Source>(
     ensures kept { OnErr result (S.left source.new ≡ S.left source.old) }
     ensures read_fault { result ≡ Err ReadAll.ReadFault
         → Rose (S.faults source.old) (S.faults source.new) }
+    ensures firm { result ≢ Err ReadAll.ReadFault → S.faults source.new ≡ S.faults source.old }
     ensures later { S.faults source.old ≤ S.faults source.new }
 {
     let end = filled + asked;

@@ -1,6 +1,6 @@
 //! A device that bytes are written to.
 
-ghost use Rattle.std.specs.Prelude.{◌≡◌, ℕ, ◌<◌, ◌≤◌, List, Option, length, take, IfOk, OnErr};
+ghost use Rattle.std.specs.Prelude.{◌≡◌, ℕ, ◌<◌, ◌≤◌, List, Option, length, take, IfOk, OnOk, OnErr};
 ghost use Rattle.bc_io.specs.Faults.{Rose};
 ghost use Rattle.bc_io.specs.Told.{HasRoom, HeldGrows, RoomFalls};
 
@@ -28,9 +28,10 @@ pub trait Sink {
             HeldGrows (held self.old) (held self.new) (take count bytes.now)) }
         ensures filled { IfOk result (λ count. RoomFalls (room self.old) (room self.new) count) }
 
-        // A failed write takes nothing, and the device has counted it.
+        // A failed write takes nothing, and the device has counted it. No other call counts a fault.
         ensures kept { OnErr result (held self.new ≡ held self.old) }
         ensures unfilled { OnErr result (room self.new ≡ room self.old) }
         ensures cause { OnErr result (Rose (faults self.old) (faults self.new)) }
+        ensures firm { OnOk result (faults self.new ≡ faults self.old) }
         ensures later { faults self.old ≤ faults self.new };
 }

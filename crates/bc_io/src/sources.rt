@@ -1,6 +1,6 @@
 //! A device that bytes are read from.
 
-ghost use Rattle.std.specs.Prelude.{◌≡◌, ℕ, ◌<◌, ◌≤◌, List, Option, length, take, IfOk, OnErr, Ok};
+ghost use Rattle.std.specs.Prelude.{◌≡◌, ℕ, ◌<◌, ◌≤◌, List, Option, length, take, IfOk, OnOk, OnErr, Ok};
 ghost use Rattle.std.specs.Io.KnownBytes.{IsAtEnd};
 ghost use Rattle.bc_io.specs.Faults.{Rose};
 ghost use Rattle.bc_io.specs.Told.{LeftFalls};
@@ -24,8 +24,9 @@ pub trait Source {
             LeftFalls (left self.old) (left self.new) (take count buf.new)) }
         ensures at_end { result ≡ Ok 0 → 0 < length buf.new → IsAtEnd (left self.new) }
 
-        // A failed read gives nothing, and the device has counted it.
+        // A failed read gives nothing, and the device has counted it. No other call counts a fault.
         ensures kept { OnErr result (left self.new ≡ left self.old) }
         ensures cause { OnErr result (Rose (faults self.old) (faults self.new)) }
+        ensures firm { OnOk result (faults self.new ≡ faults self.old) }
         ensures later { faults self.old ≤ faults self.new };
 }

@@ -1,13 +1,13 @@
 //! The edge over std's writers.
 
-ghost use Rattle.std.specs.Prelude.{◌≡◌, ℕ, ◌<◌, ◌≤◌, length, take, IfOk, OnErr, None, is_ok, if◌then◌else◌};
+ghost use Rattle.std.specs.Prelude.{◌≡◌, ℕ, ◌<◌, ◌≤◌, ◌⊎◌, length, take, IfOk, OnOk, OnErr, Ok, None, IsErr, IsTrue, IsFalse, is_ok, if◌then◌else◌};
 ghost use Rattle.std.specs.Io.KnownBytes.{WriteAppends};
 ghost use Rattle.bc_io.specs.Faults.{Rose, counted};
 ghost use Rattle.bc_io.specs.Told.{HasRoom, HeldGrows, RoomFalls};
 
 use crate::faults::Failed;
 use crate::sinks::Sink;
-use std::io::Write;
+use std::io::{self, Write};
 
 /// Hands bytes to a writer, and counts each of its errors. A writer that takes none of some bytes
 /// has failed too. It tells neither bytes nor room, and flushes nothing: the writer is one that
@@ -15,7 +15,7 @@ use std::io::Write;
 #[derive(Drop)]
 pub struct StdSink<W> {
     writer: W,
-    faults: u64,
+    pub(crate) faults: u64,
 }
 
 impl<W: Write> StdSink<W> {
@@ -43,6 +43,7 @@ impl<W: Write> Sink for StdSink<W> {
         ensures within { IfOk result (λ count. count ≤ length bytes.now) }
         ensures some { 0 < length bytes.now → IfOk result (λ count. 0 < count) }
         ensures cause { OnErr result (Rose (write_faults_of self.old) (write_faults_of self.new)) }
+        ensures firm { OnOk result (write_faults_of self.new ≡ write_faults_of self.old) }
         ensures later { write_faults_of self.old ≤ write_faults_of self.new }
 
         // The writer took what was taken, and its count rises by one at each error.
@@ -52,12 +53,24 @@ impl<W: Write> Sink for StdSink<W> {
             ≡ (if is_ok result then write_faults_of self.old
             else counted (write_faults_of self.old)) }
     {
-        match self.writer.write(bytes) {
-            Ok(count) if count > 0 || bytes.is_empty() => Ok(count),
-            _ => {
-                self.faults = self.faults.saturating_add(1);
-                Err(Failed)
-            }
+        pass_on(self.writer.write(bytes), bytes.is_empty(), &mut self.faults)
+    }
+}
+
+/// The answer to what a writer took, of no bytes where `empty`. Each of its errors is counted once,
+/// and so is a write that took none of some bytes. Nothing else is.
+fn pass_on(taken: io::Result<usize>, empty: bool, faults: &mut u64) -> Result<usize, Failed>
+    ensures ok { IfOk taken (λ count. 0 < count ⊎ IsTrue empty → result ≡ Ok count) }
+    ensures none { taken ≡ Ok 0 → IsFalse empty → IsErr result }
+    ensures err { OnErr taken (IsErr result) }
+    ensures count { faults.new ≡ (if is_ok result then faults.old else counted faults.old) }
+    ensures later { faults.old ≤ faults.new }
+{
+    match taken {
+        Ok(count) if count > 0 || empty => Ok(count),
+        _ => {
+            *faults = faults.saturating_add(1);
+            Err(Failed)
         }
     }
 }

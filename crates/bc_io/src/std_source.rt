@@ -1,19 +1,19 @@
 //! The edge over std's readers.
 
-ghost use Rattle.std.specs.Prelude.{◌≡◌, ℕ, ◌<◌, ◌≤◌, length, take, IfOk, OnErr, Ok, None, is_ok, if◌then◌else◌};
+ghost use Rattle.std.specs.Prelude.{◌≡◌, ℕ, ◌<◌, ◌≤◌, length, take, IfOk, OnOk, OnErr, Ok, None, IsErr, is_ok, if◌then◌else◌};
 ghost use Rattle.std.specs.Io.KnownBytes.{IsAtEnd, ReadConsumes};
 ghost use Rattle.bc_io.specs.Faults.{Rose, counted};
 ghost use Rattle.bc_io.specs.Told.{LeftFalls};
 
 use crate::faults::Failed;
 use crate::sources::Source;
-use std::io::Read;
+use std::io::{self, Read};
 
 /// Gives what a reader gives, and counts each of its errors. It tells no bytes.
 #[derive(Drop)]
 pub struct StdSource<R> {
     reader: R,
-    faults: u64,
+    pub(crate) faults: u64,
 }
 
 impl<R: Read> StdSource<R> {
@@ -39,6 +39,7 @@ impl<R: Read> Source for StdSource<R> {
         ensures within { IfOk result (λ count. count ≤ length buf.new) }
         ensures given { IfOk result (λ count. LeftFalls None None (take count buf.new)) }
         ensures cause { OnErr result (Rose (read_faults_of self.old) (read_faults_of self.new)) }
+        ensures firm { OnOk result (read_faults_of self.new ≡ read_faults_of self.old) }
         ensures later { read_faults_of self.old ≤ read_faults_of self.new }
 
         // It passes on what the reader gave, and its count rises by one at each error.
@@ -48,12 +49,22 @@ impl<R: Read> Source for StdSource<R> {
             ≡ (if is_ok result then read_faults_of self.old
             else counted (read_faults_of self.old)) }
     {
-        match self.reader.read(buf) {
-            Ok(count) => Ok(count),
-            Err(_) => {
-                self.faults = self.faults.saturating_add(1);
-                Err(Failed)
-            }
+        pass_on(self.reader.read(buf), &mut self.faults)
+    }
+}
+
+/// The answer to what a reader gave. Each of its errors is counted once, and nothing else is.
+fn pass_on(given: io::Result<usize>, faults: &mut u64) -> Result<usize, Failed>
+    ensures ok { IfOk given (λ count. result ≡ Ok count) }
+    ensures err { OnErr given (IsErr result) }
+    ensures count { faults.new ≡ (if is_ok given then faults.old else counted faults.old) }
+    ensures later { faults.old ≤ faults.new }
+{
+    match given {
+        Ok(count) => Ok(count),
+        Err(_) => {
+            *faults = faults.saturating_add(1);
+            Err(Failed)
         }
     }
 }

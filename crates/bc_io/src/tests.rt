@@ -9,7 +9,7 @@ use crate::{
 };
 use std::alloc::{AllocError, Global};
 use std::fs::File;
-use std::io::Cursor;
+use std::io::{self, Cursor, Read, Write};
 use std::test::Fail;
 
 const SENTENCE: &[u8] = b"Each phase prints its replies in turn";
@@ -141,4 +141,73 @@ fn a_writer_that_takes_none_of_some_bytes_has_failed(rt: HostRuntime) {
     assert_eq!(rt; outcome, Ok(()));
     let outcome = sink.write(b"ef");
     assert_eq!(rt; outcome, Err(Failed));
+}
+
+/// Moves two bytes a call at most, and fails at its second call.
+#[derive(Drop)]
+struct Halting<T> {
+    inner: T,
+    calls: u8,
+}
+
+impl<T> Halting<T> {
+    /// How many of so many bytes this call moves.
+    fn turn(&mut self, len: usize) -> io::Result<usize> {
+        self.calls = self.calls.saturating_add(1);
+        if self.calls == 2 {
+            return Err(io::Error::from(io::ErrorKind::Other));
+        }
+        Ok(len.min(2))
+    }
+}
+
+impl<T: Read> Read for Halting<T> {
+    fn read(&mut self, buf: &mut [u8]) -> io::Result<usize> {
+        let count = self.turn(buf.len())?.min(buf.len());
+        self.inner.read(&mut buf[..count])
+    }
+}
+
+impl<T: Write> Write for Halting<T> {
+    fn write(&mut self, buf: &[u8]) -> io::Result<usize> {
+        let count = self.turn(buf.len())?.min(buf.len());
+        self.inner.write(&buf[..count])
+    }
+
+    fn flush(&mut self) -> io::Result<()> {
+        Ok(())
+    }
+}
+
+/// Three reads, the third into where the second failed: their answers, and the faults that are counted.
+fn reads_of_halting(buf: &mut [u8; 4]) -> ([Result<usize, Failed>; 3], u64) {
+    let (inner, calls) = (b"abcdef".as_slice(), 0);
+    let mut source = StdSource::new(Halting { inner, calls });
+    let first = source.read(&mut buf[..2]);
+    let second = source.read(&mut buf[2..]);
+    let third = source.read(&mut buf[2..]);
+    ([first, second, third], source.faults)
+}
+
+/// Three writes, the third of what the second failed at, and one of no bytes.
+fn writes_of_halting(room: &mut [u8]) -> ([Result<usize, Failed>; 4], u64) {
+    let (inner, calls) = (Cursor::new(room), 0);
+    let mut sink = StdSink::new(Halting { inner, calls });
+    let first = sink.write(b"abcd");
+    let second = sink.write(b"cd");
+    let third = sink.write(b"cd");
+    let empty = sink.write(b"");
+    ([first, second, third, empty], sink.faults)
+}
+
+#[test]
+fn a_call_that_fails_is_one_fault_and_the_next_goes_on(rt: HostRuntime) {
+    let mut buf = [0u8; 4];
+    let (answers, faults) = reads_of_halting(&mut buf);
+    assert_eq!(rt; answers, [Ok(2), Err(Failed), Ok(2)]);
+    assert_eq!(rt; (buf, faults), (*b"abcd", 1));
+    let mut room = [0u8; 4];
+    let (answers, faults) = writes_of_halting(&mut room);
+    assert_eq!(rt; answers, [Ok(2), Err(Failed), Ok(2), Ok(0)]);
+    assert_eq!(rt; (room, faults), (*b"abcd", 1));
 }

@@ -1,6 +1,6 @@
 //! Writing all of some bytes to a sink.
 
-ghost use Rattle.std.specs.Prelude.{◌≡◌, ◌≤◌, length, OnOk, OnErr};
+ghost use Rattle.std.specs.Prelude.{◌≡◌, ◌≤◌, [], length, OnOk, OnErr};
 ghost use Rattle.bc_io.specs.Faults.{Rose};
 ghost use Rattle.bc_io.specs.Told.{HasRoom, HeldGrows, RoomFalls, TakesFront};
 
@@ -40,7 +40,11 @@ pub fn write_all<K: Sink>(sink: &mut K, bytes: &[u8]) -> Result<(), WriteFault>
     ensures front { OnErr result (TakesFront (K.held sink.old) (K.held sink.new)
         (K.room sink.old) (K.room sink.new) bytes.now) }
     ensures cause { OnErr result (Rose (K.faults sink.old) (K.faults sink.new)) }
+    ensures firm { OnOk result (K.faults sink.new ≡ K.faults sink.old) }
     ensures later { K.faults sink.old ≤ K.faults sink.new }
+
+    // Of no bytes, no write is made.
+    ensures none { bytes.now ≡ [] → sink.new ≡ sink.old }
 {
     let mut done = 0;
     while done < bytes.len() {
