@@ -43,7 +43,7 @@ HasRun-opened t setup e is small stands h = record {
   empty = h.2;
   stands = subst (EngineStands e) (ap opening is ∙ state-none (opening t.setup)) stands;
   births = births-opened setup e _ small stands;
-  fits = λ k n lt need. absurd (omega arith);
+  fits = λ k lt. absurd (omega arith);
 }
 
 pub setup-fits : (t : TraceLists) (setup : Setup) → setup ≡ t.setup → IsTrace t → IsSetup setup

@@ -1,5 +1,5 @@
 -- The texts of phases, one after another.
-use Rattle.std.proofs.Common.{◌≡◌, ℕ, ◌+◌, suc, ◌<◌, ◌≤◌, List, [], ◌∷◌, ◌++◌, length, take, drop, get_or, refl, ap, ◌∙◌, append-nil, arith, take-append-drop, length-append, subst, Option, inl, inr}
+use Rattle.std.proofs.Common.{◌≡◌, ℕ, ◌+◌, suc, ◌<◌, ◌≤◌, List, [], ◌∷◌, ◌++◌, length, take, drop, get_or, refl, ap, ◌∙◌, append-nil, arith, take-append-drop, length-append, subst, Option}
 use Rattle.std.proofs.lemmas.List.{take_more, length-take-le}
 use Rattle.bc_io.specs.Faults.{Rose}
 use Rattle.bc_io.specs.Told.{HasRoom, HeldGrows, IsPrefix, RoomFalls, TakesFront}
@@ -87,13 +87,19 @@ pub front-behind : (a b c : Option (List ℕ)) (xs ys : List ℕ) → HeldGrows 
 front-behind a b c xs ys held w = record {
   front = w.front;
   is_front = w.is_front;
+  not_all = w.not_all;
   written = HeldGrows-more a b c xs w.front held w.written;
 }
 
-pub Rose-later : (a b c : ℕ) → a ≤ b → Rose b c → Rose a c
-Rose-later a b c le (inl lt) = inl (omega arith)
-Rose-later a b c le (inr e) = inr e
+-- a count rose, and nothing was counted before
+pub Rose-since : (a b c : ℕ) → b ≡ a → Rose b c → Rose a c
+Rose-since a b c same rose = subst (λ n. Rose n c) same rose
 
--- what a failed write took is a front
+-- what a failed write took is a front, and not all
 pub front-taken : (a b : Option (List ℕ)) (k l : Option ℕ) (xs : List ℕ) → TakesFront a b k l xs → WritesFront a b xs
-front-taken a b k l xs t = record { front = t.taken; is_front = (t.rest, t.whole); written = t.grows }
+front-taken a b k l xs t = record {
+  front = t.taken;
+  is_front = (t.rest, t.whole);
+  not_all = omega (arith, ap length t.whole, length-append t.taken t.rest, t.not_all);
+  written = t.grows;
+}

@@ -19,7 +19,7 @@ use Rattle.bc_model.specs.declared.operations.Reply.{Reply}
 use Rattle.bc_model.specs.declared.traces.Setup.{Setup}
 use Rattle.bc_model.proofs.Runs.{at-index}
 use Rattle.bc_trace.specs.Replies.{phase_text, out_of_heap_text}
-use Rattle.bc_cli.specs.Endings.{WritesFront, NeedsMore, HandsBack, HasRun, HasPhaseRoom, EndsOutOfHeap, FailsInPhase, FailsAtNeed}
+use Rattle.bc_cli.specs.Endings.{WritesFront, NeedsMore, HandsBack, HasRun, NeedFits, HasPhaseRoom, EndsOutOfHeap, FailsInPhase, FailsAtNeed}
 use Rattle.bc_cli.specs.Output.{texts_before, text_at, need_text}
 use Rattle.bc_cli.proofs.Pieces.{texts-step, state-step, front-behind}
 
@@ -62,15 +62,16 @@ pub HasRun-next : (t : TraceLists) (k : ℕ) (e f : EngineView) (p : PhaseLists)
 HasRun-next t k e f p replies lt at h d same births =
     let stands : EngineStands f (before t (k + 1)) = stands-next t k f p lt at (d.stands (before t k) h.stands).1 in
     let setup : f.setup ≡ t.setup = same ∙ h.setup in
+    let need = d.need (before t (k + 1)) stands in
     record {
       setup = setup;
       going = d.going;
       empty = d.empty;
       stands = stands;
       births = births _ (births-left t k e p lt at h);
-      fits = λ m n less need.
-          below_more (λ i. (n : ℕ) → IsNeed (before t (i + 1)) n → n ≤ t.setup.superpages) k (λ i lt n need. h.fits i n lt need)
-          (λ n need. omega (arith, d.need (before t (k + 1)) n stands need, ap (λ (z : Setup). z.superpages) setup)) m less n need;
+      fits = λ m less.
+          below_more (λ i. NeedFits t (before t (i + 1))) k h.fits
+          (need.0, need.1, omega (arith, need.2, ap (λ (z : Setup). z.superpages) setup)) m less;
     }
 
 -- the replies to the phase are those of the heap that never frees

@@ -21,9 +21,13 @@ pub record IsLeftAt (t : TraceLists) (how : Option Ended) (s : State) (e : Engin
 abbrev pub HandsBack : Option EngineView → TraceLists → Option Ended → State → Type 0
 HandsBack heap t how s = IsSomeAnd heap (IsLeftAt t how s)
 
--- After each of the first phases the state needs no more superpages than the trace has.
+-- The state has a need, which is no more superpages than the trace has.
+abbrev pub NeedFits : TraceLists → State → Type 0
+NeedFits t s = (n : ℕ) × IsNeed s n × (n ≤ t.setup.superpages)
+
+-- So it is after each of the first phases.
 abbrev pub NeedsFit : TraceLists → ℕ → Type 0
-NeedsFit t phases = (k n : ℕ) → k < phases → IsNeed (before t (k + 1)) n → n ≤ t.setup.superpages
+NeedsFit t phases = (k : ℕ) → k < phases → NeedFits t (before t (k + 1))
 
 -- Wherever lanes may stand in a phase, the state needs no more superpages than the trace has.
 abbrev pub FitsThroughout : TraceLists → Type 0
@@ -36,16 +40,18 @@ pub record NeedsMore (t : TraceLists) (k : ℕ) (cut : List ℕ) (need : ℕ) : 
   pub counted : IsNeed (after_cut t k cut) need
   pub above : t.setup.superpages < need
 
--- A front of these bytes is written.
+-- A front of these bytes is written, and not all of them.
 pub record WritesFront (held held' : Option (List ℕ)) (whole : List ℕ) : Type 0 where
   pub front : List ℕ
   pub is_front : IsPrefix front whole
+  pub not_all : length front < length whole
   pub written : HeldGrows held held' front
 
--- Bytes are written, and behind them a front of the next ones.
+-- Bytes are written, and behind them a front of the next ones, and not all of these.
 pub record WritesFrontAfter (held held' : Option (List ℕ)) (first next : List ℕ) : Type 0 where
   pub front : List ℕ
   pub is_front : IsPrefix front next
+  pub not_all : length front < length next
   pub written : HeldGrows held held' (first ++ front)
 
 -- All is written. The heap stands for the state at the end, and its chunks are empty.

@@ -1,6 +1,6 @@
 //! The phases of a trace: each is run, and what it prints is written.
 
-ghost use Rattle.std.specs.Prelude.{◌≡◌, ◌≢◌, ℕ, ◌+◌, ◌^◌, ◌<◌, ◌≤◌, List, Option, Some, length, OnOk, IsErrOf};
+ghost use Rattle.std.specs.Prelude.{◌≡◌, ◌≢◌, ℕ, ◌+◌, ◌^◌, ◌<◌, List, Option, Some, length, OnOk, IsErrOf};
 ghost use Rattle.bc_io.specs.Faults.{Rose};
 ghost use Rattle.bc_io.specs.Told.{HeldGrows, RoomFalls};
 ghost use Rattle.bc_model.specs.WellFormed.{IsTrace};
@@ -43,7 +43,7 @@ where
         EndsOutOfHeap trace.now (K.held sink.old) (K.held sink.new) (Some engine.new) need }
     ensures no_memory { IsErrOf result Stop.NoMemory →
         StopsBefore trace.now (K.held sink.old) (K.held sink.new) }
-    ensures later { K.faults sink.old ≤ K.faults sink.new }
+    ensures firm { ¬ IsErrOf result Stop.WriteFault → K.faults sink.new ≡ K.faults sink.old }
 {
     for index in 0..trace.phases.len() {
         write_phase(rt, alloc, engine, trace, index, sink, gate)?;
@@ -85,7 +85,7 @@ where
         HeldGrows start (K.held sink.old) (texts_before trace.now index) →
         EndsOutOfHeap trace.now start (K.held sink.new) (Some engine.new) need }
     ensures no_memory { IsErrOf result Stop.NoMemory → sink.new ≡ sink.old }
-    ensures later { K.faults sink.old ≤ K.faults sink.new }
+    ensures firm { ¬ IsErrOf result Stop.WriteFault → K.faults sink.new ≡ K.faults sink.old }
 {
     let number = index as u32 + 1;
     match engine.phase(rt, alloc, &trace.phases[index], gate) {

@@ -98,6 +98,8 @@ where
     ensures write_fault { result.status ≡ Status.WriteFault →
         Rose (K.faults sink.old) (K.faults sink.new)
         × ReplayedInPart (S.left source.old) (S.left source.new) (K.held sink.old) (K.held sink.new) result.heap }
+    ensures firm_source { result.status ≢ Status.ReadFault → S.faults source.new ≡ S.faults source.old }
+    ensures firm_sink { result.status ≢ Status.WriteFault → K.faults sink.new ≡ K.faults sink.old }
     ensures out_of_heap { IfOutOfHeap result.status (λ need.
         RanOutOfHeap (S.left source.old) (S.left source.new) (K.held sink.old) (K.held sink.new) result.heap need) }
     ensures no_memory { result.status ≡ Status.NoMemory → (sink.new ≡ sink.old)
@@ -145,6 +147,8 @@ where
     ensures write_fault { result.status ≡ Status.WriteFault →
         Rose (K.faults sink.old) (K.faults sink.new)
         × ReplayedInPart (S.left source.old) (S.left source.new) (K.held sink.old) (K.held sink.new) result.heap }
+    ensures firm_source { result.status ≢ Status.ReadFault → S.faults source.new ≡ S.faults source.old }
+    ensures firm_sink { result.status ≢ Status.WriteFault → K.faults sink.new ≡ K.faults sink.old }
     ensures out_of_heap { IfOutOfHeap result.status (λ need.
         RanOutOfHeap (S.left source.old) (S.left source.new) (K.held sink.old) (K.held sink.new) result.heap need) }
     ensures no_memory { result.status ≡ Status.NoMemory → (sink.new ≡ sink.old)
@@ -204,6 +208,7 @@ where
         EndsOutOfHeap trace.now (K.held sink.old) (K.held sink.new) result.heap need) }
     ensures write_fault { result.status ≡ Status.WriteFault → Rose (K.faults sink.old) (K.faults sink.new)
         × EndsInFault trace.now (K.held sink.old) (K.held sink.new) result.heap }
+    ensures firm { result.status ≢ Status.WriteFault → K.faults sink.new ≡ K.faults sink.old }
     ensures no_memory { result.status ≡ Status.NoMemory → (sink.new ≡ sink.old)
         ⊎ StopsBefore trace.now (K.held sink.old) (K.held sink.new) }
     ensures none { IfHeapless result.status (result.heap ≡ None) }

@@ -1,6 +1,6 @@
 //! The texts of one phase, made and written.
 
-ghost use Rattle.std.specs.Prelude.{◌≡◌, ◌≢◌, ℕ, ◌≤◌, ◌++◌, length, string_bytes, IfOk, OnOk, OnErr, IsErrOf};
+ghost use Rattle.std.specs.Prelude.{◌≡◌, ◌≢◌, ℕ, ◌++◌, length, string_bytes, IfOk, OnOk, OnErr, IsErrOf};
 ghost use Rattle.bc_io.specs.Faults.{Rose};
 ghost use Rattle.bc_io.specs.Told.{HeldGrows, RoomFalls, HasRoom};
 ghost use Rattle.bc_trace.specs.Replies.{phase_text, out_of_heap_text};
@@ -26,7 +26,7 @@ pub(crate) fn write_replies<K: Sink>(
         × WritesFront (K.held sink.old) (K.held sink.new) (phase_text number replies.now) }
     ensures no_memory { IsErrOf result Stop.NoMemory → sink.new ≡ sink.old }
     ensures heap { (need : ℕ) → ¬ IsErrOf result (Stop.OutOfHeap need) }
-    ensures later { K.faults sink.old ≤ K.faults sink.new }
+    ensures firm { ¬ IsErrOf result Stop.WriteFault → K.faults sink.new ≡ K.faults sink.old }
 {
     let Ok(text) = bc_trace::phase_text(alloc, number, replies) else {
         return Err(Stop::NoMemory);
@@ -52,7 +52,7 @@ pub(crate) fn write_need<K: Sink>(
     ensures write_fault { result ≡ Stop.WriteFault → Rose (K.faults sink.old) (K.faults sink.new)
         × WritesFront (K.held sink.old) (K.held sink.new) (phase_text number replies.now ++ out_of_heap_text need) }
     ensures no_memory { result ≡ Stop.NoMemory → sink.new ≡ sink.old }
-    ensures later { K.faults sink.old ≤ K.faults sink.new }
+    ensures firm { result ≢ Stop.WriteFault → K.faults sink.new ≡ K.faults sink.old }
 {
     let Ok(text) = bc_trace::phase_text(alloc, number, replies) else {
         return Stop::NoMemory;
@@ -72,7 +72,7 @@ fn write_both<K: Sink>(sink: &mut K, first: &[u8], second: &[u8]) -> Result<(), 
     ensures all { OnOk result (HeldGrows (K.held sink.old) (K.held sink.new) (first.now ++ second.now)) }
     ensures front { OnErr result (WritesFront (K.held sink.old) (K.held sink.new) (first.now ++ second.now)) }
     ensures cause { OnErr result (Rose (K.faults sink.old) (K.faults sink.new)) }
-    ensures later { K.faults sink.old ≤ K.faults sink.new }
+    ensures firm { OnOk result (K.faults sink.new ≡ K.faults sink.old) }
 {
     write_all(sink, first)?;
     write_all(sink, second)

@@ -1,5 +1,5 @@
 -- What an operation that is done or stops means to the lanes.
-use Rattle.std.proofs.Common.{◌≡◌, ℕ, ◌*◌, ◌<◌, ◌≤◌, List, [], length, get_or, set, Result, Ok, Err, refl, sym, ap, subst, ◌∙◌, arith, get_or-set_other, length-set}
+use Rattle.std.proofs.Common.{◌≡◌, ◌⊎◌, ℕ, ◌*◌, ◌<◌, ◌≤◌, List, [], length, get_or, set, Result, Ok, Err, refl, sym, ap, subst, ◌∙◌, arith, get_or-set_other, length-set, inl, inr}
 use Rattle.std.proofs.lemmas.List.{set-get_or}
 use Rattle.std.specs.Result.{IfOk, OnErr}
 use Rattle.std.specs.Prelude.{IsErrOf}
@@ -23,7 +23,7 @@ use Rattle.bc_nursery.specs.Objects.{Nursery, left_of, words_of}
 use Rattle.bc_superpages.specs.Layout.{Layout}
 use Rattle.bc_superpages.specs.RootWords.{RootWords}
 use Rattle.bc_engine.specs.Engines.{IsReady, Stands}
-use Rattle.bc_engine.specs.Lanes.{parts_of, Does}
+use Rattle.bc_engine.specs.Lanes.{parts_of, Does, IsHeldUp, Stops}
 use Rattle.bc_engine.proofs.Sizes.{StaysBut, fits-step, op-of_state, none-young}
 
 -- what the operation is to every state that the heap stands for
@@ -98,3 +98,26 @@ never-stops setup hs serials lane op h (Err NurseryFull) ready within none full 
     never-full hs lane 0 (chunk_of h.chunks lane) op none (omega (arith, long, ready.range.nursery.0)) (full refl)
 never-stops setup hs serials lane op h (Err BufferFull) ready within none full wants =
     never-recorded hs lane h.space h.roots (chunk_of h.chunks lane) (buffer_of h.buffers lane) op none (wants refl)
+
+-- why an operation stopped
+pub why-stopped : (A B : Type 0) (r : Result Reply Stop) → (IsErrOf r NurseryFull → A) → (IsErrOf r BufferFull → B) → OnErr r (A ⊎ B)
+why-stopped A B (Ok reply) full wants = tt
+why-stopped A B (Err NurseryFull) full wants = inl (full refl)
+why-stopped A B (Err BufferFull) full wants = inr (wants refl)
+
+-- only at capacity an entry is needed that isn't there
+at-capacity : (hs : List ℕ) (lane : ℕ) (s : Layout) (roots : RootWords) (c : Nursery) (b : Entries) (op : Op) → NeedsEntry hs lane s roots c b op → length b.entries ≡ b.capacity
+at-capacity hs lane s roots c b (Link p i q) needs = needs.1
+at-capacity hs lane s roots c b (New p n) needs = absurd needs
+at-capacity hs lane s roots c b (Who p) needs = absurd needs
+at-capacity hs lane s roots c b (Len p) needs = absurd needs
+at-capacity hs lane s roots c b (Set p i v) needs = absurd needs
+at-capacity hs lane s roots c b (Cut p i) needs = absurd needs
+at-capacity hs lane s roots c b (Load p i q) needs = absurd needs
+at-capacity hs lane s roots c b (Copy p q) needs = absurd needs
+at-capacity hs lane s roots c b (Clear p) needs = absurd needs
+at-capacity hs lane s roots c b (Same p q) needs = absurd needs
+
+pub held-up : (hs : List ℕ) (lane : ℕ) (op : Op) (h : Parts) → Stops hs lane op h → IsHeldUp hs lane op h
+held-up hs lane op h (inl wants) = inl wants
+held-up hs lane op h (inr needs) = inr (at-capacity hs lane h.space h.roots (chunk_of h.chunks lane) (buffer_of h.buffers lane) op needs)

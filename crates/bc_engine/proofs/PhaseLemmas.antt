@@ -1,5 +1,5 @@
 -- A phase: what its rounds and gives do to the states that the engine stands for.
-use Rattle.std.proofs.Common.{Vec, Global, vec_capacity, ◌≡◌, ℕ, ◌<◌, ◌≤◌, List, [], ◌∷◌, ◌++◌, length, take, map, get_or, None, Err, refl, sym, ap, subst, ◌∙◌, inl, inr, arith}
+use Rattle.std.proofs.Common.{Vec, Global, vec_capacity, ◌≡◌, ℕ, ◌+◌, ◌<◌, ◌≤◌, List, [], ◌∷◌, ◌++◌, length, take, map, get_or, None, Err, refl, sym, ap, subst, ◌∙◌, inl, inr, arith}
 use Prim.Native.Nat.{zero, suc}
 use Rattle.std.proofs.lemmas.Bool.{cases_lt}
 use Rattle.std.proofs.lemmas.List.{get_or_append_left, get_or_push, length-map, length_push}
@@ -22,24 +22,22 @@ use Rattle.bc_superpages.specs.Kept.{IsLayout}
 use Rattle.bc_superpages.specs.Layout.{Layout, superpages}
 use Rattle.bc_word.specs.declared.words.Word.{Word}
 use Rattle.bc_engine.specs.Engines.{EngineView, EngineStands, HasEmptyChunks, HasRoomForBirths, IsEngine, IsReady, Stands}
-use Rattle.bc_engine.specs.Lanes.{of_lane, AreDone, Goes, HasSerials, HasRoomForOps}
+use Rattle.bc_engine.specs.Lanes.{of_lane, AreDone, BirthsWithin, Goes, HasSerials, HasRoomForOps}
 use Rattle.bc_engine.specs.Phases.{CutPhase, DidPhase}
 use Rattle.bc_engine.specs.Rounds.{GoesOn, IfTooSmall, IsRoomFor, IsThrough, IsTooSmall, IsUnderwayOn}
 use Rattle.bc_engine.specs.declared.engines.Ended.{Ended}
 use Rattle.bc_engine.specs.declared.engines.Ended.TheVariants.{OutOfHeap}
+use Rattle.bc_engine.proofs.NeedFound.{need-found}
 use Rattle.bc_engine.proofs.CutLemmas.{length-cut, mixed-cut, mixed-whole, run-lanes}
 use Rattle.bc_engine.proofs.Sizes.{no-object, op-of_heap, op-of_state}
 
--- room for a birth by each operation of the phase, and n more
-pub fits-births : (e : EngineView) (p : PhaseLists) (told : List (List Reply)) (n : ℕ) → HasRoomForOps e p.lanes n → HasSerials p.lanes e.serials told n
-fits-births e p told n fits j = omega (arith, fits j)
+-- room for a birth by each operation of the phase
+fits-births : (e : EngineView) (p : PhaseLists) (told : List (List Reply)) → HasRoomForOps e p.lanes 0 → HasSerials p.lanes e.serials told
+fits-births e p told fits j = omega (arith, fits j)
 
-pub fits-later : (lanes : List (List Op)) (e : EngineView) (told : List (List Reply)) (n : ℕ) → HasSerials lanes e.serials told n → HasRoomForBirths e n
-fits-later lanes e told n fits j = omega (arith, fits j)
-
--- births that aren't made leave room
-pub fits-less : (e : EngineView) (lanes : List (List Op)) (n : ℕ) → HasRoomForOps e lanes n → HasRoomForBirths e n
-fits-less e lanes n fits j = omega (arith, fits j)
+-- and at most so many births leave room for others
+pub fits-later : (e f : EngineView) (lanes : List (List Op)) → ((j : ℕ) → get_or f.serials j 0 ≤ get_or e.serials j 0 + length (of_lane lanes j)) → (n : ℕ) → HasRoomForOps e lanes n → HasRoomForBirths f n
+fits-later e f lanes births n fits j = omega (arith, births j, fits j)
 
 pub underway-begun : (e : EngineView) (p : PhaseLists) (vs : List (Vec Reply Global)) → IsEngine e → IsPhase e.setup p → HasRoomForOps e p.lanes 0 → length vs ≡ length p.lanes → IsRoomFor p.lanes vs → IsUnderwayOn e p.lanes vs
 underway-begun e p vs engine phase fits long room = record {
@@ -48,7 +46,7 @@ underway-begun e p vs engine phase fits long room = record {
   ops = phase.ops;
   long = long ∙ phase.lanes;
   room = λ j v lt is. (room j v lt is).1;
-  births = fits-births e p (lists_of vs) 0 fits;
+  births = fits-births e p (lists_of vs) fits;
 }
 
 -- there is no reply yet
@@ -130,7 +128,7 @@ cut-by e f p vs ws need begun engine holders long small =
     }
 
 -- rounds that end with all lanes at their ends, and then the gives, do it
-pub did-by : (e f g : EngineView) (p : PhaseLists) (vs ws : List (Vec Reply Global)) → HasBegun e p vs → f.holders ≡ e.holders → length ws ≡ length p.lanes → GoesOn p.lanes e vs f ws → IsThrough p.lanes f ws → ((s : State) → EngineStands f s → EngineStands g (after_gives s p.gives)) → g ≡ record f { holders = g.holders } → ((s : State) (n : ℕ) → EngineStands g s → IsNeed s n → n ≤ g.setup.superpages) → DidPhase e p g (lists_of ws)
+pub did-by : (e f g : EngineView) (p : PhaseLists) (vs ws : List (Vec Reply Global)) → HasBegun e p vs → f.holders ≡ e.holders → length ws ≡ length p.lanes → GoesOn p.lanes e vs f ws → IsThrough p.lanes f ws → ((s : State) → EngineStands f s → EngineStands g (after_gives s p.gives)) → g ≡ record f { holders = g.holders } → ((s : State) → EngineStands g s → (n : ℕ) × IsNeed s n × (n ≤ g.setup.superpages)) → DidPhase e p g (lists_of ws)
 did-by e f g p vs ws begun holders long on through gave same room =
     let run : (s : State) → EngineStands e s → IsWhole e p.lanes f.heap f.serials (lists_of ws) s = λ s st.
     whole-run e p f.heap f.serials (lists_of vs) (lists_of ws) begun.engine.ready begun.phase (none-yet p.lanes vs begun.room) (length-map ws (λ (v : Vec Reply Global). v.items) ∙ long) through.done on.runs.goes s st in
@@ -162,13 +160,14 @@ holders-then e f g hs first second =
     ∙ ap (λ (xs : List ℕ). let y : EngineView = record e { holders = xs } in y) (sym (ap (λ (x : EngineView). x.holders) second))
 
 -- with empty chunks there is room for what the engine stands for
-pub has-room : (e : EngineView) → ((s : Layout) → (chunks : List Nursery) → (roots : List Word) → (state : State) → (n : ℕ) → IsLayout s → ((a : ℕ) → object_in chunks a ≡ None) → StandsFor (heap_memory s chunks) roots state → IsNeed state n → n ≤ superpages s) → IsLayout e.heap.space → IsEngine e → HasEmptyChunks e.heap → (s : State) (n : ℕ) → EngineStands e s → IsNeed s n → n ≤ e.setup.superpages
-has-room e law layout engine none s n st need =
-    let within = law e.heap.space e.heap.chunks (root_words e.heap.roots) s n layout (no-object e.heap.chunks none) st.stands need in
-    omega (arith, within, engine.ready.fits.supers)
+pub has-room : (e : EngineView) → ((s : Layout) → (chunks : List Nursery) → (roots : List Word) → (state : State) → (n : ℕ) → IsLayout s → ((a : ℕ) → object_in chunks a ≡ None) → StandsFor (heap_memory s chunks) roots state → IsNeed state n → n ≤ superpages s) → IsLayout e.heap.space → IsEngine e → HasEmptyChunks e.heap → (s : State) → EngineStands e s → (n : ℕ) × IsNeed s n × (n ≤ e.setup.superpages)
+has-room e law layout engine none s st =
+    let need = need-found s st.consistent in
+    let within = law e.heap.space e.heap.chunks (root_words e.heap.roots) s need.0 layout (no-object e.heap.chunks none) st.stands need.1 in
+    (need.0, need.1, omega (arith, within, engine.ready.fits.supers))
 
 -- the phase as the code has it: `os` are its operations as they were lent to the rounds, `us` the lists for replies
-pub did-lent : (e f g : EngineView) (p : PhaseLists) (os : List (List Op)) (us vs ws xs : List (Vec Reply Global)) → HasBegun e p vs → os ≡ p.lanes → us ≡ vs → xs ≡ ws → f.holders ≡ e.holders → length ws ≡ length p.lanes → GoesOn os e us f ws → IsThrough os f ws → ((s : State) → EngineStands f s → EngineStands g (after_gives s p.gives)) → g ≡ record f { holders = g.holders } → ((s : State) (n : ℕ) → EngineStands g s → IsNeed s n → n ≤ g.setup.superpages) → DidPhase e p g (lists_of xs)
+pub did-lent : (e f g : EngineView) (p : PhaseLists) (os : List (List Op)) (us vs ws xs : List (Vec Reply Global)) → HasBegun e p vs → os ≡ p.lanes → us ≡ vs → xs ≡ ws → f.holders ≡ e.holders → length ws ≡ length p.lanes → GoesOn os e us f ws → IsThrough os f ws → ((s : State) → EngineStands f s → EngineStands g (after_gives s p.gives)) → g ≡ record f { holders = g.holders } → ((s : State) → EngineStands g s → (n : ℕ) × IsNeed s n × (n ≤ g.setup.superpages)) → DidPhase e p g (lists_of xs)
 did-lent e f g p os us vs ws xs begun lanes lent back holders long on through gave same room =
     subst (λ (ys : List (Vec Reply Global)). DidPhase e p g (lists_of ys)) (sym back)
     (did-by e f g p vs ws begun holders long
@@ -187,12 +186,9 @@ underway-lent e p os us vs begun fits long lanes lent =
     (subst (λ (ys : List (Vec Reply Global)). IsUnderwayOn e p.lanes ys) (sym lent)
     (underway-begun e p vs begun.engine begun.phase fits long begun.room))
 
-pub births-lent : (e f : EngineView) (p : PhaseLists) (os : List (List Op)) (us vs ws : List (Vec Reply Global)) → os ≡ p.lanes → us ≡ vs → ((n : ℕ) → HasSerials os e.serials (lists_of us) n → HasSerials os f.serials (lists_of ws) n) → (n : ℕ) → HasRoomForOps e p.lanes n → HasRoomForBirths f n
-births-lent e f p os us vs ws lanes lent births n fits =
-    fits-later os f (lists_of ws) n
-    (births n
-    (subst (λ (ls : List (List Op)). HasSerials ls e.serials (lists_of us) n) (sym lanes)
-    (subst (λ (ys : List (Vec Reply Global)). HasSerials p.lanes e.serials (lists_of ys) n) (sym lent) (fits-births e p (lists_of vs) n fits))))
+pub births-lent : (e f : EngineView) (p : PhaseLists) (os : List (List Op)) (us ws : List (Vec Reply Global)) → os ≡ p.lanes → BirthsWithin os e.serials (lists_of us) f.serials (lists_of ws) → (j : ℕ) → get_or f.serials j 0 ≤ get_or e.serials j 0 + length (of_lane p.lanes j)
+births-lent e f p os us ws lanes births j =
+    omega (arith, births j, ap (λ (ls : List (List Op)). length (of_lane ls j)) lanes)
 
 pub small-at : (T : Type 0) (P : ℕ → Type 0) (ended : Ended) (n : ℕ) → ended ≡ OutOfHeap n → IfTooSmall {T = T} (Err ended) P → P n
 small-at T P ended n is small = subst (λ (x : Ended). IfTooSmall {T = T} (Err x) P) is small

@@ -1,5 +1,5 @@
 -- A round: the lanes run, the nurseries are emptied, and the lanes that aren't at their ends do one operation more.
-use Rattle.std.proofs.Common.{Vec, Global, ◌≡◌, ◌≢◌, ℕ, ◌<◌, ◌≤◌, List, length, Some, None, Err, sym, ap, subst, ◌∙◌, arith}
+use Rattle.std.proofs.Common.{Vec, Global, ◌≡◌, ◌≢◌, ℕ, ◌<◌, ◌≤◌, List, length, Option, Some, None, Err, sym, ap, subst, ◌∙◌, arith}
 use Rattle.bc_cycle.specs.Causes.{IfOutOfHeap}
 use Rattle.bc_cycle.specs.Emptying.{Parts, IsEmptied, IsAsBefore}
 use Rattle.bc_cycle.specs.declared.emptying.CycleNo.{CycleNo}
@@ -18,6 +18,10 @@ use Rattle.bc_engine.specs.declared.engines.Ended.TheVariants.{OutOfHeap, NoMemo
 use Rattle.bc_engine.proofs.EmptyingLemmas.{ready-before, ready-emptied, need-before, stands-before, stands-emptied}
 use Rattle.bc_engine.proofs.GoingLemmas.{goes-then}
 use Rattle.bc_engine.proofs.RunLemmas.{runs-none, runs-then, left-le, left-less}
+
+-- an engine that hasn't ended hasn't run out of memory
+pub goes-on : (ended : Option Ended) → ended ≡ None → ended ≢ Some NoMemory
+goes-on ended going gone = cc
 
 -- where a round is: what the lanes did so far, and what a phase rests on
 pub record IsAt (lanes : List (List Op)) (e : EngineView) (told : List (Vec Reply Global)) (k : Parts) (serials : List ℕ) (replies : List (Vec Reply Global)) : Type 0 where

@@ -1,11 +1,12 @@
 -- Stretches of a phase, as the code keeps its replies.
-use Rattle.std.proofs.Common.{Vec, Global, vec_capacity, vec_len, ◌≡◌, ℕ, ◌+◌, ◌-◌, ◌^◌, ◌<◌, ◌≤◌, Bool, true, false, List, [], ◌∷◌, ◌++◌, length, get_or, set, refl, sym, ap, subst, ◌∙◌, inl, inr, arith, get_or-set_same, get_or-set_other, length-set}
+use Rattle.std.proofs.Common.{Vec, Global, vec_capacity, vec_len, ◌≡◌, ◌≢◌, ℕ, ◌+◌, ◌-◌, ◌<◌, ◌≤◌, Bool, true, false, List, [], ◌∷◌, ◌++◌, length, get_or, set, refl, sym, ap, subst, ◌∙◌, inl, inr, arith, get_or-set_same, get_or-set_other, length-set}
 use Prim.Native.Nat.{zero, suc}
 use Rattle.std.proofs.lemmas.Bool.{cases_eq}
 use Rattle.std.proofs.lemmas.List.{get_or-map, map-set, length_push, length-map}
 use Rattle.bc_cycle.specs.Emptying.{Parts}
 use Rattle.bc_cycle.specs.declared.heaps.Heap.{Heap}
 use Rattle.std.specs.List.{AllByRecursion}
+use Rattle.bc_heap.specs.Closed.{chunk_of, buffer_of}
 use Rattle.bc_model.specs.Lists.{lists_of}
 use Rattle.bc_model.specs.WellFormed.{IsOp}
 use Rattle.bc_model.proofs.Runs.{at-index}
@@ -13,8 +14,12 @@ use Rattle.bc_model.specs.State.{State}
 use Rattle.bc_model.specs.declared.operations.Op.{Op}
 use Rattle.bc_model.specs.declared.operations.Reply.{Reply}
 use Rattle.bc_model.specs.declared.traces.Setup.{Setup}
+use Rattle.bc_mutator.specs.Operations.{WantsMore}
+use Rattle.bc_nursery.specs.Entries.{Entries}
+use Rattle.bc_nursery.specs.Objects.{Nursery, left_of}
 use Rattle.bc_engine.specs.Engines.{IsReady, Stands}
-use Rattle.bc_engine.specs.Lanes.{of_lane, parts_of, Does, EachFurther, Goes, HasSerials, IsOneMore, Runs, left}
+use Rattle.bc_engine.specs.Lanes.{of_lane, parts_of, BirthsWithin, Does, EachFurther, Goes, HasSerials, IsAtEndOr, IsHeldUp, IsOneMore, LeavesOthers, Runs, Stops, left}
+use Rattle.bc_engine.proofs.Attempts.{held-up}
 use Rattle.bc_engine.proofs.GoingLemmas.{with_reply, goes-none, goes-then, goes-step}
 
 -- nothing was done, and the heap stands for what it stood for
@@ -22,7 +27,7 @@ pub runs-none : (lanes : List (List Op)) (hs : List ℕ) (h k : Parts) (serials 
 runs-none lanes hs h k serials told means ready = record {
   goes = goes-none lanes hs h k serials (lists_of told) means;
   underway = λ setup u. record { ready = ready setup u.ready; each = u.each; ops = u.ops; long = u.long; room = u.room; births = u.births };
-  births = λ n fits. fits;
+  births = λ j. omega arith;
 }
 
 pub runs-same : (lanes : List (List Op)) (hs : List ℕ) (x y : Heap) (serials next : List ℕ) (told : List (Vec Reply Global)) → y ≡ x → next ≡ serials → Runs lanes hs (parts_of x) serials told (parts_of y) next told
@@ -35,7 +40,7 @@ pub runs-then : (lanes : List (List Op)) (hs : List ℕ) (h k l : Parts) (ns ms 
 runs-then lanes hs h k l ns ms ls told mid answers g e = record {
   goes = goes-then lanes hs h k l ns ms ls (lists_of told) (lists_of mid) (lists_of answers) g.goes e.goes;
   underway = λ setup u. e.underway setup (g.underway setup u);
-  births = λ n fits. e.births n (g.births n fits);
+  births = λ j. omega (arith, e.births j, g.births j);
 }
 
 -- the list behind a lane's Vec
@@ -48,17 +53,21 @@ lists-pushed vs lane v w reply within is pushed =
     ∙ ap (set (lists_of vs) lane) (pushed ∙ ap (λ (rs : List Reply). rs ++ reply ∷ []) (sym (of_lane-vec vs lane v within is)))
 
 -- one reply more leaves one operation less, and one birth more at most
-births-step : (lanes : List (List Op)) (hs : List ℕ) (lane : ℕ) (op : Op) (h k : Parts) (serials next : List ℕ) (reply : Reply) (told : List (List Reply)) (n : ℕ) → lane < length told → length (of_lane told lane) < length (of_lane lanes lane) → Does hs lane op h serials reply k next → HasSerials lanes serials told n → HasSerials lanes next (with_reply told lane reply) n
-births-step lanes hs lane op h k serials next reply told n within less does fits j =
+births-step : (lanes : List (List Op)) (hs : List ℕ) (lane : ℕ) (op : Op) (h k : Parts) (serials next : List ℕ) (reply : Reply) (told : List (List Reply)) → lane < length told → length (of_lane told lane) < length (of_lane lanes lane) → Does hs lane op h serials reply k next → BirthsWithin lanes serials told next (with_reply told lane reply)
+births-step lanes hs lane op h k serials next reply told within less does j =
     let answers = with_reply told lane reply in
     elim (cases_eq j lane) [
       | inl e ↦
           let long : length (of_lane answers lane) ≡ length (of_lane told lane) + 1 = ap length (get_or-set_same told lane (of_lane told lane ++ reply ∷ []) [] within) ∙ length_push (of_lane told lane) reply in
-          subst (λ (m : ℕ). get_or next m 0 + (length (of_lane lanes m) - length (of_lane answers m)) + n < 2 ^ 32) (sym e) (omega (arith, fits lane, long, less, does.own))
+          subst (λ (m : ℕ). get_or next m 0 + (length (of_lane lanes m) - length (of_lane answers m)) ≤ get_or serials m 0 + (length (of_lane lanes m) - length (of_lane told m))) (sym e) (omega (arith, long, less, does.own))
       | inr ne ↦
           let same : length (of_lane answers j) ≡ length (of_lane told j) = ap length (get_or-set_other told lane j (of_lane told lane ++ reply ∷ []) [] ne) in
-          omega (arith, fits j, same, does.others j ne)
+          omega (arith, same, does.others j ne)
     ]
+
+-- serials that were enough before are enough later
+serials-later : (lanes : List (List Op)) (serials next : List ℕ) (told answers : List (List Reply)) → BirthsWithin lanes serials told next answers → HasSerials lanes serials told → HasSerials lanes next answers
+serials-later lanes serials next told answers births fits j = omega (arith, births j, fits j)
 
 room-step : (lanes : List (List Op)) (vs : List (Vec Reply Global)) (lane : ℕ) (v w : Vec Reply Global) → lane < length vs → v ≡ get_or vs lane v → vec_capacity w ≡ vec_capacity v → ((j : ℕ) → (x : Vec Reply Global) → j < length vs → x ≡ get_or vs j x → length (of_lane lanes j) ≤ vec_capacity x) → (j : ℕ) (x : Vec Reply Global) → j < length (set vs lane w) → x ≡ get_or (set vs lane w) j x → length (of_lane lanes j) ≤ vec_capacity x
 room-step lanes vs lane v w within is capacity room j x below there = elim (cases_eq j lane) [
@@ -98,8 +107,8 @@ runs-step lanes hs h k serials next vs lane op reply w kept does ready =
     let told = lists_of vs in
     let answers : lists_of (set vs lane w) ≡ with_reply told lane reply = lists-pushed vs lane kept.before w reply kept.there kept.is kept.pushed in
     let there : lane < length told = omega (arith, kept.there, length-map vs (λ (x : Vec Reply Global). x.items)) in
-    let births : (n : ℕ) → HasSerials lanes serials told n → HasSerials lanes next (lists_of (set vs lane w)) n = λ n fits.
-    subst (λ (rs : List (List Reply)). HasSerials lanes next rs n) (sym answers) (births-step lanes hs lane op h k serials next reply told n there kept.less does fits) in
+    let births : BirthsWithin lanes serials told next (lists_of (set vs lane w)) =
+    subst (λ (rs : List (List Reply)). BirthsWithin lanes serials told next rs) (sym answers) (births-step lanes hs lane op h k serials next reply told there kept.less does) in
     record {
       goes = subst (λ (rs : List (List Reply)). Goes lanes hs h serials told k next rs) (sym answers) (goes-step lanes hs h k serials next told lane op reply kept.within there kept.less kept.at does);
       underway = λ setup u. record {
@@ -108,7 +117,7 @@ runs-step lanes hs h k serials next vs lane op reply w kept does ready =
         ops = u.ops;
         long = length-set vs lane w ∙ u.long;
         room = room-step lanes vs lane kept.before w kept.there kept.is kept.capacity u.room;
-        births = births 0 u.births;
+        births = serials-later lanes serials next told (lists_of (set vs lane w)) births u.births;
       };
       births = births;
     }
@@ -151,3 +160,47 @@ each-further lanes told mid answers n b first second each one none j lt some = e
     here : (t : Bool) → (t ≡ true → IsOneMore (of_lane lanes n) (of_lane mid n) (of_lane answers n)) → (t ≡ false → length (of_lane lanes n) ≤ length (of_lane answers n)) → length (of_lane told n) < length (of_lane lanes n) → length (of_lane told n) < length (of_lane answers n)
     here true yes_one at_end less = omega (arith, (yes_one refl).1, first n)
     here false yes_one at_end less = omega (arith, at_end refl)
+
+-- the replies of another lane
+pub told-other : (vs : List (Vec Reply Global)) (lane l : ℕ) (w : Vec Reply Global) → l ≢ lane → of_lane (lists_of (set vs lane w)) l ≡ of_lane (lists_of vs) l
+told-other vs lane l w ne =
+    ap (λ (rs : List (List Reply)). of_lane rs l) (map-set (λ (x : Vec Reply Global). x.items) vs lane w) ∙ get_or-set_other (lists_of vs) lane l w.items [] ne
+
+pub leaves-same : (lane : ℕ) (x y : Heap) (told : List (List Reply)) → y ≡ x → LeavesOthers lane (parts_of x) told (parts_of y) told
+leaves-same lane x y told heap = record {
+  chunk = λ l ne. ap (λ (z : Heap). chunk_of z.chunks.items l) heap;
+  buffer = λ l ne. ap (λ (z : Heap). buffer_of z.buffers.items l) heap;
+  replies = λ l ne. refl;
+}
+
+pub leaves-then : (lane : ℕ) (h k m : Parts) (told mid answers : List (List Reply)) → LeavesOthers lane h told k mid → LeavesOthers lane k mid m answers → LeavesOthers lane h told m answers
+leaves-then lane h k m told mid answers first second = record {
+  chunk = λ l ne. second.chunk l ne ∙ first.chunk l ne;
+  buffer = λ l ne. second.buffer l ne ∙ first.buffer l ne;
+  replies = λ l ne. second.replies l ne ∙ first.replies l ne;
+}
+
+-- a lane that is held up is so when another one has run
+still-held : (hs : List ℕ) (lane l : ℕ) (op : Op) (h k : Parts) (told answers : List (List Reply)) → LeavesOthers lane h told k answers → l ≢ lane → IsHeldUp hs l op h → IsHeldUp hs l op k
+still-held hs lane l op h k told answers leaves ne (inl wants) =
+    inl (subst (λ (c : Nursery). WantsMore hs l (left_of c) op) (sym (leaves.chunk l ne)) wants)
+still-held hs lane l op h k told answers leaves ne (inr full) =
+    inr (subst (λ (b : Entries). length b.entries ≡ b.capacity) (sym (leaves.buffer l ne)) full)
+
+weaker : (P Q : Op → Type 0) (ops : List Op) (rs : List Reply) → ((op : Op) → P op → Q op) → IsAtEndOr ops rs P → IsAtEndOr ops rs Q
+weaker P Q ops rs f (inl end) = inl end
+weaker P Q ops rs f (inr x) = inr (x.0, x.1, x.2, f x.0 x.3)
+
+still-stopped : (lanes : List (List Op)) (hs : List ℕ) (lane l : ℕ) (h k : Parts) (told answers : List (List Reply)) → LeavesOthers lane h told k answers → l ≢ lane → IsAtEndOr (of_lane lanes l) (of_lane told l) (λ op. IsHeldUp hs l op h) → IsAtEndOr (of_lane lanes l) (of_lane answers l) (λ op. IsHeldUp hs l op k)
+still-stopped lanes hs lane l h k told answers leaves ne stopped =
+    subst (λ (rs : List Reply). IsAtEndOr (of_lane lanes l) rs (λ op. IsHeldUp hs l op k)) (sym (leaves.replies l ne))
+    (weaker (λ op. IsHeldUp hs l op h) (λ op. IsHeldUp hs l op k) (of_lane lanes l) (of_lane told l) (λ op held. still-held hs lane l op h k told answers leaves ne held) stopped)
+
+-- the lanes that have run so far have stopped, and so has the next one
+pub stopped-more : (lanes : List (List Op)) (hs : List ℕ) (lane : ℕ) (h k : Parts) (told answers : List (List Reply)) → LeavesOthers lane h told k answers → ((j : ℕ) → j < lane → IsAtEndOr (of_lane lanes j) (of_lane told j) (λ op. IsHeldUp hs j op h)) → IsAtEndOr (of_lane lanes lane) (of_lane answers lane) (λ op. Stops hs lane op k) → (j : ℕ) → j < lane + 1 → IsAtEndOr (of_lane lanes j) (of_lane answers j) (λ op. IsHeldUp hs j op k)
+stopped-more lanes hs lane h k told answers leaves before here j lt = elim (cases_eq j lane) [
+  | inl e ↦
+      subst (λ (l : ℕ). IsAtEndOr (of_lane lanes l) (of_lane answers l) (λ op. IsHeldUp hs l op k)) (sym e)
+      (weaker (λ op. Stops hs lane op k) (λ op. IsHeldUp hs lane op k) (of_lane lanes lane) (of_lane answers lane) (λ op stops. held-up hs lane op k stops) here)
+  | inr ne ↦ still-stopped lanes hs lane j h k told answers leaves ne (before j (omega (arith, lt, ne)))
+]

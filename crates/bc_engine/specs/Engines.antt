@@ -1,5 +1,5 @@
 -- An engine: a heap, and for each domain and lane who holds it and how many births it made.
-use Rattle.std.specs.Prelude.{◌≡◌, ◌≢◌, ℕ, ◌+◌, ◌*◌, ◌^◌, ◌<◌, List, [], length, Option, Some, None, slice_index}
+use Rattle.std.specs.Prelude.{◌≡◌, ◌≢◌, ℕ, ◌+◌, ◌*◌, ◌^◌, ◌<◌, ◌≤◌, List, [], length, Option, Some, None, slice_index}
 use Rattle.bc_cycle.specs.Emptying.{Parts, IsInOrder}
 use Rattle.bc_heap.specs.Closed.{chunk_of, buffer_of}
 use Rattle.bc_heap.specs.Heaps.{NoneRemembered}
@@ -17,6 +17,8 @@ pub record EngineView : Type 0 where
   pub holders : List ℕ
   pub serials : List ℕ
   pub setup : Setup
+  -- how many threads may mark
+  pub workers : ℕ
   -- how it ended, once it has
   pub ended : Option Ended
 
@@ -54,9 +56,14 @@ pub record IsReady (setup : Setup) (holders serials : List ℕ) (h : Parts) : Ty
   pub lanes : length serials ≡ setup.lanes
   pub meant : (state : State) × Stands h holders serials state
 
+-- a number of threads that may mark
+abbrev pub IsWorkers : ℕ → Type 0
+IsWorkers n = (1 ≤ n) × (n ≤ 16)
+
 -- what is true of an engine whose heap is in order: that of one that hasn't run out of memory. As long as it hasn't ended,
 -- nothing is recorded
 pub record IsEngine (e : EngineView) : Type 0 where
+  pub workers : IsWorkers e.workers
   pub ready : IsReady e.setup e.holders e.serials e.heap
   pub going : e.ended ≡ None → IsUnrecorded e.heap
 

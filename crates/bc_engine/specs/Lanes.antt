@@ -1,9 +1,10 @@
 -- What lanes do of a phase: one operation after another, those of each lane in its order.
-use Rattle.std.specs.Prelude.{◌≡◌, ◌≢◌, ℕ, ◌+◌, ◌-◌, ◌^◌, ◌<◌, ◌≤◌, List, [], ◌∷◌, ◌++◌, length, take, Vec, vec_capacity, slice_index, slice_index_or}
+use Rattle.std.specs.Prelude.{◌≡◌, ◌≢◌, ℕ, ◌+◌, ◌-◌, ◌^◌, ◌<◌, ◌≤◌, ◌⊎◌, List, [], ◌∷◌, ◌++◌, length, take, Vec, vec_capacity, slice_index, slice_index_or}
 use Rattle.std.specs.List.{AllByRecursion}
 use Rattle.std.specs.declared.alloc.Global.{Global}
 use Rattle.bc_cycle.specs.Emptying.{Parts}
 use Rattle.bc_cycle.specs.declared.heaps.Heap.{Heap}
+use Rattle.bc_heap.specs.Closed.{chunk_of, buffer_of}
 use Rattle.bc_model.specs.Interleaving.{LaneOp, after_steps, replies_by, ops_by}
 use Rattle.bc_model.specs.Lists.{lists_of}
 use Rattle.bc_model.specs.State.{State}
@@ -12,6 +13,8 @@ use Rattle.bc_model.specs.WellFormed.{IsOp}
 use Rattle.bc_model.specs.declared.operations.Op.{Op}
 use Rattle.bc_model.specs.declared.operations.Reply.{Reply}
 use Rattle.bc_model.specs.declared.traces.Setup.{Setup}
+use Rattle.bc_mutator.specs.Operations.{WantsMore, NeedsEntry}
+use Rattle.bc_nursery.specs.Objects.{left_of}
 use Rattle.bc_engine.specs.Engines.{EngineView, IsReady, Stands}
 
 -- what a heap is made of
@@ -40,10 +43,16 @@ pub record Goes (lanes : List (List Op)) (holders : List ℕ) (h : Parts) (seria
   pub replies : (state : State) → Stands h holders serials state → (j : ℕ) → of_lane answers j ≡ of_lane told j ++ replies_by state j steps
   pub more : (j : ℕ) → length (of_lane told j) ≤ length (of_lane answers j)
 
--- every lane can make an object by each operation that it hasn't done yet, and n more, all with serials below 2 ^ 32
-abbrev pub HasSerials : List (List Op) → List ℕ → List (List Reply) → ℕ → Type 0
-HasSerials lanes serials replies n =
-    (j : ℕ) → slice_index serials j + (length (of_lane lanes j) - length (of_lane replies j)) + n < 2 ^ 32
+-- every lane can make an object by each operation that it hasn't done yet, all with serials below 2 ^ 32
+abbrev pub HasSerials : List (List Op) → List ℕ → List (List Reply) → Type 0
+HasSerials lanes serials replies =
+    (j : ℕ) → slice_index serials j + (length (of_lane lanes j) - length (of_lane replies j)) < 2 ^ 32
+
+-- from one place of a phase to a later one each lane made at most an object by each operation that it did
+abbrev pub BirthsWithin : List (List Op) → List ℕ → List (List Reply) → List ℕ → List (List Reply) → Type 0
+BirthsWithin lanes serials told next answers =
+    (j : ℕ) → slice_index next j + (length (of_lane lanes j) - length (of_lane answers j))
+    ≤ slice_index serials j + (length (of_lane lanes j) - length (of_lane told j))
 
 -- every lane can make an object by each of these operations, and n more, all with serials below 2 ^ 32
 abbrev pub HasRoomForOps : EngineView → List (List Op) → ℕ → Type 0
@@ -56,17 +65,43 @@ pub record IsUnderway (setup : Setup) (lanes : List (List Op)) (holders : List �
   pub ops : AllByRecursion (AllByRecursion (IsOp setup)) lanes
   pub long : length replies ≡ setup.lanes
   pub room : (j : ℕ) → (v : Vec Reply Global) → j < length replies → v ≡ slice_index_or replies j v → length (of_lane lanes j) ≤ vec_capacity v
-  pub births : HasSerials lanes serials (lists_of replies) 0
+  pub births : HasSerials lanes serials (lists_of replies)
 
 -- what each stretch of a phase does: the lanes go on, and a phase that was under way still is
 pub record Runs (lanes : List (List Op)) (holders : List ℕ) (h : Parts) (serials : List ℕ) (told : List (Vec Reply Global)) (k : Parts) (next : List ℕ) (answers : List (Vec Reply Global)) : Type 0 where
   pub goes : Goes lanes holders h serials (lists_of told) k next (lists_of answers)
   pub underway : (setup : Setup) → IsUnderway setup lanes holders h serials told → IsUnderway setup lanes holders k next answers
-  pub births : (n : ℕ) → HasSerials lanes serials (lists_of told) n → HasSerials lanes next (lists_of answers) n
+  pub births : BirthsWithin lanes serials (lists_of told) next (lists_of answers)
 
 -- the lane had an operation to do, and one reply more was kept
 abbrev pub IsOneMore : List Op → List Reply → List Reply → Type 0
 IsOneMore ops told answers = (length told < length ops) × (length answers ≡ length told + 1)
+
+-- an operation of a lane can't be done yet: the object takes more words than are left of the chunk, or an entry is needed and
+-- the write buffer is at capacity
+abbrev pub Stops : List ℕ → ℕ → Op → Parts → Type 0
+Stops holders lane op h =
+    WantsMore holders lane (left_of (chunk_of h.chunks lane)) op
+    ⊎ NeedsEntry holders lane h.space h.roots (chunk_of h.chunks lane) (buffer_of h.buffers lane) op
+
+-- the object takes more words than are left of the lane's chunk, or its write buffer is at capacity: what of that no other lane
+-- changes
+abbrev pub IsHeldUp : List ℕ → ℕ → Op → Parts → Type 0
+IsHeldUp holders lane op h =
+    WantsMore holders lane (left_of (chunk_of h.chunks lane)) op
+    ⊎ (length (buffer_of h.buffers lane).entries ≡ (buffer_of h.buffers lane).capacity)
+
+-- all of a lane's operations have replies, or this is true of the next one
+abbrev pub IsAtEndOr : List Op → List Reply → (Op → Type 0) → Type 0
+IsAtEndOr ops replies P =
+    (length ops ≤ length replies)
+    ⊎ ((op : Op) × (length replies < length ops) × (op ≡ slice_index_or ops (length replies) op) × P op)
+
+-- what isn't the lane's stays: the chunks, write buffers and replies of others
+pub record LeavesOthers (lane : ℕ) (h : Parts) (told : List (List Reply)) (k : Parts) (answers : List (List Reply)) : Type 0 where
+  pub chunk : (l : ℕ) → l ≢ lane → chunk_of k.chunks l ≡ chunk_of h.chunks l
+  pub buffer : (l : ℕ) → l ≢ lane → buffer_of k.buffers l ≡ buffer_of h.buffers l
+  pub replies : (l : ℕ) → l ≢ lane → of_lane answers l ≡ of_lane told l
 
 -- each of the first n lanes that wasn't at its end has more replies
 abbrev pub EachFurther : ℕ → List (List Op) → List (List Reply) → List (List Reply) → Type 0

@@ -9,12 +9,12 @@ use Rattle.bc_model.specs.State.{State}
 use Rattle.bc_model.specs.declared.operations.Reply.{Reply}
 
 -- the phase was done: whatever state the engine stood for, the replies are those to the phase, and it stands for the state after
--- it. Chunks are empty, so the need of that state is at most the number of superpages
+-- it. Chunks are empty, so that state has a need that is at most the number of superpages
 pub record DidPhase (e : EngineView) (p : PhaseLists) (f : EngineView) (replies : List (List Reply)) : Type 0 where
   pub going : f.ended ≡ None
   pub empty : HasEmptyChunks f.heap
   pub stands : (s : State) → EngineStands e s → (replies ≡ replies_to_lanes s 0 p.lanes) × EngineStands f (after_phase s p)
-  pub need : (s : State) (n : ℕ) → EngineStands f s → IsNeed s n → n ≤ f.setup.superpages
+  pub need : (s : State) → EngineStands f s → (n : ℕ) × IsNeed s n × (n ≤ f.setup.superpages)
 
 -- the phase ended in its midst: for some cut the replies are those up to it, and the engine stands for the state there, whose need
 -- this is, and it is above the number of superpages

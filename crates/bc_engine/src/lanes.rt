@@ -1,7 +1,7 @@
 ghost use Rattle.std.specs.Prelude.{◌≡◌, ◌≢◌, ℕ, ◌+◌, ◌^◌, ◌<◌, ◌≤◌, List, [], length, slice_index, true, false, IfOk, OnErr};
 ghost use Rattle.bc_engine.specs.Engines.{HasEmptyChunks, IsReady, IsUnrecorded};
-ghost use Rattle.bc_engine.specs.Lanes.{of_lane, parts_of, AreDone, Does, EachFurther, HasMore, IsOneMore, IsUnderway, Runs};
-ghost use Rattle.bc_heap.specs.Closed.{chunk_of};
+ghost use Rattle.bc_engine.specs.Lanes.{of_lane, parts_of, AreDone, Does, EachFurther, HasMore, IsAtEndOr, IsHeldUp, IsOneMore, IsUnderway, LeavesOthers, Runs, Stops};
+ghost use Rattle.bc_heap.specs.Closed.{chunk_of, buffer_of};
 ghost use Rattle.bc_model.specs.Lists.{lists_of};
 ghost use Rattle.bc_model.specs.declared.traces.Setup.{Setup};
 ghost use Rattle.bc_mutator.specs.Operations.{IsOpOf};
@@ -24,10 +24,12 @@ pub(crate) fn attempt(
     requires serial { slice_index serials.old lane + 1 < 2 ^ 32 }
     ensures done { IfOk result (λ reply. Does holders.now lane op.now (parts_of heap.old) serials.old reply (parts_of heap.new) serials.new) }
     ensures same { OnErr result ((heap.new ≡ heap.old) × (serials.new ≡ serials.old)) }
+    ensures stops { OnErr result (Stops holders.now lane op.now (parts_of heap.old)) }
     ensures ready { (setup : Setup) → IsReady setup holders.now serials.old (parts_of heap.old) → IsReady setup holders.now serials.new (parts_of heap.new) }
     ensures alone { (chunk_of heap.old.chunks.items lane).objects ≡ [] → OnErr result ⊥ }
     ensures unrecorded { (chunk_of heap.old.chunks.items lane).objects ≡ [] → IsUnrecorded (parts_of heap.old) → IsUnrecorded (parts_of heap.new) }
     ensures others { (l : ℕ) → l ≢ lane → chunk_of heap.new.chunks.items l ≡ chunk_of heap.old.chunks.items l }
+    ensures buffers { (l : ℕ) → l ≢ lane → buffer_of heap.new.buffers.items l ≡ buffer_of heap.old.buffers.items l }
 {
     operate(heap, holders, &mut serials[lane as usize], lane, op)
 }
@@ -46,10 +48,11 @@ fn advance(
     requires underway { (setup : Setup) × IsUnderway setup (lists_of lanes.now) holders.now (parts_of heap.old) serials.old replies.old }
     ensures runs { Runs (lists_of lanes.now) holders.now (parts_of heap.old) serials.old replies.old (parts_of heap.new) serials.new replies.new }
     ensures further { result ≡ true → IsOneMore (of_lane (lists_of lanes.now) lane) (of_lane (lists_of replies.old) lane) (of_lane (lists_of replies.new) lane) }
+    ensures stopped { result ≡ false → IsAtEndOr (of_lane (lists_of lanes.now) lane) (of_lane (lists_of replies.new) lane) (λ op. Stops holders.now lane op (parts_of heap.new)) }
     ensures alone { (chunk_of heap.old.chunks.items lane).objects ≡ [] → result ≡ false
         → length (of_lane (lists_of lanes.now) lane) ≤ length (of_lane (lists_of replies.new) lane) }
     ensures unrecorded { (chunk_of heap.old.chunks.items lane).objects ≡ [] → IsUnrecorded (parts_of heap.old) → IsUnrecorded (parts_of heap.new) }
-    ensures others { (l : ℕ) → l ≢ lane → chunk_of heap.new.chunks.items l ≡ chunk_of heap.old.chunks.items l }
+    ensures others { LeavesOthers lane (parts_of heap.old) (lists_of replies.old) (parts_of heap.new) (lists_of replies.new) }
 {
     let index = lane as usize;
     let done = replies[index].len();
@@ -76,7 +79,9 @@ fn run_lane(
 )
     requires lane { lane < length lanes.now }
     requires underway { (setup : Setup) × IsUnderway setup (lists_of lanes.now) holders.now (parts_of heap.old) serials.old replies.old }
-    ensures { Runs (lists_of lanes.now) holders.now (parts_of heap.old) serials.old replies.old (parts_of heap.new) serials.new replies.new }
+    ensures runs { Runs (lists_of lanes.now) holders.now (parts_of heap.old) serials.old replies.old (parts_of heap.new) serials.new replies.new }
+    ensures stopped { IsAtEndOr (of_lane (lists_of lanes.now) lane) (of_lane (lists_of replies.new) lane) (λ op. Stops holders.now lane op (parts_of heap.new)) }
+    ensures others { LeavesOthers lane (parts_of heap.old) (lists_of replies.old) (parts_of heap.new) (lists_of replies.new) }
 {
     'operations: while advance(heap, holders, serials, lanes, replies, lane) {}
 }
@@ -90,7 +95,9 @@ pub(crate) fn run_lanes(
     replies: &mut [Vec<Reply>],
 )
     requires { (setup : Setup) × IsUnderway setup (lists_of lanes.now) holders.now (parts_of heap.old) serials.old replies.old }
-    ensures { Runs (lists_of lanes.now) holders.now (parts_of heap.old) serials.old replies.old (parts_of heap.new) serials.new replies.new }
+    ensures runs { Runs (lists_of lanes.now) holders.now (parts_of heap.old) serials.old replies.old (parts_of heap.new) serials.new replies.new }
+    ensures stopped { (j : ℕ) → j < length lanes.now
+        → IsAtEndOr (of_lane (lists_of lanes.now) j) (of_lane (lists_of replies.new) j) (λ op. IsHeldUp holders.now j op (parts_of heap.new)) }
 {
     for lane in 0..lanes.len() as u32 {
         run_lane(heap, holders, serials, lanes, replies, lane);

@@ -1,9 +1,9 @@
 // The engine: it replays the phases of a trace on the collector's heap.
 //
 // An `Engine` keeps one heap (a space of cells, root slots, and for each lane a chunk and a write buffer), the lane that
-// holds each domain, and how many objects each lane has made, by which it numbers the next one. It knows the setup that it
-// was opened with and, once it has ended, how: what it stands for needs more superpages than there are, or memory ran out.
-// An engine that has ended replays no other phase.
+// holds each domain, and how many objects each lane has made, by which it numbers the next one. It knows the setup and the
+// number of workers that it was opened with and, once it has ended, how: what it stands for needs more superpages than there
+// are, or memory ran out. An engine that has ended replays no other phase.
 //
 // A phase (`phases`) begins by taking room for the replies to all its operations, so that none of them takes memory. Then
 // it goes in rounds (`rounds`). In a round each lane does operations (`lanes`) until it is at its end or one stops, since

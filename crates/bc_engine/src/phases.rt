@@ -1,8 +1,8 @@
-ghost use Rattle.std.specs.Prelude.{◌≡◌, ◌≢◌, ℕ, ◌+◌, ◌^◌, ◌<◌, ◌≤◌, List, [], length, map, Option, Some, None, Result, Ok, Err, OnErr, IfOk};
+ghost use Rattle.std.specs.Prelude.{◌≡◌, ◌≢◌, ℕ, ◌+◌, ◌^◌, ◌<◌, ◌≤◌, List, [], length, map, Option, Some, None, Result, Ok, Err, OnErr, IfOk, slice_index};
 ghost use Rattle.std.specs.List.{AllByRecursion};
 ghost use Rattle.bc_engine.specs.Answers.{IfOutOfHeap, IsOutOfHeap, IsNoMemory};
 ghost use Rattle.bc_engine.specs.Engines.{EngineView, EngineStands, HasEmptyChunks, HasRoomForBirths, IsUnrecorded};
-ghost use Rattle.bc_engine.specs.Lanes.{HasRoomForOps};
+ghost use Rattle.bc_engine.specs.Lanes.{of_lane, HasRoomForOps};
 ghost use Rattle.bc_engine.specs.Phases.{DidPhase, CutPhase};
 ghost use Rattle.bc_engine.specs.Rounds.{IsRoomFor};
 ghost use Rattle.bc_model.specs.Lists.{lists_of};
@@ -54,9 +54,10 @@ impl Engine {
         ensures again { (need : ℕ) → self.old.ended ≡ Some (Ended.OutOfHeap need) → IsOutOfHeap result [] need }
         ensures ended { self.old.ended ≢ None → self.new ≡ self.old }
         ensures gone { self.old.ended ≡ Some Ended.NoMemory → IsNoMemory result }
-        ensures setup { self.new.setup ≡ self.old.setup }
+        ensures setup { (self.new.setup ≡ self.old.setup) × (self.new.workers ≡ self.old.workers) }
         ensures no_memory { IsNoMemory result → self.new.ended ≡ Some Ended.NoMemory }
-        ensures births { (n : ℕ) → HasRoomForOps self.old phase.now.lanes n → HasRoomForBirths self.new n }
+        ensures births { (j : ℕ) → slice_index self.new.serials j ≤ slice_index self.old.serials j + length (of_lane phase.now.lanes j) }
+        ensures room { (n : ℕ) → HasRoomForOps self.old phase.now.lanes n → HasRoomForBirths self.new n }
     {
         match self.ended {
             None => {}
@@ -96,9 +97,9 @@ impl Engine {
         requires room { IsRoomFor phase.now.lanes replies.items }
         ensures done { IfOk result (λ told. DidPhase self.old phase.now self.new told) }
         ensures cut { IfOutOfHeap result (λ told need. CutPhase self.old phase.now self.new told need) }
-        ensures setup { self.new.setup ≡ self.old.setup }
+        ensures setup { (self.new.setup ≡ self.old.setup) × (self.new.workers ≡ self.old.workers) }
         ensures no_memory { IsNoMemory result → self.new.ended ≡ Some Ended.NoMemory }
-        ensures births { (n : ℕ) → HasRoomForOps self.old phase.now.lanes n → HasRoomForBirths self.new n }
+        ensures births { (j : ℕ) → slice_index self.new.serials j ≤ slice_index self.old.serials j + length (of_lane phase.now.lanes j) }
     {
         self.facts();
         match self.rounds(rt, alloc, &phase.lanes, &mut replies, gate) {
@@ -131,11 +132,12 @@ impl Engine {
         }
     }
 
-    /// With empty chunks there are at least as many superpages as are needed, told to a caller. It does nothing.
+    /// What an engine with empty chunks stands for has a need, and there are at least as many superpages, told to a caller. It does
+    /// nothing.
     fn room_facts(&self)
         requires going { self.now.ended ≡ None }
         requires empty { HasEmptyChunks self.now.heap }
-        ensures { (s : State) (n : ℕ) → EngineStands self.now s → IsNeed s n → n ≤ self.now.setup.superpages }
+        ensures { (s : State) → EngineStands self.now s → (n : ℕ) × IsNeed s n × (n ≤ self.now.setup.superpages) }
     {
         law_room();
         self.heap.space.facts();

@@ -1,11 +1,11 @@
-use Rattle.std.proofs.Common.{◌<◌, length, sym, ap, arith, subst}
+use Rattle.std.proofs.Common.{◌<◌, length, refl, sym, ap, ◌∙◌, arith, subst}
 use Rattle.std.proofs.lemmas.Result.{err_from_is_err_and}
 use Rattle.bc_io.proofs.Telling.{HeldGrows-nil, RoomFalls-none}
 use Rattle.bc_io.specs.Told.{HeldGrows}
 use Rattle.bc_model.specs.Lists.{TraceLists}
 use Rattle.bc_cli.specs.Output.{texts_before}
 use Rattle.bc_cli.proofs.Finishing.{phase-room}
-use Rattle.bc_cli.proofs.Pieces.{texts-none, Rose-later}
+use Rattle.bc_cli.proofs.Pieces.{texts-none, Rose-since}
 use Rattle.bc_cli.proofs.phases.write_phases.Goals as goal
 
 pub loop-index-init : goal.loop-index-init
@@ -13,7 +13,7 @@ loop-index-init g c = record {
   run = c.requires.opened;
   held = rw texts-none (HeldGrows-nil _);
   room = rw texts-none (RoomFalls-none _);
-  later = omega arith;
+  firm = refl;
 }
 
 pub loop-index-preserved : goal.loop-index-preserved
@@ -23,19 +23,24 @@ loop-index-preserved g c =
       run = e.run;
       held = e.written _ c.loop-index.invariant.held;
       room = e.filled _ c.loop-index.invariant.room;
-      later = omega (arith, e.later);
+      firm = e.firm (λ n. cc) ∙ c.loop-index.invariant.firm;
     }
 
 pub returns-in_err-write_phase-clause-write_fault : goal.returns-in_err-write_phase-clause-write_fault
 returns-in_err-write_phase-clause-write_fault g c =
     let p = err_from_is_err_and c.from_residual.result c.from_residual.ensures.1 in
     rw (p.1, p.2) (λ e. let f = c.in_err-write_phase.ensures.write_fault e in
-    (Rose-later _ _ _ c.loop-index.invariant.later f.0, f.1 _ c.loop-index.invariant.held))
+    (Rose-since _ _ _ c.loop-index.invariant.firm f.0, f.1 _ c.loop-index.invariant.held))
 
 pub returns-in_err-write_phase-clause-out_of_heap : goal.returns-in_err-write_phase-clause-out_of_heap
 returns-in_err-write_phase-clause-out_of_heap g c =
     let p = err_from_is_err_and c.from_residual.result c.from_residual.ensures.1 in
     rw (p.1, p.2) (λ need e. c.in_err-write_phase.ensures.out_of_heap need e _ c.loop-index.invariant.held)
+
+pub returns-in_err-write_phase-clause-firm : goal.returns-in_err-write_phase-clause-firm
+returns-in_err-write_phase-clause-firm g c =
+    let p = err_from_is_err_and c.from_residual.result c.from_residual.ensures.1 in
+    rw (p.1, p.2) (λ other. c.in_err-write_phase.ensures.firm other ∙ c.loop-index.invariant.firm)
 
 pub write_phase-requires-clause-room : goal.write_phase-requires-clause-room
 write_phase-requires-clause-room g c κs within =

@@ -1,4 +1,4 @@
-use Rattle.std.proofs.Common.{◌≤◌, length}
+use Rattle.std.proofs.Common.{◌≡◌, length}
 use Rattle.bc_io.specs.Told.{HeldGrows, RoomFalls}
 use Rattle.bc_cli.specs.Endings.{HasRun}
 use Rattle.bc_cli.specs.Output.{texts_before}
@@ -9,5 +9,5 @@ invariant-loop-index g l = record {
   run : HasRun l.trace l.index l.engine;
   held : HeldGrows (g.K.Sink.held l.fn.sink) (g.K.Sink.held l.sink) (texts_before l.trace l.index);
   room : RoomFalls (g.K.Sink.room l.fn.sink) (g.K.Sink.room l.sink) (length (texts_before l.trace l.index));
-  later : g.K.Sink.faults l.fn.sink ≤ g.K.Sink.faults l.sink;
+  firm : g.K.Sink.faults l.sink ≡ g.K.Sink.faults l.fn.sink;
 }

@@ -5,12 +5,13 @@ use Rattle.bc_trace.specs.Replies.{done_text}
 use Rattle.bc_cli.specs.Endings.{EndsDone, EndsInFault}
 use Rattle.bc_cli.specs.Output.{all_texts}
 use Rattle.bc_cli.proofs.Finishing.{HasRun-opened, ends-done, fails-at_done}
-use Rattle.bc_cli.proofs.Pieces.{Rose-later, room-for-next, front-taken}
+use Rattle.bc_cli.proofs.Pieces.{Rose-since, room-for-next, front-taken}
 use Rattle.bc_cli.proofs.replay.replay.Goals as goal
 
 pub write_phases-requires-clause-opened : goal.write_phases-requires-clause-opened
 write_phases-requires-clause-opened g c κs within =
-    HasRun-opened c.args.trace.now _ c.in-Ok.engine (ap (λ (x : TraceLists). x.setup) c.trace.view_is) c.requires.ops c.in-Ok.ensures.opening c.in-Ok.ensures.setup
+    HasRun-opened c.args.trace.now _ c.in-Ok.engine (ap (λ (x : TraceLists). x.setup) c.trace.view_is) c.requires.ops c.in-Ok.ensures.opening
+    (c.in-Ok.ensures.setup.0, c.in-Ok.ensures.setup.1, c.in-Ok.ensures.setup.2)
 
 pub write_all-requires : goal.write_all-requires
 unfolding done_text
@@ -26,7 +27,7 @@ returns-in-Ok-write_all-clause-done g c = λ _.
 pub returns-in-Err-clause-write_fault : goal.returns-in-Err-clause-write_fault
 unfolding done_text
 returns-in-Err-clause-write_fault g c = λ _. (
-  Rose-later _ _ _ c.in-Ok-write_phases.ensures.later c.in-Err.ensures.cause,
+  Rose-since _ _ _ (c.in-Ok-write_phases.ensures.firm (λ e. cc)) c.in-Err.ensures.cause,
   subst (EndsInFault c.args.trace.now _ _) (sym c.with_heap-in-Err.ensures.heap)
       (inr (inl (fails-at_done c.args.trace.now c.write_phases.new.engine _ _ _ c.in-Ok-write_phases.ensures.run c.in-Ok-write_phases.ensures.written
       (front-taken _ _ _ _ done_text c.in-Err.ensures.front)))),

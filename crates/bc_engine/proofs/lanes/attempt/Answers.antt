@@ -1,6 +1,6 @@
 use Rattle.std.proofs.Common.{arith}
 use Rattle.bc_engine.specs.Lanes.{parts_of}
-use Rattle.bc_engine.proofs.Attempts.{does-step, ready-step, never-stops}
+use Rattle.bc_engine.proofs.Attempts.{does-step, ready-step, never-stops, why-stopped}
 use Rattle.std.proofs.lemmas.Result.{IfOk-weaker}
 use Rattle.bc_engine.proofs.lanes.attempt.Goals as goal
 
@@ -26,3 +26,6 @@ pub returns-clause-alone : goal.returns-clause-alone
 returns-clause-alone c = λ none.
     never-stops c.requires.ready.0 c.args.holders.now c.args.serials.now c.args.lane c.args.op.now (parts_of c.args.heap.now) c.operate.result c.requires.ready.1 c.requires.lane none
     c.operate.ensures.nursery.0 c.operate.ensures.buffer
+
+pub returns-clause-stops : goal.returns-clause-stops
+returns-clause-stops c = why-stopped _ _ c.operate.result c.operate.ensures.nursery.0 c.operate.ensures.buffer

@@ -1,10 +1,13 @@
 use Rattle.std.proofs.Common.{◌-◌, length}
 use Rattle.bc_model.specs.Lists.{lists_of}
-use Rattle.bc_engine.specs.Lanes.{of_lane, parts_of, Runs}
+use Rattle.bc_engine.specs.Lanes.{of_lane, parts_of, LeavesOthers, Runs}
 use Rattle.bc_engine.proofs.lanes.run_lane.Given as goal
 
 abbrev pub invariant-operations : goal.invariant-operations
-invariant-operations l = Runs (lists_of l.lanes) l.holders (parts_of l.initial.heap) l.initial.serials l.initial.replies (parts_of l.heap) l.serials l.replies
+invariant-operations l = record {
+  runs : Runs (lists_of l.lanes) l.holders (parts_of l.initial.heap) l.initial.serials l.initial.replies (parts_of l.heap) l.serials l.replies;
+  others : LeavesOthers l.lane (parts_of l.initial.heap) (lists_of l.initial.replies) (parts_of l.heap) (lists_of l.replies);
+}
 
 abbrev pub decreases-operations : goal.decreases-operations
 decreases-operations l = length (of_lane (lists_of l.lanes) l.lane) - length (of_lane (lists_of l.replies) l.lane)

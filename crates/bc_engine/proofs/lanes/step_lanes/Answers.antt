@@ -24,7 +24,7 @@ loop-lane-preserved c =
       unrecorded = e.unrecorded here before.unrecorded;
       empty = λ n le.
           let ne : n ≢ lane = omega arith in
-          ap (λ (x : Nursery). x.objects) (e.others n ne) ∙ before.empty n (omega arith);
+          ap (λ (x : Nursery). x.objects) (e.others.chunk n ne) ∙ before.empty n (omega arith);
       each = each-further (lists_of c.args.lanes.now) (lists_of c.args.replies.now) (lists_of c.loop-lane.replies) (lists_of c.advance-further.new.replies) lane c.advance-further.result
           before.runs.goes.more e.runs.goes.more before.each e.further (e.alone here);
     }

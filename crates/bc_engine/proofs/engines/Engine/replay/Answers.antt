@@ -1,8 +1,8 @@
-use Rattle.std.proofs.Common.{length, sym, ap, subst, ◌∙◌, arith}
+use Rattle.std.proofs.Common.{get_or, length, ap, subst, ◌∙◌, arith}
 use Rattle.std.proofs.lemmas.List.{take_at}
 use Rattle.bc_model.specs.Lists.{PhaseLists, lists_of}
 use Rattle.bc_model.specs.Run.{after_gives}
-use Rattle.bc_engine.specs.Engines.{EngineView, EngineStands, HasRoomForBirths}
+use Rattle.bc_engine.specs.Engines.{EngineView, EngineStands}
 use Rattle.bc_engine.specs.Rounds.{IsTooSmall}
 use Rattle.bc_engine.proofs.PhaseLemmas.{births-lent, cut-lent, did-lent, small-at, underway-lent}
 use Rattle.bc_engine.proofs.engines.Engine.replay.Goals as goal
@@ -30,10 +30,10 @@ returns-in-Ok-clause-done g c =
     c.give_all.ensures.same c.room_facts.ensures
 
 pub returns-in-Ok-clause-births : goal.returns-in-Ok-clause-births
-returns-in-Ok-clause-births g c = λ n fits.
-    subst (λ (e : EngineView). HasRoomForBirths e n) (sym c.give_all.ensures.same)
-    (births-lent c.args.self.now c.rounds.new.self c.args.phase.now (lists_of c.deref.result.now) c.deref_mut.result.now c.args.replies.items c.rounds.new.replies
-    (ap lists_of c.deref.ensures.value ∙ ap (λ (p : PhaseLists). p.lanes) c.phase.view_is) c.deref_mut.ensures.value c.rounds.ensures.births n fits)
+returns-in-Ok-clause-births g c = λ j.
+    let few = births-lent c.args.self.now c.rounds.new.self c.args.phase.now (lists_of c.deref.result.now) c.deref_mut.result.now c.rounds.new.replies
+    (ap lists_of c.deref.ensures.value ∙ ap (λ (p : PhaseLists). p.lanes) c.phase.view_is) c.rounds.ensures.births j in
+    omega (arith, few, ap (λ (e : EngineView). get_or e.serials j 0) c.give_all.ensures.same)
 
 pub returns-in-Err-OutOfHeap-clause-cut : goal.returns-in-Err-OutOfHeap-clause-cut
 returns-in-Err-OutOfHeap-clause-cut g c =
@@ -52,10 +52,10 @@ returns-in-Err-OutOfHeap-clause-cut g c =
 
 pub returns-in-Err-OutOfHeap-clause-births : goal.returns-in-Err-OutOfHeap-clause-births
 returns-in-Err-OutOfHeap-clause-births g c =
-    births-lent c.args.self.now c.rounds.new.self c.args.phase.now (lists_of c.deref.result.now) c.deref_mut.result.now c.args.replies.items c.rounds.new.replies
-    (ap lists_of c.deref.ensures.value ∙ ap (λ (p : PhaseLists). p.lanes) c.phase.view_is) c.deref_mut.ensures.value c.rounds.ensures.births
+    births-lent c.args.self.now c.rounds.new.self c.args.phase.now (lists_of c.deref.result.now) c.deref_mut.result.now c.rounds.new.replies
+    (ap lists_of c.deref.ensures.value ∙ ap (λ (p : PhaseLists). p.lanes) c.phase.view_is) c.rounds.ensures.births
 
 pub returns-in-Err-NoMemory-clause-births : goal.returns-in-Err-NoMemory-clause-births
 returns-in-Err-NoMemory-clause-births g c =
-    births-lent c.args.self.now c.rounds.new.self c.args.phase.now (lists_of c.deref.result.now) c.deref_mut.result.now c.args.replies.items c.rounds.new.replies
-    (ap lists_of c.deref.ensures.value ∙ ap (λ (p : PhaseLists). p.lanes) c.phase.view_is) c.deref_mut.ensures.value c.rounds.ensures.births
+    births-lent c.args.self.now c.rounds.new.self c.args.phase.now (lists_of c.deref.result.now) c.deref_mut.result.now c.rounds.new.replies
+    (ap lists_of c.deref.ensures.value ∙ ap (λ (p : PhaseLists). p.lanes) c.phase.view_is) c.rounds.ensures.births

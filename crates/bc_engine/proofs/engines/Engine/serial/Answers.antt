@@ -11,6 +11,7 @@ invariant_of-self c = λ alive.
     let empty = rw (← c.self.view_is) at c.requires.empty in
     let unrecorded = rw (← c.self.view_is) at c.requires.unrecorded in
     record {
+      workers = old.workers;
       ready = ready-through c.self.inside.setup c.self.inside.holders.items c.deref.result.now c.self.inside.serials.items c.deref_mut.result.now c.attempt.new.serials _
           (parts_of c.self.inside.heap) (parts_of c.attempt.new.heap)
           c.deref.ensures.value c.deref_mut.ensures.value
