@@ -16,9 +16,6 @@ ghost use Rattle.std.specs.Prelude.{◌≡◌, ◌≢◌, ℕ, ◌+◌, ◌*◌,
 ghost use Rattle.bc_bits.specs.Bits.{has, with_bit, without_bit, none_set};
 ghost use Rattle.bc_bits.specs.Counting.{count_below};
 
-/// How many cells a set has a bit for.
-pub const SET_BITS: u32 = 1024;
-
 /// Is this bit of the set set? A bit is below 1,024.
 pub fn contains(set: &[u64; 16], bit: u32) -> bool
     requires { bit < 1024 }

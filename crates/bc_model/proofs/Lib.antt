@@ -13,4 +13,8 @@ pub mod SameParts
 pub mod AnyOrder
 pub mod StepLaws
 pub mod Needs
+pub mod NeedFound
 pub mod RunStates
+pub mod CutFronts
+pub mod Refusals
+pub mod Serials

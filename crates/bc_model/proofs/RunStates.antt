@@ -55,7 +55,7 @@ OfSetup-after_lanes setup s lanes h few fits =
     let few' : 0 + length lanes ≤ length s.made = omega (arith, few) in
     OfSetup-same setup s (after_lanes s 0 lanes) h.sizes (SameSizes-after_lanes s 0 lanes h.state few' fits) (IsState-after_lanes s 0 lanes h.state few' fits)
 
-OfSetup-after_phase : (setup : Setup) (s : State) (p : PhaseLists) → OfSetup setup s → IsPhase setup p → OfSetup setup (after_phase s p)
+pub OfSetup-after_phase : (setup : Setup) (s : State) (p : PhaseLists) → OfSetup setup s → IsPhase setup p → OfSetup setup (after_phase s p)
 OfSetup-after_phase setup s p h fits =
     let here = IsPhase-from_setup setup s p h.sizes fits in
     OfSetup-after_gives setup (after_lanes s 0 p.lanes) p.gives
@@ -78,20 +78,20 @@ fits-take P zero ops h = tt
 fits-take P (suc n) [] h = tt
 fits-take P (suc n) (o ∷ ops) h = (h.0, fits-take P n ops h.1)
 
-fits-cut : (P : Op → Type 0) (cut : List ℕ) (lanes : List (List Op)) → AllByRecursion (AllByRecursion P) lanes → AllByRecursion (AllByRecursion P) (cut_lanes cut lanes)
+pub fits-cut : (P : Op → Type 0) (cut : List ℕ) (lanes : List (List Op)) → AllByRecursion (AllByRecursion P) lanes → AllByRecursion (AllByRecursion P) (cut_lanes cut lanes)
 unfolding cut_lanes
 fits-cut P cut [] h = tt
 fits-cut P [] (ops ∷ lanes) h = (tt, fits-cut P [] lanes h.1)
 fits-cut P (n ∷ cut) (ops ∷ lanes) h = (fits-take P n ops h.0, fits-cut P cut lanes h.1)
 
-length-cut_lanes : (cut : List ℕ) (lanes : List (List Op)) → length (cut_lanes cut lanes) ≡ length lanes
+pub length-cut_lanes : (cut : List ℕ) (lanes : List (List Op)) → length (cut_lanes cut lanes) ≡ length lanes
 unfolding cut_lanes
 length-cut_lanes cut [] = refl
 length-cut_lanes [] (ops ∷ lanes) = ap suc (length-cut_lanes [] lanes)
 length-cut_lanes (n ∷ cut) (ops ∷ lanes) = ap suc (length-cut_lanes cut lanes)
 
 -- the lanes of a phase, or of none
-lanes-fit : (t : TraceLists) (k : ℕ) (s : State) → IsTrace t → HasSizes t.setup s → (length (phase_at t k).lanes ≤ length s.made) × AllByRecursion (AllByRecursion (IsOp (sizes_of s))) (phase_at t k).lanes
+pub lanes-fit : (t : TraceLists) (k : ℕ) (s : State) → IsTrace t → HasSizes t.setup s → (length (phase_at t k).lanes ≤ length s.made) × AllByRecursion (AllByRecursion (IsOp (sizes_of s))) (phase_at t k).lanes
 lanes-fit t k s h sizes =
     elim (cases_lt k (length t.phases)) [
       | inl within ↦

@@ -1,18 +1,20 @@
--- Laws of one step and of two: what stays untouched, who after new, load after set.
-use Rattle.std.proofs.Common.{replicate, ◌≡◌, ◌≢◌, ℕ, ◌<◌, Bool, true, false, ◌&&◌, nat_lt, if◌then◌else◌, List, [], ◌∷◌, length, map, slice_index_or, refl, sym, ap, ap₂, subst, ◌∙◌, eq-eqb, length-set, get_or-set_same, ltb-true, take_all, le_refl}
+-- Laws of one step and of two: what stays untouched, and what an operation answers that looks at what one before it did.
+use Rattle.std.proofs.Common.{replicate, ◌≡◌, ◌≢◌, ℕ, ◌<◌, Bool, true, false, ◌&&◌, ◌==◌, nat_lt, if◌then◌else◌, List, [], ◌∷◌, length, map, slice_index_or, refl, sym, ap, ap₂, subst, ◌∙◌, eq-eqb, length-set, get_or-set_same, get_or-set_other, ltb-true, take_all, le_refl, inl, inr}
 use Rattle.std.specs.List.{list_all}
-use Rattle.std.proofs.lemmas.Bool.{and_from}
+use Rattle.std.proofs.lemmas.Bool.{and_from, cases_eq}
+use Rattle.std.proofs.lemmas.List.{length-replicate}
 use Rattle.bc_model.specs.Consistent.{IsState, IsValue, sizes_of}
 use Rattle.bc_model.specs.Grows.{Grows}
 use Rattle.bc_model.specs.Interleaving.{LaneOp, after_steps, FitSteps}
 use Rattle.bc_model.specs.Run.{cut_lanes}
-use Rattle.bc_model.specs.State.{State, Object, IsBorn, object_of, next_birth, with_value, with_slot, with_field, field_of, slot_of, place_of, holds}
-use Rattle.bc_model.specs.Step.{step, act, domains_of, on_field, told, loaded, with_new}
+use Rattle.bc_model.specs.State.{State, Object, IsBorn, object_of, next_birth, with_value, with_slot, with_field, field_of, slot_of, place_of, holds, given}
+use Rattle.bc_model.specs.Step.{step, act, domains_of, on_object, on_field, told, loaded, is_same, with_new}
 use Rattle.bc_model.specs.WellFormed.{IsSlot, IsOp}
 use Rattle.bc_model.specs.declared.operations.Op.{Op}
 use Rattle.bc_model.specs.declared.operations.Op.TheVariants as op
 use Rattle.bc_model.specs.declared.operations.Reply.{Reply}
 use Rattle.bc_model.specs.declared.operations.Reply.TheVariants as reply
+use Rattle.bc_model.specs.declared.traces.Give.{Give}
 use Rattle.bc_model.specs.declared.values.Birth.{Birth}
 use Rattle.bc_model.specs.declared.values.Slot.{Slot}
 use Rattle.bc_model.specs.declared.values.Value.{Value}
@@ -69,8 +71,24 @@ who-after-new s j p n hs lane at held =
     ∙ ap (λ (d : ℕ). if holds t j d then reply.Obj b else reply.Foreign) domain
     ∙ ap (λ (x : Bool). if x then reply.Obj b else reply.Foreign) held
 
--- a set that was done: the lane holds the slot's domain, and the slot refers to an object of the lane's that has the field
-pub record DoneSet (s : State) (j : ℕ) (p : Slot) (i : ℕ) : Type 0 where
+pub len-after-new : (s : State) (j : ℕ) (p : Slot) (n : ℕ) → IsState s → j < length s.made → IsSlot (sizes_of s) p → holds s j p.domain ≡ true → (step (step s j (op.New p n)).0 j (op.Len p)).1 ≡ reply.Len n
+len-after-new s j p n hs lane at held =
+    let one : (holds s j p.domain && true) ≡ true = and_from _ _ held refl in
+    let t = with_new s j p n in
+    let b = next_birth s.made j in
+    let o : Object = record { domain = p.domain; fields = replicate n Nil } in
+    let there : slot_of t p ≡ Obj b = get_or-set_same s.slots (place_of s.width p) (Obj b) Nil (place-within s p hs.slots at) in
+    let object : object_of t.made b ≡ o = object_of-with_made_same s.made j o lane in
+    ap (λ (x : State). (step x j (op.Len p)).1) (ap (λ (x : State × Reply). x.0) (step-held s j (op.New p n) one))
+    ∙ ap (λ (x : State × Reply). x.1) (step-held t j (op.Len p) one)
+    ∙ ap (λ (v : Value). (on_object t j v (λ c. (t, reply.Len (length (object_of t.made c).fields)))).1) there
+    ∙ ap (λ (x : Object). (if holds t j x.domain then (let y : State × Reply = (t, reply.Len (length x.fields)) in y) else (let y : State × Reply = (t, reply.Foreign) in y)).1) object
+    ∙ ap (λ (x : Bool). (if x then (let y : State × Reply = (t, reply.Len (length o.fields)) in y) else (let y : State × Reply = (t, reply.Foreign) in y)).1) held
+    ∙ ap reply.Len (length-replicate n Nil)
+
+-- a write to a field that was done: the lane holds the slot's domain, and the slot refers to an object of the lane's that
+-- has the field
+pub record DoneWrite (s : State) (j : ℕ) (p : Slot) (i : ℕ) : Type 0 where
   pub named : holds s j p.domain ≡ true
   pub birth : Birth
   pub slot : slot_of s p ≡ Obj birth
@@ -81,33 +99,38 @@ pub record DoneSet (s : State) (j : ℕ) (p : Slot) (i : ℕ) : Type 0 where
 abbrev choose : Bool → State × Reply → State × Reply → State × Reply
 choose t x y = if t then x else y
 
--- what a set does to an object that has the field
-abbrev set_field : State → Birth → ℕ → ℕ → State × Reply
-set_field s b i v = (with_field s b i (Num v), reply.Done)
-
 abbrev refused : State → Reply → State × Reply
 refused s r = (s, r)
 
-done-set : (s : State) (j : ℕ) (p : Slot) (i v : ℕ) → (step s j (op.Set p i v)).1 ≡ reply.Done → DoneSet s j p i
-done-set s j p i v done = first (holds s j p.domain) refl done
+-- what a write of a value does to an object that has the field
+abbrev set_field : State → Birth → ℕ → Value → State × Reply
+set_field s b i v = (with_field s b i v, reply.Done)
+
+-- what it does to a slot's object: the step of a set is this with a number, that of a cut with nil
+abbrev written : State → ℕ → Slot → ℕ → Value → State × Reply
+written s j p i v =
+    choose (holds s j p.domain && true) (on_field s j (slot_of s p) i (λ b. set_field s b i v)) (refused s reply.Foreign)
+
+done-write : (s : State) (j : ℕ) (p : Slot) (i : ℕ) (v : Value) → (written s j p i v).1 ≡ reply.Done → DoneWrite s j p i
+done-write s j p i v done = first (holds s j p.domain) refl done
   where
     -- whether the object has the field
-    fourth : (b : Birth) → holds s j p.domain ≡ true → slot_of s p ≡ Obj b → holds s j (object_of s.made b).domain ≡ true → (t : Bool) → nat_lt i (length (object_of s.made b).fields) ≡ t → (choose t (set_field s b i v) (refused s reply.Range)).1 ≡ reply.Done → DoneSet s j p i
+    fourth : (b : Birth) → holds s j p.domain ≡ true → slot_of s p ≡ Obj b → holds s j (object_of s.made b).domain ≡ true → (t : Bool) → nat_lt i (length (object_of s.made b).fields) ≡ t → (choose t (set_field s b i v) (refused s reply.Range)).1 ≡ reply.Done → DoneWrite s j p i
     fourth b named slot held true e d = record { named = named; birth = b; slot = slot; held = held; field = e }
     fourth b named slot held false e d = absurd (cc)
 
     -- whether its domain is the lane's
-    third : (b : Birth) → holds s j p.domain ≡ true → slot_of s p ≡ Obj b → (t : Bool) → holds s j (object_of s.made b).domain ≡ t → (choose t (choose (nat_lt i (length (object_of s.made b).fields)) (set_field s b i v) (refused s reply.Range)) (refused s reply.Foreign)).1 ≡ reply.Done → DoneSet s j p i
+    third : (b : Birth) → holds s j p.domain ≡ true → slot_of s p ≡ Obj b → (t : Bool) → holds s j (object_of s.made b).domain ≡ t → (choose t (choose (nat_lt i (length (object_of s.made b).fields)) (set_field s b i v) (refused s reply.Range)) (refused s reply.Foreign)).1 ≡ reply.Done → DoneWrite s j p i
     third b named slot true e d = fourth b named slot e (nat_lt i (length (object_of s.made b).fields)) refl d
     third b named slot false e d = absurd (cc)
 
     -- whether the slot holds an object
-    second : holds s j p.domain ≡ true → (x : Value) → slot_of s p ≡ x → (on_field s j x i (λ b. set_field s b i v)).1 ≡ reply.Done → DoneSet s j p i
+    second : holds s j p.domain ≡ true → (x : Value) → slot_of s p ≡ x → (on_field s j x i (λ b. set_field s b i v)).1 ≡ reply.Done → DoneWrite s j p i
     second named Nil e d = absurd (cc)
     second named (Num w) e d = absurd (cc)
     second named (Obj b) e d = third b named e (holds s j (object_of s.made b).domain) refl d
 
-    first : (t : Bool) → holds s j p.domain ≡ t → (choose (t && true) (act s j (op.Set p i v)) (refused s reply.Foreign)).1 ≡ reply.Done → DoneSet s j p i
+    first : (t : Bool) → holds s j p.domain ≡ t → (choose (t && true) (on_field s j (slot_of s p) i (λ b. set_field s b i v)) (refused s reply.Foreign)).1 ≡ reply.Done → DoneWrite s j p i
     first true e d = second e (slot_of s p) refl d
     first false e d = absurd (cc)
 
@@ -115,32 +138,105 @@ done-set s j p i v done = first (holds s j p.domain) refl done
 abbrev load_field : State → Birth → ℕ → Slot → State × Reply
 load_field t b i q = (with_slot t q (field_of t b i), loaded (field_of t b i))
 
-pub load-after-set : (s : State) (j : ℕ) (p q : Slot) (i v : ℕ) → IsState s → (step s j (op.Set p i v)).1 ≡ reply.Done → holds s j q.domain ≡ true → (step (step s j (op.Set p i v)).0 j (op.Load p i q)).1 ≡ reply.Num v
-load-after-set s j p q i v hs done held-q =
-    let d = done-set s j p i v done in
+-- the load puts what was written into its slot
+loaded-write : (s : State) (j : ℕ) (p q : Slot) (i : ℕ) (v : Value) → IsState s → (d : DoneWrite s j p i) → holds s j q.domain ≡ true → step (written s j p i v).0 j (op.Load p i q) ≡ (with_slot (with_field s d.birth i v) q v, loaded v)
+loaded-write s j p q i v hs d held-q =
     let b = d.birth in
-    let t : State = with_field s b i (Num v) in
-    let o : Object = with_value (object_of s.made b) i (Num v) in
+    let t : State = with_field s b i v in
+    let o : Object = with_value (object_of s.made b) i v in
     let born : IsBorn s.made b = subst (λ (x : Value). IsValue s.made x) d.slot (hs.values (place_of s.width p)) in
     let there : object_of t.made b ≡ o = object_of-with_object_same s.made b o born in
     let has : State → Bool = λ x. nat_lt i (length (object_of x.made b).fields) in
-    let first : (step s j (op.Set p i v)).0 ≡ t =
-    ap (λ (x : State × Reply). x.0) (step-held s j (op.Set p i v) (and_from _ _ d.named refl))
+    let first : (written s j p i v).0 ≡ t =
+    ap (λ (x : Bool). (choose x (on_field s j (slot_of s p) i (λ c. set_field s c i v)) (refused s reply.Foreign)).0) (and_from _ _ d.named refl)
     ∙ ap (λ (x : Value). (on_field s j x i (λ c. set_field s c i v)).0) d.slot
     ∙ ap (λ (x : Bool). (choose x (choose (has s) (set_field s b i v) (refused s reply.Range)) (refused s reply.Foreign)).0) d.held
     ∙ ap (λ (x : Bool). (choose x (set_field s b i v) (refused s reply.Range)).0) d.field in
     let domain : holds t j (object_of t.made b).domain ≡ true = ap (λ (x : Object). holds s j x.domain) there ∙ d.held in
     let field : has t ≡ true =
-    ap (λ (x : Object). nat_lt i (length x.fields)) there ∙ ap (nat_lt i) (length-set (object_of s.made b).fields i (Num v)) ∙ d.field in
-    let value : field_of t b i ≡ Num v =
+    ap (λ (x : Object). nat_lt i (length x.fields)) there ∙ ap (nat_lt i) (length-set (object_of s.made b).fields i v) ∙ d.field in
+    let value : field_of t b i ≡ v =
     ap (λ (x : Object). slice_index_or x.fields i Nil) there
-    ∙ get_or-set_same (object_of s.made b).fields i (Num v) Nil (ltb-true i (length (object_of s.made b).fields) d.field) in
-    ap (λ (x : State). (step x j (op.Load p i q)).1) first
-    ∙ ap (λ (x : State × Reply). x.1) (step-held t j (op.Load p i q) (and_from _ _ d.named (and_from _ _ held-q refl)))
-    ∙ ap (λ (x : Value). (on_field t j x i (λ c. load_field t c i q)).1) d.slot
-    ∙ ap (λ (x : Bool). (choose x (choose (has t) (load_field t b i q) (refused t reply.Range)) (refused t reply.Foreign)).1) domain
-    ∙ ap (λ (x : Bool). (choose x (load_field t b i q) (refused t reply.Range)).1) field
-    ∙ ap loaded value
+    ∙ get_or-set_same (object_of s.made b).fields i v Nil (ltb-true i (length (object_of s.made b).fields) d.field) in
+    ap (λ (x : State). step x j (op.Load p i q)) first
+    ∙ step-held t j (op.Load p i q) (and_from _ _ d.named (and_from _ _ held-q refl))
+    ∙ ap (λ (x : Value). on_field t j x i (λ c. load_field t c i q)) d.slot
+    ∙ ap (λ (x : Bool). choose x (choose (has t) (load_field t b i q) (refused t reply.Range)) (refused t reply.Foreign)) domain
+    ∙ ap (λ (x : Bool). choose x (load_field t b i q) (refused t reply.Range)) field
+    ∙ ap (λ (x : Value). (with_slot t q x, loaded x)) value
+
+load-after-write : (s : State) (j : ℕ) (p q : Slot) (i : ℕ) (v : Value) → IsState s → (written s j p i v).1 ≡ reply.Done → holds s j q.domain ≡ true → (step (written s j p i v).0 j (op.Load p i q)).1 ≡ loaded v
+load-after-write s j p q i v hs done held-q = ap (λ (x : State × Reply). x.1) (loaded-write s j p q i v hs (done-write s j p i v done) held-q)
+
+pub load-after-set : (s : State) (j : ℕ) (p q : Slot) (i v : ℕ) → IsState s → (step s j (op.Set p i v)).1 ≡ reply.Done → holds s j q.domain ≡ true → (step (step s j (op.Set p i v)).0 j (op.Load p i q)).1 ≡ reply.Num v
+load-after-set s j p q i v hs done held-q = load-after-write s j p q i (Num v) hs done held-q
+
+pub load-after-cut : (s : State) (j : ℕ) (p q : Slot) (i : ℕ) → IsState s → (step s j (op.Cut p i)).1 ≡ reply.Done → holds s j q.domain ≡ true → (step (step s j (op.Cut p i)).0 j (op.Load p i q)).1 ≡ reply.Nil
+load-after-cut s j p q i hs done held-q = load-after-write s j p q i Nil hs done held-q
+
+-- a link that was done is a write of what its second slot holds
+linked-held : (s : State) (j : ℕ) (p : Slot) (i : ℕ) (q : Slot) → (step s j (op.Link p i q)).1 ≡ reply.Done → holds s j q.domain ≡ true
+linked-held s j p i q done = go (holds s j p.domain) (holds s j q.domain) refl done
+  where
+    go : (a b : Bool) → holds s j q.domain ≡ b → (choose (a && (b && true)) (on_field s j (slot_of s p) i (λ c. set_field s c i (slot_of s q))) (refused s reply.Foreign)).1 ≡ reply.Done → holds s j q.domain ≡ true
+    go a true e d = e
+    go true false e d = absurd (cc)
+    go false false e d = absurd (cc)
+
+linked-write : (s : State) (j : ℕ) (p : Slot) (i : ℕ) (q : Slot) → holds s j q.domain ≡ true → step s j (op.Link p i q) ≡ written s j p i (slot_of s q)
+linked-write s j p i q held =
+    ap (λ (b : Bool). choose (holds s j p.domain && (b && true)) (on_field s j (slot_of s p) i (λ c. set_field s c i (slot_of s q))) (refused s reply.Foreign)) held
+
+loaded-link : (s : State) (j : ℕ) (p q r : Slot) (i : ℕ) → IsState s → (step s j (op.Link p i q)).1 ≡ reply.Done → holds s j r.domain ≡ true → (b : Birth) × (step (step s j (op.Link p i q)).0 j (op.Load p i r) ≡ (with_slot (with_field s b i (slot_of s q)) r (slot_of s q), loaded (slot_of s q)))
+loaded-link s j p q r i hs done held-r =
+    let v : Value = slot_of s q in
+    let write = linked-write s j p i q (linked-held s j p i q done) in
+    let d = done-write s j p i v (ap (λ (x : State × Reply). x.1) (sym write) ∙ done) in
+    (d.birth, ap (λ (x : State × Reply). step x.0 j (op.Load p i r)) write ∙ loaded-write s j p r i v hs d held-r)
+
+pub load-after-link : (s : State) (j : ℕ) (p q r : Slot) (i : ℕ) → IsState s → (step s j (op.Link p i q)).1 ≡ reply.Done → holds s j r.domain ≡ true → (step (step s j (op.Link p i q)).0 j (op.Load p i r)).1 ≡ loaded (slot_of s q)
+load-after-link s j p q r i hs done held-r = ap (λ (x : State × Reply). x.1) (loaded-link s j p q r i hs done held-r).1
+
+pub slot-after-link : (s : State) (j : ℕ) (p q r : Slot) (i : ℕ) → IsState s → IsSlot (sizes_of s) r → (step s j (op.Link p i q)).1 ≡ reply.Done → holds s j r.domain ≡ true → slot_of (step (step s j (op.Link p i q)).0 j (op.Load p i r)).0 r ≡ slot_of s q
+slot-after-link s j p q r i hs at done held-r =
+    ap (λ (x : State × Reply). slot_of x.0 r) (loaded-link s j p q r i hs done held-r).1
+    ∙ get_or-set_same s.slots (place_of s.width r) (slot_of s q) Nil (place-within s r hs.slots at)
+
+pub who-after-clear : (s : State) (j : ℕ) (p : Slot) → IsState s → IsSlot (sizes_of s) p → holds s j p.domain ≡ true → (step (step s j (op.Clear p)).0 j (op.Who p)).1 ≡ reply.Nil
+who-after-clear s j p hs at held =
+    let one : (holds s j p.domain && true) ≡ true = and_from _ _ held refl in
+    let t : State = with_slot s p Nil in
+    let there : slot_of t p ≡ Nil = get_or-set_same s.slots (place_of s.width p) Nil Nil (place-within s p hs.slots at) in
+    ap (λ (x : State). (step x j (op.Who p)).1) (ap (λ (x : State × Reply). x.0) (step-held s j (op.Clear p) one))
+    ∙ ap (λ (x : State × Reply). x.1) (step-held t j (op.Who p) one)
+    ∙ ap (told t j) there
+
+is_same-itself : (v : Value) → is_same v v ≡ true
+is_same-itself Nil = refl
+is_same-itself (Num v) = eq-eqb v v refl
+is_same-itself (Obj b) = and_from _ _ (eq-eqb b.lane b.lane refl) (eq-eqb b.serial b.serial refl)
+
+pub same-after-copy : (s : State) (j : ℕ) (p q : Slot) → IsState s → IsSlot (sizes_of s) q → holds s j p.domain ≡ true → holds s j q.domain ≡ true → (step (step s j (op.Copy p q)).0 j (op.Same p q)).1 ≡ reply.Yes
+same-after-copy s j p q hs at held-p held-q =
+    let both : (holds s j p.domain && (holds s j q.domain && true)) ≡ true = and_from _ _ held-p (and_from _ _ held-q refl) in
+    let v : Value = slot_of s p in
+    let t : State = with_slot s q v in
+    let second : slot_of t q ≡ v = get_or-set_same s.slots (place_of s.width q) v Nil (place-within s q hs.slots at) in
+    let first : slot_of t p ≡ v = elim (cases_eq (place_of s.width p) (place_of s.width q)) [
+      | inl e ↦ ap (λ (k : ℕ). slice_index_or t.slots k Nil) e ∙ second
+      | inr ne ↦ get_or-set_other s.slots (place_of s.width q) (place_of s.width p) v Nil ne
+    ] in
+    ap (λ (x : State). (step x j (op.Same p q)).1) (ap (λ (x : State × Reply). x.0) (step-held s j (op.Copy p q) both))
+    ∙ ap (λ (x : State × Reply). x.1) (step-held t j (op.Same p q) both)
+    ∙ ap₂ (λ (x y : Value). if is_same x y then reply.Yes else reply.No) first second
+    ∙ ap (λ (x : Bool). if x then reply.Yes else reply.No) (is_same-itself v)
+
+-- a give writes one holder
+pub holder-given : (s : State) (g : Give) (j : ℕ) → g.domain < length s.holders → holds (given s g) j g.domain ≡ (g.lane == j)
+holder-given s g j h = ap (λ (x : ℕ). x == j) (get_or-set_same s.holders g.domain g.lane 0 h)
+
+pub other-holder-given : (s : State) (g : Give) (j d : ℕ) → d ≢ g.domain → holds (given s g) j d ≡ holds s j d
+other-holder-given s g j d ne = ap (λ (x : ℕ). x == j) (get_or-set_other s.holders g.domain d g.lane 0 ne)
 
 -- a cut at the ends of all lanes
 pub cut_lanes-whole : (lanes : List (List Op)) → cut_lanes (map length lanes) lanes ≡ lanes

@@ -9,3 +9,4 @@ pub mod Run
 pub mod Reached
 pub mod Need
 pub mod Interleaving
+pub mod Making

@@ -1,7 +1,7 @@
 -- What an operation does, and what it is answered. The tests come in this order, and the first that holds gives the
 -- reply and leaves the state as it was: a domain that the operation names isn't the lane's; the slot holds no object; the
 -- object's domain isn't the lane's; the object has no such field.
-use Rattle.std.specs.Prelude.{ℕ, ◌==◌, ◌&&◌, nat_lt, Bool, true, false, if◌then◌else◌, List, [], ◌∷◌, length, replicate}
+use Rattle.std.specs.Prelude.{◌≡◌, ◌⊎◌, ℕ, ◌==◌, ◌&&◌, nat_lt, Bool, true, false, if◌then◌else◌, List, [], ◌∷◌, length, replicate}
 use Rattle.std.specs.List.{list_all}
 use Rattle.bc_model.specs.State.{State, object_of, with_made, next_birth, slot_of, with_slot, field_of, with_field, holds}
 use Rattle.bc_model.specs.declared.operations.Op.{Op}
@@ -76,3 +76,7 @@ act s j (op.Same p q) = (s, if is_same (slot_of s p) (slot_of s q) then reply.Ye
 
 abbrev pub step : State → ℕ → Op → State × Reply
 step s j o = if list_all (holds s j) (domains_of o) then act s j o else (s, reply.Foreign)
+
+-- the reply says that the operation isn't done: no object, no such field, or a domain that isn't the lane's
+abbrev pub IsRefusal : Reply → Type 0
+IsRefusal r = (r ≡ reply.NotObj) ⊎ (r ≡ reply.Range) ⊎ (r ≡ reply.Foreign)

@@ -1,6 +1,7 @@
 //! Laws of states, steps and runs. Each is the contract of a function that does nothing.
 
-ghost use Rattle.std.specs.Prelude.{◌≡◌, ℕ, ◌+◌, ◌*◌, ◌<◌, ◌≤◌, ◌↔◌, ◌≢◌, List, false, length, map, true};
+ghost use Rattle.std.specs.List.{AllByRecursion};
+ghost use Rattle.std.specs.Prelude.{◌≡◌, ℕ, ◌+◌, ◌*◌, ◌<◌, ◌≤◌, ◌↔◌, ◌≢◌, ◌==◌, List, [], false, length, map, slice_index_or, take, true};
 ghost use Rattle.bc_classes.specs.Classes.{IsClass, cap};
 ghost use Rattle.bc_model.specs.Consistent.{HasSizes, IsState, sizes_of};
 ghost use Rattle.bc_model.specs.Grows.{Grows};
@@ -8,9 +9,9 @@ ghost use Rattle.bc_model.specs.Interleaving.{after_steps, Commute, FitSteps, Is
 ghost use Rattle.bc_model.specs.Lists.{PhaseLists, TraceLists};
 ghost use Rattle.bc_model.specs.Need.{IsNeed, superpages_for};
 ghost use Rattle.bc_model.specs.Reached.{HasPath, Reached};
-ghost use Rattle.bc_model.specs.Run.{after_cut, before, cut_lanes};
+ghost use Rattle.bc_model.specs.Run.{after_cut, before, cut_lanes, replies_of, replies_of_cut, replies_to_lanes};
 ghost use Rattle.bc_model.specs.State.{given, holds, IsBorn, next_birth, Object, object_of, slot_of, State};
-ghost use Rattle.bc_model.specs.Step.{step};
+ghost use Rattle.bc_model.specs.Step.{IsRefusal, loaded, step};
 ghost use Rattle.bc_model.specs.WellFormed.{IsOp, IsPhase, IsSlot, IsTrace};
 ghost use Rattle.bc_model.specs.declared.operations.Op.{Op};
 ghost use Rattle.bc_model.specs.declared.operations.Reply.{Reply};
@@ -58,11 +59,61 @@ pub fn law_who_after_new()
         → (step (step s j (Op.New p n)).0 j (Op.Who p)).1 ≡ Reply.Obj (next_birth s.made j) }
 {}
 
+/// Law: the length of a slot's object after a `new` into it is the number of fields that it asked for.
+pub fn law_len_after_new()
+    ensures { (s : State) → (j : ℕ) → (p : Slot) → (n : ℕ) → IsState s → j < length s.made → IsSlot (sizes_of s) p
+        → holds s j p.domain ≡ true → (step (step s j (Op.New p n)).0 j (Op.Len p)).1 ≡ Reply.Len n }
+{}
+
+/// Law: an operation that is refused changes nothing, whatever the state.
+pub fn law_refused_changes_nothing()
+    ensures { (s : State) → (j : ℕ) → (o : Op) → IsRefusal (step s j o).1 → (step s j o).0 ≡ s }
+{}
+
 /// Law: what is loaded from a field after a `set` of it is the number.
 pub fn law_load_after_set()
     ensures { (s : State) → (j : ℕ) → (p q : Slot) → (i v : ℕ) → IsState s → (step s j (Op.Set p i v)).1 ≡ Reply.Done
         → holds s j q.domain ≡ true
         → (step (step s j (Op.Set p i v)).0 j (Op.Load p i q)).1 ≡ Reply.Num v }
+{}
+
+/// Law: what is loaded from a field after a `cut` of it is nil.
+pub fn law_load_after_cut()
+    ensures { (s : State) → (j : ℕ) → (p q : Slot) → (i : ℕ) → IsState s → (step s j (Op.Cut p i)).1 ≡ Reply.Done
+        → holds s j q.domain ≡ true
+        → (step (step s j (Op.Cut p i)).0 j (Op.Load p i q)).1 ≡ Reply.Nil }
+{}
+
+/// Law: after a `link` that was done, what is loaded from the field is what the second slot held.
+pub fn law_load_after_link()
+    ensures reply { (s : State) → (j : ℕ) → (p q r : Slot) → (i : ℕ) → IsState s → (step s j (Op.Link p i q)).1 ≡ Reply.Done
+        → holds s j r.domain ≡ true
+        → (step (step s j (Op.Link p i q)).0 j (Op.Load p i r)).1 ≡ loaded (slot_of s q) }
+    ensures slot { (s : State) → (j : ℕ) → (p q r : Slot) → (i : ℕ) → IsState s → IsSlot (sizes_of s) r
+        → (step s j (Op.Link p i q)).1 ≡ Reply.Done → holds s j r.domain ≡ true
+        → slot_of (step (step s j (Op.Link p i q)).0 j (Op.Load p i r)).0 r ≡ slot_of s q }
+{}
+
+/// Law: who a slot is after a `clear` of it is nil.
+pub fn law_who_after_clear()
+    ensures { (s : State) → (j : ℕ) → (p : Slot) → IsState s → IsSlot (sizes_of s) p → holds s j p.domain ≡ true
+        → (step (step s j (Op.Clear p)).0 j (Op.Who p)).1 ≡ Reply.Nil }
+{}
+
+/// Law: after a `copy` both slots hold the same.
+pub fn law_same_after_copy()
+    ensures { (s : State) → (j : ℕ) → (p q : Slot) → IsState s → IsSlot (sizes_of s) q → holds s j p.domain ≡ true
+        → holds s j q.domain ≡ true
+        → (step (step s j (Op.Copy p q)).0 j (Op.Same p q)).1 ≡ Reply.Yes }
+{}
+
+/// Law: after a give the domain is the lane's and no other's, every other domain is whose it was, and nothing else
+/// has changed.
+pub fn law_holder_after_give()
+    ensures domain { (s : State) → (g : Give) → (j : ℕ) → g.domain < length s.holders
+        → holds (given s g) j g.domain ≡ (g.lane == j) }
+    ensures others { (s : State) → (g : Give) → (j d : ℕ) → d ≢ g.domain → holds (given s g) j d ≡ holds s j d }
+    ensures rest { (s : State) → (g : Give) → given s g ≡ record s { holders = (given s g).holders } }
 {}
 
 /// Law: what is true of every state is true in each part of a run of a well-formed trace, and the sizes are
@@ -71,6 +122,18 @@ pub fn law_states_of_a_run()
     ensures before { (t : TraceLists) → (k : ℕ) → IsTrace t → IsState (before t k) × HasSizes t.setup (before t k) }
     ensures cut { (t : TraceLists) → (k : ℕ) → (cut : List ℕ) → IsTrace t
         → IsState (after_cut t k cut) × HasSizes t.setup (after_cut t k cut) }
+{}
+
+/// Law: each lane is answered in a cut of a phase the first of the replies that it is answered in the whole phase, as
+/// many as the cut has operations of it. So in a phase of a run of a well-formed trace, and in one from any state.
+pub fn law_cut_is_front()
+    ensures phase { (s : State) → (lanes : List (List Op)) → (cut : List ℕ) → (j : ℕ) → IsState s → length lanes ≤ length s.made
+        → AllByRecursion (AllByRecursion (IsOp (sizes_of s))) lanes
+        → slice_index_or (replies_to_lanes s 0 (cut_lanes cut lanes)) j []
+        ≡ take (slice_index_or cut j 0) (slice_index_or (replies_to_lanes s 0 lanes) j []) }
+    ensures run { (t : TraceLists) → (k : ℕ) → (cut : List ℕ) → (j : ℕ) → IsTrace t
+        → slice_index_or (replies_of_cut t k cut) j []
+        ≡ take (slice_index_or cut j 0) (slice_index_or (slice_index_or (replies_of t) k []) j []) }
 {}
 
 /// Law: a cut at the ends of all lanes leaves the lanes whole.
@@ -86,6 +149,11 @@ pub fn law_phase_fits()
 /// Law: an object is reached where some slot and some list of field numbers lead to it, and nowhere else.
 pub fn law_reached_by_paths()
     ensures { (slots : List Value) → (made : List (List Object)) → (b : Birth) → Reached slots made b ↔ HasPath slots made b }
+{}
+
+/// Law: every state has a need.
+pub fn law_has_need()
+    ensures { (s : State) → IsState s → (n : ℕ) × IsNeed s n }
 {}
 
 /// Law: a state has one need.

@@ -27,6 +27,7 @@ mod tests;
 mod traces;
 mod values;
 
+pub use opening::first_holders;
 pub use operations::{Op, Reply};
 pub use plain_heap::Flat;
 pub use traces::{Give, Phase, Replies, Setup, Trace};

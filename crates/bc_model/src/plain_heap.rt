@@ -2,6 +2,7 @@ ghost use Rattle.std.specs.Prelude.{◌≡◌, ℕ, ◌+◌, ◌*◌, ◌^◌, �
 ghost use Rattle.std.specs.List.{list_all};
 ghost use Rattle.bc_model.specs.Consistent.{IsState, IsValue, sizes_of, HasSizes, HasSerials};
 ghost use Rattle.bc_model.specs.State.{State, IsBorn, made_by, given, holds, field_of, object_of, slot_of, with_field, with_slot};
+ghost use Rattle.bc_model.specs.Making.{IsNew};
 ghost use Rattle.bc_model.specs.Step.{act, domains_of, is_same, loaded, on_field, on_object, step};
 ghost use Rattle.bc_model.specs.Run.{opening};
 ghost use Rattle.bc_model.specs.WellFormed.{IsField, IsNumber, IsOp, IsSetup, IsSlot};
@@ -76,6 +77,7 @@ impl Flat {
         requires serials { length (made_by self.old.made lane) + 1 < 2 ^ 32 }
         ensures ok { IfOk result (λ reply. (self.new, reply) ≡ step self.old lane op.now) }
         ensures err { OnErr result (self.new ≡ self.old) }
+        ensures only_new { OnErr result (IsNew op.now) }
 
         // What the next step asks: the sizes stay, and at most one object more was made.
         ensures sizes { sizes_of self.new ≡ sizes_of self.old }
@@ -94,6 +96,7 @@ impl Flat {
         requires serials { length (made_by self.old.made lane) + 1 < 2 ^ 32 }
         ensures ok { IfOk result (λ reply. (self.new, reply) ≡ act self.old lane op.now) }
         ensures err { OnErr result (self.new ≡ self.old) }
+        ensures only_new { OnErr result (IsNew op.now) }
     {
         match *op {
             Op::New(slot, fields) => self.make(alloc, lane, slot, fields),

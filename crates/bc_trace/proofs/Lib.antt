@@ -16,3 +16,5 @@ pub mod Shapes
 pub mod Lengths
 pub mod Answered
 pub mod Endings
+pub mod Shown
+pub mod Fitting

@@ -1,12 +1,16 @@
 // What the definitions say together. These functions do nothing: their contracts are the laws.
-ghost use Rattle.std.specs.Prelude.{◌≡◌, ◌⊎◌, ◌↔◌, ℕ, List};
+ghost use Rattle.std.specs.List.{AllByRecursion};
+ghost use Rattle.std.specs.Prelude.{◌≡◌, ◌⊎◌, ◌↔◌, ◌++◌, ◌<◌, ◌^◌, ℕ, List};
 ghost use Rattle.bc_model.specs.Lists.{TraceLists};
+ghost use Rattle.bc_model.specs.Run.{all_ops_of, replies_of, replies_of_cut};
 ghost use Rattle.bc_model.specs.WellFormed.{IsTrace};
+ghost use Rattle.bc_model.specs.declared.operations.Reply.{Reply};
 ghost use Rattle.bc_trace.specs.declared.fault.Cause.{Cause};
 ghost use Rattle.bc_trace.specs.declared.words.Word.{Word};
 ghost use Rattle.bc_trace.specs.Lines.{Line, trace_text, Spells};
 ghost use Rattle.bc_trace.specs.Grammar.{start, MayStand, after_all, Follow, Begins, GoesOn};
 ghost use Rattle.bc_trace.specs.Faults.{Fault};
+ghost use Rattle.bc_trace.specs.Replies.{reply_text, phase_text, phases_text, out_of_heap_text, FitsReply, FitsPhase, IsEnding};
 
 /// A text spells at most one trace.
 pub fn one_trace()
@@ -34,4 +38,20 @@ pub fn first_lines()
 /// A word may stand behind lines that pass exactly where some well-formed trace goes on with it.
 pub fn next_word()
     ensures { (before : List Line) (w : Word) → Follow start before → (MayStand (after_all start before) w ↔ GoesOn before w) }
+{}
+
+/// A line shows its reply, the text of a phase the replies of each lane, a whole output those of each phase and how it ends,
+/// and the line of the need the number, where the numbers fit a `u64`.
+pub fn one_reply()
+    ensures line { (r q : Reply) → FitsReply r → FitsReply q → reply_text r ≡ reply_text q → r ≡ q }
+    ensures phase { (k : ℕ) (ps qs : List (List Reply)) → FitsPhase ps → FitsPhase qs → phase_text k ps ≡ phase_text k qs → ps ≡ qs }
+    ensures output { (k : ℕ) (ps qs : List (List (List Reply))) (x y : List ℕ) → AllByRecursion FitsPhase ps → AllByRecursion FitsPhase qs
+        → IsEnding x → IsEnding y → phases_text k ps ++ x ≡ phases_text k qs ++ y → (ps ≡ qs) × (x ≡ y) }
+    ensures need { (m n : ℕ) → m < 2 ^ 64 → n < 2 ^ 64 → out_of_heap_text m ≡ out_of_heap_text n → m ≡ n }
+{}
+
+/// The numbers in the replies of a run of a well-formed trace of fewer than 2 ^ 32 operations fit, and so do those of a cut.
+pub fn replies_fit()
+    ensures run { (t : TraceLists) → IsTrace t → all_ops_of t < 2 ^ 32 → AllByRecursion FitsPhase (replies_of t) }
+    ensures cut { (t : TraceLists) (k : ℕ) (cut : List ℕ) → IsTrace t → all_ops_of t < 2 ^ 32 → FitsPhase (replies_of_cut t k cut) }
 {}

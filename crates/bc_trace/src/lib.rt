@@ -33,7 +33,7 @@ mod words;
 mod writing;
 
 pub use fault::{Cause, ReadTrace, TraceFault};
-pub use laws::{first_lines, next_word, one_fault, one_text, one_trace};
+pub use laws::{first_lines, next_word, one_fault, one_reply, one_text, one_trace, replies_fit};
 pub use reading::read;
 pub use replies::{phase_text, reply_line};
 pub use writing::write;
