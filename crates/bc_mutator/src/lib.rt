@@ -19,7 +19,7 @@
 // recorded field is written again its entry stays, so an entry may name a field that refers to no chunk.
 //
 // An operation stops, and has changed nothing, exactly where a new object's words are more than what is left of the
-// chunk, and where a field would have to be recorded and the buffer is at capacity. It is done again after a collection.
+// chunk, and only where a field would have to be recorded and the buffer is at capacity. It is done again after a collection.
 //
 // No operation takes memory or walks over the heap. That births stay different needs one fact of the caller's: no
 // object has a later birth of the lane than its last (`NoneLater`), which `operate` keeps and `law_births` gives.

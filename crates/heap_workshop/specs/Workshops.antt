@@ -1,19 +1,20 @@
 -- A heap to be worked on by tests and benches.
-use Rattle.std.specs.Prelude.{◌≡◌, ℕ, ◌+◌, ◌*◌, ◌%◌, ◌<◌, ◌≤◌, false, List, [], length, map, replicate, slice_index, slice_index_or, Some}
+use Rattle.std.specs.Prelude.{◌≡◌, ℕ, ◌+◌, ◌*◌, ◌%◌, ◌<◌, ◌≤◌, false, List, length, map, replicate, slice_index, slice_index_or, Some}
 use Rattle.std.specs.List.{sum_by}
 use Rattle.bc_bits.specs.Bits.{has}
 use Rattle.bc_bits.specs.Counting.{count_below}
 use Rattle.bc_cycle.specs.Emptying.{Parts}
+use Rattle.bc_cycle.specs.Openings.{new_heap}
 use Rattle.bc_cycle.specs.declared.heaps.Heap.{Heap}
 use Rattle.bc_heap.specs.Heaps.{HasFrames, heap_memory}
 use Rattle.bc_heap.specs.Running.{IsRunning, StandsAs}
 use Rattle.bc_model.specs.State.{State, numbers_below}
+use Rattle.bc_model.specs.declared.traces.Setup.{Setup}
 use Rattle.bc_model.specs.declared.values.Birth.{Birth}
 use Rattle.bc_mutator.specs.Operations.{NoneLater}
 use Rattle.bc_nursery.specs.Entries.{Entries}
 use Rattle.bc_nursery.specs.Objects.{Nursery}
 use Rattle.bc_standing.specs.Standing.{births}
-use Rattle.bc_superpages.specs.Calls.{opening}
 use Rattle.bc_superpages.specs.Layout.{Layout, superpages, set_of}
 use Rattle.bc_superpages.specs.RootWords.{RootWords}
 use Rattle.heap_workshop.specs.declared.workshops.Sizes.{Sizes}
@@ -55,20 +56,30 @@ pub record AreSizes (z : Sizes) : Type 0 where
   pub superpages : z.superpages ≤ 4096
   pub nursery : z.nursery ≤ 4096
 
--- the chunk of a lane at the opening: chunks follow one another behind the superpages
-abbrev pub new_chunk : Sizes → ℕ → Nursery
-new_chunk z lane = record { base = 2048 * z.superpages + 512 * z.nursery * lane; words = 512 * z.nursery; objects = [] }
+-- the setup of these sizes, with a frame for every page
+abbrev pub setup_of : Sizes → Setup
+setup_of z = record {
+  lanes = z.lanes;
+  domains = z.domains;
+  slots = z.slots;
+  superpages = z.superpages;
+  nursery = z.nursery;
+  buffer = z.buffer;
+  frames = z.lanes * z.nursery + 4 * z.superpages;
+}
 
 -- a workshop that opens: no object, every slot nil, a frame for every page, and domain d is held by lane d % lanes
 abbrev pub new_workshop : Sizes → Bench
-new_workshop z = record {
-  space = opening z.superpages (z.lanes * z.nursery + 4 * z.superpages) (z.lanes * z.nursery);
-  roots = record { domains = z.domains; slots = z.slots; words = replicate (z.domains * z.slots) 0 };
-  chunks = map (new_chunk z) (numbers_below z.lanes);
-  buffers = replicate z.lanes (record { capacity = z.buffer; entries = [] });
-  holders = map (λ d. d % z.lanes) (numbers_below z.domains);
-  serials = replicate z.lanes 0;
-}
+new_workshop z =
+    let h = new_heap (setup_of z) in
+    record {
+      space = h.space;
+      roots = h.roots;
+      chunks = h.chunks;
+      buffers = h.buffers;
+      holders = map (λ d. d % z.lanes) (numbers_below z.domains);
+      serials = replicate z.lanes 0;
+    }
 
 -- what a collection leaves: a heap that is running, in which no birth comes from nowhere, and as many frames and lanes
 pub record Collects (s : Layout) (r : RootWords) (cs : List Nursery) (t : Layout) (q : RootWords) (ds : List Nursery) (es : List Entries) (hs : List ℕ) : Type 0 where
