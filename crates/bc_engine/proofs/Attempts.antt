@@ -4,7 +4,7 @@ use Rattle.std.proofs.lemmas.List.{set-get_or}
 use Rattle.std.specs.Result.{IfOk, OnErr}
 use Rattle.std.specs.Prelude.{IsErrOf}
 use Rattle.bc_classes.proofs.ClassLemmas.{class_of-class}
-use Rattle.bc_cycle.specs.Emptying.{Parts, IsInOrder}
+use Rattle.bc_cycle.specs.Emptying.{Parts, IsInOrder, parts_of}
 use Rattle.bc_cycle.specs.declared.heaps.Heap.{Heap}
 use Rattle.bc_heap.specs.Closed.{chunk_of, buffer_of}
 use Rattle.bc_model.specs.State.{State}
@@ -23,7 +23,7 @@ use Rattle.bc_nursery.specs.Objects.{Nursery, left_of, words_of}
 use Rattle.bc_superpages.specs.Layout.{Layout}
 use Rattle.bc_superpages.specs.RootWords.{RootWords}
 use Rattle.bc_engine.specs.Engines.{IsReady, Stands}
-use Rattle.bc_engine.specs.Lanes.{parts_of, Does, IsHeldUp, Stops}
+use Rattle.bc_engine.specs.Lanes.{Does, IsHeldUp, Stops}
 use Rattle.bc_engine.proofs.Sizes.{StaysBut, fits-step, op-of_state, none-young}
 
 -- what the operation is to every state that the heap stands for

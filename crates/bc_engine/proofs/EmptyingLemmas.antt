@@ -1,20 +1,22 @@
 -- What an emptying of the nurseries, or its refusal, means to an engine.
-use Rattle.std.proofs.Common.{◌≡◌, ℕ, List, length, map, sym, ap, subst, ◌∙◌}
+use Rattle.std.proofs.Common.{◌≡◌, ℕ, List, slice_index, length, map, sym, ap, subst, ◌∙◌}
 use Rattle.std.proofs.Math.ListN.{get_or-map}
 use Rattle.std.proofs.lemmas.List.{length-map}
+use Rattle.bc_bits.specs.Bits.{has}
 use Rattle.bc_cycle.specs.Emptying.{Parts, IsEmptied, IsAsBefore, bare_chunk}
-use Rattle.bc_failsafe.specs.Packing.{NeedOfHeap, without_entries}
+use Rattle.bc_failsafe.specs.Packing.{NeedOfHeap}
 use Rattle.bc_heap.specs.Closed.{chunk_of, buffer_of, no_buffer}
 use Rattle.bc_heap.specs.Heaps.{heap_memory, root_words, no_chunk}
 use Rattle.bc_memory.specs.Memory.{Memory}
 use Rattle.bc_model.specs.State.{State}
 use Rattle.bc_model.specs.declared.traces.Setup.{Setup}
-use Rattle.bc_nursery.specs.Entries.{Entries}
+use Rattle.bc_nursery.specs.Entries.{Entries, without_entries}
 use Rattle.bc_nursery.specs.Objects.{Nursery, emptied}
 use Rattle.bc_standing.specs.Standing.{StandsFor, AllBorn}
 use Rattle.bc_promotion.specs.Promises.{HasDomainsBelow}
+use Rattle.bc_superpages.specs.Layout.{Layout, set_of}
 use Rattle.bc_superpages.specs.RootWords.{RootWords}
-use Rattle.bc_engine.specs.Engines.{HasEmptyChunks, HasSetup, IsReady, IsUnrecorded, Stands}
+use Rattle.bc_engine.specs.Engines.{HasEmptyChunks, HasSetup, IsReady, IsUnbookmarked, IsUnrecorded, Stands}
 
 chunk-emptied : (cs : List Nursery) (l : ℕ) → chunk_of (map emptied cs) l ≡ emptied (chunk_of cs l)
 chunk-emptied cs l = get_or-map emptied cs l no_chunk
@@ -56,6 +58,13 @@ used-kept : (setup : Setup) (h k : Parts) → h.roots.domains ≡ setup.domains 
 used-kept setup h k domains keeps used =
     subst (λ (n : ℕ). HasDomainsBelow k.space n) domains (keeps (subst (λ (n : ℕ). HasDomainsBelow h.space n) (sym domains) used))
 
+-- what nothing bookmarks, where bookmarks and counters stay
+unbookmarked-kept : (s t : Layout) → t.bookmarks ≡ s.bookmarks → t.incoming ≡ s.incoming → IsUnbookmarked s → IsUnbookmarked t
+unbookmarked-kept s t bookmarks incoming none = record {
+  bookmarks = λ q b. ap (λ (sets : List (List ℕ)). has (set_of sets q) b) bookmarks ∙ none.bookmarks q b;
+  incoming = λ q. ap (λ (ns : List ℕ). slice_index ns q) incoming ∙ none.incoming q;
+}
+
 fits-emptied : (setup : Setup) (h k : Parts) → IsEmptied h k → HasSetup h setup → HasSetup k setup
 fits-emptied setup h k is fits = record {
   supers = is.sizes.supers ∙ fits.supers;
@@ -67,6 +76,7 @@ fits-emptied setup h k is fits = record {
   nursery = is.sizes.nursery ∙ fits.nursery;
   frames = is.sizes.frames ∙ fits.frames;
   used = used-kept setup h k fits.domains is.domains fits.used;
+  unbookmarked = unbookmarked-kept h.space k.space is.sizes.bookmarks is.sizes.incoming fits.unbookmarked;
 }
 
 pub ready-emptied : (setup : Setup) (hs serials : List ℕ) (h k : Parts) → IsEmptied h k → IsReady setup hs serials h → IsReady setup hs serials k
@@ -106,6 +116,7 @@ ready-before setup hs serials h k is ready = record {
     nursery = is.sizes.nursery ∙ ready.fits.nursery;
     frames = is.sizes.frames ∙ ready.fits.frames;
     used = used-kept setup h k ready.fits.domains is.domains ready.fits.used;
+    unbookmarked = unbookmarked-kept h.space k.space is.sizes.bookmarks is.sizes.incoming ready.fits.unbookmarked;
   };
   lanes = ready.lanes;
   meant = (ready.meant.0, stands-before hs serials h k ready.meant.0 is ready.meant.1);

@@ -6,7 +6,6 @@ pub mod StepLists
 pub mod GoingLemmas
 pub mod EmptyingLemmas
 pub mod CutLemmas
-pub mod NeedFound
 pub mod RunLemmas
 pub mod RoundLemmas
 pub mod PhaseLemmas

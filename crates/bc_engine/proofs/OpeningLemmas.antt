@@ -1,13 +1,16 @@
 -- The heap that an engine begins with is ready, and stands for the opening state.
-use Rattle.std.proofs.Common.{◌≡◌, ℕ, ◌+◌, ◌*◌, ◌/◌, ◌%◌, ◌<◌, Bool, true, false, if◌then◌else◌, List, [], length, map, get_or, replicate, ◌∷◌, Some, None, mul_comm, refl, sym, ap, subst, ◌∙◌, inl, inr, arith}
+use Rattle.std.proofs.Common.{◌≡◌, ℕ, ◌+◌, ◌*◌, ◌/◌, ◌%◌, true, false, List, [], length, map, get_or, replicate, ◌∷◌, mul_comm, refl, sym, ap, subst, ◌∙◌, inl, inr, arith}
 use Prim.Native.Nat.{zero, suc}
 use Rattle.std.proofs.lemmas.Bool.{cases_lt}
-use Rattle.std.proofs.lemmas.List.{get_or-map, get_or_append_left, get_or_push, get_or_past, get_or-replicate, length-map, length-replicate}
+use Rattle.std.proofs.lemmas.List.{get_or-map, get_or_past, get_or-replicate, length-map, length-replicate}
+use Rattle.bc_bits.specs.Bits.{has}
+use Rattle.bc_bits.proofs.BitLemmas.{has-zeros, has-beyond}
 use Rattle.bc_cycle.specs.Emptying.{Parts}
-use Rattle.bc_failsafe.proofs.OpeningLemmas.{no_cell, nothing, opening-heap}
-use Rattle.bc_heap.specs.Closed.{chunk_of, buffer_of, IsClosedHeap}
-use Rattle.bc_heap.specs.Heaps.{end_of, heap_memory, object_in, root_words, no_chunk, AreChunks}
-use Rattle.bc_memory.specs.Memory.{Cell, Memory}
+use Rattle.bc_cycle.specs.Openings.{new_heap}
+use Rattle.bc_cycle.proofs.OpeningLemmas.{chunk-at, chunk-none, chunks-long, supers-long, no_object, no_entries, opening-running}
+use Rattle.bc_failsafe.proofs.OpeningLemmas.{nothing}
+use Rattle.bc_heap.specs.Heaps.{heap_memory, root_words}
+use Rattle.bc_memory.specs.Memory.{Memory}
 use Rattle.bc_model.specs.Reached.{Holds, FieldHolds, Reached}
 use Rattle.bc_model.specs.Run.{opening}
 use Rattle.bc_model.specs.State.{Object, numbers_below}
@@ -24,80 +27,20 @@ use Rattle.bc_standing.proofs.Homes.{births-cell}
 use Rattle.bc_standing.proofs.Reading.{ReadAs-nil, replicate_default}
 use Rattle.bc_promotion.specs.Promises.{HasDomainsBelow}
 use Rattle.bc_superpages.specs.Calls as space
-use Rattle.bc_superpages.specs.Layout.{is_cell, state_at, superpages}
+use Rattle.bc_superpages.specs.Layout.{state_at}
 use Rattle.bc_superpages.specs.declared.headers.PageState.{PageState}
 use Rattle.bc_superpages.specs.declared.headers.PageState.TheVariants.{Absent, Remembered}
 use Rattle.bc_superpages.specs.declared.headers.Header.{Header}
 use Rattle.bc_superpages.specs.Headers.{unused_header}
-use Rattle.bc_superpages.specs.Memory.{memory}
-use Rattle.bc_superpages.specs.RootWords.{root_place}
-use Rattle.bc_word.specs.declared.addresses.Address.{Address}
 use Rattle.bc_word.specs.declared.words.Word.{Word}
-use Rattle.bc_word.specs.declared.words.Word.TheVariants.{Nil, Ref}
+use Rattle.bc_word.specs.declared.words.Word.TheVariants.{Nil}
 use Rattle.bc_word.specs.Words.{word_of_bits}
 use Rattle.bc_word.proofs.WordLemmas.{word_of_bits-nil}
-use Rattle.bc_engine.specs.Engines.{HasEmptyChunks, IsReady, IsUnrecorded, Stands}
-use Rattle.bc_engine.proofs.Sizes.{no-object, none-young}
-use Rattle.bc_engine.specs.Openings.{new_chunk, new_chunks, new_buffers, new_heap}
-
-numbers-at : (n i d : ℕ) → i < n → get_or (numbers_below n) i d ≡ i
-numbers-at zero i d lt = absurd (omega arith)
-numbers-at (suc n) i d lt = elim (cases_lt i n) [
-  | inl below ↦ get_or_append_left (numbers_below n) _ d i (omega (arith, below, length-numbers_below n)) ∙ numbers-at n i d below
-  | inr past ↦
-      let same : i ≡ n = omega arith in
-      get_or_push (numbers_below n) n d i (length-numbers_below n ∙ sym same) ∙ sym same
-]
-
-chunk-at : (s : Setup) (l : ℕ) → l < s.lanes → chunk_of (new_chunks s) l ≡ new_chunk s l
-chunk-at s l lt =
-    get_or-map (new_chunk s) (numbers_below s.lanes) l 0 no_chunk (omega (arith, lt, length-numbers_below s.lanes))
-    ∙ ap (new_chunk s) (numbers-at s.lanes l 0 lt)
-
-chunk-none : (s : Setup) (l : ℕ) → (chunk_of (new_chunks s) l).objects ≡ []
-chunk-none s l = elim (cases_lt l s.lanes) [
-  | inl lt ↦ ap (λ (c : Nursery). c.objects) (chunk-at s l lt)
-  | inr past ↦ ap (λ (c : Nursery). c.objects) (get_or_past (new_chunks s) l no_chunk (omega (arith, past, length-map (numbers_below s.lanes) (new_chunk s), length-numbers_below s.lanes)))
-]
-
-chunks-long : (s : Setup) → length (new_chunks s) ≡ s.lanes
-chunks-long s = length-map (numbers_below s.lanes) (new_chunk s) ∙ length-numbers_below s.lanes
-
-supers-long : (n f k : ℕ) → superpages (space.opening n f k) ≡ n
-supers-long n f k = length-map _ _ ∙ length-replicate n _
-
-laid : (s : Setup) → AreChunks (end_of (new_heap s).space) (512 * s.nursery) (new_chunks s)
-laid s =
-    let count = supers-long s.superpages (s.lanes * s.nursery + 4 * s.superpages) (s.lanes * s.nursery) in
-    record {
-      base = λ l lt.
-          let lane : l < s.lanes = omega (arith, lt, chunks-long s) in
-          ap (λ (c : Nursery). c.base) (chunk-at s l lane) ∙ ap (λ (n : ℕ). 2048 * n + 512 * s.nursery * l) (sym count);
-      long = λ l lt. ap (λ (c : Nursery). c.words) (chunk-at s l (omega (arith, lt, chunks-long s)));
-    }
-
-no_object : (s : Setup) (a : ℕ) → object_in (new_chunks s) a ≡ None
-no_object s = no-object (new_chunks s) (chunk-none s)
-
--- root words of zero are nil
-no_word : (n i : ℕ) (a : Address) → word_of_bits (get_or (replicate n 0) i 0) ≡ Ref a → ⊥
-no_word n i a e = nil_ref (sym word_of_bits-nil ∙ ap word_of_bits (sym (replicate_default n i 0)) ∙ e)
-  where
-    nil_ref : Nil ≡ Ref a → ⊥
-    nil_ref f = cc
+use Rattle.bc_engine.specs.Engines.{HasEmptyChunks, IsReady, IsUnbookmarked, IsUnrecorded, Stands}
 
 nil-words : (n : ℕ) → map word_of_bits (replicate n 0) ≡ replicate n Nil
 nil-words zero = refl
 nil-words (suc n) = ap (λ (w : Word). w ∷ map word_of_bits (replicate n 0)) word_of_bits-nil ∙ ap (λ (ws : List Word). Nil ∷ ws) (nil-words n)
-
--- in a space that opens no cell lies
-no_mature : (s : Setup) (a : ℕ) (c : Cell) → memory (new_heap s).space a ≡ Some c → ⊥
-no_mature s a c e =
-    go (is_cell (new_heap s).space.classes (new_heap s).space.cells a) (no_cell s.superpages (s.lanes * s.nursery + 4 * s.superpages) (s.lanes * s.nursery) a) _ e
-  where
-    go : (b : Bool) → b ≡ false → (x : Cell) → (if b then Some x else None) ≡ Some c → ⊥
-    go true is x there = cc
-    go false is x there = cc
 
 -- the opening state reaches nothing
 none-reached : (setup : Setup) (b : Birth) → Reached (opening setup).slots (opening setup).made b → ⊥
@@ -108,12 +51,6 @@ none-reached setup b r =
   where
     nil_obj : (x : Birth) → value.Nil ≡ value.Obj x → ⊥
     nil_obj x e = cc
-
-no_entries : (s : Setup) (l : ℕ) → (buffer_of (new_buffers s) l).entries ≡ []
-no_entries s l = elim (cases_lt l s.lanes) [
-  | inl lt ↦ ap (λ (b : Entries). b.entries) (get_or-replicate s.lanes l _ _ lt)
-  | inr past ↦ ap (λ (b : Entries). b.entries) (get_or_past (new_buffers s) l _ (omega (arith, past, length-replicate {A = Entries} s.lanes (record { capacity = s.buffer; entries = [] }))))
-]
 
 -- every page is absent
 none-remembered : (n p : ℕ) → state_at (map (λ (h : Header). h.pages) (replicate n unused_header)) p ≡ Remembered → ⊥
@@ -145,22 +82,18 @@ none-used n f k domains q used = absurd (false_true (sym (unused n q) ∙ used))
     unused (suc m) zero = refl
     unused (suc m) (suc p) = unused m p
 
-closed : (s : Setup) → IsSetup s → IsClosedHeap (new_heap s).space (new_heap s).roots (new_heap s).chunks (new_heap s).buffers (opening s).holders
-closed s range =
-    let state = IsState-opening s range in
-    let lanes : length (new_chunks s) ≡ s.lanes = chunks-long s in
-    let made : length (opening s).made ≡ s.lanes = length-replicate s.lanes [] in
-    record {
-      lanes = length-replicate s.lanes _ ∙ sym lanes;
-      domains = length-map (numbers_below s.domains) (λ d. d % s.lanes) ∙ length-numbers_below s.domains;
-      holder = λ d lt. omega (arith, state.holders d lt, made, lanes);
-      root = λ d t a in_domains in_slots e. absurd (no_word (s.domains * s.slots) (root_place (new_heap s).roots d t) a e);
-      young_domain = λ l a lt has. none-young (chunk_of (new_chunks s) l) a (chunk-none s l) has;
-      young = λ l a k b lt has e. none-young (chunk_of (new_chunks s) l) a (chunk-none s l) has;
-      mature_domain = λ a c e. absurd (no_mature s a c e);
-      mature = λ a k c b e f. absurd (no_mature s a c e);
-      entries = λ l i lt there. absurd (omega (arith, there, ap length (no_entries s l)));
-    }
+none-bookmarked : (n f k : ℕ) → IsUnbookmarked (space.opening n f k)
+none-bookmarked n f k = record { bookmarks = none n; incoming = zeros n }
+  where
+    none : (m q b : ℕ) → has (get_or (map (λ (h : Header). h.bookmarks) (replicate m unused_header)) q []) b ≡ false
+    none zero q b = has-beyond [] b (omega arith)
+    none (suc m) zero b = has-zeros 16 b
+    none (suc m) (suc q) b = none m q b
+
+    zeros : (m q : ℕ) → get_or (map (λ (h : Header). h.incoming) (replicate m unused_header)) q 0 ≡ 0
+    zeros zero q = refl
+    zeros (suc m) zero = refl
+    zeros (suc m) (suc q) = zeros m q
 
 opening-stands : (s : Setup) → IsSetup s → Stands (new_heap s) (opening s).holders (replicate s.lanes 0) (opening s)
 opening-stands s range =
@@ -191,16 +124,9 @@ ready-opening s range =
     let n = s.superpages in
     let nursery = s.lanes * s.nursery in
     let frames = nursery + 4 * n in
-    let heap = opening-heap n frames nursery (s.domains * s.slots) (512 * s.nursery) (new_heap s).roots (new_chunks s) refl (no_object s) (laid s) in
     record {
       range = range;
-      order = record {
-        none_gone = heap.none_gone;
-        none_promised = heap.none_promised;
-        laid = heap.laid;
-        once = heap.once;
-        closed = closed s range;
-      };
+      order = opening-running s (omega (arith, range.lanes.0));
       fits = record {
         supers = supers-long n frames nursery;
         domains = refl;
@@ -211,6 +137,7 @@ ready-opening s range =
         nursery = refl;
         frames = refl;
         used = none-used n frames nursery s.domains;
+        unbookmarked = none-bookmarked n frames nursery;
       };
       lanes = length-replicate s.lanes 0;
       meant = (opening s, opening-stands s range);

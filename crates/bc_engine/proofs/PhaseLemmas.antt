@@ -27,7 +27,7 @@ use Rattle.bc_engine.specs.Phases.{CutPhase, DidPhase}
 use Rattle.bc_engine.specs.Rounds.{GoesOn, IfTooSmall, IsRoomFor, IsThrough, IsTooSmall, IsUnderwayOn}
 use Rattle.bc_engine.specs.declared.engines.Ended.{Ended}
 use Rattle.bc_engine.specs.declared.engines.Ended.TheVariants.{OutOfHeap}
-use Rattle.bc_engine.proofs.NeedFound.{need-found}
+use Rattle.bc_model.proofs.NeedFound.{need-found}
 use Rattle.bc_engine.proofs.CutLemmas.{length-cut, mixed-cut, mixed-whole, run-lanes}
 use Rattle.bc_engine.proofs.Sizes.{no-object, op-of_heap, op-of_state}
 

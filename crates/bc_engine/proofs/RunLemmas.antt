@@ -3,7 +3,7 @@ use Rattle.std.proofs.Common.{Vec, Global, vec_capacity, vec_len, ◌≡◌, ◌
 use Prim.Native.Nat.{zero, suc}
 use Rattle.std.proofs.lemmas.Bool.{cases_eq}
 use Rattle.std.proofs.lemmas.List.{get_or-map, map-set, length_push, length-map}
-use Rattle.bc_cycle.specs.Emptying.{Parts}
+use Rattle.bc_cycle.specs.Emptying.{Parts, parts_of}
 use Rattle.bc_cycle.specs.declared.heaps.Heap.{Heap}
 use Rattle.std.specs.List.{AllByRecursion}
 use Rattle.bc_heap.specs.Closed.{chunk_of, buffer_of}
@@ -18,7 +18,7 @@ use Rattle.bc_mutator.specs.Operations.{WantsMore}
 use Rattle.bc_nursery.specs.Entries.{Entries}
 use Rattle.bc_nursery.specs.Objects.{Nursery, left_of}
 use Rattle.bc_engine.specs.Engines.{IsReady, Stands}
-use Rattle.bc_engine.specs.Lanes.{of_lane, parts_of, BirthsWithin, Does, EachFurther, Goes, HasSerials, IsAtEndOr, IsHeldUp, IsOneMore, LeavesOthers, Runs, Stops, left}
+use Rattle.bc_engine.specs.Lanes.{of_lane, BirthsWithin, Does, EachFurther, Goes, HasSerials, IsAtEndOr, IsHeldUp, IsOneMore, LeavesOthers, Runs, Stops, left}
 use Rattle.bc_engine.proofs.Attempts.{held-up}
 use Rattle.bc_engine.proofs.GoingLemmas.{with_reply, goes-none, goes-then, goes-step}
 

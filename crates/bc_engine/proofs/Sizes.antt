@@ -18,7 +18,7 @@ use Rattle.bc_nursery.specs.Objects.{ChunkObject, Nursery, has_object}
 use Rattle.bc_promotion.specs.Promises.{HasDomainsBelow}
 use Rattle.bc_superpages.specs.Layout.{Layout, superpages}
 use Rattle.bc_superpages.specs.RootWords.{RootWords}
-use Rattle.bc_engine.specs.Engines.{HasSetup, IsReady, Stands}
+use Rattle.bc_engine.specs.Engines.{HasSetup, IsReady, IsUnbookmarked, Stands}
 
 -- an operation fits whatever has as many domains and slots
 made_up : ℕ → ℕ → Setup
@@ -65,6 +65,7 @@ fits-step setup lane h k stays fits = record {
   nursery = ap (λ (s : Layout). s.nursery) stays.space ∙ fits.nursery;
   frames = ap (λ (s : Layout). s.frames) stays.space ∙ fits.frames;
   used = subst (λ (s : Layout). HasDomainsBelow s setup.domains) (sym stays.space) fits.used;
+  unbookmarked = subst (λ (s : Layout). IsUnbookmarked s) (sym stays.space) (record { bookmarks = fits.unbookmarked.bookmarks; incoming = fits.unbookmarked.incoming });
 }
 
 -- an empty chunk has no object

@@ -1,5 +1,6 @@
 -- An engine: a heap, and for each domain and lane who holds it and how many births it made.
-use Rattle.std.specs.Prelude.{◌≡◌, ◌≢◌, ℕ, ◌+◌, ◌*◌, ◌^◌, ◌<◌, ◌≤◌, List, [], length, Option, Some, None, slice_index}
+use Rattle.std.specs.Prelude.{◌≡◌, ◌≢◌, ℕ, ◌+◌, ◌*◌, ◌^◌, ◌<◌, ◌≤◌, false, List, [], length, Option, Some, None, slice_index}
+use Rattle.bc_bits.specs.Bits.{has}
 use Rattle.bc_cycle.specs.Emptying.{Parts, IsInOrder}
 use Rattle.bc_heap.specs.Closed.{chunk_of, buffer_of}
 use Rattle.bc_heap.specs.Heaps.{NoneRemembered}
@@ -8,7 +9,8 @@ use Rattle.bc_model.specs.State.{State}
 use Rattle.bc_model.specs.WellFormed.{IsSetup}
 use Rattle.bc_model.specs.declared.traces.Setup.{Setup}
 use Rattle.bc_promotion.specs.Promises.{HasDomainsBelow}
-use Rattle.bc_superpages.specs.Layout.{superpages}
+use Rattle.bc_superpages.specs.Layout.{Layout, superpages, set_of}
+use Rattle.bc_engine.specs.declared.answers.Answer.{Answer}
 use Rattle.bc_engine.specs.declared.engines.Ended.{Ended}
 use Rattle.bc_engine.specs.declared.engines.Ended.TheVariants.{NoMemory}
 
@@ -21,9 +23,16 @@ pub record EngineView : Type 0 where
   pub workers : ℕ
   -- how it ended, once it has
   pub ended : Option Ended
+  -- what became of the notices of the latest phase
+  pub answers : List Answer
+
+-- no object is bookmarked, and no superpage is referred to from an evicted page
+pub record IsUnbookmarked (s : Layout) : Type 0 where
+  pub bookmarks : (q b : ℕ) → has (set_of s.bookmarks q) b ≡ false
+  pub incoming : (q : ℕ) → slice_index s.incoming q ≡ 0
 
 -- the heap has the setup's superpages, root slots, chunks, buffers and frames: a frame for every page. Superpages are in use for the
--- setup's domains
+-- setup's domains. No page was ever evicted, so nothing is bookmarked
 pub record HasSetup (h : Parts) (setup : Setup) : Type 0 where
   pub supers : superpages h.space ≡ setup.superpages
   pub domains : h.roots.domains ≡ setup.domains
@@ -34,6 +43,7 @@ pub record HasSetup (h : Parts) (setup : Setup) : Type 0 where
   pub nursery : h.space.nursery ≡ setup.lanes * setup.nursery
   pub frames : h.space.frames ≡ setup.lanes * setup.nursery + 4 * setup.superpages
   pub used : HasDomainsBelow h.space setup.domains
+  pub unbookmarked : IsUnbookmarked h.space
 
 -- all write buffers are empty, and no page is remembered
 pub record IsUnrecorded (h : Parts) : Type 0 where
@@ -75,6 +85,7 @@ EngineStands e state = Stands e.heap e.holders e.serials state
 abbrev pub HasRoomForBirths : EngineView → ℕ → Type 0
 HasRoomForBirths e n = (j : ℕ) → slice_index e.serials j + n < 2 ^ 32
 
--- what the type keeps: until it runs out of memory an engine's heap is in order
-abbrev pub IsSound : EngineView → Type 0
-IsSound e = e.ended ≢ Some NoMemory → IsEngine e
+-- what the type keeps: until it runs out of memory an engine's heap is in order. There are no notices yet, and so no answers
+pub record IsSound (e : EngineView) : Type 0 where
+  pub alive : e.ended ≢ Some NoMemory → IsEngine e
+  pub unanswered : e.answers ≡ []

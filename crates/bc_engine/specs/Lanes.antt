@@ -3,7 +3,6 @@ use Rattle.std.specs.Prelude.{◌≡◌, ◌≢◌, ℕ, ◌+◌, ◌-◌, ◌^�
 use Rattle.std.specs.List.{AllByRecursion}
 use Rattle.std.specs.declared.alloc.Global.{Global}
 use Rattle.bc_cycle.specs.Emptying.{Parts}
-use Rattle.bc_cycle.specs.declared.heaps.Heap.{Heap}
 use Rattle.bc_heap.specs.Closed.{chunk_of, buffer_of}
 use Rattle.bc_model.specs.Interleaving.{LaneOp, after_steps, replies_by, ops_by}
 use Rattle.bc_model.specs.Lists.{lists_of}
@@ -16,10 +15,6 @@ use Rattle.bc_model.specs.declared.traces.Setup.{Setup}
 use Rattle.bc_mutator.specs.Operations.{WantsMore, NeedsEntry}
 use Rattle.bc_nursery.specs.Objects.{left_of}
 use Rattle.bc_engine.specs.Engines.{EngineView, IsReady, Stands}
-
--- what a heap is made of
-abbrev pub parts_of : Heap → Parts
-parts_of h = record { space = h.space; roots = h.roots; chunks = h.chunks.items; buffers = h.buffers.items }
 
 -- the operations of a lane, or its replies
 abbrev pub of_lane : {X : Type 0} → List (List X) → ℕ → List X

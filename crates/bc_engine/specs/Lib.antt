@@ -2,5 +2,4 @@ pub mod Engines
 pub mod Phases
 pub mod Answers
 pub mod Lanes
-pub mod Openings
 pub mod Rounds

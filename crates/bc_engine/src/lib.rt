@@ -33,11 +33,12 @@
 // say the same of the opening state, of one give and of one operation.
 #![tactic(auto)]
 
+mod answers;
 mod engines;
 mod lanes;
-mod openings;
 mod phases;
 mod rounds;
 
+pub use answers::Answer;
 pub use engines::Engine;
 pub use phases::PhaseNo;

@@ -4,7 +4,8 @@ use Rattle.bc_cycle.specs.declared.heaps.Heap.{Heap}
 use Rattle.bc_model.specs.Lists.{lists_of}
 use Rattle.bc_model.specs.declared.operations.Op.{Op}
 use Rattle.bc_model.specs.declared.operations.Reply.{Reply}
-use Rattle.bc_engine.specs.Lanes.{of_lane, parts_of, Stops}
+use Rattle.bc_cycle.specs.Emptying.{parts_of}
+use Rattle.bc_engine.specs.Lanes.{of_lane, Stops}
 use Rattle.bc_engine.proofs.RunLemmas.{IsKept, of_lane-long, of_lane-at, op-fits, runs-step, runs-same, one-more, told-other, leaves-same}
 use Rattle.bc_engine.proofs.Sizes.{op-of_heap}
 use Rattle.bc_engine.proofs.lanes.advance.Goals as goal

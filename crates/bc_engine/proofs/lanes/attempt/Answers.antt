@@ -1,5 +1,5 @@
 use Rattle.std.proofs.Common.{arith}
-use Rattle.bc_engine.specs.Lanes.{parts_of}
+use Rattle.bc_cycle.specs.Emptying.{parts_of}
 use Rattle.bc_engine.proofs.Attempts.{does-step, ready-step, never-stops, why-stopped}
 use Rattle.std.proofs.lemmas.Result.{IfOk-weaker}
 use Rattle.bc_engine.proofs.lanes.attempt.Goals as goal

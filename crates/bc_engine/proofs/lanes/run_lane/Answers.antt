@@ -1,6 +1,6 @@
 use Rattle.std.proofs.Common.{refl}
 use Rattle.bc_model.specs.Lists.{lists_of}
-use Rattle.bc_engine.specs.Lanes.{parts_of}
+use Rattle.bc_cycle.specs.Emptying.{parts_of}
 use Rattle.bc_engine.proofs.RunLemmas.{runs-same, runs-then, leaves-same, leaves-then}
 use Rattle.bc_engine.proofs.lanes.run_lane.Goals as goal
 

@@ -1,6 +1,7 @@
 use Rattle.std.proofs.Common.{◌-◌, length}
 use Rattle.bc_model.specs.Lists.{lists_of}
-use Rattle.bc_engine.specs.Lanes.{of_lane, parts_of, LeavesOthers, Runs}
+use Rattle.bc_cycle.specs.Emptying.{parts_of}
+use Rattle.bc_engine.specs.Lanes.{of_lane, LeavesOthers, Runs}
 use Rattle.bc_engine.proofs.lanes.run_lane.Given as goal
 
 abbrev pub invariant-operations : goal.invariant-operations

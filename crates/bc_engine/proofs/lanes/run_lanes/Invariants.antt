@@ -1,6 +1,7 @@
 use Rattle.std.proofs.Common.{ℕ, ◌<◌}
 use Rattle.bc_model.specs.Lists.{lists_of}
-use Rattle.bc_engine.specs.Lanes.{of_lane, parts_of, IsAtEndOr, IsHeldUp, Runs}
+use Rattle.bc_cycle.specs.Emptying.{parts_of}
+use Rattle.bc_engine.specs.Lanes.{of_lane, IsAtEndOr, IsHeldUp, Runs}
 use Rattle.bc_engine.proofs.lanes.run_lanes.Given as goal
 
 abbrev pub invariant-loop-lane : goal.invariant-loop-lane

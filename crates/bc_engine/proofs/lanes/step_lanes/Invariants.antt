@@ -2,7 +2,8 @@ use Rattle.std.proofs.Common.{◌≡◌, ℕ, ◌≤◌, []}
 use Rattle.bc_heap.specs.Closed.{chunk_of}
 use Rattle.bc_model.specs.Lists.{lists_of}
 use Rattle.bc_engine.specs.Engines.{IsUnrecorded}
-use Rattle.bc_engine.specs.Lanes.{parts_of, EachFurther, Runs}
+use Rattle.bc_cycle.specs.Emptying.{parts_of}
+use Rattle.bc_engine.specs.Lanes.{EachFurther, Runs}
 use Rattle.bc_engine.proofs.lanes.step_lanes.Given as goal
 
 abbrev pub invariant-loop-lane : goal.invariant-loop-lane

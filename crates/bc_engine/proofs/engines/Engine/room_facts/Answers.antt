@@ -7,5 +7,5 @@ pub returns : goal.returns
 returns c =
     let going = rw (← c.self.view_is) at c.requires.going in
     let empty = rw (← c.self.view_is) at c.requires.empty in
-    let engine = c.self.invariant (goes-on c.self.inside.ended going) in
+    let engine = c.self.invariant.alive (goes-on c.self.inside.ended going) in
     rw (← c.self.view_is) (has-room (the_view c.self.inside) c.law_room.ensures c.facts.ensures.kept engine empty)
