@@ -31,7 +31,7 @@ no_births lanes j =
           (omega (arith, length-map (replicate lanes (let none : List Object = [] in none)) length, length-replicate {A = List Object} lanes []))
     ]
 
-births-opened : (setup : Setup) (e : EngineView) (n : ℕ) → n < 2 ^ 32 → EngineStands e (opening setup) → HasRoomForBirths e n
+pub births-opened : (setup : Setup) (e : EngineView) (n : ℕ) → n < 2 ^ 32 → EngineStands e (opening setup) → HasRoomForBirths e n
 births-opened setup e n small h = λ j.
     let none : get_or e.serials j 0 ≡ 0 = ap (λ (xs : List ℕ). get_or xs j 0) (sym h.births) ∙ no_births setup.lanes j in
     omega (arith, none)

@@ -1,30 +1,17 @@
 -- The need of a state is a number of few digits.
-use Rattle.std.proofs.Common.{◌≡◌, ℕ, ◌+◌, ◌*◌, ◌^◌, ◌<◌, ◌≤◌, true, cond, List, [], ◌∷◌, length, get_or, refl, subst, arith, suc, zero}
+use Rattle.std.proofs.Common.{◌≡◌, ℕ, ◌+◌, ◌*◌, ◌^◌, ◌<◌, ◌≤◌, true, cond, List, [], ◌∷◌, length, refl, arith, suc, zero}
 use Rattle.std.specs.List.{sum_by, count_by}
 use Rattle.std.proofs.lemmas.List.Sums.{sum_by-cons, sum_by_push, count_by-le-length}
 use Rattle.bc_bits.proofs.CountLemmas.{count_below-le}
 use Rattle.bc_reach.specs.Distinct.{Has, Distinct}
-use Rattle.bc_reach.proofs.Reaching.{Reach-least}
-use Rattle.bc_model.specs.Consistent.{IsState, IsValue, HasSerials}
+use Rattle.bc_model.specs.Consistent.{IsState, HasSerials}
 use Rattle.bc_model.specs.Need.{IsNeed, count_of, superpages_for, classes, is_of}
-use Rattle.bc_model.specs.Reached.{Holds, FieldHolds, Reached}
-use Rattle.bc_model.specs.State.{State, Object, IsBorn, object_of, numbers_below}
+use Rattle.bc_model.specs.Reached.{Reached}
+use Rattle.bc_model.specs.State.{State, IsBorn, object_of, numbers_below}
 use Rattle.bc_model.specs.declared.values.Birth.{Birth}
-use Rattle.bc_model.specs.declared.values.Value.{Value}
-use Rattle.bc_model.specs.declared.values.Value.TheVariants.{Nil, Obj}
+use Rattle.bc_model.proofs.NeedFound.{reached-born}
 use Rattle.bc_model.proofs.Objects.{same_birth}
 use Rattle.bc_standing.proofs.Pigeons.{pigeons}
-
--- what is reached was born
-held_born : (made : List (List Object)) (v : Value) (b : Birth) → IsValue made v → v ≡ Obj b → IsBorn made b
-held_born made v b h e = subst (IsValue made) e h
-
-reached_born : (s : State) (b : Birth) → IsState s → Reached s.slots s.made b → IsBorn s.made b
-reached_born s b st h =
-    Reach-least (Holds s.slots) (FieldHolds s.made) (IsBorn s.made)
-    (λ a k. held_born s.made (get_or s.slots k.0 Nil) a (st.values k.0) k.1)
-    (λ a c _ born k. held_born s.made (get_or (object_of s.made a).fields k.0 Nil) c ((st.objects a born).values k.0) k.1)
-    b h
 
 -- a number for each birth that a state can have
 record IsAt (b : Birth) (k : ℕ) : Type 0 where
@@ -46,7 +33,7 @@ count_all {B} (x ∷ xs) = omega (arith, count_all xs, sum_by-cons (λ (b : B). 
 few_births : (s : State) (bs : List Birth) → IsState s → HasSerials 0 s → Distinct bs → ((b : Birth) → Has bs b → Reached s.slots s.made b) → length bs ≤ 2 ^ 36
 few_births s bs st n distinct reached =
     let few = pigeons (λ b. true) IsAt (λ k. true) (2 ^ 36) bs distinct (record {
-      number = λ b h _. number_of s b st n (reached_born s b st (reached b h));
+      number = λ b h _. number_of s b st n (reached-born s b st (reached b h));
       apart = apart;
     }) in
     omega (arith, few, count_all bs, count_below-le (λ k. true) (2 ^ 36))

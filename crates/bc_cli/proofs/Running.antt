@@ -11,7 +11,6 @@ use Rattle.bc_engine.specs.declared.engines.Ended.TheVariants as ended
 use Rattle.bc_io.specs.Told.{HasRoom, HeldGrows, RoomFalls}
 use Rattle.bc_io.proofs.Telling.{HeldGrows-more, RoomFalls-more}
 use Rattle.bc_model.specs.Lists.{PhaseLists, TraceLists}
-use Rattle.bc_model.specs.Need.{IsNeed}
 use Rattle.bc_model.specs.Run.{opening, before, phase_at, no_phase, after_phase, after_cut, replies_of_cut, replies_to_lanes, ops_of}
 use Rattle.bc_model.specs.WellFormed.{IsPhase, IsTrace}
 use Rattle.bc_model.specs.declared.operations.Op.{Op}

@@ -1,5 +1,7 @@
 -- Statuses, and the exit status of each.
-use Rattle.std.specs.Prelude.{ℕ, Option, Some, None}
+use Rattle.std.specs.Prelude.{ℕ, List, ◌++◌, codes, Option, Some, None}
+use Rattle.std.specs.Fmt.{decimal}
+use Rattle.bc_trace.specs.Causes.{cause_text}
 use Rattle.bc_trace.specs.declared.fault.ReadTrace.{ReadTrace}
 use Rattle.bc_trace.specs.declared.fault.ReadTrace.TheVariants as answers
 use Rattle.bc_cli.specs.declared.status.Fault.{Fault}
@@ -33,3 +35,13 @@ fault_of ReadFault = Some faults.ReadFault
 fault_of WriteFault = Some faults.WriteFault
 fault_of (OutOfHeap need) = Some (faults.OutOfHeap need)
 fault_of NoMemory = Some faults.NoMemory
+
+-- the line that tells it on standard error, without its line feed
+abbrev pub fault_text : Fault → List ℕ
+fault_text faults.BadWords = codes "bc: bad command line"
+fault_text (faults.BadTrace line cause) = codes "bc: line " ++ decimal line ++ codes ": " ++ cause_text cause
+fault_text faults.TooLong = codes "bc: input longer than 16777216 bytes"
+fault_text faults.ReadFault = codes "bc: read failed"
+fault_text faults.WriteFault = codes "bc: write failed"
+fault_text (faults.OutOfHeap need) = codes "bc: out of heap, " ++ decimal need ++ codes " superpages needed"
+fault_text faults.NoMemory = codes "bc: out of memory"

@@ -1,4 +1,4 @@
-// bc: replays an allocation trace under a budget of page frames, and prints each lane's replies.
+// bc: replays an allocation trace on the collector's heap, and prints each lane's replies.
 //
 // `top` does all that the program does: it reads the words, reads a trace from a source, replays it,
 // and writes the replies to a sink. Its contract is the theorem of this repository: whatever
@@ -18,6 +18,10 @@
 // there. They are written, and the run ends. The heap goes back to the caller, who may look at what it stands for.
 #![tactic(auto)]
 
+ghost use Rattle.std.specs.Prelude.{◌≡◌, ◌≢◌, IfErr, IfOk, map, string_bytes};
+ghost use Rattle.bc_cli.specs.Outcomes.{IsOrNoMemory};
+ghost use Rattle.bc_cli.specs.Words.{IsCommand};
+
 mod command;
 mod laws;
 mod phases;
@@ -30,22 +34,45 @@ pub use bc_pins::{Gate, OpenGate};
 pub use laws::law_output;
 pub use replay::{Outcome, top};
 pub use status::{Fault, Status};
-use std::alloc::AllocError;
+use std::alloc::{AllocError, Global};
 use std::env;
 use std::io::{ErrorKind, Read, Write};
 use std::process::ExitCode;
 use std::thread::Threads;
 
-/// The words after the program's name. Words that are no text are no command.
-fn words_of(rt: &HostRuntime) -> Result<Vec<String>, Status> {
+/// The words after the program's name.
+fn words_of(rt: &HostRuntime) -> Result<Vec<String>, Status>
+    ensures { IfErr result (λ status. IsOrNoMemory status Status.BadWords) }
+{
     match env::args(rt) {
         Ok(words) => words
             .skip(1)
             .collect(rt.alloc())
             .map_err(|_| Status::NoMemory),
-        Err(error) if error.kind() == ErrorKind::OutOfMemory => Err(Status::NoMemory),
-        Err(_) => Err(Status::BadWords),
+        Err(error) => Err(wordless(error.kind())),
     }
+}
+
+/// The status of a program that can't have its words. Words that are no text are no command.
+fn wordless(kind: ErrorKind) -> Status
+    ensures memory { kind ≡ ErrorKind.OutOfMemory → result ≡ Status.NoMemory }
+    ensures text { kind ≢ ErrorKind.OutOfMemory → result ≡ Status.BadWords }
+{
+    match kind {
+        ErrorKind::OutOfMemory => Status::NoMemory,
+        _ => Status::BadWords,
+    }
+}
+
+/// The same words, borrowed.
+fn borrowed(alloc: Global, words: &[String]) -> Result<Vec<&str>, AllocError>
+    ensures { IfOk result (λ texts. map (λ w. w.now) texts.items ≡ map (λ w. string_bytes w) words.now) }
+{
+    let mut texts = Vec::with_capacity(alloc, words.len())?;
+    for word in words {
+        texts.push(word.as_str())?;
+    }
+    Ok(texts)
 }
 
 /// Does what the words ask for, over these streams.
@@ -54,12 +81,10 @@ where
     R: AllocGlobal + Threads + Sync,
     I: Read + Drop,
     O: Write + Drop,
+    ensures bad_words { result ≡ Status.BadWords → ¬ IsCommand (map (λ w. string_bytes w) words.now) }
+    ensures refused { ¬ IsCommand (map (λ w. string_bytes w) words.now) → IsOrNoMemory result Status.BadWords }
 {
-    let texts: Result<Vec<&str>, AllocError> = words
-        .iter()
-        .map(|word| word.as_str())
-        .collect(rt.alloc());
-    let Ok(texts) = texts else {
+    let Ok(texts) = borrowed(rt.alloc(), words) else {
         return Status::NoMemory;
     };
     let mut source = StdSource::new(input);

@@ -2,7 +2,8 @@ ghost use Rattle.std.specs.Prelude.{◌≡◌};
 ghost use Rattle.bc_cli.specs.Statuses.{exit_code_of, fault_of};
 
 use bc_trace::Cause;
-use thiserror::Error;
+use std::error::Error;
+use std::fmt;
 
 /// How a run ended.
 #[derive(Clone, Copy, Debug, PartialEq, Eq)]
@@ -19,8 +20,8 @@ pub enum Status {
     ReadFault,
     /// The sink failed. A front of what the run writes is written.
     WriteFault,
-    /// The heap is too small for what is reached: so many superpages would do. The replies before that are written, and
-    /// the line of the need.
+    /// The heap is too small: what is reached needs so many superpages. The replies before that are written, and the line of
+    /// the need.
     OutOfHeap { need: u64 },
     /// Memory ran out. The whole texts of the phases before some phase are written, or nothing.
     NoMemory,
@@ -35,23 +36,37 @@ pub(crate) enum Stop {
 }
 
 /// What is wrong with a run, as the line on standard error tells it.
-#[derive(Clone, Copy, Debug, Error)]
+#[derive(Clone, Copy, Debug)]
 pub enum Fault {
-    #[error("bc: bad command line")]
     BadWords,
-    #[error("bc: line {line}: {cause}")]
     BadTrace { line: u32, cause: Cause },
-    #[error("bc: input longer than 16777216 bytes")]
     TooLong,
-    #[error("bc: read failed")]
     ReadFault,
-    #[error("bc: write failed")]
     WriteFault,
-    #[error("bc: out of heap, {need} superpages needed")]
     OutOfHeap { need: u64 },
-    #[error("bc: out of memory")]
     NoMemory,
 }
+
+impl fmt::Display for Fault {
+    ghost use Rattle.std.specs.Prelude.{Some};
+    ghost use Rattle.bc_cli.specs.Statuses.{fault_text};
+
+    ghost output = { λ fault. Some (fault_text fault) };
+
+    fn fmt<W: fmt::Write>(&self, f: &mut fmt::Formatter<W>) -> fmt::Result {
+        match *self {
+            Fault::BadWords => write!(f, "bc: bad command line"),
+            Fault::BadTrace { line, cause } => write!(f, "bc: line {line}: {cause}"),
+            Fault::TooLong => write!(f, "bc: input longer than 16777216 bytes"),
+            Fault::ReadFault => write!(f, "bc: read failed"),
+            Fault::WriteFault => write!(f, "bc: write failed"),
+            Fault::OutOfHeap { need } => write!(f, "bc: out of heap, {need} superpages needed"),
+            Fault::NoMemory => write!(f, "bc: out of memory"),
+        }
+    }
+}
+
+impl Error for Fault {}
 
 impl Status {
     /// What is wrong with the run, if it wasn't done.
