@@ -1,5 +1,5 @@
 -- Lane k's part stays the same when other lanes work, and changes alike where lane k does the same in both states.
-use Rattle.std.proofs.Common.{◌≡◌, ◌≢◌, ℕ, ◌+◌, ◌*◌, ◌<◌, true, ◌==◌, List, length, get_or, set, replicate, slice_index_or, refl, sym, ap, subst, ◌∙◌, inl, inr, arith, get_or-set_same, get_or-set_other, eqb-true, mul_comm}
+use Rattle.std.proofs.Common.{◌≡◌, ◌≢◌, ℕ, ◌+◌, ◌*◌, ◌<◌, true, ◌==◌, List, length, get_or, set, replicate, slice_index_or, refl, sym, ap, ap₂, subst, ◌∙◌, inl, inr, arith, get_or-set_same, get_or-set_other, eqb-true, mul_comm}
 use Rattle.std.proofs.lemmas.Bool.{cases_eq}
 use Rattle.std.proofs.lemmas.List.{length_push}
 use Rattle.std.proofs.lemmas.Nat.{mul-add-lt, same_from_place}
@@ -19,10 +19,15 @@ one_holder : (s : State) (j k d e : ℕ) → holds s j d ≡ true → holds s k 
 one_holder s j k d e h i same =
     sym (eqb-true _ _ h) ∙ ap (λ (x : ℕ). slice_index_or s.holders x 0) same ∙ eqb-true _ _ i
 
+-- a place is one slot's
+pub same-place : (width : ℕ) (p q : Slot) → p.slot < width → q.slot < width → place_of width p ≡ place_of width q → p ≡ q
+same-place width p q hp hq e =
+    let both = same_from_place p.domain p.slot q.domain q.slot width hp hq (ap (λ (x : ℕ). x + p.slot) (mul_comm p.domain width) ∙ e ∙ ap (λ (x : ℕ). x + q.slot) (mul_comm width q.domain)) in
+    ap₂ (λ (d k : ℕ). let r : Slot = record { domain = d; slot = k } in r) both.0 both.1
+
 -- slots of two domains stand apart
 apart : (width : ℕ) (p q : Slot) → p.slot < width → q.slot < width → (p.domain ≡ q.domain → ⊥) → place_of width p ≡ place_of width q → ⊥
-apart width p q hp hq ne e =
-    ne (same_from_place p.domain p.slot q.domain q.slot width hp hq (ap (λ (x : ℕ). x + p.slot) (mul_comm p.domain width) ∙ e ∙ ap (λ (x : ℕ). x + q.slot) (mul_comm width q.domain))).0
+apart width p q hp hq ne e = ne (ap (λ (x : Slot). x.domain) (same-place width p q hp hq e))
 
 -- the same holders hold the same
 holds-same : (s t : State) (k d : ℕ) → t.holders ≡ s.holders → holds s k d ≡ true → holds t k d ≡ true

@@ -24,7 +24,7 @@ replies_to-take s j (suc n) [] = refl
 replies_to-take s j (suc n) (o ∷ ops) = ap (λ (rs : List Reply). (step s j o).1 ∷ rs) (replies_to-take (step s j o).0 j n ops)
 
 -- a lane of a cut
-cut_lanes-at : (cut : List ℕ) (lanes : List (List Op)) (j : ℕ) → get_or (cut_lanes cut lanes) j [] ≡ take (get_or cut j 0) (get_or lanes j [])
+pub cut_lanes-at : (cut : List ℕ) (lanes : List (List Op)) (j : ℕ) → get_or (cut_lanes cut lanes) j [] ≡ take (get_or cut j 0) (get_or lanes j [])
 unfolding cut_lanes
 cut_lanes-at cut [] j = sym (take-nil (get_or cut j 0))
 cut_lanes-at [] (ops ∷ lanes) zero = refl
@@ -32,7 +32,7 @@ cut_lanes-at [] (ops ∷ lanes) (suc j) = cut_lanes-at [] lanes j
 cut_lanes-at (n ∷ cut) (ops ∷ lanes) zero = refl
 cut_lanes-at (n ∷ cut) (ops ∷ lanes) (suc j) = cut_lanes-at cut lanes j
 
-length-replies_to_lanes : (s : State) (j : ℕ) (lanes : List (List Op)) → length (replies_to_lanes s j lanes) ≡ length lanes
+pub length-replies_to_lanes : (s : State) (j : ℕ) (lanes : List (List Op)) → length (replies_to_lanes s j lanes) ≡ length lanes
 unfolding replies_to_lanes
 length-replies_to_lanes s j [] = refl
 length-replies_to_lanes s j (ops ∷ lanes) = ap suc (length-replies_to_lanes (after_ops s j ops) (j + 1) lanes)

@@ -17,4 +17,6 @@ pub mod NeedFound
 pub mod RunStates
 pub mod CutFronts
 pub mod Refusals
+pub mod Outcomes
+pub mod Changes
 pub mod Serials

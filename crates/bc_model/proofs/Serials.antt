@@ -1,16 +1,22 @@
 -- Each operation takes at most one serial, and a give none.
-use Rattle.std.proofs.Common.{ℕ, suc, ◌+◌, ◌<◌, ◌≤◌, List, [], ◌∷◌, length, arith}
+use Rattle.std.proofs.Common.{ℕ, zero, suc, ◌+◌, ◌^◌, ◌<◌, ◌≤◌, List, [], ◌∷◌, length, get_or, take, arith}
 use Rattle.std.specs.Prelude.{sum_by}
 use Rattle.std.specs.List.{AllByRecursion}
+use Rattle.std.proofs.lemmas.List.{length-take}
 use Rattle.std.proofs.lemmas.List.Sums.{sum_by-cons}
 use Rattle.bc_model.specs.Consistent.{IsState, HasSerials, sizes_of}
-use Rattle.bc_model.specs.Run.{after_ops, after_lanes, after_gives}
+use Rattle.bc_model.specs.Lists.{PhaseLists, TraceLists}
+use Rattle.bc_model.specs.Run.{opening, after_ops, after_lanes, after_gives, after_phase, after_phases, cut_lanes, no_phase, phase_at, before, after_cut, ops_of, all_ops_of}
 use Rattle.bc_model.specs.State.{State, given}
 use Rattle.bc_model.specs.Step.{step}
-use Rattle.bc_model.specs.WellFormed.{IsOp}
+use Rattle.bc_model.specs.WellFormed.{IsOp, IsPhase, IsTrace}
 use Rattle.bc_model.specs.declared.operations.Op.{Op}
 use Rattle.bc_model.specs.declared.traces.Give.{Give}
+use Rattle.bc_model.specs.declared.traces.Setup.{Setup}
+use Rattle.bc_model.proofs.Callers.{IsPhase-from_setup}
 use Rattle.bc_model.proofs.InOrder.{IsState-after_ops, SameSizes-after_ops, FitLanes-same}
+use Rattle.bc_model.proofs.Openings.{IsState-opening, HasSizes-opening, HasSerials-opening}
+use Rattle.bc_model.proofs.RunStates.{OfSetup, OfSetup-after_phase, OfSetup-before, fits-cut, length-cut_lanes, lanes-fit}
 use Rattle.bc_model.proofs.Steps.{made-step, SameSizes-step, IsState-step, IsOps-same}
 
 pub HasSerials-less : (m n : ℕ) (s : State) → m ≤ n → HasSerials n s → HasSerials m s
@@ -41,3 +47,40 @@ pub HasSerials-after_gives : (n : ℕ) (s : State) (gives : List Give) → HasSe
 unfolding after_gives
 HasSerials-after_gives n s [] h = h
 HasSerials-after_gives n s (g ∷ gives) h = HasSerials-after_gives n (given s g) gives (record { below = λ j. h.below j })
+
+pub HasSerials-after_phase : (n : ℕ) (s : State) (p : PhaseLists) → IsState s → IsPhase (sizes_of s) p → HasSerials (n + ops_of p) s → HasSerials n (after_phase s p)
+HasSerials-after_phase n s p hs fits h =
+    HasSerials-after_gives n (after_lanes s 0 p.lanes) p.gives (HasSerials-after_lanes n s 0 p.lanes hs (omega (arith, fits.lanes)) fits.ops h)
+
+-- what the first k phases leave is enough for phase k
+HasSerials-after_phases : (setup : Setup) (s : State) (k : ℕ) (phases : List PhaseLists) → OfSetup setup s → AllByRecursion (IsPhase setup) phases → HasSerials (sum_by ops_of phases) s
+    → HasSerials (ops_of (get_or phases k no_phase)) (after_phases s (take k phases))
+unfolding after_phases
+HasSerials-after_phases setup s zero [] of fits h = h
+HasSerials-after_phases setup s (suc k) [] of fits h = h
+HasSerials-after_phases setup s zero (p ∷ phases) of fits h =
+    HasSerials-less (ops_of p) (sum_by ops_of (p ∷ phases)) s (omega (arith, sum_by-cons ops_of p phases)) h
+HasSerials-after_phases setup s (suc k) (p ∷ phases) of fits h =
+    HasSerials-after_phases setup (after_phase s p) k phases (OfSetup-after_phase setup s p of fits.0) fits.1
+    (HasSerials-after_phase (sum_by ops_of phases) s p of.state (IsPhase-from_setup setup s p of.sizes fits.0)
+    (HasSerials-less (sum_by ops_of phases + ops_of p) (sum_by ops_of (p ∷ phases)) s (omega (arith, sum_by-cons ops_of p phases)) h))
+
+-- a cut has no more operations than the lanes
+ops-cut : (cut : List ℕ) (lanes : List (List Op)) → sum_by length (cut_lanes cut lanes) ≤ sum_by length lanes
+unfolding cut_lanes
+ops-cut cut [] = omega arith
+ops-cut [] (ops ∷ lanes) = omega (arith, ops-cut [] lanes, sum_by-cons length [] (cut_lanes [] lanes), sum_by-cons length ops lanes)
+ops-cut (n ∷ cut) (ops ∷ lanes) =
+    omega (arith, ops-cut cut lanes, length-take n ops, sum_by-cons length (take n ops) (cut_lanes cut lanes), sum_by-cons length ops lanes)
+
+-- at a cut of a run every serial is below 2 ^ 32
+pub HasSerials-after_cut : (t : TraceLists) (k : ℕ) (cut : List ℕ) → IsTrace t → all_ops_of t < 2 ^ 32 → HasSerials 0 (after_cut t k cut)
+HasSerials-after_cut t k cut h few =
+    let start = OfSetup-before t k h in
+    let fit = lanes-fit t k (before t k) h start.sizes in
+    let lanes = (phase_at t k).lanes in
+    let left : HasSerials (ops_of (phase_at t k)) (before t k) =
+    HasSerials-after_phases t.setup (opening t.setup) k t.phases (record { state = IsState-opening t.setup h.setup; sizes = HasSizes-opening t.setup }) h.phases
+    (HasSerials-opening t.setup (all_ops_of t) few) in
+    HasSerials-after_lanes 0 (before t k) 0 (cut_lanes cut lanes) start.state (omega (arith, fit.0, length-cut_lanes cut lanes)) (fits-cut (IsOp (sizes_of (before t k))) cut lanes fit.1)
+    (HasSerials-less (0 + sum_by length (cut_lanes cut lanes)) (ops_of (phase_at t k)) (before t k) (omega (arith, ops-cut cut lanes)) left)

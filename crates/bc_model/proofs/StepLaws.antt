@@ -211,7 +211,7 @@ who-after-clear s j p hs at held =
     ∙ ap (λ (x : State × Reply). x.1) (step-held t j (op.Who p) one)
     ∙ ap (told t j) there
 
-is_same-itself : (v : Value) → is_same v v ≡ true
+pub is_same-itself : (v : Value) → is_same v v ≡ true
 is_same-itself Nil = refl
 is_same-itself (Num v) = eq-eqb v v refl
 is_same-itself (Obj b) = and_from _ _ (eq-eqb b.lane b.lane refl) (eq-eqb b.serial b.serial refl)

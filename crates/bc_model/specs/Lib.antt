@@ -2,6 +2,8 @@ pub mod Lists
 pub mod WellFormed
 pub mod State
 pub mod Step
+pub mod Refused
+pub mod Changes
 pub mod Consistent
 pub mod Flat
 pub mod Grows

@@ -3,14 +3,17 @@
 ghost use Rattle.std.specs.List.{AllByRecursion};
 ghost use Rattle.std.specs.Prelude.{◌≡◌, ℕ, ◌+◌, ◌*◌, ◌<◌, ◌≤◌, ◌↔◌, ◌≢◌, ◌==◌, List, [], false, length, map, slice_index_or, take, true};
 ghost use Rattle.bc_classes.specs.Classes.{IsClass, cap};
+ghost use Rattle.bc_model.specs.Changes.{WritesField, WritesSlot};
 ghost use Rattle.bc_model.specs.Consistent.{HasSizes, IsState, sizes_of};
 ghost use Rattle.bc_model.specs.Grows.{Grows};
 ghost use Rattle.bc_model.specs.Interleaving.{after_steps, Commute, FitSteps, IsAsInOrder, IsInterleaving, LaneOp};
 ghost use Rattle.bc_model.specs.Lists.{PhaseLists, TraceLists};
+ghost use Rattle.bc_model.specs.Making.{IsNew};
 ghost use Rattle.bc_model.specs.Need.{IsNeed, superpages_for};
 ghost use Rattle.bc_model.specs.Reached.{HasPath, Reached};
+ghost use Rattle.bc_model.specs.Refused.{IsChange, IsRefused, LacksDomain, LacksField, LacksObject, Tells, TellsKind};
 ghost use Rattle.bc_model.specs.Run.{after_cut, before, cut_lanes, replies_of, replies_of_cut, replies_to_lanes};
-ghost use Rattle.bc_model.specs.State.{given, holds, IsBorn, next_birth, Object, object_of, slot_of, State};
+ghost use Rattle.bc_model.specs.State.{field_of, given, holds, IsBorn, made_by, next_birth, Object, object_of, slot_of, State};
 ghost use Rattle.bc_model.specs.Step.{IsRefusal, loaded, step};
 ghost use Rattle.bc_model.specs.WellFormed.{IsOp, IsPhase, IsSlot, IsTrace};
 ghost use Rattle.bc_model.specs.declared.operations.Op.{Op};
@@ -65,9 +68,108 @@ pub fn law_len_after_new()
         → holds s j p.domain ≡ true → (step (step s j (Op.New p n)).0 j (Op.Len p)).1 ≡ Reply.Len n }
 {}
 
+/// Law: the reply is `Foreign` exactly where the lane doesn't hold the domain of a slot that the operation names, or of
+/// an object that it looks at.
+pub fn law_foreign()
+    ensures { (s : State) → (j : ℕ) → (o : Op) → ((step s j o).1 ≡ Reply.Foreign) ↔ LacksDomain s j o }
+{}
+
+/// Law: the reply is `NotObj` exactly where the lane holds all these domains, and the slot that has to refer to an
+/// object is nil or a number.
+pub fn law_not_object()
+    ensures { (s : State) → (j : ℕ) → (o : Op) → ((step s j o).1 ≡ Reply.NotObj) ↔ LacksObject s j o }
+{}
+
+/// Law: the reply is `Range` exactly where the lane holds all these domains, and the slot's object has no field of that
+/// number.
+pub fn law_range()
+    ensures { (s : State) → (j : ℕ) → (o : Op) → ((step s j o).1 ≡ Reply.Range) ↔ LacksField s j o }
+{}
+
+/// Law: an operation that none of these stands against is answered `Done` where it changes a field or a slot, and else
+/// has its own answer: the next birth of the lane, what the slot holds, how many fields its object has, what was loaded.
+pub fn law_done()
+    ensures change { (s : State) → (j : ℕ) → (o : Op) → IsChange o → ¬ IsRefused s j o → (step s j o).1 ≡ Reply.Done }
+    ensures new { (s : State) → (j : ℕ) → (p : Slot) → (n : ℕ) → ¬ IsRefused s j (Op.New p n)
+        → (step s j (Op.New p n)).1 ≡ Reply.Obj (next_birth s.made j) }
+    ensures who { (s : State) → (j : ℕ) → (p : Slot) → ¬ IsRefused s j (Op.Who p)
+        → Tells (slot_of s p) (step s j (Op.Who p)).1 }
+    ensures len { (s : State) → (j : ℕ) → (p : Slot) → (b : Birth) → slot_of s p ≡ Value.Obj b → ¬ IsRefused s j (Op.Len p)
+        → (step s j (Op.Len p)).1 ≡ Reply.Len (length (object_of s.made b).fields) }
+    ensures load { (s : State) → (j : ℕ) → (p q : Slot) → (i : ℕ) → (b : Birth) → slot_of s p ≡ Value.Obj b
+        → ¬ IsRefused s j (Op.Load p i q) → TellsKind (field_of s b i) (step s j (Op.Load p i q)).1 }
+{}
+
+/// Law: two slots of domains that the lane holds are answered `Yes` exactly where they hold the same value, and `No`
+/// exactly where they don't.
+pub fn law_same()
+    ensures yes { (s : State) → (j : ℕ) → (p q : Slot) → ((step s j (Op.Same p q)).1 ≡ Reply.Yes)
+        ↔ (holds s j p.domain ≡ true) × (holds s j q.domain ≡ true) × (slot_of s p ≡ slot_of s q) }
+    ensures no { (s : State) → (j : ℕ) → (p q : Slot) → ((step s j (Op.Same p q)).1 ≡ Reply.No)
+        ↔ (holds s j p.domain ≡ true) × (holds s j q.domain ≡ true) × (slot_of s p ≢ slot_of s q) }
+{}
+
 /// Law: an operation that is refused changes nothing, whatever the state.
 pub fn law_refused_changes_nothing()
     ensures { (s : State) → (j : ℕ) → (o : Op) → IsRefusal (step s j o).1 → (step s j o).0 ≡ s }
+{}
+
+/// Law: an operation that isn't refused leaves in the slot that it writes the new object, what the field held, what the
+/// other slot held, or nil; every other slot holds what it held.
+pub fn law_slots_written()
+    ensures new { (s : State) → (j : ℕ) → (p : Slot) → (n : ℕ) → IsState s → IsSlot (sizes_of s) p
+        → ¬ IsRefused s j (Op.New p n) → slot_of (step s j (Op.New p n)).0 p ≡ Value.Obj (next_birth s.made j) }
+    ensures load { (s : State) → (j : ℕ) → (p q : Slot) → (i : ℕ) → (b : Birth) → IsState s → IsSlot (sizes_of s) q
+        → slot_of s p ≡ Value.Obj b → ¬ IsRefused s j (Op.Load p i q)
+        → slot_of (step s j (Op.Load p i q)).0 q ≡ field_of s b i }
+    ensures copy { (s : State) → (j : ℕ) → (p q : Slot) → IsState s → IsSlot (sizes_of s) q
+        → ¬ IsRefused s j (Op.Copy p q) → slot_of (step s j (Op.Copy p q)).0 q ≡ slot_of s p }
+    ensures clear { (s : State) → (j : ℕ) → (p : Slot) → IsState s → IsSlot (sizes_of s) p
+        → ¬ IsRefused s j (Op.Clear p) → slot_of (step s j (Op.Clear p)).0 p ≡ Value.Nil }
+    ensures others { (s : State) → (j : ℕ) → (o : Op) → (r : Slot) → IsOp (sizes_of s) o → IsSlot (sizes_of s) r
+        → ¬ WritesSlot o r → slot_of (step s j o).0 r ≡ slot_of s r }
+{}
+
+/// Law: a `set`, `cut` or `link` that isn't refused leaves in the field of the slot's object the number, nil, or what the
+/// second slot holds; every other field of every object that was born holds what it held.
+pub fn law_fields_written()
+    ensures set { (s : State) → (j : ℕ) → (p : Slot) → (i v : ℕ) → (b : Birth) → IsState s → slot_of s p ≡ Value.Obj b
+        → ¬ IsRefused s j (Op.Set p i v) → field_of (step s j (Op.Set p i v)).0 b i ≡ Value.Num v }
+    ensures cut { (s : State) → (j : ℕ) → (p : Slot) → (i : ℕ) → (b : Birth) → IsState s → slot_of s p ≡ Value.Obj b
+        → ¬ IsRefused s j (Op.Cut p i) → field_of (step s j (Op.Cut p i)).0 b i ≡ Value.Nil }
+    ensures link { (s : State) → (j : ℕ) → (p q : Slot) → (i : ℕ) → (b : Birth) → IsState s → slot_of s p ≡ Value.Obj b
+        → ¬ IsRefused s j (Op.Link p i q) → field_of (step s j (Op.Link p i q)).0 b i ≡ slot_of s q }
+    ensures others { (s : State) → (j : ℕ) → (o : Op) → (b : Birth) → (k : ℕ) → IsState s → j < length s.made
+        → IsBorn s.made b → ¬ WritesField s o b k → field_of (step s j o).0 b k ≡ field_of s b k }
+{}
+
+/// Law: a `new` that isn't refused makes one object more of the lane, of the slot's domain, with so many fields, all nil.
+/// No other operation makes one, and no lane makes one for another. All that was born stays, with its domain and its
+/// number of fields.
+pub fn law_objects_made()
+    ensures one { (s : State) → (j : ℕ) → (p : Slot) → (n : ℕ) → j < length s.made → ¬ IsRefused s j (Op.New p n)
+        → length (made_by (step s j (Op.New p n)).0.made j) ≡ length (made_by s.made j) + 1 }
+    ensures domain { (s : State) → (j : ℕ) → (p : Slot) → (n : ℕ) → j < length s.made → ¬ IsRefused s j (Op.New p n)
+        → (object_of (step s j (Op.New p n)).0.made (next_birth s.made j)).domain ≡ p.domain }
+    ensures fields { (s : State) → (j : ℕ) → (p : Slot) → (n : ℕ) → j < length s.made → ¬ IsRefused s j (Op.New p n)
+        → length (object_of (step s j (Op.New p n)).0.made (next_birth s.made j)).fields ≡ n }
+    ensures nil { (s : State) → (j : ℕ) → (p : Slot) → (n i : ℕ) → j < length s.made → ¬ IsRefused s j (Op.New p n)
+        → field_of (step s j (Op.New p n)).0 (next_birth s.made j) i ≡ Value.Nil }
+    ensures none { (s : State) → (j : ℕ) → (o : Op) → (k : ℕ) → IsState s → ¬ IsNew o
+        → length (made_by (step s j o).0.made k) ≡ length (made_by s.made k) }
+    ensures lanes { (s : State) → (j k : ℕ) → (o : Op) → k ≢ j → IsState s → IsOp (sizes_of s) o
+        → length (made_by (step s j o).0.made k) ≡ length (made_by s.made k) }
+    ensures kept { (s : State) → (j : ℕ) → (o : Op) → IsState s → j < length s.made → IsOp (sizes_of s) o
+        → Grows s.made (step s j o).0.made }
+{}
+
+/// Law: no operation changes whose a domain is, or how many slots there are.
+pub fn law_rest_stays()
+    ensures holders { (s : State) → (j : ℕ) → (o : Op) → IsState s → IsOp (sizes_of s) o
+        → (step s j o).0.holders ≡ s.holders }
+    ensures width { (s : State) → (j : ℕ) → (o : Op) → IsState s → IsOp (sizes_of s) o → (step s j o).0.width ≡ s.width }
+    ensures slots { (s : State) → (j : ℕ) → (o : Op) → IsState s → j < length s.made → IsOp (sizes_of s) o
+        → length (step s j o).0.slots ≡ length s.slots }
 {}
 
 /// Law: what is loaded from a field after a `set` of it is the number.

@@ -1,11 +1,11 @@
-ghost use Rattle.std.specs.Prelude.{◌≡◌, ℕ, ◌+◌, ◌*◌, ◌^◌, ◌<◌, ◌≤◌, IfOk, OnErr, MatchResult, IsTrue, length, ◌==◌, if◌then◌else◌};
+ghost use Rattle.std.specs.Prelude.{◌≡◌, ℕ, ◌+◌, ◌*◌, ◌^◌, ◌<◌, ◌≤◌, IfOk, OnErr, MatchResult, length, ◌==◌, if◌then◌else◌};
 ghost use Rattle.std.specs.List.{list_all};
 ghost use Rattle.bc_model.specs.Consistent.{IsState, IsValue, sizes_of, HasSizes, HasSerials};
 ghost use Rattle.bc_model.specs.State.{State, IsBorn, made_by, given, holds, field_of, object_of, slot_of, with_field, with_slot};
 ghost use Rattle.bc_model.specs.Making.{IsNew};
 ghost use Rattle.bc_model.specs.Step.{act, domains_of, is_same, loaded, on_field, on_object, step};
 ghost use Rattle.bc_model.specs.Run.{opening};
-ghost use Rattle.bc_model.specs.WellFormed.{IsField, IsNumber, IsOp, IsSetup, IsSlot};
+ghost use Rattle.bc_model.specs.WellFormed.{IsOp, IsSetup, IsSlot};
 ghost use Rattle.bc_model.specs.declared.operations.Op.{Op};
 ghost use Rattle.bc_model.specs.declared.operations.Reply.{Reply};
 ghost use Rattle.bc_model.specs.declared.values.Birth.{Birth};

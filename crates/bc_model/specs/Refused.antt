@@ -1,0 +1,103 @@
+-- When a lane can't do an operation, told of the state before it: it lacks a domain, or there is no object where the
+-- operation needs one, or the object has no such field. And what those tell that have an answer.
+use Rattle.std.specs.Prelude.{◌≡◌, ◌≢◌, ◌⊎◌, ℕ, ◌≤◌, true, false, length}
+use Rattle.bc_model.specs.State.{State, object_of, slot_of, holds}
+use Rattle.bc_model.specs.declared.operations.Op.{Op}
+use Rattle.bc_model.specs.declared.operations.Op.TheVariants.{New, Who, Len, Set, Cut, Link, Load, Copy, Clear, Same}
+use Rattle.bc_model.specs.declared.operations.Reply.{Reply}
+use Rattle.bc_model.specs.declared.operations.Reply.TheVariants as reply
+use Rattle.bc_model.specs.declared.values.Birth.{Birth}
+use Rattle.bc_model.specs.declared.values.Slot.{Slot}
+use Rattle.bc_model.specs.declared.values.Value.{Value}
+use Rattle.bc_model.specs.declared.values.Value.TheVariants.{Nil, Num, Obj}
+
+-- the operation names the slot
+abbrev pub Names : Op → Slot → Type 0
+Names (New p n) r = r ≡ p
+Names (Who p) r = r ≡ p
+Names (Len p) r = r ≡ p
+Names (Set p i v) r = r ≡ p
+Names (Cut p i) r = r ≡ p
+Names (Link p i q) r = (r ≡ p) ⊎ (r ≡ q)
+Names (Load p i q) r = (r ≡ p) ⊎ (r ≡ q)
+Names (Copy p q) r = (r ≡ p) ⊎ (r ≡ q)
+Names (Clear p) r = r ≡ p
+Names (Same p q) r = (r ≡ p) ⊎ (r ≡ q)
+
+-- it reads or writes a field of the slot's object
+abbrev pub NeedsField : Op → Slot → ℕ → Type 0
+NeedsField (Set p i v) r k = (r ≡ p) × (k ≡ i)
+NeedsField (Cut p i) r k = (r ≡ p) × (k ≡ i)
+NeedsField (Link p i q) r k = (r ≡ p) × (k ≡ i)
+NeedsField (Load p i q) r k = (r ≡ p) × (k ≡ i)
+NeedsField _ r k = ⊥
+
+-- it can't be done unless the slot refers to an object
+abbrev pub NeedsObject : Op → Slot → Type 0
+NeedsObject (Len p) r = r ≡ p
+NeedsObject (Set p i v) r = r ≡ p
+NeedsObject (Cut p i) r = r ≡ p
+NeedsObject (Link p i q) r = r ≡ p
+NeedsObject (Load p i q) r = r ≡ p
+NeedsObject _ r = ⊥
+
+-- it looks at the object that the slot refers to, if there is one
+abbrev pub LooksAt : Op → Slot → Type 0
+LooksAt (Who p) r = r ≡ p
+LooksAt o r = NeedsObject o r
+
+-- the domain of a slot that it names, or of an object that it looks at
+abbrev pub NeedsDomain : State → Op → ℕ → Type 0
+NeedsDomain s o d =
+    ((p : Slot) × Names o p × (d ≡ p.domain))
+    ⊎ ((p : Slot) × (b : Birth) × LooksAt o p × (slot_of s p ≡ Obj b) × (d ≡ (object_of s.made b).domain))
+
+-- the lane holds all domains that the operation needs
+abbrev pub HoldsAll : State → ℕ → Op → Type 0
+HoldsAll s j o = (d : ℕ) → NeedsDomain s o d → holds s j d ≡ true
+
+-- there is one that it doesn't hold
+abbrev pub LacksDomain : State → ℕ → Op → Type 0
+LacksDomain s j o = (d : ℕ) × NeedsDomain s o d × (holds s j d ≡ false)
+
+-- it holds them all, but a slot that has to refer to an object refers to none: it is nil or a number
+pub record LacksObject (s : State) (j : ℕ) (o : Op) : Type 0 where
+  pub held : HoldsAll s j o
+  pub place : Slot
+  pub needed : NeedsObject o place
+  pub none : (b : Birth) → slot_of s place ≢ Obj b
+
+-- it holds them all, but the object has no field of that number
+pub record LacksField (s : State) (j : ℕ) (o : Op) : Type 0 where
+  pub held : HoldsAll s j o
+  pub place : Slot
+  pub index : ℕ
+  pub birth : Birth
+  pub needed : NeedsField o place index
+  pub object : slot_of s place ≡ Obj birth
+  pub none : length (object_of s.made birth).fields ≤ index
+
+-- one of these stands against the operation
+abbrev pub IsRefused : State → ℕ → Op → Type 0
+IsRefused s j o = LacksDomain s j o ⊎ LacksObject s j o ⊎ LacksField s j o
+
+-- the operation is there to change a field or a slot, and tells nothing
+abbrev pub IsChange : Op → Type 0
+IsChange (Set p i v) = Unit {0}
+IsChange (Cut p i) = Unit {0}
+IsChange (Link p i q) = Unit {0}
+IsChange (Copy p q) = Unit {0}
+IsChange (Clear p) = Unit {0}
+IsChange _ = ⊥
+
+-- the reply tells the value, an object by its birth
+abbrev pub Tells : Value → Reply → Type 0
+Tells Nil r = r ≡ reply.Nil
+Tells (Num v) r = r ≡ reply.Num v
+Tells (Obj b) r = r ≡ reply.Obj b
+
+-- the reply tells the value, but of an object only that it is one
+abbrev pub TellsKind : Value → Reply → Type 0
+TellsKind Nil r = r ≡ reply.Nil
+TellsKind (Num v) r = r ≡ reply.Num v
+TellsKind (Obj b) r = r ≡ reply.Ref
