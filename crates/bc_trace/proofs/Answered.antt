@@ -2,6 +2,7 @@
 use Rattle.std.proofs.Common.{◌≡◌, ℕ, ◌+◌, ◌≤◌, List, length, Result, Ok, Err, refl, ap, subst, ◌∙◌, inl, inr}
 use Rattle.std.specs.Prelude.{◌⊎◌, IfOk, IfErr, IsErrAnd, MatchResult}
 use Rattle.bc_model.specs.Lists.{TraceLists}
+use Rattle.bc_model.specs.Run.{all_ops_of}
 use Rattle.bc_trace.specs.declared.fault.Cause.{Cause}
 use Rattle.bc_trace.specs.declared.fault.ReadTrace.{ReadTrace}
 use Rattle.bc_trace.specs.declared.fault.ReadTrace.TheVariants as answers
@@ -11,7 +12,6 @@ use Rattle.bc_trace.specs.Faults.{Fault}
 use Rattle.bc_trace.specs.Drafts.{empty_draft}
 use Rattle.bc_trace.specs.Reading.{fault, finished, read_of}
 use Rattle.bc_trace.specs.Answers.{TellsFault, IsFaultOrMemory, Gives}
-use Rattle.bc_trace.specs.Sizes.{ops_in}
 use Rattle.bc_trace.proofs.Whole.{put_all, AllPass, Reading, read_means, fault_read}
 use Rattle.bc_trace.proofs.Again.{trace_read}
 use Rattle.bc_trace.proofs.Shapes.{passing_lines}
@@ -42,7 +42,7 @@ pub is_found : (bytes : List ℕ) (r : Result TraceLists ReadTrace) → Gives r 
 is_found bytes (Ok t) e = read_spelled bytes t (read_means bytes) e
 is_found bytes (Err e) h = tt
 
-pub is_short : (bytes : List ℕ) (r : Result TraceLists ReadTrace) → Gives r (read_of bytes) → IfOk r (λ t. ops_in t.phases + length t.phases ≤ length bytes)
+pub is_short : (bytes : List ℕ) (r : Result TraceLists ReadTrace) → Gives r (read_of bytes) → IfOk r (λ t. all_ops_of t + length t.phases ≤ length bytes)
 is_short bytes (Ok t) e = text_fits bytes t (read_spelled bytes t (read_means bytes) e)
 is_short bytes (Err e) h = tt
 

@@ -14,7 +14,7 @@ use Rattle.bc_model.specs.declared.operations.Reply.{Reply}
 use Rattle.bc_model.specs.declared.operations.Reply.TheVariants as replies
 use Rattle.bc_model.specs.declared.values.Birth.{Birth}
 use Rattle.bc_trace.specs.Reading.{read_on}
-use Rattle.bc_trace.specs.Replies.{reply_word, reply_text, lane_text, lanes_text, phase_text, phases_text, done_text, out_of_heap_text, FitsReply, FitsPhase, IsEnding}
+use Rattle.bc_trace.specs.Replies.{reply_word, reply_text, lane_text, lanes_text, phase_text, phases_text, done_text, out_of_heap_text, FitsReply, FitsPhase, IsLastLine}
 use Rattle.bc_trace.proofs.Meaning.{own}
 
 -- ---- digits
@@ -166,20 +166,20 @@ sort-phase : (k : ℕ) (ps : List (List Reply)) (a : List ℕ) → sort_of (phas
 unfolding phase_text
 sort-phase k ps a = refl
 
-sort-ending : (x : List ℕ) → IsEnding x → sort_of x ≡ 3
+sort-last_line : (x : List ℕ) → IsLastLine x → sort_of x ≡ 3
 unfolding done_text out_of_heap_text
-sort-ending x (inl e) = ap sort_of e
-sort-ending x (inr (inl e)) = ap sort_of e
-sort-ending x (inr (inr h)) = ap sort_of h.1
+sort-last_line x (inl e) = ap sort_of e
+sort-last_line x (inr (inl e)) = ap sort_of e
+sort-last_line x (inr (inr h)) = ap sort_of h.1
 
 sort-lanes : (j : ℕ) (ps : List (List Reply)) (a : List ℕ) → 2 ≤ sort_of a → 1 ≤ sort_of (lanes_text j ps ++ a)
 sort-lanes j [] a h = omega arith
 sort-lanes j (p ∷ ps) a h =
     omega (arith, ap sort_of (append_assoc (lane_text j p) (lanes_text (suc j) ps) a), sort-lane j p (lanes_text (suc j) ps ++ a))
 
-sort-phases : (k : ℕ) (ps : List (List (List Reply))) (x : List ℕ) → IsEnding x → 2 ≤ sort_of (phases_text k ps ++ x)
+sort-phases : (k : ℕ) (ps : List (List (List Reply))) (x : List ℕ) → IsLastLine x → 2 ≤ sort_of (phases_text k ps ++ x)
 unfolding phases_text
-sort-phases k [] x h = omega (arith, sort-ending x h)
+sort-phases k [] x h = omega (arith, sort-last_line x h)
 sort-phases k (p ∷ ps) x h =
     omega (arith, ap sort_of (append_assoc (phase_text k p) (phases_text (suc k) ps) x), sort-phase k p (phases_text (suc k) ps ++ x))
 
@@ -223,13 +223,13 @@ same_phase_before k ps qs a b h g ha hb e =
 pub same_phase : (k : ℕ) (ps qs : List (List Reply)) → FitsPhase ps → FitsPhase qs → phase_text k ps ≡ phase_text k qs → ps ≡ qs
 same_phase k ps qs h g e = (same_phase_before k ps qs [] [] h g (omega arith) (omega arith) (ap (λ (t : List ℕ). t ++ []) e)).0
 
-pub same_output : (k : ℕ) (ps qs : List (List (List Reply))) (x y : List ℕ) → AllByRecursion FitsPhase ps → AllByRecursion FitsPhase qs → IsEnding x → IsEnding y → phases_text k ps ++ x ≡ phases_text k qs ++ y → (ps ≡ qs) × (x ≡ y)
+pub same_output : (k : ℕ) (ps qs : List (List (List Reply))) (x y : List ℕ) → AllByRecursion FitsPhase ps → AllByRecursion FitsPhase qs → IsLastLine x → IsLastLine y → phases_text k ps ++ x ≡ phases_text k qs ++ y → (ps ≡ qs) × (x ≡ y)
 unfolding phases_text
 same_output k [] [] x y h g hx hy e = (refl, e)
 same_output k [] (q ∷ qs) x y h g hx hy e =
-    absurd (omega (arith, sort-ending x hx, ap sort_of (e ∙ append_assoc (phase_text k q) (phases_text (suc k) qs) y), sort-phase k q (phases_text (suc k) qs ++ y)))
+    absurd (omega (arith, sort-last_line x hx, ap sort_of (e ∙ append_assoc (phase_text k q) (phases_text (suc k) qs) y), sort-phase k q (phases_text (suc k) qs ++ y)))
 same_output k (p ∷ ps) [] x y h g hx hy e =
-    absurd (omega (arith, sort-ending y hy, ap sort_of (sym e ∙ append_assoc (phase_text k p) (phases_text (suc k) ps) x), sort-phase k p (phases_text (suc k) ps ++ x)))
+    absurd (omega (arith, sort-last_line y hy, ap sort_of (sym e ∙ append_assoc (phase_text k p) (phases_text (suc k) ps) x), sort-phase k p (phases_text (suc k) ps ++ x)))
 same_output k (p ∷ ps) (q ∷ qs) x y h g hx hy e =
     let first = same_phase_before k p q (phases_text (suc k) ps ++ x) (phases_text (suc k) qs ++ y) h.0 g.0 (sort-phases (suc k) ps x hx) (sort-phases (suc k) qs y hy)
     (sym (append_assoc (phase_text k p) (phases_text (suc k) ps) x) ∙ e ∙ append_assoc (phase_text k q) (phases_text (suc k) qs) y) in

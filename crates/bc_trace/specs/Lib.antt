@@ -8,4 +8,3 @@ pub mod Causes
 pub mod Drafts
 pub mod Reading
 pub mod Said
-pub mod Sizes

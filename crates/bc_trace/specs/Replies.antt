@@ -61,5 +61,5 @@ abbrev pub FitsPhase : List (List Reply) → Type 0
 FitsPhase lanes = AllByRecursion (AllByRecursion FitsReply) lanes
 
 -- what may stand behind the texts of phases: nothing, or one of the two last lines
-abbrev pub IsEnding : List ℕ → Type 0
-IsEnding text = (text ≡ []) ⊎ (text ≡ done_text) ⊎ ((n : ℕ) × (text ≡ out_of_heap_text n))
+abbrev pub IsLastLine : List ℕ → Type 0
+IsLastLine text = (text ≡ []) ⊎ (text ≡ done_text) ⊎ ((n : ℕ) × (text ≡ out_of_heap_text n))

@@ -1,5 +1,5 @@
 // What a line says once its word and its numbers are read: the tests of counts and ranges.
-ghost use Rattle.std.specs.Prelude.{◌≡◌, ◌+◌, ◌*◌, ◌^◌, ◌<◌, ◌≤◌, ◌==◌, ◌&&◌, [], if◌then◌else◌, nat_lt, nat_le, true, length, slice_index, Some, None, Ok, Err, IfOk};
+ghost use Rattle.std.specs.Prelude.{◌≡◌, ◌+◌, ◌*◌, ◌^◌, ◌<◌, ◌≤◌, ◌==◌, ◌&&◌, [], if◌then◌else◌, nat_lt, true, length, slice_index, Some, None, Ok, Err, IfOk};
 ghost use Rattle.std.specs.List.{list_all};
 ghost use Rattle.bc_trace.specs.declared.words.Word.TheVariants as words;
 ghost use Rattle.bc_trace.specs.Grammar.{arity};

@@ -1,4 +1,4 @@
-ghost use Rattle.std.specs.Prelude.{◌≡◌, ◌+◌, ◌^◌, ◌<◌, ◌≤◌, length, take, OnOk, IfOk};
+ghost use Rattle.std.specs.Prelude.{◌≡◌, ◌+◌, ◌^◌, ◌<◌, OnOk, IfOk};
 ghost use Rattle.bc_trace.specs.Drafts.{shown, empty_draft, put, lanes_ended, phase_ended};
 ghost use Rattle.bc_trace.specs.Said.{said, FitsBuffer, AreHints};
 

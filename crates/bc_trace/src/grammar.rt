@@ -1,5 +1,5 @@
 ghost use Rattle.std.specs.Prelude.{◌≡◌, ◌==◌, ◌+◌, ◌^◌, ◌<◌, ℕ, List};
-ghost use Rattle.bc_trace.specs.Grammar.{start, may_stand, same_setting, place_after_setting, with_setting, after};
+ghost use Rattle.bc_trace.specs.Grammar.{start, may_stand, place_after_setting, with_setting, after};
 ghost use Rattle.bc_trace.specs.Said.{said};
 
 use crate::line::Line;
@@ -62,31 +62,19 @@ impl State {
     {
         let all_stood = self.stood == self.setup.lanes;
         match word {
-            Word::Version => match self.place {
-                Place::Start => true,
-                _ => false,
-            },
+            Word::Version => matches!(self.place, Place::Start),
             Word::Setting(setting) => match self.place {
-                Place::Awaiting(awaited) => is_same(setting, awaited),
+                Place::Awaiting(awaited) => setting == awaited,
                 _ => false,
             },
-            Word::Phase | Word::Done => match self.place {
-                Place::Phases => true,
-                _ => false,
-            },
-            Word::Turn => match self.place {
-                Place::Turns => true,
-                _ => false,
-            },
+            Word::Phase | Word::Done => matches!(self.place, Place::Phases),
+            Word::Turn => matches!(self.place, Place::Turns),
             Word::Lane => match self.place {
                 Place::Turns => true,
                 Place::Ops => !all_stood,
                 _ => false,
             },
-            Word::Op(_) => match self.place {
-                Place::Ops => true,
-                _ => false,
-            },
+            Word::Op(_) => matches!(self.place, Place::Ops),
             Word::Give | Word::End => match self.place {
                 Place::Ops => all_stood,
                 Place::Gives => true,
@@ -120,43 +108,6 @@ impl State {
             Line::End => self.place = Place::Phases,
             Line::Done => self.place = Place::Finished,
         }
-    }
-}
-
-/// Whether the settings are the same one.
-#[tactic(auto, unfolding(crate::specs::Grammar::same_setting))]
-fn is_same(setting: Setting, other: Setting) -> bool
-    ensures { result ≡ same_setting setting other }
-{
-    match setting {
-        Setting::Lanes => match other {
-            Setting::Lanes => true,
-            _ => false,
-        },
-        Setting::Domains => match other {
-            Setting::Domains => true,
-            _ => false,
-        },
-        Setting::Slots => match other {
-            Setting::Slots => true,
-            _ => false,
-        },
-        Setting::Superpages => match other {
-            Setting::Superpages => true,
-            _ => false,
-        },
-        Setting::Nursery => match other {
-            Setting::Nursery => true,
-            _ => false,
-        },
-        Setting::Buffer => match other {
-            Setting::Buffer => true,
-            _ => false,
-        },
-        Setting::Frames => match other {
-            Setting::Frames => true,
-            _ => false,
-        },
     }
 }
 

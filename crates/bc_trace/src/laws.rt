@@ -10,7 +10,7 @@ ghost use Rattle.bc_trace.specs.declared.words.Word.{Word};
 ghost use Rattle.bc_trace.specs.Lines.{Line, trace_text, Spells};
 ghost use Rattle.bc_trace.specs.Grammar.{start, MayStand, after_all, Follow, Begins, GoesOn};
 ghost use Rattle.bc_trace.specs.Faults.{Fault};
-ghost use Rattle.bc_trace.specs.Replies.{reply_text, phase_text, phases_text, out_of_heap_text, FitsReply, FitsPhase, IsEnding};
+ghost use Rattle.bc_trace.specs.Replies.{reply_text, phase_text, phases_text, out_of_heap_text, FitsReply, FitsPhase, IsLastLine};
 
 /// A text spells at most one trace.
 pub fn one_trace()
@@ -46,7 +46,7 @@ pub fn one_reply()
     ensures line { (r q : Reply) → FitsReply r → FitsReply q → reply_text r ≡ reply_text q → r ≡ q }
     ensures phase { (k : ℕ) (ps qs : List (List Reply)) → FitsPhase ps → FitsPhase qs → phase_text k ps ≡ phase_text k qs → ps ≡ qs }
     ensures output { (k : ℕ) (ps qs : List (List (List Reply))) (x y : List ℕ) → AllByRecursion FitsPhase ps → AllByRecursion FitsPhase qs
-        → IsEnding x → IsEnding y → phases_text k ps ++ x ≡ phases_text k qs ++ y → (ps ≡ qs) × (x ≡ y) }
+        → IsLastLine x → IsLastLine y → phases_text k ps ++ x ≡ phases_text k qs ++ y → (ps ≡ qs) × (x ≡ y) }
     ensures need { (m n : ℕ) → m < 2 ^ 64 → n < 2 ^ 64 → out_of_heap_text m ≡ out_of_heap_text n → m ≡ n }
 {}
 

@@ -6,12 +6,14 @@
 // spells which trace: it lists the lines of a trace in order and writes each of them, and knows
 // nothing of reading.
 //
-// The reader goes over the bytes once. `cutting` takes off a line and its words, `words` and
-// `numbers` say what they are, `grammar` whether such a line may stand next, `checking` whether its
-// numbers are in range, and `draft` puts what it says behind what was read so far. A line is tested
-// in seven steps, and the first test that fails gives the fault (`specs/Faults.antt`). Between two
-// lines the reader keeps a draft of the trace and a `State`: the place in the text, the setup, and
-// how many lanes of the phase have stood. The operands of a line go through one buffer of 64.
+// The reader makes one pass over the lines. It looks at each line a fixed number of times (for its
+// end, its form, its words, its numbers), so its time is linear in the bytes. `cutting` takes off a
+// line and its words, `words` and `numbers` say what they are, `grammar` whether such a line may
+// stand next, `checking` whether its numbers are in range, and `draft` puts what it says behind
+// what was read so far. A line is tested in seven steps, and the first test that fails gives the
+// fault (`specs/Faults.antt`). Between two lines the reader keeps a draft of the trace and a
+// `State`: the place in the text, the setup, and how many lanes of the phase have stood. The
+// operands of a line go through one buffer of 64.
 //
 // In contracts the reader is a function of the bytes (`specs/Reading.antt`), which each function of
 // the code mirrors. What counts are the clauses of `read`, which don't name it: a trace is answered

@@ -1,5 +1,6 @@
-ghost use Rattle.std.specs.Prelude.{◌≡◌, ◌+◌, ◌^◌, ◌<◌, ◌≤◌, ℕ, List, length, IfOk, IfErr, IsErrAnd, MatchResult};
+ghost use Rattle.std.specs.Prelude.{◌≡◌, ◌+◌, ◌^◌, ◌<◌, ◌≤◌, ℕ, length, IfOk, IfErr, IsErrAnd, MatchResult};
 ghost use Rattle.bc_model.specs.Lists.{TraceLists};
+ghost use Rattle.bc_model.specs.Run.{all_ops_of};
 ghost use Rattle.bc_trace.specs.declared.fault.ReadTrace.TheVariants.{NoMemory};
 ghost use Rattle.bc_trace.specs.declared.fault.TraceFault.{TraceFault};
 ghost use Rattle.bc_trace.specs.Lines.{Spells};
@@ -7,7 +8,6 @@ ghost use Rattle.bc_trace.specs.Faults.{Fault};
 ghost use Rattle.bc_trace.specs.Drafts.{shown};
 ghost use Rattle.bc_trace.specs.Reading.{line_at, ended, read_of};
 ghost use Rattle.bc_trace.specs.Said.{Reads, IsSmall, FitsBuffer};
-ghost use Rattle.bc_trace.specs.Sizes.{ops_in};
 ghost use Rattle.bc_trace.specs.Answers.{Gives, TellsFault, IsFaultOrMemory};
 
 use crate::checking::{has_count, line_of};
@@ -59,10 +59,7 @@ fn end(draft: Draft, lines: u32, rest: &[u8]) -> Result<Trace, ReadTrace>
     ensures { Gives result (ended (shown draft) lines rest.now) }
 {
     let setup = draft.state.setup;
-    let done = match draft.state.place {
-        Place::Finished => true,
-        _ => false,
-    };
+    let done = matches!(draft.state.place, Place::Finished);
     let begun = if rest.is_empty() { 0 } else { 1 };
     if done && rest.is_empty() {
         return Ok(Trace {
@@ -105,7 +102,7 @@ pub fn read(alloc: Global, bytes: &[u8]) -> Result<Trace, ReadTrace>
     ensures spelled { (t : TraceLists) → Spells bytes.now t → MatchResult result (λ x. x ≡ t) (λ e. e ≡ NoMemory) }
 
     // A text has a byte or more for each phase and each operation.
-    ensures short { IfOk result (λ t. ops_in t.phases + length t.phases ≤ length bytes.now) }
+    ensures short { IfOk result (λ t. all_ops_of t + length t.phases ≤ length bytes.now) }
 
     // A fault that is answered is the text's, and a text's fault is answered, unless memory runs out.
     ensures fault { IfErr result (TellsFault bytes.now) }

@@ -1,6 +1,6 @@
 ghost use Rattle.std.specs.Prelude.{◌≡◌, ◌++◌, [], ◌∷◌, OnOk, IfOk};
 ghost use Rattle.std.specs.Fmt.{decimal};
-ghost use Rattle.bc_trace.specs.Replies.{reply_text, lane_text, lanes_text, phase_text};
+ghost use Rattle.bc_trace.specs.Replies.{reply_text, lane_text, phase_text};
 
 use bc_model::{Replies, Reply};
 use itoa::Buffer;

@@ -3,7 +3,7 @@ ghost use Rattle.bc_trace.specs.Words.{setting_name, verb_name, name};
 ghost use Rattle.bc_trace.specs.Reading.{all_verbs, all_settings, all_others, named, word_of};
 
 /// A line of the header below the first one.
-#[derive(Clone, Copy, Debug)]
+#[derive(Clone, Copy, Debug, PartialEq, Eq)]
 pub enum Setting {
     Lanes,
     Domains,
