@@ -1,12 +1,12 @@
 -- A bit that was set is set, one that was cleared is clear, and the others are as they were.
-use Rattle.std.proofs.Common.{◌≡◌, ◌≢◌, ℕ, ◌+◌, ◌*◌, ◌/◌, ◌%◌, ◌^◌, ◌<◌, ◌≤◌, inl, inr, Bool, true, false, sym, ◌∙◌, ◌==◌, ◌&&◌, [], ◌∷◌, not, nat_eq, List, length, get_or, bit_and, refl, arith, tests, w64, get_or-set_same, get_or-set_other, length-set, replicate}
+use Rattle.std.proofs.Common.{◌≡◌, ◌≢◌, ℕ, ◌+◌, ◌*◌, ◌/◌, ◌%◌, ◌^◌, ◌<◌, ◌≤◌, inl, inr, Bool, true, false, sym, ◌∙◌, ◌==◌, ◌&&◌, [], ◌∷◌, not, nat_eq, List, length, get_or, set, bit_and, bit_or, refl, arith, tests, w64, get_or-set_same, get_or-set_other, length-set, replicate}
 use Rattle.std.proofs.lemmas.List.{set_past, get_or_past}
 use Prim.Native.Nat.{zero, suc}
-use Rattle.std.specs.Int.{bit_at, trailing_zeros}
-use Rattle.std.proofs.lemmas.Nat.{one_shl, pow_pos}
+use Rattle.std.specs.Int.{bit_at, bit_not, trailing_zeros}
+use Rattle.std.proofs.lemmas.Nat.{and_le_l, or_lt, one_shl, pow_pos}
 use Rattle.std.proofs.lemmas.Nat.Bits.{and_pow, bit_at_set_same, bit_at_set_other, bit_at_clear_same, bit_at_clear_other, bit_at-zero, bit_at-trailing_zeros}
 use Rattle.std.proofs.lemmas.Bool.{cases_eq, cases_lt, cases_Bool}
-use Rattle.bc_bits.specs.Bits.{has, with_bit, without_bit, none_set}
+use Rattle.bc_bits.specs.Bits.{has, with_bit, without_bit, AreWords, none_set}
 
 -- the test of one bit of a word
 pub word_test : (n k : ℕ) → k < 64 → not (nat_eq (bit_and n (1 * 2 ^ k % 2 ^ 64)) 0) ≡ nat_eq (bit_at n k) 1
@@ -121,11 +121,19 @@ pub has-none_set : (ws : List ℕ) (b : ℕ) → none_set ws ≡ true → has ws
 has-none_set ws b none = has-none ws b (λ k lt. zero_word ws k none lt)
 
 -- any other set has one
-pub some_set-none_set : (ws : List ℕ) → ((i : ℕ) → get_or ws i 0 < 2 ^ 64) → none_set ws ≡ false → (b : ℕ) × (has ws b ≡ true)
+pub some_set-none_set : (ws : List ℕ) → AreWords ws → none_set ws ≡ false → (b : ℕ) × (has ws b ≡ true)
 some_set-none_set ws fits none =
     let place = other_word ws none in
     let found = some_set ws place.0 place.1 (fits place.0) in
     (found.0, found.2)
+
+-- so one in which no bit is set has only zeros
+pub none_set-none : (ws : List ℕ) → AreWords ws → ((b : ℕ) → has ws b ≡ false) → none_set ws ≡ true
+none_set-none ws fits none =
+    elim (cases_Bool (none_set ws)) [
+      | inl empty ↦ empty
+      | inr some ↦ let found = some_set-none_set ws fits some in absurd (let e : false ≡ true = sym (none found.0) ∙ found.1 in cc)
+    ]
 
 -- a set of zeros has none
 pub none_set-zeros : (n : ℕ) → none_set (replicate {A = ℕ} n 0) ≡ true
@@ -139,3 +147,31 @@ none_set-has ws b on =
       | inl none ↦ absurd (let e : false ≡ true = sym (has-none_set ws b none) ∙ on in cc)
       | inr some ↦ some
     ]
+
+-- a set of words stays one
+AreWords-set : (ws : List ℕ) (k w : ℕ) → AreWords ws → w < 2 ^ 64 → AreWords (set ws k w)
+AreWords-set ws k w fits lt i =
+    elim (cases_eq i k) [
+      | inl here ↦
+          rw here (elim (cases_lt k (length ws)) [
+            | inl within ↦ rw get_or-set_same lt
+            | inr out ↦ rw (set_past ws k w out) (fits k)
+          ])
+      | inr other ↦ rw get_or-set_other (fits i)
+    ]
+
+pub AreWords-with_bit : (ws : List ℕ) (b : ℕ) → AreWords ws → AreWords (with_bit ws b)
+unfolding with_bit
+AreWords-with_bit ws b fits =
+    AreWords-set ws (b / 64) (bit_or (get_or ws (b / 64) 0) (1 * 2 ^ (b % 64) % 2 ^ 64)) fits (or_lt 64 (get_or ws (b / 64) 0) (1 * 2 ^ (b % 64) % 2 ^ 64) (fits (b / 64)) (omega arith))
+
+pub AreWords-without_bit : (ws : List ℕ) (b : ℕ) → AreWords ws → AreWords (without_bit ws b)
+unfolding without_bit
+AreWords-without_bit ws b fits =
+    let mask = bit_not w64 (1 * 2 ^ (b % 64) % 2 ^ 64) in
+    let le = and_le_l (get_or ws (b / 64) 0) mask in
+    let lt = fits (b / 64) in
+    AreWords-set ws (b / 64) (bit_and (get_or ws (b / 64) 0) mask) fits (omega arith)
+
+pub AreWords-zeros : (n : ℕ) → AreWords (replicate {A = ℕ} n 0)
+AreWords-zeros n i = rw (get_or-zeros n i) (omega arith)

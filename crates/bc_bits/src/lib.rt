@@ -12,8 +12,8 @@
 // and is the measure of loops that set bits until none is left.
 #![tactic(auto)]
 
-ghost use Rattle.std.specs.Prelude.{◌≡◌, ◌≢◌, ℕ, ◌+◌, ◌*◌, ◌<◌, ◌≤◌, Bool, true, false, IfSome, IfNone, List, length, slice_index, ◌^◌};
-ghost use Rattle.bc_bits.specs.Bits.{has, with_bit, without_bit, none_set};
+ghost use Rattle.std.specs.Prelude.{◌≡◌, ◌≢◌, ℕ, ◌+◌, ◌*◌, ◌<◌, ◌≤◌, Bool, true, false, IfSome, IfNone, List, length};
+ghost use Rattle.bc_bits.specs.Bits.{has, with_bit, without_bit, AreWords, none_set};
 ghost use Rattle.bc_bits.specs.Counting.{count_below};
 
 /// Is this bit of the set set? A bit is below 1,024.
@@ -52,17 +52,10 @@ pub fn is_empty(set: &[u64; 16]) -> bool
     set.iter().all(|word| *word == 0)
 }
 
-/// A set that isn't empty has a bit. It does nothing.
-pub fn facts(set: &[u64])
-    ensures some { none_set set.now ≡ false → (b : ℕ) × (has set.now b ≡ true) }
-{
-    let _words = set;
-}
-
 /// Law: a set whose words are all 0 has no bit, and one with another word has one.
 pub fn law_none_set()
     ensures none { (ws : List ℕ) → none_set ws ≡ true → (b : ℕ) → has ws b ≡ false }
-    ensures some { (ws : List ℕ) → ((i : ℕ) → slice_index ws i < 2 ^ 64) → none_set ws ≡ false
+    ensures some { (ws : List ℕ) → AreWords ws → none_set ws ≡ false
         → (b : ℕ) × (has ws b ≡ true) }
 {}
 
