@@ -1,4 +1,4 @@
-ghost use Rattle.std.specs.Prelude.{◌≡◌, ◌≢◌, ℕ, ◌+◌, ◌<◌, ◌≤◌, ◌==◌, Bool, true, false, List, length, slice_set, replicate, count_by, IfOk, IfSome, IfNone, vec_capacity, nat_lt};
+ghost use Rattle.std.specs.Prelude.{◌≡◌, ℕ, ◌<◌, ◌≤◌, ◌==◌, Bool, true, false, List, length, slice_set, replicate, count_by, IfOk, IfSome, IfNone, vec_capacity, nat_lt};
 ghost use Rattle.bc_bits.specs.Counting.{one_if};
 ghost use Rattle.bc_frames.specs.Pool.{is_free, free_count};
 

@@ -1,4 +1,4 @@
-ghost use Rattle.std.specs.Prelude.{◌≡◌, ℕ, ◌<◌, List, Option, Some, None, length, slice_set, replicate, IfOk, IsSome};
+ghost use Rattle.std.specs.Prelude.{◌≡◌, ℕ, ◌<◌, Option, Some, None, length, slice_set, replicate, IfOk, IsSome};
 ghost use Rattle.bc_frames.specs.Places.{Places, place_at, one_more};
 
 use crate::pages::Page;

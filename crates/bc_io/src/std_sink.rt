@@ -1,9 +1,8 @@
 //! The edge over std's writers.
 
-ghost use Rattle.std.specs.Prelude.{◌≡◌, ℕ, ◌<◌, ◌≤◌, ◌⊎◌, length, take, IfOk, OnOk, OnErr, Ok, None, IsErr, IsTrue, IsFalse, is_ok, if◌then◌else◌};
+ghost use Rattle.std.specs.Prelude.{◌≡◌, ℕ, ◌<◌, ◌≤◌, ◌⊎◌, length, IfOk, OnOk, OnErr, Ok, None, IsErr, IsTrue, IsFalse, is_ok, if◌then◌else◌};
 ghost use Rattle.std.specs.Io.KnownBytes.{WriteAppends};
 ghost use Rattle.bc_io.specs.Faults.{Rose, counted};
-ghost use Rattle.bc_io.specs.Told.{HasRoom, HeldGrows, RoomFalls};
 
 use crate::faults::Failed;
 use crate::sinks::Sink;

@@ -1,7 +1,7 @@
 //! The edge over std's readers.
 
 ghost use Rattle.std.specs.Prelude.{◌≡◌, ℕ, ◌<◌, ◌≤◌, length, take, IfOk, OnOk, OnErr, Ok, None, IsErr, is_ok, if◌then◌else◌};
-ghost use Rattle.std.specs.Io.KnownBytes.{IsAtEnd, ReadConsumes};
+ghost use Rattle.std.specs.Io.KnownBytes.{ReadConsumes};
 ghost use Rattle.bc_io.specs.Faults.{Rose, counted};
 ghost use Rattle.bc_io.specs.Told.{LeftFalls};
 
