@@ -4,9 +4,11 @@ use Rattle.std.proofs.Math.ListN.{get_or-map}
 use Rattle.std.proofs.lemmas.List.{length-map}
 use Rattle.bc_bits.specs.Bits.{has}
 use Rattle.bc_cycle.specs.Emptying.{Parts, IsEmptied, IsAsBefore, bare_chunk}
+use Rattle.bc_cycle.proofs.ChunkLists.{chunk-emptied}
 use Rattle.bc_failsafe.specs.Packing.{NeedOfHeap}
 use Rattle.bc_heap.specs.Closed.{chunk_of, buffer_of, no_buffer}
 use Rattle.bc_heap.specs.Heaps.{heap_memory, root_words, no_chunk}
+use Rattle.bc_heap.proofs.ChunkLemmas.{length-alike}
 use Rattle.bc_memory.specs.Memory.{Memory}
 use Rattle.bc_model.specs.State.{State}
 use Rattle.bc_model.specs.declared.traces.Setup.{Setup}
@@ -18,16 +20,10 @@ use Rattle.bc_superpages.specs.Layout.{Layout, set_of}
 use Rattle.bc_superpages.specs.RootWords.{RootWords}
 use Rattle.bc_engine.specs.Engines.{HasEmptyChunks, HasSetup, IsReady, IsUnbookmarked, IsUnrecorded, Stands}
 
-chunk-emptied : (cs : List Nursery) (l : ℕ) → chunk_of (map emptied cs) l ≡ emptied (chunk_of cs l)
-chunk-emptied cs l = get_or-map emptied cs l no_chunk
-
 buffer-emptied : (bs : List Entries) (l : ℕ) → buffer_of (map without_entries bs) l ≡ without_entries (buffer_of bs l)
 buffer-emptied bs l = get_or-map without_entries bs l no_buffer
 
--- chunks that differ only in what is kept beside their objects are as many, and have as many words
-length-alike : (cs ds : List Nursery) → map bare_chunk ds ≡ map bare_chunk cs → length ds ≡ length cs
-length-alike cs ds e = sym (length-map ds bare_chunk) ∙ ap length e ∙ length-map cs bare_chunk
-
+-- chunks that differ only in what is kept beside their objects have as many words
 words-alike : (cs ds : List Nursery) (l : ℕ) → map bare_chunk ds ≡ map bare_chunk cs → (chunk_of ds l).words ≡ (chunk_of cs l).words
 words-alike cs ds l e =
     ap (λ (c : Nursery). c.words) (sym (get_or-map bare_chunk ds l no_chunk)) ∙ ap (λ (xs : List Nursery). (chunk_of xs l).words) e ∙ ap (λ (c : Nursery). c.words) (get_or-map bare_chunk cs l no_chunk)
@@ -99,7 +95,7 @@ stands-before hs serials h k state is st = record {
   births = st.births;
   domains = is.sizes.roots_domains ∙ st.domains;
   slots = is.sizes.roots_slots ∙ st.slots;
-  lanes = length-alike h.chunks k.chunks is.chunks ∙ st.lanes;
+  lanes = length-alike bare_chunk h.chunks k.chunks is.chunks ∙ st.lanes;
 }
 
 pub ready-before : (setup : Setup) (hs serials : List ℕ) (h k : Parts) → IsAsBefore h k → IsReady setup hs serials h → IsReady setup hs serials k
@@ -110,7 +106,7 @@ ready-before setup hs serials h k is ready = record {
     supers = is.sizes.supers ∙ ready.fits.supers;
     domains = is.sizes.roots_domains ∙ ready.fits.domains;
     slots = is.sizes.roots_slots ∙ ready.fits.slots;
-    lanes = length-alike h.chunks k.chunks is.chunks ∙ ready.fits.lanes;
+    lanes = length-alike bare_chunk h.chunks k.chunks is.chunks ∙ ready.fits.lanes;
     words = λ l lt. words-alike h.chunks k.chunks l is.chunks ∙ ready.fits.words l lt;
     entries = λ l lt. ap (λ (bs : List Entries). (buffer_of bs l).capacity) is.entries ∙ ready.fits.entries l lt;
     nursery = is.sizes.nursery ∙ ready.fits.nursery;

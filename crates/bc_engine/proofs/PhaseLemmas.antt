@@ -28,7 +28,8 @@ use Rattle.bc_engine.specs.Rounds.{GoesOn, IfTooSmall, IsRoomFor, IsThrough, IsT
 use Rattle.bc_engine.specs.declared.engines.Ended.{Ended}
 use Rattle.bc_engine.specs.declared.engines.Ended.TheVariants.{OutOfHeap}
 use Rattle.bc_model.proofs.NeedFound.{need-found}
-use Rattle.bc_engine.proofs.CutLemmas.{length-cut, mixed-cut, mixed-whole, run-lanes}
+use Rattle.bc_model.proofs.RunStates.{length-cut_lanes}
+use Rattle.bc_engine.proofs.CutLemmas.{mixed-cut, mixed-whole, run-lanes}
 use Rattle.bc_engine.proofs.Sizes.{no-object, op-of_heap, op-of_state}
 
 -- room for a birth by each operation of the phase
@@ -89,7 +90,7 @@ pub cut-run : (e : EngineView) (p : PhaseLists) (k : Parts) (next : List ℕ) (t
 cut-run e p k next told answers ready phase none long goes s st =
     let cut = map length answers in
     let mixed = mixed-cut s p.lanes answers goes.steps (each-lane e p s ready phase st) (ops-fit e p.lanes s ready st phase.ops) goes.below (ops-begun p.lanes e.holders e.heap k e.serials next told answers goes none) in
-    let run = run-lanes s (cut_lanes cut p.lanes) answers goes.steps st.consistent mixed (long ∙ sym (length-cut cut p.lanes)) (replies-begun p.lanes e.holders e.heap k e.serials next told answers goes none s st) in
+    let run = run-lanes s (cut_lanes cut p.lanes) answers goes.steps st.consistent mixed (long ∙ sym (length-cut_lanes cut p.lanes)) (replies-begun p.lanes e.holders e.heap k e.serials next told answers goes none s st) in
     record { replies = run.replies; stands = subst (λ (t : State). Stands k e.holders next t) run.state (goes.means s st) }
 
 -- or to their ends

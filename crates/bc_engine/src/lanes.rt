@@ -1,4 +1,4 @@
-ghost use Rattle.std.specs.Prelude.{◌≡◌, ◌≢◌, ℕ, ◌+◌, ◌^◌, ◌<◌, ◌≤◌, List, [], length, slice_index, true, false, IfOk, OnErr};
+ghost use Rattle.std.specs.Prelude.{◌≡◌, ◌≢◌, ℕ, ◌+◌, ◌^◌, ◌<◌, ◌≤◌, [], length, slice_index, true, false, IfOk, OnErr};
 ghost use Rattle.bc_engine.specs.Engines.{HasEmptyChunks, IsReady, IsUnrecorded};
 ghost use Rattle.bc_cycle.specs.Emptying.{parts_of};
 ghost use Rattle.bc_engine.specs.Lanes.{of_lane, AreDone, Does, EachFurther, HasMore, IsAtEndOr, IsHeldUp, IsOneMore, IsUnderway, LeavesOthers, Runs, Stops};

@@ -1,9 +1,9 @@
 -- A field of a cell is written: the heap stays closed, since a reference to the lane's chunk is recorded.
-use Rattle.std.proofs.Common.{◌≡◌, ◌≢◌, ◌⊎◌, ℕ, ◌<◌, true, false, List, [], ◌∷◌, length, get_or, set, Option, Some, option_map, refl, sym, ap, subst, ◌∙◌, inl, inr, arith, get_or-set_same, get_or-set_other, length-set}
+use Rattle.std.proofs.Common.{◌≡◌, ◌≢◌, ◌⊎◌, ℕ, ◌<◌, true, false, List, [], ◌∷◌, length, get_or, set, Option, Some, refl, sym, ap, subst, ◌∙◌, inl, inr, arith, get_or-set_same, get_or-set_other, length-set}
 use Rattle.std.proofs.lemmas.Bool.{cases_eq, cases_lt}
 use Rattle.std.proofs.lemmas.List.{get_or_append_left, get_or_push, length_push}
-use Rattle.bc_heap.specs.Closed.{chunk_of, buffer_of, no_buffer, no_entry, entry_at, IsCellOrYoung, IsRecorded, IsEntry, IsClosedHeap}
-use Rattle.bc_heap.specs.Heaps.{end_of, heap_memory, mature, AreChunks, AreApart}
+use Rattle.bc_heap.specs.Closed.{chunk_of, buffer_of, no_buffer, IsCellOrYoung, IsRecorded, IsEntry, IsClosedHeap}
+use Rattle.bc_heap.specs.Heaps.{end_of, heap_memory, AreChunks, AreApart}
 use Rattle.bc_heap.specs.Running.{IsRunning}
 use Rattle.bc_heap.proofs.HeapLemmas.{memory-below, memory-above}
 use Rattle.bc_memory.specs.Memory.{Cell, Memory, with_cell, with_field}
@@ -11,6 +11,7 @@ use Rattle.bc_memory.proofs.MemoryLemmas.{with_cell-same, with_cell-other, with_
 use Rattle.bc_model.specs.declared.values.Birth.{Birth}
 use Rattle.bc_nursery.specs.Entries.{Entries}
 use Rattle.bc_nursery.specs.Objects.{Nursery, has_object}
+use Rattle.bc_nursery.specs.Survivors.{entry_at, no_entry}
 use Rattle.bc_standing.specs.Standing.{births}
 use Rattle.bc_standing.proofs.Writing.{births-with_cell}
 use Rattle.bc_superpages.specs.declared.headers.PageState.TheVariants.{Remembered}
@@ -276,10 +277,10 @@ module _ (s t : Layout) (r : RootWords) (cs : List Nursery) (bs es : List Entrie
       let below = allocated-below s at.0 layout w.on in
       let same = end-same in
       with_cell-is (heap_memory s cs) (heap_memory t cs) at.0 (Some (with_field (cell_of s (chunk_of cs lane) at.0) index word))
-      (memory-below t cs at.0 (omega arith) ∙ ap (option_map mature) after
+      (memory-below t cs at.0 (omega arith) ∙ after
       ∙ ap (λ (x : Cell). Some (with_field x index word)) (sym (cell_of-below s (chunk_of cs lane) at.0 below)))
       (λ x ne. elim (cases_lt x (end_of s)) [
-        | inl lt ↦ memory-below t cs x (omega arith) ∙ ap (option_map mature) (elsewhere x ne) ∙ sym (memory-below s cs x lt)
+        | inl lt ↦ memory-below t cs x (omega arith) ∙ elsewhere x ne ∙ sym (memory-below s cs x lt)
         | inr out ↦ memory-above t cs x (omega arith) ∙ sym (memory-above s cs x out)
       ])
 

@@ -27,7 +27,7 @@ use Rattle.bc_model.specs.declared.values.Value.TheVariants as value
 use Rattle.bc_model.proofs.Objects.{same_birth, length-with_made}
 use Rattle.bc_model.proofs.States.{IsState-with_new}
 use Rattle.bc_nursery.specs.Entries.{Entries}
-use Rattle.bc_nursery.specs.Objects.{ChunkObject, Nursery, has_object, the_object, object_at, object_or, new_object, with_object, left_of, words_of}
+use Rattle.bc_nursery.specs.Objects.{ChunkObject, Nursery, has_object, the_object, object_at, object_or, new_object, with_object, left_of}
 use Rattle.bc_nursery.specs.Objects as nursery
 use Rattle.bc_nursery.proofs.ObjectLemmas.{class_of-two, words-inside, none-has, object_at-end, object_at-new, object_at-others}
 use Rattle.bc_standing.specs.Standing.{birth_of, births, Stands, AllBorn}

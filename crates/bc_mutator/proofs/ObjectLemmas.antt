@@ -3,7 +3,7 @@ use Rattle.std.proofs.Common.{◌≡◌, ℕ, ◌+◌, ◌<◌, ◌≤◌, true,
 use Rattle.std.proofs.lemmas.Bool.{cases_lt, lt-ltb, le-ltb}
 use Rattle.std.proofs.lemmas.List.{get_or_read}
 use Rattle.bc_heap.specs.Closed.{chunk_of, IsCellOrYoung, IsClosedHeap}
-use Rattle.bc_heap.specs.Heaps.{end_of, heap_memory, mature, young, no_chunk, AreChunks, AreApart, NoneGone}
+use Rattle.bc_heap.specs.Heaps.{end_of, heap_memory, young, no_chunk, AreChunks, AreApart, NoneGone}
 use Rattle.bc_heap.proofs.ChunkLemmas.{has-some, object_in-at}
 use Rattle.bc_heap.proofs.HeapLemmas.{memory-below, memory-above, allocated-at_hand}
 use Rattle.bc_memory.specs.Memory.{Cell}
@@ -54,7 +54,7 @@ pub memory-there : (s : Layout) (cs : List Nursery) (l a : ℕ) → IsLayout s �
 memory-there s cs l a k apart lt there = elim (cases_lt a (end_of s)) [
   | inl below ↦
       let on = there-below s (chunk_of cs l) a (λ x. apart.behind l x lt) there below in
-      memory-below s cs a below ∙ ap (option_map mature) (memory_of-cell s.classes s.cells s.pages a on) ∙ sym (ap (λ (c : Cell). Some c) (cell_of-below s (chunk_of cs l) a below))
+      memory-below s cs a below ∙ memory_of-cell s.classes s.cells s.pages a on ∙ sym (ap (λ (c : Cell). Some c) (cell_of-below s (chunk_of cs l) a below))
   | inr above ↦
       let on = there-above s (chunk_of cs l) a k there above in
       memory-above s cs a above

@@ -7,7 +7,7 @@ use Rattle.bc_heap.specs.Heaps.{end_of, heap_memory, no_chunk, young, object_in,
 use Rattle.bc_heap.specs.Running.{IsRunning}
 use Rattle.bc_heap.proofs.ChunkLemmas.{has-some, object_in-at, object_in-set, object_in-set_other}
 use Rattle.bc_heap.proofs.HeapLemmas.{memory-below, memory-above}
-use Rattle.bc_memory.specs.Memory.{Cell, Memory, with_cell}
+use Rattle.bc_memory.specs.Memory.{Cell, with_cell}
 use Rattle.bc_memory.specs.Memory as memory
 use Rattle.bc_memory.proofs.MemoryLemmas.{with_cell-is}
 use Rattle.bc_model.specs.declared.values.Birth.{Birth}

@@ -2,7 +2,7 @@
 use Rattle.std.specs.Prelude.{◌≡◌, ℕ, ◌<◌, ◌≤◌, nat_lt, if◌then◌else◌, true, List, length, slice_index, Some}
 use Rattle.bc_cycle.specs.declared.heaps.Heap.{Heap}
 use Rattle.bc_heap.specs.Closed.{chunk_of, IsCellOrYoung}
-use Rattle.bc_heap.specs.Heaps.{end_of, heap_memory, mature, young, AreApart}
+use Rattle.bc_heap.specs.Heaps.{end_of, heap_memory, young, AreApart}
 use Rattle.bc_heap.specs.Running.{IsRunning, StandsAs}
 use Rattle.bc_memory.specs.Memory.{Cell, Memory}
 use Rattle.bc_model.specs.Reached.{Reached}
@@ -49,7 +49,7 @@ LieBehind s chunk = (a : ℕ) → has_object chunk a ≡ true → end_of s ≤ a
 
 -- the object at an address, of a cell or of the chunk
 abbrev pub cell_of : Layout → Nursery → ℕ → Cell
-cell_of s chunk a = if nat_lt a (end_of s) then mature (space.cell_at s.pages a) else young (the_object chunk a)
+cell_of s chunk a = if nat_lt a (end_of s) then space.cell_at s.pages a else young (the_object chunk a)
 
 -- a word of the lane's: what it refers to is an allocated cell or an object of the lane's chunk
 abbrev pub IsOwn : Layout → Nursery → Word → Type 0

@@ -1,4 +1,4 @@
-ghost use Rattle.std.specs.Prelude.{◌≡◌, ◌<◌, length, slice_index, slice_index_or};
+ghost use Rattle.std.specs.Prelude.{◌≡◌, ◌<◌, length, slice_index_or};
 ghost use Rattle.bc_heap.specs.Closed.{IsCellOrYoung};
 ghost use Rattle.bc_heap.specs.Heaps.{NoneGone};
 ghost use Rattle.bc_model.specs.WellFormed.{IsSlot};

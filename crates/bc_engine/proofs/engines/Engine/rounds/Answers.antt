@@ -1,4 +1,5 @@
 use Rattle.std.proofs.Common.{Bool, refl, ◌∙◌, arith}
+use Rattle.std.proofs.lemmas.Result.{err_from_is_err_and}
 use Rattle.bc_model.specs.Lists.{lists_of}
 use Rattle.bc_engine.proofs.RoundLemmas.{on-begun, on-then, small-then, underway-then}
 use Rattle.bc_engine.proofs.engines.Engine.rounds.Goals as goal
@@ -19,22 +20,24 @@ rounds-preserved g c =
     record {
       same = (round.same.0 ∙ before.same.0, round.same.1 ∙ before.same.1, round.same.2 ∙ before.same.2);
       births = λ j. omega (arith, round.births j, before.births j);
-      on = on-then lanes c.args.self.now c.rounds.self c.round.new.self c.args.replies.now c.rounds.replies c.round.new.replies before.same.0 before.on c.in-Ok.ensures.on;
-      underway = underway-then lanes c.rounds.self c.round.new.self c.rounds.replies c.round.new.replies round.same.0 round.same.1 c.in-Ok.ensures.on before.underway;
+      on = on-then lanes c.args.self.now c.rounds.self c.round.new.self c.args.replies.now c.rounds.replies c.round.new.replies before.same.0 before.on c.in_ok-round.ensures.on;
+      underway = underway-then lanes c.rounds.self c.round.new.self c.rounds.replies c.round.new.replies round.same.0 round.same.1 c.in_ok-round.ensures.on before.underway;
     }
 
-pub returns-then-through-clause-births : goal.returns-then-through-clause-births
-returns-then-through-clause-births g c = λ j. omega (arith, c.round.ensures.births j, c.rounds.invariant.births j)
+pub returns-then-branch-clause-births : goal.returns-then-branch-clause-births
+returns-then-branch-clause-births g c = λ j. omega (arith, c.round.ensures.births j, c.rounds.invariant.births j)
 
-pub returns-then-through-clause-on : goal.returns-then-through-clause-on
-returns-then-through-clause-on g c =
+pub returns-then-branch-clause-on : goal.returns-then-branch-clause-on
+returns-then-branch-clause-on g c =
     on-then (lists_of c.args.lanes.now) c.args.self.now c.rounds.self c.round.new.self c.args.replies.now c.rounds.replies c.round.new.replies
-    c.rounds.invariant.same.0 c.rounds.invariant.on c.in-Ok.ensures.on
+    c.rounds.invariant.same.0 c.rounds.invariant.on c.in_ok-round.ensures.on
 
-pub returns-in-Err-clause-births : goal.returns-in-Err-clause-births
-returns-in-Err-clause-births g c = λ j. omega (arith, c.round.ensures.births j, c.rounds.invariant.births j)
+pub returns-in_err-round-clause-births : goal.returns-in_err-round-clause-births
+returns-in_err-round-clause-births g c = λ j. omega (arith, c.round.ensures.births j, c.rounds.invariant.births j)
 
-pub returns-in-Err-clause-cut : goal.returns-in-Err-clause-cut
-returns-in-Err-clause-cut g c =
-    small-then Bool (Unit {0}) (lists_of c.args.lanes.now) c.args.self.now c.rounds.self c.round.new.self c.args.replies.now c.rounds.replies c.round.new.replies c.in-Err.ended
-    c.rounds.invariant.same.0 c.rounds.invariant.on c.in-Err.ensures.cut
+pub returns-in_err-round-clause-cut : goal.returns-in_err-round-clause-cut
+returns-in_err-round-clause-cut g c =
+    let p = err_from_is_err_and c.from_residual.result c.from_residual.ensures.1 in
+    rw p.1 (rw p.2
+    (small-then Bool (Unit {0}) (lists_of c.args.lanes.now) c.args.self.now c.rounds.self c.round.new.self c.args.replies.now c.rounds.replies c.round.new.replies _
+    c.rounds.invariant.same.0 c.rounds.invariant.on c.in_err-round.ensures.cut))
