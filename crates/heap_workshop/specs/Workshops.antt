@@ -9,9 +9,10 @@ use Rattle.bc_cycle.specs.declared.heaps.Heap.{Heap}
 use Rattle.bc_heap.specs.Heaps.{HasFrames, heap_memory}
 use Rattle.bc_heap.specs.Running.{IsRunning, StandsAs}
 use Rattle.bc_model.specs.State.{State, numbers_below}
+use Rattle.bc_model.specs.declared.operations.Op.{Op}
 use Rattle.bc_model.specs.declared.traces.Setup.{Setup}
 use Rattle.bc_model.specs.declared.values.Birth.{Birth}
-use Rattle.bc_mutator.specs.Operations.{NoneLater}
+use Rattle.bc_mutator.specs.Operations.{IsOpOf, NoneLater}
 use Rattle.bc_nursery.specs.Entries.{Entries}
 use Rattle.bc_nursery.specs.Objects.{Nursery}
 use Rattle.bc_standing.specs.Standing.{births}
@@ -46,6 +47,11 @@ pub record IsSound (w : Bench) : Type 0 where
   pub frames : HasFrames w.space
   pub lanes : length w.chunks ≡ length w.serials
   pub few : length w.serials ≤ 16
+
+-- there is such a lane, and a heap of these root slots has the slots, fields and numbers that the operation names
+pub record IsInRange (w : Bench) (lane : ℕ) (op : Op) : Type 0 where
+  pub known : lane < length w.serials
+  pub fits : IsOpOf w.roots op
 
 -- each size is in its range
 pub record AreSizes (z : Sizes) : Type 0 where

@@ -1,7 +1,9 @@
-ghost use Rattle.std.specs.Prelude.{◌≡◌, ◌+◌, ◌^◌, ◌<◌, length, slice_index, IsTrue, IfOk, OnErr};
+ghost use Rattle.std.specs.Prelude.{◌≡◌, ◌↔◌, ◌+◌, ◌^◌, ◌<◌, length, slice_index, IsTrue, IfOk, OnErr, IsErrOf};
 ghost use Rattle.bc_model.specs.State.{State};
 ghost use Rattle.bc_model.specs.Step.{step};
-ghost use Rattle.bc_mutator.specs.Operations.{IsOpOf};
+ghost use Rattle.bc_heap.specs.Closed.{buffer_of, chunk_of};
+ghost use Rattle.bc_mutator.specs.Operations.{IsOpOf, NeedsEntry, WantsMore};
+ghost use Rattle.bc_nursery.specs.Objects.{left_of};
 ghost use Rattle.heap_workshop.specs.Workshops.{bench_of, IsSound, Stands};
 
 use bc_cycle::Heap;
@@ -46,13 +48,15 @@ pub(crate) fn attempt(
     ensures step { IfOk result (λ reply. (state : State) → Stands (bench_of heap.old holders.now serials.old) state
         → ((step state lane op.now).1 ≡ reply) × Stands (bench_of heap.new holders.now serials.new) (step state lane op.now).0) }
     ensures same { OnErr result ((heap.new ≡ heap.old) × (serials.new ≡ serials.old)) }
+    ensures nursery { IsErrOf result Stop.NurseryFull ↔ WantsMore holders.now lane (left_of (chunk_of heap.old.chunks.items lane)) op.now }
+    ensures buffer { IsErrOf result Stop.BufferFull → NeedsEntry holders.now lane heap.old.space heap.old.roots (chunk_of heap.old.chunks.items lane) (buffer_of heap.old.buffers.items lane) op.now }
 {
     operate(heap, holders, &mut serials[lane as usize], lane, op)
 }
 
 /// Are the operation's slots, fields and numbers in range?
 pub(crate) fn fits(roots: &Roots, op: &Op) -> bool
-    ensures { IsTrue result → IsOpOf roots.now op.now }
+    ensures { IsTrue result ↔ IsOpOf roots.now op.now }
 {
     match *op {
         Op::New(slot, fields) => has_slot(roots, slot) && fields <= 127,
@@ -70,7 +74,7 @@ pub(crate) fn fits(roots: &Roots, op: &Op) -> bool
 
 /// Is there such a slot?
 fn has_slot(roots: &Roots, slot: Slot) -> bool
-    ensures { IsTrue result → (slot.domain < roots.now.domains) × (slot.slot < roots.now.slots) }
+    ensures { IsTrue result ↔ ((slot.domain < roots.now.domains) × (slot.slot < roots.now.slots)) }
 {
     slot.domain < roots.domains() && slot.slot < roots.slots()
 }
