@@ -1,5 +1,5 @@
 -- How long the text of a trace is, by how many operations it has.
-use Rattle.std.proofs.Common.{ℕ, ◌+◌, ◌*◌, ◌^◌, ◌<◌, ◌≤◌, List, [], ◌∷◌, ◌++◌, length, arith, map, suc, ap, length-append}
+use Rattle.std.proofs.Common.{◌≡◌, ℕ, ◌+◌, ◌*◌, ◌^◌, ◌<◌, ◌≤◌, List, [], ◌∷◌, ◌++◌, length, arith, map, suc, ap, length-append}
 use Rattle.std.specs.Prelude.{sum_by}
 use Rattle.std.proofs.lemmas.List.Concat.{flat_map-append}
 use Rattle.std.proofs.lemmas.List.Sums.{sum_by-cons}
@@ -8,7 +8,7 @@ use Rattle.bc_model.specs.Run.{ops_of, all_ops_of}
 use Rattle.std.specs.List.{AllByRecursion, flat_map}
 use Rattle.std.specs.Fmt.{decimal}
 use Rattle.std.proofs.lemmas.Fmt.{decimal_nonempty}
-use Rattle.bc_model.specs.WellFormed.{IsOp, IsPhase, IsTrace}
+use Rattle.bc_model.specs.WellFormed.{IsOp, IsSetup, IsPhase, IsTrace}
 use Rattle.bc_model.specs.declared.operations.Op.{Op}
 use Rattle.bc_model.specs.declared.operations.Op.TheVariants as ops
 use Rattle.bc_model.specs.declared.traces.Setup.{Setup}
@@ -55,25 +55,20 @@ op_length v m n ns h k =
       length-append (verb_name v) (flat_map (λ k. 32 ∷ decimal k) (m ∷ n ∷ ns)),
     )
 
--- the domains and slots of a setup are no large numbers
-pub record IsModest (s : Setup) : Type 0 where
-  pub domains : s.domains ≤ 64
-  pub slots : s.slots ≤ 256
-
-pub length-op_text : (s : Setup) → IsModest s → (o : Op) → IsOp s o → 8 ≤ length (line_text (op o))
+pub length-op_text : (s : Setup) → IsSetup s → (o : Op) → IsOp s o → 8 ≤ length (line_text (op o))
 unfolding line_text
-length-op_text s m (ops.New p n) h = op_length _ p.domain p.slot _ (omega (arith, m.domains, h.0.0)) (omega (arith, m.slots, h.0.1))
-length-op_text s m (ops.Who p) h = op_length _ p.domain p.slot _ (omega (arith, m.domains, h.0)) (omega (arith, m.slots, h.1))
-length-op_text s m (ops.Len p) h = op_length _ p.domain p.slot _ (omega (arith, m.domains, h.0)) (omega (arith, m.slots, h.1))
-length-op_text s m (ops.Set p i v) h = op_length _ p.domain p.slot _ (omega (arith, m.domains, h.0.0)) (omega (arith, m.slots, h.0.1))
-length-op_text s m (ops.Cut p i) h = op_length _ p.domain p.slot _ (omega (arith, m.domains, h.0.0)) (omega (arith, m.slots, h.0.1))
-length-op_text s m (ops.Link p i q) h = op_length _ p.domain p.slot _ (omega (arith, m.domains, h.0.0)) (omega (arith, m.slots, h.0.1))
-length-op_text s m (ops.Load p i q) h = op_length _ p.domain p.slot _ (omega (arith, m.domains, h.0.0)) (omega (arith, m.slots, h.0.1))
-length-op_text s m (ops.Copy p q) h = op_length _ p.domain p.slot _ (omega (arith, m.domains, h.0.0)) (omega (arith, m.slots, h.0.1))
-length-op_text s m (ops.Clear p) h = op_length _ p.domain p.slot _ (omega (arith, m.domains, h.0)) (omega (arith, m.slots, h.1))
-length-op_text s m (ops.Same p q) h = op_length _ p.domain p.slot _ (omega (arith, m.domains, h.0.0)) (omega (arith, m.slots, h.0.1))
+length-op_text s m (ops.New p n) h = op_length _ p.domain p.slot _ (omega (arith, m.domains.1, h.0.0)) (omega (arith, m.slots.1, h.0.1))
+length-op_text s m (ops.Who p) h = op_length _ p.domain p.slot _ (omega (arith, m.domains.1, h.0)) (omega (arith, m.slots.1, h.1))
+length-op_text s m (ops.Len p) h = op_length _ p.domain p.slot _ (omega (arith, m.domains.1, h.0)) (omega (arith, m.slots.1, h.1))
+length-op_text s m (ops.Set p i v) h = op_length _ p.domain p.slot _ (omega (arith, m.domains.1, h.0.0)) (omega (arith, m.slots.1, h.0.1))
+length-op_text s m (ops.Cut p i) h = op_length _ p.domain p.slot _ (omega (arith, m.domains.1, h.0.0)) (omega (arith, m.slots.1, h.0.1))
+length-op_text s m (ops.Link p i q) h = op_length _ p.domain p.slot _ (omega (arith, m.domains.1, h.0.0)) (omega (arith, m.slots.1, h.0.1))
+length-op_text s m (ops.Load p i q) h = op_length _ p.domain p.slot _ (omega (arith, m.domains.1, h.0.0)) (omega (arith, m.slots.1, h.0.1))
+length-op_text s m (ops.Copy p q) h = op_length _ p.domain p.slot _ (omega (arith, m.domains.1, h.0.0)) (omega (arith, m.slots.1, h.0.1))
+length-op_text s m (ops.Clear p) h = op_length _ p.domain p.slot _ (omega (arith, m.domains.1, h.0)) (omega (arith, m.slots.1, h.1))
+length-op_text s m (ops.Same p q) h = op_length _ p.domain p.slot _ (omega (arith, m.domains.1, h.0.0)) (omega (arith, m.slots.1, h.0.1))
 
-pub length-ops_text : (s : Setup) → IsModest s → (os : List Op) → AllByRecursion (IsOp s) os → 8 * length os ≤ length (flat_map line_text (map op os))
+pub length-ops_text : (s : Setup) → IsSetup s → (os : List Op) → AllByRecursion (IsOp s) os → 8 * length os ≤ length (flat_map line_text (map op os))
 length-ops_text s m [] h = omega arith
 length-ops_text s m (o ∷ os) h =
     omega (arith, length-op_text s m o h.0, length-ops_text s m os h.1, length-append (line_text (op o)) (flat_map line_text (map op os)))
@@ -89,7 +84,18 @@ length-lane_text j h = omega (
   length-append (32 ∷ decimal j) [],
 )
 
-lanes_in : (s : Setup) → IsModest s → (j : ℕ) (lanes : List (List Op)) → j + length lanes ≤ 2 ^ 32 → AllByRecursion (AllByRecursion (IsOp s)) lanes → 8 * sum_by length lanes ≤ length (flat_map line_text (lane_lines j lanes))
+-- what the lines of lanes take
+pub length-lane_lines : (j : ℕ) (ops : List Op) (lanes : List (List Op)) → length (flat_map line_text (lane_lines j (ops ∷ lanes)))
+    ≡ length (line_text (lane j)) + (length (flat_map line_text (map op ops)) + length (flat_map line_text (lane_lines (suc j) lanes)))
+length-lane_lines j ops lanes =
+    omega (
+      arith,
+      length-append (line_text (lane j)) (flat_map line_text (map op ops ++ lane_lines (suc j) lanes)),
+      ap length (flat_map-append line_text (map op ops) (lane_lines (suc j) lanes)),
+      length-append (flat_map line_text (map op ops)) (flat_map line_text (lane_lines (suc j) lanes)),
+    )
+
+lanes_in : (s : Setup) → IsSetup s → (j : ℕ) (lanes : List (List Op)) → j + length lanes ≤ 2 ^ 32 → AllByRecursion (AllByRecursion (IsOp s)) lanes → 8 * sum_by length lanes ≤ length (flat_map line_text (lane_lines j lanes))
 lanes_in s m j [] small ok = omega arith
 lanes_in s m j (os ∷ lanes) small ok =
     omega (
@@ -97,9 +103,7 @@ lanes_in s m j (os ∷ lanes) small ok =
       sum_by-cons length os lanes,
       length-ops_text s m os ok.0,
       lanes_in s m (suc j) lanes (omega arith) ok.1,
-      length-append (line_text (lane j)) (flat_map line_text (map op os ++ lane_lines (suc j) lanes)),
-      ap length (flat_map-append line_text (map op os) (lane_lines (suc j) lanes)),
-      length-append (flat_map line_text (map op os)) (flat_map line_text (lane_lines (suc j) lanes)),
+      length-lane_lines j os lanes,
     )
 
 -- the lines that begin and end a phase
@@ -119,30 +123,40 @@ phase_frame p =
       length-append (flat_map line_text (map give p.gives)) (flat_map line_text (end ∷ [])),
     )
 
-phases_in : (s : Setup) → IsModest s → s.lanes ≤ 16 → (ps : List PhaseLists) → AllByRecursion (IsPhase s) ps → 8 * sum_by ops_of ps + 10 * length ps ≤ length (flat_map line_text (flat_map phase_lines ps))
-phases_in s m few [] ok = omega arith
-phases_in s m few (p ∷ ps) ok =
+pub length-phase_lines : (p : PhaseLists) (ps : List PhaseLists) → length (flat_map line_text (flat_map phase_lines (p ∷ ps))) ≡ length (flat_map line_text (phase_lines p)) + length (flat_map line_text (flat_map phase_lines ps))
+length-phase_lines p ps =
     omega (
       arith,
-      sum_by-cons ops_of p ps,
-      lanes_in s m 0 p.lanes (omega (arith, ok.0.lanes)) ok.0.ops,
-      phase_frame p,
-      phases_in s m few ps ok.1,
       ap length (flat_map-append line_text (phase_lines p) (flat_map phase_lines ps)),
       length-append (flat_map line_text (phase_lines p)) (flat_map line_text (flat_map phase_lines ps)),
     )
 
--- the text of a trace has more bytes than the trace has operations and phases
-pub length-trace_text : (t : TraceLists) → IsTrace t → 8 * all_ops_of t + 10 * length t.phases ≤ length (trace_text t)
-unfolding trace_text
-length-trace_text t h =
+phases_in : (s : Setup) → IsSetup s → (ps : List PhaseLists) → AllByRecursion (IsPhase s) ps → 8 * sum_by ops_of ps + 10 * length ps ≤ length (flat_map line_text (flat_map phase_lines ps))
+phases_in s m [] ok = omega arith
+phases_in s m (p ∷ ps) ok =
+    omega (
+      arith,
+      sum_by-cons ops_of p ps,
+      lanes_in s m 0 p.lanes (omega (arith, ok.0.lanes, m.lanes.1)) ok.0.ops,
+      phase_frame p,
+      phases_in s m ps ok.1,
+      length-phase_lines p ps,
+    )
+
+-- the lines before and behind the phases
+pub trace_frame : (t : TraceLists) → 5 + length (flat_map line_text (flat_map phase_lines t.phases)) ≤ length (trace_text t)
+unfolding trace_text line_text spelling name
+trace_frame t =
     let lines = flat_map phase_lines t.phases in
     omega (
       arith,
-      phases_in t.setup (record { domains = h.setup.domains.1; slots = h.setup.slots.1 }) h.setup.lanes.1 t.phases h.phases,
       length-append (line_text (version 1)) (flat_map line_text (setup_lines t.setup ++ (lines ++ done ∷ []))),
       ap length (flat_map-append line_text (setup_lines t.setup) (lines ++ done ∷ [])),
       length-append (flat_map line_text (setup_lines t.setup)) (flat_map line_text (lines ++ done ∷ [])),
       ap length (flat_map-append line_text lines (done ∷ [])),
       length-append (flat_map line_text lines) (flat_map line_text (done ∷ [])),
     )
+
+-- the text of a trace has more bytes than the trace has operations and phases
+pub length-trace_text : (t : TraceLists) → IsTrace t → 8 * all_ops_of t + 10 * length t.phases ≤ length (trace_text t)
+length-trace_text t h = omega (arith, phases_in t.setup h.setup t.phases h.phases, trace_frame t)

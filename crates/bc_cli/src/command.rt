@@ -1,4 +1,4 @@
-ghost use Rattle.std.specs.Prelude.{◌≡◌, IsSome, IfNone, OnSome, map, ◌≢◌};
+ghost use Rattle.std.specs.Prelude.{IfNone, OnSome, map};
 ghost use Rattle.bc_cli.specs.Words.{IsCommand};
 
 /// What the program is asked to do.

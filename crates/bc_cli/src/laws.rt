@@ -1,6 +1,6 @@
 //! What the definitions say together. The function does nothing: its contract is the law.
 
-ghost use Rattle.std.specs.Prelude.{ℕ, ◌+◌, ◌*◌, ◌≤◌, ◌++◌, List, Some, length};
+ghost use Rattle.std.specs.Prelude.{ℕ, ◌+◌, ◌*◌, ◌≤◌, ◌++◌, List, Some, None, length};
 ghost use Rattle.bc_model.specs.Lists.{TraceLists};
 ghost use Rattle.bc_trace.specs.Lines.{Spells};
 ghost use Rattle.bc_trace.specs.Replies.{out_of_heap_text};
@@ -9,7 +9,8 @@ ghost use Rattle.bc_cli.specs.Outcomes.{HasRoomFor, longest_trace};
 ghost use Rattle.bc_cli.specs.Output.{whole_text, cut_text};
 
 /// A run that is done writes at most four times as many bytes as its trace has, and one that ends for want of heap
-/// at most 40 more. So a sink with room for as many meets the condition of `top`.
+/// at most 40 more. So a sink with room for as many meets the condition of `top`; where the source doesn't tell its
+/// bytes, one with room for the longest trace's.
 pub fn law_output()
     ensures short { (bytes : List ℕ) (t : TraceLists) → length bytes ≤ longest_trace → Spells bytes t →
         length (whole_text t) ≤ 4 * length bytes }
@@ -18,4 +19,5 @@ pub fn law_output()
         length (cut_text t k cut ++ out_of_heap_text need) ≤ 4 * length bytes + 40 }
     ensures room { (bytes : List ℕ) (room : ℕ) → 4 * length bytes + 40 ≤ room →
         HasRoomFor (Some bytes) (Some room) }
+    ensures untold { (room : ℕ) → 4 * longest_trace + 40 ≤ room → HasRoomFor None (Some room) }
 {}

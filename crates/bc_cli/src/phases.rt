@@ -1,6 +1,6 @@
 //! The phases of a trace: each is run, and what it prints is written.
 
-ghost use Rattle.std.specs.Prelude.{◌≡◌, ◌≢◌, ℕ, ◌+◌, ◌^◌, ◌<◌, List, Option, Some, length, OnOk, IsErrOf};
+ghost use Rattle.std.specs.Prelude.{◌≡◌, ℕ, ◌+◌, ◌^◌, ◌<◌, List, Option, Some, length, OnOk, IsErrOf};
 ghost use Rattle.bc_io.specs.Faults.{Rose};
 ghost use Rattle.bc_io.specs.Told.{HeldGrows, RoomFalls};
 ghost use Rattle.bc_model.specs.WellFormed.{IsTrace};

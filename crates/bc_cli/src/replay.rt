@@ -166,16 +166,19 @@ where
         S.left source.old ≡ Some bytes → longest_trace < length bytes →
         ¬ Rose (S.faults source.old) (S.faults source.new) → IsOrNoMemory result.status Status.TooLong }
 {
-    let bytes = match read_all(alloc, source, LONGEST_TRACE) {
-        Ok(bytes) => bytes,
-        Err(ReadAll::TooLong) => return Outcome::without_heap(Status::TooLong),
-        Err(ReadAll::ReadFault) => return Outcome::without_heap(Status::ReadFault),
-        Err(ReadAll::NoMemory) => return Outcome::without_heap(Status::NoMemory),
+    let trace = {
+        let bytes = match read_all(alloc, source, LONGEST_TRACE) {
+            Ok(bytes) => bytes,
+            Err(ReadAll::TooLong) => return Outcome::without_heap(Status::TooLong),
+            Err(ReadAll::ReadFault) => return Outcome::without_heap(Status::ReadFault),
+            Err(ReadAll::NoMemory) => return Outcome::without_heap(Status::NoMemory),
+        };
+        match read(alloc, &bytes) {
+            Ok(trace) => trace,
+            Err(error) => return Outcome::without_heap(refusal(error)),
+        }
     };
-    match read(alloc, &bytes) {
-        Ok(trace) => replay(rt, alloc, &trace, sink, gate),
-        Err(error) => Outcome::without_heap(refusal(error)),
-    }
+    replay(rt, alloc, &trace, sink, gate)
 }
 
 /// The status of a run whose input was not read as a trace.

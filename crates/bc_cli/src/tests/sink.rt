@@ -1,7 +1,6 @@
 //! A sink that grows: it tells what it holds, and no room.
 
-ghost use Rattle.std.specs.Prelude.{◌≡◌, [], length};
-ghost use Rattle.bc_io.specs.Told.{HeldGrows};
+ghost use Rattle.std.specs.Prelude.{[]};
 
 use bc_io::{Failed, Sink};
 use std::alloc::Global;
