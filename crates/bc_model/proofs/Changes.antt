@@ -1,8 +1,8 @@
 -- What a step changes, and that all else stays.
-use Rattle.std.proofs.Common.{replicate, ◌≡◌, ◌≢◌, ℕ, ◌+◌, ◌*◌, ◌<◌, Bool, true, false, nat_lt, if◌then◌else◌, List, length, slice_index_or, refl, sym, ap, ap₂, subst, ◌∙◌, inl, inr, arith, ltb-true, get_or-set_same, get_or-set_other}
+use Rattle.std.proofs.Common.{replicate, ◌≡◌, ◌≢◌, ℕ, ◌+◌, ◌<◌, Bool, true, false, nat_lt, if◌then◌else◌, length, slice_index_or, refl, sym, ap, subst, ◌∙◌, inl, inr, arith, ltb-true, get_or-set_same, get_or-set_other}
 use Rattle.std.specs.List.{list_all}
 use Rattle.std.proofs.lemmas.Bool.{cases_lt}
-use Rattle.std.proofs.lemmas.List.{length-replicate, length_push, get_or-replicate, get_or_past}
+use Rattle.std.proofs.lemmas.List.{length-replicate, length_push, length-set, get_or-replicate, get_or_past}
 use Rattle.bc_model.specs.Changes.{WritesSlot, WritesField}
 use Rattle.bc_model.specs.Consistent.{IsState, IsValue, sizes_of}
 use Rattle.bc_model.specs.Making.{IsNew}
@@ -20,7 +20,6 @@ use Rattle.bc_model.specs.declared.values.Value.{Value}
 use Rattle.bc_model.specs.declared.values.Value.TheVariants.{Nil, Num, Obj}
 use Rattle.bc_model.proofs.Agreeing.{place-within, same-place}
 use Rattle.bc_model.proofs.Objects.{cases_birth, length-made_by-with_object, object_of-with_object_same, object_of-with_object_other, made_by-with_made_same, object_of-with_made_same, object_of-with_made_other}
-use Rattle.bc_model.proofs.Steps.{IsState-step, SameSizes-step}
 use Rattle.bc_model.proofs.Outcomes.{foreign-where, no_object-where, no_field-where}
 
 -- t is s with a value in a field of the object that the slot refers to
@@ -262,10 +261,38 @@ made-none s j o k hs ne = after s j o (λ t. length (made_by t.made k) ≡ lengt
     go (op.Len p) ne t h = ap (λ (x : State). length (made_by x.made k)) h
     go (op.Same p q) ne t h = ap (λ (x : State). length (made_by x.made k)) h
 
--- how many slots there are, and whose the domains are
-pub same-slots : (s : State) (j : ℕ) (o : Op) → IsState s → j < length s.made → IsOp (sizes_of s) o → length (step s j o).0.slots ≡ length s.slots
-same-slots s j o hs lane fits =
-    let same = SameSizes-step s j o hs fits in
-    (IsState-step s j o hs lane fits).slots
-    ∙ ap₂ (λ (w : ℕ) (h : List ℕ). w * length h) same.width same.holders
-    ∙ sym hs.slots
+-- an operation that is done leaves as many slots as there are, and whose the domains are
+pub record HasRest (s t : State) : Type 0 where
+  pub holders : t.holders ≡ s.holders
+  pub width : t.width ≡ s.width
+  pub slots : length t.slots ≡ length s.slots
+
+rest_of : (s t : State) → t ≡ record s { made = t.made; slots = t.slots } → length t.slots ≡ length s.slots → HasRest s t
+rest_of s t only long = record {
+  holders = ap (λ (x : State). x.holders) only;
+  width = ap (λ (x : State). x.width) only;
+  slots = long;
+}
+
+rest-slot : (s t : State) (p : Slot) (v : Value) → t ≡ with_slot s p v → HasRest s t
+rest-slot s t p v e =
+    subst (HasRest s) (sym e) (rest_of s (with_slot s p v) refl (length-set s.slots (place_of s.width p) v))
+
+rest-field : (s t : State) (b : Birth) (i : ℕ) (v : Value) → t ≡ with_field s b i v → HasRest s t
+rest-field s t b i v e = subst (HasRest s) (sym e) (rest_of s (with_field s b i v) refl refl)
+
+rest-done : (s : State) (j : ℕ) (o : Op) (t : State) → HasDone s j o t → HasRest s t
+rest-done s j (op.New p n) t h =
+    subst (HasRest s) (sym h) (rest_of s (with_new s j p n) refl (length-set s.slots (place_of s.width p) (Obj (next_birth s.made j))))
+rest-done s j (op.Set p i v) t h = rest-field s t h.birth i (Num v) h.state
+rest-done s j (op.Cut p i) t h = rest-field s t h.birth i Nil h.state
+rest-done s j (op.Link p i q) t h = rest-field s t h.birth i (slot_of s q) h.state
+rest-done s j (op.Load p i q) t h = rest-slot s t q (field_of s h.birth i) h.state
+rest-done s j (op.Copy p q) t h = rest-slot s t q (slot_of s p) h
+rest-done s j (op.Clear p) t h = rest-slot s t p Nil h
+rest-done s j (op.Who p) t h = subst (HasRest s) (sym h) (rest_of s s refl refl)
+rest-done s j (op.Len p) t h = subst (HasRest s) (sym h) (rest_of s s refl refl)
+rest-done s j (op.Same p q) t h = subst (HasRest s) (sym h) (rest_of s s refl refl)
+
+pub rest-stays : (s : State) (j : ℕ) (o : Op) → HasRest s (step s j o).0
+rest-stays s j o = after s j o (HasRest s) (rest_of s s refl refl) (rest-done s j o)

@@ -1,5 +1,5 @@
 -- When a lane can't do an operation, told of the state before it: it lacks a domain, or there is no object where the
--- operation needs one, or the object has no such field. And what those tell that have an answer.
+-- operation needs one, or the object has no such field. Then: what the others are answered.
 use Rattle.std.specs.Prelude.{◌≡◌, ◌≢◌, ◌⊎◌, ℕ, ◌≤◌, true, false, length}
 use Rattle.bc_model.specs.State.{State, object_of, slot_of, holds}
 use Rattle.bc_model.specs.declared.operations.Op.{Op}

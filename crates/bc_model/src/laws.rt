@@ -74,19 +74,19 @@ pub fn law_foreign()
     ensures { (s : State) → (j : ℕ) → (o : Op) → ((step s j o).1 ≡ Reply.Foreign) ↔ LacksDomain s j o }
 {}
 
-/// Law: the reply is `NotObj` exactly where the lane holds all these domains, and the slot that has to refer to an
-/// object is nil or a number.
+/// Law: the reply is `NotObj` exactly where the lane holds all domains that the operation needs, and the slot that has to
+/// refer to an object is nil or a number.
 pub fn law_not_object()
     ensures { (s : State) → (j : ℕ) → (o : Op) → ((step s j o).1 ≡ Reply.NotObj) ↔ LacksObject s j o }
 {}
 
-/// Law: the reply is `Range` exactly where the lane holds all these domains, and the slot's object has no field of that
-/// number.
+/// Law: the reply is `Range` exactly where the lane holds all domains that the operation needs, and the slot's object has
+/// no field of the number that it names.
 pub fn law_range()
     ensures { (s : State) → (j : ℕ) → (o : Op) → ((step s j o).1 ≡ Reply.Range) ↔ LacksField s j o }
 {}
 
-/// Law: an operation that none of these stands against is answered `Done` where it changes a field or a slot, and else
+/// Law: an operation that isn't refused (`IsRefused`) is answered `Done` where it changes a field or a slot, and else
 /// has its own answer: the next birth of the lane, what the slot holds, how many fields its object has, what was loaded.
 pub fn law_done()
     ensures change { (s : State) → (j : ℕ) → (o : Op) → IsChange o → ¬ IsRefused s j o → (step s j o).1 ≡ Reply.Done }
@@ -163,13 +163,11 @@ pub fn law_objects_made()
         → Grows s.made (step s j o).0.made }
 {}
 
-/// Law: no operation changes whose a domain is, or how many slots there are.
+/// Law: no operation changes whose a domain is, or how many slots there are, in any state.
 pub fn law_rest_stays()
-    ensures holders { (s : State) → (j : ℕ) → (o : Op) → IsState s → IsOp (sizes_of s) o
-        → (step s j o).0.holders ≡ s.holders }
-    ensures width { (s : State) → (j : ℕ) → (o : Op) → IsState s → IsOp (sizes_of s) o → (step s j o).0.width ≡ s.width }
-    ensures slots { (s : State) → (j : ℕ) → (o : Op) → IsState s → j < length s.made → IsOp (sizes_of s) o
-        → length (step s j o).0.slots ≡ length s.slots }
+    ensures holders { (s : State) → (j : ℕ) → (o : Op) → (step s j o).0.holders ≡ s.holders }
+    ensures width { (s : State) → (j : ℕ) → (o : Op) → (step s j o).0.width ≡ s.width }
+    ensures slots { (s : State) → (j : ℕ) → (o : Op) → length (step s j o).0.slots ≡ length s.slots }
 {}
 
 /// Law: what is loaded from a field after a `set` of it is the number.

@@ -1,12 +1,11 @@
-use Rattle.bc_model.proofs.Changes.{same-slots}
-use Rattle.bc_model.proofs.Steps.{SameSizes-step}
+use Rattle.bc_model.proofs.Changes.{rest-stays}
 use Rattle.bc_model.proofs.laws.law_rest_stays.Goals as goal
 
 pub returns-clause-holders : goal.returns-clause-holders
-returns-clause-holders c = λ s j o hs fits. (SameSizes-step s j o hs fits).holders
+returns-clause-holders c = λ s j o. (rest-stays s j o).holders
 
 pub returns-clause-width : goal.returns-clause-width
-returns-clause-width c = λ s j o hs fits. (SameSizes-step s j o hs fits).width
+returns-clause-width c = λ s j o. (rest-stays s j o).width
 
 pub returns-clause-slots : goal.returns-clause-slots
-returns-clause-slots c = same-slots
+returns-clause-slots c = λ s j o. (rest-stays s j o).slots
