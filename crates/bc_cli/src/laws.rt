@@ -10,7 +10,7 @@ ghost use Rattle.bc_cli.specs.Output.{whole_text, cut_text};
 
 /// A run that is done writes at most four times as many bytes as its trace has, and one that ends for want of heap
 /// at most 40 more. So a sink with room for as many meets the condition of `top`; where the source doesn't tell its
-/// bytes, one with room for the longest trace's.
+/// bytes, one with that room for the longest trace does.
 pub fn law_output()
     ensures short { (bytes : List ℕ) (t : TraceLists) → length bytes ≤ longest_trace → Spells bytes t →
         length (whole_text t) ≤ 4 * length bytes }
