@@ -6,7 +6,7 @@ use Rattle.std.specs.Prelude.{IsErrOf}
 use Rattle.bc_classes.proofs.ClassLemmas.{class_of-class}
 use Rattle.bc_cycle.specs.Emptying.{Parts, IsInOrder, parts_of}
 use Rattle.bc_cycle.specs.declared.heaps.Heap.{Heap}
-use Rattle.bc_heap.specs.Closed.{chunk_of, buffer_of}
+use Rattle.bc_whole_heap.specs.Closed.{chunk_of, buffer_of}
 use Rattle.bc_model.specs.State.{State}
 use Rattle.bc_model.specs.Step.{step}
 use Rattle.bc_model.specs.declared.operations.Op.{Op}

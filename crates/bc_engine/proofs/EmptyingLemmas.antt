@@ -6,9 +6,9 @@ use Rattle.bc_bits.specs.Bits.{has}
 use Rattle.bc_cycle.specs.Emptying.{Parts, IsEmptied, IsAsBefore, bare_chunk}
 use Rattle.bc_cycle.proofs.ChunkLists.{chunk-emptied}
 use Rattle.bc_failsafe.specs.Packing.{NeedOfHeap}
-use Rattle.bc_heap.specs.Closed.{chunk_of, buffer_of, no_buffer}
-use Rattle.bc_heap.specs.Heaps.{heap_memory, root_words, no_chunk}
-use Rattle.bc_heap.proofs.ChunkLemmas.{length-alike}
+use Rattle.bc_whole_heap.specs.Closed.{chunk_of, buffer_of, no_buffer}
+use Rattle.bc_whole_heap.specs.Heaps.{heap_memory, root_words, no_chunk}
+use Rattle.bc_whole_heap.proofs.ChunkLemmas.{length-alike}
 use Rattle.bc_memory.specs.Memory.{Memory}
 use Rattle.bc_model.specs.State.{State}
 use Rattle.bc_model.specs.declared.traces.Setup.{Setup}

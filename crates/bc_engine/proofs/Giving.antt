@@ -2,7 +2,7 @@
 use Rattle.std.proofs.Common.{◌≡◌, ℕ, ◌<◌, List, [], length, get_or, set, sym, ap, subst, ◌∙◌, inl, inr, arith, get_or-set_same, get_or-set_other, length-set}
 use Rattle.std.proofs.lemmas.Bool.{cases_eq}
 use Rattle.bc_cycle.specs.Emptying.{Parts}
-use Rattle.bc_heap.specs.Closed.{chunk_of, buffer_of, IsCellOrYoung, IsClosedHeap}
+use Rattle.bc_whole_heap.specs.Closed.{chunk_of, buffer_of, IsCellOrYoung, IsClosedHeap}
 use Rattle.bc_model.specs.State.{State, given}
 use Rattle.bc_model.specs.declared.traces.Setup.{Setup}
 use Rattle.bc_model.proofs.States.{IsState-given}

@@ -9,7 +9,7 @@ use Rattle.bc_cycle.specs.Emptying.{Parts}
 use Rattle.bc_cycle.specs.Openings.{new_heap}
 use Rattle.bc_cycle.proofs.OpeningLemmas.{chunk-at, chunk-none, chunks-long, supers-long, no_object, no_entries, opening-running}
 use Rattle.bc_failsafe.proofs.OpeningLemmas.{nothing}
-use Rattle.bc_heap.specs.Heaps.{heap_memory, root_words}
+use Rattle.bc_whole_heap.specs.Heaps.{heap_memory, root_words}
 use Rattle.bc_memory.specs.Memory.{Memory}
 use Rattle.bc_model.specs.Reached.{Holds, FieldHolds, Reached}
 use Rattle.bc_model.specs.Run.{opening}

@@ -5,8 +5,8 @@ use Rattle.std.proofs.lemmas.Bool.{cases_lt}
 use Rattle.std.proofs.lemmas.List.{get_or_append_left, get_or_push, length-map, length_push}
 use Rattle.std.specs.List.{AllByRecursion}
 use Rattle.bc_cycle.specs.Emptying.{Parts}
-use Rattle.bc_heap.specs.Closed.{chunk_of}
-use Rattle.bc_heap.specs.Heaps.{heap_memory, object_in, root_words}
+use Rattle.bc_whole_heap.specs.Closed.{chunk_of}
+use Rattle.bc_whole_heap.specs.Heaps.{heap_memory, object_in, root_words}
 use Rattle.bc_model.specs.Consistent.{sizes_of}
 use Rattle.bc_model.specs.Interleaving.{replies_by, ops_by}
 use Rattle.bc_model.specs.Lists.{PhaseLists, lists_of}

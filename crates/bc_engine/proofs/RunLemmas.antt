@@ -6,7 +6,7 @@ use Rattle.std.proofs.lemmas.List.{get_or-map, map-set, length_push, length-map}
 use Rattle.bc_cycle.specs.Emptying.{Parts, parts_of}
 use Rattle.bc_cycle.specs.declared.heaps.Heap.{Heap}
 use Rattle.std.specs.List.{AllByRecursion}
-use Rattle.bc_heap.specs.Closed.{chunk_of, buffer_of}
+use Rattle.bc_whole_heap.specs.Closed.{chunk_of, buffer_of}
 use Rattle.bc_model.specs.Lists.{lists_of}
 use Rattle.bc_model.specs.WellFormed.{IsOp}
 use Rattle.bc_model.proofs.Runs.{at-index}

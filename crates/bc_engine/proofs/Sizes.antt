@@ -4,9 +4,9 @@ use Rattle.std.proofs.lemmas.Bool.{cases_eq}
 use Rattle.std.specs.List.{find}
 use Rattle.std.specs.Option.{is_some}
 use Rattle.bc_cycle.specs.Emptying.{Parts}
-use Rattle.bc_heap.specs.Closed.{chunk_of, buffer_of}
-use Rattle.bc_heap.specs.Heaps.{object_in}
-use Rattle.bc_heap.proofs.ChunkLemmas.{object_in-none}
+use Rattle.bc_whole_heap.specs.Closed.{chunk_of, buffer_of}
+use Rattle.bc_whole_heap.specs.Heaps.{object_in}
+use Rattle.bc_whole_heap.proofs.ChunkLemmas.{object_in-none}
 use Rattle.bc_model.specs.Consistent.{sizes_of}
 use Rattle.bc_model.specs.State.{State}
 use Rattle.bc_model.specs.WellFormed.{IsOp}

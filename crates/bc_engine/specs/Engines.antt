@@ -2,9 +2,9 @@
 use Rattle.std.specs.Prelude.{◌≡◌, ◌≢◌, ℕ, ◌+◌, ◌*◌, ◌^◌, ◌<◌, ◌≤◌, false, List, [], length, Option, Some, None, slice_index}
 use Rattle.bc_bits.specs.Bits.{has}
 use Rattle.bc_cycle.specs.Emptying.{Parts, IsInOrder}
-use Rattle.bc_heap.specs.Closed.{chunk_of, buffer_of}
-use Rattle.bc_heap.specs.Heaps.{NoneRemembered}
-use Rattle.bc_heap.specs.Running.{StandsAs}
+use Rattle.bc_whole_heap.specs.Closed.{chunk_of, buffer_of}
+use Rattle.bc_whole_heap.specs.Heaps.{NoneRemembered}
+use Rattle.bc_whole_heap.specs.Running.{StandsAs}
 use Rattle.bc_model.specs.State.{State}
 use Rattle.bc_model.specs.WellFormed.{IsSetup}
 use Rattle.bc_model.specs.declared.traces.Setup.{Setup}

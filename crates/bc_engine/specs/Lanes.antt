@@ -3,7 +3,7 @@ use Rattle.std.specs.Prelude.{◌≡◌, ◌≢◌, ℕ, ◌+◌, ◌-◌, ◌^�
 use Rattle.std.specs.List.{AllByRecursion}
 use Rattle.std.specs.declared.alloc.Global.{Global}
 use Rattle.bc_cycle.specs.Emptying.{Parts}
-use Rattle.bc_heap.specs.Closed.{chunk_of, buffer_of}
+use Rattle.bc_whole_heap.specs.Closed.{chunk_of, buffer_of}
 use Rattle.bc_model.specs.Interleaving.{LaneOp, after_steps, replies_by, ops_by}
 use Rattle.bc_model.specs.Lists.{lists_of}
 use Rattle.bc_model.specs.State.{State}

@@ -2,7 +2,7 @@ ghost use Rattle.std.specs.Prelude.{◌≡◌, ◌≢◌, ℕ, ◌+◌, ◌^◌,
 ghost use Rattle.bc_engine.specs.Engines.{HasEmptyChunks, IsReady, IsUnrecorded};
 ghost use Rattle.bc_cycle.specs.Emptying.{parts_of};
 ghost use Rattle.bc_engine.specs.Lanes.{of_lane, AreDone, Does, EachFurther, HasMore, IsAtEndOr, IsHeldUp, IsOneMore, IsUnderway, LeavesOthers, Runs, Stops};
-ghost use Rattle.bc_heap.specs.Closed.{chunk_of, buffer_of};
+ghost use Rattle.bc_whole_heap.specs.Closed.{chunk_of, buffer_of};
 ghost use Rattle.bc_model.specs.Lists.{lists_of};
 ghost use Rattle.bc_model.specs.declared.traces.Setup.{Setup};
 ghost use Rattle.bc_mutator.specs.Operations.{IsOpOf};

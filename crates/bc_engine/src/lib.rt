@@ -22,7 +22,7 @@
 // the phase's end alone (proofs/CutLemmas.antt).
 //
 // What is true of every engine between calls, until memory runs out (`IsEngine`): its heap is in order, so that lanes can
-// run on it (`IsRunning` in `bc_heap`); it has the sizes of the setup, with a frame for every page, and superpages are in
+// run on it (`IsRunning` in `bc_whole_heap`); it has the sizes of the setup, with a frame for every page, and superpages are in
 // use for the setup's domains alone; and there is a state of the heap that never frees, moves or pages that it stands for,
 // with just these holders and births. As long as it hasn't ended, write buffers are empty and no page is remembered.
 //

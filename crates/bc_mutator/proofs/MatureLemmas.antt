@@ -2,10 +2,10 @@
 use Rattle.std.proofs.Common.{◌≡◌, ◌≢◌, ◌⊎◌, ℕ, ◌<◌, true, false, List, [], ◌∷◌, length, get_or, set, Option, Some, refl, sym, ap, subst, ◌∙◌, inl, inr, arith, get_or-set_same, get_or-set_other, length-set}
 use Rattle.std.proofs.lemmas.Bool.{cases_eq, cases_lt}
 use Rattle.std.proofs.lemmas.List.{get_or_append_left, get_or_push, length_push}
-use Rattle.bc_heap.specs.Closed.{chunk_of, buffer_of, no_buffer, IsCellOrYoung, IsRecorded, IsEntry, IsClosedHeap}
-use Rattle.bc_heap.specs.Heaps.{end_of, heap_memory, AreChunks, AreApart}
-use Rattle.bc_heap.specs.Running.{IsRunning}
-use Rattle.bc_heap.proofs.HeapLemmas.{memory-below, memory-above}
+use Rattle.bc_whole_heap.specs.Closed.{chunk_of, buffer_of, no_buffer, IsCellOrYoung, IsRecorded, IsEntry, IsClosedHeap}
+use Rattle.bc_whole_heap.specs.Heaps.{end_of, heap_memory, AreChunks, AreApart}
+use Rattle.bc_whole_heap.specs.Running.{IsRunning}
+use Rattle.bc_whole_heap.proofs.HeapLemmas.{memory-below, memory-above}
 use Rattle.bc_memory.specs.Memory.{Cell, Memory, with_cell, with_field}
 use Rattle.bc_memory.proofs.MemoryLemmas.{with_cell-same, with_cell-other, with_cell-is}
 use Rattle.bc_model.specs.declared.values.Birth.{Birth}

@@ -4,9 +4,9 @@ use Rattle.std.proofs.Math.ListN.{get_or-map}
 use Rattle.std.proofs.lemmas.Bool.{ne_eqb, lt-ltb, le-ltb}
 use Rattle.bc_reach.specs.Reach.{begin, onward}
 use Rattle.bc_cycle.specs.declared.heaps.Heap.{Heap}
-use Rattle.bc_heap.specs.Closed.{IsCellOrYoung}
-use Rattle.bc_heap.specs.Heaps.{heap_memory, root_words}
-use Rattle.bc_heap.specs.Running.{StandsAs}
+use Rattle.bc_whole_heap.specs.Closed.{IsCellOrYoung}
+use Rattle.bc_whole_heap.specs.Heaps.{heap_memory, root_words}
+use Rattle.bc_whole_heap.specs.Running.{StandsAs}
 use Rattle.bc_memory.specs.Memory.{Cell, Memory}
 use Rattle.bc_model.specs.Reached.{Reached}
 use Rattle.bc_model.specs.State.{State, object_of, place_of, slot_of, field_of, holds}

@@ -10,11 +10,11 @@ use Rattle.std.specs.Vec.{with_item}
 use Rattle.std.specs.Option.{option_or}
 use Rattle.bc_classes.specs.Classes.{class_of}
 use Rattle.bc_cycle.specs.declared.heaps.Heap.{Heap}
-use Rattle.bc_heap.specs.Closed.{chunk_of, buffer_of, IsCellOrYoung, IsRecorded, IsClosedHeap}
-use Rattle.bc_heap.specs.Heaps.{end_of, heap_memory, root_words, no_chunk, young, object_in, AreApart}
-use Rattle.bc_heap.specs.Running.{IsRunning, StandsAs}
-use Rattle.bc_heap.proofs.ChunkLemmas.{object_in-at, object_in-none}
-use Rattle.bc_heap.proofs.HeapLemmas.{memory-below, memory-above}
+use Rattle.bc_whole_heap.specs.Closed.{chunk_of, buffer_of, IsCellOrYoung, IsRecorded, IsClosedHeap}
+use Rattle.bc_whole_heap.specs.Heaps.{end_of, heap_memory, root_words, no_chunk, young, object_in, AreApart}
+use Rattle.bc_whole_heap.specs.Running.{IsRunning, StandsAs}
+use Rattle.bc_whole_heap.proofs.ChunkLemmas.{object_in-at, object_in-none}
+use Rattle.bc_whole_heap.proofs.HeapLemmas.{memory-below, memory-above}
 use Rattle.bc_memory.specs.Memory.{Cell, Memory, with_cell}
 use Rattle.bc_memory.proofs.MemoryLemmas.{with_cell-is}
 use Rattle.bc_model.specs.State.{State, Object, made_by, with_made, next_birth, place_of}

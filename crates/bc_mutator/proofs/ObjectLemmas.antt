@@ -2,10 +2,10 @@
 use Rattle.std.proofs.Common.{◌≡◌, ℕ, ◌+◌, ◌<◌, ◌≤◌, true, inl, inr, List, length, get_or, Some, option_map, refl, sym, ap, subst, ◌∙◌, arith}
 use Rattle.std.proofs.lemmas.Bool.{cases_lt, lt-ltb, le-ltb}
 use Rattle.std.proofs.lemmas.List.{get_or_read}
-use Rattle.bc_heap.specs.Closed.{chunk_of, IsCellOrYoung, IsClosedHeap}
-use Rattle.bc_heap.specs.Heaps.{end_of, heap_memory, young, no_chunk, AreChunks, AreApart, NoneGone}
-use Rattle.bc_heap.proofs.ChunkLemmas.{has-some, object_in-at}
-use Rattle.bc_heap.proofs.HeapLemmas.{memory-below, memory-above, allocated-at_hand}
+use Rattle.bc_whole_heap.specs.Closed.{chunk_of, IsCellOrYoung, IsClosedHeap}
+use Rattle.bc_whole_heap.specs.Heaps.{end_of, heap_memory, young, no_chunk, AreChunks, AreApart, NoneGone}
+use Rattle.bc_whole_heap.proofs.ChunkLemmas.{has-some, object_in-at}
+use Rattle.bc_whole_heap.proofs.HeapLemmas.{memory-below, memory-above, allocated-at_hand}
 use Rattle.bc_memory.specs.Memory.{Cell}
 use Rattle.bc_nursery.specs.Entries.{Entries}
 use Rattle.bc_nursery.specs.Objects.{Nursery, IsChunk, has_object, the_object}

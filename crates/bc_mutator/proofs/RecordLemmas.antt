@@ -2,8 +2,8 @@
 use Rattle.std.proofs.Common.{◌≡◌, ℕ, ◌+◌, ◌<◌, ◌==◌, true, false, List, length, get_or, Some, refl, sym, ap, subst, ◌∙◌, inl, inr, arith}
 use Rattle.std.specs.List.{list_all}
 use Rattle.bc_cycle.specs.declared.heaps.Heap.{Heap}
-use Rattle.bc_heap.specs.Closed.{buffer_of}
-use Rattle.bc_heap.specs.Heaps.{end_of}
+use Rattle.bc_whole_heap.specs.Closed.{buffer_of}
+use Rattle.bc_whole_heap.specs.Heaps.{end_of}
 use Rattle.bc_memory.specs.Memory.{Cell}
 use Rattle.bc_model.specs.Step.{domains_of}
 use Rattle.bc_model.specs.declared.operations.Op.{Op}

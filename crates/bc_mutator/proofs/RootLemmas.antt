@@ -4,9 +4,9 @@ use Rattle.std.proofs.lemmas.Bool.{cases_eq, cases_lt}
 use Rattle.std.proofs.lemmas.List.{set-get_or, set_past, map-set}
 use Rattle.std.proofs.lemmas.Nat.{same_from_place}
 use Rattle.bc_cycle.specs.declared.heaps.Heap.{Heap}
-use Rattle.bc_heap.specs.Closed.{chunk_of, buffer_of, IsCellOrYoung, IsRecorded}
-use Rattle.bc_heap.specs.Heaps.{end_of, heap_memory, root_words}
-use Rattle.bc_heap.specs.Running.{IsRunning, StandsAs}
+use Rattle.bc_whole_heap.specs.Closed.{chunk_of, buffer_of, IsCellOrYoung, IsRecorded}
+use Rattle.bc_whole_heap.specs.Heaps.{end_of, heap_memory, root_words}
+use Rattle.bc_whole_heap.specs.Running.{IsRunning, StandsAs}
 use Rattle.bc_memory.specs.Memory.{Cell, Memory}
 use Rattle.bc_model.specs.Consistent.{IsValue}
 use Rattle.bc_model.specs.State.{State, place_of, slot_of, field_of, with_slot}

@@ -5,9 +5,9 @@ use Rattle.std.proofs.lemmas.List.{get_or_read, set-get_or}
 use Rattle.std.specs.List.{find}
 use Rattle.std.specs.Vec.{with_item}
 use Rattle.bc_cycle.specs.declared.heaps.Heap.{Heap}
-use Rattle.bc_heap.specs.Closed.{no_buffer, buffer_of}
-use Rattle.bc_heap.specs.Heaps.{end_of, heap_memory, root_words}
-use Rattle.bc_heap.specs.Running.{StandsAs}
+use Rattle.bc_whole_heap.specs.Closed.{no_buffer, buffer_of}
+use Rattle.bc_whole_heap.specs.Heaps.{end_of, heap_memory, root_words}
+use Rattle.bc_whole_heap.specs.Running.{StandsAs}
 use Rattle.bc_memory.specs.Memory.{Cell, Memory, with_cell}
 use Rattle.bc_memory.specs.Memory as memory
 use Rattle.bc_model.specs.Reached.{Reached}

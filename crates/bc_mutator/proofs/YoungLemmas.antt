@@ -2,11 +2,11 @@
 use Rattle.std.proofs.Common.{◌≡◌, ◌≢◌, ◌⊎◌, ℕ, ◌<◌, ◌≤◌, true, List, length, get_or, set, Option, Some, None, is_some, option_map, refl, sym, ap, subst, ◌∙◌, inl, inr, arith, get_or-set_same, get_or-set_other, length-set}
 use Rattle.std.proofs.lemmas.Bool.{cases_eq, cases_lt}
 use Rattle.std.proofs.lemmas.List.{set_past}
-use Rattle.bc_heap.specs.Closed.{chunk_of, buffer_of, IsCellOrYoung, IsRecorded, IsClosedHeap}
-use Rattle.bc_heap.specs.Heaps.{end_of, heap_memory, no_chunk, young, object_in, AreChunks, AreApart}
-use Rattle.bc_heap.specs.Running.{IsRunning}
-use Rattle.bc_heap.proofs.ChunkLemmas.{has-some, object_in-at, object_in-set, object_in-set_other}
-use Rattle.bc_heap.proofs.HeapLemmas.{memory-below, memory-above}
+use Rattle.bc_whole_heap.specs.Closed.{chunk_of, buffer_of, IsCellOrYoung, IsRecorded, IsClosedHeap}
+use Rattle.bc_whole_heap.specs.Heaps.{end_of, heap_memory, no_chunk, young, object_in, AreChunks, AreApart}
+use Rattle.bc_whole_heap.specs.Running.{IsRunning}
+use Rattle.bc_whole_heap.proofs.ChunkLemmas.{has-some, object_in-at, object_in-set, object_in-set_other}
+use Rattle.bc_whole_heap.proofs.HeapLemmas.{memory-below, memory-above}
 use Rattle.bc_memory.specs.Memory.{Cell, with_cell}
 use Rattle.bc_memory.specs.Memory as memory
 use Rattle.bc_memory.proofs.MemoryLemmas.{with_cell-is}

@@ -1,8 +1,8 @@
 -- What an operation of a lane does to the heap.
 use Rattle.std.specs.Prelude.{◌≡◌, ◌≢◌, ◌⊎◌, ℕ, ◌<◌, ◌≤◌, List, [], ◌∷◌, ◌++◌, length, slice_index, slice_set, Some}
 use Rattle.bc_cycle.specs.declared.heaps.Heap.{Heap}
-use Rattle.bc_heap.specs.Closed.{buffer_of}
-use Rattle.bc_heap.specs.Heaps.{end_of}
+use Rattle.bc_whole_heap.specs.Closed.{buffer_of}
+use Rattle.bc_whole_heap.specs.Heaps.{end_of}
 use Rattle.bc_memory.specs.Memory.{with_cell, with_field}
 use Rattle.bc_model.specs.State.{State, slot_of}
 use Rattle.bc_model.specs.State.{with_field as value_in_field}

@@ -1,9 +1,9 @@
 -- The objects that an operation of a lane may look at: allocated cells, and objects of the lane's own chunk.
 use Rattle.std.specs.Prelude.{◌≡◌, ℕ, ◌<◌, ◌≤◌, nat_lt, if◌then◌else◌, true, List, length, slice_index, Some}
 use Rattle.bc_cycle.specs.declared.heaps.Heap.{Heap}
-use Rattle.bc_heap.specs.Closed.{chunk_of, IsCellOrYoung}
-use Rattle.bc_heap.specs.Heaps.{end_of, heap_memory, young, AreApart}
-use Rattle.bc_heap.specs.Running.{IsRunning, StandsAs}
+use Rattle.bc_whole_heap.specs.Closed.{chunk_of, IsCellOrYoung}
+use Rattle.bc_whole_heap.specs.Heaps.{end_of, heap_memory, young, AreApart}
+use Rattle.bc_whole_heap.specs.Running.{IsRunning, StandsAs}
 use Rattle.bc_memory.specs.Memory.{Cell, Memory}
 use Rattle.bc_model.specs.Reached.{Reached}
 use Rattle.bc_model.specs.State.{State}

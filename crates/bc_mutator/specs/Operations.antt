@@ -1,7 +1,7 @@
 -- When an operation fits the root slots, and when it stops.
 use Rattle.std.specs.Prelude.{◌≡◌, ℕ, ◌<◌, ◌≤◌, true, List, length, slice_index, Some}
 use Rattle.bc_classes.specs.Classes.{class_of}
-use Rattle.bc_heap.specs.Heaps.{heap_memory}
+use Rattle.bc_whole_heap.specs.Heaps.{heap_memory}
 use Rattle.bc_memory.specs.Memory.{Cell}
 use Rattle.bc_model.specs.WellFormed.{IsOp}
 use Rattle.bc_model.specs.declared.operations.Op.{Op}

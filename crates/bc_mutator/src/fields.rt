@@ -1,5 +1,5 @@
 ghost use Rattle.std.specs.Prelude.{◌≡◌, ℕ, slice_index, IfOk, IfErr, OnErr};
-ghost use Rattle.bc_heap.specs.Closed.{buffer_of};
+ghost use Rattle.bc_whole_heap.specs.Closed.{buffer_of};
 ghost use Rattle.bc_model.specs.WellFormed.{IsSlot, IsNumber};
 ghost use Rattle.bc_model.specs.declared.operations.Op.{Op};
 ghost use Rattle.bc_model.specs.declared.operations.Op.TheVariants.{Set, Cut, Link};

@@ -1,6 +1,6 @@
 ghost use Rattle.std.specs.Prelude.{◌≡◌, ◌<◌, length, slice_index_or};
-ghost use Rattle.bc_heap.specs.Closed.{IsCellOrYoung};
-ghost use Rattle.bc_heap.specs.Heaps.{NoneGone};
+ghost use Rattle.bc_whole_heap.specs.Closed.{IsCellOrYoung};
+ghost use Rattle.bc_whole_heap.specs.Heaps.{NoneGone};
 ghost use Rattle.bc_model.specs.WellFormed.{IsSlot};
 ghost use Rattle.bc_word.specs.Words.{FitsWord};
 ghost use Rattle.bc_word.specs.declared.words.Word.TheVariants.{Nil};
@@ -8,9 +8,9 @@ ghost use Rattle.bc_mutator.specs.Objects.{LieBehind, own_chunk, cell_of, slot_w
 ghost use Rattle.bc_mutator.specs.Operations.{setup_of};
 
 use bc_cycle::Heap;
-use bc_heap::end_of_superpages;
 use bc_model::Slot;
 use bc_superpages::Roots;
+use bc_whole_heap::end_of_superpages;
 use bc_word::{Address, Head, Word, unpack};
 
 /// The word in a root slot.

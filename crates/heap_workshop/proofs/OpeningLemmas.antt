@@ -5,7 +5,7 @@ use Rattle.bc_cycle.specs.Emptying.{Parts}
 use Rattle.bc_cycle.specs.Openings.{new_heap}
 use Rattle.bc_cycle.proofs.OpeningLemmas.{chunks-long, supers-long, no_object, opening-running}
 use Rattle.bc_failsafe.proofs.OpeningLemmas.{nothing}
-use Rattle.bc_heap.specs.Heaps.{heap_memory}
+use Rattle.bc_whole_heap.specs.Heaps.{heap_memory}
 use Rattle.bc_standing.proofs.Homes.{births-cell}
 use Rattle.heap_workshop.specs.Workshops.{Bench, IsSound, AreSizes, new_workshop, setup_of}
 use Rattle.heap_workshop.specs.declared.workshops.Sizes.{Sizes}

@@ -6,8 +6,8 @@ use Rattle.bc_cycle.specs.Causes.{IfOutOfHeap}
 use Rattle.bc_cycle.specs.Emptying.{Parts, IsInOrder, IsEmptied, IsAsBefore}
 use Rattle.bc_cycle.specs.declared.emptying.CycleNo.{CycleNo}
 use Rattle.bc_cycle.specs.declared.emptying.CycleNo.TheVariants.{OutOfHeap}
-use Rattle.bc_heap.specs.Heaps.{HasFrames}
-use Rattle.bc_heap.specs.Running.{IsRunning}
+use Rattle.bc_whole_heap.specs.Heaps.{HasFrames}
+use Rattle.bc_whole_heap.specs.Running.{IsRunning}
 use Rattle.bc_memory.specs.Memory.{Memory}
 use Rattle.bc_mutator.specs.Operations.{NoneLater}
 use Rattle.bc_nursery.specs.Entries.{Entries}

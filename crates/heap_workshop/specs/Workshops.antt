@@ -6,8 +6,8 @@ use Rattle.bc_bits.specs.Counting.{count_below}
 use Rattle.bc_cycle.specs.Emptying.{Parts}
 use Rattle.bc_cycle.specs.Openings.{new_heap}
 use Rattle.bc_cycle.specs.declared.heaps.Heap.{Heap}
-use Rattle.bc_heap.specs.Heaps.{HasFrames, heap_memory}
-use Rattle.bc_heap.specs.Running.{IsRunning, StandsAs}
+use Rattle.bc_whole_heap.specs.Heaps.{HasFrames, heap_memory}
+use Rattle.bc_whole_heap.specs.Running.{IsRunning, StandsAs}
 use Rattle.bc_model.specs.State.{State, numbers_below}
 use Rattle.bc_model.specs.declared.operations.Op.{Op}
 use Rattle.bc_model.specs.declared.traces.Setup.{Setup}

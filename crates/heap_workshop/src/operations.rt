@@ -1,7 +1,7 @@
 ghost use Rattle.std.specs.Prelude.{◌≡◌, ◌↔◌, ◌+◌, ◌^◌, ◌<◌, length, slice_index, IsTrue, IfOk, OnErr, IsErrOf};
 ghost use Rattle.bc_model.specs.State.{State};
 ghost use Rattle.bc_model.specs.Step.{step};
-ghost use Rattle.bc_heap.specs.Closed.{buffer_of, chunk_of};
+ghost use Rattle.bc_whole_heap.specs.Closed.{buffer_of, chunk_of};
 ghost use Rattle.bc_mutator.specs.Operations.{IsOpOf, NeedsEntry, WantsMore};
 ghost use Rattle.bc_nursery.specs.Objects.{left_of};
 ghost use Rattle.heap_workshop.specs.Workshops.{bench_of, IsSound, Stands};

@@ -1,5 +1,5 @@
 use Rattle.std.proofs.Common.{◌≡◌, ℕ, ◌≤◌, []}
-use Rattle.bc_heap.specs.Closed.{chunk_of}
+use Rattle.bc_whole_heap.specs.Closed.{chunk_of}
 use Rattle.bc_model.specs.Lists.{lists_of}
 use Rattle.bc_engine.specs.Engines.{IsUnrecorded}
 use Rattle.bc_cycle.specs.Emptying.{parts_of}

@@ -1,6 +1,6 @@
 use Rattle.std.proofs.Common.{◌≡◌, true, sym, subst, arith}
 use Rattle.std.proofs.lemmas.List.{get_or_read}
-use Rattle.bc_heap.specs.Heaps.{no_chunk}
+use Rattle.bc_whole_heap.specs.Heaps.{no_chunk}
 use Rattle.bc_nursery.specs.Objects.{Nursery, has_object}
 use Rattle.bc_mutator.specs.Objects.{own_chunk}
 use Rattle.bc_mutator.proofs.ObjectLemmas.{at_hand-there, there-above}
