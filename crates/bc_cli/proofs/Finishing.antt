@@ -13,7 +13,7 @@ use Rattle.bc_model.specs.declared.traces.Setup.{Setup}
 use Rattle.bc_model.proofs.Openings.{made_by-opening}
 use Rattle.bc_trace.specs.Replies.{done_text, out_of_heap_text}
 use Rattle.bc_cli.specs.Endings.{WritesFront, FitsThroughout, HasRun, HasRunRoom, HasPhaseRoom, EndsDone, EndsOutOfHeap, FailsAtDone}
-use Rattle.bc_cli.specs.Outcomes.{IfOutOfHeap, IsEnding, IsOrNoMemory}
+use Rattle.bc_cli.specs.Outcomes.{IfStatusOutOfHeap, IsEnding, IsOrNoMemory}
 use Rattle.bc_cli.specs.Output.{texts_from, texts_before, all_texts, whole_text, text_at, need_text, cut_text}
 use Rattle.bc_cli.specs.declared.status.Status.{Status}
 use Rattle.bc_cli.specs.declared.status.Status.TheVariants.{Done, BadWords, BadTrace, TooLong, ReadFault, WriteFault, OutOfHeap, NoMemory}
@@ -90,7 +90,7 @@ phase-room t k a b lt h fell =
 -- ---- what an ending says of a status
 
 -- where all states fit and no write fails the replay is done
-pub complete-ending : (s : Status) (t : TraceLists) (held held' : Option (List ℕ)) (heap : Option EngineView) → IsEnding s → IfOutOfHeap s (EndsOutOfHeap t held held' heap) → FitsThroughout t → s ≢ WriteFault → IsOrNoMemory s Done
+pub complete-ending : (s : Status) (t : TraceLists) (held held' : Option (List ℕ)) (heap : Option EngineView) → IsEnding s → IfStatusOutOfHeap s (EndsOutOfHeap t held held' heap) → FitsThroughout t → s ≢ WriteFault → IsOrNoMemory s Done
 complete-ending Done t held held' heap h need fits firm = inl refl
 complete-ending BadWords t held held' heap h need fits firm = absurd h
 complete-ending (BadTrace line cause) t held held' heap h need fits firm = absurd h

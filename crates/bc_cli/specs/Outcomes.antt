@@ -22,7 +22,7 @@ pub record ReadWhole (old new : Option (List ℕ)) (bytes : List ℕ) : Type 0 w
   pub short : length bytes ≤ longest_trace
 
 -- The source was read to its end, and gave the text of this trace.
-pub record ReadTrace (old new : Option (List ℕ)) (t : TraceLists) : Type 0 where
+pub record ReadAsTrace (old new : Option (List ℕ)) (t : TraceLists) : Type 0 where
   pub bytes : List ℕ
   pub whole : ReadWhole old new bytes
   pub spelled : Spells bytes t
@@ -30,25 +30,25 @@ pub record ReadTrace (old new : Option (List ℕ)) (t : TraceLists) : Type 0 whe
 -- A trace was read, and it is done: its whole output is written.
 pub record Replayed (left left' held held' : Option (List ℕ)) (heap : Option EngineView) : Type 0 where
   pub trace : TraceLists
-  pub read : ReadTrace left left' trace
+  pub read : ReadAsTrace left left' trace
   pub ending : EndsDone trace held held' heap
 
 -- A trace was read, and one of its phases ended for want of heap, by this need.
 pub record RanOutOfHeap (left left' held held' : Option (List ℕ)) (heap : Option EngineView) (need : ℕ) : Type 0 where
   pub trace : TraceLists
-  pub read : ReadTrace left left' trace
+  pub read : ReadAsTrace left left' trace
   pub ending : EndsOutOfHeap trace held held' heap need
 
 -- A trace was read, and a front of what its replay writes is written.
 pub record ReplayedInPart (left left' held held' : Option (List ℕ)) (heap : Option EngineView) : Type 0 where
   pub trace : TraceLists
-  pub read : ReadTrace left left' trace
+  pub read : ReadAsTrace left left' trace
   pub ending : EndsInFault trace held held' heap
 
 -- A trace was read, and the whole texts of the phases before one of its phases are written.
 pub record ReplayedTo (left left' held held' : Option (List ℕ)) : Type 0 where
   pub trace : TraceLists
-  pub read : ReadTrace left left' trace
+  pub read : ReadAsTrace left left' trace
   pub ending : StopsBefore trace held held'
 
 -- The source was read to its end. Its bytes are no trace, and this is their first fault.
@@ -61,9 +61,9 @@ abbrev pub IfBadTrace : Status → (ℕ → Cause → Type 0) → Type 0
 IfBadTrace (BadTrace line cause) P = P line cause
 IfBadTrace _ P = Unit {0}
 
-abbrev pub IfOutOfHeap : Status → (ℕ → Type 0) → Type 0
-IfOutOfHeap (OutOfHeap need) P = P need
-IfOutOfHeap _ P = Unit {0}
+abbrev pub IfStatusOutOfHeap : Status → (ℕ → Type 0) → Type 0
+IfStatusOutOfHeap (OutOfHeap need) P = P need
+IfStatusOutOfHeap _ P = Unit {0}
 
 -- the statuses of a run that hands back no heap
 abbrev pub IfHeapless : Status → Type 0 → Type 0

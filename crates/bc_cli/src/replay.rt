@@ -10,7 +10,7 @@ ghost use Rattle.bc_trace.specs.declared.fault.TraceFault.{TraceFault};
 ghost use Rattle.bc_cli.specs.Statuses.{refusal_of};
 ghost use Rattle.bc_cli.specs.Words.{IsCommand};
 ghost use Rattle.bc_cli.specs.Endings.{EndsDone, EndsOutOfHeap, EndsInFault, StopsBefore, FitsThroughout, HasRunRoom};
-ghost use Rattle.bc_cli.specs.Outcomes.{Replayed, RanOutOfHeap, ReplayedInPart, ReplayedTo, Faulty, IfBadTrace, IfOutOfHeap, IfHeapless, IsEnding, IsOrNoMemory, HasRoomFor, longest_trace};
+ghost use Rattle.bc_cli.specs.Outcomes.{Replayed, RanOutOfHeap, ReplayedInPart, ReplayedTo, Faulty, IfBadTrace, IfStatusOutOfHeap, IfHeapless, IsEnding, IsOrNoMemory, HasRoomFor, longest_trace};
 
 use crate::command::{Command, command_of};
 use crate::phases::write_phases;
@@ -100,7 +100,7 @@ where
         × ReplayedInPart (S.left source.old) (S.left source.new) (K.held sink.old) (K.held sink.new) result.heap }
     ensures firm_source { result.status ≢ Status.ReadFault → S.faults source.new ≡ S.faults source.old }
     ensures firm_sink { result.status ≢ Status.WriteFault → K.faults sink.new ≡ K.faults sink.old }
-    ensures out_of_heap { IfOutOfHeap result.status (λ need.
+    ensures out_of_heap { IfStatusOutOfHeap result.status (λ need.
         RanOutOfHeap (S.left source.old) (S.left source.new) (K.held sink.old) (K.held sink.new) result.heap need) }
     ensures no_memory { result.status ≡ Status.NoMemory → (sink.new ≡ sink.old)
         ⊎ ReplayedTo (S.left source.old) (S.left source.new) (K.held sink.old) (K.held sink.new) }
@@ -149,7 +149,7 @@ where
         × ReplayedInPart (S.left source.old) (S.left source.new) (K.held sink.old) (K.held sink.new) result.heap }
     ensures firm_source { result.status ≢ Status.ReadFault → S.faults source.new ≡ S.faults source.old }
     ensures firm_sink { result.status ≢ Status.WriteFault → K.faults sink.new ≡ K.faults sink.old }
-    ensures out_of_heap { IfOutOfHeap result.status (λ need.
+    ensures out_of_heap { IfStatusOutOfHeap result.status (λ need.
         RanOutOfHeap (S.left source.old) (S.left source.new) (K.held sink.old) (K.held sink.new) result.heap need) }
     ensures no_memory { result.status ≡ Status.NoMemory → (sink.new ≡ sink.old)
         ⊎ ReplayedTo (S.left source.old) (S.left source.new) (K.held sink.old) (K.held sink.new) }
@@ -207,7 +207,7 @@ where
     ensures ending { IsEnding result.status }
     ensures done { result.status ≡ Status.Done →
         EndsDone trace.now (K.held sink.old) (K.held sink.new) result.heap }
-    ensures out_of_heap { IfOutOfHeap result.status (λ need.
+    ensures out_of_heap { IfStatusOutOfHeap result.status (λ need.
         EndsOutOfHeap trace.now (K.held sink.old) (K.held sink.new) result.heap need) }
     ensures write_fault { result.status ≡ Status.WriteFault → Rose (K.faults sink.old) (K.faults sink.new)
         × EndsInFault trace.now (K.held sink.old) (K.held sink.new) result.heap }

@@ -18,7 +18,7 @@ use Rattle.bc_standing.specs.Standing.{StandsFor, AllBorn}
 use Rattle.bc_promotion.specs.Promises.{HasDomainsBelow}
 use Rattle.bc_superpages.specs.Layout.{Layout, set_of}
 use Rattle.bc_superpages.specs.RootWords.{RootWords}
-use Rattle.bc_engine.specs.Engines.{HasEmptyChunks, HasSetup, IsReady, IsUnbookmarked, IsUnrecorded, Stands}
+use Rattle.bc_engine.specs.Engines.{HasEmptyChunks, HasSetup, CanRunLanes, IsUnbookmarked, IsUnrecorded, Stands}
 
 buffer-emptied : (bs : List Entries) (l : ℕ) → buffer_of (map without_entries bs) l ≡ without_entries (buffer_of bs l)
 buffer-emptied bs l = get_or-map without_entries bs l no_buffer
@@ -75,7 +75,7 @@ fits-emptied setup h k is fits = record {
   unbookmarked = unbookmarked-kept h.space k.space is.sizes.bookmarks is.sizes.incoming fits.unbookmarked;
 }
 
-pub ready-emptied : (setup : Setup) (hs serials : List ℕ) (h k : Parts) → IsEmptied h k → IsReady setup hs serials h → IsReady setup hs serials k
+pub ready-emptied : (setup : Setup) (hs serials : List ℕ) (h k : Parts) → IsEmptied h k → CanRunLanes setup hs serials h → CanRunLanes setup hs serials k
 ready-emptied setup hs serials h k is ready = record {
   range = ready.range;
   order = is.order hs ready.order;
@@ -98,7 +98,7 @@ stands-before hs serials h k state is st = record {
   lanes = length-alike bare_chunk h.chunks k.chunks is.chunks ∙ st.lanes;
 }
 
-pub ready-before : (setup : Setup) (hs serials : List ℕ) (h k : Parts) → IsAsBefore h k → IsReady setup hs serials h → IsReady setup hs serials k
+pub ready-before : (setup : Setup) (hs serials : List ℕ) (h k : Parts) → IsAsBefore h k → CanRunLanes setup hs serials h → CanRunLanes setup hs serials k
 ready-before setup hs serials h k is ready = record {
   range = ready.range;
   order = is.order hs ready.order;

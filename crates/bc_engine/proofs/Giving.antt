@@ -10,7 +10,7 @@ use Rattle.bc_nursery.specs.Entries.{Entries}
 use Rattle.bc_nursery.specs.Objects.{Nursery}
 use Rattle.bc_superpages.specs.Layout.{Layout, IsAllocated}
 use Rattle.bc_superpages.specs.RootWords.{RootWords}
-use Rattle.bc_engine.specs.Engines.{HasEmptyChunks, IsReady, IsUnrecorded, Stands}
+use Rattle.bc_engine.specs.Engines.{HasEmptyChunks, CanRunLanes, IsUnrecorded, Stands}
 use Rattle.bc_engine.proofs.Sizes.{none-young}
 
 -- what refers to a cell or to an object of an empty chunk refers to a cell
@@ -40,7 +40,7 @@ closed-given s roots cs bs hs d l none empty within h =
       entries = λ m i lt there. absurd (omega (arith, there, ap length (empty m)));
     }
 
-pub stands-given : (setup : Setup) (hs serials : List ℕ) (h : Parts) (d l : ℕ) (state : State) → IsReady setup hs serials h → l < setup.lanes → Stands h hs serials state → Stands h (set hs d l) serials (given state (record { domain = d; lane = l }))
+pub stands-given : (setup : Setup) (hs serials : List ℕ) (h : Parts) (d l : ℕ) (state : State) → CanRunLanes setup hs serials h → l < setup.lanes → Stands h hs serials state → Stands h (set hs d l) serials (given state (record { domain = d; lane = l }))
 stands-given setup hs serials h d l state ready within st = record {
   consistent = IsState-given state (record { domain = d; lane = l }) st.consistent (omega (arith, within, st.lanes, ready.fits.lanes));
   stands = st.stands;
@@ -52,7 +52,7 @@ stands-given setup hs serials h d l state ready within st = record {
   lanes = st.lanes;
 }
 
-pub ready-given : (setup : Setup) (hs serials : List ℕ) (h : Parts) (d l : ℕ) → HasEmptyChunks h → IsUnrecorded h → l < setup.lanes → IsReady setup hs serials h → IsReady setup (set hs d l) serials h
+pub ready-given : (setup : Setup) (hs serials : List ℕ) (h : Parts) (d l : ℕ) → HasEmptyChunks h → IsUnrecorded h → l < setup.lanes → CanRunLanes setup hs serials h → CanRunLanes setup (set hs d l) serials h
 ready-given setup hs serials h d l none empty within ready =
     let order = ready.order in
     record {

@@ -36,7 +36,7 @@ use Rattle.bc_word.specs.declared.words.Word.{Word}
 use Rattle.bc_word.specs.declared.words.Word.TheVariants.{Nil}
 use Rattle.bc_word.specs.Words.{word_of_bits}
 use Rattle.bc_word.proofs.WordLemmas.{word_of_bits-nil}
-use Rattle.bc_engine.specs.Engines.{HasEmptyChunks, IsReady, IsUnbookmarked, IsUnrecorded, Stands}
+use Rattle.bc_engine.specs.Engines.{HasEmptyChunks, CanRunLanes, IsUnbookmarked, IsUnrecorded, Stands}
 
 nil-words : (n : ℕ) → map word_of_bits (replicate n 0) ≡ replicate n Nil
 nil-words zero = refl
@@ -119,7 +119,7 @@ opening-stands s range =
     no-births zero = refl
     no-births (suc n) = ap (λ (ns : List ℕ). 0 ∷ ns) (no-births n)
 
-ready-opening : (s : Setup) → IsSetup s → IsReady s (opening s).holders (replicate s.lanes 0) (new_heap s)
+ready-opening : (s : Setup) → IsSetup s → CanRunLanes s (opening s).holders (replicate s.lanes 0) (new_heap s)
 ready-opening s range =
     let n = s.superpages in
     let nursery = s.lanes * s.nursery in
@@ -145,7 +145,7 @@ ready-opening s range =
 
 -- what is true of the engine that begins with such a heap
 pub record IsOpened (s : Setup) (holders serials : List ℕ) (h : Parts) : Type 0 where
-  pub ready : IsReady s holders serials h
+  pub ready : CanRunLanes s holders serials h
   pub stands : Stands h holders serials (opening s)
   pub chunks : HasEmptyChunks h
   pub unrecorded : IsUnrecorded h

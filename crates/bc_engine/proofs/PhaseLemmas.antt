@@ -21,10 +21,10 @@ use Rattle.bc_standing.specs.Standing.{StandsFor}
 use Rattle.bc_superpages.specs.Kept.{IsLayout}
 use Rattle.bc_superpages.specs.Layout.{Layout, superpages}
 use Rattle.bc_word.specs.declared.words.Word.{Word}
-use Rattle.bc_engine.specs.Engines.{EngineView, EngineStands, HasEmptyChunks, HasRoomForBirths, IsEngine, IsReady, Stands}
-use Rattle.bc_engine.specs.Lanes.{of_lane, AreDone, BirthsWithin, Goes, HasSerials, HasRoomForOps}
+use Rattle.bc_engine.specs.Engines.{EngineView, EngineStands, HasEmptyChunks, HasRoomForBirths, IsEngine, CanRunLanes, Stands}
+use Rattle.bc_engine.specs.Lanes.{of_lane, AreDone, BirthsWithin, LanesWentOn, HasSerialsLeft, HasRoomForOps}
 use Rattle.bc_engine.specs.Phases.{CutPhase, DidPhase}
-use Rattle.bc_engine.specs.Rounds.{GoesOn, IfTooSmall, IsRoomFor, IsThrough, IsTooSmall, IsUnderwayOn}
+use Rattle.bc_engine.specs.Rounds.{RoundsWentOn, IfTooSmall, IsRoomFor, IsThrough, IsTooSmall, IsUnderwayOn}
 use Rattle.bc_engine.specs.declared.engines.Ended.{Ended}
 use Rattle.bc_engine.specs.declared.engines.Ended.TheVariants.{OutOfHeap}
 use Rattle.bc_model.proofs.NeedFound.{need-found}
@@ -33,7 +33,7 @@ use Rattle.bc_engine.proofs.CutLemmas.{mixed-cut, mixed-whole, run-lanes}
 use Rattle.bc_engine.proofs.Sizes.{no-object, op-of_heap, op-of_state}
 
 -- room for a birth by each operation of the phase
-fits-births : (e : EngineView) (p : PhaseLists) (told : List (List Reply)) → HasRoomForOps e p.lanes 0 → HasSerials p.lanes e.serials told
+fits-births : (e : EngineView) (p : PhaseLists) (told : List (List Reply)) → HasRoomForOps e p.lanes 0 → HasSerialsLeft p.lanes e.serials told
 fits-births e p told fits j = omega (arith, fits j)
 
 -- and at most so many births leave room for others
@@ -60,11 +60,11 @@ pub none-yet : (lanes : List (List Op)) (vs : List (Vec Reply Global)) → IsRoo
 none-yet lanes vs room j = none-told vs (λ i v lt is. (room i v lt is).0) j
 
 -- what lanes did that had no reply before
-ops-begun : (lanes : List (List Op)) (hs : List ℕ) (h k : Parts) (serials next : List ℕ) (told answers : List (List Reply)) (g : Goes lanes hs h serials told k next answers) → ((j : ℕ) → of_lane told j ≡ []) → (j : ℕ) → ops_by j g.steps ≡ take (length (of_lane answers j)) (of_lane lanes j)
+ops-begun : (lanes : List (List Op)) (hs : List ℕ) (h k : Parts) (serials next : List ℕ) (told answers : List (List Reply)) (g : LanesWentOn lanes hs h serials told k next answers) → ((j : ℕ) → of_lane told j ≡ []) → (j : ℕ) → ops_by j g.steps ≡ take (length (of_lane answers j)) (of_lane lanes j)
 ops-begun lanes hs h k serials next told answers g none j =
     sym (g.ops j ∙ ap (λ (rs : List Reply). take (length rs) (of_lane lanes j) ++ ops_by j g.steps) (none j))
 
-replies-begun : (lanes : List (List Op)) (hs : List ℕ) (h k : Parts) (serials next : List ℕ) (told answers : List (List Reply)) (g : Goes lanes hs h serials told k next answers) → ((j : ℕ) → of_lane told j ≡ []) → (s : State) → Stands h hs serials s → (j : ℕ) → of_lane answers j ≡ replies_by s j g.steps
+replies-begun : (lanes : List (List Op)) (hs : List ℕ) (h k : Parts) (serials next : List ℕ) (told answers : List (List Reply)) (g : LanesWentOn lanes hs h serials told k next answers) → ((j : ℕ) → of_lane told j ≡ []) → (s : State) → Stands h hs serials s → (j : ℕ) → of_lane answers j ≡ replies_by s j g.steps
 replies-begun lanes hs h k serials next told answers g none s st j =
     g.replies s st j ∙ ap (λ (rs : List Reply). rs ++ replies_by s j g.steps) (none j)
 
@@ -73,7 +73,7 @@ all-weaker : {X : Type 0} (P Q : X → Type 0) → ((x : X) → P x → Q x) →
 all-weaker P Q f [] h = tt
 all-weaker P Q f (x ∷ xs) h = (f x h.0, all-weaker P Q f xs h.1)
 
-ops-fit : (e : EngineView) (lanes : List (List Op)) (s : State) → IsReady e.setup e.holders e.serials e.heap → EngineStands e s → AllByRecursion (AllByRecursion (IsOp e.setup)) lanes → AllByRecursion (AllByRecursion (IsOp (sizes_of s))) lanes
+ops-fit : (e : EngineView) (lanes : List (List Op)) (s : State) → CanRunLanes e.setup e.holders e.serials e.heap → EngineStands e s → AllByRecursion (AllByRecursion (IsOp e.setup)) lanes → AllByRecursion (AllByRecursion (IsOp (sizes_of s))) lanes
 ops-fit e lanes s ready st ops =
     all-weaker (AllByRecursion (IsOp e.setup)) (AllByRecursion (IsOp (sizes_of s)))
     (λ os fits. all-weaker (IsOp e.setup) (IsOp (sizes_of s)) (λ o fit. op-of_state e.heap e.holders e.serials s o st (op-of_heap e.setup e.heap o ready.fits fit)) os fits) lanes ops
@@ -83,10 +83,10 @@ pub record IsCutOf (e : EngineView) (lanes : List (List Op)) (k : Parts) (next :
   pub replies : answers ≡ replies_to_lanes s 0 (cut_lanes (map length answers) lanes)
   pub stands : Stands k e.holders next (after_lanes s 0 (cut_lanes (map length answers) lanes))
 
-each-lane : (e : EngineView) (p : PhaseLists) (s : State) → IsReady e.setup e.holders e.serials e.heap → IsPhase e.setup p → EngineStands e s → length p.lanes ≡ length s.made
+each-lane : (e : EngineView) (p : PhaseLists) (s : State) → CanRunLanes e.setup e.holders e.serials e.heap → IsPhase e.setup p → EngineStands e s → length p.lanes ≡ length s.made
 each-lane e p s ready phase st = phase.lanes ∙ sym ready.fits.lanes ∙ st.lanes
 
-pub cut-run : (e : EngineView) (p : PhaseLists) (k : Parts) (next : List ℕ) (told answers : List (List Reply)) → IsReady e.setup e.holders e.serials e.heap → IsPhase e.setup p → ((j : ℕ) → of_lane told j ≡ []) → length answers ≡ length p.lanes → Goes p.lanes e.holders e.heap e.serials told k next answers → (s : State) → EngineStands e s → IsCutOf e p.lanes k next answers s
+pub cut-run : (e : EngineView) (p : PhaseLists) (k : Parts) (next : List ℕ) (told answers : List (List Reply)) → CanRunLanes e.setup e.holders e.serials e.heap → IsPhase e.setup p → ((j : ℕ) → of_lane told j ≡ []) → length answers ≡ length p.lanes → LanesWentOn p.lanes e.holders e.heap e.serials told k next answers → (s : State) → EngineStands e s → IsCutOf e p.lanes k next answers s
 cut-run e p k next told answers ready phase none long goes s st =
     let cut = map length answers in
     let mixed = mixed-cut s p.lanes answers goes.steps (each-lane e p s ready phase st) (ops-fit e p.lanes s ready st phase.ops) goes.below (ops-begun p.lanes e.holders e.heap k e.serials next told answers goes none) in
@@ -98,7 +98,7 @@ pub record IsWhole (e : EngineView) (lanes : List (List Op)) (k : Parts) (next :
   pub replies : answers ≡ replies_to_lanes s 0 lanes
   pub stands : Stands k e.holders next (after_lanes s 0 lanes)
 
-pub whole-run : (e : EngineView) (p : PhaseLists) (k : Parts) (next : List ℕ) (told answers : List (List Reply)) → IsReady e.setup e.holders e.serials e.heap → IsPhase e.setup p → ((j : ℕ) → of_lane told j ≡ []) → length answers ≡ length p.lanes → AreDone p.lanes answers → Goes p.lanes e.holders e.heap e.serials told k next answers → (s : State) → EngineStands e s → IsWhole e p.lanes k next answers s
+pub whole-run : (e : EngineView) (p : PhaseLists) (k : Parts) (next : List ℕ) (told answers : List (List Reply)) → CanRunLanes e.setup e.holders e.serials e.heap → IsPhase e.setup p → ((j : ℕ) → of_lane told j ≡ []) → length answers ≡ length p.lanes → AreDone p.lanes answers → LanesWentOn p.lanes e.holders e.heap e.serials told k next answers → (s : State) → EngineStands e s → IsWhole e p.lanes k next answers s
 whole-run e p k next told answers ready phase none long done goes s st =
     let mixed = mixed-whole s p.lanes answers goes.steps (each-lane e p s ready phase st) (ops-fit e p.lanes s ready st phase.ops) goes.below done (ops-begun p.lanes e.holders e.heap k e.serials next told answers goes none) in
     let run = run-lanes s p.lanes answers goes.steps st.consistent mixed long (replies-begun p.lanes e.holders e.heap k e.serials next told answers goes none s st) in
@@ -129,7 +129,7 @@ cut-by e f p vs ws need begun engine holders long small =
     }
 
 -- rounds that end with all lanes at their ends, and then the gives, do it
-pub did-by : (e f g : EngineView) (p : PhaseLists) (vs ws : List (Vec Reply Global)) → HasBegun e p vs → f.holders ≡ e.holders → length ws ≡ length p.lanes → GoesOn p.lanes e vs f ws → IsThrough p.lanes f ws → ((s : State) → EngineStands f s → EngineStands g (after_gives s p.gives)) → g ≡ record f { holders = g.holders } → ((s : State) → EngineStands g s → (n : ℕ) × IsNeed s n × (n ≤ g.setup.superpages)) → DidPhase e p g (lists_of ws)
+pub did-by : (e f g : EngineView) (p : PhaseLists) (vs ws : List (Vec Reply Global)) → HasBegun e p vs → f.holders ≡ e.holders → length ws ≡ length p.lanes → RoundsWentOn p.lanes e vs f ws → IsThrough p.lanes f ws → ((s : State) → EngineStands f s → EngineStands g (after_gives s p.gives)) → g ≡ record f { holders = g.holders } → ((s : State) → EngineStands g s → (n : ℕ) × IsNeed s n × (n ≤ g.setup.superpages)) → DidPhase e p g (lists_of ws)
 did-by e f g p vs ws begun holders long on through gave same room =
     let run : (s : State) → EngineStands e s → IsWhole e p.lanes f.heap f.serials (lists_of ws) s = λ s st.
     whole-run e p f.heap f.serials (lists_of vs) (lists_of ws) begun.engine.ready begun.phase (none-yet p.lanes vs begun.room) (length-map ws (λ (v : Vec Reply Global). v.items) ∙ long) through.done on.runs.goes s st in
@@ -168,11 +168,11 @@ has-room e law layout engine none s st =
     (need.0, need.1, omega (arith, within, engine.ready.fits.supers))
 
 -- the phase as the code has it: `os` are its operations as they were lent to the rounds, `us` the lists for replies
-pub did-lent : (e f g : EngineView) (p : PhaseLists) (os : List (List Op)) (us vs ws xs : List (Vec Reply Global)) → HasBegun e p vs → os ≡ p.lanes → us ≡ vs → xs ≡ ws → f.holders ≡ e.holders → length ws ≡ length p.lanes → GoesOn os e us f ws → IsThrough os f ws → ((s : State) → EngineStands f s → EngineStands g (after_gives s p.gives)) → g ≡ record f { holders = g.holders } → ((s : State) → EngineStands g s → (n : ℕ) × IsNeed s n × (n ≤ g.setup.superpages)) → DidPhase e p g (lists_of xs)
+pub did-lent : (e f g : EngineView) (p : PhaseLists) (os : List (List Op)) (us vs ws xs : List (Vec Reply Global)) → HasBegun e p vs → os ≡ p.lanes → us ≡ vs → xs ≡ ws → f.holders ≡ e.holders → length ws ≡ length p.lanes → RoundsWentOn os e us f ws → IsThrough os f ws → ((s : State) → EngineStands f s → EngineStands g (after_gives s p.gives)) → g ≡ record f { holders = g.holders } → ((s : State) → EngineStands g s → (n : ℕ) × IsNeed s n × (n ≤ g.setup.superpages)) → DidPhase e p g (lists_of xs)
 did-lent e f g p os us vs ws xs begun lanes lent back holders long on through gave same room =
     subst (λ (ys : List (Vec Reply Global)). DidPhase e p g (lists_of ys)) (sym back)
     (did-by e f g p vs ws begun holders long
-    (subst (λ (ls : List (List Op)). GoesOn ls e vs f ws) lanes (subst (λ (ys : List (Vec Reply Global)). GoesOn os e ys f ws) lent on))
+    (subst (λ (ls : List (List Op)). RoundsWentOn ls e vs f ws) lanes (subst (λ (ys : List (Vec Reply Global)). RoundsWentOn os e ys f ws) lent on))
     (subst (λ (ls : List (List Op)). IsThrough ls f ws) lanes through) gave same room)
 
 pub cut-lent : (e f : EngineView) (p : PhaseLists) (os : List (List Op)) (us vs ws xs : List (Vec Reply Global)) (need : ℕ) → HasBegun e p vs → IsEngine f → os ≡ p.lanes → us ≡ vs → xs ≡ ws → f.holders ≡ e.holders → length ws ≡ length p.lanes → IsTooSmall os e us f ws need → CutPhase e p f (lists_of xs) need

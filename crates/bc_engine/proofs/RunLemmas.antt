@@ -17,26 +17,26 @@ use Rattle.bc_model.specs.declared.traces.Setup.{Setup}
 use Rattle.bc_mutator.specs.Operations.{WantsMore}
 use Rattle.bc_nursery.specs.Entries.{Entries}
 use Rattle.bc_nursery.specs.Objects.{Nursery, left_of}
-use Rattle.bc_engine.specs.Engines.{IsReady, Stands}
-use Rattle.bc_engine.specs.Lanes.{of_lane, BirthsWithin, Does, EachFurther, Goes, HasSerials, IsAtEndOr, IsHeldUp, IsOneMore, LeavesOthers, Runs, Stops, left}
+use Rattle.bc_engine.specs.Engines.{CanRunLanes, Stands}
+use Rattle.bc_engine.specs.Lanes.{of_lane, BirthsWithin, Does, EachFurther, LanesWentOn, HasSerialsLeft, IsAtEndOr, IsHeldUp, IsOneMore, LeavesOthers, LanesRan, Stops, left}
 use Rattle.bc_engine.proofs.Attempts.{held-up}
 use Rattle.bc_engine.proofs.GoingLemmas.{with_reply, goes-none, goes-then, goes-step}
 
 -- nothing was done, and the heap stands for what it stood for
-pub runs-none : (lanes : List (List Op)) (hs : List ℕ) (h k : Parts) (serials : List ℕ) (told : List (Vec Reply Global)) → ((state : State) → Stands h hs serials state → Stands k hs serials state) → ((setup : Setup) → IsReady setup hs serials h → IsReady setup hs serials k) → Runs lanes hs h serials told k serials told
+pub runs-none : (lanes : List (List Op)) (hs : List ℕ) (h k : Parts) (serials : List ℕ) (told : List (Vec Reply Global)) → ((state : State) → Stands h hs serials state → Stands k hs serials state) → ((setup : Setup) → CanRunLanes setup hs serials h → CanRunLanes setup hs serials k) → LanesRan lanes hs h serials told k serials told
 runs-none lanes hs h k serials told means ready = record {
   goes = goes-none lanes hs h k serials (lists_of told) means;
   underway = λ setup u. record { ready = ready setup u.ready; each = u.each; ops = u.ops; long = u.long; room = u.room; births = u.births };
   births = λ j. omega arith;
 }
 
-pub runs-same : (lanes : List (List Op)) (hs : List ℕ) (x y : Heap) (serials next : List ℕ) (told : List (Vec Reply Global)) → y ≡ x → next ≡ serials → Runs lanes hs (parts_of x) serials told (parts_of y) next told
+pub runs-same : (lanes : List (List Op)) (hs : List ℕ) (x y : Heap) (serials next : List ℕ) (told : List (Vec Reply Global)) → y ≡ x → next ≡ serials → LanesRan lanes hs (parts_of x) serials told (parts_of y) next told
 runs-same lanes hs x y serials next told heap born =
-    subst (λ (z : Heap). Runs lanes hs (parts_of x) serials told (parts_of z) next told) (sym heap)
-    (subst (λ (ns : List ℕ). Runs lanes hs (parts_of x) serials told (parts_of x) ns told) (sym born)
+    subst (λ (z : Heap). LanesRan lanes hs (parts_of x) serials told (parts_of z) next told) (sym heap)
+    (subst (λ (ns : List ℕ). LanesRan lanes hs (parts_of x) serials told (parts_of x) ns told) (sym born)
     (runs-none lanes hs (parts_of x) (parts_of x) serials told (λ state st. st) (λ setup ready. ready)))
 
-pub runs-then : (lanes : List (List Op)) (hs : List ℕ) (h k l : Parts) (ns ms ls : List ℕ) (told mid answers : List (Vec Reply Global)) → Runs lanes hs h ns told k ms mid → Runs lanes hs k ms mid l ls answers → Runs lanes hs h ns told l ls answers
+pub runs-then : (lanes : List (List Op)) (hs : List ℕ) (h k l : Parts) (ns ms ls : List ℕ) (told mid answers : List (Vec Reply Global)) → LanesRan lanes hs h ns told k ms mid → LanesRan lanes hs k ms mid l ls answers → LanesRan lanes hs h ns told l ls answers
 runs-then lanes hs h k l ns ms ls told mid answers g e = record {
   goes = goes-then lanes hs h k l ns ms ls (lists_of told) (lists_of mid) (lists_of answers) g.goes e.goes;
   underway = λ setup u. e.underway setup (g.underway setup u);
@@ -66,7 +66,7 @@ births-step lanes hs lane op h k serials next reply told within less does j =
     ]
 
 -- serials that were enough before are enough later
-serials-later : (lanes : List (List Op)) (serials next : List ℕ) (told answers : List (List Reply)) → BirthsWithin lanes serials told next answers → HasSerials lanes serials told → HasSerials lanes next answers
+serials-later : (lanes : List (List Op)) (serials next : List ℕ) (told answers : List (List Reply)) → BirthsWithin lanes serials told next answers → HasSerialsLeft lanes serials told → HasSerialsLeft lanes next answers
 serials-later lanes serials next told answers births fits j = omega (arith, births j, fits j)
 
 room-step : (lanes : List (List Op)) (vs : List (Vec Reply Global)) (lane : ℕ) (v w : Vec Reply Global) → lane < length vs → v ≡ get_or vs lane v → vec_capacity w ≡ vec_capacity v → ((j : ℕ) → (x : Vec Reply Global) → j < length vs → x ≡ get_or vs j x → length (of_lane lanes j) ≤ vec_capacity x) → (j : ℕ) (x : Vec Reply Global) → j < length (set vs lane w) → x ≡ get_or (set vs lane w) j x → length (of_lane lanes j) ≤ vec_capacity x
@@ -102,7 +102,7 @@ pub record IsKept (lanes : List (List Op)) (lane : ℕ) (op : Op) (reply : Reply
   pub capacity : vec_capacity w ≡ vec_capacity before
 
 -- an operation was done, and its reply was kept
-pub runs-step : (lanes : List (List Op)) (hs : List ℕ) (h k : Parts) (serials next : List ℕ) (vs : List (Vec Reply Global)) (lane : ℕ) (op : Op) (reply : Reply) (w : Vec Reply Global) → IsKept lanes lane op reply vs w → Does hs lane op h serials reply k next → ((setup : Setup) → IsReady setup hs serials h → IsReady setup hs next k) → Runs lanes hs h serials vs k next (set vs lane w)
+pub runs-step : (lanes : List (List Op)) (hs : List ℕ) (h k : Parts) (serials next : List ℕ) (vs : List (Vec Reply Global)) (lane : ℕ) (op : Op) (reply : Reply) (w : Vec Reply Global) → IsKept lanes lane op reply vs w → Does hs lane op h serials reply k next → ((setup : Setup) → CanRunLanes setup hs serials h → CanRunLanes setup hs next k) → LanesRan lanes hs h serials vs k next (set vs lane w)
 runs-step lanes hs h k serials next vs lane op reply w kept does ready =
     let told = lists_of vs in
     let answers : lists_of (set vs lane w) ≡ with_reply told lane reply = lists-pushed vs lane kept.before w reply kept.there kept.is kept.pushed in
@@ -110,7 +110,7 @@ runs-step lanes hs h k serials next vs lane op reply w kept does ready =
     let births : BirthsWithin lanes serials told next (lists_of (set vs lane w)) =
     subst (λ (rs : List (List Reply)). BirthsWithin lanes serials told next rs) (sym answers) (births-step lanes hs lane op h k serials next reply told there kept.less does) in
     record {
-      goes = subst (λ (rs : List (List Reply)). Goes lanes hs h serials told k next rs) (sym answers) (goes-step lanes hs h k serials next told lane op reply kept.within there kept.less kept.at does);
+      goes = subst (λ (rs : List (List Reply)). LanesWentOn lanes hs h serials told k next rs) (sym answers) (goes-step lanes hs h k serials next told lane op reply kept.within there kept.less kept.at does);
       underway = λ setup u. record {
         ready = ready setup u.ready;
         each = u.each;

@@ -18,7 +18,7 @@ use Rattle.bc_nursery.specs.Objects.{ChunkObject, Nursery, has_object}
 use Rattle.bc_promotion.specs.Promises.{HasDomainsBelow}
 use Rattle.bc_superpages.specs.Layout.{Layout, superpages}
 use Rattle.bc_superpages.specs.RootWords.{RootWords}
-use Rattle.bc_engine.specs.Engines.{HasSetup, IsReady, IsUnbookmarked, Stands}
+use Rattle.bc_engine.specs.Engines.{HasSetup, CanRunLanes, IsUnbookmarked, Stands}
 
 -- an operation fits whatever has as many domains and slots
 made_up : ℕ → ℕ → Setup
@@ -87,8 +87,8 @@ pub no-object : (cs : List Nursery) → ((l : ℕ) → (chunk_of cs l).objects �
 no-object cs none a = object_in-none cs a (λ k lt. none-in (chunk_of cs k) a (none k))
 
 -- a heap that is ready, through slices that the holders and serials were lent as
-pub ready-through : (setup : Setup) (hs ks ns ms ls js : List ℕ) (h k : Parts) → ks ≡ hs → ms ≡ ns → js ≡ ls → ((s : Setup) → IsReady s ks ms h → IsReady s ks ls k) → IsReady setup hs ns h → IsReady setup hs js k
+pub ready-through : (setup : Setup) (hs ks ns ms ls js : List ℕ) (h k : Parts) → ks ≡ hs → ms ≡ ns → js ≡ ls → ((s : Setup) → CanRunLanes s ks ms h → CanRunLanes s ks ls k) → CanRunLanes setup hs ns h → CanRunLanes setup hs js k
 ready-through setup hs ks ns ms ls js h k holders before after keeps ready =
-    subst (λ (xs : List ℕ). IsReady setup hs xs k) (sym after)
-    (subst (λ (xs : List ℕ). IsReady setup xs ls k) holders
-    (keeps setup (subst (λ (xs : List ℕ). IsReady setup xs ms h) (sym holders) (subst (λ (xs : List ℕ). IsReady setup hs xs h) (sym before) ready))))
+    subst (λ (xs : List ℕ). CanRunLanes setup hs xs k) (sym after)
+    (subst (λ (xs : List ℕ). CanRunLanes setup xs ls k) holders
+    (keeps setup (subst (λ (xs : List ℕ). CanRunLanes setup xs ms h) (sym holders) (subst (λ (xs : List ℕ). CanRunLanes setup hs xs h) (sym before) ready))))

@@ -5,10 +5,10 @@ use Rattle.bc_engine.specs.declared.phases.PhaseNo.TheVariants.{OutOfHeap, NoMem
 use Rattle.bc_model.specs.declared.operations.Reply.{Reply}
 
 -- of an answer that the heap is too small: its replies and the need
-abbrev pub IfOutOfHeap : {T : Type 0} → Result T PhaseNo → (List (List Reply) → ℕ → Type 0) → Type 0
-IfOutOfHeap (Ok x) P = Unit {0}
-IfOutOfHeap (Err (OutOfHeap replies need)) P = P replies need
-IfOutOfHeap (Err NoMemory) P = Unit {0}
+abbrev pub IfPhaseOutOfHeap : {T : Type 0} → Result T PhaseNo → (List (List Reply) → ℕ → Type 0) → Type 0
+IfPhaseOutOfHeap (Ok x) P = Unit {0}
+IfPhaseOutOfHeap (Err (OutOfHeap replies need)) P = P replies need
+IfPhaseOutOfHeap (Err NoMemory) P = Unit {0}
 
 -- that the heap is too small, with these replies and this need
 abbrev pub IsOutOfHeap : {T : Type 0} → Result T PhaseNo → List (List Reply) → ℕ → Type 0

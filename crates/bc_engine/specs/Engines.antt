@@ -59,7 +59,7 @@ abbrev pub Stands : Parts → List ℕ → List ℕ → State → Type 0
 Stands h holders serials state = StandsAs h.space h.roots h.chunks holders serials state
 
 -- what is true of a heap that lanes can run on: it is in order, it has the setup's sizes, and there is a state that it stands for
-pub record IsReady (setup : Setup) (holders serials : List ℕ) (h : Parts) : Type 0 where
+pub record CanRunLanes (setup : Setup) (holders serials : List ℕ) (h : Parts) : Type 0 where
   pub range : IsSetup setup
   pub order : IsInOrder h holders
   pub fits : HasSetup h setup
@@ -74,7 +74,7 @@ IsWorkers n = (1 ≤ n) × (n ≤ 16)
 -- nothing is recorded
 pub record IsEngine (e : EngineView) : Type 0 where
   pub workers : IsWorkers e.workers
-  pub ready : IsReady e.setup e.holders e.serials e.heap
+  pub ready : CanRunLanes e.setup e.holders e.serials e.heap
   pub going : e.ended ≡ None → IsUnrecorded e.heap
 
 -- the engine stands for the state
@@ -86,6 +86,6 @@ abbrev pub HasRoomForBirths : EngineView → ℕ → Type 0
 HasRoomForBirths e n = (j : ℕ) → slice_index e.serials j + n < 2 ^ 32
 
 -- what the type keeps: until it runs out of memory an engine's heap is in order. There are no notices yet, and so no answers
-pub record IsSound (e : EngineView) : Type 0 where
+pub record IsSoundEngine (e : EngineView) : Type 0 where
   pub alive : e.ended ≢ Some NoMemory → IsEngine e
   pub unanswered : e.answers ≡ []

@@ -14,7 +14,7 @@ use Rattle.bc_model.specs.declared.operations.Reply.{Reply}
 use Rattle.bc_model.specs.declared.traces.Setup.{Setup}
 use Rattle.bc_mutator.specs.Operations.{WantsMore, NeedsEntry}
 use Rattle.bc_nursery.specs.Objects.{left_of}
-use Rattle.bc_engine.specs.Engines.{EngineView, IsReady, Stands}
+use Rattle.bc_engine.specs.Engines.{EngineView, CanRunLanes, Stands}
 
 -- the operations of a lane, or its replies
 abbrev pub of_lane : {X : Type 0} → List (List X) → ℕ → List X
@@ -30,7 +30,7 @@ pub record Does (holders : List ℕ) (lane : ℕ) (op : Op) (h : Parts) (serials
 
 -- the lanes went on with their operations, in whatever order, and so did their replies: `told` are those before, `answers` those
 -- after. What a lane has done is as many of its first operations as it has replies
-pub record Goes (lanes : List (List Op)) (holders : List ℕ) (h : Parts) (serials : List ℕ) (told : List (List Reply)) (k : Parts) (next : List ℕ) (answers : List (List Reply)) : Type 0 where
+pub record LanesWentOn (lanes : List (List Op)) (holders : List ℕ) (h : Parts) (serials : List ℕ) (told : List (List Reply)) (k : Parts) (next : List ℕ) (answers : List (List Reply)) : Type 0 where
   pub steps : List LaneOp
   pub below : AllByRecursion (λ x. x.lane < length lanes) steps
   pub ops : (j : ℕ) → take (length (of_lane answers j)) (of_lane lanes j) ≡ take (length (of_lane told j)) (of_lane lanes j) ++ ops_by j steps
@@ -39,8 +39,8 @@ pub record Goes (lanes : List (List Op)) (holders : List ℕ) (h : Parts) (seria
   pub more : (j : ℕ) → length (of_lane told j) ≤ length (of_lane answers j)
 
 -- every lane can make an object by each operation that it hasn't done yet, all with serials below 2 ^ 32
-abbrev pub HasSerials : List (List Op) → List ℕ → List (List Reply) → Type 0
-HasSerials lanes serials replies =
+abbrev pub HasSerialsLeft : List (List Op) → List ℕ → List (List Reply) → Type 0
+HasSerialsLeft lanes serials replies =
     (j : ℕ) → slice_index serials j + (length (of_lane lanes j) - length (of_lane replies j)) < 2 ^ 32
 
 -- from one place of a phase to a later one each lane made at most an object by each operation that it did
@@ -55,16 +55,16 @@ HasRoomForOps e lanes n = (j : ℕ) → slice_index e.serials j + length (of_lan
 
 -- what a phase under way rests on: the lanes can run, their operations fit the setup, and there is room for each reply to come
 pub record IsUnderway (setup : Setup) (lanes : List (List Op)) (holders : List ℕ) (h : Parts) (serials : List ℕ) (replies : List (Vec Reply Global)) : Type 0 where
-  pub ready : IsReady setup holders serials h
+  pub ready : CanRunLanes setup holders serials h
   pub each : length lanes ≡ setup.lanes
   pub ops : AllByRecursion (AllByRecursion (IsOp setup)) lanes
   pub long : length replies ≡ setup.lanes
   pub room : (j : ℕ) → (v : Vec Reply Global) → j < length replies → v ≡ slice_index_or replies j v → length (of_lane lanes j) ≤ vec_capacity v
-  pub births : HasSerials lanes serials (lists_of replies)
+  pub births : HasSerialsLeft lanes serials (lists_of replies)
 
 -- what each stretch of a phase does: the lanes go on, and a phase that was under way still is
-pub record Runs (lanes : List (List Op)) (holders : List ℕ) (h : Parts) (serials : List ℕ) (told : List (Vec Reply Global)) (k : Parts) (next : List ℕ) (answers : List (Vec Reply Global)) : Type 0 where
-  pub goes : Goes lanes holders h serials (lists_of told) k next (lists_of answers)
+pub record LanesRan (lanes : List (List Op)) (holders : List ℕ) (h : Parts) (serials : List ℕ) (told : List (Vec Reply Global)) (k : Parts) (next : List ℕ) (answers : List (Vec Reply Global)) : Type 0 where
+  pub goes : LanesWentOn lanes holders h serials (lists_of told) k next (lists_of answers)
   pub underway : (setup : Setup) → IsUnderway setup lanes holders h serials told → IsUnderway setup lanes holders k next answers
   pub births : BirthsWithin lanes serials (lists_of told) next (lists_of answers)
 

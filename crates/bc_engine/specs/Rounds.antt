@@ -9,7 +9,7 @@ use Rattle.bc_model.specs.declared.operations.Op.{Op}
 use Rattle.bc_model.specs.declared.operations.Reply.{Reply}
 use Rattle.bc_superpages.specs.Layout.{superpages}
 use Rattle.bc_engine.specs.Engines.{EngineView, HasEmptyChunks}
-use Rattle.bc_engine.specs.Lanes.{of_lane, AreDone, Goes, IsUnderway, Runs}
+use Rattle.bc_engine.specs.Lanes.{of_lane, AreDone, LanesWentOn, IsUnderway, LanesRan}
 use Rattle.bc_engine.specs.declared.engines.Ended.{Ended}
 use Rattle.bc_engine.specs.declared.engines.Ended.TheVariants.{OutOfHeap, NoMemory}
 
@@ -40,9 +40,9 @@ IsGone (Err (OutOfHeap need)) = ⊥
 IsGone (Err NoMemory) = Unit {0}
 
 -- the engine goes on: the lanes went on, nothing else changed, and the engine hasn't ended
-pub record GoesOn (lanes : List (List Op)) (e : EngineView) (told : List (Vec Reply Global)) (f : EngineView) (answers : List (Vec Reply Global)) : Type 0 where
+pub record RoundsWentOn (lanes : List (List Op)) (e : EngineView) (told : List (Vec Reply Global)) (f : EngineView) (answers : List (Vec Reply Global)) : Type 0 where
   pub going : f.ended ≡ None
-  pub runs : Runs lanes e.holders e.heap e.serials told f.heap f.serials answers
+  pub runs : LanesRan lanes e.holders e.heap e.serials told f.heap f.serials answers
 
 -- all lanes are at their ends, and the nurseries are empty
 pub record IsThrough (lanes : List (List Op)) (f : EngineView) (answers : List (Vec Reply Global)) : Type 0 where
@@ -52,6 +52,6 @@ pub record IsThrough (lanes : List (List Op)) (f : EngineView) (answers : List (
 -- the lanes went on, and the engine ended there, since what it stands for needs so many superpages, which is more than there are
 pub record IsTooSmall (lanes : List (List Op)) (e : EngineView) (told : List (Vec Reply Global)) (f : EngineView) (answers : List (Vec Reply Global)) (need : ℕ) : Type 0 where
   pub cause : f.ended ≡ Some (OutOfHeap need)
-  pub goes : Goes lanes e.holders e.heap e.serials (lists_of told) f.heap f.serials (lists_of answers)
+  pub goes : LanesWentOn lanes e.holders e.heap e.serials (lists_of told) f.heap f.serials (lists_of answers)
   pub needs : NeedOfHeap f.heap.space f.heap.roots f.heap.chunks need
   pub above : superpages f.heap.space < need

@@ -1,6 +1,6 @@
 ghost use Rattle.std.specs.Prelude.{◌≡◌, ◌≢◌, ℕ, ◌+◌, ◌^◌, ◌<◌, ◌≤◌, [], length, Some, None, Result, Ok, Err, IfOk, slice_index};
 ghost use Rattle.std.specs.List.{AllByRecursion};
-ghost use Rattle.bc_engine.specs.Answers.{IfOutOfHeap, IsOutOfHeap, IsNoMemory};
+ghost use Rattle.bc_engine.specs.Answers.{IfPhaseOutOfHeap, IsOutOfHeap, IsNoMemory};
 ghost use Rattle.bc_engine.specs.Engines.{EngineStands, HasEmptyChunks, HasRoomForBirths, IsUnrecorded};
 ghost use Rattle.bc_engine.specs.Lanes.{of_lane, HasRoomForOps};
 ghost use Rattle.bc_engine.specs.Phases.{DidPhase, CutPhase};
@@ -50,7 +50,7 @@ impl Engine {
         requires phase { IsPhase self.old.setup phase.now }
         requires births { HasRoomForOps self.old phase.now.lanes 0 }
         ensures done { self.old.ended ≡ None → IfOk result (λ replies. DidPhase self.old phase.now self.new replies) }
-        ensures cut { self.old.ended ≡ None → IfOutOfHeap result (λ replies need. CutPhase self.old phase.now self.new replies need) }
+        ensures cut { self.old.ended ≡ None → IfPhaseOutOfHeap result (λ replies need. CutPhase self.old phase.now self.new replies need) }
         ensures again { (need : ℕ) → self.old.ended ≡ Some (Ended.OutOfHeap need) → IsOutOfHeap result [] need }
         ensures ended { self.old.ended ≢ None → self.new ≡ self.old }
         ensures gone { self.old.ended ≡ Some Ended.NoMemory → IsNoMemory result }
@@ -96,7 +96,7 @@ impl Engine {
         requires long { length replies.items ≡ length phase.now.lanes }
         requires room { IsRoomFor phase.now.lanes replies.items }
         ensures done { IfOk result (λ told. DidPhase self.old phase.now self.new told) }
-        ensures cut { IfOutOfHeap result (λ told need. CutPhase self.old phase.now self.new told need) }
+        ensures cut { IfPhaseOutOfHeap result (λ told need. CutPhase self.old phase.now self.new told need) }
         ensures setup { (self.new.setup ≡ self.old.setup) × (self.new.workers ≡ self.old.workers) }
         ensures no_memory { IsNoMemory result → self.new.ended ≡ Some Ended.NoMemory }
         ensures births { (j : ℕ) → slice_index self.new.serials j ≤ slice_index self.old.serials j + length (of_lane phase.now.lanes j) }

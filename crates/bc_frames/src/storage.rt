@@ -1,5 +1,5 @@
 ghost use Rattle.std.specs.Prelude.{◌≡◌, ℕ, ◌<◌, Option, Some, None, length, slice_set, replicate, IfOk, IsSome};
-ghost use Rattle.bc_frames.specs.Places.{Places, place_at, one_more};
+ghost use Rattle.bc_frames.specs.Places.{StoreView, place_at, one_more};
 
 use crate::pages::Page;
 use std::alloc::{AllocError, Global};
@@ -13,9 +13,9 @@ pub struct Store {
 }
 
 impl Model for Store {
-    ghost use Rattle.bc_frames.specs.Places.{Places};
+    ghost use Rattle.bc_frames.specs.Places.{StoreView};
 
-    ghost Value = { Places };
+    ghost Value = { StoreView };
 
     ghost view = { λ s. record { places = s.places.items; reads = s.reads } };
 }

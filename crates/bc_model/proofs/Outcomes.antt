@@ -2,7 +2,7 @@
 use Rattle.std.proofs.Common.{◌≡◌, ◌≢◌, ◌⊎◌, ◌↔◌, ℕ, ◌<◌, Bool, true, false, ◌&&◌, nat_lt, if◌then◌else◌, length, refl, sym, ap, ap₂, subst, ◌∙◌, inl, inr, eqb-true, ltb-true, ltb-false, arith}
 use Rattle.std.specs.List.{list_all}
 use Rattle.std.proofs.lemmas.Bool.{and_parts}
-use Rattle.bc_model.specs.Refused.{Names, NeedsField, NeedsObject, LooksAt, HoldsAll, LacksDomain, LacksObject, LacksField, IsRefused, IsChange, Tells, TellsKind}
+use Rattle.bc_model.specs.Refused.{NamesSlot, NeedsField, NeedsObject, LooksAt, HoldsAll, LacksDomain, LacksObject, LacksField, IsRefused, IsChange, Tells, TellsKind}
 use Rattle.bc_model.specs.State.{State, object_of, next_birth, slot_of, field_of, holds}
 use Rattle.bc_model.specs.Step.{step, act, domains_of, on_object, on_field, told, loaded, is_same}
 use Rattle.bc_model.specs.declared.operations.Op.{Op}
@@ -125,7 +125,7 @@ allowed-object : (s : State) (j : ℕ) (o : Op) → IsAllowed s j o → LacksObj
 allowed-object s j o a l = l.none (a.object l.place l.needed).0 (a.object l.place l.needed).1
 
 -- the test of the domains that are named
-named-held : (s : State) (j : ℕ) (o : Op) → list_all (holds s j) (domains_of o) ≡ true → (p : Slot) → Names o p → holds s j p.domain ≡ true
+named-held : (s : State) (j : ℕ) (o : Op) → list_all (holds s j) (domains_of o) ≡ true → (p : Slot) → NamesSlot o p → holds s j p.domain ≡ true
 named-held s j (op.New p n) h r e = rw e (and_parts _ _ h).0
 named-held s j (op.Who p) h r e = rw e (and_parts _ _ h).0
 named-held s j (op.Len p) h r e = rw e (and_parts _ _ h).0
@@ -143,7 +143,7 @@ named-held s j (op.Same p q) h r (inr e) = rw e (and_parts _ _ (and_parts _ _ h)
 
 -- a slot that is named, of a domain that isn't held
 abbrev NamesForeign : State → ℕ → Op → Type 0
-NamesForeign s j o = (p : Slot) × Names o p × (holds s j p.domain ≡ false)
+NamesForeign s j o = (p : Slot) × NamesSlot o p × (holds s j p.domain ≡ false)
 
 one-foreign : (b : Bool) → (b && true) ≡ false → b ≡ false
 one-foreign true h = absurd (cc)
@@ -154,10 +154,10 @@ two-foreign false b h = inl refl
 two-foreign true false h = inr refl
 two-foreign true true h = absurd (cc)
 
-one-named : (s : State) (j : ℕ) (o : Op) (p : Slot) → Names o p → (holds s j p.domain && true) ≡ false → NamesForeign s j o
+one-named : (s : State) (j : ℕ) (o : Op) (p : Slot) → NamesSlot o p → (holds s j p.domain && true) ≡ false → NamesForeign s j o
 one-named s j o p n h = (p, n, one-foreign _ h)
 
-two-named : (s : State) (j : ℕ) (o : Op) (p q : Slot) → Names o p → Names o q → (holds s j p.domain && (holds s j q.domain && true)) ≡ false → NamesForeign s j o
+two-named : (s : State) (j : ℕ) (o : Op) (p q : Slot) → NamesSlot o p → NamesSlot o q → (holds s j p.domain && (holds s j q.domain && true)) ≡ false → NamesForeign s j o
 two-named s j o p q n m h = elim (two-foreign _ _ h) [
   | inl e ↦ (p, n, e)
   | inr e ↦ (q, m, e)
@@ -177,7 +177,7 @@ named-foreign s j (op.Same p q) h = two-named s j (op.Same p q) p q (inl refl) (
 
 -- the lane holds the domains that are named
 abbrev HoldsNamed : State → ℕ → Op → Type 0
-HoldsNamed s j o = (p : Slot) → Names o p → holds s j p.domain ≡ true
+HoldsNamed s j o = (p : Slot) → NamesSlot o p → holds s j p.domain ≡ true
 
 -- and no other is needed
 held-named : (s : State) (j : ℕ) (o : Op) → HoldsNamed s j o → ((p : Slot) → (b : Birth) → LooksAt o p → slot_of s p ≡ Obj b → holds s j (object_of s.made b).domain ≡ true) → HoldsAll s j o

@@ -2,7 +2,7 @@
 use Rattle.std.proofs.Common.{◌≡◌, ℕ, ◌-◌, ◌*◌, ◌<◌, ◌≤◌, List, length, get_or, set, replicate, sym, ap, subst, ◌∙◌, inl, inr, arith, get_or-set_same, get_or-set_other, length-set}
 use Rattle.std.proofs.lemmas.Bool.{cases_eq, cases_lt}
 use Rattle.std.proofs.lemmas.List.{set_past, get_or_past, get_or-replicate, length-replicate}
-use Rattle.bc_model.specs.Consistent.{IsValue, AreValues, IsObject, IsState}
+use Rattle.bc_model.specs.Consistent.{IsValue, AreValues, IsMadeObject, IsState}
 use Rattle.bc_model.specs.State.{State, Object, IsBorn, made_by, object_of, with_object, with_value, with_made, next_birth, with_slot, with_field, given, place_of}
 use Rattle.bc_model.specs.Step.{with_new}
 use Rattle.bc_model.specs.declared.traces.Give.{Give}
@@ -50,7 +50,7 @@ IsState-with_slot s p v h hv = record {
 }
 
 -- an object stays one where births stay
-pub IsObject-kept : (old new : List (List Object)) → ((b : Birth) → IsBorn old b → IsBorn new b) → (domains : ℕ) (o : Object) → IsObject old domains o → IsObject new domains o
+pub IsObject-kept : (old new : List (List Object)) → ((b : Birth) → IsBorn old b → IsBorn new b) → (domains : ℕ) (o : Object) → IsMadeObject old domains o → IsMadeObject new domains o
 IsObject-kept old new kept domains o h = record { domain = h.domain; fields = h.fields; values = AreValues-kept old new kept o.fields h.values }
 
 pub IsState-with_field : (s : State) (b : Birth) (i : ℕ) (v : Value) → IsState s → IsBorn s.made b → IsValue s.made v → IsState (with_field s b i v)
@@ -58,7 +58,7 @@ IsState-with_field s b i v h born hv =
     let o : Object = with_value (object_of s.made b) i v in
     let new : List (List Object) = with_object s.made b o in
     let kept : (c : Birth) → IsBorn s.made c → IsBorn new c = λ c k. IsBorn-with_object s.made b o c born k in
-    let whole : IsObject new (length s.holders) o = record {
+    let whole : IsMadeObject new (length s.holders) o = record {
       domain = (h.objects b born).domain;
       fields = omega (arith, (h.objects b born).fields, length-set (object_of s.made b).fields i v);
       values = AreValues-kept s.made new kept o.fields (AreValues-set s.made (object_of s.made b).fields i v (h.objects b born).values hv);
@@ -71,11 +71,11 @@ IsState-with_field s b i v h born hv =
       values = AreValues-kept s.made new kept s.slots h.values;
       objects = λ c k.
           elim (cases_birth c b) [
-            | inl e ↦ subst (λ (x : Object). IsObject new (length s.holders) x)
+            | inl e ↦ subst (λ (x : Object). IsMadeObject new (length s.holders) x)
                 (sym (ap (λ (x : Birth). object_of new x) e ∙ object_of-with_object_same s.made b o born)) whole
             | inr ne ↦
                 let before : IsBorn s.made c = IsBorn-from_with_object s.made b o c born k in
-                subst (λ (x : Object). IsObject new (length s.holders) x) (sym (object_of-with_object_other s.made b o c born before ne))
+                subst (λ (x : Object). IsMadeObject new (length s.holders) x) (sym (object_of-with_object_other s.made b o c born before ne))
                 (IsObject-kept s.made new kept (length s.holders) (object_of s.made c) (h.objects c before))
           ];
       holders = λ d k. omega (arith, h.holders d k, length-set s.made b.lane (set (made_by s.made b.lane) (b.serial - 1) o));
@@ -86,7 +86,7 @@ IsState-with_new s j p n h lane domain few =
     let o : Object = record { domain = p.domain; fields = replicate n Nil } in
     let new : List (List Object) = with_made s.made j o in
     let kept : (c : Birth) → IsBorn s.made c → IsBorn new c = λ c k. IsBorn-with_made s.made j o c lane k in
-    let whole : IsObject new (length s.holders) o = record {
+    let whole : IsMadeObject new (length s.holders) o = record {
       domain = domain;
       fields = omega (arith, few, length-replicate n Nil);
       values = AreValues-nil new n;
@@ -100,9 +100,9 @@ IsState-with_new s j p n h lane domain few =
       values = AreValues-kept s.made new kept s.slots h.values;
       objects = λ c k.
           elim (IsBorn-from_with_made s.made j o c lane k) [
-            | inl before ↦ subst (λ (x : Object). IsObject new (length s.holders) x) (sym (object_of-with_made_other s.made j o c lane before))
+            | inl before ↦ subst (λ (x : Object). IsMadeObject new (length s.holders) x) (sym (object_of-with_made_other s.made j o c lane before))
                 (IsObject-kept s.made new kept (length s.holders) (object_of s.made c) (h.objects c before))
-            | inr e ↦ subst (λ (x : Object). IsObject new (length s.holders) x)
+            | inr e ↦ subst (λ (x : Object). IsMadeObject new (length s.holders) x)
                 (sym (ap (λ (x : Birth). object_of new x) e ∙ object_of-with_made_same s.made j o lane)) whole
           ];
       holders = λ d k. omega (arith, h.holders d k, length-with_made s.made j o);

@@ -18,7 +18,7 @@ abbrev pub AreValues : List (List Object) → List Value → Type 0
 AreValues made values = (i : ℕ) → IsValue made (slice_index_or values i Nil)
 
 -- an object of one of the domains, of at most 127 fields
-pub record IsObject (made : List (List Object)) (domains : ℕ) (o : Object) : Type 0 where
+pub record IsMadeObject (made : List (List Object)) (domains : ℕ) (o : Object) : Type 0 where
   pub domain : o.domain < domains
   pub fields : length o.fields ≤ 127
   pub values : AreValues made o.fields
@@ -30,7 +30,7 @@ pub record IsState (s : State) : Type 0 where
   pub width : s.width ≤ 256
   pub slots : length s.slots ≡ s.width * length s.holders
   pub values : AreValues s.made s.slots
-  pub objects : (b : Birth) → IsBorn s.made b → IsObject s.made (length s.holders) (object_of s.made b)
+  pub objects : (b : Birth) → IsBorn s.made b → IsMadeObject s.made (length s.holders) (object_of s.made b)
   pub holders : (d : ℕ) → d < length s.holders → slice_index s.holders d < length s.made
 
 -- the setup of a state: its lanes, its domains and the root slots of each, which is what operations and phases have to

@@ -12,17 +12,17 @@ use Rattle.bc_model.specs.declared.values.Value.{Value}
 use Rattle.bc_model.specs.declared.values.Value.TheVariants.{Nil, Num, Obj}
 
 -- the operation names the slot
-abbrev pub Names : Op → Slot → Type 0
-Names (New p n) r = r ≡ p
-Names (Who p) r = r ≡ p
-Names (Len p) r = r ≡ p
-Names (Set p i v) r = r ≡ p
-Names (Cut p i) r = r ≡ p
-Names (Link p i q) r = (r ≡ p) ⊎ (r ≡ q)
-Names (Load p i q) r = (r ≡ p) ⊎ (r ≡ q)
-Names (Copy p q) r = (r ≡ p) ⊎ (r ≡ q)
-Names (Clear p) r = r ≡ p
-Names (Same p q) r = (r ≡ p) ⊎ (r ≡ q)
+abbrev pub NamesSlot : Op → Slot → Type 0
+NamesSlot (New p n) r = r ≡ p
+NamesSlot (Who p) r = r ≡ p
+NamesSlot (Len p) r = r ≡ p
+NamesSlot (Set p i v) r = r ≡ p
+NamesSlot (Cut p i) r = r ≡ p
+NamesSlot (Link p i q) r = (r ≡ p) ⊎ (r ≡ q)
+NamesSlot (Load p i q) r = (r ≡ p) ⊎ (r ≡ q)
+NamesSlot (Copy p q) r = (r ≡ p) ⊎ (r ≡ q)
+NamesSlot (Clear p) r = r ≡ p
+NamesSlot (Same p q) r = (r ≡ p) ⊎ (r ≡ q)
 
 -- it reads or writes a field of the slot's object
 abbrev pub NeedsField : Op → Slot → ℕ → Type 0
@@ -49,7 +49,7 @@ LooksAt o r = NeedsObject o r
 -- the domain of a slot that it names, or of an object that it looks at
 abbrev pub NeedsDomain : State → Op → ℕ → Type 0
 NeedsDomain s o d =
-    ((p : Slot) × Names o p × (d ≡ p.domain))
+    ((p : Slot) × NamesSlot o p × (d ≡ p.domain))
     ⊎ ((p : Slot) × (b : Birth) × LooksAt o p × (slot_of s p ≡ Obj b) × (d ≡ (object_of s.made b).domain))
 
 -- the lane holds all domains that the operation needs

@@ -28,7 +28,7 @@ use Rattle.bc_word.specs.Words.{word_of_bits}
 use Rattle.bc_word.specs.declared.addresses.Address.{Address}
 use Rattle.bc_word.specs.declared.words.Word.{Word}
 use Rattle.bc_word.specs.declared.words.Word.TheVariants as word
-use Rattle.bc_mutator.specs.Objects.{Runs, IsOwn, IsReady, IsRead, IsOfLane, ActsOn, Refuses, ActsOnField, RefusesField, memory_of, own_chunk, cell_of, slot_word}
+use Rattle.bc_mutator.specs.Objects.{Runs, IsOwn, MayOperate, IsRead, IsOfLane, ActsOn, Refuses, ActsOnField, RefusesField, memory_of, own_chunk, cell_of, slot_word}
 use Rattle.bc_mutator.proofs.ObjectLemmas.{memory-there}
 
 -- a root slot stands where the state's slot does
@@ -107,7 +107,7 @@ holds-not state hs lane d e same domain off =
     ne_eqb (get_or state.holders e 0) lane (λ f. off (sym (ap₂ (λ (xs : List ℕ) (x : ℕ). get_or xs x 0) same (sym domain)) ∙ f))
 
 -- what an operation on an object does, told by where the object lies
-pub acts-on : (h : Heap) (hs : List ℕ) (lane : ℕ) (w : Word) (a : Address) → IsReady h hs lane → w ≡ word.Ref a → IsCellOrYoung h.space (own_chunk h lane) a.0 → get_or hs (cell_of h.space (own_chunk h lane) a.0).head.domain 0 ≡ lane → ActsOn h hs lane w a
+pub acts-on : (h : Heap) (hs : List ℕ) (lane : ℕ) (w : Word) (a : Address) → MayOperate h hs lane → w ≡ word.Ref a → IsCellOrYoung h.space (own_chunk h lane) a.0 → get_or hs (cell_of h.space (own_chunk h lane) a.0).head.domain 0 ≡ lane → ActsOn h hs lane w a
 acts-on h hs lane w a ready e there held = λ serials state v means read next.
     let c = cell_of h.space (own_chunk h lane) a.0 in
     let at = memory-there h.space h.chunks.items lane a.0 ready.layout ready.apart ready.lane_within there in
@@ -115,7 +115,7 @@ acts-on h hs lane w a ready e there held = λ serials state v means read next.
     on_object-held state lane v (birth_of c.head) next (read-ref (memory_of h) state w v a c e at read)
     (holds-is state hs lane c.head.domain (object_of state.made (birth_of c.head)).domain means.held home.domain held)
 
-pub refuses-foreign : (h : Heap) (hs : List ℕ) (lane : ℕ) (w : Word) (a : Address) → IsReady h hs lane → w ≡ word.Ref a → IsCellOrYoung h.space (own_chunk h lane) a.0 → get_or hs (cell_of h.space (own_chunk h lane) a.0).head.domain 0 ≢ lane → Refuses h hs lane w reply.Foreign
+pub refuses-foreign : (h : Heap) (hs : List ℕ) (lane : ℕ) (w : Word) (a : Address) → MayOperate h hs lane → w ≡ word.Ref a → IsCellOrYoung h.space (own_chunk h lane) a.0 → get_or hs (cell_of h.space (own_chunk h lane) a.0).head.domain 0 ≢ lane → Refuses h hs lane w reply.Foreign
 refuses-foreign h hs lane w a ready e there off = λ serials state v means read next.
     let c = cell_of h.space (own_chunk h lane) a.0 in
     let at = memory-there h.space h.chunks.items lane a.0 ready.layout ready.apart ready.lane_within there in
@@ -124,7 +124,7 @@ refuses-foreign h hs lane w a ready e there off = λ serials state v means read 
     (holds-not state hs lane c.head.domain (object_of state.made (birth_of c.head)).domain means.held home.domain off)
 
 -- the same of an operation on a field
-pub acts-on_field : (h : Heap) (hs : List ℕ) (lane i : ℕ) (w : Word) (a : Address) → IsReady h hs lane → IsOfLane h hs lane w a → ActsOn h hs lane w a → i < (cell_of h.space (own_chunk h lane) a.0).head.fields → ActsOnField h hs lane w i a
+pub acts-on_field : (h : Heap) (hs : List ℕ) (lane i : ℕ) (w : Word) (a : Address) → MayOperate h hs lane → IsOfLane h hs lane w a → ActsOn h hs lane w a → i < (cell_of h.space (own_chunk h lane) a.0).head.fields → ActsOnField h hs lane w i a
 acts-on_field h hs lane i w a ready of acts lt = λ serials state v means read next.
     let c = cell_of h.space (own_chunk h lane) a.0 in
     let at = memory-there h.space h.chunks.items lane a.0 ready.layout ready.apart ready.lane_within of.there in
@@ -133,7 +133,7 @@ acts-on_field h hs lane i w a ready of acts lt = λ serials state v means read n
     ∙ held_if (nat_lt i (length (object_of state.made (birth_of c.head)).fields)) (next (birth_of c.head)) (state, reply.Range)
     (lt-ltb i (length (object_of state.made (birth_of c.head)).fields) (let n = home.count in omega arith))
 
-pub refuses-range : (h : Heap) (hs : List ℕ) (lane i : ℕ) (w : Word) (a : Address) → IsReady h hs lane → IsOfLane h hs lane w a → ActsOn h hs lane w a → (cell_of h.space (own_chunk h lane) a.0).head.fields ≤ i → RefusesField h hs lane w i reply.Range
+pub refuses-range : (h : Heap) (hs : List ℕ) (lane i : ℕ) (w : Word) (a : Address) → MayOperate h hs lane → IsOfLane h hs lane w a → ActsOn h hs lane w a → (cell_of h.space (own_chunk h lane) a.0).head.fields ≤ i → RefusesField h hs lane w i reply.Range
 refuses-range h hs lane i w a ready of acts le = λ serials state v means read next.
     let c = cell_of h.space (own_chunk h lane) a.0 in
     let at = memory-there h.space h.chunks.items lane a.0 ready.layout ready.apart ready.lane_within of.there in

@@ -39,8 +39,8 @@ use Rattle.bc_word.specs.declared.addresses.Address.{Address}
 use Rattle.bc_word.specs.declared.heads.Head.{Head}
 use Rattle.bc_word.specs.declared.words.Word.{Word}
 use Rattle.bc_word.specs.declared.words.Word.TheVariants.{Nil, Ref}
-use Rattle.bc_mutator.specs.Effects.{with_root, IsDone}
-use Rattle.bc_mutator.specs.Objects.{IsReady, AreWhole, IsOwn, own_chunk}
+use Rattle.bc_mutator.specs.Effects.{with_root, DidOperation}
+use Rattle.bc_mutator.specs.Objects.{MayOperate, AreWhole, IsOwn, own_chunk}
 use Rattle.bc_mutator.specs.Operations.{NoneLater}
 use Rattle.bc_mutator.proofs.MeaningLemmas.{same_place}
 use Rattle.bc_mutator.proofs.RootLemmas.{running-root, root_words-set}
@@ -302,9 +302,9 @@ none-later s r cs hs serials state h lane a b e same =
     omega arith
 
 -- so a new object is done
-pub done-new : (h : Heap) (chunks : Vec Nursery) (roots : RootWords) (hs : List ℕ) (lane serial n : ℕ) (p : Slot) (object : Address) → IsReady h hs lane → p.domain < h.roots.domains → p.slot < h.roots.slots → n ≤ 127 → get_or hs p.domain 0 ≡ lane → class_of n ≤ left_of (own_chunk h lane) → chunks.items ≡ set h.chunks.items lane (with_object (own_chunk h lane) (record { lane = lane; serial = serial + 1; domain = p.domain; fields = n })) → object.0 ≡ nursery.end_of (own_chunk h lane) → roots ≡ with_root h.roots p (Ref object) → IsDone h (record h { roots = roots; chunks = chunks }) hs lane serial (serial + 1) (New p n) (reply.Obj (record { lane = lane; serial = serial + 1 }))
+pub done-new : (h : Heap) (chunks : Vec Nursery) (roots : RootWords) (hs : List ℕ) (lane serial n : ℕ) (p : Slot) (object : Address) → MayOperate h hs lane → p.domain < h.roots.domains → p.slot < h.roots.slots → n ≤ 127 → get_or hs p.domain 0 ≡ lane → class_of n ≤ left_of (own_chunk h lane) → chunks.items ≡ set h.chunks.items lane (with_object (own_chunk h lane) (record { lane = lane; serial = serial + 1; domain = p.domain; fields = n })) → object.0 ≡ nursery.end_of (own_chunk h lane) → roots ≡ with_root h.roots p (Ref object) → DidOperation h (record h { roots = roots; chunks = chunks }) hs lane serial (serial + 1) (New p n) (reply.Obj (record { lane = lane; serial = serial + 1 }))
 done-new h chunks roots hs lane serial n p object ready domain slot few held room is at written =
-    subst (λ (r : RootWords). IsDone h (record h { roots = r; chunks = chunks }) hs lane serial (serial + 1) (New p n) (reply.Obj (record { lane = lane; serial = serial + 1 }))) (sym root_is) (record {
+    subst (λ (r : RootWords). DidOperation h (record h { roots = r; chunks = chunks }) hs lane serial (serial + 1) (New p n) (reply.Obj (record { lane = lane; serial = serial + 1 }))) (sym root_is) (record {
       step = λ serials state means e. (
         ap (λ (k : ℕ). let b : Birth = record { lane = lane; serial = k + 1 } in reply.Obj b) (sym (births-count h.space h.roots h.chunks.items hs serials lane state means) ∙ e),
         subst (λ (k : ℕ). StandsAs h.space root chunks.items hs (set serials lane (k + 1)) (with_new state lane p n)) e

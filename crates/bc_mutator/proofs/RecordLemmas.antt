@@ -21,7 +21,7 @@ use Rattle.bc_word.specs.declared.addresses.Address.{Address}
 use Rattle.bc_word.specs.declared.words.Word.{Word}
 use Rattle.bc_word.specs.declared.words.Word.TheVariants.{Ref}
 use Rattle.bc_mutator.specs.Effects.{HasRecorded, FindsFull, Records, RecordsField, RecordsNothing, RecordsWrite, StoresAt, StopsAt, Wrote}
-use Rattle.bc_mutator.specs.Objects.{IsReady, IsOwn, IsOfLane, own_chunk, cell_of, slot_word}
+use Rattle.bc_mutator.specs.Objects.{MayOperate, IsOwn, IsOfLane, own_chunk, cell_of, slot_word}
 use Rattle.bc_mutator.specs.Operations.{NeedsEntry, RefersToField, StoresYoung}
 use Rattle.bc_mutator.proofs.ObjectLemmas.{allocated-below, cell_of-below}
 use Rattle.bc_mutator.proofs.WritingLemmas.{CanWrite, own-cell, refers-young}
@@ -49,11 +49,11 @@ field-named h hs lane p target at index word can e below =
     )
 
 -- what the slot refers to, if it is such a field
-field-below : (h : Heap) (hs : List ℕ) (lane : ℕ) (p : Slot) (target : Word) (at : Address) (index : ℕ) → IsReady h hs lane → target ≡ slot_word h.roots p → target ≡ Ref at → RefersToField hs lane h.space h.roots p index → at.0 < end_of h.space
+field-below : (h : Heap) (hs : List ℕ) (lane : ℕ) (p : Slot) (target : Word) (at : Address) (index : ℕ) → MayOperate h hs lane → target ≡ slot_word h.roots p → target ≡ Ref at → RefersToField hs lane h.space h.roots p index → at.0 < end_of h.space
 field-below h hs lane p target at index ready e refers f =
     subst (λ (a : Address). a.0 < end_of h.space) (one_address f.cell at (sym f.to ∙ sym e ∙ refers)) (allocated-below h.space f.cell.0 ready.layout f.mature)
 
-field-found : (h : Heap) (hs : List ℕ) (lane : ℕ) (p : Slot) (target : Word) (index : ℕ) → IsReady h hs lane → target ≡ slot_word h.roots p → ((a : Address) → IsOfLane h hs lane target a → index < (cell_of h.space (own_chunk h lane) a.0).head.fields → ⊥) → RefersToField hs lane h.space h.roots p index → ⊥
+field-found : (h : Heap) (hs : List ℕ) (lane : ℕ) (p : Slot) (target : Word) (index : ℕ) → MayOperate h hs lane → target ≡ slot_word h.roots p → ((a : Address) → IsOfLane h hs lane target a → index < (cell_of h.space (own_chunk h lane) a.0).head.fields → ⊥) → RefersToField hs lane h.space h.roots p index → ⊥
 field-found h hs lane p target index ready e none f =
     let below = allocated-below h.space f.cell.0 ready.layout f.mature in
     let is : f.content ≡ space.cell_at h.space.pages f.cell.0 =
@@ -85,7 +85,7 @@ written-records h k hs lane p target at index word can e (inr wrote) = inr (
   (ap (λ (x : Heap). buffer_of x.buffers.items lane) wrote.rest, ap (λ (x : Heap). x.space.states) wrote.rest),
 )
 
-pub refused-records : (h : Heap) (hs : List ℕ) (lane : ℕ) (p : Slot) (target : Word) (index : ℕ) (word : Word) (reply : Reply) → IsReady h hs lane → target ≡ slot_word h.roots p → ((a : Address) → IsOfLane h hs lane target a → index < (cell_of h.space (own_chunk h lane) a.0).head.fields → ⊥) → RecordsWrite h h hs lane p index word reply
+pub refused-records : (h : Heap) (hs : List ℕ) (lane : ℕ) (p : Slot) (target : Word) (index : ℕ) (word : Word) (reply : Reply) → MayOperate h hs lane → target ≡ slot_word h.roots p → ((a : Address) → IsOfLane h hs lane target a → index < (cell_of h.space (own_chunk h lane) a.0).head.fields → ⊥) → RecordsWrite h h hs lane p index word reply
 refused-records h hs lane p target index word reply ready e none = inr (λ stores. field-found h hs lane p target index ready e none stores.0, (refl, refl))
 
 pub write-stops : (h : Heap) (hs : List ℕ) (lane : ℕ) (p : Slot) (target : Word) (at : Address) (index : ℕ) (word : Word) → CanWrite h hs lane target at index word → target ≡ slot_word h.roots p → FindsFull h lane at word → StopsAt h hs lane p index word
@@ -98,7 +98,7 @@ plain-records h k hs lane p index word reply plain (inl r) = absurd (plain r.0.1
 plain-records h k hs lane p index word reply plain (inr r) = r.1
 
 -- a link, of whose slots the lane holds the domains
-link-stores : (h : Heap) (hs : List ℕ) (lane index : ℕ) (p q : Slot) (word : Word) → IsReady h hs lane → (get_or hs p.domain 0 ≡ lane) × (get_or hs q.domain 0 ≡ lane) → word ≡ slot_word h.roots q → IsOwn h.space (own_chunk h lane) word → (stores : StoresAt h hs lane p index word) → (y : StoresYoung hs lane h.space h.roots (own_chunk h lane) p index q) × (y.target ≡ stores.0)
+link-stores : (h : Heap) (hs : List ℕ) (lane index : ℕ) (p q : Slot) (word : Word) → MayOperate h hs lane → (get_or hs p.domain 0 ≡ lane) × (get_or hs q.domain 0 ≡ lane) → word ≡ slot_word h.roots q → IsOwn h.space (own_chunk h lane) word → (stores : StoresAt h hs lane p index word) → (y : StoresYoung hs lane h.space h.roots (own_chunk h lane) p index q) × (y.target ≡ stores.0)
 link-stores h hs lane index p q word ready held e own stores = (
   record {
     slots = held;
@@ -110,7 +110,7 @@ link-stores h hs lane index p q word ready held e own stores = (
   refl,
 )
 
-pub link-records : (h k : Heap) (hs : List ℕ) (lane index : ℕ) (p q : Slot) (word : Word) (reply : Reply) → IsReady h hs lane → (get_or hs p.domain 0 ≡ lane) × (get_or hs q.domain 0 ≡ lane) → word ≡ slot_word h.roots q → IsOwn h.space (own_chunk h lane) word → RecordsWrite h k hs lane p index word reply → HasRecorded h k hs lane (Link p index q) reply
+pub link-records : (h k : Heap) (hs : List ℕ) (lane index : ℕ) (p q : Slot) (word : Word) (reply : Reply) → MayOperate h hs lane → (get_or hs p.domain 0 ≡ lane) × (get_or hs q.domain 0 ≡ lane) → word ≡ slot_word h.roots q → IsOwn h.space (own_chunk h lane) word → RecordsWrite h k hs lane p index word reply → HasRecorded h k hs lane (Link p index q) reply
 link-records h k hs lane index p q word reply ready held e own (inl r) =
     let y = link-stores h hs lane index p q word ready held e own r.0 in
     inl (
@@ -124,7 +124,7 @@ link-records h k hs lane index p q word reply ready held e own (inr r) = inr (
 )
 
 -- what stops a link
-pub link-stops : (h : Heap) (hs : List ℕ) (lane index : ℕ) (p q : Slot) (word : Word) → IsReady h hs lane → (get_or hs p.domain 0 ≡ lane) × (get_or hs q.domain 0 ≡ lane) → word ≡ slot_word h.roots q → IsOwn h.space (own_chunk h lane) word → StopsAt h hs lane p index word → NeedsEntry hs lane h.space h.roots (own_chunk h lane) (buffer_of h.buffers.items lane) (Link p index q)
+pub link-stops : (h : Heap) (hs : List ℕ) (lane index : ℕ) (p q : Slot) (word : Word) → MayOperate h hs lane → (get_or hs p.domain 0 ≡ lane) × (get_or hs q.domain 0 ≡ lane) → word ≡ slot_word h.roots q → IsOwn h.space (own_chunk h lane) word → StopsAt h hs lane p index word → NeedsEntry hs lane h.space h.roots (own_chunk h lane) (buffer_of h.buffers.items lane) (Link p index q)
 link-stops h hs lane index p q word ready held e own stops = ((link-stores h hs lane index p q word ready held e own stops.0).0, stops.1)
 
 -- an operation that names a domain that the lane doesn't hold records nothing

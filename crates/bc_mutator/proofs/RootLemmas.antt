@@ -34,8 +34,8 @@ use Rattle.bc_word.specs.Words.{word_bits, word_of_bits, FitsWord}
 use Rattle.bc_word.specs.declared.addresses.Address.{Address}
 use Rattle.bc_word.specs.declared.words.Word.{Word}
 use Rattle.bc_word.specs.declared.words.Word.TheVariants as word
-use Rattle.bc_mutator.specs.Effects.{with_root, Answers, Leaves, HasRecorded, IsDone}
-use Rattle.bc_mutator.specs.Objects.{Runs, Means, IsReady, IsRead, IsOwn, IsOfLane, ActsOnField, RefusesField, memory_of, own_chunk, cell_of, slot_word, loaded_as}
+use Rattle.bc_mutator.specs.Effects.{with_root, Answers, Leaves, HasRecorded, DidOperation}
+use Rattle.bc_mutator.specs.Objects.{Runs, Means, MayOperate, IsRead, IsOwn, IsOfLane, ActsOnField, RefusesField, memory_of, own_chunk, cell_of, slot_word, loaded_as}
 use Rattle.bc_mutator.proofs.MeaningLemmas.{same_place, read-nil, read-num, read-ref, read-field, home-ref}
 use Rattle.bc_mutator.proofs.ObjectLemmas.{there-below, there-above, cell_of-below, cell_of-above, memory-there}
 use Rattle.bc_mutator.proofs.TellingLemmas.{word-read, is-object}
@@ -136,7 +136,7 @@ Leaves-itself h lane = record {
 }
 
 -- an operation that changes nothing is done
-pub done-answers : (h : Heap) (hs : List ℕ) (lane serial : ℕ) (op : Op) (reply : Reply) → Runs h hs → Answers h hs lane op reply → HasRecorded h h hs lane op reply → IsDone h h hs lane serial serial op reply
+pub done-answers : (h : Heap) (hs : List ℕ) (lane serial : ℕ) (op : Op) (reply : Reply) → Runs h hs → Answers h hs lane op reply → HasRecorded h h hs lane op reply → DidOperation h h hs lane serial serial op reply
 done-answers h hs lane serial op reply runs answers recorded = record {
   step = λ serials state means e.
       let is = answers serials state means in (
@@ -152,8 +152,8 @@ done-answers h hs lane serial op reply runs answers recorded = record {
 }
 
 -- so is one that writes a root slot
-pub done-root : (h : Heap) (r : RootWords) (hs : List ℕ) (lane serial : ℕ) (p : Slot) (w : Word) (op : Op) (reply : Reply) → IsReady h hs lane → r ≡ with_root h.roots p w → p.slot < h.roots.slots → get_or hs p.domain 0 ≡ lane → IsOwn h.space (own_chunk h lane) w → FitsWord w → ((serials : List ℕ) → (state : State) → Means h hs serials state → (v : Value) × IsRead (memory_of h) state w v × (act state lane op ≡ (with_slot state p v, reply))) → HasRecorded h h hs lane op reply → IsDone h (record h { roots = r }) hs lane serial serial op reply
-done-root h r hs lane serial p w op reply ready is within held own fits effect recorded = subst (λ (x : RootWords). IsDone h (record h { roots = x }) hs lane serial serial op reply) (sym is) (record {
+pub done-root : (h : Heap) (r : RootWords) (hs : List ℕ) (lane serial : ℕ) (p : Slot) (w : Word) (op : Op) (reply : Reply) → MayOperate h hs lane → r ≡ with_root h.roots p w → p.slot < h.roots.slots → get_or hs p.domain 0 ≡ lane → IsOwn h.space (own_chunk h lane) w → FitsWord w → ((serials : List ℕ) → (state : State) → Means h hs serials state → (v : Value) × IsRead (memory_of h) state w v × (act state lane op ≡ (with_slot state p v, reply))) → HasRecorded h h hs lane op reply → DidOperation h (record h { roots = r }) hs lane serial serial op reply
+done-root h r hs lane serial p w op reply ready is within held own fits effect recorded = subst (λ (x : RootWords). DidOperation h (record h { roots = x }) hs lane serial serial op reply) (sym is) (record {
   step = λ serials state means e.
       let k = effect serials state means in (
         ap (λ (x : State × Reply). x.1) k.2,
@@ -203,7 +203,7 @@ num-read m state n = record { value = refl; reached = λ b e. absurd (none b e) 
     none c f = cc
 
 -- a field of an object of the lane's has a word of the lane's
-pub own-field : (h : Heap) (hs : List ℕ) (lane i : ℕ) (w : Word) (a : Address) → IsReady h hs lane → IsOfLane h hs lane w a → IsOwn h.space (own_chunk h lane) (get_or (cell_of h.space (own_chunk h lane) a.0).fields i word.Nil)
+pub own-field : (h : Heap) (hs : List ℕ) (lane i : ℕ) (w : Word) (a : Address) → MayOperate h hs lane → IsOfLane h hs lane w a → IsOwn h.space (own_chunk h lane) (get_or (cell_of h.space (own_chunk h lane) a.0).fields i word.Nil)
 own-field h hs lane i w a ready of = λ b e. elim (cases_lt a.0 (end_of h.space)) [
   | inl below ↦
       let on = there-below h.space (own_chunk h lane) a.0 ready.behind of.there below in
@@ -229,7 +229,7 @@ loaded-read m state (word.Num n) v h = ap loaded (read-num m state (word.Num n) 
 loaded-read m state (word.Ref a) v h = ap loaded (is-object m state (word.Ref a) v a refl h).1
 
 -- a load, where it is done: the field's word goes to the second slot
-pub load-effect : (h : Heap) (hs serials : List ℕ) (lane i : ℕ) (p q : Slot) (w : Word) (a : Address) (reply : Reply) (state : State) → IsReady h hs lane → w ≡ slot_word h.roots p → IsOfLane h hs lane w a → ActsOnField h hs lane w i a → reply ≡ loaded_as (get_or (cell_of h.space (own_chunk h lane) a.0).fields i word.Nil) → Means h hs serials state → (v : Value) × IsRead (memory_of h) state (get_or (cell_of h.space (own_chunk h lane) a.0).fields i word.Nil) v × (act state lane (Load p i q) ≡ (with_slot state q v, reply))
+pub load-effect : (h : Heap) (hs serials : List ℕ) (lane i : ℕ) (p q : Slot) (w : Word) (a : Address) (reply : Reply) (state : State) → MayOperate h hs lane → w ≡ slot_word h.roots p → IsOfLane h hs lane w a → ActsOnField h hs lane w i a → reply ≡ loaded_as (get_or (cell_of h.space (own_chunk h lane) a.0).fields i word.Nil) → Means h hs serials state → (v : Value) × IsRead (memory_of h) state (get_or (cell_of h.space (own_chunk h lane) a.0).fields i word.Nil) v × (act state lane (Load p i q) ≡ (with_slot state q v, reply))
 load-effect h hs serials lane i p q w a reply state ready e of acts is means =
     let c = cell_of h.space (own_chunk h lane) a.0 in
     let b = birth_of c.head in

@@ -21,7 +21,7 @@ use Rattle.bc_word.specs.declared.heads.Head.{Head}
 use Rattle.bc_word.specs.declared.words.Word.{Word}
 use Rattle.bc_word.specs.declared.words.Word.TheVariants as word
 use Rattle.bc_mutator.specs.Effects.{Answers}
-use Rattle.bc_mutator.specs.Objects.{Runs, Means, IsReady, IsRead, IsOfLane, ActsOn, Refuses, memory_of, own_chunk, cell_of, slot_word}
+use Rattle.bc_mutator.specs.Objects.{Runs, Means, MayOperate, IsRead, IsOfLane, ActsOn, Refuses, memory_of, own_chunk, cell_of, slot_word}
 use Rattle.bc_mutator.proofs.MeaningLemmas.{read-slot, read-nil, read-num, home-ref}
 use Rattle.bc_mutator.proofs.ObjectLemmas.{memory-there}
 
@@ -73,7 +73,7 @@ who-refuses h hs lane p w a r e is refuses = λ serials state means.
     told-object state lane v b.0 b.1 ∙ refuses serials state v means read (λ c. (state, reply.Obj c))
 
 -- the number of fields
-pub len-acts : (h : Heap) (hs : List ℕ) (lane n : ℕ) (p : Slot) (w : Word) (a : Address) → IsReady h hs lane → w ≡ slot_word h.roots p → IsOfLane h hs lane w a → ActsOn h hs lane w a → n ≡ (cell_of h.space (own_chunk h lane) a.0).head.fields → Answers h hs lane (Len p) (reply.Len n)
+pub len-acts : (h : Heap) (hs : List ℕ) (lane n : ℕ) (p : Slot) (w : Word) (a : Address) → MayOperate h hs lane → w ≡ slot_word h.roots p → IsOfLane h hs lane w a → ActsOn h hs lane w a → n ≡ (cell_of h.space (own_chunk h lane) a.0).head.fields → Answers h hs lane (Len p) (reply.Len n)
 len-acts h hs lane n p w a ready e of acts same = λ serials state means.
     let v = slot_of state p in
     let c = cell_of h.space (own_chunk h lane) a.0 in

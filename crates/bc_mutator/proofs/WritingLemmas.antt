@@ -36,8 +36,8 @@ use Rattle.bc_word.specs.Heads.{fields_of_bits}
 use Rattle.bc_word.specs.Words.{FitsWord}
 use Rattle.bc_word.specs.declared.addresses.Address.{Address}
 use Rattle.bc_word.specs.declared.words.Word.{Word}
-use Rattle.bc_mutator.specs.Effects.{HasRecorded, RefersBehind, Records, WroteCell, WroteMature, WroteYoung, Wrote, Writes, Leaves, Answers, IsDone}
-use Rattle.bc_mutator.specs.Objects.{Runs, Means, IsReady, IsRead, IsOwn, IsOfLane, ActsOnField, RefusesField, memory_of, own_chunk, cell_of, slot_word}
+use Rattle.bc_mutator.specs.Effects.{HasRecorded, RefersBehind, Records, WroteCell, WroteMature, WroteYoung, Wrote, Writes, Leaves, Answers, DidOperation}
+use Rattle.bc_mutator.specs.Objects.{Runs, Means, MayOperate, IsRead, IsOwn, IsOfLane, ActsOnField, RefusesField, memory_of, own_chunk, cell_of, slot_word}
 use Rattle.bc_mutator.proofs.MatureLemmas.{MatureWrite, mature-memory, mature-births, mature-running}
 use Rattle.bc_mutator.proofs.MeaningLemmas.{read-ref}
 use Rattle.bc_mutator.proofs.ObjectLemmas.{there-below, there-above, cell_of-below, memory-there}
@@ -67,7 +67,7 @@ same-refused h t lane b e lt read space buffer =
 
 -- a field that a lane may write
 pub record CanWrite (h : Heap) (hs : List ℕ) (lane : ℕ) (target : Word) (at : Address) (index : ℕ) (word : Word) : Type 0 where
-  pub ready : IsReady h hs lane
+  pub ready : MayOperate h hs lane
   pub of : IsOfLane h hs lane target at
   pub less : index < (cell_of h.space (own_chunk h lane) at.0).head.fields
   pub own : IsOwn h.space (own_chunk h lane) word
@@ -149,7 +149,7 @@ none-young c a none on = no (sym on ∙ ap (λ (os : List ChunkObject). is_some 
     no : true ≡ false → ⊥
     no e = cc
 
-pub refers-young : (h : Heap) (hs : List ℕ) (lane : ℕ) (word : Word) → IsReady h hs lane → IsOwn h.space (own_chunk h lane) word → (b : RefersBehind h.space word) → has_object (own_chunk h lane) b.to.0 ≡ true
+pub refers-young : (h : Heap) (hs : List ℕ) (lane : ℕ) (word : Word) → MayOperate h hs lane → IsOwn h.space (own_chunk h lane) word → (b : RefersBehind h.space word) → has_object (own_chunk h lane) b.to.0 ≡ true
 refers-young h hs lane word ready own b = there-above h.space (own_chunk h lane) b.to.0 ready.layout (own b.to b.refers) b.behind
 
 -- it leaves the rest
@@ -157,7 +157,7 @@ mature-capacity : (s t : Layout) (b e : Entries) (at : Address) (index : ℕ) (w
 mature-capacity s t b e at index word (inl r) = ap (λ (x : Entries). x.capacity) r.1.0
 mature-capacity s t b e at index word (inr r) = ap (λ (x : Entries). x.capacity) r.1.0
 
-mature-unrecorded : (h k : Heap) (hs : List ℕ) (lane : ℕ) (at : Address) (index : ℕ) (word : Word) → IsReady h hs lane → IsOwn h.space (own_chunk h lane) word → k.buffers.items ≡ set h.buffers.items lane (buffer_of k.buffers.items lane) → (own_chunk h lane).objects ≡ [] → Records h.space k.space (buffer_of h.buffers.items lane) (buffer_of k.buffers.items lane) at index word → (k.buffers.items ≡ h.buffers.items) × (k.space.states ≡ h.space.states)
+mature-unrecorded : (h k : Heap) (hs : List ℕ) (lane : ℕ) (at : Address) (index : ℕ) (word : Word) → MayOperate h hs lane → IsOwn h.space (own_chunk h lane) word → k.buffers.items ≡ set h.buffers.items lane (buffer_of k.buffers.items lane) → (own_chunk h lane).objects ≡ [] → Records h.space k.space (buffer_of h.buffers.items lane) (buffer_of k.buffers.items lane) at index word → (k.buffers.items ≡ h.buffers.items) × (k.space.states ≡ h.space.states)
 mature-unrecorded h k hs lane at index word ready own buffers none (inl r) = (
   buffers ∙ ap (λ (x : Entries). set h.buffers.items lane x) r.1.0 ∙ set-get_or h.buffers.items lane no_buffer,
   r.1.1,
@@ -215,7 +215,7 @@ written-roots h k lane at index word (inl wrote) = ap (λ (x : Heap). x.roots) w
 written-roots h k lane at index word (inr wrote) = ap (λ (x : Heap). x.roots) wrote.rest
 
 -- so an operation that writes a field is done
-pub done-field : (h k : Heap) (hs : List ℕ) (lane serial : ℕ) (target : Word) (at : Address) (index : ℕ) (word : Word) (op : Op) (reply : Reply) → CanWrite h hs lane target at index word → Wrote h k lane at index word → FitsWord word → ((serials : List ℕ) → (state : State) → Means h hs serials state → (v : Value) × IsRead (memory_of h) state word v × Reached state.slots state.made (birth_of (cell_of h.space (own_chunk h lane) at.0).head) × (act state lane op ≡ (with_field state (birth_of (cell_of h.space (own_chunk h lane) at.0).head) index v, reply))) → HasRecorded h k hs lane op reply → IsDone h k hs lane serial serial op reply
+pub done-field : (h k : Heap) (hs : List ℕ) (lane serial : ℕ) (target : Word) (at : Address) (index : ℕ) (word : Word) (op : Op) (reply : Reply) → CanWrite h hs lane target at index word → Wrote h k lane at index word → FitsWord word → ((serials : List ℕ) → (state : State) → Means h hs serials state → (v : Value) × IsRead (memory_of h) state word v × Reached state.slots state.made (birth_of (cell_of h.space (own_chunk h lane) at.0).head) × (act state lane op ≡ (with_field state (birth_of (cell_of h.space (own_chunk h lane) at.0).head) index v, reply))) → HasRecorded h k hs lane op reply → DidOperation h k hs lane serial serial op reply
 done-field h k hs lane serial target at index word op reply can wrote fits effect recorded =
     let leaves = written-leaves h k hs lane target at index word can wrote in
     let there = memory-there h.space h.chunks.items lane at.0 can.ready.layout can.ready.apart can.ready.lane_within can.of.there in
@@ -238,7 +238,7 @@ done-field h k hs lane serial target at index word op reply can wrote fits effec
     }
 
 -- the object of a slot is written, or the operation changes nothing
-pub write-effect : (h : Heap) (hs serials : List ℕ) (lane i : ℕ) (p : Slot) (target word : Word) (a : Address) (op : Op) (state : State) → IsReady h hs lane → target ≡ slot_word h.roots p → IsOfLane h hs lane target a → ActsOnField h hs lane target i a → Writes h hs lane p i word op → Means h hs serials state → (v : Value) × IsRead (memory_of h) state word v × Reached state.slots state.made (birth_of (cell_of h.space (own_chunk h lane) a.0).head) × (act state lane op ≡ (with_field state (birth_of (cell_of h.space (own_chunk h lane) a.0).head) i v, Done))
+pub write-effect : (h : Heap) (hs serials : List ℕ) (lane i : ℕ) (p : Slot) (target word : Word) (a : Address) (op : Op) (state : State) → MayOperate h hs lane → target ≡ slot_word h.roots p → IsOfLane h hs lane target a → ActsOnField h hs lane target i a → Writes h hs lane p i word op → Means h hs serials state → (v : Value) × IsRead (memory_of h) state word v × Reached state.slots state.made (birth_of (cell_of h.space (own_chunk h lane) a.0).head) × (act state lane op ≡ (with_field state (birth_of (cell_of h.space (own_chunk h lane) a.0).head) i v, Done))
 write-effect h hs serials lane i p target word a op state ready e of acts writes means =
     let c = cell_of h.space (own_chunk h lane) a.0 in
     let k = writes serials state means in

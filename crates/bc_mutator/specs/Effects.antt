@@ -90,7 +90,7 @@ HasRecorded old new holders lane op reply =
 
 -- what an operation of a lane that holds all domains that it names does and is answered: `serial` is the number of the
 -- lane's births before, and `next` after
-pub record IsDone (old new : Heap) (holders : List ℕ) (lane serial next : ℕ) (op : Op) (reply : Reply) : Type 0 where
+pub record DidOperation (old new : Heap) (holders : List ℕ) (lane serial next : ℕ) (op : Op) (reply : Reply) : Type 0 where
   pub step : (serials : List ℕ) → (state : State) → Means old holders serials state → slice_index serials lane ≡ serial
       → ((act state lane op).1 ≡ reply) × Means new holders (slice_set serials lane next) (act state lane op).0
   pub running : NoneLater old.space old.chunks.items lane serial → Runs new holders

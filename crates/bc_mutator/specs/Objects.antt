@@ -66,7 +66,7 @@ loaded_as (Num n) = reply.Num n
 loaded_as (Ref a) = reply.Ref
 
 -- a lane may do an operation
-pub record IsReady (h : Heap) (holders : List ℕ) (lane : ℕ) : Type 0 where
+pub record MayOperate (h : Heap) (holders : List ℕ) (lane : ℕ) : Type 0 where
   pub running : Runs h holders
   pub layout : IsLayout h.space
   pub few_domains : h.roots.domains ≤ 64

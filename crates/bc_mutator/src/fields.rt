@@ -4,8 +4,8 @@ ghost use Rattle.bc_model.specs.WellFormed.{IsSlot, IsNumber};
 ghost use Rattle.bc_model.specs.declared.operations.Op.{Op};
 ghost use Rattle.bc_model.specs.declared.operations.Op.TheVariants.{Set, Cut, Link};
 ghost use Rattle.bc_word.specs.Words.{FitsWord};
-ghost use Rattle.bc_mutator.specs.Effects.{IsDone, HasRecorded, RecordsWrite, Writes, StopsAt};
-ghost use Rattle.bc_mutator.specs.Objects.{IsReady, IsOwn, own_chunk};
+ghost use Rattle.bc_mutator.specs.Effects.{DidOperation, HasRecorded, RecordsWrite, Writes, StopsAt};
+ghost use Rattle.bc_mutator.specs.Objects.{MayOperate, IsOwn, own_chunk};
 ghost use Rattle.bc_mutator.specs.Operations.{setup_of, NeedsEntry};
 
 use crate::objects::object_with_field;
@@ -25,11 +25,11 @@ pub(crate) fn set(
     index: u32,
     number: u64,
 ) -> Result<Reply, Stop>
-    requires ready { IsReady heap.old holders.now lane }
+    requires ready { MayOperate heap.old holders.now lane }
     requires slot { IsSlot (setup_of heap.old.roots) slot }
     requires number { IsNumber number }
     requires held { slice_index holders.now slot.domain ≡ lane }
-    ensures done { IfOk result (λ reply. (serial : ℕ) → IsDone heap.old heap.new holders.now lane serial serial (Set slot index number) reply) }
+    ensures done { IfOk result (λ reply. (serial : ℕ) → DidOperation heap.old heap.new holders.now lane serial serial (Set slot index number) reply) }
     ensures never { OnErr result ⊥ }
 {
     write(heap, holders, lane, slot, index, Word::Num(number))
@@ -43,10 +43,10 @@ pub(crate) fn cut(
     slot: Slot,
     index: u32,
 ) -> Result<Reply, Stop>
-    requires ready { IsReady heap.old holders.now lane }
+    requires ready { MayOperate heap.old holders.now lane }
     requires slot { IsSlot (setup_of heap.old.roots) slot }
     requires held { slice_index holders.now slot.domain ≡ lane }
-    ensures done { IfOk result (λ reply. (serial : ℕ) → IsDone heap.old heap.new holders.now lane serial serial (Cut slot index) reply) }
+    ensures done { IfOk result (λ reply. (serial : ℕ) → DidOperation heap.old heap.new holders.now lane serial serial (Cut slot index) reply) }
     ensures never { OnErr result ⊥ }
 {
     write(heap, holders, lane, slot, index, Word::Nil)
@@ -61,11 +61,11 @@ pub(crate) fn link(
     index: u32,
     from: Slot,
 ) -> Result<Reply, Stop>
-    requires ready { IsReady heap.old holders.now lane }
+    requires ready { MayOperate heap.old holders.now lane }
     requires slot { IsSlot (setup_of heap.old.roots) slot }
     requires from { IsSlot (setup_of heap.old.roots) from }
     requires held { (slice_index holders.now slot.domain ≡ lane) × (slice_index holders.now from.domain ≡ lane) }
-    ensures done { IfOk result (λ reply. (serial : ℕ) → IsDone heap.old heap.new holders.now lane serial serial (Link slot index from) reply) }
+    ensures done { IfOk result (λ reply. (serial : ℕ) → DidOperation heap.old heap.new holders.now lane serial serial (Link slot index from) reply) }
     ensures same { OnErr result (heap.new ≡ heap.old) }
     ensures full { OnErr result (NeedsEntry holders.now lane heap.old.space heap.old.roots (own_chunk heap.old lane) (buffer_of heap.old.buffers.items lane) (Link slot index from)) }
     ensures stop { IfErr result (λ stop. stop ≡ Stop.BufferFull) }
@@ -84,14 +84,14 @@ fn write(
     index: u32,
     word: Word,
 ) -> Result<Reply, Stop>
-    requires ready { IsReady heap.old holders.now lane }
+    requires ready { MayOperate heap.old holders.now lane }
     requires slot { IsSlot (setup_of heap.old.roots) slot }
     requires held { slice_index holders.now slot.domain ≡ lane }
     requires fits { FitsWord word }
     requires own { IsOwn heap.old.space (own_chunk heap.old lane) word }
     ensures done { IfOk result (λ reply. (serial : ℕ) → (op : Op) → Writes heap.old holders.now lane slot index word op
         → (RecordsWrite heap.old heap.new holders.now lane slot index word reply → HasRecorded heap.old heap.new holders.now lane op reply)
-        → IsDone heap.old heap.new holders.now lane serial serial op reply) }
+        → DidOperation heap.old heap.new holders.now lane serial serial op reply) }
     ensures same { OnErr result (heap.new ≡ heap.old) }
     ensures full { OnErr result (StopsAt heap.old holders.now lane slot index word) }
     ensures stop { IfErr result (λ stop. stop ≡ Stop.BufferFull) }

@@ -1,5 +1,5 @@
 ghost use Rattle.std.specs.Prelude.{◌<◌, IfOk, IfErr, OnErr};
-ghost use Rattle.bc_mutator.specs.Objects.{IsReady, IsOwn, IsOfLane, ActsOn, Refuses, ActsOnField, RefusesField, cell_of, own_chunk};
+ghost use Rattle.bc_mutator.specs.Objects.{MayOperate, IsOwn, IsOfLane, ActsOn, Refuses, ActsOnField, RefusesField, cell_of, own_chunk};
 
 use crate::reading::head_at;
 use bc_cycle::Heap;
@@ -9,7 +9,7 @@ use bc_word::{Address, Word};
 /// Where the object lies that a word of the lane's refers to, if the lane holds its domain, or the reply that says what
 /// is wrong.
 pub(crate) fn object(heap: &Heap, holders: &[u32], lane: u32, word: Word) -> Result<Address, Reply>
-    requires ready { IsReady heap.now holders.now lane }
+    requires ready { MayOperate heap.now holders.now lane }
     requires own { IsOwn heap.now.space (own_chunk heap.now lane) word }
     ensures found { IfOk result (IsOfLane heap.now holders.now lane word) }
     ensures acts { IfOk result (ActsOn heap.now holders.now lane word) }
@@ -35,7 +35,7 @@ pub(crate) fn object_with_field(
     word: Word,
     index: u32,
 ) -> Result<Address, Reply>
-    requires ready { IsReady heap.now holders.now lane }
+    requires ready { MayOperate heap.now holders.now lane }
     requires own { IsOwn heap.now.space (own_chunk heap.now lane) word }
     ensures found { IfOk result (IsOfLane heap.now holders.now lane word) }
     ensures index { IfOk result (λ at. index < (cell_of heap.now.space (own_chunk heap.now lane) at.0).head.fields) }

@@ -2,8 +2,8 @@ ghost use Rattle.std.specs.Prelude.{◌≡◌, ℕ, slice_index};
 ghost use Rattle.bc_model.specs.WellFormed.{IsSlot};
 ghost use Rattle.bc_model.specs.declared.operations.Op.TheVariants.{Copy, Clear, Load};
 ghost use Rattle.bc_word.specs.Words.{FitsWord};
-ghost use Rattle.bc_mutator.specs.Effects.{IsDone, with_root};
-ghost use Rattle.bc_mutator.specs.Objects.{IsReady, loaded_as};
+ghost use Rattle.bc_mutator.specs.Effects.{DidOperation, with_root};
+ghost use Rattle.bc_mutator.specs.Objects.{MayOperate, loaded_as};
 ghost use Rattle.bc_mutator.specs.Operations.{setup_of};
 
 use crate::objects::object_with_field;
@@ -24,11 +24,11 @@ pub(crate) fn set_slot(roots: &mut Roots, slot: Slot, word: Word)
 
 /// The second slot becomes what the first one holds.
 pub(crate) fn copy(heap: &mut Heap, holders: &[u32], lane: u32, from: Slot, to: Slot) -> Reply
-    requires ready { IsReady heap.old holders.now lane }
+    requires ready { MayOperate heap.old holders.now lane }
     requires from { IsSlot (setup_of heap.old.roots) from }
     requires to { IsSlot (setup_of heap.old.roots) to }
     requires held { (slice_index holders.now from.domain ≡ lane) × (slice_index holders.now to.domain ≡ lane) }
-    ensures { (serial : ℕ) → IsDone heap.old heap.new holders.now lane serial serial (Copy from to) result }
+    ensures { (serial : ℕ) → DidOperation heap.old heap.new holders.now lane serial serial (Copy from to) result }
 {
     let word = slot_word(&heap.roots, from);
     set_slot(&mut heap.roots, to, word);
@@ -37,10 +37,10 @@ pub(crate) fn copy(heap: &mut Heap, holders: &[u32], lane: u32, from: Slot, to: 
 
 /// The slot becomes nil.
 pub(crate) fn clear(heap: &mut Heap, holders: &[u32], lane: u32, slot: Slot) -> Reply
-    requires ready { IsReady heap.old holders.now lane }
+    requires ready { MayOperate heap.old holders.now lane }
     requires slot { IsSlot (setup_of heap.old.roots) slot }
     requires held { slice_index holders.now slot.domain ≡ lane }
-    ensures { (serial : ℕ) → IsDone heap.old heap.new holders.now lane serial serial (Clear slot) result }
+    ensures { (serial : ℕ) → DidOperation heap.old heap.new holders.now lane serial serial (Clear slot) result }
 {
     set_slot(&mut heap.roots, slot, Word::Nil);
     Reply::Done
@@ -55,11 +55,11 @@ pub(crate) fn load(
     index: u32,
     to: Slot,
 ) -> Reply
-    requires ready { IsReady heap.old holders.now lane }
+    requires ready { MayOperate heap.old holders.now lane }
     requires slot { IsSlot (setup_of heap.old.roots) slot }
     requires to { IsSlot (setup_of heap.old.roots) to }
     requires held { (slice_index holders.now slot.domain ≡ lane) × (slice_index holders.now to.domain ≡ lane) }
-    ensures { (serial : ℕ) → IsDone heap.old heap.new holders.now lane serial serial (Load slot index to) result }
+    ensures { (serial : ℕ) → DidOperation heap.old heap.new holders.now lane serial serial (Load slot index to) result }
 {
     let word = slot_word(&heap.roots, slot);
     match object_with_field(heap, holders, lane, word, index) {

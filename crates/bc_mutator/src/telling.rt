@@ -2,7 +2,7 @@ ghost use Rattle.std.specs.Prelude.{◌≡◌, slice_index};
 ghost use Rattle.bc_model.specs.WellFormed.{IsSlot};
 ghost use Rattle.bc_model.specs.declared.operations.Op.TheVariants.{Who, Len, Same};
 ghost use Rattle.bc_mutator.specs.Effects.{Answers};
-ghost use Rattle.bc_mutator.specs.Objects.{IsReady};
+ghost use Rattle.bc_mutator.specs.Objects.{MayOperate};
 ghost use Rattle.bc_mutator.specs.Operations.{setup_of};
 
 use crate::objects::object;
@@ -13,7 +13,7 @@ use bc_word::Word;
 
 /// What the slot holds, an object by its birth, if the lane holds the object's domain.
 pub(crate) fn who(heap: &Heap, holders: &[u32], lane: u32, slot: Slot) -> Reply
-    requires ready { IsReady heap.now holders.now lane }
+    requires ready { MayOperate heap.now holders.now lane }
     requires slot { IsSlot (setup_of heap.now.roots) slot }
     requires held { slice_index holders.now slot.domain ≡ lane }
     ensures { Answers heap.now holders.now lane (Who slot) result }
@@ -37,7 +37,7 @@ pub(crate) fn who(heap: &Heap, holders: &[u32], lane: u32, slot: Slot) -> Reply
 
 /// How many fields the slot's object has.
 pub(crate) fn length_of(heap: &Heap, holders: &[u32], lane: u32, slot: Slot) -> Reply
-    requires ready { IsReady heap.now holders.now lane }
+    requires ready { MayOperate heap.now holders.now lane }
     requires slot { IsSlot (setup_of heap.now.roots) slot }
     requires held { slice_index holders.now slot.domain ≡ lane }
     ensures { Answers heap.now holders.now lane (Len slot) result }
@@ -50,7 +50,7 @@ pub(crate) fn length_of(heap: &Heap, holders: &[u32], lane: u32, slot: Slot) -> 
 
 /// Whether two slots hold the same value: their words are the same.
 pub(crate) fn same(heap: &Heap, holders: &[u32], lane: u32, first: Slot, second: Slot) -> Reply
-    requires ready { IsReady heap.now holders.now lane }
+    requires ready { MayOperate heap.now holders.now lane }
     requires first { IsSlot (setup_of heap.now.roots) first }
     requires second { IsSlot (setup_of heap.now.roots) second }
     ensures { Answers heap.now holders.now lane (Same first second) result }

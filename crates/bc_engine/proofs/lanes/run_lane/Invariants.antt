@@ -1,12 +1,12 @@
 use Rattle.std.proofs.Common.{◌-◌, length}
 use Rattle.bc_model.specs.Lists.{lists_of}
 use Rattle.bc_cycle.specs.Emptying.{parts_of}
-use Rattle.bc_engine.specs.Lanes.{of_lane, LeavesOthers, Runs}
+use Rattle.bc_engine.specs.Lanes.{of_lane, LeavesOthers, LanesRan}
 use Rattle.bc_engine.proofs.lanes.run_lane.Given as goal
 
 abbrev pub invariant-operations : goal.invariant-operations
 invariant-operations l = record {
-  runs : Runs (lists_of l.lanes) l.holders (parts_of l.initial.heap) l.initial.serials l.initial.replies (parts_of l.heap) l.serials l.replies;
+  runs : LanesRan (lists_of l.lanes) l.holders (parts_of l.initial.heap) l.initial.serials l.initial.replies (parts_of l.heap) l.serials l.replies;
   others : LeavesOthers l.lane (parts_of l.initial.heap) (lists_of l.initial.replies) (parts_of l.heap) (lists_of l.replies);
 }
 
