@@ -1,3 +1,5 @@
+//! The operations of a lane and the replies to them.
+
 use crate::values::{Birth, Slot};
 
 /// What a lane does in one step. Fields count from 0.
