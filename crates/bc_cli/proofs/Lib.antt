@@ -4,6 +4,7 @@ pub mod Replies
 pub mod Incoming
 pub mod Room
 pub mod Running
+pub mod PhaseEnds
 pub mod NeedRoom
 pub mod CutRoom
 pub mod Finishing

@@ -11,7 +11,7 @@ use Rattle.std.specs.Option.{option_or}
 use Rattle.bc_classes.specs.Classes.{class_of}
 use Rattle.bc_cycle.specs.declared.heaps.Heap.{Heap}
 use Rattle.bc_whole_heap.specs.Closed.{chunk_of, buffer_of, IsCellOrYoung, IsRecorded, IsClosedHeap}
-use Rattle.bc_whole_heap.specs.Heaps.{end_of, heap_memory, root_words, no_chunk, young, object_in, AreApart}
+use Rattle.bc_whole_heap.specs.Heaps.{end_of, heap_memory, root_words, no_chunk, young, object_in, AreApart, view_of}
 use Rattle.bc_whole_heap.specs.Running.{IsRunning, StandsAs}
 use Rattle.bc_whole_heap.proofs.ChunkLemmas.{object_in-at, object_in-none}
 use Rattle.bc_whole_heap.proofs.HeapLemmas.{memory-below, memory-above}
@@ -49,7 +49,7 @@ use Rattle.bc_mutator.proofs.YoungLemmas.{chunk-own, chunk-other, length-chunks,
 
 -- a new object of the lane's chunk, which has room for it
 pub record MakesYoung (s : Layout) (r : RootWords) (cs ds : List Nursery) (bs : List Entries) (hs : List ℕ) (lane : ℕ) (head : Head) : Type 0 where
-  pub run : IsRunning s r cs bs hs
+  pub run : IsRunning (view_of s r cs bs) hs
   pub lane_within : lane < length cs
   pub whole : AreWhole cs
   pub apart : AreApart (end_of s) cs
@@ -140,7 +140,7 @@ module _ (s : Layout) (r : RootWords) (cs ds : List Nursery) (bs : List Entries)
   named-kept l a k b (inl on) = inl on
   named-kept l a k b (inr on) = inr (has-kept l b.0 on.0, on.1)
 
-  made-closed : IsClosedHeap s r ds bs hs
+  made-closed : IsClosedHeap (view_of s r ds bs) hs
   made-closed =
       let long = length-chunks cs ds lane (with_object (chunk_of cs lane) head) w.chunks in
       let closed = w.run.closed in
@@ -233,7 +233,7 @@ module _ (s : Layout) (r : RootWords) (cs ds : List Nursery) (bs : List Entries)
     ]
   ]
 
-  pub made-running : (n : ℕ) → head.lane ≡ lane → head.serial ≡ n + 1 → NoneLater s cs lane n → IsRunning s r ds bs hs
+  pub made-running : (n : ℕ) → head.lane ≡ lane → head.serial ≡ n + 1 → NoneLater s cs lane n → IsRunning (view_of s r ds bs) hs
   made-running n by next none = record {
     none_gone = w.run.none_gone;
     none_promised = w.run.none_promised;

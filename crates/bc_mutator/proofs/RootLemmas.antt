@@ -5,7 +5,7 @@ use Rattle.std.proofs.lemmas.List.{set-get_or, set_past, map-set}
 use Rattle.std.proofs.lemmas.Nat.{same_from_place}
 use Rattle.bc_cycle.specs.declared.heaps.Heap.{Heap}
 use Rattle.bc_whole_heap.specs.Closed.{chunk_of, buffer_of, IsCellOrYoung, IsRecorded}
-use Rattle.bc_whole_heap.specs.Heaps.{end_of, heap_memory, root_words}
+use Rattle.bc_whole_heap.specs.Heaps.{end_of, heap_memory, root_words, view_of}
 use Rattle.bc_whole_heap.specs.Running.{IsRunning, StandsAs}
 use Rattle.bc_memory.specs.Memory.{Cell, Memory}
 use Rattle.bc_model.specs.Consistent.{IsValue}
@@ -51,7 +51,7 @@ set_cases ws i n k P old new = elim (cases_eq k i) [
 ]
 
 -- the heap stays closed
-pub running-root : (s : Layout) (r : RootWords) (cs : List Nursery) (bs : List Entries) (hs : List ℕ) (p : Slot) (w : Word) → IsRunning s r cs bs hs → p.slot < r.slots → IsOwn s (chunk_of cs (get_or hs p.domain 0)) w → IsRunning s (with_root r p w) cs bs hs
+pub running-root : (s : Layout) (r : RootWords) (cs : List Nursery) (bs : List Entries) (hs : List ℕ) (p : Slot) (w : Word) → IsRunning (view_of s r cs bs) hs → p.slot < r.slots → IsOwn s (chunk_of cs (get_or hs p.domain 0)) w → IsRunning (view_of s (with_root r p w) cs bs) hs
 running-root s r cs bs hs p w run within own = record {
   none_gone = run.none_gone;
   none_promised = run.none_promised;

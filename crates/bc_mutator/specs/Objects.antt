@@ -1,6 +1,7 @@
 -- The objects that an operation of a lane may look at: allocated cells, and objects of the lane's own chunk.
 use Rattle.std.specs.Prelude.{◌≡◌, ℕ, ◌<◌, ◌≤◌, nat_lt, if◌then◌else◌, true, List, length, slice_index, Some}
 use Rattle.bc_cycle.specs.declared.heaps.Heap.{Heap}
+use Rattle.bc_cycle.specs.Emptying.{heap_view}
 use Rattle.bc_whole_heap.specs.Closed.{chunk_of, IsCellOrYoung}
 use Rattle.bc_whole_heap.specs.Heaps.{end_of, heap_memory, young, AreApart}
 use Rattle.bc_whole_heap.specs.Running.{IsRunning, StandsAs}
@@ -27,7 +28,7 @@ use Rattle.bc_word.specs.Words.{word_of_bits}
 
 -- a heap between operations, and what it stands for
 abbrev pub Runs : Heap → List ℕ → Type 0
-Runs h holders = IsRunning h.space h.roots h.chunks.items h.buffers.items holders
+Runs h holders = IsRunning (heap_view h) holders
 
 abbrev pub Means : Heap → List ℕ → List ℕ → State → Type 0
 Means h holders serials state = StandsAs h.space h.roots h.chunks.items holders serials state
