@@ -11,18 +11,18 @@ use Rattle.bc_model.specs.WellFormed.{IsWithin, IsNumber}
 use Rattle.bc_trace.specs.declared.fault.Cause.{Cause}
 use Rattle.bc_trace.specs.declared.fault.Cause.TheVariants as causes
 use Rattle.bc_trace.specs.declared.fault.TraceFault.{TraceFault}
-use Rattle.bc_trace.specs.declared.grammar.Place.{Place}
-use Rattle.bc_trace.specs.declared.grammar.Place.TheVariants as places
-use Rattle.bc_trace.specs.declared.grammar.State.{State}
-use Rattle.bc_trace.specs.declared.words.Word.{Word}
+use Rattle.bc_trace.specs.declared.grammar.Stage.{Stage}
+use Rattle.bc_trace.specs.declared.grammar.Stage.TheVariants as stages
+use Rattle.bc_trace.specs.declared.grammar.Progress.{Progress}
+use Rattle.bc_trace.specs.declared.words.Keyword.{Keyword}
 use Rattle.bc_trace.specs.Words.{name}
 use Rattle.bc_trace.specs.Lines.{Line, word_of_line, operands, spelling, line_text}
 use Rattle.bc_trace.specs.Grammar.{start, Passes, after_all, Follow}
 use Rattle.bc_trace.specs.Faults.{IsWord, Fails, FaultOfLine, FaultAtEnd, EndFails, lines_begun, Fault}
 use Rattle.bc_trace.specs.Drafts.{DraftLists, empty_draft, put}
-use Rattle.bc_trace.specs.Reading.{line_at, lines_of, fault, finished, ended, ended_at, reading, read_of}
+use Rattle.bc_trace.specs.Reading.{line_at, lines_of, fault, trace_of_draft, ended, ended_at, reading, read_of}
 use Rattle.bc_trace.proofs.Runs.{lines_of-some, reading-go, reading-stop, reading-end, read_of-is}
-use Rattle.bc_trace.proofs.Judged.{Judgement, visible, IsWord-name, are_words, read_again, judged, fails_read}
+use Rattle.bc_trace.proofs.LineAtFails.{Judgement, visible, IsWord-name, are_words, read_again, judged, fails_read}
 
 -- no line feed among the bytes
 abbrev pub IsClear : List ℕ → Type 0
@@ -50,7 +50,7 @@ clear_operands : (ns : List ℕ) → AllByRecursion IsWord (map decimal ns) → 
 clear_operands [] h = tt
 clear_operands (n ∷ ns) h = clear-append (32 ∷ decimal n) (flat_map (λ n. 32 ∷ decimal n) ns) ((λ e. absurd (omega arith)), clear_word (decimal n) (visible (decimal n) h.0)) (clear_operands ns h.1)
 
-pub clear_spelling : (w : Word) (ns : List ℕ) → AllByRecursion IsNumber ns → IsClear (spelling w ns)
+pub clear_spelling : (w : Keyword) (ns : List ℕ) → AllByRecursion IsNumber ns → IsClear (spelling w ns)
 unfolding spelling
 clear_spelling w ns h = clear-append (name w) (flat_map (λ n. 32 ∷ decimal n) ns) (clear_word (name w) (visible (name w) (IsWord-name w))) (clear_operands ns (are_words ns h))
 
@@ -66,16 +66,16 @@ abbrev pub put_all : DraftLists → List Line → DraftLists
 put_all d [] = d
 put_all d (l ∷ ls) = put_all (put l d) ls
 
-pub put_all-state : (ls : List Line) (d : DraftLists) → (put_all d ls).state ≡ after_all d.state ls
+pub put_all-state : (ls : List Line) (d : DraftLists) → (put_all d ls).progress ≡ after_all d.progress ls
 put_all-state [] d = refl
 put_all-state (l ∷ ls) d = put_all-state ls (put l d)
 
-pub forward : (ls : List Line) (d : DraftLists) (n : ℕ) (rest : List ℕ) → Follow d.state ls → reading d n (lines_of (flat_map line_text ls ++ rest)) ≡ reading (put_all d ls) (n + length ls) (lines_of rest)
+pub forward : (ls : List Line) (d : DraftLists) (n : ℕ) (rest : List ℕ) → Follow d.progress ls → reading d n (lines_of (flat_map line_text ls ++ rest)) ≡ reading (put_all d ls) (n + length ls) (lines_of rest)
 forward [] d n rest h = ap (λ k. reading d k (lines_of rest)) (omega arith)
 forward (l ∷ ls) d n rest h =
     let more = flat_map line_text ls ++ rest in
     let cut : lines_of (flat_map line_text (l ∷ ls) ++ rest) ≡ spelling (word_of_line l) (operands l) ∷ lines_of more = ap lines_of (append_assoc (line_text l) (flat_map line_text ls) rest) ∙ lines_of-text l more h.0.numbers in
-    let go = reading-go d n (spelling (word_of_line l) (operands l)) (lines_of more) l (lines_of-some more) (read_again d.state l h.0) in
+    let go = reading-go d n (spelling (word_of_line l) (operands l)) (lines_of more) l (lines_of-some more) (read_again d.progress l h.0) in
     let count : n + 1 + length ls ≡ n + suc (length ls) = omega arith in
     ap (λ (ps : List (List ℕ)). reading d n ps) cut ∙ go ∙ forward ls (put l d) (n + 1) rest h.1 ∙ ap (λ k. reading (put_all (put l d) ls) k (lines_of rest)) count
 
@@ -85,7 +85,7 @@ pub fault_of_line_read : (bytes : List ℕ) (line : ℕ) (cause : Cause) → Fau
 fault_of_line_read bytes line cause h =
     let d = put_all empty_draft h.before in
     let rest = h.bad ++ 10 ∷ h.rest in
-    let here : line_at d.state h.bad ≡ Err cause = rw (put_all-state h.before empty_draft) (fails_read (after_all start h.before) h.bad cause h.fails) in
+    let here : line_at d.progress h.bad ≡ Err cause = rw (put_all-state h.before empty_draft) (fails_read (after_all start h.before) h.bad cause h.fails) in
     let number : 0 + length h.before + 1 ≡ line = rw h.number (omega arith) in
     read_of-is bytes
     ∙ ap (λ (bs : List ℕ). reading empty_draft 0 (lines_of bs)) h.text
@@ -94,37 +94,37 @@ fault_of_line_read bytes line cause h =
     ∙ reading-stop d (0 + length h.before) h.bad (lines_of h.rest) cause (lines_of-some h.rest) here
     ∙ ap (λ k. Err (fault k cause)) number
 
-not_finished : (d : DraftLists) (place : Place) (n : ℕ) (rest : List ℕ) → place ≢ places.Finished → ended_at place d n rest ≡ Err (fault (n + lines_begun rest) causes.End)
-not_finished d places.Start n rest h = refl
-not_finished d (places.Awaiting k) n rest h = refl
-not_finished d places.Phases n rest h = refl
-not_finished d places.Turns n rest h = refl
-not_finished d places.Ops n rest h = refl
-not_finished d places.Gives n rest h = refl
-not_finished d places.Finished n rest h = absurd (h refl)
+not_finished : (d : DraftLists) (stage : Stage) (n : ℕ) (rest : List ℕ) → stage ≢ stages.Finished → ended_at stage d n rest ≡ Err (fault (n + lines_begun rest) causes.End)
+not_finished d stages.Start n rest h = refl
+not_finished d (stages.Awaiting k) n rest h = refl
+not_finished d stages.Phases n rest h = refl
+not_finished d stages.Turns n rest h = refl
+not_finished d stages.Ops n rest h = refl
+not_finished d stages.Gives n rest h = refl
+not_finished d stages.Finished n rest h = absurd (h refl)
 
-behind_done : (d : DraftLists) (n : ℕ) (rest : List ℕ) → rest ≢ [] → ended_at places.Finished d n rest ≡ Err (fault (n + lines_begun rest) causes.Order)
+behind_done : (d : DraftLists) (n : ℕ) (rest : List ℕ) → rest ≢ [] → ended_at stages.Finished d n rest ≡ Err (fault (n + lines_begun rest) causes.Order)
 behind_done d n [] h = absurd (h refl)
 behind_done d n (b ∷ bs) h = refl
 
-end_fault : (d : DraftLists) (place : Place) (n : ℕ) (rest : List ℕ) (cause : Cause) → EndFails place rest cause → ended_at place d n rest ≡ Err (fault (n + lines_begun rest) cause)
-end_fault d place n rest causes.Form h = absurd h
-end_fault d place n rest causes.Word h = absurd h
-end_fault d place n rest causes.Order h = rw h.0 (behind_done d n rest h.1)
-end_fault d place n rest causes.Number h = absurd h
-end_fault d place n rest causes.Range h = absurd h
-end_fault d place n rest causes.Frames h = absurd h
-end_fault d place n rest causes.End h = not_finished d place n rest h
+end_fault : (d : DraftLists) (stage : Stage) (n : ℕ) (rest : List ℕ) (cause : Cause) → EndFails stage rest cause → ended_at stage d n rest ≡ Err (fault (n + lines_begun rest) cause)
+end_fault d stage n rest causes.Form h = absurd h
+end_fault d stage n rest causes.Word h = absurd h
+end_fault d stage n rest causes.Order h = rw h.0 (behind_done d n rest h.1)
+end_fault d stage n rest causes.Number h = absurd h
+end_fault d stage n rest causes.Range h = absurd h
+end_fault d stage n rest causes.Frames h = absurd h
+end_fault d stage n rest causes.End h = not_finished d stage n rest h
 
-ended-is : (d : DraftLists) (n : ℕ) (rest : List ℕ) → ended d n rest ≡ ended_at d.state.place d n rest
+ended-is : (d : DraftLists) (n : ℕ) (rest : List ℕ) → ended d n rest ≡ ended_at d.progress.stage d n rest
 unfolding ended
 ended-is d n rest = refl
 
 pub fault_at_end_read : (bytes : List ℕ) (line : ℕ) (cause : Cause) → FaultAtEnd bytes line cause → read_of bytes ≡ Err (fault line cause)
 fault_at_end_read bytes line cause h =
     let d = put_all empty_draft h.before in
-    let place : (after_all start h.before).place ≡ d.state.place = ap (λ s. s.place) (sym (put_all-state h.before empty_draft)) in
-    let ends : EndFails d.state.place h.rest cause = subst (λ p. EndFails p h.rest cause) place h.ends in
+    let stage : (after_all start h.before).stage ≡ d.progress.stage = ap (λ s. s.stage) (sym (put_all-state h.before empty_draft)) in
+    let ends : EndFails d.progress.stage h.rest cause = subst (λ p. EndFails p h.rest cause) stage h.ends in
     let number : 0 + length h.before + lines_begun h.rest ≡ line = rw h.number (omega arith) in
     read_of-is bytes
     ∙ ap (λ (bs : List ℕ). reading empty_draft 0 (lines_of bs)) h.text
@@ -132,7 +132,7 @@ fault_at_end_read bytes line cause h =
     ∙ ap (λ (ps : List (List ℕ)). reading d (0 + length h.before) ps) (lines_of-rest h.rest h.begun)
     ∙ reading-end d (0 + length h.before) h.rest
     ∙ ended-is d (0 + length h.before) h.rest
-    ∙ end_fault d d.state.place (0 + length h.before) h.rest cause ends
+    ∙ end_fault d d.progress.stage (0 + length h.before) h.rest cause ends
     ∙ ap (λ k. Err (fault k cause)) number
 
 pub fault_read : (bytes : List ℕ) (line : ℕ) (cause : Cause) → Fault bytes line cause → read_of bytes ≡ Err (fault line cause)
@@ -141,8 +141,8 @@ fault_read bytes line cause (inr h) = fault_at_end_read bytes line cause h
 
 -- ---- what was read: lines that pass up to the end, or up to the first fault
 
--- the same from a state and a number of lines on
-record LineFails (s : State) (n : ℕ) (bytes : List ℕ) (f : TraceFault) : Type 0 where
+-- the same from a progress and a number of lines on
+record LineFails (s : Progress) (n : ℕ) (bytes : List ℕ) (f : TraceFault) : Type 0 where
   before : List Line
   bad : List ℕ
   rest : List ℕ
@@ -152,44 +152,44 @@ record LineFails (s : State) (n : ℕ) (bytes : List ℕ) (f : TraceFault) : Typ
   number : f.line ≡ n + length before + 1
   fails : Fails (after_all s before) bad f.cause
 
-record TextEnds (s : State) (n : ℕ) (bytes : List ℕ) (f : TraceFault) : Type 0 where
+record TextEnds (s : Progress) (n : ℕ) (bytes : List ℕ) (f : TraceFault) : Type 0 where
   before : List Line
   rest : List ℕ
   text : bytes ≡ flat_map line_text before ++ rest
   begun : IsClear rest
   pass : Follow s before
   number : f.line ≡ n + length before + lines_begun rest
-  ends : EndFails (after_all s before).place rest f.cause
+  ends : EndFails (after_all s before).stage rest f.cause
 
 pub record AllPass (d : DraftLists) (bytes : List ℕ) (t : TraceLists) : Type 0 where
   pub lines : List Line
   pub text : bytes ≡ flat_map line_text lines
-  pub pass : Follow d.state lines
-  pub place : (put_all d lines).state.place ≡ places.Finished
-  pub trace : finished (put_all d lines) ≡ t
+  pub pass : Follow d.progress lines
+  pub stage : (put_all d lines).progress.stage ≡ stages.Finished
+  pub trace : trace_of_draft (put_all d lines) ≡ t
 
 abbrev Verdict : DraftLists → ℕ → List (List ℕ) → Type 0
-Verdict d n parts = ((t : TraceLists) × (reading d n parts ≡ Ok t) × AllPass d (join_with_byte 10 parts) t) ⊎ ((f : TraceFault) × (reading d n parts ≡ Err f) × (LineFails d.state n (join_with_byte 10 parts) f ⊎ TextEnds d.state n (join_with_byte 10 parts) f))
+Verdict d n parts = ((t : TraceLists) × (reading d n parts ≡ Ok t) × AllPass d (join_with_byte 10 parts) t) ⊎ ((f : TraceFault) × (reading d n parts ≡ Err f) × (LineFails d.progress n (join_with_byte 10 parts) f ⊎ TextEnds d.progress n (join_with_byte 10 parts) f))
 
-unfinished : (d : DraftLists) (n : ℕ) (rest : List ℕ) → IsClear rest → d.state.place ≢ places.Finished → reading d n (rest ∷ []) ≡ ended_at d.state.place d n rest → Verdict d n (rest ∷ [])
-unfinished d n rest clear isnt e = inr (fault (n + lines_begun rest) causes.End, e ∙ not_finished d d.state.place n rest isnt, inr (record { before = []; rest = rest; text = refl; begun = clear; pass = tt; number = ap (λ k. k + lines_begun rest) (sym (add-zero n)); ends = isnt }))
+unfinished : (d : DraftLists) (n : ℕ) (rest : List ℕ) → IsClear rest → d.progress.stage ≢ stages.Finished → reading d n (rest ∷ []) ≡ ended_at d.progress.stage d n rest → Verdict d n (rest ∷ [])
+unfinished d n rest clear isnt e = inr (fault (n + lines_begun rest) causes.End, e ∙ not_finished d d.progress.stage n rest isnt, inr (record { before = []; rest = rest; text = refl; begun = clear; pass = tt; number = ap (λ k. k + lines_begun rest) (sym (add-zero n)); ends = isnt }))
 
-verdict_done : (d : DraftLists) (n : ℕ) (rest : List ℕ) → IsClear rest → d.state.place ≡ places.Finished → reading d n (rest ∷ []) ≡ ended_at d.state.place d n rest → Verdict d n (rest ∷ [])
-verdict_done d n [] clear is e = inl (finished d, e ∙ ap (λ p. ended_at p d n []) is, record { lines = []; text = refl; pass = tt; place = is; trace = refl })
+verdict_done : (d : DraftLists) (n : ℕ) (rest : List ℕ) → IsClear rest → d.progress.stage ≡ stages.Finished → reading d n (rest ∷ []) ≡ ended_at d.progress.stage d n rest → Verdict d n (rest ∷ [])
+verdict_done d n [] clear is e = inl (trace_of_draft d, e ∙ ap (λ p. ended_at p d n []) is, record { lines = []; text = refl; pass = tt; stage = is; trace = refl })
 verdict_done d n (b ∷ bs) clear is e = inr (fault (n + 1) causes.Order, e ∙ ap (λ p. ended_at p d n (b ∷ bs)) is, inr (record { before = []; rest = b ∷ bs; text = refl; begun = clear; pass = tt; number = ap (λ k. k + 1) (sym (add-zero n)); ends = (is, λ h. absurd cc) }))
 
-cases_finished : (p : Place) → (p ≡ places.Finished) ⊎ (p ≢ places.Finished)
-cases_finished places.Start = inr (λ h. absurd cc)
-cases_finished (places.Awaiting k) = inr (λ h. absurd cc)
-cases_finished places.Phases = inr (λ h. absurd cc)
-cases_finished places.Turns = inr (λ h. absurd cc)
-cases_finished places.Ops = inr (λ h. absurd cc)
-cases_finished places.Gives = inr (λ h. absurd cc)
-cases_finished places.Finished = inl refl
+cases_finished : (p : Stage) → (p ≡ stages.Finished) ⊎ (p ≢ stages.Finished)
+cases_finished stages.Start = inr (λ h. absurd cc)
+cases_finished (stages.Awaiting k) = inr (λ h. absurd cc)
+cases_finished stages.Phases = inr (λ h. absurd cc)
+cases_finished stages.Turns = inr (λ h. absurd cc)
+cases_finished stages.Ops = inr (λ h. absurd cc)
+cases_finished stages.Gives = inr (λ h. absurd cc)
+cases_finished stages.Finished = inl refl
 
-verdict_end : (d : DraftLists) (n : ℕ) (rest : List ℕ) → IsClear rest → reading d n (rest ∷ []) ≡ ended_at d.state.place d n rest → Verdict d n (rest ∷ [])
+verdict_end : (d : DraftLists) (n : ℕ) (rest : List ℕ) → IsClear rest → reading d n (rest ∷ []) ≡ ended_at d.progress.stage d n rest → Verdict d n (rest ∷ [])
 verdict_end d n rest clear e =
-    elim (cases_finished d.state.place) [
+    elim (cases_finished d.progress.stage) [
       | inl is ↦ verdict_done d n rest clear is e
       | inr isnt ↦ unfinished d n rest clear isnt e
     ]
@@ -198,7 +198,7 @@ front : (line : List ℕ) (l : Line) (bytes rest : List ℕ) → line ≡ spelli
 unfolding line_text
 front line l bytes rest e h = rw (e, h) (sym (append_assoc (spelling (word_of_line l) (operands l)) (10 ∷ []) rest))
 
-module _ (d : DraftLists) (n : ℕ) (line : List ℕ) (l : Line) (parts : List (List ℕ)) (some : 0 < length parts) (says : line_at d.state line ≡ Ok l) (text : line ≡ spelling (word_of_line l) (operands l)) (passes : Passes d.state l) where
+module _ (d : DraftLists) (n : ℕ) (line : List ℕ) (l : Line) (parts : List (List ℕ)) (some : 0 < length parts) (says : line_at d.progress line ≡ Ok l) (text : line ≡ spelling (word_of_line l) (operands l)) (passes : Passes d.progress l) where
   one_more : line ++ 10 ∷ join_with_byte 10 parts ≡ join_with_byte 10 (line ∷ parts) → Verdict (put l d) (n + 1) parts → Verdict d n (line ∷ parts)
   one_more join (inl (t, e, h)) = inl (
     t,
@@ -207,7 +207,7 @@ module _ (d : DraftLists) (n : ℕ) (line : List ℕ) (l : Line) (parts : List (
       lines = l ∷ h.lines;
       text = sym join ∙ front line l (join_with_byte 10 parts) (flat_map line_text h.lines) text h.text;
       pass = (passes, h.pass);
-      place = h.place;
+      stage = h.stage;
       trace = h.trace;
     },
   )
@@ -242,8 +242,8 @@ module _ (d : DraftLists) (n : ℕ) (line : List ℕ) (l : Line) (parts : List (
 verdict : (parts : List (List ℕ)) (d : DraftLists) (n : ℕ) → 0 < length parts → AllByRecursion IsClear parts → Verdict d n parts
 verdict [] d n some clear = absurd (omega arith)
 verdict (rest ∷ []) d n some clear = verdict_end d n rest clear.0 (reading-end d n rest ∙ ended-is d n rest)
-verdict (line ∷ next ∷ parts) d n some clear = verdict_line (judged d.state line) (λ d n. verdict (next ∷ parts) d n (omega arith) clear.1) where
-  verdict_line : Judgement d.state line → ((d : DraftLists) (n : ℕ) → Verdict d n (next ∷ parts)) → Verdict d n (line ∷ next ∷ parts)
+verdict (line ∷ next ∷ parts) d n some clear = verdict_line (judged d.progress line) (λ d n. verdict (next ∷ parts) d n (omega arith) clear.1) where
+  verdict_line : Judgement d.progress line → ((d : DraftLists) (n : ℕ) → Verdict d n (next ∷ parts)) → Verdict d n (line ∷ next ∷ parts)
   verdict_line (inl (l, e, text, passes)) more = one_more d n line l (next ∷ parts) (omega arith) e text passes refl (more (put l d) (n + 1))
   verdict_line (inr (cause, e, fails)) more = inr (
     fault (n + 1) cause,
@@ -278,7 +278,7 @@ abbrev pub Reading : List ℕ → Type 0
 Reading bytes = ((t : TraceLists) × (read_of bytes ≡ Ok t) × AllPass empty_draft bytes t) ⊎ ((f : TraceFault) × (read_of bytes ≡ Err f) × Fault bytes f.line f.cause)
 
 whole_reading : (bytes joined : List ℕ) → joined ≡ bytes → (n : ℕ) → n ≡ 0 → (r : Result TraceLists TraceFault) → read_of bytes ≡ r → ((t : TraceLists) × (r ≡ Ok t) × AllPass empty_draft joined t) ⊎ ((f : TraceFault) × (r ≡ Err f) × (LineFails start n joined f ⊎ TextEnds start n joined f)) → Reading bytes
-whole_reading bytes joined same n zero-is r e (inl (t, is, h)) = inl (t, e ∙ is, record { lines = h.lines; text = sym same ∙ h.text; pass = h.pass; place = h.place; trace = h.trace })
+whole_reading bytes joined same n zero-is r e (inl (t, is, h)) = inl (t, e ∙ is, record { lines = h.lines; text = sym same ∙ h.text; pass = h.pass; stage = h.stage; trace = h.trace })
 whole_reading bytes joined same n zero-is r e (inr (f, is, inl h)) = inr (f, e ∙ is, inl (record { before = h.before; bad = h.bad; rest = h.rest; text = sym same ∙ h.text; whole = h.whole; pass = h.pass; number = h.number ∙ omega arith; fails = h.fails }))
 whole_reading bytes joined same n zero-is r e (inr (f, is, inr h)) = inr (f, e ∙ is, inr (record { before = h.before; rest = h.rest; text = sym same ∙ h.text; begun = h.begun; pass = h.pass; number = h.number ∙ omega arith; ends = h.ends }))
 

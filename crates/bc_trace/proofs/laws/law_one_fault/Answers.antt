@@ -1,5 +1,5 @@
 use Rattle.bc_trace.proofs.Answered.{spelled_or_faulty, not_both, same_fault}
-use Rattle.bc_trace.proofs.laws.one_fault.Goals as goal
+use Rattle.bc_trace.proofs.laws.law_one_fault.Goals as goal
 
 pub returns-clause-either : goal.returns-clause-either
 returns-clause-either c = spelled_or_faulty

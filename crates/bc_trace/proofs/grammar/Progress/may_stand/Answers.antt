@@ -4,7 +4,7 @@ use Rattle.bc_trace.specs.Grammar.{may_stand, same_setting}
 use Rattle.bc_trace.specs.contracts.words.Setting.{the_type}
 use Rattle.bc_trace.specs.declared.words.Setting.{Setting}
 use Rattle.bc_trace.specs.declared.words.Setting.TheVariants as settings
-use Rattle.bc_trace.proofs.grammar.State.may_stand.Goals as goal
+use Rattle.bc_trace.proofs.grammar.Progress.may_stand.Goals as goal
 
 -- the derived `==` compares the tags alone
 same_setting-is : (k j : Setting) → sameb the_type k j ≡ same_setting k j

@@ -1,5 +1,5 @@
 use Rattle.bc_trace.proofs.Fitting.{fits-run, fits-cut_of_run}
-use Rattle.bc_trace.proofs.laws.replies_fit.Goals as goal
+use Rattle.bc_trace.proofs.laws.law_replies_fit.Goals as goal
 
 pub returns-clause-run : goal.returns-clause-run
 returns-clause-run c = fits-run

@@ -4,7 +4,7 @@ use Rattle.std.specs.List.{slice_split}
 use Rattle.std.proofs.lemmas.Bool.{eq-eqb, ne_eqb}
 use Rattle.std.proofs.lemmas.List.{drop_all}
 use Rattle.std.proofs.lemmas.List.Splits.{slice_split-cons_yes, slice_split-cons_no}
-use Rattle.bc_trace.specs.Faults.{words_of}
+use Rattle.bc_trace.specs.Faults.{line_words}
 use Rattle.bc_trace.specs.Reading.{next_fresh, formed_from, words_after}
 
 abbrev pub parts : ℕ → List ℕ → List (List ℕ)
@@ -28,7 +28,7 @@ parts_none (b ∷ bs) c none =
     slice_split-cons_no (λ b. eqb b c) b bs no ∙ rw rest refl
 
 -- the words behind the space at i
-pub words_after-drop : (line : List ℕ) (i : ℕ) → i < length line → words_after (drop i line) ≡ words_of (drop (i + 1) line)
+pub words_after-drop : (line : List ℕ) (i : ℕ) → i < length line → words_after (drop i line) ≡ line_words (drop (i + 1) line)
 words_after-drop line i lt = rw (drop-cons line i 0 lt, add-one) refl
 
 -- ---- the bytes of a line

@@ -1,5 +1,5 @@
 use Rattle.bc_trace.proofs.Shown.{same_line, same_phase, same_output, same_need}
-use Rattle.bc_trace.proofs.laws.one_reply.Goals as goal
+use Rattle.bc_trace.proofs.laws.law_one_reply.Goals as goal
 
 pub returns-clause-line : goal.returns-clause-line
 returns-clause-line c = same_line
