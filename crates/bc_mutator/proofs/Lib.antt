@@ -3,9 +3,12 @@ pub mod MeaningLemmas
 pub mod TellingLemmas
 pub mod RootLemmas
 pub mod StateLemmas
+pub mod LayoutLemmas
+pub mod PartLemmas
 pub mod VecLemmas
 pub mod WritingLemmas
 pub mod RecordLemmas
+pub mod ChangeLemmas
 pub mod MatureLemmas
 pub mod YoungLemmas
 pub mod NewLemmas

@@ -3,7 +3,7 @@ use Rattle.std.proofs.Common.{◌≡◌, ◌≢◌, ◌⊎◌, ℕ, ◌<◌, tru
 use Rattle.std.proofs.lemmas.Bool.{cases_eq, cases_lt}
 use Rattle.std.proofs.lemmas.List.{get_or_append_left, get_or_push, length_push}
 use Rattle.bc_whole_heap.specs.Closed.{chunk_of, buffer_of, no_buffer, IsCellOrYoung, IsRecorded, IsEntry, IsClosedHeap}
-use Rattle.bc_whole_heap.specs.Heaps.{end_of, heap_memory, AreChunks, AreApart}
+use Rattle.bc_whole_heap.specs.Heaps.{end_of, heap_memory, AreChunks, AreApart, view_of}
 use Rattle.bc_whole_heap.specs.Running.{IsRunning}
 use Rattle.bc_whole_heap.proofs.HeapLemmas.{memory-below, memory-above}
 use Rattle.bc_memory.specs.Memory.{Cell, Memory, with_cell, with_field}
@@ -33,7 +33,7 @@ use Rattle.bc_mutator.proofs.StateLemmas.{state-after}
 
 -- a write to a field of a cell that the lane may do
 pub record MatureWrite (s t : Layout) (r : RootWords) (cs : List Nursery) (bs es : List Entries) (hs : List ℕ) (lane : ℕ) (at : Address) (index : ℕ) (word : Word) : Type 0 where
-  pub run : IsRunning s r cs bs hs
+  pub run : IsRunning (view_of s r cs bs) hs
   pub lane_within : lane < length cs
   pub lies_behind : LieBehind s (chunk_of cs lane)
   pub on : IsAllocated s at.0
@@ -252,7 +252,7 @@ module _ (s t : Layout) (r : RootWords) (cs : List Nursery) (bs es : List Entrie
   ]
 
   -- the heap stays closed
-  pub mature-closed : IsClosedHeap t r cs es hs
+  pub mature-closed : IsClosedHeap (view_of t r cs es) hs
   mature-closed = record {
     lanes = length-buffers ∙ w.run.closed.lanes;
     domains = w.run.closed.domains;
@@ -290,7 +290,7 @@ module _ (s t : Layout) (r : RootWords) (cs : List Nursery) (bs es : List Entrie
       ∙ births-with_cell (heap_memory s cs) at.0 (cell_of s (chunk_of cs lane) at.0) (with_field (cell_of s (chunk_of cs lane) at.0) index word)
       (memory-there s cs lane at.0 layout apart w.lane_within (inl w.on)) refl
 
-  pub mature-running : IsLayout s → AreApart (end_of s) cs → IsRunning t r cs es hs
+  pub mature-running : IsLayout s → AreApart (end_of s) cs → IsRunning (view_of t r cs es) hs
   mature-running layout apart =
       let same = mature-births layout apart in
       record {

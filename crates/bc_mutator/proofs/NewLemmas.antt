@@ -5,13 +5,11 @@ use Rattle.std.proofs.Math.ListN.{get_or-map}
 use Rattle.std.proofs.Math.Nat.{mul-le-mul_left}
 use Rattle.std.proofs.lemmas.Bool.{cases_Bool, cases_eq, cases_lt}
 use Rattle.std.proofs.lemmas.List.{get_or_read, map-set, length_push, set-get_or}
-use Rattle.std.specs.Global.{Vec}
-use Rattle.std.specs.Vec.{with_item}
 use Rattle.std.specs.Option.{option_or}
 use Rattle.bc_classes.specs.Classes.{class_of}
-use Rattle.bc_cycle.specs.declared.heaps.Heap.{Heap}
+use Rattle.bc_whole_heap.specs.Heaps.{HeapView}
 use Rattle.bc_whole_heap.specs.Closed.{chunk_of, buffer_of, IsCellOrYoung, IsRecorded, IsClosedHeap}
-use Rattle.bc_whole_heap.specs.Heaps.{end_of, heap_memory, root_words, no_chunk, young, object_in, AreApart}
+use Rattle.bc_whole_heap.specs.Heaps.{end_of, heap_memory, root_words, no_chunk, young, object_in, AreApart, view_of}
 use Rattle.bc_whole_heap.specs.Running.{IsRunning, StandsAs}
 use Rattle.bc_whole_heap.proofs.ChunkLemmas.{object_in-at, object_in-none}
 use Rattle.bc_whole_heap.proofs.HeapLemmas.{memory-below, memory-above}
@@ -39,17 +37,16 @@ use Rattle.bc_word.specs.declared.addresses.Address.{Address}
 use Rattle.bc_word.specs.declared.heads.Head.{Head}
 use Rattle.bc_word.specs.declared.words.Word.{Word}
 use Rattle.bc_word.specs.declared.words.Word.TheVariants.{Nil, Ref}
-use Rattle.bc_mutator.specs.Effects.{with_root, DidOperation}
+use Rattle.bc_mutator.specs.Effects.{with_root, DidAct}
 use Rattle.bc_mutator.specs.Objects.{MayOperate, AreWhole, IsOwn, own_chunk}
 use Rattle.bc_mutator.specs.Operations.{NoneLater}
 use Rattle.bc_mutator.proofs.MeaningLemmas.{same_place}
-use Rattle.bc_mutator.proofs.RootLemmas.{running-root, root_words-set}
-use Rattle.bc_mutator.proofs.VecLemmas.{with_item-same}
+use Rattle.bc_mutator.proofs.RootLemmas.{buffers-same, running-root, root_words-set}
 use Rattle.bc_mutator.proofs.YoungLemmas.{chunk-own, chunk-other, length-chunks, laid-kept}
 
 -- a new object of the lane's chunk, which has room for it
 pub record MakesYoung (s : Layout) (r : RootWords) (cs ds : List Nursery) (bs : List Entries) (hs : List ℕ) (lane : ℕ) (head : Head) : Type 0 where
-  pub run : IsRunning s r cs bs hs
+  pub run : IsRunning (view_of s r cs bs) hs
   pub lane_within : lane < length cs
   pub whole : AreWhole cs
   pub apart : AreApart (end_of s) cs
@@ -140,7 +137,7 @@ module _ (s : Layout) (r : RootWords) (cs ds : List Nursery) (bs : List Entries)
   named-kept l a k b (inl on) = inl on
   named-kept l a k b (inr on) = inr (has-kept l b.0 on.0, on.1)
 
-  made-closed : IsClosedHeap s r ds bs hs
+  made-closed : IsClosedHeap (view_of s r ds bs) hs
   made-closed =
       let long = length-chunks cs ds lane (with_object (chunk_of cs lane) head) w.chunks in
       let closed = w.run.closed in
@@ -233,7 +230,7 @@ module _ (s : Layout) (r : RootWords) (cs ds : List Nursery) (bs : List Entries)
     ]
   ]
 
-  pub made-running : (n : ℕ) → head.lane ≡ lane → head.serial ≡ n + 1 → NoneLater s cs lane n → IsRunning s r ds bs hs
+  pub made-running : (n : ℕ) → head.lane ≡ lane → head.serial ≡ n + 1 → NoneLater s cs lane n → IsRunning (view_of s r ds bs) hs
   made-running n by next none = record {
     none_gone = w.run.none_gone;
     none_promised = w.run.none_promised;
@@ -302,29 +299,35 @@ none-later s r cs hs serials state h lane a b e same =
     omega arith
 
 -- so a new object is done
-pub done-new : (h : Heap) (chunks : Vec Nursery) (roots : RootWords) (hs : List ℕ) (lane serial n : ℕ) (p : Slot) (object : Address) → MayOperate h hs lane → p.domain < h.roots.domains → p.slot < h.roots.slots → n ≤ 127 → get_or hs p.domain 0 ≡ lane → class_of n ≤ left_of (own_chunk h lane) → chunks.items ≡ set h.chunks.items lane (with_object (own_chunk h lane) (record { lane = lane; serial = serial + 1; domain = p.domain; fields = n })) → object.0 ≡ nursery.end_of (own_chunk h lane) → roots ≡ with_root h.roots p (Ref object) → DidOperation h (record h { roots = roots; chunks = chunks }) hs lane serial (serial + 1) (New p n) (reply.Obj (record { lane = lane; serial = serial + 1 }))
+pub done-new : (h : HeapView) (chunks : List Nursery) (roots : RootWords) (hs : List ℕ) (lane serial n : ℕ) (p : Slot) (object : Address) → MayOperate h hs lane → p.domain < h.roots.domains → p.slot < h.roots.slots → n ≤ 127 → get_or hs p.domain 0 ≡ lane → class_of n ≤ left_of (own_chunk h lane) → chunks ≡ set h.chunks lane (with_object (own_chunk h lane) (record { lane = lane; serial = serial + 1; domain = p.domain; fields = n })) → object.0 ≡ nursery.end_of (own_chunk h lane) → roots ≡ with_root h.roots p (Ref object) → DidAct h (record h { roots = roots; chunks = chunks }) hs lane serial (serial + 1) (New p n) (reply.Obj (record { lane = lane; serial = serial + 1 }))
 done-new h chunks roots hs lane serial n p object ready domain slot few held room is at written =
-    subst (λ (r : RootWords). DidOperation h (record h { roots = r; chunks = chunks }) hs lane serial (serial + 1) (New p n) (reply.Obj (record { lane = lane; serial = serial + 1 }))) (sym root_is) (record {
+    subst (λ (r : RootWords). DidAct h (record h { roots = r; chunks = chunks }) hs lane serial (serial + 1) (New p n) (reply.Obj (record { lane = lane; serial = serial + 1 }))) (sym root_is) (record {
       step = λ serials state means e. (
-        ap (λ (k : ℕ). let b : Birth = record { lane = lane; serial = k + 1 } in reply.Obj b) (sym (births-count h.space h.roots h.chunks.items hs serials lane state means) ∙ e),
-        subst (λ (k : ℕ). StandsAs h.space root chunks.items hs (set serials lane (k + 1)) (with_new state lane p n)) e
-            (stands-new h.space h.roots h.chunks.items chunks.items h.buffers.items hs lane head makes serials state p refl (ap (λ (k : ℕ). k + 1) (sym e)) refl few means),
+        ap (λ (k : ℕ). let b : Birth = record { lane = lane; serial = k + 1 } in reply.Obj b) (sym (births-count h.space h.roots h.chunks hs serials lane state means) ∙ e),
+        subst (λ (k : ℕ). StandsAs h.space root chunks hs (set serials lane (k + 1)) (with_new state lane p n)) e
+            (stands-new h.space h.roots h.chunks chunks h.buffers hs lane head makes serials state p refl (ap (λ (k : ℕ). k + 1) (sym e)) refl few means),
       );
       running = λ none.
-          running-root h.space h.roots chunks.items h.buffers.items hs p (Ref to)
-          (made-running h.space h.roots h.chunks.items chunks.items h.buffers.items hs lane head makes serial refl refl none) slot own;
-      later = λ none. made-later h.space h.roots h.chunks.items chunks.items h.buffers.items hs lane head makes serial refl none;
-      others_later = λ l k ne none. made-others_later h.space h.roots h.chunks.items chunks.items h.buffers.items hs lane head makes l k refl ne none;
+          running-root h.space h.roots chunks h.buffers hs p (Ref to)
+          (made-running h.space h.roots h.chunks chunks h.buffers hs lane head makes serial refl refl none) slot own;
+      later = λ none. made-later h.space h.roots h.chunks chunks h.buffers hs lane head makes serial refl none;
+      others_later = λ l k ne none. made-others_later h.space h.roots h.chunks chunks h.buffers hs lane head makes l k refl ne none;
       leaves = record {
-        others = λ l ne. (chunk-other h.chunks.items chunks.items lane l (with_object (own_chunk h lane) head) is ne, refl);
+        chunks = is ∙ ap (λ (c : Nursery). set h.chunks lane c) (sym chunk_is);
+        buffers = buffers-same h.buffers lane;
         space = refl;
         roots = refl;
         chunk = chunk_is ∙ ap (λ (os : List ChunkObject). record (own_chunk h lane) { objects = os }) (sym (ap (λ (x : Nursery). x.objects) chunk_is));
-        lists = (length-chunks h.chunks.items chunks.items lane (with_object (own_chunk h lane) head) is, refl, refl);
         capacity = refl;
         unrecorded = λ none. (refl, refl);
       };
       recorded = (refl, refl);
+      changed = inl (
+        to.0,
+        made-free h.space h.roots h.chunks chunks h.buffers hs lane head makes,
+        refl,
+        made-memory h.space h.roots h.chunks chunks h.buffers hs lane head makes,
+      );
     })
   where
     head : Head
@@ -339,10 +342,10 @@ done-new h chunks roots hs lane serial n p object ready domain slot few held roo
     root_is : roots ≡ root
     root_is = written ∙ ap (λ (k : ℕ). let a : Address = record { 0 = k } in with_root h.roots p (Ref a)) at
 
-    chunk_is : chunk_of chunks.items lane ≡ with_object (own_chunk h lane) head
-    chunk_is = chunk-own h.chunks.items chunks.items lane (with_object (own_chunk h lane) head) ready.lane_within is
+    chunk_is : chunk_of chunks lane ≡ with_object (own_chunk h lane) head
+    chunk_is = chunk-own h.chunks chunks lane (with_object (own_chunk h lane) head) ready.lane_within is
 
-    makes : MakesYoung h.space h.roots h.chunks.items chunks.items h.buffers.items hs lane head
+    makes : MakesYoung h.space h.roots h.chunks chunks h.buffers hs lane head
     makes = record {
       run = ready.running;
       lane_within = ready.lane_within;
@@ -354,17 +357,10 @@ done-new h chunks roots hs lane serial n p object ready domain slot few held roo
       chunks = is;
     }
 
-    own : IsOwn h.space (chunk_of chunks.items (get_or hs p.domain 0)) (Ref to)
-    own = λ a e. inr (subst (λ (x : Address). has_object (chunk_of chunks.items (get_or hs p.domain 0)) x.0 ≡ true) (one_address to a e)
-        (subst (λ (l : ℕ). has_object (chunk_of chunks.items l) to.0 ≡ true) (sym held)
-        (has-new h.space h.roots h.chunks.items chunks.items h.buffers.items hs lane head makes)))
+    own : IsOwn h.space (chunk_of chunks (get_or hs p.domain 0)) (Ref to)
+    own = λ a e. inr (subst (λ (x : Address). has_object (chunk_of chunks (get_or hs p.domain 0)) x.0 ≡ true) (one_address to a e)
+        (subst (λ (l : ℕ). has_object (chunk_of chunks l) to.0 ≡ true) (sym held)
+        (has-new h.space h.roots h.chunks chunks h.buffers hs lane head makes)))
       where
         one_address : (x y : Address) → Ref x ≡ Ref y → x ≡ y
         one_address x y f = cc
-
--- nothing is done where there is no room
-pub same-full : (h : Heap) (lane : ℕ) (c d : Nursery) → lane < length h.chunks.items → c ≡ get_or h.chunks.items lane c → d ≡ c → record h { chunks = with_item h.chunks lane d } ≡ h
-same-full h lane c d lt read same =
-    let here : d ≡ get_or h.chunks.items lane no_chunk = same ∙ get_or_read h.chunks.items lane c lt read no_chunk in
-    let back : set h.chunks.items lane d ≡ h.chunks.items = ap (λ (x : Nursery). set h.chunks.items lane x) here ∙ set-get_or h.chunks.items lane no_chunk in
-    ap (λ (y : Vec Nursery). record h { chunks = y }) (with_item-same h.chunks lane d back)

@@ -3,7 +3,7 @@ use Rattle.std.proofs.Common.{◌≡◌, ℕ, ◌+◌, ◌<◌, ◌≤◌, true,
 use Rattle.std.proofs.lemmas.Bool.{cases_lt, lt-ltb, le-ltb}
 use Rattle.std.proofs.lemmas.List.{get_or_read}
 use Rattle.bc_whole_heap.specs.Closed.{chunk_of, IsCellOrYoung, IsClosedHeap}
-use Rattle.bc_whole_heap.specs.Heaps.{end_of, heap_memory, young, no_chunk, AreChunks, AreApart, NoneGone}
+use Rattle.bc_whole_heap.specs.Heaps.{end_of, heap_memory, young, no_chunk, AreChunks, AreApart, NoneGone, view_of}
 use Rattle.bc_whole_heap.proofs.ChunkLemmas.{has-some, object_in-at}
 use Rattle.bc_whole_heap.proofs.HeapLemmas.{memory-below, memory-above, allocated-at_hand}
 use Rattle.bc_memory.specs.Memory.{Cell}
@@ -20,9 +20,13 @@ use Rattle.bc_superpages.proofs.HandLemmas.{allocated-superpage}
 use Rattle.bc_superpages.proofs.MemoryLemmas.{memory_of-cell}
 use Rattle.bc_word.specs.Addresses.{page_of, offset_of}
 use Rattle.bc_word.specs.Heads.{fields_of_bits}
+use Rattle.bc_word.specs.declared.addresses.Address.{Address}
 use Rattle.bc_word.specs.declared.words.Word.{Word}
-use Rattle.bc_word.specs.declared.words.Word.TheVariants.{Nil}
+use Rattle.bc_word.specs.declared.words.Word.TheVariants.{Nil, Ref}
 use Rattle.bc_mutator.specs.Objects.{LieBehind, cell_of}
+
+pub one_address : (x y : Address) → Ref x ≡ Ref y → x ≡ y
+one_address x y e = cc
 
 -- cells lie below the end of the superpages, and the lane's chunk behind it
 pub allocated-below : (s : Layout) (a : ℕ) → IsLayout s → IsAllocated s a → a < end_of s
@@ -74,7 +78,7 @@ field-below s c a i w lt less read =
     get_or_read (space.cell_at s.pages a).fields i w (omega arith) read Nil ∙ sym (ap (λ (x : Cell). get_or x.fields i Nil) is)
 
 -- its domain is one of the domains
-pub domain-there : (s : Layout) (r : RootWords) (cs : List Nursery) (bs : List Entries) (hs : List ℕ) (l a : ℕ) → IsClosedHeap s r cs bs hs → IsLayout s → LieBehind s (chunk_of cs l) → l < length cs → IsCellOrYoung s (chunk_of cs l) a → (cell_of s (chunk_of cs l) a).head.domain < length hs
+pub domain-there : (s : Layout) (r : RootWords) (cs : List Nursery) (bs : List Entries) (hs : List ℕ) (l a : ℕ) → IsClosedHeap (view_of s r cs bs) hs → IsLayout s → LieBehind s (chunk_of cs l) → l < length cs → IsCellOrYoung s (chunk_of cs l) a → (cell_of s (chunk_of cs l) a).head.domain < length hs
 domain-there s r cs bs hs l a closed k behind lt there = elim (cases_lt a (end_of s)) [
   | inl below ↦
       let on = there-below s (chunk_of cs l) a behind there below in

@@ -3,7 +3,7 @@ use Rattle.std.proofs.Common.{◌≡◌, ◌≢◌, ◌⊎◌, ℕ, ◌<◌, ◌
 use Rattle.std.proofs.lemmas.Bool.{cases_eq, cases_lt}
 use Rattle.std.proofs.lemmas.List.{set_past}
 use Rattle.bc_whole_heap.specs.Closed.{chunk_of, buffer_of, IsCellOrYoung, IsRecorded, IsClosedHeap}
-use Rattle.bc_whole_heap.specs.Heaps.{end_of, heap_memory, no_chunk, young, object_in, AreChunks, AreApart}
+use Rattle.bc_whole_heap.specs.Heaps.{end_of, heap_memory, no_chunk, young, object_in, AreChunks, AreApart, view_of}
 use Rattle.bc_whole_heap.specs.Running.{IsRunning}
 use Rattle.bc_whole_heap.proofs.ChunkLemmas.{has-some, object_in-at, object_in-set, object_in-set_other}
 use Rattle.bc_whole_heap.proofs.HeapLemmas.{memory-below, memory-above}
@@ -54,7 +54,7 @@ laid-kept end words cs ds lane d lt is base long laid = record {
 
 -- a write to a field of an object of the chunk
 pub record YoungWrite (s : Layout) (r : RootWords) (cs ds : List Nursery) (bs : List Entries) (hs : List ℕ) (lane at index : ℕ) (word : Word) : Type 0 where
-  pub run : IsRunning s r cs bs hs
+  pub run : IsRunning (view_of s r cs bs) hs
   pub lane_within : lane < length cs
   pub layout : IsLayout s
   pub apart : AreApart (end_of s) cs
@@ -148,7 +148,7 @@ module _ (s : Layout) (r : RootWords) (cs ds : List Nursery) (bs : List Entries)
   length-same : length ds ≡ length cs
   length-same = length-chunks cs ds lane (changed (chunk_of cs lane) at (with_field index word)) w.chunks
 
-  young-closed : IsClosedHeap s r ds bs hs
+  young-closed : IsClosedHeap (view_of s r ds bs) hs
   young-closed =
       let long = length-same in
       let closed = w.run.closed in
@@ -192,7 +192,7 @@ module _ (s : Layout) (r : RootWords) (cs ds : List Nursery) (bs : List Entries)
       ∙ births-with_cell (heap_memory s cs) at (cell_of s (chunk_of cs lane) at) (memory.with_field (cell_of s (chunk_of cs lane) at) index word)
       (memory-there s cs lane at w.layout w.apart w.lane_within (inr w.on)) refl
 
-  pub young-running : IsRunning s r ds bs hs
+  pub young-running : IsRunning (view_of s r ds bs) hs
   young-running =
       let same = young-births in
       record {

@@ -29,13 +29,17 @@
 // `NewLemmas`).
 #![tactic(auto)]
 
+mod cells;
 mod fields;
 mod making;
 mod objects;
 mod operations;
 mod reading;
+mod root_slots;
 mod slots;
 mod telling;
 mod writing;
 
-pub use operations::{Stop, law_births, operate};
+pub use cells::Cells;
+pub use operations::{Stop, law_births, operate_parts};
+pub use root_slots::RootSlots;
