@@ -4,9 +4,11 @@ use Rattle.std.proofs.lemmas.List.{set-get_or}
 use Rattle.std.specs.Result.{IfOk, OnErr}
 use Rattle.std.specs.Prelude.{IsErrOf}
 use Rattle.bc_classes.proofs.ClassLemmas.{class_of-class}
-use Rattle.bc_cycle.specs.Emptying.{Parts, IsInOrder, parts_of}
+use Rattle.bc_cycle.specs.Emptying.{heap_view}
 use Rattle.bc_cycle.specs.declared.heaps.Heap.{Heap}
 use Rattle.bc_whole_heap.specs.Closed.{chunk_of, buffer_of}
+use Rattle.bc_whole_heap.specs.Heaps.{HeapView}
+use Rattle.bc_whole_heap.specs.Running.{IsRunning}
 use Rattle.bc_model.specs.State.{State}
 use Rattle.bc_model.specs.Step.{step}
 use Rattle.bc_model.specs.declared.operations.Op.{Op}
@@ -27,12 +29,12 @@ use Rattle.bc_engine.specs.Lanes.{Does, IsHeldUp, Stops}
 use Rattle.bc_engine.proofs.Sizes.{StaysBut, fits-step, op-of_state, none-young}
 
 -- what the operation is to every state that the heap stands for
-abbrev pub IsStep : List ℕ → ℕ → Op → Parts → ℕ → Parts → ℕ → Reply → Type 0
+abbrev pub IsStep : List ℕ → ℕ → Op → HeapView → ℕ → HeapView → ℕ → Reply → Type 0
 IsStep hs lane op h before k after reply =
     (serials : List ℕ) → (state : State) → Stands h hs serials state → get_or serials lane 0 ≡ before
     → ((step state lane op).1 ≡ reply) × Stands k hs (set serials lane after) (step state lane op).0
 
-pub does-step : (setup : Setup) (hs serials : List ℕ) (lane after : ℕ) (op : Op) (h k : Parts) (reply : Reply) → CanRunLanes setup hs serials h → lane < length h.chunks → IsOpOf h.roots op → IsStep hs lane op h (get_or serials lane 0) k after reply → Does hs lane op h serials reply k (set serials lane after)
+pub does-step : (setup : Setup) (hs serials : List ℕ) (lane after : ℕ) (op : Op) (h k : HeapView) (reply : Reply) → CanRunLanes setup hs serials h → lane < length h.chunks → IsOpOf h.roots op → IsStep hs lane op h (get_or serials lane 0) k after reply → Does hs lane op h serials reply k (set serials lane after)
 does-step setup hs serials lane after op h k reply ready within fits is =
     let state = ready.meant.0 in
     let st = ready.meant.1 in
@@ -47,20 +49,20 @@ does-step setup hs serials lane after op h k reply ready within fits is =
       others = λ l ne. get_or-set_other serials lane l after 0 ne;
     }
 
-pub ready-step : (setup : Setup) (hs serials : List ℕ) (lane after : ℕ) (op : Op) (x y : Heap) (r : Result Reply Stop) → StaysBut lane (parts_of x) (parts_of y) → (NoneLater x.space x.chunks.items lane (get_or serials lane 0) → IsInOrder (parts_of y) hs) → IfOk r (IsStep hs lane op (parts_of x) (get_or serials lane 0) (parts_of y) after) → OnErr r ((y ≡ x) × (after ≡ get_or serials lane 0)) → CanRunLanes setup hs serials (parts_of x) → CanRunLanes setup hs (set serials lane after) (parts_of y)
+pub ready-step : (setup : Setup) (hs serials : List ℕ) (lane after : ℕ) (op : Op) (x y : Heap) (r : Result Reply Stop) → StaysBut lane (heap_view x) (heap_view y) → (NoneLater x.space x.chunks.items lane (get_or serials lane 0) → IsRunning (heap_view y) hs) → IfOk r (IsStep hs lane op (heap_view x) (get_or serials lane 0) (heap_view y) after) → OnErr r ((y ≡ x) × (after ≡ get_or serials lane 0)) → CanRunLanes setup hs serials (heap_view x) → CanRunLanes setup hs (set serials lane after) (heap_view y)
 ready-step setup hs serials lane after op x y (Ok reply) stays running is same ready =
     let state = ready.meant.0 in
     let st = ready.meant.1 in
     record {
       range = ready.range;
       order = running (none-later x.space x.roots x.chunks.items hs serials state st lane);
-      fits = fits-step setup lane (parts_of x) (parts_of y) stays ready.fits;
+      fits = fits-step setup lane (heap_view x) (heap_view y) stays ready.fits;
       lanes = length-set serials lane after ∙ ready.lanes;
       meant = ((step state lane op).0, (is serials state st refl).1);
     }
 ready-step setup hs serials lane after op x y (Err stop) stays running is same ready =
-    subst (λ (z : Heap). CanRunLanes setup hs (set serials lane after) (parts_of z)) (sym same.0)
-    (subst (λ (ns : List ℕ). CanRunLanes setup hs ns (parts_of x)) (sym (ap (set serials lane) same.1 ∙ set-get_or serials lane 0)) ready)
+    subst (λ (z : Heap). CanRunLanes setup hs (set serials lane after) (heap_view z)) (sym same.0)
+    (subst (λ (ns : List ℕ). CanRunLanes setup hs ns (heap_view x)) (sym (ap (set serials lane) same.1 ∙ set-get_or serials lane 0)) ready)
 
 -- an empty chunk has room for every object
 never-full : (hs : List ℕ) (lane words : ℕ) (c : Nursery) (op : Op) → c.objects ≡ [] → 512 ≤ c.words → WantsMore hs lane (left_of c) op → ⊥
@@ -91,7 +93,7 @@ never-recorded hs lane s roots c b (Copy p q) none needs = needs
 never-recorded hs lane s roots c b (Clear p) none needs = needs
 never-recorded hs lane s roots c b (Same p q) none needs = needs
 
-pub never-stops : (setup : Setup) (hs serials : List ℕ) (lane : ℕ) (op : Op) (h : Parts) (r : Result Reply Stop) → CanRunLanes setup hs serials h → lane < length h.chunks → (chunk_of h.chunks lane).objects ≡ [] → (IsErrOf r NurseryFull → WantsMore hs lane (left_of (chunk_of h.chunks lane)) op) → (IsErrOf r BufferFull → NeedsEntry hs lane h.space h.roots (chunk_of h.chunks lane) (buffer_of h.buffers lane) op) → OnErr r ⊥
+pub never-stops : (setup : Setup) (hs serials : List ℕ) (lane : ℕ) (op : Op) (h : HeapView) (r : Result Reply Stop) → CanRunLanes setup hs serials h → lane < length h.chunks → (chunk_of h.chunks lane).objects ≡ [] → (IsErrOf r NurseryFull → WantsMore hs lane (left_of (chunk_of h.chunks lane)) op) → (IsErrOf r BufferFull → NeedsEntry hs lane h.space h.roots (chunk_of h.chunks lane) (buffer_of h.buffers lane) op) → OnErr r ⊥
 never-stops setup hs serials lane op h (Ok reply) ready within none full wants = tt
 never-stops setup hs serials lane op h (Err NurseryFull) ready within none full wants =
     let long : (chunk_of h.chunks lane).words ≡ 512 * setup.nursery = ready.fits.words lane (omega (arith, within, ready.fits.lanes)) in
@@ -118,6 +120,6 @@ at-capacity hs lane s roots c b (Copy p q) needs = absurd needs
 at-capacity hs lane s roots c b (Clear p) needs = absurd needs
 at-capacity hs lane s roots c b (Same p q) needs = absurd needs
 
-pub held-up : (hs : List ℕ) (lane : ℕ) (op : Op) (h : Parts) → Stops hs lane op h → IsHeldUp hs lane op h
+pub held-up : (hs : List ℕ) (lane : ℕ) (op : Op) (h : HeapView) → Stops hs lane op h → IsHeldUp hs lane op h
 held-up hs lane op h (inl wants) = inl wants
 held-up hs lane op h (inr needs) = inr (at-capacity hs lane h.space h.roots (chunk_of h.chunks lane) (buffer_of h.buffers lane) op needs)

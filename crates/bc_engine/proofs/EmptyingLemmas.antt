@@ -3,11 +3,11 @@ use Rattle.std.proofs.Common.{◌≡◌, ℕ, List, slice_index, length, map, sy
 use Rattle.std.proofs.Math.ListN.{get_or-map}
 use Rattle.std.proofs.lemmas.List.{length-map}
 use Rattle.bc_bits.specs.Bits.{has}
-use Rattle.bc_cycle.specs.Emptying.{Parts, IsEmptied, IsAsBefore, bare_chunk}
+use Rattle.bc_cycle.specs.Emptying.{IsEmptied, IsAsBefore, bare_chunk}
 use Rattle.bc_cycle.proofs.ChunkLists.{chunk-emptied}
 use Rattle.bc_failsafe.specs.Packing.{NeedOfHeap}
 use Rattle.bc_whole_heap.specs.Closed.{chunk_of, buffer_of, no_buffer}
-use Rattle.bc_whole_heap.specs.Heaps.{heap_memory, root_words, no_chunk}
+use Rattle.bc_whole_heap.specs.Heaps.{heap_memory, root_words, no_chunk, HeapView}
 use Rattle.bc_whole_heap.proofs.ChunkLemmas.{length-alike}
 use Rattle.bc_memory.specs.Memory.{Memory}
 use Rattle.bc_model.specs.State.{State}
@@ -28,16 +28,16 @@ words-alike : (cs ds : List Nursery) (l : ℕ) → map bare_chunk ds ≡ map bar
 words-alike cs ds l e =
     ap (λ (c : Nursery). c.words) (sym (get_or-map bare_chunk ds l no_chunk)) ∙ ap (λ (xs : List Nursery). (chunk_of xs l).words) e ∙ ap (λ (c : Nursery). c.words) (get_or-map bare_chunk cs l no_chunk)
 
-pub empty-chunks : (h k : Parts) → IsEmptied h k → HasEmptyChunks k
+pub empty-chunks : (h k : HeapView) → IsEmptied h k → HasEmptyChunks k
 empty-chunks h k is l = ap (λ (cs : List Nursery). (chunk_of cs l).objects) is.cleared ∙ ap (λ (c : Nursery). c.objects) (chunk-emptied h.chunks l)
 
-pub empty-buffers : (h k : Parts) → IsEmptied h k → IsUnrecorded k
+pub empty-buffers : (h k : HeapView) → IsEmptied h k → IsUnrecorded k
 empty-buffers h k is = record {
   entries = λ l. ap (λ (bs : List Entries). (buffer_of bs l).entries) is.unrecorded ∙ ap (λ (b : Entries). b.entries) (buffer-emptied h.buffers l);
   remembered = is.none_remembered;
 }
 
-pub stands-emptied : (hs serials : List ℕ) (h k : Parts) (state : State) → IsEmptied h k → Stands h hs serials state → Stands k hs serials state
+pub stands-emptied : (hs serials : List ℕ) (h k : HeapView) (state : State) → IsEmptied h k → Stands h hs serials state → Stands k hs serials state
 stands-emptied hs serials h k state is st = record {
   consistent = st.consistent;
   stands = is.keeps state.slots state.made st.stands;
@@ -50,7 +50,7 @@ stands-emptied hs serials h k state is st = record {
 }
 
 -- superpages in use stay within the setup's domains
-used-kept : (setup : Setup) (h k : Parts) → h.roots.domains ≡ setup.domains → (HasDomainsBelow h.space h.roots.domains → HasDomainsBelow k.space h.roots.domains) → HasDomainsBelow h.space setup.domains → HasDomainsBelow k.space setup.domains
+used-kept : (setup : Setup) (h k : HeapView) → h.roots.domains ≡ setup.domains → (HasDomainsBelow h.space h.roots.domains → HasDomainsBelow k.space h.roots.domains) → HasDomainsBelow h.space setup.domains → HasDomainsBelow k.space setup.domains
 used-kept setup h k domains keeps used =
     subst (λ (n : ℕ). HasDomainsBelow k.space n) domains (keeps (subst (λ (n : ℕ). HasDomainsBelow h.space n) (sym domains) used))
 
@@ -61,7 +61,7 @@ unbookmarked-kept s t bookmarks incoming none = record {
   incoming = λ q. ap (λ (ns : List ℕ). slice_index ns q) incoming ∙ none.incoming q;
 }
 
-fits-emptied : (setup : Setup) (h k : Parts) → IsEmptied h k → HasSetup h setup → HasSetup k setup
+fits-emptied : (setup : Setup) (h k : HeapView) → IsEmptied h k → HasSetup h setup → HasSetup k setup
 fits-emptied setup h k is fits = record {
   supers = is.sizes.supers ∙ fits.supers;
   domains = is.sizes.roots_domains ∙ fits.domains;
@@ -75,7 +75,7 @@ fits-emptied setup h k is fits = record {
   unbookmarked = unbookmarked-kept h.space k.space is.sizes.bookmarks is.sizes.incoming fits.unbookmarked;
 }
 
-pub ready-emptied : (setup : Setup) (hs serials : List ℕ) (h k : Parts) → IsEmptied h k → CanRunLanes setup hs serials h → CanRunLanes setup hs serials k
+pub ready-emptied : (setup : Setup) (hs serials : List ℕ) (h k : HeapView) → IsEmptied h k → CanRunLanes setup hs serials h → CanRunLanes setup hs serials k
 ready-emptied setup hs serials h k is ready = record {
   range = ready.range;
   order = is.order hs ready.order;
@@ -85,7 +85,7 @@ ready-emptied setup hs serials h k is ready = record {
 }
 
 -- a heap that is as before stands for what it stood for
-pub stands-before : (hs serials : List ℕ) (h k : Parts) (state : State) → IsAsBefore h k → Stands h hs serials state → Stands k hs serials state
+pub stands-before : (hs serials : List ℕ) (h k : HeapView) (state : State) → IsAsBefore h k → Stands h hs serials state → Stands k hs serials state
 stands-before hs serials h k state is st = record {
   consistent = st.consistent;
   stands = subst (λ (m : Memory). StandsFor m (root_words k.roots) state) (sym is.memory)
@@ -98,7 +98,7 @@ stands-before hs serials h k state is st = record {
   lanes = length-alike bare_chunk h.chunks k.chunks is.chunks ∙ st.lanes;
 }
 
-pub ready-before : (setup : Setup) (hs serials : List ℕ) (h k : Parts) → IsAsBefore h k → CanRunLanes setup hs serials h → CanRunLanes setup hs serials k
+pub ready-before : (setup : Setup) (hs serials : List ℕ) (h k : HeapView) → IsAsBefore h k → CanRunLanes setup hs serials h → CanRunLanes setup hs serials k
 ready-before setup hs serials h k is ready = record {
   range = ready.range;
   order = is.order hs ready.order;
@@ -119,7 +119,7 @@ ready-before setup hs serials h k is ready = record {
 }
 
 -- and has the same need
-pub need-before : (h k : Parts) (n : ℕ) → IsAsBefore h k → NeedOfHeap h.space h.roots h.chunks n → NeedOfHeap k.space k.roots k.chunks n
+pub need-before : (h k : HeapView) (n : ℕ) → IsAsBefore h k → NeedOfHeap h.space h.roots h.chunks n → NeedOfHeap k.space k.roots k.chunks n
 need-before h k n is need state stands domains =
     need state
     (subst (λ (r : RootWords). StandsFor (heap_memory h.space h.chunks) (root_words r) state) is.slots

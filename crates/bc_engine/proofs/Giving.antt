@@ -1,8 +1,8 @@
 -- A domain changes hands while all chunks and buffers are empty: only the holders change.
 use Rattle.std.proofs.Common.{◌≡◌, ℕ, ◌<◌, List, [], length, get_or, set, sym, ap, subst, ◌∙◌, inl, inr, arith, get_or-set_same, get_or-set_other, length-set}
 use Rattle.std.proofs.lemmas.Bool.{cases_eq}
-use Rattle.bc_cycle.specs.Emptying.{Parts}
 use Rattle.bc_whole_heap.specs.Closed.{chunk_of, buffer_of, IsCellOrYoung, IsClosedHeap}
+use Rattle.bc_whole_heap.specs.Heaps.{HeapView, view_of}
 use Rattle.bc_model.specs.State.{State, given}
 use Rattle.bc_model.specs.declared.traces.Setup.{Setup}
 use Rattle.bc_model.proofs.States.{IsState-given}
@@ -17,7 +17,7 @@ use Rattle.bc_engine.proofs.Sizes.{none-young}
 only-cell : (s : Layout) (c : Nursery) (a : ℕ) → c.objects ≡ [] → IsCellOrYoung s c a → IsAllocated s a
 only-cell s c a none h = elim h [ inl cell ↦ cell | inr young ↦ none-young c a none young ]
 
-closed-given : (s : Layout) (roots : RootWords) (cs : List Nursery) (bs : List Entries) (hs : List ℕ) (d l : ℕ) → ((n : ℕ) → (chunk_of cs n).objects ≡ []) → ((n : ℕ) → (buffer_of bs n).entries ≡ []) → l < length cs → IsClosedHeap s roots cs bs hs → IsClosedHeap s roots cs bs (set hs d l)
+closed-given : (s : Layout) (roots : RootWords) (cs : List Nursery) (bs : List Entries) (hs : List ℕ) (d l : ℕ) → ((n : ℕ) → (chunk_of cs n).objects ≡ []) → ((n : ℕ) → (buffer_of bs n).entries ≡ []) → l < length cs → IsClosedHeap (view_of s roots cs bs) hs → IsClosedHeap (view_of s roots cs bs) (set hs d l)
 closed-given s roots cs bs hs d l none empty within h =
     let long : length (set hs d l) ≡ length hs = length-set hs d l in
     record {
@@ -40,7 +40,7 @@ closed-given s roots cs bs hs d l none empty within h =
       entries = λ m i lt there. absurd (omega (arith, there, ap length (empty m)));
     }
 
-pub stands-given : (setup : Setup) (hs serials : List ℕ) (h : Parts) (d l : ℕ) (state : State) → CanRunLanes setup hs serials h → l < setup.lanes → Stands h hs serials state → Stands h (set hs d l) serials (given state (record { domain = d; lane = l }))
+pub stands-given : (setup : Setup) (hs serials : List ℕ) (h : HeapView) (d l : ℕ) (state : State) → CanRunLanes setup hs serials h → l < setup.lanes → Stands h hs serials state → Stands h (set hs d l) serials (given state (record { domain = d; lane = l }))
 stands-given setup hs serials h d l state ready within st = record {
   consistent = IsState-given state (record { domain = d; lane = l }) st.consistent (omega (arith, within, st.lanes, ready.fits.lanes));
   stands = st.stands;
@@ -52,7 +52,7 @@ stands-given setup hs serials h d l state ready within st = record {
   lanes = st.lanes;
 }
 
-pub ready-given : (setup : Setup) (hs serials : List ℕ) (h : Parts) (d l : ℕ) → HasEmptyChunks h → IsUnrecorded h → l < setup.lanes → CanRunLanes setup hs serials h → CanRunLanes setup (set hs d l) serials h
+pub ready-given : (setup : Setup) (hs serials : List ℕ) (h : HeapView) (d l : ℕ) → HasEmptyChunks h → IsUnrecorded h → l < setup.lanes → CanRunLanes setup hs serials h → CanRunLanes setup (set hs d l) serials h
 ready-given setup hs serials h d l none empty within ready =
     let order = ready.order in
     record {

@@ -2,7 +2,6 @@
 use Rattle.std.proofs.Common.{◌≡◌, ◌≢◌, ℕ, ◌+◌, ◌<◌, ◌≤◌, Bool, true, false, if◌then◌else◌, ◌==◌, List, [], ◌∷◌, ◌++◌, length, take, map, get_or, set, refl, sym, ap, subst, ◌∙◌, inl, inr, arith, append_assoc, append-nil, eq-eqb, eqb-true, get_or-set_same, get_or-set_other}
 use Rattle.std.proofs.lemmas.Bool.{cases_eq}
 use Rattle.std.proofs.lemmas.List.{take_more, length_push}
-use Rattle.bc_cycle.specs.Emptying.{Parts}
 use Rattle.bc_model.specs.Interleaving.{LaneOp, after_steps, replies_by, ops_by}
 use Rattle.bc_model.specs.State.{State}
 use Rattle.bc_model.specs.Step.{step}
@@ -11,9 +10,10 @@ use Rattle.bc_model.specs.declared.operations.Reply.{Reply}
 use Rattle.bc_engine.specs.Engines.{Stands}
 use Rattle.bc_engine.specs.Lanes.{of_lane, Does, LanesWentOn}
 use Rattle.bc_engine.proofs.StepLists.{all-append, after_steps-append, ops_by-append, replies_by-append, after_steps-one, replies_by-one, after_steps-none, replies_by-none}
+use Rattle.bc_whole_heap.specs.Heaps.{HeapView}
 
 -- no operation was done: the heap stands for what it stood for
-pub goes-none : (lanes : List (List Op)) (hs : List ℕ) (h k : Parts) (serials : List ℕ) (told : List (List Reply)) → ((state : State) → Stands h hs serials state → Stands k hs serials state) → LanesWentOn lanes hs h serials told k serials told
+pub goes-none : (lanes : List (List Op)) (hs : List ℕ) (h k : HeapView) (serials : List ℕ) (told : List (List Reply)) → ((state : State) → Stands h hs serials state → Stands k hs serials state) → LanesWentOn lanes hs h serials told k serials told
 goes-none lanes hs h k serials told same = record {
   steps = [];
   below = tt;
@@ -23,7 +23,7 @@ goes-none lanes hs h k serials told same = record {
   more = λ j. omega arith;
 }
 
-pub goes-then : (lanes : List (List Op)) (hs : List ℕ) (h k l : Parts) (ns ms ls : List ℕ) (told mid answers : List (List Reply)) → LanesWentOn lanes hs h ns told k ms mid → LanesWentOn lanes hs k ms mid l ls answers → LanesWentOn lanes hs h ns told l ls answers
+pub goes-then : (lanes : List (List Op)) (hs : List ℕ) (h k l : HeapView) (ns ms ls : List ℕ) (told mid answers : List (List Reply)) → LanesWentOn lanes hs h ns told k ms mid → LanesWentOn lanes hs k ms mid l ls answers → LanesWentOn lanes hs h ns told l ls answers
 goes-then lanes hs h k l ns ms ls told mid answers g e = record {
   steps = g.steps ++ e.steps;
   below = all-append (λ (x : LaneOp). x.lane < length lanes) g.steps e.steps g.below e.below;
@@ -63,7 +63,7 @@ ops-one lane j op = go (lane == j)
     go true = refl
     go false = refl
 
-pub goes-step : (lanes : List (List Op)) (hs : List ℕ) (h k : Parts) (serials next : List ℕ) (told : List (List Reply)) (lane : ℕ) (op : Op) (reply : Reply) → lane < length lanes → lane < length told → length (of_lane told lane) < length (of_lane lanes lane) → op ≡ get_or (of_lane lanes lane) (length (of_lane told lane)) op → Does hs lane op h serials reply k next → LanesWentOn lanes hs h serials told k next (with_reply told lane reply)
+pub goes-step : (lanes : List (List Op)) (hs : List ℕ) (h k : HeapView) (serials next : List ℕ) (told : List (List Reply)) (lane : ℕ) (op : Op) (reply : Reply) → lane < length lanes → lane < length told → length (of_lane told lane) < length (of_lane lanes lane) → op ≡ get_or (of_lane lanes lane) (length (of_lane told lane)) op → Does hs lane op h serials reply k next → LanesWentOn lanes hs h serials told k next (with_reply told lane reply)
 goes-step lanes hs h k serials next told lane op reply within there less is does =
     let n = length (of_lane told lane) in
     let x : LaneOp = record { lane = lane; op = op } in

@@ -5,11 +5,10 @@ use Rattle.std.proofs.lemmas.Bool.{cases_lt}
 use Rattle.std.proofs.lemmas.List.{get_or-map, get_or_past, get_or-replicate, length-map, length-replicate}
 use Rattle.bc_bits.specs.Bits.{has}
 use Rattle.bc_bits.proofs.BitLemmas.{has-zeros, has-beyond}
-use Rattle.bc_cycle.specs.Emptying.{Parts}
 use Rattle.bc_cycle.specs.Openings.{new_heap}
 use Rattle.bc_cycle.proofs.OpeningLemmas.{chunk-at, chunk-none, chunks-long, supers-long, no_object, no_entries, opening-running}
 use Rattle.bc_failsafe.proofs.OpeningLemmas.{nothing}
-use Rattle.bc_whole_heap.specs.Heaps.{heap_memory, root_words}
+use Rattle.bc_whole_heap.specs.Heaps.{heap_memory, root_words, HeapView}
 use Rattle.bc_memory.specs.Memory.{Memory}
 use Rattle.bc_model.specs.Reached.{Holds, FieldHolds, Reached}
 use Rattle.bc_model.specs.Run.{opening}
@@ -144,15 +143,15 @@ ready-opening s range =
     }
 
 -- what is true of the engine that begins with such a heap
-pub record IsOpened (s : Setup) (holders serials : List ℕ) (h : Parts) : Type 0 where
+pub record IsOpened (s : Setup) (holders serials : List ℕ) (h : HeapView) : Type 0 where
   pub ready : CanRunLanes s holders serials h
   pub stands : Stands h holders serials (opening s)
   pub chunks : HasEmptyChunks h
   pub unrecorded : IsUnrecorded h
 
-pub opened : (s : Setup) (holders serials : List ℕ) (h : Parts) → IsSetup s → h ≡ new_heap s → holders ≡ (opening s).holders → serials ≡ replicate s.lanes 0 → IsOpened s holders serials h
+pub opened : (s : Setup) (holders serials : List ℕ) (h : HeapView) → IsSetup s → h ≡ new_heap s → holders ≡ (opening s).holders → serials ≡ replicate s.lanes 0 → IsOpened s holders serials h
 opened s holders serials h range heap held born =
-    subst (λ (x : Parts). IsOpened s holders serials x) (sym heap)
+    subst (λ (x : HeapView). IsOpened s holders serials x) (sym heap)
     (subst (λ (xs : List ℕ). IsOpened s xs serials (new_heap s)) (sym held)
     (subst (λ (xs : List ℕ). IsOpened s (opening s).holders xs (new_heap s)) (sym born) (record {
       ready = ready-opening s range;

@@ -4,9 +4,8 @@ use Prim.Native.Nat.{zero, suc}
 use Rattle.std.proofs.lemmas.Bool.{cases_lt}
 use Rattle.std.proofs.lemmas.List.{get_or_append_left, get_or_push, length-map, length_push}
 use Rattle.std.specs.List.{AllByRecursion}
-use Rattle.bc_cycle.specs.Emptying.{Parts}
 use Rattle.bc_whole_heap.specs.Closed.{chunk_of}
-use Rattle.bc_whole_heap.specs.Heaps.{heap_memory, object_in, root_words}
+use Rattle.bc_whole_heap.specs.Heaps.{heap_memory, object_in, root_words, HeapView}
 use Rattle.bc_model.specs.Consistent.{sizes_of}
 use Rattle.bc_model.specs.Interleaving.{replies_by, ops_by}
 use Rattle.bc_model.specs.Lists.{PhaseLists, lists_of}
@@ -60,11 +59,11 @@ pub none-yet : (lanes : List (List Op)) (vs : List (Vec Reply Global)) → IsRoo
 none-yet lanes vs room j = none-told vs (λ i v lt is. (room i v lt is).0) j
 
 -- what lanes did that had no reply before
-ops-begun : (lanes : List (List Op)) (hs : List ℕ) (h k : Parts) (serials next : List ℕ) (told answers : List (List Reply)) (g : LanesWentOn lanes hs h serials told k next answers) → ((j : ℕ) → of_lane told j ≡ []) → (j : ℕ) → ops_by j g.steps ≡ take (length (of_lane answers j)) (of_lane lanes j)
+ops-begun : (lanes : List (List Op)) (hs : List ℕ) (h k : HeapView) (serials next : List ℕ) (told answers : List (List Reply)) (g : LanesWentOn lanes hs h serials told k next answers) → ((j : ℕ) → of_lane told j ≡ []) → (j : ℕ) → ops_by j g.steps ≡ take (length (of_lane answers j)) (of_lane lanes j)
 ops-begun lanes hs h k serials next told answers g none j =
     sym (g.ops j ∙ ap (λ (rs : List Reply). take (length rs) (of_lane lanes j) ++ ops_by j g.steps) (none j))
 
-replies-begun : (lanes : List (List Op)) (hs : List ℕ) (h k : Parts) (serials next : List ℕ) (told answers : List (List Reply)) (g : LanesWentOn lanes hs h serials told k next answers) → ((j : ℕ) → of_lane told j ≡ []) → (s : State) → Stands h hs serials s → (j : ℕ) → of_lane answers j ≡ replies_by s j g.steps
+replies-begun : (lanes : List (List Op)) (hs : List ℕ) (h k : HeapView) (serials next : List ℕ) (told answers : List (List Reply)) (g : LanesWentOn lanes hs h serials told k next answers) → ((j : ℕ) → of_lane told j ≡ []) → (s : State) → Stands h hs serials s → (j : ℕ) → of_lane answers j ≡ replies_by s j g.steps
 replies-begun lanes hs h k serials next told answers g none s st j =
     g.replies s st j ∙ ap (λ (rs : List Reply). rs ++ replies_by s j g.steps) (none j)
 
@@ -79,14 +78,14 @@ ops-fit e lanes s ready st ops =
     (λ os fits. all-weaker (IsOp e.setup) (IsOp (sizes_of s)) (λ o fit. op-of_state e.heap e.holders e.serials s o st (op-of_heap e.setup e.heap o ready.fits fit)) os fits) lanes ops
 
 -- what the lanes of a phase did, up to a cut
-pub record IsCutOf (e : EngineView) (lanes : List (List Op)) (k : Parts) (next : List ℕ) (answers : List (List Reply)) (s : State) : Type 0 where
+pub record IsCutOf (e : EngineView) (lanes : List (List Op)) (k : HeapView) (next : List ℕ) (answers : List (List Reply)) (s : State) : Type 0 where
   pub replies : answers ≡ replies_to_lanes s 0 (cut_lanes (map length answers) lanes)
   pub stands : Stands k e.holders next (after_lanes s 0 (cut_lanes (map length answers) lanes))
 
 each-lane : (e : EngineView) (p : PhaseLists) (s : State) → CanRunLanes e.setup e.holders e.serials e.heap → IsPhase e.setup p → EngineStands e s → length p.lanes ≡ length s.made
 each-lane e p s ready phase st = phase.lanes ∙ sym ready.fits.lanes ∙ st.lanes
 
-pub cut-run : (e : EngineView) (p : PhaseLists) (k : Parts) (next : List ℕ) (told answers : List (List Reply)) → CanRunLanes e.setup e.holders e.serials e.heap → IsPhase e.setup p → ((j : ℕ) → of_lane told j ≡ []) → length answers ≡ length p.lanes → LanesWentOn p.lanes e.holders e.heap e.serials told k next answers → (s : State) → EngineStands e s → IsCutOf e p.lanes k next answers s
+pub cut-run : (e : EngineView) (p : PhaseLists) (k : HeapView) (next : List ℕ) (told answers : List (List Reply)) → CanRunLanes e.setup e.holders e.serials e.heap → IsPhase e.setup p → ((j : ℕ) → of_lane told j ≡ []) → length answers ≡ length p.lanes → LanesWentOn p.lanes e.holders e.heap e.serials told k next answers → (s : State) → EngineStands e s → IsCutOf e p.lanes k next answers s
 cut-run e p k next told answers ready phase none long goes s st =
     let cut = map length answers in
     let mixed = mixed-cut s p.lanes answers goes.steps (each-lane e p s ready phase st) (ops-fit e p.lanes s ready st phase.ops) goes.below (ops-begun p.lanes e.holders e.heap k e.serials next told answers goes none) in
@@ -94,11 +93,11 @@ cut-run e p k next told answers ready phase none long goes s st =
     record { replies = run.replies; stands = subst (λ (t : State). Stands k e.holders next t) run.state (goes.means s st) }
 
 -- or to their ends
-pub record IsWhole (e : EngineView) (lanes : List (List Op)) (k : Parts) (next : List ℕ) (answers : List (List Reply)) (s : State) : Type 0 where
+pub record IsWhole (e : EngineView) (lanes : List (List Op)) (k : HeapView) (next : List ℕ) (answers : List (List Reply)) (s : State) : Type 0 where
   pub replies : answers ≡ replies_to_lanes s 0 lanes
   pub stands : Stands k e.holders next (after_lanes s 0 lanes)
 
-pub whole-run : (e : EngineView) (p : PhaseLists) (k : Parts) (next : List ℕ) (told answers : List (List Reply)) → CanRunLanes e.setup e.holders e.serials e.heap → IsPhase e.setup p → ((j : ℕ) → of_lane told j ≡ []) → length answers ≡ length p.lanes → AreDone p.lanes answers → LanesWentOn p.lanes e.holders e.heap e.serials told k next answers → (s : State) → EngineStands e s → IsWhole e p.lanes k next answers s
+pub whole-run : (e : EngineView) (p : PhaseLists) (k : HeapView) (next : List ℕ) (told answers : List (List Reply)) → CanRunLanes e.setup e.holders e.serials e.heap → IsPhase e.setup p → ((j : ℕ) → of_lane told j ≡ []) → length answers ≡ length p.lanes → AreDone p.lanes answers → LanesWentOn p.lanes e.holders e.heap e.serials told k next answers → (s : State) → EngineStands e s → IsWhole e p.lanes k next answers s
 whole-run e p k next told answers ready phase none long done goes s st =
     let mixed = mixed-whole s p.lanes answers goes.steps (each-lane e p s ready phase st) (ops-fit e p.lanes s ready st phase.ops) goes.below done (ops-begun p.lanes e.holders e.heap k e.serials next told answers goes none) in
     let run = run-lanes s p.lanes answers goes.steps st.consistent mixed long (replies-begun p.lanes e.holders e.heap k e.serials next told answers goes none s st) in

@@ -1,7 +1,7 @@
 -- A round: the lanes run, the nurseries are emptied, and the lanes that aren't at their ends do one operation more.
 use Rattle.std.proofs.Common.{Vec, Global, ◌≡◌, ◌≢◌, ℕ, ◌<◌, ◌≤◌, List, length, Option, Some, None, Err, sym, ap, subst, ◌∙◌, arith}
 use Rattle.bc_cycle.specs.Causes.{IfOutOfHeap}
-use Rattle.bc_cycle.specs.Emptying.{Parts, IsEmptied, IsAsBefore}
+use Rattle.bc_cycle.specs.Emptying.{IsEmptied, IsAsBefore}
 use Rattle.bc_cycle.specs.declared.emptying.CycleNo.{CycleNo}
 use Rattle.bc_cycle.specs.declared.emptying.CycleNo.TheVariants as cycle
 use Rattle.bc_failsafe.specs.Packing.{NeedOfHeap}
@@ -18,55 +18,56 @@ use Rattle.bc_engine.specs.declared.engines.Ended.TheVariants.{OutOfHeap, NoMemo
 use Rattle.bc_engine.proofs.EmptyingLemmas.{ready-before, ready-emptied, need-before, stands-before, stands-emptied}
 use Rattle.bc_engine.proofs.GoingLemmas.{goes-then}
 use Rattle.bc_engine.proofs.RunLemmas.{runs-none, runs-then, left-le, left-less}
+use Rattle.bc_whole_heap.specs.Heaps.{HeapView}
 
 -- an engine that hasn't ended hasn't run out of memory
 pub goes-on : (ended : Option Ended) → ended ≡ None → ended ≢ Some NoMemory
 goes-on ended going gone = cc
 
 -- where a round is: what the lanes did so far, and what a phase rests on
-pub record IsAt (lanes : List (List Op)) (e : EngineView) (told : List (Vec Reply Global)) (k : Parts) (serials : List ℕ) (replies : List (Vec Reply Global)) : Type 0 where
+pub record IsAt (lanes : List (List Op)) (e : EngineView) (told : List (Vec Reply Global)) (k : HeapView) (serials : List ℕ) (replies : List (Vec Reply Global)) : Type 0 where
   pub runs : LanesRan lanes e.holders e.heap e.serials told k serials replies
   pub underway : IsUnderway e.setup lanes e.holders k serials replies
 
 -- through the slices that holders and serials were lent as
-runs-through : (lanes : List (List Op)) (hs ks ns ms ls js : List ℕ) (h k : Parts) (told replies : List (Vec Reply Global)) → ks ≡ hs → ms ≡ ns → js ≡ ls → LanesRan lanes ks h ms told k ls replies → LanesRan lanes hs h ns told k js replies
+runs-through : (lanes : List (List Op)) (hs ks ns ms ls js : List ℕ) (h k : HeapView) (told replies : List (Vec Reply Global)) → ks ≡ hs → ms ≡ ns → js ≡ ls → LanesRan lanes ks h ms told k ls replies → LanesRan lanes hs h ns told k js replies
 runs-through lanes hs ks ns ms ls js h k told replies holders before after runs =
     subst (λ (xs : List ℕ). LanesRan lanes hs h ns told k xs replies) (sym after)
     (subst (λ (xs : List ℕ). LanesRan lanes xs h ns told k ls replies) holders
     (subst (λ (xs : List ℕ). LanesRan lanes ks h xs told k ls replies) before runs))
 
-pub ran : (lanes : List (List Op)) (e : EngineView) (ks ms ls js : List ℕ) (k : Parts) (told replies : List (Vec Reply Global)) → ks ≡ e.holders → ms ≡ e.serials → js ≡ ls → IsUnderwayOn e lanes told → LanesRan lanes ks e.heap ms told k ls replies → IsAt lanes e told k js replies
+pub ran : (lanes : List (List Op)) (e : EngineView) (ks ms ls js : List ℕ) (k : HeapView) (told replies : List (Vec Reply Global)) → ks ≡ e.holders → ms ≡ e.serials → js ≡ ls → IsUnderwayOn e lanes told → LanesRan lanes ks e.heap ms told k ls replies → IsAt lanes e told k js replies
 ran lanes e ks ms ls js k told replies holders before after underway runs =
     let r = runs-through lanes e.holders ks e.serials ms ls js e.heap k told replies holders before after runs in
     record { runs = r; underway = r.underway e.setup underway }
 
-go-on : (lanes : List (List Op)) (e : EngineView) (told mid replies : List (Vec Reply Global)) (k l : Parts) (ns ms : List ℕ) → LanesRan lanes e.holders k ns mid l ms replies → IsAt lanes e told k ns mid → IsAt lanes e told l ms replies
+go-on : (lanes : List (List Op)) (e : EngineView) (told mid replies : List (Vec Reply Global)) (k l : HeapView) (ns ms : List ℕ) → LanesRan lanes e.holders k ns mid l ms replies → IsAt lanes e told k ns mid → IsAt lanes e told l ms replies
 go-on lanes e told mid replies k l ns ms runs at = record {
   runs = runs-then lanes e.holders e.heap k l e.serials ns ms told mid replies at.runs runs;
   underway = runs.underway e.setup at.underway;
 }
 
-pub at-emptied : (lanes : List (List Op)) (e : EngineView) (told replies : List (Vec Reply Global)) (k l : Parts) (ns : List ℕ) → IsEmptied k l → IsAt lanes e told k ns replies → IsAt lanes e told l ns replies
+pub at-emptied : (lanes : List (List Op)) (e : EngineView) (told replies : List (Vec Reply Global)) (k l : HeapView) (ns : List ℕ) → IsEmptied k l → IsAt lanes e told k ns replies → IsAt lanes e told l ns replies
 at-emptied lanes e told replies k l ns is at =
     go-on lanes e told replies replies k l ns ns
     (runs-none lanes e.holders k l ns replies (λ state st. stands-emptied e.holders ns k l state is st) (λ setup ready. ready-emptied setup e.holders ns k l is ready)) at
 
-pub at-before : (lanes : List (List Op)) (e : EngineView) (told replies : List (Vec Reply Global)) (k l : Parts) (ns : List ℕ) → IsAsBefore k l → IsAt lanes e told k ns replies → IsAt lanes e told l ns replies
+pub at-before : (lanes : List (List Op)) (e : EngineView) (told replies : List (Vec Reply Global)) (k l : HeapView) (ns : List ℕ) → IsAsBefore k l → IsAt lanes e told k ns replies → IsAt lanes e told l ns replies
 at-before lanes e told replies k l ns is at =
     go-on lanes e told replies replies k l ns ns
     (runs-none lanes e.holders k l ns replies (λ state st. stands-before e.holders ns k l state is st) (λ setup ready. ready-before setup e.holders ns k l is ready)) at
 
-pub ran-more : (lanes : List (List Op)) (e : EngineView) (told mid replies : List (Vec Reply Global)) (k l : Parts) (ks ns ms ls js : List ℕ) → ks ≡ e.holders → ms ≡ ns → js ≡ ls → IsAt lanes e told k ns mid → LanesRan lanes ks k ms mid l ls replies → IsAt lanes e told l js replies
+pub ran-more : (lanes : List (List Op)) (e : EngineView) (told mid replies : List (Vec Reply Global)) (k l : HeapView) (ks ns ms ls js : List ℕ) → ks ≡ e.holders → ms ≡ ns → js ≡ ls → IsAt lanes e told k ns mid → LanesRan lanes ks k ms mid l ls replies → IsAt lanes e told l js replies
 ran-more lanes e told mid replies k l ks ns ms ls js holders before after at runs =
     go-on lanes e told mid replies k l ns js (runs-through lanes e.holders ks ns ms ls js k l mid replies holders before after runs) at
 
 -- an end for want of heap leaves the heap ready
-pub ready-ended : (T : Type 0) (lanes : List (List Op)) (e : EngineView) (told replies : List (Vec Reply Global)) (k l : Parts) (ns : List ℕ) (cause : CycleNo) (ended : Ended) → ended ≡ ended_of cause → IfOutOfHeap {T = T} (Err cause) (λ need. IsAsBefore k l) → IsAt lanes e told k ns replies → Some ended ≢ Some NoMemory → CanRunLanes e.setup e.holders ns l
+pub ready-ended : (T : Type 0) (lanes : List (List Op)) (e : EngineView) (told replies : List (Vec Reply Global)) (k l : HeapView) (ns : List ℕ) (cause : CycleNo) (ended : Ended) → ended ≡ ended_of cause → IfOutOfHeap {T = T} (Err cause) (λ need. IsAsBefore k l) → IsAt lanes e told k ns replies → Some ended ≢ Some NoMemory → CanRunLanes e.setup e.holders ns l
 ready-ended T lanes e told replies k l ns (cycle.OutOfHeap need) ended is before at alive = ready-before e.setup e.holders ns k l before at.underway.ready
 ready-ended T lanes e told replies k l ns cycle.NoMemory ended is before at alive = absurd (alive (ap Some is))
 
 -- and is what the phase is cut by
-pub too-small : (T U : Type 0) (lanes : List (List Op)) (e f : EngineView) (told replies : List (Vec Reply Global)) (k : Parts) (cause : CycleNo) (ended : Ended) → ended ≡ ended_of cause → IfOutOfHeap {T = T} (Err cause) (λ need. IsAsBefore k f.heap) → IfOutOfHeap {T = T} (Err cause) (λ need. NeedOfHeap k.space k.roots k.chunks need × (superpages k.space < need)) → f.ended ≡ Some ended → IsAt lanes e told k f.serials replies → IfTooSmall {T = U} (Err ended) (IsTooSmall lanes e told f replies)
+pub too-small : (T U : Type 0) (lanes : List (List Op)) (e f : EngineView) (told replies : List (Vec Reply Global)) (k : HeapView) (cause : CycleNo) (ended : Ended) → ended ≡ ended_of cause → IfOutOfHeap {T = T} (Err cause) (λ need. IsAsBefore k f.heap) → IfOutOfHeap {T = T} (Err cause) (λ need. NeedOfHeap k.space k.roots k.chunks need × (superpages k.space < need)) → f.ended ≡ Some ended → IsAt lanes e told k f.serials replies → IfTooSmall {T = U} (Err ended) (IsTooSmall lanes e told f replies)
 too-small T U lanes e f told replies k (cycle.OutOfHeap need) ended is before needs end at =
     subst (λ (x : Ended). IfTooSmall {T = U} (Err x) (IsTooSmall lanes e told f replies)) (sym is) (record {
       cause = end ∙ ap Some is;
@@ -83,7 +84,7 @@ fewer-left lanes told mid replies n long first second some each =
     let less = left-less lanes mid replies some.0 second some.1 some.2 (each some.0 (omega (arith, some.1, long)) some.2) in
     omega (arith, less, left-le lanes told mid first)
 
-pub underway-through : (e : EngineView) (lanes : List (List Op)) (ks ns ms : List ℕ) (k : Parts) (replies : List (Vec Reply Global)) → ks ≡ e.holders → ms ≡ ns → IsUnderway e.setup lanes e.holders k ns replies → IsUnderway e.setup lanes ks k ms replies
+pub underway-through : (e : EngineView) (lanes : List (List Op)) (ks ns ms : List ℕ) (k : HeapView) (replies : List (Vec Reply Global)) → ks ≡ e.holders → ms ≡ ns → IsUnderway e.setup lanes e.holders k ns replies → IsUnderway e.setup lanes ks k ms replies
 underway-through e lanes ks ns ms k replies holders before underway =
     subst (λ (xs : List ℕ). IsUnderway e.setup lanes ks k xs replies) (sym before)
     (subst (λ (xs : List ℕ). IsUnderway e.setup lanes xs k ns replies) (sym holders) underway)

@@ -3,10 +3,11 @@ use Rattle.std.proofs.Common.{Vec, Global, vec_capacity, vec_len, ◌≡◌, ◌
 use Prim.Native.Nat.{zero, suc}
 use Rattle.std.proofs.lemmas.Bool.{cases_eq}
 use Rattle.std.proofs.lemmas.List.{get_or-map, map-set, length_push, length-map}
-use Rattle.bc_cycle.specs.Emptying.{Parts, parts_of}
+use Rattle.bc_cycle.specs.Emptying.{heap_view}
 use Rattle.bc_cycle.specs.declared.heaps.Heap.{Heap}
 use Rattle.std.specs.List.{AllByRecursion}
 use Rattle.bc_whole_heap.specs.Closed.{chunk_of, buffer_of}
+use Rattle.bc_whole_heap.specs.Heaps.{HeapView}
 use Rattle.bc_model.specs.Lists.{lists_of}
 use Rattle.bc_model.specs.WellFormed.{IsOp}
 use Rattle.bc_model.proofs.Runs.{at-index}
@@ -23,20 +24,20 @@ use Rattle.bc_engine.proofs.Attempts.{held-up}
 use Rattle.bc_engine.proofs.GoingLemmas.{with_reply, goes-none, goes-then, goes-step}
 
 -- nothing was done, and the heap stands for what it stood for
-pub runs-none : (lanes : List (List Op)) (hs : List ℕ) (h k : Parts) (serials : List ℕ) (told : List (Vec Reply Global)) → ((state : State) → Stands h hs serials state → Stands k hs serials state) → ((setup : Setup) → CanRunLanes setup hs serials h → CanRunLanes setup hs serials k) → LanesRan lanes hs h serials told k serials told
+pub runs-none : (lanes : List (List Op)) (hs : List ℕ) (h k : HeapView) (serials : List ℕ) (told : List (Vec Reply Global)) → ((state : State) → Stands h hs serials state → Stands k hs serials state) → ((setup : Setup) → CanRunLanes setup hs serials h → CanRunLanes setup hs serials k) → LanesRan lanes hs h serials told k serials told
 runs-none lanes hs h k serials told means ready = record {
   goes = goes-none lanes hs h k serials (lists_of told) means;
   underway = λ setup u. record { ready = ready setup u.ready; each = u.each; ops = u.ops; long = u.long; room = u.room; births = u.births };
   births = λ j. omega arith;
 }
 
-pub runs-same : (lanes : List (List Op)) (hs : List ℕ) (x y : Heap) (serials next : List ℕ) (told : List (Vec Reply Global)) → y ≡ x → next ≡ serials → LanesRan lanes hs (parts_of x) serials told (parts_of y) next told
+pub runs-same : (lanes : List (List Op)) (hs : List ℕ) (x y : Heap) (serials next : List ℕ) (told : List (Vec Reply Global)) → y ≡ x → next ≡ serials → LanesRan lanes hs (heap_view x) serials told (heap_view y) next told
 runs-same lanes hs x y serials next told heap born =
-    subst (λ (z : Heap). LanesRan lanes hs (parts_of x) serials told (parts_of z) next told) (sym heap)
-    (subst (λ (ns : List ℕ). LanesRan lanes hs (parts_of x) serials told (parts_of x) ns told) (sym born)
-    (runs-none lanes hs (parts_of x) (parts_of x) serials told (λ state st. st) (λ setup ready. ready)))
+    subst (λ (z : Heap). LanesRan lanes hs (heap_view x) serials told (heap_view z) next told) (sym heap)
+    (subst (λ (ns : List ℕ). LanesRan lanes hs (heap_view x) serials told (heap_view x) ns told) (sym born)
+    (runs-none lanes hs (heap_view x) (heap_view x) serials told (λ state st. st) (λ setup ready. ready)))
 
-pub runs-then : (lanes : List (List Op)) (hs : List ℕ) (h k l : Parts) (ns ms ls : List ℕ) (told mid answers : List (Vec Reply Global)) → LanesRan lanes hs h ns told k ms mid → LanesRan lanes hs k ms mid l ls answers → LanesRan lanes hs h ns told l ls answers
+pub runs-then : (lanes : List (List Op)) (hs : List ℕ) (h k l : HeapView) (ns ms ls : List ℕ) (told mid answers : List (Vec Reply Global)) → LanesRan lanes hs h ns told k ms mid → LanesRan lanes hs k ms mid l ls answers → LanesRan lanes hs h ns told l ls answers
 runs-then lanes hs h k l ns ms ls told mid answers g e = record {
   goes = goes-then lanes hs h k l ns ms ls (lists_of told) (lists_of mid) (lists_of answers) g.goes e.goes;
   underway = λ setup u. e.underway setup (g.underway setup u);
@@ -53,7 +54,7 @@ lists-pushed vs lane v w reply within is pushed =
     ∙ ap (set (lists_of vs) lane) (pushed ∙ ap (λ (rs : List Reply). rs ++ reply ∷ []) (sym (of_lane-vec vs lane v within is)))
 
 -- one reply more leaves one operation less, and one birth more at most
-births-step : (lanes : List (List Op)) (hs : List ℕ) (lane : ℕ) (op : Op) (h k : Parts) (serials next : List ℕ) (reply : Reply) (told : List (List Reply)) → lane < length told → length (of_lane told lane) < length (of_lane lanes lane) → Does hs lane op h serials reply k next → BirthsWithin lanes serials told next (with_reply told lane reply)
+births-step : (lanes : List (List Op)) (hs : List ℕ) (lane : ℕ) (op : Op) (h k : HeapView) (serials next : List ℕ) (reply : Reply) (told : List (List Reply)) → lane < length told → length (of_lane told lane) < length (of_lane lanes lane) → Does hs lane op h serials reply k next → BirthsWithin lanes serials told next (with_reply told lane reply)
 births-step lanes hs lane op h k serials next reply told within less does j =
     let answers = with_reply told lane reply in
     elim (cases_eq j lane) [
@@ -102,7 +103,7 @@ pub record IsKept (lanes : List (List Op)) (lane : ℕ) (op : Op) (reply : Reply
   pub capacity : vec_capacity w ≡ vec_capacity before
 
 -- an operation was done, and its reply was kept
-pub runs-step : (lanes : List (List Op)) (hs : List ℕ) (h k : Parts) (serials next : List ℕ) (vs : List (Vec Reply Global)) (lane : ℕ) (op : Op) (reply : Reply) (w : Vec Reply Global) → IsKept lanes lane op reply vs w → Does hs lane op h serials reply k next → ((setup : Setup) → CanRunLanes setup hs serials h → CanRunLanes setup hs next k) → LanesRan lanes hs h serials vs k next (set vs lane w)
+pub runs-step : (lanes : List (List Op)) (hs : List ℕ) (h k : HeapView) (serials next : List ℕ) (vs : List (Vec Reply Global)) (lane : ℕ) (op : Op) (reply : Reply) (w : Vec Reply Global) → IsKept lanes lane op reply vs w → Does hs lane op h serials reply k next → ((setup : Setup) → CanRunLanes setup hs serials h → CanRunLanes setup hs next k) → LanesRan lanes hs h serials vs k next (set vs lane w)
 runs-step lanes hs h k serials next vs lane op reply w kept does ready =
     let told = lists_of vs in
     let answers : lists_of (set vs lane w) ≡ with_reply told lane reply = lists-pushed vs lane kept.before w reply kept.there kept.is kept.pushed in
@@ -166,14 +167,14 @@ pub told-other : (vs : List (Vec Reply Global)) (lane l : ℕ) (w : Vec Reply Gl
 told-other vs lane l w ne =
     ap (λ (rs : List (List Reply)). of_lane rs l) (map-set (λ (x : Vec Reply Global). x.items) vs lane w) ∙ get_or-set_other (lists_of vs) lane l w.items [] ne
 
-pub leaves-same : (lane : ℕ) (x y : Heap) (told : List (List Reply)) → y ≡ x → LeavesOthers lane (parts_of x) told (parts_of y) told
+pub leaves-same : (lane : ℕ) (x y : Heap) (told : List (List Reply)) → y ≡ x → LeavesOthers lane (heap_view x) told (heap_view y) told
 leaves-same lane x y told heap = record {
   chunk = λ l ne. ap (λ (z : Heap). chunk_of z.chunks.items l) heap;
   buffer = λ l ne. ap (λ (z : Heap). buffer_of z.buffers.items l) heap;
   replies = λ l ne. refl;
 }
 
-pub leaves-then : (lane : ℕ) (h k m : Parts) (told mid answers : List (List Reply)) → LeavesOthers lane h told k mid → LeavesOthers lane k mid m answers → LeavesOthers lane h told m answers
+pub leaves-then : (lane : ℕ) (h k m : HeapView) (told mid answers : List (List Reply)) → LeavesOthers lane h told k mid → LeavesOthers lane k mid m answers → LeavesOthers lane h told m answers
 leaves-then lane h k m told mid answers first second = record {
   chunk = λ l ne. second.chunk l ne ∙ first.chunk l ne;
   buffer = λ l ne. second.buffer l ne ∙ first.buffer l ne;
@@ -181,7 +182,7 @@ leaves-then lane h k m told mid answers first second = record {
 }
 
 -- a lane that is held up is so when another one has run
-still-held : (hs : List ℕ) (lane l : ℕ) (op : Op) (h k : Parts) (told answers : List (List Reply)) → LeavesOthers lane h told k answers → l ≢ lane → IsHeldUp hs l op h → IsHeldUp hs l op k
+still-held : (hs : List ℕ) (lane l : ℕ) (op : Op) (h k : HeapView) (told answers : List (List Reply)) → LeavesOthers lane h told k answers → l ≢ lane → IsHeldUp hs l op h → IsHeldUp hs l op k
 still-held hs lane l op h k told answers leaves ne (inl wants) =
     inl (subst (λ (c : Nursery). WantsMore hs l (left_of c) op) (sym (leaves.chunk l ne)) wants)
 still-held hs lane l op h k told answers leaves ne (inr full) =
@@ -191,13 +192,13 @@ weaker : (P Q : Op → Type 0) (ops : List Op) (rs : List Reply) → ((op : Op) 
 weaker P Q ops rs f (inl end) = inl end
 weaker P Q ops rs f (inr x) = inr (x.0, x.1, x.2, f x.0 x.3)
 
-still-stopped : (lanes : List (List Op)) (hs : List ℕ) (lane l : ℕ) (h k : Parts) (told answers : List (List Reply)) → LeavesOthers lane h told k answers → l ≢ lane → IsAtEndOr (of_lane lanes l) (of_lane told l) (λ op. IsHeldUp hs l op h) → IsAtEndOr (of_lane lanes l) (of_lane answers l) (λ op. IsHeldUp hs l op k)
+still-stopped : (lanes : List (List Op)) (hs : List ℕ) (lane l : ℕ) (h k : HeapView) (told answers : List (List Reply)) → LeavesOthers lane h told k answers → l ≢ lane → IsAtEndOr (of_lane lanes l) (of_lane told l) (λ op. IsHeldUp hs l op h) → IsAtEndOr (of_lane lanes l) (of_lane answers l) (λ op. IsHeldUp hs l op k)
 still-stopped lanes hs lane l h k told answers leaves ne stopped =
     subst (λ (rs : List Reply). IsAtEndOr (of_lane lanes l) rs (λ op. IsHeldUp hs l op k)) (sym (leaves.replies l ne))
     (weaker (λ op. IsHeldUp hs l op h) (λ op. IsHeldUp hs l op k) (of_lane lanes l) (of_lane told l) (λ op held. still-held hs lane l op h k told answers leaves ne held) stopped)
 
 -- the lanes that have run so far have stopped, and so has the next one
-pub stopped-more : (lanes : List (List Op)) (hs : List ℕ) (lane : ℕ) (h k : Parts) (told answers : List (List Reply)) → LeavesOthers lane h told k answers → ((j : ℕ) → j < lane → IsAtEndOr (of_lane lanes j) (of_lane told j) (λ op. IsHeldUp hs j op h)) → IsAtEndOr (of_lane lanes lane) (of_lane answers lane) (λ op. Stops hs lane op k) → (j : ℕ) → j < lane + 1 → IsAtEndOr (of_lane lanes j) (of_lane answers j) (λ op. IsHeldUp hs j op k)
+pub stopped-more : (lanes : List (List Op)) (hs : List ℕ) (lane : ℕ) (h k : HeapView) (told answers : List (List Reply)) → LeavesOthers lane h told k answers → ((j : ℕ) → j < lane → IsAtEndOr (of_lane lanes j) (of_lane told j) (λ op. IsHeldUp hs j op h)) → IsAtEndOr (of_lane lanes lane) (of_lane answers lane) (λ op. Stops hs lane op k) → (j : ℕ) → j < lane + 1 → IsAtEndOr (of_lane lanes j) (of_lane answers j) (λ op. IsHeldUp hs j op k)
 stopped-more lanes hs lane h k told answers leaves before here j lt = elim (cases_eq j lane) [
   | inl e ↦
       subst (λ (l : ℕ). IsAtEndOr (of_lane lanes l) (of_lane answers l) (λ op. IsHeldUp hs l op k)) (sym e)

@@ -3,9 +3,8 @@ use Rattle.std.proofs.Common.{◌≡◌, ◌≢◌, ℕ, Bool, true, false, ◌=
 use Rattle.std.proofs.lemmas.Bool.{cases_eq}
 use Rattle.std.specs.List.{find}
 use Rattle.std.specs.Option.{is_some}
-use Rattle.bc_cycle.specs.Emptying.{Parts}
 use Rattle.bc_whole_heap.specs.Closed.{chunk_of, buffer_of}
-use Rattle.bc_whole_heap.specs.Heaps.{object_in}
+use Rattle.bc_whole_heap.specs.Heaps.{object_in, HeapView}
 use Rattle.bc_whole_heap.proofs.ChunkLemmas.{object_in-none}
 use Rattle.bc_model.specs.Consistent.{sizes_of}
 use Rattle.bc_model.specs.State.{State}
@@ -29,18 +28,18 @@ unfolding made_up
 op-like s d w o domains slots h =
     subst (λ (n : ℕ). IsOp (made_up n w) o) (sym domains) (subst (λ (n : ℕ). IsOp (made_up s.domains n) o) (sym slots) h)
 
-pub op-of_heap : (setup : Setup) (h : Parts) (o : Op) → HasSetup h setup → IsOp setup o → IsOpOf h.roots o
+pub op-of_heap : (setup : Setup) (h : HeapView) (o : Op) → HasSetup h setup → IsOp setup o → IsOpOf h.roots o
 unfolding made_up
 op-of_heap setup h o fits op = op-like setup h.roots.domains h.roots.slots o fits.domains fits.slots op
 
-pub op-of_state : (h : Parts) (hs serials : List ℕ) (state : State) (o : Op) → Stands h hs serials state → IsOpOf h.roots o → IsOp (sizes_of state) o
+pub op-of_state : (h : HeapView) (hs serials : List ℕ) (state : State) (o : Op) → Stands h hs serials state → IsOpOf h.roots o → IsOp (sizes_of state) o
 unfolding made_up
 op-of_state h hs serials state o st op =
     let like = op-like (made_up h.roots.domains h.roots.slots) (length state.holders) state.width o (sym st.domains) (sym st.slots) op in
     like
 
 -- what an operation of a lane leaves
-pub record StaysBut (lane : ℕ) (h k : Parts) : Type 0 where
+pub record StaysBut (lane : ℕ) (h k : HeapView) : Type 0 where
   pub space : k.space ≡ record h.space { states = k.space.states; pages = k.space.pages }
   pub roots : k.roots ≡ record h.roots { words = k.roots.words }
   pub chunk : chunk_of k.chunks lane ≡ record (chunk_of h.chunks lane) { objects = (chunk_of k.chunks lane).objects }
@@ -48,7 +47,7 @@ pub record StaysBut (lane : ℕ) (h k : Parts) : Type 0 where
   pub long : length k.chunks ≡ length h.chunks
   pub capacity : (buffer_of k.buffers lane).capacity ≡ (buffer_of h.buffers lane).capacity
 
-pub fits-step : (setup : Setup) (lane : ℕ) (h k : Parts) → StaysBut lane h k → HasSetup h setup → HasSetup k setup
+pub fits-step : (setup : Setup) (lane : ℕ) (h k : HeapView) → StaysBut lane h k → HasSetup h setup → HasSetup k setup
 fits-step setup lane h k stays fits = record {
   supers = ap (λ (s : Layout). superpages s) stays.space ∙ fits.supers;
   domains = ap (λ (r : RootWords). r.domains) stays.roots ∙ fits.domains;
@@ -87,7 +86,7 @@ pub no-object : (cs : List Nursery) → ((l : ℕ) → (chunk_of cs l).objects �
 no-object cs none a = object_in-none cs a (λ k lt. none-in (chunk_of cs k) a (none k))
 
 -- a heap that is ready, through slices that the holders and serials were lent as
-pub ready-through : (setup : Setup) (hs ks ns ms ls js : List ℕ) (h k : Parts) → ks ≡ hs → ms ≡ ns → js ≡ ls → ((s : Setup) → CanRunLanes s ks ms h → CanRunLanes s ks ls k) → CanRunLanes setup hs ns h → CanRunLanes setup hs js k
+pub ready-through : (setup : Setup) (hs ks ns ms ls js : List ℕ) (h k : HeapView) → ks ≡ hs → ms ≡ ns → js ≡ ls → ((s : Setup) → CanRunLanes s ks ms h → CanRunLanes s ks ls k) → CanRunLanes setup hs ns h → CanRunLanes setup hs js k
 ready-through setup hs ks ns ms ls js h k holders before after keeps ready =
     subst (λ (xs : List ℕ). CanRunLanes setup hs xs k) (sym after)
     (subst (λ (xs : List ℕ). CanRunLanes setup xs ls k) holders

@@ -1,10 +1,9 @@
 -- An engine: a heap, and for each domain and lane who holds it and how many births it made.
 use Rattle.std.specs.Prelude.{◌≡◌, ◌≢◌, ℕ, ◌+◌, ◌*◌, ◌^◌, ◌<◌, ◌≤◌, false, List, [], length, Option, Some, None, slice_index}
 use Rattle.bc_bits.specs.Bits.{has}
-use Rattle.bc_cycle.specs.Emptying.{Parts, IsInOrder}
 use Rattle.bc_whole_heap.specs.Closed.{chunk_of, buffer_of}
-use Rattle.bc_whole_heap.specs.Heaps.{NoneRemembered}
-use Rattle.bc_whole_heap.specs.Running.{StandsAs}
+use Rattle.bc_whole_heap.specs.Heaps.{NoneRemembered, HeapView}
+use Rattle.bc_whole_heap.specs.Running.{StandsAs, IsRunning}
 use Rattle.bc_model.specs.State.{State}
 use Rattle.bc_model.specs.WellFormed.{IsSetup}
 use Rattle.bc_model.specs.declared.traces.Setup.{Setup}
@@ -15,7 +14,7 @@ use Rattle.bc_engine.specs.declared.engines.Ended.{Ended}
 use Rattle.bc_engine.specs.declared.engines.Ended.TheVariants.{NoMemory}
 
 pub record EngineView : Type 0 where
-  pub heap : Parts
+  pub heap : HeapView
   pub holders : List ℕ
   pub serials : List ℕ
   pub setup : Setup
@@ -33,7 +32,7 @@ pub record IsUnbookmarked (s : Layout) : Type 0 where
 
 -- the heap has the setup's superpages, root slots, chunks, buffers and frames: a frame for every page. Superpages are in use for the
 -- setup's domains. No page was ever evicted, so nothing is bookmarked
-pub record HasSetup (h : Parts) (setup : Setup) : Type 0 where
+pub record HasSetup (h : HeapView) (setup : Setup) : Type 0 where
   pub supers : superpages h.space ≡ setup.superpages
   pub domains : h.roots.domains ≡ setup.domains
   pub slots : h.roots.slots ≡ setup.slots
@@ -46,22 +45,22 @@ pub record HasSetup (h : Parts) (setup : Setup) : Type 0 where
   pub unbookmarked : IsUnbookmarked h.space
 
 -- all write buffers are empty, and no page is remembered
-pub record IsUnrecorded (h : Parts) : Type 0 where
+pub record IsUnrecorded (h : HeapView) : Type 0 where
   pub entries : (l : ℕ) → (buffer_of h.buffers l).entries ≡ []
   pub remembered : NoneRemembered h.space
 
 -- all chunks are empty
-abbrev pub HasEmptyChunks : Parts → Type 0
+abbrev pub HasEmptyChunks : HeapView → Type 0
 HasEmptyChunks h = (l : ℕ) → (chunk_of h.chunks l).objects ≡ []
 
 -- the heap stands for the state, with these holders and births
-abbrev pub Stands : Parts → List ℕ → List ℕ → State → Type 0
+abbrev pub Stands : HeapView → List ℕ → List ℕ → State → Type 0
 Stands h holders serials state = StandsAs h.space h.roots h.chunks holders serials state
 
 -- what is true of a heap that lanes can run on: it is in order, it has the setup's sizes, and there is a state that it stands for
-pub record CanRunLanes (setup : Setup) (holders serials : List ℕ) (h : Parts) : Type 0 where
+pub record CanRunLanes (setup : Setup) (holders serials : List ℕ) (h : HeapView) : Type 0 where
   pub range : IsSetup setup
-  pub order : IsInOrder h holders
+  pub order : IsRunning h holders
   pub fits : HasSetup h setup
   pub lanes : length serials ≡ setup.lanes
   pub meant : (state : State) × Stands h holders serials state

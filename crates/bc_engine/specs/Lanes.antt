@@ -2,8 +2,8 @@
 use Rattle.std.specs.Prelude.{◌≡◌, ◌≢◌, ℕ, ◌+◌, ◌-◌, ◌^◌, ◌<◌, ◌≤◌, ◌⊎◌, List, [], ◌∷◌, ◌++◌, length, take, Vec, vec_capacity, slice_index, slice_index_or}
 use Rattle.std.specs.List.{AllByRecursion}
 use Rattle.std.specs.declared.alloc.Global.{Global}
-use Rattle.bc_cycle.specs.Emptying.{Parts}
 use Rattle.bc_whole_heap.specs.Closed.{chunk_of, buffer_of}
+use Rattle.bc_whole_heap.specs.Heaps.{HeapView}
 use Rattle.bc_model.specs.Interleaving.{LaneOp, after_steps, replies_by, ops_by}
 use Rattle.bc_model.specs.Lists.{lists_of}
 use Rattle.bc_model.specs.State.{State}
@@ -22,7 +22,7 @@ of_lane lists lane = slice_index_or lists lane []
 
 -- an operation of a lane was done: it is the step of every state that the heap stands for. The lane makes at most one object,
 -- and no other lane makes any
-pub record Does (holders : List ℕ) (lane : ℕ) (op : Op) (h : Parts) (serials : List ℕ) (reply : Reply) (k : Parts) (next : List ℕ) : Type 0 where
+pub record Does (holders : List ℕ) (lane : ℕ) (op : Op) (h : HeapView) (serials : List ℕ) (reply : Reply) (k : HeapView) (next : List ℕ) : Type 0 where
   pub means : (state : State) → Stands h holders serials state
       → ((step state lane op).1 ≡ reply) × Stands k holders next (step state lane op).0
   pub own : slice_index next lane ≤ slice_index serials lane + 1
@@ -30,7 +30,7 @@ pub record Does (holders : List ℕ) (lane : ℕ) (op : Op) (h : Parts) (serials
 
 -- the lanes went on with their operations, in whatever order, and so did their replies: `told` are those before, `answers` those
 -- after. What a lane has done is as many of its first operations as it has replies
-pub record LanesWentOn (lanes : List (List Op)) (holders : List ℕ) (h : Parts) (serials : List ℕ) (told : List (List Reply)) (k : Parts) (next : List ℕ) (answers : List (List Reply)) : Type 0 where
+pub record LanesWentOn (lanes : List (List Op)) (holders : List ℕ) (h : HeapView) (serials : List ℕ) (told : List (List Reply)) (k : HeapView) (next : List ℕ) (answers : List (List Reply)) : Type 0 where
   pub steps : List LaneOp
   pub below : AllByRecursion (λ x. x.lane < length lanes) steps
   pub ops : (j : ℕ) → take (length (of_lane answers j)) (of_lane lanes j) ≡ take (length (of_lane told j)) (of_lane lanes j) ++ ops_by j steps
@@ -54,7 +54,7 @@ abbrev pub HasRoomForOps : EngineView → List (List Op) → ℕ → Type 0
 HasRoomForOps e lanes n = (j : ℕ) → slice_index e.serials j + length (of_lane lanes j) + n < 2 ^ 32
 
 -- what a phase under way rests on: the lanes can run, their operations fit the setup, and there is room for each reply to come
-pub record IsUnderway (setup : Setup) (lanes : List (List Op)) (holders : List ℕ) (h : Parts) (serials : List ℕ) (replies : List (Vec Reply Global)) : Type 0 where
+pub record IsUnderway (setup : Setup) (lanes : List (List Op)) (holders : List ℕ) (h : HeapView) (serials : List ℕ) (replies : List (Vec Reply Global)) : Type 0 where
   pub ready : CanRunLanes setup holders serials h
   pub each : length lanes ≡ setup.lanes
   pub ops : AllByRecursion (AllByRecursion (IsOp setup)) lanes
@@ -63,7 +63,7 @@ pub record IsUnderway (setup : Setup) (lanes : List (List Op)) (holders : List �
   pub births : HasSerialsLeft lanes serials (lists_of replies)
 
 -- what each stretch of a phase does: the lanes go on, and a phase that was under way still is
-pub record LanesRan (lanes : List (List Op)) (holders : List ℕ) (h : Parts) (serials : List ℕ) (told : List (Vec Reply Global)) (k : Parts) (next : List ℕ) (answers : List (Vec Reply Global)) : Type 0 where
+pub record LanesRan (lanes : List (List Op)) (holders : List ℕ) (h : HeapView) (serials : List ℕ) (told : List (Vec Reply Global)) (k : HeapView) (next : List ℕ) (answers : List (Vec Reply Global)) : Type 0 where
   pub goes : LanesWentOn lanes holders h serials (lists_of told) k next (lists_of answers)
   pub underway : (setup : Setup) → IsUnderway setup lanes holders h serials told → IsUnderway setup lanes holders k next answers
   pub births : BirthsWithin lanes serials (lists_of told) next (lists_of answers)
@@ -74,14 +74,14 @@ IsOneMore ops told answers = (length told < length ops) × (length answers ≡ l
 
 -- an operation of a lane can't be done yet: the object takes more words than are left of the chunk, or an entry is needed and
 -- the write buffer is at capacity
-abbrev pub Stops : List ℕ → ℕ → Op → Parts → Type 0
+abbrev pub Stops : List ℕ → ℕ → Op → HeapView → Type 0
 Stops holders lane op h =
     WantsMore holders lane (left_of (chunk_of h.chunks lane)) op
     ⊎ NeedsEntry holders lane h.space h.roots (chunk_of h.chunks lane) (buffer_of h.buffers lane) op
 
 -- the object takes more words than are left of the lane's chunk, or its write buffer is at capacity: what of that no other lane
 -- changes
-abbrev pub IsHeldUp : List ℕ → ℕ → Op → Parts → Type 0
+abbrev pub IsHeldUp : List ℕ → ℕ → Op → HeapView → Type 0
 IsHeldUp holders lane op h =
     WantsMore holders lane (left_of (chunk_of h.chunks lane)) op
     ⊎ (length (buffer_of h.buffers lane).entries ≡ (buffer_of h.buffers lane).capacity)
@@ -93,7 +93,7 @@ IsAtEndOr ops replies P =
     ⊎ ((op : Op) × (length replies < length ops) × (op ≡ slice_index_or ops (length replies) op) × P op)
 
 -- what isn't the lane's stays: the chunks, write buffers and replies of others
-pub record LeavesOthers (lane : ℕ) (h : Parts) (told : List (List Reply)) (k : Parts) (answers : List (List Reply)) : Type 0 where
+pub record LeavesOthers (lane : ℕ) (h : HeapView) (told : List (List Reply)) (k : HeapView) (answers : List (List Reply)) : Type 0 where
   pub chunk : (l : ℕ) → l ≢ lane → chunk_of k.chunks l ≡ chunk_of h.chunks l
   pub buffer : (l : ℕ) → l ≢ lane → buffer_of k.buffers l ≡ buffer_of h.buffers l
   pub replies : (l : ℕ) → l ≢ lane → of_lane answers l ≡ of_lane told l

@@ -1,6 +1,6 @@
 ghost use Rattle.std.specs.Prelude.{◌≡◌, ◌≢◌, ℕ, ◌+◌, ◌^◌, ◌<◌, ◌≤◌, [], length, slice_index, true, false, IfOk, OnErr};
 ghost use Rattle.bc_engine.specs.Engines.{HasEmptyChunks, CanRunLanes, IsUnrecorded};
-ghost use Rattle.bc_cycle.specs.Emptying.{parts_of};
+ghost use Rattle.bc_cycle.specs.Emptying.{heap_view};
 ghost use Rattle.bc_engine.specs.Lanes.{of_lane, AreDone, Does, EachFurther, HasMore, IsAtEndOr, IsHeldUp, IsOneMore, IsUnderway, LeavesOthers, LanesRan, Stops};
 ghost use Rattle.bc_whole_heap.specs.Closed.{chunk_of, buffer_of};
 ghost use Rattle.bc_model.specs.Lists.{lists_of};
@@ -19,16 +19,16 @@ pub(crate) fn attempt(
     lane: u32,
     op: &Op,
 ) -> Result<Reply, Stop>
-    requires ready { (setup : Setup) × CanRunLanes setup holders.now serials.old (parts_of heap.old) }
+    requires ready { (setup : Setup) × CanRunLanes setup holders.now serials.old (heap_view heap.old) }
     requires lane { lane < length heap.old.chunks.items }
     requires op { IsOpOf heap.old.roots op.now }
     requires serial { slice_index serials.old lane + 1 < 2 ^ 32 }
-    ensures done { IfOk result (λ reply. Does holders.now lane op.now (parts_of heap.old) serials.old reply (parts_of heap.new) serials.new) }
+    ensures done { IfOk result (λ reply. Does holders.now lane op.now (heap_view heap.old) serials.old reply (heap_view heap.new) serials.new) }
     ensures same { OnErr result ((heap.new ≡ heap.old) × (serials.new ≡ serials.old)) }
-    ensures stops { OnErr result (Stops holders.now lane op.now (parts_of heap.old)) }
-    ensures ready { (setup : Setup) → CanRunLanes setup holders.now serials.old (parts_of heap.old) → CanRunLanes setup holders.now serials.new (parts_of heap.new) }
+    ensures stops { OnErr result (Stops holders.now lane op.now (heap_view heap.old)) }
+    ensures ready { (setup : Setup) → CanRunLanes setup holders.now serials.old (heap_view heap.old) → CanRunLanes setup holders.now serials.new (heap_view heap.new) }
     ensures alone { (chunk_of heap.old.chunks.items lane).objects ≡ [] → OnErr result ⊥ }
-    ensures unrecorded { (chunk_of heap.old.chunks.items lane).objects ≡ [] → IsUnrecorded (parts_of heap.old) → IsUnrecorded (parts_of heap.new) }
+    ensures unrecorded { (chunk_of heap.old.chunks.items lane).objects ≡ [] → IsUnrecorded (heap_view heap.old) → IsUnrecorded (heap_view heap.new) }
     ensures others { (l : ℕ) → l ≢ lane → chunk_of heap.new.chunks.items l ≡ chunk_of heap.old.chunks.items l }
     ensures buffers { (l : ℕ) → l ≢ lane → buffer_of heap.new.buffers.items l ≡ buffer_of heap.old.buffers.items l }
 {
@@ -46,14 +46,14 @@ fn advance(
     lane: u32,
 ) -> bool
     requires lane { lane < length lanes.now }
-    requires underway { (setup : Setup) × IsUnderway setup (lists_of lanes.now) holders.now (parts_of heap.old) serials.old replies.old }
-    ensures runs { LanesRan (lists_of lanes.now) holders.now (parts_of heap.old) serials.old replies.old (parts_of heap.new) serials.new replies.new }
+    requires underway { (setup : Setup) × IsUnderway setup (lists_of lanes.now) holders.now (heap_view heap.old) serials.old replies.old }
+    ensures runs { LanesRan (lists_of lanes.now) holders.now (heap_view heap.old) serials.old replies.old (heap_view heap.new) serials.new replies.new }
     ensures further { result ≡ true → IsOneMore (of_lane (lists_of lanes.now) lane) (of_lane (lists_of replies.old) lane) (of_lane (lists_of replies.new) lane) }
-    ensures stopped { result ≡ false → IsAtEndOr (of_lane (lists_of lanes.now) lane) (of_lane (lists_of replies.new) lane) (λ op. Stops holders.now lane op (parts_of heap.new)) }
+    ensures stopped { result ≡ false → IsAtEndOr (of_lane (lists_of lanes.now) lane) (of_lane (lists_of replies.new) lane) (λ op. Stops holders.now lane op (heap_view heap.new)) }
     ensures alone { (chunk_of heap.old.chunks.items lane).objects ≡ [] → result ≡ false
         → length (of_lane (lists_of lanes.now) lane) ≤ length (of_lane (lists_of replies.new) lane) }
-    ensures unrecorded { (chunk_of heap.old.chunks.items lane).objects ≡ [] → IsUnrecorded (parts_of heap.old) → IsUnrecorded (parts_of heap.new) }
-    ensures others { LeavesOthers lane (parts_of heap.old) (lists_of replies.old) (parts_of heap.new) (lists_of replies.new) }
+    ensures unrecorded { (chunk_of heap.old.chunks.items lane).objects ≡ [] → IsUnrecorded (heap_view heap.old) → IsUnrecorded (heap_view heap.new) }
+    ensures others { LeavesOthers lane (heap_view heap.old) (lists_of replies.old) (heap_view heap.new) (lists_of replies.new) }
 {
     let index = lane as usize;
     let done = replies[index].len();
@@ -79,10 +79,10 @@ fn run_lane(
     lane: u32,
 )
     requires lane { lane < length lanes.now }
-    requires underway { (setup : Setup) × IsUnderway setup (lists_of lanes.now) holders.now (parts_of heap.old) serials.old replies.old }
-    ensures runs { LanesRan (lists_of lanes.now) holders.now (parts_of heap.old) serials.old replies.old (parts_of heap.new) serials.new replies.new }
-    ensures stopped { IsAtEndOr (of_lane (lists_of lanes.now) lane) (of_lane (lists_of replies.new) lane) (λ op. Stops holders.now lane op (parts_of heap.new)) }
-    ensures others { LeavesOthers lane (parts_of heap.old) (lists_of replies.old) (parts_of heap.new) (lists_of replies.new) }
+    requires underway { (setup : Setup) × IsUnderway setup (lists_of lanes.now) holders.now (heap_view heap.old) serials.old replies.old }
+    ensures runs { LanesRan (lists_of lanes.now) holders.now (heap_view heap.old) serials.old replies.old (heap_view heap.new) serials.new replies.new }
+    ensures stopped { IsAtEndOr (of_lane (lists_of lanes.now) lane) (of_lane (lists_of replies.new) lane) (λ op. Stops holders.now lane op (heap_view heap.new)) }
+    ensures others { LeavesOthers lane (heap_view heap.old) (lists_of replies.old) (heap_view heap.new) (lists_of replies.new) }
 {
     'operations: while advance(heap, holders, serials, lanes, replies, lane) {}
 }
@@ -95,10 +95,10 @@ pub(crate) fn run_lanes(
     lanes: &[Vec<Op>],
     replies: &mut [Vec<Reply>],
 )
-    requires { (setup : Setup) × IsUnderway setup (lists_of lanes.now) holders.now (parts_of heap.old) serials.old replies.old }
-    ensures runs { LanesRan (lists_of lanes.now) holders.now (parts_of heap.old) serials.old replies.old (parts_of heap.new) serials.new replies.new }
+    requires { (setup : Setup) × IsUnderway setup (lists_of lanes.now) holders.now (heap_view heap.old) serials.old replies.old }
+    ensures runs { LanesRan (lists_of lanes.now) holders.now (heap_view heap.old) serials.old replies.old (heap_view heap.new) serials.new replies.new }
     ensures stopped { (j : ℕ) → j < length lanes.now
-        → IsAtEndOr (of_lane (lists_of lanes.now) j) (of_lane (lists_of replies.new) j) (λ op. IsHeldUp holders.now j op (parts_of heap.new)) }
+        → IsAtEndOr (of_lane (lists_of lanes.now) j) (of_lane (lists_of replies.new) j) (λ op. IsHeldUp holders.now j op (heap_view heap.new)) }
 {
     for lane in 0..lanes.len() as u32 {
         run_lane(heap, holders, serials, lanes, replies, lane);
@@ -114,11 +114,11 @@ pub(crate) fn step_lanes(
     lanes: &[Vec<Op>],
     replies: &mut [Vec<Reply>],
 )
-    requires underway { (setup : Setup) × IsUnderway setup (lists_of lanes.now) holders.now (parts_of heap.old) serials.old replies.old }
-    requires empty { HasEmptyChunks (parts_of heap.old) }
-    requires unrecorded { IsUnrecorded (parts_of heap.old) }
-    ensures runs { LanesRan (lists_of lanes.now) holders.now (parts_of heap.old) serials.old replies.old (parts_of heap.new) serials.new replies.new }
-    ensures unrecorded { IsUnrecorded (parts_of heap.new) }
+    requires underway { (setup : Setup) × IsUnderway setup (lists_of lanes.now) holders.now (heap_view heap.old) serials.old replies.old }
+    requires empty { HasEmptyChunks (heap_view heap.old) }
+    requires unrecorded { IsUnrecorded (heap_view heap.old) }
+    ensures runs { LanesRan (lists_of lanes.now) holders.now (heap_view heap.old) serials.old replies.old (heap_view heap.new) serials.new replies.new }
+    ensures unrecorded { IsUnrecorded (heap_view heap.new) }
     ensures each { EachFurther (length lanes.now) (lists_of lanes.now) (lists_of replies.old) (lists_of replies.new) }
 {
     for lane in 0..lanes.len() as u32 {

@@ -1,11 +1,10 @@
 -- A workshop's heap is running when it opens.
 use Rattle.std.proofs.Common.{◌≡◌, ℕ, ◌+◌, ◌*◌, List, refl, sym, subst, ◌∙◌, arith}
 use Rattle.std.proofs.lemmas.List.{length-replicate}
-use Rattle.bc_cycle.specs.Emptying.{Parts}
 use Rattle.bc_cycle.specs.Openings.{new_heap}
 use Rattle.bc_cycle.proofs.OpeningLemmas.{chunks-long, supers-long, no_object, opening-running}
 use Rattle.bc_failsafe.proofs.OpeningLemmas.{nothing}
-use Rattle.bc_whole_heap.specs.Heaps.{heap_memory}
+use Rattle.bc_whole_heap.specs.Heaps.{heap_memory, HeapView}
 use Rattle.bc_standing.proofs.Homes.{births-cell}
 use Rattle.heap_workshop.specs.Workshops.{Bench, IsSound, AreSizes, new_workshop, setup_of}
 use Rattle.heap_workshop.specs.declared.workshops.Sizes.{Sizes}
@@ -29,12 +28,12 @@ pub record IsOpened (z : Sizes) (w : Bench) : Type 0 where
   pub sound : IsSound w
   pub is : w ≡ new_workshop z
 
-abbrev bench_of : Parts → List ℕ → List ℕ → Bench
+abbrev bench_of : HeapView → List ℕ → List ℕ → Bench
 bench_of h hs ns = record { space = h.space; roots = h.roots; chunks = h.chunks; buffers = h.buffers; holders = hs; serials = ns }
 
-pub opened : (z : Sizes) (h : Parts) (hs ns : List ℕ) → AreSizes z → h ≡ new_heap (setup_of z) → hs ≡ (new_workshop z).holders → ns ≡ (new_workshop z).serials → IsOpened z (bench_of h hs ns)
+pub opened : (z : Sizes) (h : HeapView) (hs ns : List ℕ) → AreSizes z → h ≡ new_heap (setup_of z) → hs ≡ (new_workshop z).holders → ns ≡ (new_workshop z).serials → IsOpened z (bench_of h hs ns)
 opened z h hs ns range is_h is_hs is_ns =
-    subst (λ (x : Parts). IsOpened z (bench_of x hs ns)) (sym is_h)
+    subst (λ (x : HeapView). IsOpened z (bench_of x hs ns)) (sym is_h)
     (subst (λ (x : List ℕ). IsOpened z (bench_of (new_heap (setup_of z)) x ns)) (sym is_hs)
     (subst (λ (x : List ℕ). IsOpened z (bench_of (new_heap (setup_of z)) (new_workshop z).holders x)) (sym is_ns)
     (record { sound = opening-sound z range; is = refl })))

@@ -3,10 +3,10 @@ use Rattle.std.proofs.Common.{◌≡◌, ◌≢◌, ℕ, ◌<◌, List, length, 
 use Rattle.std.proofs.lemmas.Bool.{cases_eq}
 use Rattle.std.proofs.lemmas.List.{get_or-set_same, get_or-set_other, length-set, length-map}
 use Rattle.bc_cycle.specs.Causes.{IfOutOfHeap}
-use Rattle.bc_cycle.specs.Emptying.{Parts, IsInOrder, IsEmptied, IsAsBefore}
+use Rattle.bc_cycle.specs.Emptying.{IsEmptied, IsAsBefore}
 use Rattle.bc_cycle.specs.declared.emptying.CycleNo.{CycleNo}
 use Rattle.bc_cycle.specs.declared.emptying.CycleNo.TheVariants.{OutOfHeap}
-use Rattle.bc_whole_heap.specs.Heaps.{HasFrames}
+use Rattle.bc_whole_heap.specs.Heaps.{HasFrames, HeapView, view_of}
 use Rattle.bc_whole_heap.specs.Running.{IsRunning}
 use Rattle.bc_memory.specs.Memory.{Memory}
 use Rattle.bc_mutator.specs.Operations.{NoneLater}
@@ -24,7 +24,7 @@ with_heap w t q ds es ns = record { space = t; roots = q; chunks = ds; buffers =
 -- the holders were lent as a slice
 pub sound-collected : (w : Bench) (t : Layout) (q : RootWords) (ds : List Nursery) (es : List Entries) (hs : List ℕ) → hs ≡ w.holders → IsSound w → Collects w.space w.roots w.chunks t q ds es hs → IsSound (with_heap w t q ds es w.serials)
 sound-collected w t q ds es hs lent h c = record {
-  running = subst (λ (xs : List ℕ). IsRunning t q ds es xs) lent c.running;
+  running = subst (λ (xs : List ℕ). IsRunning (view_of t q ds es) xs) lent c.running;
   later = λ l lt a b there lane. let from = c.born a b there in h.later l lt from.0 b from.1 lane;
   frames = c.frames h.frames;
   lanes = c.lanes ∙ h.lanes;
@@ -33,7 +33,7 @@ sound-collected w t q ds es hs lent h c = record {
 
 -- what an operation leaves
 pub record Operates (w : Bench) (lane : ℕ) (t : Layout) (q : RootWords) (ds : List Nursery) (es : List Entries) (hs : List ℕ) (n : ℕ) : Type 0 where
-  pub running : NoneLater w.space w.chunks lane (get_or w.serials lane 0) → IsRunning t q ds es hs
+  pub running : NoneLater w.space w.chunks lane (get_or w.serials lane 0) → IsRunning (view_of t q ds es) hs
   pub later : NoneLater w.space w.chunks lane (get_or w.serials lane 0) → NoneLater t ds lane n
   pub others : (l m : ℕ) → l ≢ lane → NoneLater w.space w.chunks l m → NoneLater t ds l m
   pub space : t ≡ record w.space { states = t.states; pages = t.pages }
@@ -42,7 +42,7 @@ pub record Operates (w : Bench) (lane : ℕ) (t : Layout) (q : RootWords) (ds : 
 pub sound-operated : (w : Bench) (lane : ℕ) (t : Layout) (q : RootWords) (ds : List Nursery) (es : List Entries) (hs : List ℕ) (n : ℕ) → hs ≡ w.holders → lane < length w.serials → IsSound w
     → Operates w lane t q ds es hs n → IsSound (with_heap w t q ds es (set w.serials lane n))
 sound-operated w lane t q ds es hs n lent within h o = record {
-  running = subst (λ (xs : List ℕ). IsRunning t q ds es xs) lent (o.running (h.later lane within));
+  running = subst (λ (xs : List ℕ). IsRunning (view_of t q ds es) xs) lent (o.running (h.later lane within));
   later = later;
   frames = subst HasFrames (sym o.space) h.frames;
   lanes = o.long ∙ h.lanes ∙ sym (length-set w.serials lane n);
@@ -60,7 +60,7 @@ sound-operated w lane t q ds es hs n lent within h o = record {
     ]
 
 -- an emptying leaves what a collection does, and so does one that was refused
-pub emptied-collects : (h k : Parts) (hs : List ℕ) → IsInOrder h hs → IsEmptied h k → Collects h.space h.roots h.chunks k.space k.roots k.chunks k.buffers hs
+pub emptied-collects : (h k : HeapView) (hs : List ℕ) → IsRunning h hs → IsEmptied h k → Collects h.space h.roots h.chunks k.space k.roots k.chunks k.buffers hs
 emptied-collects h k hs order is = record {
   running = is.order hs order;
   born = is.born;
@@ -68,7 +68,7 @@ emptied-collects h k hs order is = record {
   lanes = ap length is.cleared ∙ length-map h.chunks emptied;
 }
 
-before-collects : (h k : Parts) (hs : List ℕ) → IsInOrder h hs → IsAsBefore h k → Collects h.space h.roots h.chunks k.space k.roots k.chunks k.buffers hs
+before-collects : (h k : HeapView) (hs : List ℕ) → IsRunning h hs → IsAsBefore h k → Collects h.space h.roots h.chunks k.space k.roots k.chunks k.buffers hs
 before-collects h k hs order is = record {
   running = is.order hs order;
   born = λ x b e. (x, ap (λ (m : Memory). births m x) (sym is.memory) ∙ e);
@@ -76,6 +76,6 @@ before-collects h k hs order is = record {
   lanes = sym (is.order hs order).closed.lanes ∙ ap length is.entries ∙ order.closed.lanes;
 }
 
-pub refused-collects : (h k : Parts) (hs : List ℕ) (cause : CycleNo) (need : ℕ) → cause ≡ OutOfHeap need → IsInOrder h hs → IfOutOfHeap {T = Unit {0}} (Err cause) (λ n. IsAsBefore h k)
+pub refused-collects : (h k : HeapView) (hs : List ℕ) (cause : CycleNo) (need : ℕ) → cause ≡ OutOfHeap need → IsRunning h hs → IfOutOfHeap {T = Unit {0}} (Err cause) (λ n. IsAsBefore h k)
     → Collects h.space h.roots h.chunks k.space k.roots k.chunks k.buffers hs
 refused-collects h k hs cause need is order before = before-collects h k hs order (subst (λ (x : CycleNo). IfOutOfHeap {T = Unit {0}} (Err x) (λ n. IsAsBefore h k)) is before)

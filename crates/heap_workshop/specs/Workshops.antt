@@ -3,10 +3,9 @@ use Rattle.std.specs.Prelude.{◌≡◌, ℕ, ◌+◌, ◌*◌, ◌%◌, ◌<◌
 use Rattle.std.specs.List.{sum_by}
 use Rattle.bc_bits.specs.Bits.{has}
 use Rattle.bc_bits.specs.Counting.{count_below}
-use Rattle.bc_cycle.specs.Emptying.{Parts}
 use Rattle.bc_cycle.specs.Openings.{new_heap}
 use Rattle.bc_cycle.specs.declared.heaps.Heap.{Heap}
-use Rattle.bc_whole_heap.specs.Heaps.{HasFrames, heap_memory}
+use Rattle.bc_whole_heap.specs.Heaps.{HasFrames, heap_memory, HeapView, view_of}
 use Rattle.bc_whole_heap.specs.Running.{IsRunning, StandsAs}
 use Rattle.bc_model.specs.State.{State, numbers_below}
 use Rattle.bc_model.specs.declared.operations.Op.{Op}
@@ -33,8 +32,8 @@ pub record Bench : Type 0 where
 abbrev pub bench_of : Heap → List ℕ → List ℕ → Bench
 bench_of h holders serials = record { space = h.space; roots = h.roots; chunks = h.chunks.items; buffers = h.buffers.items; holders = holders; serials = serials }
 
-abbrev pub parts_of : Bench → Parts
-parts_of w = record { space = w.space; roots = w.roots; chunks = w.chunks; buffers = w.buffers }
+abbrev pub parts_of : Bench → HeapView
+parts_of w = view_of w.space w.roots w.chunks w.buffers
 
 abbrev pub Stands : Bench → State → Type 0
 Stands w state = StandsAs w.space w.roots w.chunks w.holders w.serials state
@@ -42,7 +41,7 @@ Stands w state = StandsAs w.space w.roots w.chunks w.holders w.serials state
 -- what is true between operations and collections: the heap is running, no object of it has a later birth of a lane than the
 -- lane's last one, and there is a frame for every page
 pub record IsSound (w : Bench) : Type 0 where
-  pub running : IsRunning w.space w.roots w.chunks w.buffers w.holders
+  pub running : IsRunning (view_of w.space w.roots w.chunks w.buffers) w.holders
   pub later : (l : ℕ) → l < length w.serials → NoneLater w.space w.chunks l (slice_index w.serials l)
   pub frames : HasFrames w.space
   pub lanes : length w.chunks ≡ length w.serials
@@ -89,7 +88,7 @@ new_workshop z =
 
 -- what a collection leaves: a heap that is running, in which no birth comes from nowhere, and as many frames and lanes
 pub record Collects (s : Layout) (r : RootWords) (cs : List Nursery) (t : Layout) (q : RootWords) (ds : List Nursery) (es : List Entries) (hs : List ℕ) : Type 0 where
-  pub running : IsRunning t q ds es hs
+  pub running : IsRunning (view_of t q ds es) hs
   pub born : (x : ℕ) → (b : Birth) → births (heap_memory t ds) x ≡ Some b → (a : ℕ) × (births (heap_memory s cs) a ≡ Some b)
   pub frames : HasFrames s → HasFrames t
   pub lanes : length ds ≡ length cs

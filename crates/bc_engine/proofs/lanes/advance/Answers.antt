@@ -4,7 +4,7 @@ use Rattle.bc_cycle.specs.declared.heaps.Heap.{Heap}
 use Rattle.bc_model.specs.Lists.{lists_of}
 use Rattle.bc_model.specs.declared.operations.Op.{Op}
 use Rattle.bc_model.specs.declared.operations.Reply.{Reply}
-use Rattle.bc_cycle.specs.Emptying.{parts_of}
+use Rattle.bc_cycle.specs.Emptying.{heap_view}
 use Rattle.bc_engine.specs.Lanes.{of_lane, Stops}
 use Rattle.bc_engine.proofs.RunLemmas.{IsKept, of_lane-long, of_lane-at, op-fits, runs-step, runs-same, one-more, told-other, leaves-same}
 use Rattle.bc_engine.proofs.Sizes.{op-of_heap}
@@ -46,7 +46,7 @@ attempt-requires-clause-op c =
     let lanes = lists_of c.args.lanes.now in
     let within : c.args.lane < length lanes = (let lt = c.requires.lane in omega (arith, length-map c.args.lanes.now (λ (v : Vec Op Global). v.items))) in
     let op = next_op c in
-    op-of_heap setup (parts_of c.args.heap.now) c.index.result.now u.ready.fits (op-fits setup lanes c.args.lane c.len-done.result c.index.result.now u.ops within op.0 op.1)
+    op-of_heap setup (heap_view c.args.heap.now) c.index.result.now u.ready.fits (op-fits setup lanes c.args.lane c.len-done.result c.index.result.now u.ops within op.0 op.1)
 
 -- and its reply is kept
 kept : (c : goal.After-push_reserved) → IsKept (lists_of c.args.lanes.now) c.args.lane c.index.result.now c.in-Ok.reply c.args.replies.now c.push_reserved.new.self
@@ -77,7 +77,7 @@ kept c =
 
 pub returns-in-Ok-clause-runs : goal.returns-in-Ok-clause-runs
 returns-in-Ok-clause-runs c =
-    runs-step (lists_of c.args.lanes.now) c.args.holders.now (parts_of c.args.heap.now) (parts_of c.attempt.new.heap) c.args.serials.now c.attempt.new.serials c.args.replies.now c.args.lane c.index.result.now c.in-Ok.reply c.push_reserved.new.self (kept c) c.in-Ok.ensures.done c.attempt.ensures.ready
+    runs-step (lists_of c.args.lanes.now) c.args.holders.now (heap_view c.args.heap.now) (heap_view c.attempt.new.heap) c.args.serials.now c.attempt.new.serials c.args.replies.now c.args.lane c.index.result.now c.in-Ok.reply c.push_reserved.new.self (kept c) c.in-Ok.ensures.done c.attempt.ensures.ready
 
 pub returns-in-Ok-clause-further : goal.returns-in-Ok-clause-further
 returns-in-Ok-clause-further c = λ e. one-more (lists_of c.args.lanes.now) c.args.replies.now c.args.lane c.index.result.now c.in-Ok.reply c.push_reserved.new.self (kept c)
@@ -112,5 +112,5 @@ returns-in-Err-clause-stopped c = λ e.
       op,
       omega arith,
       of_lane-at lanes lane c.len-done.result c.index-lanes-index-2.result op lt c.index-lanes-index-2.is c.index.ensures ∙ ap (λ n. get_or (of_lane (lists_of lanes) lane) n op) (sym done),
-      subst (λ (x : Heap). Stops c.args.holders.now lane op (parts_of x)) (sym c.in-Err.ensures.same.0) c.in-Err.ensures.stops,
+      subst (λ (x : Heap). Stops c.args.holders.now lane op (heap_view x)) (sym c.in-Err.ensures.same.0) c.in-Err.ensures.stops,
     )

@@ -1,5 +1,5 @@
 use Rattle.std.proofs.Common.{arith}
-use Rattle.bc_cycle.specs.Emptying.{parts_of}
+use Rattle.bc_cycle.specs.Emptying.{heap_view}
 use Rattle.bc_engine.proofs.Attempts.{does-step, ready-step, never-stops, why-stopped}
 use Rattle.std.proofs.lemmas.Result.{IfOk-weaker}
 use Rattle.bc_engine.proofs.lanes.attempt.Goals as goal
@@ -9,8 +9,8 @@ operate-requires-clause-few c = omega (arith, c.requires.lane, c.requires.ready.
 
 pub returns-clause-done : goal.returns-clause-done
 returns-clause-done c =
-    let h = parts_of c.args.heap.now in
-    let k = parts_of c.operate.new.heap in
+    let h = heap_view c.args.heap.now in
+    let k = heap_view c.operate.new.heap in
     IfOk-weaker c.operate.result _ _
     (λ reply is. does-step c.requires.ready.0 c.args.holders.now c.args.serials.now c.args.lane c.operate.new.serial c.args.op.now h k reply c.requires.ready.1 c.requires.lane c.requires.op is)
     c.operate.ensures.step
@@ -24,7 +24,7 @@ returns-clause-ready c = λ setup ready.
 
 pub returns-clause-alone : goal.returns-clause-alone
 returns-clause-alone c = λ none.
-    never-stops c.requires.ready.0 c.args.holders.now c.args.serials.now c.args.lane c.args.op.now (parts_of c.args.heap.now) c.operate.result c.requires.ready.1 c.requires.lane none
+    never-stops c.requires.ready.0 c.args.holders.now c.args.serials.now c.args.lane c.args.op.now (heap_view c.args.heap.now) c.operate.result c.requires.ready.1 c.requires.lane none
     c.operate.ensures.nursery.0 c.operate.ensures.buffer
 
 pub returns-clause-stops : goal.returns-clause-stops

@@ -1,13 +1,13 @@
 use Rattle.std.proofs.Common.{◌-◌, length}
 use Rattle.bc_model.specs.Lists.{lists_of}
-use Rattle.bc_cycle.specs.Emptying.{parts_of}
+use Rattle.bc_cycle.specs.Emptying.{heap_view}
 use Rattle.bc_engine.specs.Lanes.{of_lane, LeavesOthers, LanesRan}
 use Rattle.bc_engine.proofs.lanes.run_lane.Given as goal
 
 abbrev pub invariant-operations : goal.invariant-operations
 invariant-operations l = record {
-  runs : LanesRan (lists_of l.lanes) l.holders (parts_of l.initial.heap) l.initial.serials l.initial.replies (parts_of l.heap) l.serials l.replies;
-  others : LeavesOthers l.lane (parts_of l.initial.heap) (lists_of l.initial.replies) (parts_of l.heap) (lists_of l.replies);
+  runs : LanesRan (lists_of l.lanes) l.holders (heap_view l.initial.heap) l.initial.serials l.initial.replies (heap_view l.heap) l.serials l.replies;
+  others : LeavesOthers l.lane (heap_view l.initial.heap) (lists_of l.initial.replies) (heap_view l.heap) (lists_of l.replies);
 }
 
 abbrev pub decreases-operations : goal.decreases-operations

@@ -1,6 +1,6 @@
 use Rattle.std.proofs.Common.{refl, arith}
 use Rattle.bc_model.specs.Lists.{lists_of}
-use Rattle.bc_cycle.specs.Emptying.{parts_of}
+use Rattle.bc_cycle.specs.Emptying.{heap_view}
 use Rattle.bc_engine.proofs.RunLemmas.{runs-same, runs-then, stopped-more}
 use Rattle.bc_engine.proofs.lanes.run_lanes.Goals as goal
 
@@ -12,8 +12,8 @@ loop-lane-init c = record {
 
 pub loop-lane-preserved : goal.loop-lane-preserved
 loop-lane-preserved c = record {
-  runs = runs-then (lists_of c.args.lanes.now) c.args.holders.now (parts_of c.args.heap.now) (parts_of c.loop-lane.heap) (parts_of c.run_lane.new.heap) c.args.serials.now c.loop-lane.serials c.run_lane.new.serials c.args.replies.now c.loop-lane.replies c.run_lane.new.replies
+  runs = runs-then (lists_of c.args.lanes.now) c.args.holders.now (heap_view c.args.heap.now) (heap_view c.loop-lane.heap) (heap_view c.run_lane.new.heap) c.args.serials.now c.loop-lane.serials c.run_lane.new.serials c.args.replies.now c.loop-lane.replies c.run_lane.new.replies
       c.loop-lane.invariant.runs c.run_lane.ensures.runs;
-  stopped = stopped-more (lists_of c.args.lanes.now) c.args.holders.now c.loop-lane.lane (parts_of c.loop-lane.heap) (parts_of c.run_lane.new.heap) (lists_of c.loop-lane.replies) (lists_of c.run_lane.new.replies)
+  stopped = stopped-more (lists_of c.args.lanes.now) c.args.holders.now c.loop-lane.lane (heap_view c.loop-lane.heap) (heap_view c.run_lane.new.heap) (lists_of c.loop-lane.replies) (lists_of c.run_lane.new.replies)
       c.run_lane.ensures.others c.loop-lane.invariant.stopped c.run_lane.ensures.stopped;
 }

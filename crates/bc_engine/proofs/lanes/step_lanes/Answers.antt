@@ -1,7 +1,7 @@
 use Rattle.std.proofs.Common.{refl, ◌≢◌, ◌∙◌, ap, arith}
 use Rattle.bc_model.specs.Lists.{lists_of}
 use Rattle.bc_nursery.specs.Objects.{Nursery}
-use Rattle.bc_cycle.specs.Emptying.{parts_of}
+use Rattle.bc_cycle.specs.Emptying.{heap_view}
 use Rattle.bc_engine.proofs.RunLemmas.{runs-same, runs-then, each-further}
 use Rattle.bc_engine.proofs.lanes.step_lanes.Goals as goal
 
@@ -20,7 +20,7 @@ loop-lane-preserved c =
     let before = c.loop-lane.invariant in
     let here = before.empty lane (omega arith) in
     record {
-      runs = runs-then (lists_of c.args.lanes.now) c.args.holders.now (parts_of c.args.heap.now) (parts_of c.loop-lane.heap) (parts_of c.advance-further.new.heap) c.args.serials.now c.loop-lane.serials c.advance-further.new.serials c.args.replies.now c.loop-lane.replies c.advance-further.new.replies before.runs e.runs;
+      runs = runs-then (lists_of c.args.lanes.now) c.args.holders.now (heap_view c.args.heap.now) (heap_view c.loop-lane.heap) (heap_view c.advance-further.new.heap) c.args.serials.now c.loop-lane.serials c.advance-further.new.serials c.args.replies.now c.loop-lane.replies c.advance-further.new.replies before.runs e.runs;
       unrecorded = e.unrecorded here before.unrecorded;
       empty = λ n le.
           let ne : n ≢ lane = omega arith in

@@ -1,6 +1,6 @@
 use Rattle.std.proofs.Common.{arith}
 use Rattle.std.proofs.lemmas.List.{take_at}
-use Rattle.bc_cycle.specs.Emptying.{parts_of}
+use Rattle.bc_cycle.specs.Emptying.{heap_view}
 use Rattle.bc_engine.proofs.Sizes.{ready-through}
 use Rattle.bc_engine.proofs.engines.Engine.serial.Goals as goal
 
@@ -15,7 +15,7 @@ invariant_of-self c =
           record {
             workers = old.workers;
             ready = ready-through c.self.inside.setup c.self.inside.holders.items c.deref.result.now c.self.inside.serials.items c.deref_mut.result.now c.attempt.new.serials _
-                (parts_of c.self.inside.heap) (parts_of c.attempt.new.heap)
+                (heap_view c.self.inside.heap) (heap_view c.attempt.new.heap)
                 c.deref.ensures.value c.deref_mut.ensures.value
                 (take_at c.attempt.new.serials _ c.self.inside.serials.len (let len = c.deref_mut.ensures.len in let same = c.attempt.auto.serials in omega arith))
                 e.ready old.ready;
