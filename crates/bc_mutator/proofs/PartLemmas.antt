@@ -25,13 +25,14 @@ use Rattle.bc_word.specs.declared.heads.Head.{Head}
 use Rattle.bc_word.specs.declared.words.Word.{Word}
 use Rattle.bc_word.specs.declared.words.Word.TheVariants.{Nil, Ref}
 use Rattle.bc_mutator.specs.Effects.{RefersBehind, RefersBelow, WritesCell, WritesField, WroteCell, Wrote, with_entry}
-use Rattle.bc_mutator.specs.Objects.{LieBehind, IsOwn, cell_of, own_chunk, slot_word}
-use Rattle.bc_mutator.specs.Operations.{setup_of}
-use Rattle.bc_mutator.specs.Parts.{CanStore, HasCell, HasField, HasWord, IsCellOrBehind, IsPartOf, IsSpaceOf, MayHold, Sees, ServesField}
+use Rattle.bc_mutator.specs.Objects.{LieBehind, IsOfLane, IsOwn, cell_of, own_chunk, slot_word}
+use Rattle.bc_mutator.specs.Operations.{NeedsEntry, setup_of}
+use Rattle.bc_mutator.specs.Parts.{CanStore, HasCell, HasField, HasWord, IsCellOrBehind, IsPartOf, IsSpaceOf, MayHold, Sees, Serves, ServesField}
 use Rattle.bc_mutator.proofs.LayoutLemmas.{IsLayout-remembered}
 use Rattle.bc_mutator.proofs.MeaningLemmas.{own-slot}
 use Rattle.bc_mutator.proofs.ObjectLemmas.{cell_of-above, cell_of-below, one_address, there-above, there-below}
 use Rattle.bc_mutator.proofs.StateLemmas.{remembers-home}
+use Rattle.bc_mutator.proofs.WritingLemmas.{CanWrite}
 
 -- an object below the end of the superpages is a cell, with its head
 pub cell-there : {cells : Layout → Type 0} {chunk : Nursery} {s : Layout} (a : ℕ) → IsSpaceOf cells chunk s → IsCellOrYoung s chunk a → a < end_of s → HasCell s a
@@ -150,3 +151,43 @@ part-wrote old new slots c d b e lane h t at index word part chunk_in buffer_in 
     rest = refl;
   }),
 )
+
+-- a lane that may write a word to a field of a slot's object
+pub field-serves : {cells : Layout → Type 0} {slots : RootWords → Type 0} {chunk : Nursery} {buffer : Entries} {hs : List ℕ} {lane : ℕ} {p : Slot} {word : Word} {h : HeapView} (target : Word) → ServesField cells slots chunk buffer hs lane p word h → get_or hs p.domain 0 ≡ lane → target ≡ slot_word h.roots p → HasWord cells chunk hs lane target h
+field-serves {hs = hs} {lane = lane} {p = p} {h = h} target s held e = record {
+  ready = s.ready;
+  space = s.part.space;
+  chunk_is = s.part.chunk_is;
+  own = subst (λ (c : Nursery). IsOwn h.space c target) s.part.chunk_is
+      (subst (λ (w : Word). IsOwn h.space (own_chunk h lane) w) (sym e) (own-slot h hs lane p s.ready.running s.slot.0 s.slot.1 held));
+}
+
+pub can-store : {cells : Layout → Type 0} {slots : RootWords → Type 0} {chunk : Nursery} {buffer : Entries} {hs : List ℕ} {lane : ℕ} {p : Slot} {word : Word} {h : HeapView} (target : Word) (at : Address) (index : ℕ) → ServesField cells slots chunk buffer hs lane p word h → HasWord cells chunk hs lane target h → IsOfLane h hs lane target at → index < (cell_of h.space chunk at.0).head.fields → CanStore h.space chunk at index word
+can-store target at index s w of less = record { there = there-of at.0 w of.there; less = less; own = s.own }
+
+pub can-write : {cells : Layout → Type 0} {slots : RootWords → Type 0} {chunk : Nursery} {buffer : Entries} {hs : List ℕ} {lane : ℕ} {p : Slot} {word : Word} {h : HeapView} (target : Word) (at : Address) (index : ℕ) → ServesField cells slots chunk buffer hs lane p word h → IsOfLane h hs lane target at → index < (cell_of h.space chunk at.0).head.fields → CanWrite h hs lane target at index word
+can-write {word = word} {h = h} target at index s of less = record {
+  ready = s.ready;
+  of = of;
+  less = subst (λ (c : Nursery). index < (cell_of h.space c at.0).head.fields) (sym s.part.chunk_is) less;
+  own = subst (λ (c : Nursery). IsOwn h.space c word) (sym s.part.chunk_is) s.own;
+}
+
+-- what stops an operation, of the lane's own chunk and buffer
+pub needs-part : {cells : Layout → Type 0} {slots : RootWords → Type 0} {chunk : Nursery} {buffer : Entries} {lane : ℕ} {h : HeapView} (hs : List ℕ) (op : Op) → IsPartOf cells slots chunk buffer lane h → NeedsEntry hs lane h.space h.roots (own_chunk h lane) (buffer_of h.buffers lane) op → NeedsEntry hs lane h.space h.roots chunk buffer op
+needs-part {chunk = chunk} {lane = lane} {h = h} hs op part needs =
+    subst (λ (b : Entries). NeedsEntry hs lane h.space h.roots chunk b op) part.buffer_is
+    (subst (λ (c : Nursery). NeedsEntry hs lane h.space h.roots c (buffer_of h.buffers lane) op) part.chunk_is needs)
+
+-- the word of another slot of the lane's
+pub link-serves : {cells : Layout → Type 0} {slots : RootWords → Type 0} {chunk : Nursery} {buffer : Entries} {hs : List ℕ} {lane : ℕ} {op : Op} {h : HeapView} (p q : Slot) (word : Word) → Serves cells slots chunk buffer hs lane op h → IsSlot (setup_of h.roots) p → IsSlot (setup_of h.roots) q → get_or hs q.domain 0 ≡ lane → word ≡ slot_word h.roots q → ServesField cells slots chunk buffer hs lane p word h
+link-serves {hs = hs} {lane = lane} {h = h} p q word s slot from held e = record {
+  ready = s.ready;
+  slot = slot;
+  own = subst (λ (c : Nursery). IsOwn h.space c word) s.part.chunk_is
+      (subst (λ (w : Word). IsOwn h.space (own_chunk h lane) w) (sym e) (own-slot h hs lane q s.ready.running from.0 from.1 held));
+  part = s.part;
+}
+
+pub own-part : {cells : Layout → Type 0} {slots : RootWords → Type 0} {chunk : Nursery} {buffer : Entries} {hs : List ℕ} {lane : ℕ} {p : Slot} {word : Word} {h : HeapView} → ServesField cells slots chunk buffer hs lane p word h → IsOwn h.space (own_chunk h lane) word
+own-part {word = word} {h = h} s = subst (λ (c : Nursery). IsOwn h.space c word) (sym s.part.chunk_is) s.own

@@ -4,7 +4,7 @@ ghost use Rattle.std.specs.Prelude.{◌<◌, IfOk, IfErr, OnErr};
 ghost use Rattle.bc_model.specs.Step.{IsRefusal};
 ghost use Rattle.bc_whole_heap.specs.Heaps.{HeapView};
 ghost use Rattle.bc_mutator.specs.Objects.{IsOfLane, ActsOn, Refuses, ActsOnField, RefusesField, cell_of};
-ghost use Rattle.bc_mutator.specs.Parts.{HasWord, LeadsToHand};
+ghost use Rattle.bc_mutator.specs.Parts.{HasWord, IsInHand, LeadsToHand};
 
 use crate::cells::Cells;
 use crate::reading::head_at;
@@ -29,6 +29,7 @@ pub(crate) fn object<C: Cells>(
         → ActsOn h holders.now lane word at) }
     ensures refuses { IfErr result (λ reply. (h : HeapView) → HasWord (C.shows cells.now) chunk.now holders.now lane word h
         → Refuses h holders.now lane word reply) }
+    ensures hand { IfOk result (IsInHand (C.shows cells.now) (C.at_hand cells.now)) }
     ensures refusal { IfErr result IsRefusal }
     ensures none { OnErr result ((h : HeapView) → HasWord (C.shows cells.now) chunk.now holders.now lane word h
         → (a : Address) → IsOfLane h holders.now lane word a → ⊥) }
@@ -63,6 +64,7 @@ pub(crate) fn object_with_field<C: Cells>(
         → ActsOnField h holders.now lane word index at) }
     ensures refuses { IfErr result (λ reply. (h : HeapView) → HasWord (C.shows cells.now) chunk.now holders.now lane word h
         → RefusesField h holders.now lane word index reply) }
+    ensures hand { IfOk result (IsInHand (C.shows cells.now) (C.at_hand cells.now)) }
     ensures refusal { IfErr result IsRefusal }
     ensures none { OnErr result ((h : HeapView) → HasWord (C.shows cells.now) chunk.now holders.now lane word h
         → (a : Address) → IsOfLane h holders.now lane word a → index < (cell_of h.space chunk.now a.0).head.fields → ⊥) }
