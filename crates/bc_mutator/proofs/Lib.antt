@@ -13,3 +13,4 @@ pub mod MatureLemmas
 pub mod YoungLemmas
 pub mod NewLemmas
 pub mod StepLemmas
+pub mod ActLemmas

@@ -5,6 +5,7 @@ ghost use Rattle.bc_model.specs.WellFormed.{IsSlot};
 ghost use Rattle.bc_model.specs.declared.operations.Op.TheVariants.{Copy, Clear, Load};
 ghost use Rattle.bc_superpages.specs.RootWords.{RootWords};
 ghost use Rattle.bc_whole_heap.specs.Heaps.{HeapView};
+ghost use Rattle.bc_word.specs.Words.{FitsWord};
 ghost use Rattle.bc_word.specs.declared.words.Word.TheVariants.{Nil};
 ghost use Rattle.bc_mutator.specs.Effects.{DidAct, with_root};
 ghost use Rattle.bc_mutator.specs.Objects.{loaded_as, slot_word};
@@ -25,6 +26,7 @@ pub(crate) fn copy<R: RootSlots>(roots: &mut R, from: Slot, to: Slot) -> Reply
     requires hand { R.at_hand roots.old from.domain × R.at_hand roots.old to.domain }
     ensures written { (r : RootWords) → R.shows roots.old r → IsSlot (setup_of r) from → IsSlot (setup_of r) to
         → R.shows roots.new (with_root r to (slot_word r from)) }
+    ensures fits { (r : RootWords) → R.shows roots.old r → IsSlot (setup_of r) from → FitsWord (slot_word r from) }
     ensures done { result ≡ Reply.Done }
     ensures hand { (domain : ℕ) → R.at_hand roots.old domain → R.at_hand roots.new domain }
 {

@@ -1,6 +1,6 @@
 //! What a lane is told that asks about its slots.
 
-ghost use Rattle.std.specs.Prelude.{◌≡◌, ◌≢◌, slice_index};
+ghost use Rattle.std.specs.Prelude.{◌≡◌, ◌≢◌, ◌⊎◌, slice_index};
 ghost use Rattle.bc_model.specs.declared.operations.Op.TheVariants.{Who, Len, Same};
 ghost use Rattle.bc_superpages.specs.RootWords.{RootWords};
 ghost use Rattle.bc_whole_heap.specs.Heaps.{HeapView};
@@ -76,8 +76,8 @@ pub(crate) fn length_of<C: Cells, R: RootSlots>(
 pub(crate) fn same<R: RootSlots>(roots: &R, first: Slot, second: Slot) -> Reply
     requires slots { (r : RootWords) × R.shows roots.now r × IsOpOf r (Same first second) }
     requires hand { R.at_hand roots.now first.domain × R.at_hand roots.now second.domain }
-    ensures yes { result ≡ Reply.Yes → (r : RootWords) → R.shows roots.now r → IsOpOf r (Same first second) → slot_word r first ≡ slot_word r second }
-    ensures no { result ≢ Reply.Yes → (result ≡ Reply.No) × ((r : RootWords) → R.shows roots.now r → IsOpOf r (Same first second) → slot_word r first ≢ slot_word r second) }
+    ensures told { ((result ≡ Reply.Yes) × ((r : RootWords) → R.shows roots.now r → IsOpOf r (Same first second) → slot_word r first ≡ slot_word r second))
+        ⊎ ((result ≡ Reply.No) × ((r : RootWords) → R.shows roots.now r → IsOpOf r (Same first second) → slot_word r first ≢ slot_word r second)) }
 {
     if roots.word(first) == roots.word(second) {
         Reply::Yes
