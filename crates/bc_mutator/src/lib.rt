@@ -38,8 +38,10 @@ mod reading;
 mod root_slots;
 mod slots;
 mod telling;
+mod whole;
 mod writing;
 
 pub use cells::Cells;
 pub use operations::{Stop, law_births, operate_parts};
 pub use root_slots::RootSlots;
+pub use whole::operate;
