@@ -14,3 +14,4 @@ pub mod YoungLemmas
 pub mod NewLemmas
 pub mod StepLemmas
 pub mod ActLemmas
+pub mod WholeLemmas
