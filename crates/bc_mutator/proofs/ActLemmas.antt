@@ -1,5 +1,5 @@
 -- Each operation in the whole heap that the lane's parts belong to.
-use Rattle.std.proofs.Common.{◌≡◌, ◌↔◌, ℕ, ◌+◌, ◌<◌, ◌≤◌, ◌==◌, ◌⊎◌, ◌≢◌, Bool, true, false, List, [], ◌∷◌, get_or, set, Result, Ok, Err, refl, sym, ap, subst, ◌∙◌, inl, inr, eqb-true, get_or-set_same}
+use Rattle.std.proofs.Common.{◌≡◌, ◌↔◌, ℕ, ◌+◌, ◌^◌, ◌<◌, ◌≤◌, ◌==◌, ◌⊎◌, ◌≢◌, Bool, true, false, List, [], ◌∷◌, get_or, set, Result, Ok, Err, refl, sym, ap, subst, ◌∙◌, inl, inr, eqb-true, get_or-set_same}
 use Rattle.std.proofs.lemmas.Bool.{and_parts, cases_lt}
 use Rattle.std.specs.List.{list_all}
 use Rattle.std.specs.Result.{IfOk, OnOk, IsErr}
@@ -52,7 +52,7 @@ held-second hs lane d e both = held-first hs lane e [] (and_parts (get_or hs d 0
 pub act-told : {cells : Layout → Type 0} {slots : RootWords → Type 0} {chunk : Nursery} {buffer : Entries} {hs : List ℕ} {lane : ℕ} {op : Op} {h : HeapView} (serial : ℕ) (o : Op) (reply : Reply) → Serves cells slots chunk buffer hs lane op h → op ≡ o → Answers h hs lane o reply → HasRecorded h h hs lane o reply → HasChanged h h hs lane serial o reply
     → (k : HeapView) × IsPartOf cells slots chunk buffer lane k × DidAct h k hs lane serial serial op reply
 act-told {hs = hs} {lane = lane} {op = op} {h = h} serial o reply s e answers recorded changed =
-    (h, s.part, did-as h h hs lane serial serial op o reply e (done-answers h hs lane serial o reply s.ready.running answers recorded changed))
+    (h, s.part, did-as h h hs lane serial serial op o reply e (done-answers h hs lane serial o reply s.ready answers recorded changed))
 
 pub same-answers : (h : HeapView) (hs : List ℕ) (lane : ℕ) (p q : Slot) (reply : Reply) (slots : RootWords → Type 0) → {cells : Layout → Type 0} {chunk : Nursery} {buffer : Entries} → Serves cells slots chunk buffer hs lane (Same p q) h
     → ((reply ≡ Yes) × ((r : RootWords) → slots r → IsSlot (setup_of r) p × IsSlot (setup_of r) q → slot_word r p ≡ slot_word r q)) ⊎ ((reply ≡ No) × ((r : RootWords) → slots r → IsSlot (setup_of r) p × IsSlot (setup_of r) q → slot_word r p ≢ slot_word r q))
@@ -89,10 +89,10 @@ act-clear {hs = hs} {lane = lane} {op = op} {h = h} new serial p reply s e held 
     )
 
 -- an object more
-pub act-new : {cells : Layout → Type 0} {slots : RootWords → Type 0} {chunk : Nursery} {buffer : Entries} {hs : List ℕ} {lane : ℕ} {op : Op} {h : HeapView} (new : RootWords → Type 0) (d : Nursery) (serial next n : ℕ) (p : Slot) (reply : Reply) → Serves cells slots chunk buffer hs lane op h → op ≡ New p n → list_all (λ x. get_or hs x 0 == lane) (domains_of op) ≡ true
+pub act-new : {cells : Layout → Type 0} {slots : RootWords → Type 0} {chunk : Nursery} {buffer : Entries} {hs : List ℕ} {lane : ℕ} {op : Op} {h : HeapView} (new : RootWords → Type 0) (d : Nursery) (serial next n : ℕ) (p : Slot) (reply : Reply) → Serves cells slots chunk buffer hs lane op h → op ≡ New p n → list_all (λ x. get_or hs x 0 == lane) (domains_of op) ≡ true → lane < 16 → serial + 1 < 2 ^ 32
     → reply ≡ Obj (record { lane = lane; serial = serial + 1 }) → next ≡ serial + 1 → d ≡ with_object chunk (record { lane = lane; serial = serial + 1; domain = p.domain; fields = n }) → class_of n ≤ left_of chunk
     → new (with_root h.roots p (Ref (record { 0 = end_of chunk }))) → (k : HeapView) × IsPartOf cells new d buffer lane k × DidAct h k hs lane serial next op reply
-act-new {chunk = chunk} {hs = hs} {lane = lane} {op = op} {h = h} new d serial next n p reply s e held told count made room shown =
+act-new {chunk = chunk} {hs = hs} {lane = lane} {op = op} {h = h} new d serial next n p reply s e held lanes serials told count made room shown =
     let t = served-as (New p n) e s in
     let head : Head = record { lane = lane; serial = serial + 1; domain = p.domain; fields = n } in
     let to : Address = record { 0 = end_of chunk } in
@@ -104,7 +104,7 @@ act-new {chunk = chunk} {hs = hs} {lane = lane} {op = op} {h = h} new d serial n
       did-as h k hs lane serial next op (New p n) reply e
           (subst (λ (x : Reply). DidAct h k hs lane serial next (New p n) x) (sym told)
           (subst (λ (x : ℕ). DidAct h k hs lane serial x (New p n) (Obj (record { lane = lane; serial = serial + 1 }))) (sym count)
-          (done-new h (set h.chunks lane d) (with_root h.roots p (Ref to)) hs lane serial n p to s.ready t.fits.0.0 t.fits.0.1 t.fits.1 (held-first hs lane p.domain [] one)
+          (done-new h (set h.chunks lane d) (with_root h.roots p (Ref to)) hs lane serial n p to s.ready t.fits.0.0 t.fits.0.1 t.fits.1 lanes serials (held-first hs lane p.domain [] one)
           (subst (λ (c : Nursery). class_of n ≤ left_of c) (sym own) room)
           (ap (λ (c : Nursery). set h.chunks lane c) (made ∙ ap (λ (c : Nursery). with_object c head) (sym own)))
           (ap end_of (sym own)) refl))),

@@ -1,14 +1,27 @@
--- A layout with one page made Remembered is a layout.
-use Rattle.std.proofs.Common.{◌≡◌, ◌≢◌, ◌⊎◌, ℕ, ◌*◌, ◌/◌, ◌%◌, ◌<◌, true, List, [], length, get_or, set, refl, sym, ap, ◌∙◌, inl, inr, arith, get_or-set_same, get_or-set_other, length-set}
+-- A layout with one page made Remembered is a layout, and so is one with a field of a cell written.
+use Rattle.std.proofs.Common.{◌≡◌, ◌≢◌, ◌⊎◌, ℕ, ◌+◌, ◌*◌, ◌/◌, ◌%◌, ◌<◌, true, List, [], length, map, get_or, set, refl, sym, ap, subst, ◌∙◌, inl, inr, arith, rules, get_or-set_same, get_or-set_other, length-set}
 use Rattle.std.proofs.lemmas.Bool.{cases_eq, cases_lt}
 use Rattle.std.proofs.lemmas.List.{set_past}
+use Rattle.std.proofs.lemmas.List.FromFn.{get_or-map-range_with_len, length-map-range_with_len}
+use Rattle.std.specs.List.{range_with_len}
 use Rattle.bc_bits.specs.Bits.{has}
+use Rattle.bc_superpages.specs.declared.headers.Header.{Header}
 use Rattle.bc_superpages.specs.declared.headers.PageState.{PageState}
 use Rattle.bc_superpages.specs.declared.headers.PageState.TheVariants.{Absent, Held, Remembered}
 use Rattle.bc_classes.specs.Classes.{cells_a_page}
-use Rattle.bc_superpages.specs.Headers.{state_of_cell}
-use Rattle.bc_superpages.specs.Kept.{IsLayout, IsSuperpage}
-use Rattle.bc_superpages.specs.Layout.{Layout, header_of, states_of, superpages, with_state}
+use Rattle.bc_superpages.specs.Calls.{class_at, fields_at}
+use Rattle.bc_superpages.specs.Headers.{state_of_cell, unused_header}
+use Rattle.bc_superpages.specs.Kept.{AreSuperpages, IsLayout, IsSuperpage}
+use Rattle.bc_superpages.specs.Layout.{Layout, IsAllocated, content_at, header_of, states_of, superpages, with_state, with_word, word_at}
+use Rattle.bc_superpages.proofs.CellLemmas.{is_cell-address, is_cell-bit}
+use Rattle.bc_superpages.proofs.FieldLemmas.{content-long, field-offset, field-room}
+use Rattle.bc_superpages.proofs.HandLemmas.{allocated-is_class, allocated-page, allocated-superpage, field-page}
+use Rattle.bc_superpages.proofs.KeptLemmas.{AreSuperpages-field}
+use Rattle.bc_word.specs.Addresses.{cell_address, cell_number, offset_of, page_of, superpage_of}
+use Rattle.bc_word.specs.Heads.{fields_of_bits}
+use Rattle.bc_word.specs.Words.{FitsWord, IsPacked, word_bits}
+use Rattle.bc_word.specs.declared.words.Word.{Word}
+use Rattle.bc_word.specs.declared.words.Word.TheVariants.{Nil, Num, Ref}
 
 -- an item of a list in which one is another is as it was, or is that one
 pub set-cases : {X : Type 0} (xs : List X) (i k : ℕ) (x d : X) → (get_or (set xs i x) k d ≡ get_or xs k d) ⊎ ((k ≡ i) × (get_or (set xs i x) k d ≡ x))
@@ -82,4 +95,75 @@ IsLayout-remembered s p k = record {
   pages_long = k.pages_long;
   each_page = k.each_page;
   each = λ q lt. superpage-remembered s p q (k.each q lt);
+}
+
+-- a word's bits are packed
+IsPacked-word_bits : (w : Word) → FitsWord w → IsPacked (word_bits w)
+IsPacked-word_bits Nil fits = search rules
+IsPacked-word_bits (Num n) fits = search rules
+IsPacked-word_bits (Ref a) fits = search rules
+
+-- its headers as a list
+headers_of : Layout → List Header
+headers_of s = map (header_of s) (range_with_len 0 (superpages s))
+
+header-at : (s : Layout) (q : ℕ) → q < superpages s → get_or (headers_of s) q unused_header ≡ header_of s q
+unfolding headers_of
+header-at s q lt = get_or-map-range_with_len (header_of s) 0 (superpages s) q q unused_header lt (omega arith)
+
+length-headers : (s : Layout) → length (headers_of s) ≡ superpages s
+unfolding headers_of
+length-headers s = length-map-range_with_len (header_of s) 0 (superpages s)
+
+headers-whole : (s : Layout) → IsLayout s → AreSuperpages s.pages (headers_of s)
+headers-whole s k = λ q lt.
+    let less : q < superpages s = (let long = length-headers s in omega arith) in
+    subst (λ (h : Header). IsSuperpage s.pages q h) (sym (header-at s q less)) (k.each q less)
+
+field-superpage : (s : Layout) (a i q : ℕ) (w : Word) → IsLayout s → IsAllocated s a → i < fields_at s a → FitsWord w → q < superpages s → IsSuperpage (with_word s.pages (a + 1 + i) (word_bits w)) q (header_of s q)
+field-superpage s a i q w k on lt fits less =
+    let r = superpage_of a in
+    let in_r = allocated-superpage s a k on in
+    let e = cell_number (class_at s a) a in
+    let here = header-at s r in_r in
+    let long = length-headers s in
+    let is : cell_address r (get_or (headers_of s) r unused_header).class e ≡ a =
+    ap (λ (h : Header). cell_address r h.class e) here ∙ sym (is_cell-address s.classes s.cells a (allocated-is_class s a k on) on) in
+    let page = field-page s a i k on lt in
+    let pages : page_of (a + 1 + i) < length s.pages = (let within = allocated-page s a k on in let count = k.pages_long in omega arith) in
+    let place : offset_of (a + 1 + i) < length (content_at s.pages (page_of (a + 1 + i))) =
+    (let room = field-room s a i k on lt in let offset = field-offset s a i k on lt in
+    let full : length (content_at s.pages (page_of (a + 1 + i))) ≡ 512 = ap (λ (p : ℕ). length (content_at s.pages p)) page ∙ content-long s a k on in omega arith) in
+    subst (λ (h : Header). IsSuperpage (with_word s.pages (a + 1 + i) (word_bits w)) q h) (header-at s q less)
+    (subst (λ (x : ℕ). IsSuperpage (with_word s.pages (x + 1 + i) (word_bits w)) q (get_or (headers_of s) q unused_header)) is
+    (AreSuperpages-field s.pages (headers_of s) r e i (word_bits w) (headers-whole s k) (omega arith)
+    (subst (λ (h : Header). has h.cells e ≡ true) (sym here) (is_cell-bit s.classes s.cells a on))
+    (subst (λ (x : ℕ). i < fields_of_bits (word_at s.pages x)) (sym is) lt)
+    (subst (λ (x : ℕ). page_of (x + 1 + i) < length s.pages) (sym is) pages)
+    (subst (λ (x : ℕ). offset_of (x + 1 + i) < length (content_at s.pages (page_of (x + 1 + i)))) (sym is) place)
+    (IsPacked-word_bits w fits) q (omega arith)))
+
+content-after : (ps : List (List ℕ)) (to w p : ℕ) → length (get_or (with_word ps to w) p []) ≡ length (get_or ps p [])
+content-after ps to w p = elim (set-cases ps (page_of to) p (set (content_at ps (page_of to)) (offset_of to) w) []) [
+  | inl same ↦ ap length same
+  | inr here ↦ ap length here.1 ∙ length-set (content_at ps (page_of to)) (offset_of to) w ∙ ap (λ (n : ℕ). length (content_at ps n)) (sym here.0)
+]
+
+pub IsLayout-field : (s : Layout) (a i : ℕ) (w : Word) → IsLayout s → IsAllocated s a → i < fields_at s a → FitsWord w → IsLayout (record s { pages = with_word s.pages (a + 1 + i) (word_bits w) })
+IsLayout-field s a i w k on lt fits = record {
+  few = k.few;
+  long = record {
+    domains = k.long.domains;
+    classes = k.long.classes;
+    cells = k.long.cells;
+    promised = k.long.promised;
+    marks = k.long.marks;
+    finished = k.long.finished;
+    bookmarks = k.long.bookmarks;
+    incoming = k.long.incoming;
+    states = k.long.states;
+  };
+  pages_long = length-set s.pages (page_of (a + 1 + i)) (set (content_at s.pages (page_of (a + 1 + i))) (offset_of (a + 1 + i)) (word_bits w)) ∙ k.pages_long;
+  each_page = λ p less. content-after s.pages (a + 1 + i) (word_bits w) p ∙ k.each_page p less;
+  each = λ q less. field-superpage s a i q w k on lt fits less;
 }

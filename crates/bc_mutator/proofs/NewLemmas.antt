@@ -1,5 +1,5 @@
 -- A new object at the end of the lane's chunk, and a root slot that refers to it.
-use Rattle.std.proofs.Common.{◌≡◌, ◌≢◌, ◌⊎◌, ℕ, ◌+◌, ◌<◌, ◌≤◌, true, false, List, [], ◌∷◌, ◌++◌, length, get_or, set, replicate, Option, Some, None, is_some, option_map, refl, sym, ap, ap₂, subst, ◌∙◌, inl, inr, arith}
+use Rattle.std.proofs.Common.{◌≡◌, ◌≢◌, ◌⊎◌, ℕ, ◌+◌, ◌^◌, ◌<◌, ◌≤◌, true, false, List, [], ◌∷◌, ◌++◌, length, get_or, set, replicate, Option, Some, None, is_some, option_map, refl, sym, ap, ap₂, subst, ◌∙◌, inl, inr, arith}
 use Prim.Native.Nat.{zero, suc}
 use Rattle.std.proofs.Math.ListN.{get_or-map}
 use Rattle.std.proofs.Math.Nat.{mul-le-mul_left}
@@ -27,12 +27,13 @@ use Rattle.bc_model.proofs.States.{IsState-with_new}
 use Rattle.bc_nursery.specs.Entries.{Entries}
 use Rattle.bc_nursery.specs.Objects.{ChunkObject, Nursery, has_object, the_object, object_at, object_or, new_object, with_object, left_of}
 use Rattle.bc_nursery.specs.Objects as nursery
-use Rattle.bc_nursery.proofs.ObjectLemmas.{class_of-two, words-inside, none-has, object_at-end, object_at-new, object_at-others}
+use Rattle.bc_nursery.proofs.ObjectLemmas.{IsChunk-object, class_of-two, words-inside, none-has, object_at-end, object_at-new, object_at-others}
 use Rattle.bc_standing.specs.Standing.{birth_of, births, Stands, AllBorn}
 use Rattle.bc_standing.proofs.Making.{Stands-new, AllBorn-new, births-put_here, births-put_other}
 use Rattle.bc_standing.proofs.Reading.{replicate_default}
 use Rattle.bc_superpages.specs.Layout.{Layout, IsAllocated}
 use Rattle.bc_superpages.specs.RootWords.{RootWords}
+use Rattle.bc_word.specs.Heads.{FitsHead}
 use Rattle.bc_word.specs.declared.addresses.Address.{Address}
 use Rattle.bc_word.specs.declared.heads.Head.{Head}
 use Rattle.bc_word.specs.declared.words.Word.{Word}
@@ -41,8 +42,8 @@ use Rattle.bc_mutator.specs.Effects.{with_root, DidAct}
 use Rattle.bc_mutator.specs.Objects.{MayOperate, AreWhole, IsOwn, own_chunk}
 use Rattle.bc_mutator.specs.Operations.{NoneLater}
 use Rattle.bc_mutator.proofs.MeaningLemmas.{same_place}
-use Rattle.bc_mutator.proofs.RootLemmas.{buffers-same, running-root, root_words-set}
-use Rattle.bc_mutator.proofs.YoungLemmas.{chunk-own, chunk-other, length-chunks, laid-kept}
+use Rattle.bc_mutator.proofs.RootLemmas.{buffers-same, running-root, root_words-set, slots-other}
+use Rattle.bc_mutator.proofs.YoungLemmas.{chunk-own, chunk-other, chunks-whole, length-chunks, laid-kept}
 
 -- a new object of the lane's chunk, which has room for it
 pub record MakesYoung (s : Layout) (r : RootWords) (cs ds : List Nursery) (bs : List Entries) (hs : List ℕ) (lane : ℕ) (head : Head) : Type 0 where
@@ -299,8 +300,8 @@ none-later s r cs hs serials state h lane a b e same =
     omega arith
 
 -- so a new object is done
-pub done-new : (h : HeapView) (chunks : List Nursery) (roots : RootWords) (hs : List ℕ) (lane serial n : ℕ) (p : Slot) (object : Address) → MayOperate h hs lane → p.domain < h.roots.domains → p.slot < h.roots.slots → n ≤ 127 → get_or hs p.domain 0 ≡ lane → class_of n ≤ left_of (own_chunk h lane) → chunks ≡ set h.chunks lane (with_object (own_chunk h lane) (record { lane = lane; serial = serial + 1; domain = p.domain; fields = n })) → object.0 ≡ nursery.end_of (own_chunk h lane) → roots ≡ with_root h.roots p (Ref object) → DidAct h (record h { roots = roots; chunks = chunks }) hs lane serial (serial + 1) (New p n) (reply.Obj (record { lane = lane; serial = serial + 1 }))
-done-new h chunks roots hs lane serial n p object ready domain slot few held room is at written =
+pub done-new : (h : HeapView) (chunks : List Nursery) (roots : RootWords) (hs : List ℕ) (lane serial n : ℕ) (p : Slot) (object : Address) → MayOperate h hs lane → p.domain < h.roots.domains → p.slot < h.roots.slots → n ≤ 127 → lane < 16 → serial + 1 < 2 ^ 32 → get_or hs p.domain 0 ≡ lane → class_of n ≤ left_of (own_chunk h lane) → chunks ≡ set h.chunks lane (with_object (own_chunk h lane) (record { lane = lane; serial = serial + 1; domain = p.domain; fields = n })) → object.0 ≡ nursery.end_of (own_chunk h lane) → roots ≡ with_root h.roots p (Ref object) → DidAct h (record h { roots = roots; chunks = chunks }) hs lane serial (serial + 1) (New p n) (reply.Obj (record { lane = lane; serial = serial + 1 }))
+done-new h chunks roots hs lane serial n p object ready domain slot few lanes serials held room is at written =
     subst (λ (r : RootWords). DidAct h (record h { roots = r; chunks = chunks }) hs lane serial (serial + 1) (New p n) (reply.Obj (record { lane = lane; serial = serial + 1 }))) (sym root_is) (record {
       step = λ serials state means e. (
         ap (λ (k : ℕ). let b : Birth = record { lane = lane; serial = k + 1 } in reply.Obj b) (sym (births-count h.space h.roots h.chunks hs serials lane state means) ∙ e),
@@ -312,11 +313,16 @@ done-new h chunks roots hs lane serial n p object ready domain slot few held roo
           (made-running h.space h.roots h.chunks chunks h.buffers hs lane head makes serial refl refl none) slot own;
       later = λ none. made-later h.space h.roots h.chunks chunks h.buffers hs lane head makes serial refl none;
       others_later = λ l k ne none. made-others_later h.space h.roots h.chunks chunks h.buffers hs lane head makes l k refl ne none;
+      layout = ready.layout;
+      whole = chunks-whole h.chunks chunks lane (with_object (own_chunk h lane) head) ready.lane_within is
+          (IsChunk-object (own_chunk h lane) head fits room (ready.whole lane ready.lane_within)) ready.whole;
       leaves = record {
         chunks = is ∙ ap (λ (c : Nursery). set h.chunks lane c) (sym chunk_is);
         buffers = buffers-same h.buffers lane;
         space = refl;
+        pages = λ page off. (refl, refl);
         roots = refl;
+        slots = λ q off less. slots-other h.roots hs lane p q (Ref to) held slot off less;
         chunk = chunk_is ∙ ap (λ (os : List ChunkObject). record (own_chunk h lane) { objects = os }) (sym (ap (λ (x : Nursery). x.objects) chunk_is));
         capacity = refl;
         unrecorded = λ none. (refl, refl);
@@ -332,6 +338,9 @@ done-new h chunks roots hs lane serial n p object ready domain slot few held roo
   where
     head : Head
     head = record { lane = lane; serial = serial + 1; domain = p.domain; fields = n }
+
+    fits : FitsHead head
+    fits = record { lane = lanes; serial = serials; domain = (let few_domains = ready.few_domains in omega arith); fields = omega arith }
 
     to : Address
     to = record { 0 = nursery.end_of (own_chunk h lane) }

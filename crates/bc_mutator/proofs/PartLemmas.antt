@@ -58,6 +58,7 @@ field-above s chunk a index word le read = read ∙ sym (ap (λ (c : Cell). get_
 pub plain-cell : (s : Layout) (b : Entries) (cell : Address) (index : ℕ) (word : Word) → HasField s cell.0 index → RefersBelow s word → WroteCell s (record s { pages = with_word s.pages (cell.0 + 1 + index) (word_bits word) }) b b cell index word
 plain-cell s b cell index word has below = record {
   space = refl;
+  words = refl;
   memory = field-memory s cell.0 index word has.layout has.allocated has.within;
   entry = inl (below, (refl, refl));
 }
@@ -65,6 +66,7 @@ plain-cell s b cell index word has below = record {
 pub recorded-cell : (s : Layout) (b e : Entries) (cell : Address) (index : ℕ) (word : Word) → HasField s cell.0 index → RefersBehind s word → e ≡ with_entry b cell index → WroteCell s (record s { states = with_state s.states (page_of cell.0) Remembered; pages = with_word s.pages (cell.0 + 1 + index) (word_bits word) }) b e cell index word
 recorded-cell s b e cell index word has young entry = record {
   space = refl;
+  words = refl;
   memory = field-memory s cell.0 index word has.layout has.allocated has.within;
   entry = inr (
     young,

@@ -1,5 +1,5 @@
 -- A root slot becomes another word: the heap stays closed, and it stands for the state with that value in the slot.
-use Rattle.std.proofs.Common.{◌≡◌, ◌⊎◌, true, ℕ, ◌<◌, List, length, get_or, set, Some, refl, sym, ap, subst, ◌∙◌, inl, inr, arith, get_or-set_same, get_or-set_other}
+use Rattle.std.proofs.Common.{◌≡◌, ◌≢◌, ◌⊎◌, true, ℕ, ◌<◌, List, length, get_or, set, Some, refl, sym, ap, subst, ◌∙◌, inl, inr, arith, get_or-set_same, get_or-set_other}
 use Rattle.std.proofs.lemmas.Bool.{cases_eq, cases_lt}
 use Rattle.std.proofs.lemmas.List.{set-get_or, set_past, map-set}
 use Rattle.std.proofs.lemmas.Nat.{same_from_place}
@@ -130,36 +130,46 @@ chunks-same cs lane = sym (set-get_or cs lane no_chunk)
 pub buffers-same : (bs : List Entries) (lane : ℕ) → bs ≡ set bs lane (buffer_of bs lane)
 buffers-same bs lane = sym (set-get_or bs lane no_buffer)
 
-Leaves-root : (h : HeapView) (r : RootWords) (lane : ℕ) → r ≡ record (h.roots) { words = r.words } → Leaves lane h (record h { roots = r })
-Leaves-root h r lane same = record {
+-- a slot of a domain that another lane holds
+pub slots-other : (r : RootWords) (hs : List ℕ) (lane : ℕ) (p q : Slot) (w : Word) → get_or hs p.domain 0 ≡ lane → p.slot < r.slots → get_or hs q.domain 0 ≢ lane → q.slot < r.slots → slot_word (with_root r p w) q ≡ slot_word r q
+slots-other r hs lane p q w held within off less =
+    ap word_of_bits (get_or-set_other r.words (root_place r p.domain p.slot) (root_place r q.domain q.slot) (word_bits w) 0
+    (λ e. off (ap (λ (d : ℕ). get_or hs d 0) (same_from_place q.domain q.slot p.domain p.slot r.slots less within e).0 ∙ held)))
+
+Leaves-root : (h : HeapView) (r : RootWords) (hs : List ℕ) (lane : ℕ) → r ≡ record (h.roots) { words = r.words } → ((p : Slot) → get_or hs p.domain 0 ≢ lane → p.slot < h.roots.slots → slot_word r p ≡ slot_word h.roots p) → Leaves hs lane h (record h { roots = r })
+Leaves-root h r hs lane same others = record {
   chunks = chunks-same h.chunks lane;
   buffers = buffers-same h.buffers lane;
   space = refl;
+  pages = λ page off. (refl, refl);
   roots = same;
+  slots = others;
   chunk = refl;
   capacity = refl;
   unrecorded = λ none. (refl, refl);
 }
 
 -- an operation that changes nothing is done
-pub done-nothing : (does : State → State × Reply) (h : HeapView) (hs : List ℕ) (lane serial : ℕ) (op : Op) (reply : Reply) → IsRunning h hs → ((serials : List ℕ) → (state : State) → Means h hs serials state → does state ≡ (state, reply)) → HasRecorded h h hs lane op reply → HasChanged h h hs lane serial op reply → DoesAs does h h hs lane serial serial op reply
-done-nothing does h hs lane serial op reply runs answers recorded changed = record {
+pub done-nothing : (does : State → State × Reply) (h : HeapView) (hs : List ℕ) (lane serial : ℕ) (op : Op) (reply : Reply) → MayOperate h hs lane → ((serials : List ℕ) → (state : State) → Means h hs serials state → does state ≡ (state, reply)) → HasRecorded h h hs lane op reply → HasChanged h h hs lane serial op reply → DoesAs does h h hs lane serial serial op reply
+done-nothing does h hs lane serial op reply ready answers recorded changed = record {
   step = λ serials state means e.
       let is = answers serials state means in (
         ap (λ (x : State × Reply). x.1) is,
         subst (λ (xs : List ℕ). Means h hs xs (does state).0) (sym (same_serials serials lane serial e))
             (subst (λ (x : State). Means h hs serials x) (sym (ap (λ (x : State × Reply). x.0) is)) means),
       );
-  running = λ none. runs;
+  running = λ none. ready.running;
   later = λ none. none;
   others_later = λ l n ne none. none;
-  leaves = Leaves-root h h.roots lane refl;
+  layout = ready.layout;
+  whole = ready.whole;
+  leaves = Leaves-root h h.roots hs lane refl (λ p off less. refl);
   recorded = recorded;
   changed = changed;
 }
 
-pub done-answers : (h : HeapView) (hs : List ℕ) (lane serial : ℕ) (op : Op) (reply : Reply) → IsRunning h hs → Answers h hs lane op reply → HasRecorded h h hs lane op reply → HasChanged h h hs lane serial op reply → DidAct h h hs lane serial serial op reply
-done-answers h hs lane serial op reply runs answers recorded changed = done-nothing (λ state. act state lane op) h hs lane serial op reply runs answers recorded changed
+pub done-answers : (h : HeapView) (hs : List ℕ) (lane serial : ℕ) (op : Op) (reply : Reply) → MayOperate h hs lane → Answers h hs lane op reply → HasRecorded h h hs lane op reply → HasChanged h h hs lane serial op reply → DidAct h h hs lane serial serial op reply
+done-answers h hs lane serial op reply ready answers recorded changed = done-nothing (λ state. act state lane op) h hs lane serial op reply ready answers recorded changed
 
 -- so is one that writes a root slot
 pub done-root : (h : HeapView) (r : RootWords) (hs : List ℕ) (lane serial : ℕ) (p : Slot) (w : Word) (op : Op) (reply : Reply) → MayOperate h hs lane → r ≡ with_root h.roots p w → p.slot < h.roots.slots → get_or hs p.domain 0 ≡ lane → IsOwn h.space (own_chunk h lane) w → FitsWord w → ((serials : List ℕ) → (state : State) → Means h hs serials state → (v : Value) × IsRead (memory_of h) state w v × (act state lane op ≡ (with_slot state p v, reply))) → HasRecorded h h hs lane op reply → HasChanged h h hs lane serial op reply → DidAct h (record h { roots = r }) hs lane serial serial op reply
@@ -175,7 +185,9 @@ done-root h r hs lane serial p w op reply ready is within held own fits effect r
       (subst (λ (l : ℕ). IsOwn h.space (chunk_of h.chunks l) w) (sym held) own);
   later = λ none. none;
   others_later = λ l n ne none. none;
-  leaves = Leaves-root h (with_root h.roots p w) lane refl;
+  layout = ready.layout;
+  whole = ready.whole;
+  leaves = Leaves-root h (with_root h.roots p w) hs lane refl (λ q off less. slots-other h.roots hs lane p q w held within off less);
   recorded = recorded;
   changed = changed;
 })

@@ -1,18 +1,21 @@
 -- From an operation that is done to the step of the state.
-use Rattle.std.proofs.Common.{◌≡◌, ◌≢◌, ℕ, ◌==◌, Bool, true, false, if◌then◌else◌, List, get_or, set, Result, Ok, Err, refl, sym, ap, subst, ◌∙◌}
+use Rattle.std.proofs.Common.{◌≡◌, ◌≢◌, ℕ, ◌<◌, ◌==◌, Bool, true, false, if◌then◌else◌, List, length, get_or, set, Result, Ok, Err, refl, sym, ap, subst, ◌∙◌, arith, length-set}
 use Rattle.std.specs.List.{list_all}
 use Rattle.std.specs.Result.{IfOk, OnErr}
+use Rattle.bc_superpages.specs.RootWords.{RootWords}
 use Rattle.bc_whole_heap.specs.Heaps.{HeapView}
 use Rattle.bc_whole_heap.specs.Running.{IsRunning}
+use Rattle.bc_whole_heap.proofs.ChunkLemmas.{AreApart-laid}
 use Rattle.bc_model.specs.State.{State}
 use Rattle.bc_model.specs.Step.{step, act, domains_of}
 use Rattle.bc_model.specs.declared.operations.Op.{Op}
 use Rattle.bc_model.specs.declared.operations.Reply.{Reply}
 use Rattle.bc_model.specs.declared.operations.Reply.TheVariants.{Foreign}
 use Rattle.bc_mutator.specs.Effects.{DidAct, DidOperation}
-use Rattle.bc_mutator.specs.Objects.{Means}
+use Rattle.bc_mutator.specs.Objects.{MayOperate, Means, own_chunk}
 use Rattle.bc_mutator.specs.Operations.{NoneLater}
 use Rattle.bc_mutator.proofs.ChangeLemmas.{foreign-changes}
+use Rattle.bc_mutator.proofs.ObjectLemmas.{LieBehind-laid}
 use Rattle.bc_mutator.proofs.RecordLemmas.{foreign-records}
 use Rattle.bc_mutator.proofs.RootLemmas.{done-nothing}
 
@@ -33,6 +36,8 @@ did-step h k hs lane serial next op reply held done = record {
   running = done.running;
   later = done.later;
   others_later = done.others_later;
+  layout = done.layout;
+  whole = done.whole;
   leaves = done.leaves;
   recorded = done.recorded;
   changed = done.changed;
@@ -47,9 +52,9 @@ step-foreign state hs lane op same off =
     go true e = cc
     go false e = refl
 
-pub foreign-step : (h : HeapView) (hs : List ℕ) (lane serial : ℕ) (op : Op) → IsRunning h hs → list_all (λ d. get_or hs d 0 == lane) (domains_of op) ≡ false → DidOperation h h hs lane serial serial op Foreign
-foreign-step h hs lane serial op runs off =
-    done-nothing (λ state. step state lane op) h hs lane serial op Foreign runs (λ serials state means. step-foreign state hs lane op means.held off)
+pub foreign-step : (h : HeapView) (hs : List ℕ) (lane serial : ℕ) (op : Op) → MayOperate h hs lane → list_all (λ d. get_or hs d 0 == lane) (domains_of op) ≡ false → DidOperation h h hs lane serial serial op Foreign
+foreign-step h hs lane serial op ready off =
+    done-nothing (λ state. step state lane op) h hs lane serial op Foreign ready (λ serials state means. step-foreign state hs lane op means.held off)
     (foreign-records h hs lane op Foreign off) (foreign-changes h hs lane serial op)
 
 -- no birth is later than the lane's number of them
@@ -62,3 +67,19 @@ stay-born h k hs lane serial next op (Ok reply) done same = record { own = done.
 stay-born h k hs lane serial next op (Err stop) done same =
     subst (λ (x : HeapView). StayBorn h x lane serial next) (sym same.0)
     (subst (λ (n : ℕ). StayBorn h h lane serial n) (sym same.1) (record { own = λ none. none; others = λ l n ne none. none }))
+
+-- the lane may operate again
+pub next-ready : (h k : HeapView) (hs : List ℕ) (lane serial next : ℕ) (op : Op) (reply : Reply) → MayOperate h hs lane → DidOperation h k hs lane serial next op reply → NoneLater h.space h.chunks lane serial → MayOperate k hs lane
+next-ready h k hs lane serial next op reply ready done none =
+    let running : IsRunning k hs = done.running none in
+    let within : lane < length k.chunks =
+    (let long = ap length done.leaves.chunks ∙ length-set h.chunks lane (own_chunk k lane) in let lt = ready.lane_within in omega arith) in
+    record {
+      running = running;
+      layout = done.layout;
+      few_domains = (let same = ap (λ (r : RootWords). r.domains) done.leaves.roots in let few = ready.few_domains in omega arith);
+      lane_within = within;
+      whole = done.whole;
+      apart = AreApart-laid _ running.laid.0 k.chunks running.laid.1 done.whole;
+      behind = LieBehind-laid k.space running.laid.0 k.chunks lane running.laid.1 within (done.whole lane within);
+    }

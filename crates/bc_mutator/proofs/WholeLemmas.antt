@@ -76,15 +76,15 @@ whole-needs {chunk = chunk} {lane = lane} {h = h} hs op part needs =
     (subst (λ (b : Entries). NeedsEntry hs lane h.space h.roots chunk b op) (sym part.buffer_is) needs)
 
 -- the heap that they belong to then is the one in which they are put back
-pub put-back : (h k : HeapView) (lane : ℕ) (s : Layout) (r : RootWords) (c : Nursery) (b : Entries) → IsPartOf (IsIt s) (IsIt r) c b lane k → Leaves lane h k → k ≡ view_of s r (set h.chunks lane c) (set h.buffers lane b)
-put-back h k lane s r c b part leaves =
+pub put-back : (h k : HeapView) (hs : List ℕ) (lane : ℕ) (s : Layout) (r : RootWords) (c : Nursery) (b : Entries) → IsPartOf (IsIt s) (IsIt r) c b lane k → Leaves hs lane h k → k ≡ view_of s r (set h.chunks lane c) (set h.buffers lane b)
+put-back h k hs lane s r c b part leaves =
     let chunks : k.chunks ≡ set h.chunks lane c = leaves.chunks ∙ ap (λ (x : Nursery). set h.chunks lane x) part.chunk_is in
     let buffers : k.buffers ≡ set h.buffers lane b = leaves.buffers ∙ ap (λ (x : Entries). set h.buffers lane x) part.buffer_is in
     λ i. record { space = part.space i; roots = part.roots i; chunks = chunks i; buffers = buffers i }
 
 pub did-whole : (h k : HeapView) (hs : List ℕ) (lane serial next : ℕ) (op : Op) (reply : Reply) (s : Layout) (r : RootWords) (c : Nursery) (b : Entries) → IsPartOf (IsIt s) (IsIt r) c b lane k → DidOperation h k hs lane serial next op reply → DidOperation h (view_of s r (set h.chunks lane c) (set h.buffers lane b)) hs lane serial next op reply
 did-whole h k hs lane serial next op reply s r c b part done =
-    subst (λ (x : HeapView). DidOperation h x hs lane serial next op reply) (put-back h k lane s r c b part done.leaves) done
+    subst (λ (x : HeapView). DidOperation h x hs lane serial next op reply) (put-back h k hs lane s r c b part done.leaves) done
 
 -- where nothing has changed, the heap is as it was
 back-item : {X : Type 0} (v : Vec X) (lane : ℕ) (x y d : X) → lane < length v.items → x ≡ get_or v.items lane x → y ≡ x → with_item v lane y ≡ v

@@ -1,5 +1,5 @@
 -- A field of an object is written.
-use Rattle.std.proofs.Common.{◌≡◌, ℕ, ◌+◌, ◌-◌, ◌<◌, ◌==◌, true, false, List, [], length, map, get_or, set, Option, Some, is_some, refl, sym, ap, ap₂, subst, ◌∙◌, inl, inr, arith, get_or-set_same, get_or-set_other, length-set}
+use Rattle.std.proofs.Common.{◌≡◌, ◌≢◌, ℕ, ◌+◌, ◌-◌, ◌/◌, ◌<◌, ◌==◌, true, false, List, [], length, map, get_or, set, Option, Some, is_some, refl, sym, ap, ap₂, subst, ◌∙◌, inl, inr, arith, get_or-set_same, get_or-set_other, length-set}
 use Rattle.std.proofs.Math.Seq.{map-set_same}
 use Rattle.std.proofs.lemmas.List.{get_or_read, set-get_or}
 use Rattle.std.specs.List.{find}
@@ -26,23 +26,29 @@ use Rattle.bc_standing.specs.Standing.{birth_of, births, Stands, AllBorn}
 use Rattle.bc_standing.proofs.Homes.{births-there}
 use Rattle.bc_standing.proofs.Moving.{AllBorn-set}
 use Rattle.bc_standing.proofs.Writing.{Stands-set}
-use Rattle.bc_superpages.specs.Layout.{Layout, IsAllocated, word_at, content_at}
+use Rattle.bc_nursery.proofs.ObjectLemmas.{IsChunk-changed, IsWhole-field}
+use Rattle.bc_superpages.specs.declared.headers.PageState.{PageState}
+use Rattle.bc_superpages.specs.Calls.{fields_at}
+use Rattle.bc_superpages.specs.Kept.{IsLayout}
+use Rattle.bc_superpages.specs.Layout.{Layout, IsAllocated, word_at, content_at, state_at, with_word}
+use Rattle.bc_superpages.proofs.HandLemmas.{allocated-object, field-page}
 use Rattle.bc_superpages.specs.Memory as space
 use Rattle.bc_superpages.specs.RootWords.{RootWords}
 use Rattle.bc_word.proofs.WordsLemmas.{length-words_from}
-use Rattle.bc_word.specs.Addresses.{page_of, offset_of}
+use Rattle.bc_word.specs.Addresses.{page_of, offset_of, superpage_of}
 use Rattle.bc_word.specs.Heads.{fields_of_bits}
-use Rattle.bc_word.specs.Words.{FitsWord}
+use Rattle.bc_word.specs.Words.{FitsWord, word_bits}
 use Rattle.bc_word.specs.declared.addresses.Address.{Address}
 use Rattle.bc_word.specs.declared.words.Word.{Word}
 use Rattle.bc_mutator.specs.Effects.{HasRecorded, RefersBehind, Records, WroteCell, WroteMature, WroteYoung, Wrote, Writes, HasChanged, Leaves, Answers, DidAct}
-use Rattle.bc_mutator.specs.Objects.{Means, MayOperate, IsRead, IsOwn, IsOfLane, ActsOnField, RefusesField, memory_of, own_chunk, cell_of, slot_word}
+use Rattle.bc_mutator.specs.Objects.{AreWhole, Means, MayOperate, IsRead, IsOwn, IsOfLane, ActsOnField, RefusesField, memory_of, own_chunk, cell_of, slot_word}
+use Rattle.bc_mutator.proofs.LayoutLemmas.{IsLayout-field, IsLayout-remembered}
 use Rattle.bc_mutator.proofs.MatureLemmas.{MatureWrite, mature-memory, mature-births, mature-running}
 use Rattle.bc_mutator.proofs.MeaningLemmas.{read-ref}
 use Rattle.bc_mutator.proofs.ObjectLemmas.{there-below, there-above, cell_of-below, memory-there}
 use Rattle.bc_mutator.proofs.RootLemmas.{buffers-same, chunks-same, value-held, same_serials}
 use Rattle.bc_mutator.proofs.TellingLemmas.{word-read}
-use Rattle.bc_mutator.proofs.YoungLemmas.{YoungWrite, young-memory, young-births, young-running, chunk-own, chunk-other, length-chunks}
+use Rattle.bc_mutator.proofs.YoungLemmas.{YoungWrite, young-memory, young-births, young-running, chunk-own, chunks-whole, length-chunks}
 
 -- a field that a lane may write
 pub record CanWrite (h : HeapView) (hs : List ℕ) (lane : ℕ) (target : Word) (at : Address) (index : ℕ) (word : Word) : Type 0 where
@@ -144,24 +150,76 @@ mature-unrecorded h k hs lane at index word ready own buffers none (inl r) = (
 mature-unrecorded h k hs lane at index word ready own buffers none (inr r) =
     absurd (none-young (own_chunk h lane) r.0.to.0 none (refers-young h hs lane word ready own r.0))
 
-pub written-leaves : (h k : HeapView) (hs : List ℕ) (lane : ℕ) (target : Word) (at : Address) (index : ℕ) (word : Word) → CanWrite h hs lane target at index word → Wrote h k lane at index word → Leaves lane h k
-written-leaves h k hs lane target at index word can (inl wrote) = subst (λ (x : HeapView). Leaves lane h x) (sym wrote.rest) (record {
+-- a page of a domain that another lane holds isn't the cell's
+page-apart : (h : HeapView) (hs : List ℕ) (lane : ℕ) (at : Address) (index page : ℕ) → IsLayout h.space → OwnCell h hs lane at index → get_or hs (get_or h.space.domains (page / 4) 0) 0 ≢ lane → page ≢ page_of at.0
+page-apart h hs lane at index page k own off e =
+    let same : page / 4 ≡ superpage_of at.0 = omega arith in
+    off (ap (λ (q : ℕ). get_or hs (get_or h.space.domains q 0) 0) same ∙ sym (ap (λ (d : ℕ). get_or hs d 0) (allocated-object h.space at.0 k own.on).of_domain) ∙ own.held)
+
+own-within : (h : HeapView) (hs : List ℕ) (lane : ℕ) (at : Address) (index : ℕ) → OwnCell h hs lane at index → index < fields_at h.space at.0
+own-within h hs lane at index own =
+    let long = length-words_from (content_at h.space.pages (page_of at.0)) (offset_of at.0 + 1) (fields_of_bits (word_at h.space.pages at.0)) in
+    let less = own.less in
+    omega arith
+
+state-elsewhere : (s t : Layout) (b e : Entries) (at : Address) (index page : ℕ) (word : Word) → page ≢ page_of at.0 → Records s t b e at index word → state_at t.states page ≡ state_at s.states page
+state-elsewhere s t b e at index page word apart (inl r) = ap (λ (x : List (List PageState)). state_at x page) r.1.1
+state-elsewhere s t b e at index page word apart (inr r) = r.1.1.others page apart
+
+content-elsewhere : (h : HeapView) (hs : List ℕ) (lane : ℕ) (at : Address) (index page : ℕ) (t : Layout) (word : Word) → IsLayout h.space → OwnCell h hs lane at index → page ≢ page_of at.0 → t.pages ≡ with_word h.space.pages (at.0 + 1 + index) (word_bits word) → content_at t.pages page ≡ content_at h.space.pages page
+content-elsewhere h hs lane at index page t word k own apart words =
+    let here = field-page h.space at.0 index k own.on (own-within h hs lane at index own) in
+    let to = at.0 + 1 + index in
+    ap (λ (ps : List (List ℕ)). content_at ps page) words
+    ∙ get_or-set_other h.space.pages (page_of to) page (set (content_at h.space.pages (page_of to)) (offset_of to) (word_bits word)) [] (λ e. apart (e ∙ here))
+
+-- the space stays a layout, and the chunks stay chunks
+states-layout : (s t : Layout) (b e : Entries) (at : Address) (index : ℕ) (word : Word) → Records s t b e at index word → IsLayout s → IsLayout (record s { states = t.states })
+states-layout s t b e at index word (inl r) k = subst (λ (x : List (List PageState)). IsLayout (record s { states = x })) (sym r.1.1) k
+states-layout s t b e at index word (inr r) k = subst (λ (x : List (List PageState)). IsLayout (record s { states = x })) (sym r.1.1.same) (IsLayout-remembered s (page_of at.0) k)
+
+pub written-layout : (h k : HeapView) (hs : List ℕ) (lane : ℕ) (target : Word) (at : Address) (index : ℕ) (word : Word) → CanWrite h hs lane target at index word → FitsWord word → Wrote h k lane at index word → IsLayout k.space
+written-layout h k hs lane target at index word can fits (inl wrote) =
+    let own = own-cell h hs lane target at index word can wrote.below in
+    let s = record (h.space) { states = k.space.states } in
+    let middle : IsLayout s = states-layout h.space k.space (buffer_of h.buffers lane) (buffer_of k.buffers lane) at index word wrote.cell.entry can.ready.layout in
+    subst IsLayout (sym (wrote.cell.space ∙ ap (λ (ps : List (List ℕ)). record s { pages = ps }) wrote.cell.words))
+    (IsLayout-field s at.0 index word middle own.on (own-within h hs lane at index own) fits)
+written-layout h k hs lane target at index word can fits (inr wrote) = subst (λ (x : HeapView). IsLayout x.space) (sym wrote.rest) can.ready.layout
+
+pub written-whole : (h k : HeapView) (hs : List ℕ) (lane : ℕ) (target : Word) (at : Address) (index : ℕ) (word : Word) → CanWrite h hs lane target at index word → FitsWord word → Wrote h k lane at index word → AreWhole k.chunks
+written-whole h k hs lane target at index word can fits (inl wrote) = subst (λ (x : HeapView). AreWhole x.chunks) (sym wrote.rest) can.ready.whole
+written-whole h k hs lane target at index word can fits (inr wrote) =
+    chunks-whole h.chunks k.chunks lane (changed (own_chunk h lane) at.0 (nursery.with_field index word)) can.ready.lane_within wrote.chunks
+    (IsChunk-changed (own_chunk h lane) (nursery.with_field index word) at.0 (λ o. refl) (λ o. refl) (λ o whole. IsWhole-field o index word fits whole) (can.ready.whole lane can.ready.lane_within)) can.ready.whole
+
+pub written-leaves : (h k : HeapView) (hs : List ℕ) (lane : ℕ) (target : Word) (at : Address) (index : ℕ) (word : Word) → CanWrite h hs lane target at index word → Wrote h k lane at index word → Leaves hs lane h k
+written-leaves h k hs lane target at index word can (inl wrote) = subst (λ (x : HeapView). Leaves hs lane h x) (sym wrote.rest) (record {
   chunks = chunks-same h.chunks lane;
   buffers = wrote.buffers;
   space = wrote.cell.space;
+  pages = λ page off.
+      let own = own-cell h hs lane target at index word can wrote.below in
+      let apart = page-apart h hs lane at index page can.ready.layout own off in (
+        content-elsewhere h hs lane at index page k.space word can.ready.layout own apart wrote.cell.words,
+        state-elsewhere h.space k.space (buffer_of h.buffers lane) (buffer_of k.buffers lane) at index page word apart wrote.cell.entry,
+      );
   roots = refl;
+  slots = λ p off less. refl;
   chunk = refl;
   capacity = mature-capacity h.space k.space (buffer_of h.buffers lane) (buffer_of k.buffers lane) at index word wrote.cell.entry;
   unrecorded = λ none. mature-unrecorded h k hs lane at index word can.ready can.own wrote.buffers none wrote.cell.entry;
 })
-written-leaves h k hs lane target at index word can (inr wrote) = subst (λ (x : HeapView). Leaves lane h x) (sym wrote.rest)
+written-leaves h k hs lane target at index word can (inr wrote) = subst (λ (x : HeapView). Leaves hs lane h x) (sym wrote.rest)
     (let d = changed (own_chunk h lane) at.0 (nursery.with_field index word) in
     let is = chunk-own h.chunks k.chunks lane d can.ready.lane_within wrote.chunks in
     record {
       chunks = wrote.chunks ∙ ap (λ (x : Nursery). set h.chunks lane x) (sym is);
       buffers = buffers-same h.buffers lane;
       space = refl;
+      pages = λ page off. (refl, refl);
       roots = refl;
+      slots = λ p off less. refl;
       chunk = is ∙ ap (λ (os : List ChunkObject). record (own_chunk h lane) { objects = os }) (sym (ap (λ (x : Nursery). x.objects) is));
       capacity = refl;
       unrecorded = λ none. (refl, refl);
@@ -212,6 +270,8 @@ done-field h k hs lane serial target at index word op reply can wrote fits effec
       running = λ none. written-runs h k hs lane target at index word can wrote;
       later = λ none a b e. none a b (sym (ap (λ (g : ℕ → Option Birth). g a) same) ∙ e);
       others_later = λ l n ne none a b e. none a b (sym (ap (λ (g : ℕ → Option Birth). g a) same) ∙ e);
+      layout = written-layout h k hs lane target at index word can fits wrote;
+      whole = written-whole h k hs lane target at index word can fits wrote;
       leaves = leaves;
       recorded = recorded;
       changed = changed;

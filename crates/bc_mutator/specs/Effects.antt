@@ -1,5 +1,5 @@
 -- What an operation of a lane does to the heap.
-use Rattle.std.specs.Prelude.{◌≡◌, ◌≢◌, ◌⊎◌, ℕ, ◌+◌, ◌<◌, ◌≤◌, List, [], ◌∷◌, ◌++◌, length, replicate, slice_index, slice_set, Some, None}
+use Rattle.std.specs.Prelude.{◌≡◌, ◌≢◌, ◌⊎◌, ℕ, ◌+◌, ◌/◌, ◌<◌, ◌≤◌, List, [], ◌∷◌, ◌++◌, length, replicate, slice_index, slice_set, Some, None}
 use Rattle.bc_whole_heap.specs.Closed.{buffer_of}
 use Rattle.bc_whole_heap.specs.Heaps.{HeapView, end_of}
 use Rattle.bc_whole_heap.specs.Running.{IsRunning}
@@ -18,7 +18,8 @@ use Rattle.bc_nursery.specs.Objects.{Nursery}
 use Rattle.bc_nursery.specs.Objects as nursery
 use Rattle.bc_superpages.specs.declared.headers.PageState.{PageState}
 use Rattle.bc_superpages.specs.declared.headers.PageState.TheVariants.{Remembered}
-use Rattle.bc_superpages.specs.Layout.{Layout, state_at, with_state}
+use Rattle.bc_superpages.specs.Kept.{IsLayout}
+use Rattle.bc_superpages.specs.Layout.{Layout, content_at, state_at, with_state, with_word}
 use Rattle.bc_superpages.specs.Memory as cells
 use Rattle.bc_superpages.specs.RootWords.{RootWords, root_place}
 use Rattle.bc_word.specs.Addresses.{page_of}
@@ -27,7 +28,7 @@ use Rattle.bc_word.specs.declared.addresses.Address.{Address}
 use Rattle.bc_word.specs.declared.words.Word.{Word}
 use Rattle.bc_word.specs.declared.heads.Head.{Head}
 use Rattle.bc_word.specs.declared.words.Word.TheVariants.{Nil, Num, Ref}
-use Rattle.bc_mutator.specs.Objects.{Means, IsRead, own_chunk, memory_of, slot_word}
+use Rattle.bc_mutator.specs.Objects.{AreWhole, Means, IsRead, own_chunk, memory_of, slot_word}
 use Rattle.bc_mutator.specs.Operations.{NoneLater, RefersToField, StoresYoung}
 
 -- the root slots with another word in one of them
@@ -39,12 +40,15 @@ abbrev pub Answers : HeapView → List ℕ → ℕ → Op → Reply → Type 0
 Answers h holders lane op reply =
     (serials : List ℕ) → (state : State) → Means h holders serials state → act state lane op ≡ (state, reply)
 
--- what a lane's operation leaves as it was: chunks and buffers of other lanes, and all sizes
-pub record Leaves (lane : ℕ) (old new : HeapView) : Type 0 where
+-- what a lane's operation leaves as it was: what isn't the lane's, be it chunks, buffers, pages or root slots, and all sizes
+pub record Leaves (holders : List ℕ) (lane : ℕ) (old new : HeapView) : Type 0 where
   pub chunks : new.chunks ≡ slice_set old.chunks lane (own_chunk new lane)
   pub buffers : new.buffers ≡ slice_set old.buffers lane (buffer_of new.buffers lane)
   pub space : new.space ≡ record old.space { states = new.space.states; pages = new.space.pages }
+  pub pages : (page : ℕ) → slice_index holders (slice_index old.space.domains (page / 4)) ≢ lane
+      → (content_at new.space.pages page ≡ content_at old.space.pages page) × (state_at new.space.states page ≡ state_at old.space.states page)
   pub roots : new.roots ≡ record old.roots { words = new.roots.words }
+  pub slots : (p : Slot) → slice_index holders p.domain ≢ lane → p.slot < old.roots.slots → slot_word new.roots p ≡ slot_word old.roots p
   pub chunk : own_chunk new lane ≡ record (own_chunk old lane) { objects = (own_chunk new lane).objects }
   pub capacity : (buffer_of new.buffers lane).capacity ≡ (buffer_of old.buffers lane).capacity
   pub unrecorded : (own_chunk old lane).objects ≡ [] → (new.buffers ≡ old.buffers) × (new.space.states ≡ old.space.states)
@@ -141,7 +145,9 @@ pub record DoesAs (does : State → State × Reply) (old new : HeapView) (holder
   pub running : NoneLater old.space old.chunks lane serial → IsRunning new holders
   pub later : NoneLater old.space old.chunks lane serial → NoneLater new.space new.chunks lane next
   pub others_later : (l n : ℕ) → l ≢ lane → NoneLater old.space old.chunks l n → NoneLater new.space new.chunks l n
-  pub leaves : Leaves lane old new
+  pub layout : IsLayout new.space
+  pub whole : AreWhole new.chunks
+  pub leaves : Leaves holders lane old new
   pub recorded : HasRecorded old new holders lane op reply
   pub changed : HasChanged old new holders lane serial op reply
 
@@ -177,6 +183,7 @@ Records s t b e cell index word =
 -- a field of a cell is written, and recorded
 pub record WroteCell (s t : Layout) (b e : Entries) (cell : Address) (index : ℕ) (word : Word) : Type 0 where
   pub space : t ≡ record s { states = t.states; pages = t.pages }
+  pub words : t.pages ≡ with_word s.pages (cell.0 + 1 + index) (word_bits word)
   pub memory : cells.memory t ≡ with_cell (cells.memory s) cell.0 (Some (with_field (cells.cell_at s.pages cell.0) index word))
   pub entry : Records s t b e cell index word
 

@@ -61,7 +61,7 @@ returns-in-Err-clause-done g c = λ h s.
       h,
       s.part,
       λ serial op is.
-          done-answers h hs c.args.lane serial op c.in-Err.reply s.ready.running
+          done-answers h hs c.args.lane serial op c.in-Err.reply s.ready
           (write-refuses h hs c.args.lane c.args.index c.args.slot target c.args.word op c.in-Err.reply e (c.in-Err.ensures.refuses h w) is.writes)
           (is.records (refused-records h hs c.args.lane c.args.slot target c.args.index c.args.word c.in-Err.reply s.ready e
           (λ a of less. c.in-Err.ensures.none h w a of (subst (λ (x : Nursery). c.args.index < (cell_of h.space x a.0).head.fields) s.part.chunk_is less))))

@@ -13,4 +13,4 @@ returns-then-holds_all-clause-done g c =
 
 pub returns-else-holds_all-clause-done : goal.returns-else-holds_all-clause-done
 returns-else-holds_all-clause-done g c = λ h s.
-    (h, s.part, foreign-step h c.args.holders.now c.args.lane c.args.serial.now c.args.op.now s.ready.running (sym c.holds_all.ensures.held ∙ c.if-holds_all.false))
+    (h, s.part, foreign-step h c.args.holders.now c.args.lane c.args.serial.now c.args.op.now s.ready (sym c.holds_all.ensures.held ∙ c.if-holds_all.false))

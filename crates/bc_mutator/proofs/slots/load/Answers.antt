@@ -41,6 +41,6 @@ returns-in-Err-clause-done g c = λ h s.
     let w = slot-sees c.args.slot c.word-word.result s s.fits.0 c.requires.held.0 e in (
       h.roots,
       s.roots,
-      λ serial. done-answers h c.args.holders.now c.args.lane serial (Load c.args.slot c.args.index c.args.to) c.in-Err.reply s.ready.running
+      λ serial. done-answers h c.args.holders.now c.args.lane serial (Load c.args.slot c.args.index c.args.to) c.in-Err.reply s.ready
           (load-refuses h c.args.holders.now c.args.lane c.args.index c.args.slot c.args.to c.word-word.result c.in-Err.reply e (c.in-Err.ensures.refuses h w)) (refl, refl) refl,
     )
