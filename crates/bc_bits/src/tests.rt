@@ -1,3 +1,5 @@
+//! Tests of sets of bits in words.
+
 use super::*;
 
 #[test]

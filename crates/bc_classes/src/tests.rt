@@ -1,3 +1,5 @@
+//! The table of size classes, compared with numbers written out by hand.
+
 use super::*;
 
 #[test]

@@ -1,14 +1,16 @@
 -- What a source told, and what was read of it.
-use Rattle.std.proofs.Common.{◌≡◌, ℕ, List, Option, None, Some, IfSome, sym, subst, inl, inr}
+use Rattle.std.proofs.Common.{◌≡◌, ℕ, ◌<◌, ◌≤◌, List, Option, None, Some, IfSome, length, refl, sym, ap, subst, inl, inr, arith}
+use Rattle.bc_io.specs.declared.reading.ReadAll.{ReadAll}
+use Rattle.bc_io.specs.declared.reading.ReadAll.TheVariants as reads
 use Rattle.bc_trace.specs.Answers.{IsFaultOrMemory}
 use Rattle.bc_trace.specs.Faults.{Fault}
 use Rattle.bc_trace.specs.declared.fault.ReadTrace.{ReadTrace}
 use Rattle.bc_trace.specs.declared.fault.ReadTrace.TheVariants as answers
 use Rattle.bc_trace.specs.declared.fault.TraceFault.{TraceFault}
-use Rattle.bc_cli.specs.Outcomes.{MayGive, IsOrNoMemory}
-use Rattle.bc_cli.specs.Statuses.{refusal_of}
+use Rattle.bc_cli.specs.Outcomes.{MayGive, IsOrNoMemory, longest_trace}
+use Rattle.bc_cli.specs.Statuses.{refusal_of, unread}
 use Rattle.bc_cli.specs.declared.status.Status.{Status}
-use Rattle.bc_cli.specs.declared.status.Status.TheVariants.{BadTrace}
+use Rattle.bc_cli.specs.declared.status.Status.TheVariants.{BadTrace, TooLong, NoMemory}
 
 -- what was read of a source that told its bytes
 pub read_is : (told : Option (List ℕ)) (read bytes : List ℕ) → IfSome told (λ left. read ≡ left) → told ≡ Some bytes → read ≡ bytes
@@ -27,3 +29,19 @@ refused_so f answers.NoMemory status e same = inr e
 -- a trace was read, so the text has no fault
 pub not_faulty : {X : Type 0} (read bytes : List ℕ) (f : TraceFault) → read ≡ bytes → ((f : TraceFault) → Fault read f.line f.cause → ⊥) → Fault bytes f.line f.cause → X
 not_faulty read bytes f e none fault = absurd (none f (subst (λ b. Fault b f.line f.cause) (sym e) fault))
+
+-- a source that told few bytes didn't give too many
+pub not_longer : (told : Option (List ℕ)) (bytes : List ℕ) → IfSome told (λ left. longest_trace < length left) → told ≡ Some bytes → length bytes ≤ longest_trace → ⊥
+not_longer None bytes h e short = cc
+not_longer (Some left) bytes h e short = let same : left ≡ bytes = cc in omega (arith, ap length same)
+
+-- a source that gave no byte too many, and had no fault, was not read for want of memory alone
+pub unread-short : (e : ReadAll) → (e ≡ reads.TooLong → ⊥) → (e ≡ reads.ReadFault → ⊥) → unread e ≡ NoMemory
+unread-short reads.TooLong long fault = absurd (long refl)
+unread-short reads.ReadFault long fault = absurd (fault refl)
+unread-short reads.NoMemory long fault = refl
+
+pub unread-firm : (e : ReadAll) → (e ≡ reads.ReadFault → ⊥) → IsOrNoMemory (unread e) TooLong
+unread-firm reads.TooLong fault = inl refl
+unread-firm reads.ReadFault fault = absurd (fault refl)
+unread-firm reads.NoMemory fault = inr refl

@@ -1,9 +1,11 @@
 pub mod Pieces
 pub mod Bytes
+pub mod Refusing
 pub mod Replies
 pub mod Incoming
 pub mod Room
 pub mod Running
+pub mod PhaseEnds
 pub mod NeedRoom
 pub mod CutRoom
 pub mod Finishing

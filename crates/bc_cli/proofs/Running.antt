@@ -85,25 +85,15 @@ did-room t k e f p replies a at h d room = subst (λ (xs : List ℕ). HasRoom a 
 pub texts_before-next : (t : TraceLists) (k : ℕ) → k < length t.phases → texts_before t (k + 1) ≡ texts_before t k ++ text_at t k
 texts_before-next t k lt = texts-step (opening t.setup) t.phases k no_phase lt
 
-held-next : (t : TraceLists) (k : ℕ) (a b c : Option (List ℕ)) (text : List ℕ) → k < length t.phases → text ≡ text_at t k → HeldGrows b c text → HeldGrows a b (texts_before t k) → HeldGrows a c (texts_before t (k + 1))
+pub held-next : (t : TraceLists) (k : ℕ) (a b c : Option (List ℕ)) (text : List ℕ) → k < length t.phases → text ≡ text_at t k → HeldGrows b c text → HeldGrows a b (texts_before t k) → HeldGrows a c (texts_before t (k + 1))
 held-next t k a b c text lt is more held =
     subst (HeldGrows a c) (sym (texts_before-next t k lt)) (HeldGrows-more a b c (texts_before t k) (text_at t k) held (subst (HeldGrows b c) is more))
 
-pub held-on_ok : {T E : Type 0} (r : Result T E) (t : TraceLists) (k : ℕ) (b c : Option (List ℕ)) (text : List ℕ) → k < length t.phases → text ≡ text_at t k → OnOk r (HeldGrows b c text)
-    → OnOk r ((a : Option (List ℕ)) → HeldGrows a b (texts_before t k) → HeldGrows a c (texts_before t (k + 1)))
-held-on_ok (Ok x) t k b c text lt is more = λ a held. held-next t k a b c text lt is more held
-held-on_ok (Err x) t k b c text lt is more = tt
-
-room-next : (t : TraceLists) (k : ℕ) (a b c : Option ℕ) (text : List ℕ) → k < length t.phases → text ≡ text_at t k → RoomFalls b c (length text) → RoomFalls a b (length (texts_before t k)) → RoomFalls a c (length (texts_before t (k + 1)))
+pub room-next : (t : TraceLists) (k : ℕ) (a b c : Option ℕ) (text : List ℕ) → k < length t.phases → text ≡ text_at t k → RoomFalls b c (length text) → RoomFalls a b (length (texts_before t k)) → RoomFalls a c (length (texts_before t (k + 1)))
 room-next t k a b c text lt is more fell =
     let long : length (texts_before t (k + 1)) ≡ length (texts_before t k) + length text =
     ap length (texts_before-next t k lt) ∙ length-append (texts_before t k) (text_at t k) ∙ ap (λ xs. length (texts_before t k) + length xs) (sym is) in
     subst (RoomFalls a c) (sym long) (RoomFalls-more a b c (length (texts_before t k)) (length text) fell more)
-
-pub room-on_ok : {T E : Type 0} (r : Result T E) (t : TraceLists) (k : ℕ) (b c : Option ℕ) (text : List ℕ) → k < length t.phases → text ≡ text_at t k → OnOk r (RoomFalls b c (length text))
-    → OnOk r ((a : Option ℕ) → RoomFalls a b (length (texts_before t k)) → RoomFalls a c (length (texts_before t (k + 1))))
-room-on_ok (Ok x) t k b c text lt is more = λ a fell. room-next t k a b c text lt is more fell
-room-on_ok (Err x) t k b c text lt is more = tt
 
 pub fails-in_phase : (t : TraceLists) (k : ℕ) (e f : EngineView) (p : PhaseLists) (replies : List (List Reply)) (a b c : Option (List ℕ)) → k < length t.phases → phase_at t k ≡ p → HasRun t k e → DidPhase e p f replies → f.setup ≡ e.setup
     → WritesFront b c (phase_text (k + 1) replies) → HeldGrows a b (texts_before t k) → FailsInPhase t a c (Some f)
@@ -121,7 +111,7 @@ pub record CutAt (t : TraceLists) (k : ℕ) (f : EngineView) (replies : List (Li
   pub told : phase_text (k + 1) replies ++ out_of_heap_text need ≡ need_text t k cut need
   pub handed : HandsBack (Some f) t (Some (ended.OutOfHeap need)) (after_cut t k cut)
 
-cut-at : (t : TraceLists) (k : ℕ) (e f : EngineView) (replies : List (List Reply)) (need : ℕ) → k < length t.phases → HasRun t k e → CutPhase e (phase_at t k) f replies need → f.setup ≡ e.setup → CutAt t k f replies need
+pub cut-at : (t : TraceLists) (k : ℕ) (e f : EngineView) (replies : List (List Reply)) (need : ℕ) → k < length t.phases → HasRun t k e → CutPhase e (phase_at t k) f replies need → f.setup ≡ e.setup → CutAt t k f replies need
 cut-at t k e f replies need lt h c same =
     let at = c.stands (before t k) h.stands in
     record {
@@ -130,10 +120,6 @@ cut-at t k e f replies need lt h c same =
       told = ap (λ rs. phase_text (k + 1) rs ++ out_of_heap_text need) at.1;
       handed = record { setup = same ∙ h.setup; ended = c.cause; stands = at.2 };
     }
-
-pub cut-read : (t : TraceLists) (k : ℕ) (e f : EngineView) (p : PhaseLists) (replies : List (List Reply)) (need : ℕ) → k < length t.phases → phase_at t k ≡ p → HasRun t k e → CutPhase e p f replies need → f.setup ≡ e.setup → CutAt t k f replies need
-cut-read t k e f p replies need lt at h c same =
-    cut-at t k e f replies need lt h (subst (λ (q : PhaseLists). CutPhase e q f replies need) (sym at) c) same
 
 pub cut-room : (t : TraceLists) (k : ℕ) (f : EngineView) (replies : List (List Reply)) (need : ℕ) (a : Option ℕ) → CutAt t k f replies need → HasPhaseRoom a t k
     → HasRoom a (length (phase_text (k + 1) replies ++ out_of_heap_text need))

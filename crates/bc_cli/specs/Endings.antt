@@ -1,13 +1,15 @@
 -- How the replay of a trace ends: what is written of it, and what the heap stands for that it hands back.
 use Rattle.std.specs.Prelude.{◌≡◌, ◌⊎◌, ℕ, ◌+◌, ◌<◌, ◌≤◌, List, ◌++◌, length, drop, sum_by, Option, None, Some, IsSomeAnd}
 use Rattle.bc_engine.specs.Engines.{EngineView, EngineStands, HasEmptyChunks, HasRoomForBirths}
+use Rattle.bc_engine.specs.Phases.{DidPhase, CutPhase}
 use Rattle.bc_engine.specs.declared.engines.Ended.{Ended}
 use Rattle.bc_engine.specs.declared.engines.Ended.TheVariants.{OutOfHeap}
 use Rattle.bc_io.specs.Told.{HeldGrows, HasRoom, IsPrefix}
-use Rattle.bc_model.specs.Lists.{TraceLists}
+use Rattle.bc_model.specs.Lists.{PhaseLists, TraceLists}
 use Rattle.bc_model.specs.Need.{IsNeed}
 use Rattle.bc_model.specs.Run.{before, after_cut, final_state, ops_of}
 use Rattle.bc_model.specs.State.{State}
+use Rattle.bc_model.specs.declared.operations.Reply.{Reply}
 use Rattle.bc_trace.specs.Replies.{done_text, out_of_heap_text}
 use Rattle.bc_cli.specs.Output.{texts_before, all_texts, whole_text, text_at, need_text, cut_text}
 
@@ -94,6 +96,11 @@ pub record FailsAtNeed (t : TraceLists) (held held' : Option (List ℕ)) (heap :
 abbrev pub EndsInFault : TraceLists → Option (List ℕ) → Option (List ℕ) → Option EngineView → Type 0
 EndsInFault t held held' heap =
     FailsInPhase t held held' heap ⊎ (FailsAtDone t held held' heap ⊎ FailsAtNeed t held held' heap)
+
+-- A phase was run on the engine: it is done, or it ended at a cut for want of heap, by this need.
+abbrev pub PhaseEnded : EngineView → PhaseLists → EngineView → List (List Reply) → Option ℕ → Type 0
+PhaseEnded e p f replies None = DidPhase e p f replies
+PhaseEnded e p f replies (Some need) = CutPhase e p f replies need
 
 -- The engine has run the first k phases of the trace, and can run the others.
 pub record HasRun (t : TraceLists) (k : ℕ) (engine : EngineView) : Type 0 where

@@ -74,6 +74,14 @@ IfHeapless ReadFault P = P
 IfHeapless NoMemory P = P
 IfHeapless _ P = Unit {0}
 
+-- how a run can end that has read no trace
+abbrev pub IsRefusal : Status → Type 0
+IsRefusal (BadTrace line cause) = Unit {0}
+IsRefusal TooLong = Unit {0}
+IsRefusal ReadFault = Unit {0}
+IsRefusal NoMemory = Unit {0}
+IsRefusal _ = ⊥
+
 -- how a run can end that has read a trace
 abbrev pub IsEnding : Status → Type 0
 IsEnding Done = Unit {0}

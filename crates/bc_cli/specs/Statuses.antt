@@ -1,6 +1,8 @@
--- Statuses, and the exit status of each.
+-- Statuses: where one comes from, and the exit status and the line of each.
 use Rattle.std.specs.Prelude.{ℕ, List, ◌++◌, codes, Option, Some, None}
 use Rattle.std.specs.Fmt.{decimal}
+use Rattle.bc_io.specs.declared.reading.ReadAll.{ReadAll}
+use Rattle.bc_io.specs.declared.reading.ReadAll.TheVariants as reads
 use Rattle.bc_trace.specs.Causes.{cause_text}
 use Rattle.bc_trace.specs.declared.fault.ReadTrace.{ReadTrace}
 use Rattle.bc_trace.specs.declared.fault.ReadTrace.TheVariants as answers
@@ -19,6 +21,12 @@ exit_code_of ReadFault = 4
 exit_code_of WriteFault = 5
 exit_code_of (OutOfHeap need) = 6
 exit_code_of NoMemory = 7
+
+-- the status of a run whose input was not read to its end
+abbrev pub unread : ReadAll → Status
+unread reads.TooLong = TooLong
+unread reads.ReadFault = ReadFault
+unread reads.NoMemory = NoMemory
 
 -- the status of a run whose input was not read as a trace
 abbrev pub refusal_of : ReadTrace → Status

@@ -7,10 +7,10 @@
 // refusal. The definitions that the contract cites are in `specs/`: `Output` has the texts, `Endings` how a
 // replay ends and what its heap stands for then, `Outcomes` what each status says, `Words` the command line.
 //
-// `main` only makes the real source and sink, calls `top`, prints the fault and ends with its status.
-// What it does is shown by tests of the built program.
+// `main` only makes the real source and sink, calls `top`, prints the fault of its outcome and ends with
+// the outcome's exit status. What it does is shown by `.ci/examples` and `.ci/statuses` on the built program.
 //
-//     words -> command_of -> run:  read_all -> read -> replay:  for each phase, Engine::phase -> phase_text -> write_all
+//     words -> command_of -> read_trace -> run_trace:  for each phase, run_phase -> texts_of -> write_texts
 //
 // The replay keeps `HasRun`: after k phases the engine stands for the state that the plain heap has then, and the texts of
 // k phases are written. Each is written as soon as the phase has run, so memory for replies is that of a phase and not of
@@ -18,11 +18,12 @@
 // there. They are written, and the run ends. The heap goes back to the caller, who may look at what it stands for.
 #![tactic(auto)]
 
-ghost use Rattle.std.specs.Prelude.{◌≡◌, ◌≢◌, IfErr, IfOk, map, string_bytes};
-ghost use Rattle.bc_cli.specs.Outcomes.{IsOrNoMemory};
+ghost use Rattle.std.specs.Prelude.{◌≡◌, ◌≢◌, IfErr, IfOk, map, string_bytes, None};
+ghost use Rattle.bc_cli.specs.Outcomes.{Faulty, IfBadTrace, IfStatusOutOfHeap, IsOrNoMemory, RanOutOfHeap};
 ghost use Rattle.bc_cli.specs.Words.{IsCommand};
 
 mod command;
+mod input;
 mod laws;
 mod phases;
 mod replay;
@@ -76,31 +77,33 @@ fn borrowed(alloc: Global, words: &[String]) -> Result<Vec<&str>, AllocError>
 }
 
 /// Does what the words ask for, over these streams.
-fn run<R, I, O>(rt: &R, words: &[String], input: I, output: O) -> Status
+fn run_words<R, I, O>(rt: &R, words: &[String], input: I, output: O) -> Outcome
 where
     R: AllocGlobal + Threads + Sync,
     I: Read + Drop,
     O: Write + Drop,
-    ensures bad_words { result ≡ Status.BadWords → ¬ IsCommand (map (λ w. string_bytes w) words.now) }
-    ensures refused { ¬ IsCommand (map (λ w. string_bytes w) words.now) → IsOrNoMemory result Status.BadWords }
+    ensures bad_words { result.status ≡ Status.BadWords → ¬ IsCommand (map (λ w. string_bytes w) words.now) }
+    ensures refused { ¬ IsCommand (map (λ w. string_bytes w) words.now) → IsOrNoMemory result.status Status.BadWords }
+    ensures bad_trace { IfBadTrace result.status (λ line cause. Faulty None None line cause) }
+    ensures out_of_heap { IfStatusOutOfHeap result.status (λ need. RanOutOfHeap None None None None result.heap need) }
 {
     let Ok(texts) = borrowed(rt.alloc(), words) else {
-        return Status::NoMemory;
+        return Outcome::without_heap(Status::NoMemory);
     };
     let mut source = StdSource::new(input);
     let mut sink = StdSink::new(output);
-    top(rt, rt.alloc(), &texts, &mut source, &mut sink, &OpenGate).status
+    top(rt, rt.alloc(), &texts, &mut source, &mut sink, &OpenGate)
 }
 
 fn main(rt: HostRuntime) -> ExitCode {
-    let status = match words_of(&rt) {
-        Ok(words) => run(&rt, &words, rt.stdin(), rt.stdout()),
-        Err(status) => status,
+    let outcome = match words_of(&rt) {
+        Ok(words) => run_words(&rt, &words, rt.stdin(), rt.stdout()),
+        Err(status) => Outcome::without_heap(status),
     };
-    if let Some(fault) = status.fault() {
+    if let Some(fault) = outcome.fault() {
         let _ = eprintln!(rt; "{fault}");
     }
-    ExitCode::from(status.exit_code())
+    ExitCode::from(outcome.exit_code())
 }
 
 #[cfg(test)]

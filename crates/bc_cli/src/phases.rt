@@ -1,20 +1,30 @@
 //! The phases of a trace: each is run, and what it prints is written.
 
-ghost use Rattle.std.specs.Prelude.{◌≡◌, ℕ, ◌+◌, ◌^◌, ◌<◌, List, Option, Some, length, OnOk, IsErrOf};
+ghost use Rattle.std.specs.Prelude.{◌≡◌, ℕ, ◌+◌, ◌^◌, ◌<◌, List, Option, Some, None, length, OnOk, IfOk, IsErr, IsErrOf};
+ghost use Rattle.bc_engine.specs.Engines.{HasRoomForBirths};
+ghost use Rattle.bc_engine.specs.Lanes.{HasRoomForOps};
+ghost use Rattle.bc_engine.specs.declared.engines.Ended.{Ended};
 ghost use Rattle.bc_io.specs.Faults.{Rose};
 ghost use Rattle.bc_io.specs.Told.{HeldGrows, RoomFalls};
-ghost use Rattle.bc_model.specs.WellFormed.{IsTrace};
+ghost use Rattle.bc_model.specs.WellFormed.{IsPhase, IsTrace};
 ghost use Rattle.bc_cli.specs.Output.{texts_before, all_texts};
-ghost use Rattle.bc_cli.specs.Endings.{EndsOutOfHeap, EndsInFault, StopsBefore, HasRun, HasRunRoom, HasPhaseRoom};
+ghost use Rattle.bc_cli.specs.Endings.{EndsOutOfHeap, EndsInFault, StopsBefore, HasRun, HasRunRoom, HasPhaseRoom, PhaseEnded};
 
-use crate::status::Stop;
-use crate::texts::{write_need, write_replies};
+use crate::status::Ending;
+use crate::texts::{texts_of, write_texts};
 use bc_engine::{Engine, PhaseNo};
 use bc_io::Sink;
-use bc_model::Trace;
+use bc_model::{Phase, Replies, Trace};
 use bc_pins::Gate;
-use std::alloc::Global;
+use std::alloc::{AllocError, Global};
 use std::thread::Threads;
+
+/// How a phase ended: its replies, and the need where it ended for want of heap.
+#[derive(Drop)]
+struct PhaseEnd {
+    replies: Replies,
+    need: Option<u64>,
+}
 
 /// Runs the phases, and writes the text of each as soon as it has run.
 pub(crate) fn write_phases<R, K, G>(
@@ -24,7 +34,7 @@ pub(crate) fn write_phases<R, K, G>(
     trace: &Trace,
     sink: &mut K,
     gate: &G,
-) -> Result<(), Stop>
+) -> Result<(), Ending>
 where
     R: Threads + Sync,
     K: Sink,
@@ -37,13 +47,13 @@ where
     ensures written { OnOk result (HeldGrows (K.held sink.old) (K.held sink.new) (all_texts trace.now)) }
     ensures filled { OnOk result
         (RoomFalls (K.room sink.old) (K.room sink.new) (length (all_texts trace.now))) }
-    ensures write_fault { IsErrOf result Stop.WriteFault → Rose (K.faults sink.old) (K.faults sink.new)
+    ensures write_fault { IsErrOf result Ending.WriteFault → Rose (K.faults sink.old) (K.faults sink.new)
         × EndsInFault trace.now (K.held sink.old) (K.held sink.new) (Some engine.new) }
-    ensures out_of_heap { (need : ℕ) → IsErrOf result (Stop.OutOfHeap need) →
+    ensures out_of_heap { (need : ℕ) → IsErrOf result (Ending.OutOfHeap need) →
         EndsOutOfHeap trace.now (K.held sink.old) (K.held sink.new) (Some engine.new) need }
-    ensures no_memory { IsErrOf result Stop.NoMemory →
+    ensures no_memory { IsErrOf result Ending.NoMemory →
         StopsBefore trace.now (K.held sink.old) (K.held sink.new) }
-    ensures firm { ¬ IsErrOf result Stop.WriteFault → K.faults sink.new ≡ K.faults sink.old }
+    ensures firm { ¬ IsErrOf result Ending.WriteFault → K.faults sink.new ≡ K.faults sink.old }
 {
     for index in 0..trace.phases.len() {
         write_phase(rt, alloc, engine, trace, index, sink, gate)?;
@@ -51,7 +61,7 @@ where
     Ok(())
 }
 
-/// Runs the phase of this index and writes its text.
+/// Runs the phase of this index and writes its texts.
 fn write_phase<R, K, G>(
     rt: &R,
     alloc: Global,
@@ -60,7 +70,7 @@ fn write_phase<R, K, G>(
     index: usize,
     sink: &mut K,
     gate: &G,
-) -> Result<(), Stop>
+) -> Result<(), Ending>
 where
     R: Threads + Sync,
     K: Sink,
@@ -77,22 +87,53 @@ where
     ensures filled { OnOk result ((start : Option ℕ) →
         RoomFalls start (K.room sink.old) (length (texts_before trace.now index)) →
         RoomFalls start (K.room sink.new) (length (texts_before trace.now (index + 1)))) }
-    ensures write_fault { IsErrOf result Stop.WriteFault → Rose (K.faults sink.old) (K.faults sink.new)
+    ensures write_fault { IsErrOf result Ending.WriteFault → Rose (K.faults sink.old) (K.faults sink.new)
         × ((start : Option (List ℕ)) →
         HeldGrows start (K.held sink.old) (texts_before trace.now index) →
         EndsInFault trace.now start (K.held sink.new) (Some engine.new)) }
-    ensures out_of_heap { (need : ℕ) → IsErrOf result (Stop.OutOfHeap need) → (start : Option (List ℕ)) →
+    ensures out_of_heap { (need : ℕ) → IsErrOf result (Ending.OutOfHeap need) → (start : Option (List ℕ)) →
         HeldGrows start (K.held sink.old) (texts_before trace.now index) →
         EndsOutOfHeap trace.now start (K.held sink.new) (Some engine.new) need }
-    ensures no_memory { IsErrOf result Stop.NoMemory → sink.new ≡ sink.old }
-    ensures firm { ¬ IsErrOf result Stop.WriteFault → K.faults sink.new ≡ K.faults sink.old }
+    ensures no_memory { IsErrOf result Ending.NoMemory → sink.new ≡ sink.old }
+    ensures firm { ¬ IsErrOf result Ending.WriteFault → K.faults sink.new ≡ K.faults sink.old }
 {
-    let number = index as u32 + 1;
-    match engine.phase(rt, alloc, &trace.phases[index], gate) {
-        Ok(replies) => write_replies(alloc, number, &replies, sink),
+    let end = run_phase(rt, alloc, engine, &trace.phases[index], gate)?;
+    let texts = texts_of(alloc, index as u32 + 1, &end.replies, end.need)?;
+    write_texts(sink, &texts)?;
+    match end.need {
+        Some(need) => Err(Ending::OutOfHeap { need }),
+        None => Ok(()),
+    }
+}
+
+/// Runs a phase. Where it answers no end the engine has run out of memory itself.
+fn run_phase<R, G>(
+    rt: &R,
+    alloc: Global,
+    engine: &mut Engine,
+    phase: &Phase,
+    gate: &G,
+) -> Result<PhaseEnd, AllocError>
+where
+    R: Threads + Sync,
+    G: Gate + Sync,
+    requires going { engine.old.ended ≡ None }
+    requires phase { IsPhase engine.old.setup phase.now }
+    requires births { HasRoomForOps engine.old phase.now.lanes 0 }
+    ensures ended { IfOk result (λ end. PhaseEnded engine.old phase.now engine.new end.replies end.need) }
+    ensures setup { engine.new.setup ≡ engine.old.setup }
+    ensures births { (n : ℕ) → HasRoomForOps engine.old phase.now.lanes n → HasRoomForBirths engine.new n }
+    ensures no_memory { IsErr result → engine.new.ended ≡ Some Ended.NoMemory }
+{
+    match engine.phase(rt, alloc, phase, gate) {
+        Ok(replies) => Ok(PhaseEnd {
+            replies,
+            need: None,
+        }),
         Err(PhaseNo::OutOfHeap { replies, need }) => {
-            Err(write_need(alloc, number, &replies, need, sink))
+            let need = Some(need);
+            Ok(PhaseEnd { replies, need })
         }
-        Err(PhaseNo::NoMemory) => Err(Stop::NoMemory),
+        Err(PhaseNo::NoMemory) => Err(AllocError),
     }
 }

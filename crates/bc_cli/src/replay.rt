@@ -1,3 +1,5 @@
+//! The call that the program makes: the words, then the trace, then its replay.
+
 ghost use Rattle.std.specs.Prelude.{◌≡◌, ◌≢◌, ℕ, ◌+◌, ◌^◌, ◌<◌, ◌≤◌, ◌⊎◌, List, Some, None, length, map};
 ghost use Rattle.bc_io.specs.Faults.{Rose};
 ghost use Rattle.bc_io.specs.Told.{GivesAtMost, GivesExactly};
@@ -7,24 +9,21 @@ ghost use Rattle.bc_model.specs.WellFormed.{IsTrace};
 ghost use Rattle.bc_trace.specs.Faults.{Fault};
 ghost use Rattle.bc_trace.specs.Lines.{Spells};
 ghost use Rattle.bc_trace.specs.declared.fault.TraceFault.{TraceFault};
-ghost use Rattle.bc_cli.specs.Statuses.{refusal_of};
+ghost use Rattle.bc_cli.specs.Statuses.{exit_code_of, fault_of};
 ghost use Rattle.bc_cli.specs.Words.{IsCommand};
 ghost use Rattle.bc_cli.specs.Endings.{EndsDone, EndsOutOfHeap, EndsInFault, StopsBefore, FitsThroughout, HasRunRoom};
 ghost use Rattle.bc_cli.specs.Outcomes.{Replayed, RanOutOfHeap, ReplayedInPart, ReplayedTo, Faulty, IfBadTrace, IfStatusOutOfHeap, IfHeapless, IsEnding, IsOrNoMemory, HasRoomFor, longest_trace};
 
 use crate::command::{Command, command_of};
+use crate::input::read_trace;
 use crate::phases::write_phases;
-use crate::status::{Status, Stop};
+use crate::status::{Ending, Fault, Status};
 use bc_engine::Engine;
-use bc_io::{ReadAll, Sink, Source, read_all, write_all};
+use bc_io::{Sink, Source, write_all};
 use bc_model::Trace;
 use bc_pins::Gate;
-use bc_trace::{ReadTrace, read};
 use std::alloc::Global;
 use std::thread::Threads;
-
-/// The most bytes that a trace may have.
-pub const LONGEST_TRACE: usize = 16_777_216;
 
 /// The last line of a run that is done.
 const DONE: &[u8] = b"done\n";
@@ -51,11 +50,25 @@ impl Outcome {
         }
     }
 
-    fn without_heap(status: Status) -> Self
+    pub(crate) fn without_heap(status: Status) -> Self
         ensures status { result.status ≡ status }
         ensures heap { result.heap ≡ None }
     {
         Outcome { status, heap: None }
+    }
+
+    /// What is wrong with the run, if it wasn't done.
+    pub fn fault(&self) -> Option<Fault>
+        ensures { result ≡ fault_of self.now.status }
+    {
+        self.status.fault()
+    }
+
+    /// The exit status of the program.
+    pub fn exit_code(&self) -> u8
+        ensures { result ≡ exit_code_of self.now.status }
+    {
+        self.status.exit_code()
     }
 }
 
@@ -120,82 +133,16 @@ where
         ¬ Rose (S.faults source.old) (S.faults source.new) → IsOrNoMemory result.status Status.TooLong }
 {
     match command_of(words) {
-        Some(Command::Run) => run(rt, alloc, source, sink, gate),
+        Some(Command::Run) => match read_trace(alloc, source) {
+            Ok(trace) => run_trace(rt, alloc, &trace, sink, gate),
+            Err(status) => Outcome::without_heap(status),
+        },
         None => Outcome::without_heap(Status::BadWords),
     }
 }
 
-/// Reads the whole trace and replays it.
-fn run<R, S, K, G>(rt: &R, alloc: Global, source: &mut S, sink: &mut K, gate: &G) -> Outcome
-where
-    R: Threads + Sync,
-    S: Source,
-    K: Sink,
-    G: Gate + Sync,
-    requires { HasRoomFor (S.left source.old) (K.room sink.old) }
-    ensures done { result.status ≡ Status.Done →
-        Replayed (S.left source.old) (S.left source.new) (K.held sink.old) (K.held sink.new) result.heap }
-    ensures words { result.status ≢ Status.BadWords }
-    ensures bad_trace { IfBadTrace result.status (λ line cause.
-        Faulty (S.left source.old) (S.left source.new) line cause × (sink.new ≡ sink.old)) }
-    ensures too_long { result.status ≡ Status.TooLong →
-        GivesExactly (S.left source.old) (S.left source.new) (longest_trace + 1) × (sink.new ≡ sink.old) }
-    ensures short { result.status ≢ Status.TooLong →
-        GivesAtMost (S.left source.old) (S.left source.new) longest_trace }
-    ensures read_fault { result.status ≡ Status.ReadFault →
-        Rose (S.faults source.old) (S.faults source.new) × (sink.new ≡ sink.old) }
-    ensures write_fault { result.status ≡ Status.WriteFault →
-        Rose (K.faults sink.old) (K.faults sink.new)
-        × ReplayedInPart (S.left source.old) (S.left source.new) (K.held sink.old) (K.held sink.new) result.heap }
-    ensures firm_source { result.status ≢ Status.ReadFault → S.faults source.new ≡ S.faults source.old }
-    ensures firm_sink { result.status ≢ Status.WriteFault → K.faults sink.new ≡ K.faults sink.old }
-    ensures out_of_heap { IfStatusOutOfHeap result.status (λ need.
-        RanOutOfHeap (S.left source.old) (S.left source.new) (K.held sink.old) (K.held sink.new) result.heap need) }
-    ensures no_memory { result.status ≡ Status.NoMemory → (sink.new ≡ sink.old)
-        ⊎ ReplayedTo (S.left source.old) (S.left source.new) (K.held sink.old) (K.held sink.new) }
-    ensures none { IfHeapless result.status (result.heap ≡ None) }
-    ensures complete { (bytes : List ℕ) (t : TraceLists) →
-        S.left source.old ≡ Some bytes → length bytes ≤ longest_trace → Spells bytes t → FitsThroughout t →
-        ¬ Rose (S.faults source.old) (S.faults source.new) → ¬ Rose (K.faults sink.old) (K.faults sink.new) →
-        IsOrNoMemory result.status Status.Done }
-    ensures faulty { (bytes : List ℕ) (f : TraceFault) →
-        S.left source.old ≡ Some bytes → length bytes ≤ longest_trace → Fault bytes f.line f.cause →
-        ¬ Rose (S.faults source.old) (S.faults source.new) →
-        IsOrNoMemory result.status (Status.BadTrace f.line f.cause) }
-    ensures longer { (bytes : List ℕ) →
-        S.left source.old ≡ Some bytes → longest_trace < length bytes →
-        ¬ Rose (S.faults source.old) (S.faults source.new) → IsOrNoMemory result.status Status.TooLong }
-{
-    let trace = {
-        let bytes = match read_all(alloc, source, LONGEST_TRACE) {
-            Ok(bytes) => bytes,
-            Err(ReadAll::TooLong) => return Outcome::without_heap(Status::TooLong),
-            Err(ReadAll::ReadFault) => return Outcome::without_heap(Status::ReadFault),
-            Err(ReadAll::NoMemory) => return Outcome::without_heap(Status::NoMemory),
-        };
-        match read(alloc, &bytes) {
-            Ok(trace) => trace,
-            Err(error) => return Outcome::without_heap(refusal(error)),
-        }
-    };
-    replay(rt, alloc, &trace, sink, gate)
-}
-
-/// The status of a run whose input was not read as a trace.
-fn refusal(error: ReadTrace) -> Status
-    ensures { result ≡ refusal_of error }
-{
-    match error {
-        ReadTrace::Fault(fault) => Status::BadTrace {
-            line: fault.line,
-            cause: fault.cause,
-        },
-        ReadTrace::NoMemory => Status::NoMemory,
-    }
-}
-
 /// Replays a trace on a new heap: writes the text of each phase as soon as it has run, and then the last line.
-fn replay<R, K, G>(rt: &R, alloc: Global, trace: &Trace, sink: &mut K, gate: &G) -> Outcome
+fn run_trace<R, K, G>(rt: &R, alloc: Global, trace: &Trace, sink: &mut K, gate: &G) -> Outcome
 where
     R: Threads + Sync,
     K: Sink,
@@ -224,8 +171,8 @@ where
             Ok(()) => Outcome::with_heap(Status::Done, engine),
             Err(_) => Outcome::with_heap(Status::WriteFault, engine),
         },
-        Err(Stop::WriteFault) => Outcome::with_heap(Status::WriteFault, engine),
-        Err(Stop::OutOfHeap { need }) => Outcome::with_heap(Status::OutOfHeap { need }, engine),
-        Err(Stop::NoMemory) => Outcome::without_heap(Status::NoMemory),
+        Err(Ending::WriteFault) => Outcome::with_heap(Status::WriteFault, engine),
+        Err(Ending::OutOfHeap { need }) => Outcome::with_heap(Status::OutOfHeap { need }, engine),
+        Err(Ending::NoMemory) => Outcome::without_heap(Status::NoMemory),
     }
 }

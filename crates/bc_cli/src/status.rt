@@ -1,9 +1,13 @@
+//! How a run ends: its status, and the exit status and the line on standard error that tell it.
+
 ghost use Rattle.std.specs.Prelude.{◌≡◌};
 ghost use Rattle.bc_cli.specs.Statuses.{exit_code_of, fault_of};
 
-use bc_trace::Cause;
-use std::error::Error;
+use bc_io::{ReadAll, WriteFault};
+use bc_trace::{Cause, ReadTrace};
+use std::alloc::AllocError;
 use std::fmt;
+use thiserror::Error;
 
 /// How a run ended.
 #[derive(Clone, Copy, Debug, PartialEq, Eq)]
@@ -27,16 +31,68 @@ pub enum Status {
     NoMemory,
 }
 
-/// Why a replay stopped.
+impl From<ReadAll> for Status {
+    ghost use Rattle.bc_cli.specs.Statuses.{unread};
+
+    ghost from_gives = { λ error status. status ≡ unread error };
+
+    /// The status of a run whose input was not read to its end.
+    fn from(error: ReadAll) -> Status {
+        match error {
+            ReadAll::TooLong => Status::TooLong,
+            ReadAll::ReadFault => Status::ReadFault,
+            ReadAll::NoMemory => Status::NoMemory,
+        }
+    }
+}
+
+impl From<ReadTrace> for Status {
+    ghost use Rattle.bc_cli.specs.Statuses.{refusal_of};
+
+    ghost from_gives = { λ error status. status ≡ refusal_of error };
+
+    /// The status of a run whose input is no trace.
+    fn from(error: ReadTrace) -> Status {
+        match error {
+            ReadTrace::Fault(fault) => Status::BadTrace {
+                line: fault.line,
+                cause: fault.cause,
+            },
+            ReadTrace::NoMemory => Status::NoMemory,
+        }
+    }
+}
+
+/// How a replay ends before its last line.
 #[derive(Clone, Copy, Debug, PartialEq, Eq)]
-pub(crate) enum Stop {
+pub(crate) enum Ending {
     WriteFault,
     OutOfHeap { need: u64 },
     NoMemory,
 }
 
+impl From<AllocError> for Ending {
+    ghost use Rattle.bc_cli.specs.declared.status.Ending.TheVariants.{NoMemory};
+
+    ghost from_gives = { λ _ ending. ending ≡ NoMemory };
+
+    fn from(_error: AllocError) -> Ending {
+        Ending::NoMemory
+    }
+}
+
+impl From<WriteFault> for Ending {
+    ghost use Rattle.bc_cli.specs.declared.status.Ending.TheVariants.{WriteFault};
+
+    ghost from_gives = { λ _ ending. ending ≡ WriteFault };
+
+    fn from(_error: WriteFault) -> Ending {
+        Ending::WriteFault
+    }
+}
+
 /// What is wrong with a run, as the line on standard error tells it.
-#[derive(Clone, Copy, Debug)]
+#[derive(Clone, Copy, Debug, Error)]
 pub enum Fault {
     BadWords,
     BadTrace { line: u32, cause: Cause },
@@ -65,8 +121,6 @@ impl fmt::Display for Fault {
         }
     }
 }
-
-impl Error for Fault {}
 
 impl Status {
     /// What is wrong with the run, if it wasn't done.

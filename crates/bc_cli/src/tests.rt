@@ -1,4 +1,4 @@
-//! The worked rows, on `top`.
+//! Runs of `top` over devices in memory: what is printed, what is refused, and what a fault leaves.
 
 mod devices;
 mod engines;
@@ -23,7 +23,7 @@ pub struct Ran {
 }
 
 /// Runs the words over these bytes.
-pub fn run_words<R: Threads + Sync>(rt: &R, alloc: Global, words: &[&str], input: Vec<u8>) -> Ran {
+pub fn run_over<R: Threads + Sync>(rt: &R, alloc: Global, words: &[&str], input: Vec<u8>) -> Ran {
     let mut source = MemSource::new(input, 4096, Vec::new(alloc));
     let mut sink = Paper::new(alloc);
     let outcome = top(rt, alloc, words, &mut source, &mut sink, &OpenGate);
@@ -41,7 +41,7 @@ pub fn shows_done<R: Threads + Sync + Abort>(
     input: &str,
     output: &str,
 ) -> Result<(), AllocError> {
-    let ran = run_words(rt, alloc, &["run"], input.as_bytes().to_vec(alloc)?);
+    let ran = run_over(rt, alloc, &["run"], input.as_bytes().to_vec(alloc)?);
     assert_eq!(rt; ran.status, Status::Done);
     assert!(rt; ran.has_heap);
     assert!(rt; ran.written.as_slice() == output.as_bytes(), "at {input}");
@@ -56,7 +56,7 @@ pub fn shows_fault<R: Threads + Sync + Abort>(
     line: u32,
     cause: Cause,
 ) -> Result<(), AllocError> {
-    let ran = run_words(rt, alloc, &["run"], input.as_bytes().to_vec(alloc)?);
+    let ran = run_over(rt, alloc, &["run"], input.as_bytes().to_vec(alloc)?);
     assert_eq!(rt; ran.status, Status::BadTrace { line, cause });
     assert!(rt; !ran.has_heap);
     assert!(rt; ran.written.is_empty());

@@ -1,3 +1,5 @@
+//! Frames, and the pool that claims and gives them.
+
 ghost use Rattle.std.specs.Prelude.{◌≡◌, ℕ, ◌<◌, ◌≤◌, ◌==◌, Bool, true, false, List, length, slice_set, replicate, count_by, IfOk, IfSome, IfNone, vec_capacity, nat_lt};
 ghost use Rattle.bc_bits.specs.Counting.{one_if};
 ghost use Rattle.bc_frames.specs.Pool.{is_free, free_count};

@@ -1,3 +1,5 @@
+//! The box of one page.
+
 ghost use Rattle.std.specs.Prelude.{◌≡◌, ℕ, ◌+◌, ◌<◌, ◌≤◌, ◌++◌, List, length, slice_index, slice_set, take, drop, replicate, IfOk};
 
 use std::alloc::{AllocError, Global};

@@ -1,3 +1,5 @@
+//! Tests of the pool of frames and of the store.
+
 use super::*;
 use std::test::Fail;
 

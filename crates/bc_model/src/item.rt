@@ -1,3 +1,5 @@
+//! An object of the plain heap.
+
 ghost use Rattle.std.specs.Prelude.{◌≡◌, ◌^◌, ◌<◌, length, IfOk, replicate, slice_index_or, slice_set};
 
 use crate::values::Value;

@@ -1,3 +1,5 @@
+//! All objects that were made, by their births.
+
 ghost use Rattle.std.specs.Prelude.{◌≡◌, ◌+◌, ◌^◌, ◌<◌, [], IfOk, OnErr, length, replicate, slice_index_or};
 ghost use Rattle.bc_model.specs.State.{IsBorn, made_by, next_birth, object_of, with_made, with_object, with_value};
 

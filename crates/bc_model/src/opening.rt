@@ -1,3 +1,5 @@
+//! Which lane holds which domain as a run begins.
+
 ghost use Rattle.std.specs.Prelude.{◌≡◌, ◌<◌, ◌%◌, IfOk, map};
 ghost use Rattle.bc_model.specs.State.{numbers_below};
 

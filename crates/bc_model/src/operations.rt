@@ -1,4 +1,4 @@
-//! What a lane may do, the slots that it names, and what it is answered.
+//! The operations of a lane, the slots that they name, and the replies to them.
 
 ghost use Rattle.std.specs.Prelude.{◌≡◌};
 ghost use Rattle.bc_model.specs.Slots.{slots_of, domains_in, AreSlots};

@@ -1,3 +1,5 @@
+//! Phases of a trace on the plain heap.
+
 ghost use Rattle.std.specs.Prelude.{◌≡◌, ℕ, ◌+◌, ◌^◌, ◌<◌, ◌≤◌, IfOk, OnOk, length, sum_by};
 ghost use Rattle.std.specs.List.{AllByRecursion};
 ghost use Rattle.bc_model.specs.Consistent.{HasSerials, HasSizes, sizes_of};

@@ -1,3 +1,5 @@
+//! Tests of the plain heap.
+
 ghost use Rattle.std.specs.Prelude.{◌<◌};
 ghost use Rattle.bc_model.specs.Consistent.{HasSerials, HasSizes};
 ghost use Rattle.bc_model.specs.WellFormed.{IsOp};

@@ -1,3 +1,5 @@
+//! A trace as data: its setup, phases, gives, and the replies to a phase.
+
 use crate::operations::{Op, Reply};
 use std::marker::Model;
 

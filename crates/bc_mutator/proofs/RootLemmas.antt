@@ -34,7 +34,7 @@ use Rattle.bc_word.specs.declared.addresses.Address.{Address}
 use Rattle.bc_word.specs.declared.words.Word.{Word}
 use Rattle.bc_word.specs.declared.words.Word.TheVariants as word
 use Rattle.bc_mutator.specs.Effects.{with_root, Answers, Leaves, HasRecorded, HasChanged, DoesAs, DidAct}
-use Rattle.bc_mutator.specs.Objects.{Means, MayOperate, IsRead, IsOwn, IsOfLane, ActsOnField, RefusesField, memory_of, own_chunk, cell_of, slot_word, loaded_as}
+use Rattle.bc_mutator.specs.Objects.{MayOperate, IsRead, IsOwn, IsOfLane, ActsOnField, RefusesField, memory_of, own_chunk, cell_of, slot_word, loaded_as}
 use Rattle.bc_mutator.proofs.MeaningLemmas.{same_place, read-nil, read-num, read-ref, read-field, home-ref}
 use Rattle.bc_mutator.proofs.ObjectLemmas.{there-below, there-above, cell_of-below, cell_of-above, memory-there}
 use Rattle.bc_mutator.proofs.TellingLemmas.{word-read, is-object}
@@ -100,7 +100,7 @@ root_words-set r p w =
     ∙ ap (λ (x : Word). set (root_words r) (root_place r p.domain p.slot) x) (word_of_bits-word_bits w)
 
 -- the heap stands for the state with the value in the slot
-pub stands-root : (s : Layout) (r : RootWords) (cs : List Nursery) (hs serials : List ℕ) (state : State) (p : Slot) (w : Word) (v : Value) → StandsAs s r cs hs serials state → FitsWord w → IsRead (heap_memory s cs) state w v → StandsAs s (with_root r p w) cs hs serials (with_slot state p v)
+pub stands-root : {bs : List Entries} (s : Layout) (r : RootWords) (cs : List Nursery) (hs serials : List ℕ) (state : State) (p : Slot) (w : Word) (v : Value) → StandsAs (view_of s r cs bs) hs serials state → FitsWord w → IsRead (heap_memory s cs) state w v → StandsAs (view_of s (with_root r p w) cs bs) hs serials (with_slot state p v)
 stands-root s r cs hs serials state p w v h fits read = record {
   consistent = IsState-with_slot state p v h.consistent (value-held m (root_words r) state w v h.stands h.born fits read);
   stands = subst (λ (ws : List Word). Stands m ws (set state.slots (place_of state.width p) v) state.made) (sym words)
@@ -150,13 +150,13 @@ Leaves-root h r hs lane same others = record {
 }
 
 -- an operation that changes nothing is done
-pub done-nothing : (does : State → State × Reply) (h : HeapView) (hs : List ℕ) (lane serial : ℕ) (op : Op) (reply : Reply) → MayOperate h hs lane → ((serials : List ℕ) → (state : State) → Means h hs serials state → does state ≡ (state, reply)) → HasRecorded h h hs lane op reply → HasChanged h h hs lane serial op reply → DoesAs does h h hs lane serial serial op reply
+pub done-nothing : (does : State → State × Reply) (h : HeapView) (hs : List ℕ) (lane serial : ℕ) (op : Op) (reply : Reply) → MayOperate h hs lane → ((serials : List ℕ) → (state : State) → StandsAs h hs serials state → does state ≡ (state, reply)) → HasRecorded h h hs lane op reply → HasChanged h h hs lane serial op reply → DoesAs does h h hs lane serial serial op reply
 done-nothing does h hs lane serial op reply ready answers recorded changed = record {
   step = λ serials state means e.
       let is = answers serials state means in (
         ap (λ (x : State × Reply). x.1) is,
-        subst (λ (xs : List ℕ). Means h hs xs (does state).0) (sym (same_serials serials lane serial e))
-            (subst (λ (x : State). Means h hs serials x) (sym (ap (λ (x : State × Reply). x.0) is)) means),
+        subst (λ (xs : List ℕ). StandsAs h hs xs (does state).0) (sym (same_serials serials lane serial e))
+            (subst (λ (x : State). StandsAs h hs serials x) (sym (ap (λ (x : State × Reply). x.0) is)) means),
       );
   running = λ none. ready.running;
   later = λ none. none;
@@ -172,13 +172,13 @@ pub done-answers : (h : HeapView) (hs : List ℕ) (lane serial : ℕ) (op : Op) 
 done-answers h hs lane serial op reply ready answers recorded changed = done-nothing (λ state. act state lane op) h hs lane serial op reply ready answers recorded changed
 
 -- so is one that writes a root slot
-pub done-root : (h : HeapView) (r : RootWords) (hs : List ℕ) (lane serial : ℕ) (p : Slot) (w : Word) (op : Op) (reply : Reply) → MayOperate h hs lane → r ≡ with_root h.roots p w → p.slot < h.roots.slots → get_or hs p.domain 0 ≡ lane → IsOwn h.space (own_chunk h lane) w → FitsWord w → ((serials : List ℕ) → (state : State) → Means h hs serials state → (v : Value) × IsRead (memory_of h) state w v × (act state lane op ≡ (with_slot state p v, reply))) → HasRecorded h h hs lane op reply → HasChanged h h hs lane serial op reply → DidAct h (record h { roots = r }) hs lane serial serial op reply
+pub done-root : (h : HeapView) (r : RootWords) (hs : List ℕ) (lane serial : ℕ) (p : Slot) (w : Word) (op : Op) (reply : Reply) → MayOperate h hs lane → r ≡ with_root h.roots p w → p.slot < h.roots.slots → get_or hs p.domain 0 ≡ lane → IsOwn h.space (own_chunk h lane) w → FitsWord w → ((serials : List ℕ) → (state : State) → StandsAs h hs serials state → (v : Value) × IsRead (memory_of h) state w v × (act state lane op ≡ (with_slot state p v, reply))) → HasRecorded h h hs lane op reply → HasChanged h h hs lane serial op reply → DidAct h (record h { roots = r }) hs lane serial serial op reply
 done-root h r hs lane serial p w op reply ready is within held own fits effect recorded changed = subst (λ (x : RootWords). DidAct h (record h { roots = x }) hs lane serial serial op reply) (sym is) (record {
   step = λ serials state means e.
       let k = effect serials state means in (
         ap (λ (x : State × Reply). x.1) k.2,
-        subst (λ (xs : List ℕ). StandsAs h.space (with_root h.roots p w) h.chunks hs xs (act state lane op).0) (sym (same_serials serials lane serial e))
-            (subst (λ (x : State). StandsAs h.space (with_root h.roots p w) h.chunks hs serials x) (sym (ap (λ (x : State × Reply). x.0) k.2))
+        subst (λ (xs : List ℕ). StandsAs (view_of h.space (with_root h.roots p w) h.chunks h.buffers) hs xs (act state lane op).0) (sym (same_serials serials lane serial e))
+            (subst (λ (x : State). StandsAs (view_of h.space (with_root h.roots p w) h.chunks h.buffers) hs serials x) (sym (ap (λ (x : State × Reply). x.0) k.2))
             (stands-root h.space h.roots h.chunks hs serials state p w k.0 means fits k.1)),
       );
   running = λ none. running-root h.space h.roots h.chunks h.buffers hs p w ready.running within
@@ -244,7 +244,7 @@ loaded-read m state (word.Num n) v h = ap loaded (read-num m state (word.Num n) 
 loaded-read m state (word.Ref a) v h = ap loaded (is-object m state (word.Ref a) v a refl h).1
 
 -- a load, where it is done: the field's word goes to the second slot
-pub load-effect : (h : HeapView) (hs serials : List ℕ) (lane i : ℕ) (p q : Slot) (w : Word) (a : Address) (reply : Reply) (state : State) → MayOperate h hs lane → w ≡ slot_word h.roots p → IsOfLane h hs lane w a → ActsOnField h hs lane w i a → reply ≡ loaded_as (get_or (cell_of h.space (own_chunk h lane) a.0).fields i word.Nil) → Means h hs serials state → (v : Value) × IsRead (memory_of h) state (get_or (cell_of h.space (own_chunk h lane) a.0).fields i word.Nil) v × (act state lane (Load p i q) ≡ (with_slot state q v, reply))
+pub load-effect : (h : HeapView) (hs serials : List ℕ) (lane i : ℕ) (p q : Slot) (w : Word) (a : Address) (reply : Reply) (state : State) → MayOperate h hs lane → w ≡ slot_word h.roots p → IsOfLane h hs lane w a → ActsOnField h hs lane w i a → reply ≡ loaded_as (get_or (cell_of h.space (own_chunk h lane) a.0).fields i word.Nil) → StandsAs h hs serials state → (v : Value) × IsRead (memory_of h) state (get_or (cell_of h.space (own_chunk h lane) a.0).fields i word.Nil) v × (act state lane (Load p i q) ≡ (with_slot state q v, reply))
 load-effect h hs serials lane i p q w a reply state ready e of acts is means =
     let c = cell_of h.space (own_chunk h lane) a.0 in
     let b = birth_of c.head in

@@ -4,7 +4,7 @@ use Rattle.std.specs.List.{list_all}
 use Rattle.std.specs.Result.{IfOk, OnErr}
 use Rattle.bc_superpages.specs.RootWords.{RootWords}
 use Rattle.bc_whole_heap.specs.Heaps.{HeapView}
-use Rattle.bc_whole_heap.specs.Running.{IsRunning}
+use Rattle.bc_whole_heap.specs.Running.{IsRunning, StandsAs}
 use Rattle.bc_whole_heap.proofs.ChunkLemmas.{AreApart-laid}
 use Rattle.bc_model.specs.State.{State}
 use Rattle.bc_model.specs.Step.{step, act, domains_of}
@@ -12,7 +12,7 @@ use Rattle.bc_model.specs.declared.operations.Op.{Op}
 use Rattle.bc_model.specs.declared.operations.Reply.{Reply}
 use Rattle.bc_model.specs.declared.operations.Reply.TheVariants.{Foreign}
 use Rattle.bc_mutator.specs.Effects.{DidAct, DidOperation}
-use Rattle.bc_mutator.specs.Objects.{MayOperate, Means, own_chunk}
+use Rattle.bc_mutator.specs.Objects.{MayOperate, own_chunk}
 use Rattle.bc_mutator.specs.Operations.{NoneLater}
 use Rattle.bc_mutator.proofs.ChangeLemmas.{foreign-changes}
 use Rattle.bc_mutator.proofs.ObjectLemmas.{LieBehind-laid}
@@ -31,7 +31,7 @@ step-act state hs lane op same held =
 pub did-step : (h k : HeapView) (hs : List ℕ) (lane serial next : ℕ) (op : Op) (reply : Reply) → list_all (λ d. get_or hs d 0 == lane) (domains_of op) ≡ true → DidAct h k hs lane serial next op reply → DidOperation h k hs lane serial next op reply
 did-step h k hs lane serial next op reply held done = record {
   step = λ serials state means e.
-      subst (λ (x : State × Reply). (x.1 ≡ reply) × Means k hs (set serials lane next) x.0) (sym (step-act state hs lane op means.held held))
+      subst (λ (x : State × Reply). (x.1 ≡ reply) × StandsAs k hs (set serials lane next) x.0) (sym (step-act state hs lane op means.held held))
       (done.step serials state means e);
   running = done.running;
   later = done.later;

@@ -2,7 +2,7 @@
 use Rattle.std.proofs.Common.{◌≡◌, ◌≢◌, ℕ, Bool, true, false, if◌then◌else◌, List, length, Some, refl, sym, ap, subst, ◌∙◌, inl, inr, eq-eqb, eqb-true}
 use Rattle.std.proofs.lemmas.Bool.{cases_Bool, and_parts}
 use Rattle.bc_whole_heap.specs.Heaps.{HeapView}
-use Rattle.bc_whole_heap.specs.Running.{IsRunning}
+use Rattle.bc_whole_heap.specs.Running.{IsRunning, StandsAs}
 use Rattle.bc_whole_heap.specs.Heaps.{root_words}
 use Rattle.bc_memory.specs.Memory.{Memory}
 use Rattle.bc_model.specs.State.{State, object_of, slot_of, holds}
@@ -22,12 +22,12 @@ use Rattle.bc_word.specs.declared.heads.Head.{Head}
 use Rattle.bc_word.specs.declared.words.Word.{Word}
 use Rattle.bc_word.specs.declared.words.Word.TheVariants as word
 use Rattle.bc_mutator.specs.Effects.{Answers}
-use Rattle.bc_mutator.specs.Objects.{Means, MayOperate, IsRead, IsOfLane, ActsOn, Refuses, memory_of, own_chunk, cell_of, slot_word}
+use Rattle.bc_mutator.specs.Objects.{MayOperate, IsRead, IsOfLane, ActsOn, Refuses, memory_of, own_chunk, cell_of, slot_word}
 use Rattle.bc_mutator.proofs.MeaningLemmas.{read-slot, read-nil, read-num, home-ref}
 use Rattle.bc_mutator.proofs.ObjectLemmas.{memory-there}
 
 -- a word that a slot has is read as its value
-pub word-read : (h : HeapView) (hs serials : List ℕ) (state : State) (p : Slot) (w : Word) → w ≡ slot_word h.roots p → Means h hs serials state → IsRead (memory_of h) state w (slot_of state p)
+pub word-read : (h : HeapView) (hs serials : List ℕ) (state : State) (p : Slot) (w : Word) → w ≡ slot_word h.roots p → StandsAs h hs serials state → IsRead (memory_of h) state w (slot_of state p)
 word-read h hs serials state p w e means =
     subst (λ (x : Word). IsRead (memory_of h) state x (slot_of state p)) (sym e) (read-slot h.space h.roots h.chunks hs serials state p means)
 

@@ -3,7 +3,7 @@ use Rattle.std.proofs.Common.{◌≡◌, ◌≢◌, ℕ, ◌+◌, ◌-◌, ◌/�
 use Rattle.std.proofs.Math.Seq.{map-set_same}
 use Rattle.std.proofs.lemmas.List.{get_or_read, set-get_or}
 use Rattle.std.specs.List.{find}
-use Rattle.bc_whole_heap.specs.Heaps.{HeapView}
+use Rattle.bc_whole_heap.specs.Heaps.{HeapView, view_of}
 use Rattle.bc_whole_heap.specs.Closed.{no_buffer, buffer_of}
 use Rattle.bc_whole_heap.specs.Heaps.{end_of, heap_memory, root_words}
 use Rattle.bc_whole_heap.specs.Running.{IsRunning, StandsAs}
@@ -41,7 +41,7 @@ use Rattle.bc_word.specs.Words.{FitsWord, word_bits}
 use Rattle.bc_word.specs.declared.addresses.Address.{Address}
 use Rattle.bc_word.specs.declared.words.Word.{Word}
 use Rattle.bc_mutator.specs.Effects.{HasRecorded, RefersBehind, Records, WroteCell, WroteMature, WroteYoung, Wrote, Writes, HasChanged, Leaves, Answers, DidAct}
-use Rattle.bc_mutator.specs.Objects.{AreWhole, Means, MayOperate, IsRead, IsOwn, IsOfLane, ActsOnField, RefusesField, memory_of, own_chunk, cell_of, slot_word}
+use Rattle.bc_mutator.specs.Objects.{AreWhole, MayOperate, IsRead, IsOwn, IsOfLane, ActsOnField, RefusesField, memory_of, own_chunk, cell_of, slot_word}
 use Rattle.bc_mutator.proofs.LayoutLemmas.{IsLayout-field, IsLayout-remembered}
 use Rattle.bc_mutator.proofs.MatureLemmas.{MatureWrite, mature-memory, mature-births, mature-running}
 use Rattle.bc_mutator.proofs.MeaningLemmas.{read-ref}
@@ -230,7 +230,7 @@ births-same : (made : List (List Object)) (b : Birth) (o : Object) → map lengt
 births-same made b o =
     map-set_same length made b.lane (set (made_by made b.lane) (b.serial - 1) o) [] (length-set (made_by made b.lane) (b.serial - 1) o)
 
-pub stands-field : (s t : Layout) (r : RootWords) (cs ds : List Nursery) (hs serials : List ℕ) (state : State) (a i : ℕ) (c : Cell) (w : Word) (v : Value) → StandsAs s r cs hs serials state → heap_memory t ds ≡ with_cell (heap_memory s cs) a (Some (memory.with_field c i w)) → heap_memory s cs a ≡ Some c → length ds ≡ length cs → Reached state.slots state.made (birth_of c.head) → FitsWord w → IsRead (heap_memory s cs) state w v → StandsAs t r ds hs serials (with_field state (birth_of c.head) i v)
+pub stands-field : {bs es : List Entries} (s t : Layout) (r : RootWords) (cs ds : List Nursery) (hs serials : List ℕ) (state : State) (a i : ℕ) (c : Cell) (w : Word) (v : Value) → StandsAs (view_of s r cs bs) hs serials state → heap_memory t ds ≡ with_cell (heap_memory s cs) a (Some (memory.with_field c i w)) → heap_memory s cs a ≡ Some c → length ds ≡ length cs → Reached state.slots state.made (birth_of c.head) → FitsWord w → IsRead (heap_memory s cs) state w v → StandsAs (view_of t r ds es) hs serials (with_field state (birth_of c.head) i v)
 stands-field s t r cs ds hs serials state a i c w v h is there long reached fits read =
     let b = birth_of c.head in
     let m = heap_memory s cs in
@@ -252,7 +252,7 @@ written-roots h k lane at index word (inl wrote) = ap (λ (x : HeapView). x.root
 written-roots h k lane at index word (inr wrote) = ap (λ (x : HeapView). x.roots) wrote.rest
 
 -- so an operation that writes a field is done
-pub done-field : (h k : HeapView) (hs : List ℕ) (lane serial : ℕ) (target : Word) (at : Address) (index : ℕ) (word : Word) (op : Op) (reply : Reply) → CanWrite h hs lane target at index word → Wrote h k lane at index word → FitsWord word → ((serials : List ℕ) → (state : State) → Means h hs serials state → (v : Value) × IsRead (memory_of h) state word v × Reached state.slots state.made (birth_of (cell_of h.space (own_chunk h lane) at.0).head) × (act state lane op ≡ (with_field state (birth_of (cell_of h.space (own_chunk h lane) at.0).head) index v, reply))) → HasRecorded h k hs lane op reply → HasChanged h k hs lane serial op reply → DidAct h k hs lane serial serial op reply
+pub done-field : (h k : HeapView) (hs : List ℕ) (lane serial : ℕ) (target : Word) (at : Address) (index : ℕ) (word : Word) (op : Op) (reply : Reply) → CanWrite h hs lane target at index word → Wrote h k lane at index word → FitsWord word → ((serials : List ℕ) → (state : State) → StandsAs h hs serials state → (v : Value) × IsRead (memory_of h) state word v × Reached state.slots state.made (birth_of (cell_of h.space (own_chunk h lane) at.0).head) × (act state lane op ≡ (with_field state (birth_of (cell_of h.space (own_chunk h lane) at.0).head) index v, reply))) → HasRecorded h k hs lane op reply → HasChanged h k hs lane serial op reply → DidAct h k hs lane serial serial op reply
 done-field h k hs lane serial target at index word op reply can wrote fits effect recorded changed =
     let leaves = written-leaves h k hs lane target at index word can wrote in
     let there = memory-there h.space h.chunks lane at.0 can.ready.layout can.ready.apart can.ready.lane_within can.of.there in
@@ -262,9 +262,9 @@ done-field h k hs lane serial target at index word op reply can wrote fits effec
       step = λ serials state means e.
           let f = effect serials state means in (
             ap (λ (x : State × Reply). x.1) f.3,
-            subst (λ (xs : List ℕ). Means k hs xs (act state lane op).0) (sym (same_serials serials lane serial e))
-                (subst (λ (x : State). Means k hs serials x) (sym (ap (λ (x : State × Reply). x.0) f.3))
-                (subst (λ (r : RootWords). StandsAs k.space r k.chunks hs serials (with_field state (birth_of (cell_of h.space (own_chunk h lane) at.0).head) index f.0)) (sym (written-roots h k lane at index word wrote))
+            subst (λ (xs : List ℕ). StandsAs k hs xs (act state lane op).0) (sym (same_serials serials lane serial e))
+                (subst (λ (x : State). StandsAs k hs serials x) (sym (ap (λ (x : State × Reply). x.0) f.3))
+                (subst (λ (r : RootWords). StandsAs (view_of k.space r k.chunks k.buffers) hs serials (with_field state (birth_of (cell_of h.space (own_chunk h lane) at.0).head) index f.0)) (sym (written-roots h k lane at index word wrote))
                 (stands-field h.space k.space h.roots h.chunks k.chunks hs serials state at.0 index (cell_of h.space (own_chunk h lane) at.0) word f.0 means is there (ap length leaves.chunks ∙ length-set h.chunks lane (own_chunk k lane)) f.2 fits f.1))),
           );
       running = λ none. written-runs h k hs lane target at index word can wrote;
@@ -278,7 +278,7 @@ done-field h k hs lane serial target at index word op reply can wrote fits effec
     }
 
 -- the object of a slot is written, or the operation changes nothing
-pub write-effect : (h : HeapView) (hs serials : List ℕ) (lane i : ℕ) (p : Slot) (target word : Word) (a : Address) (op : Op) (state : State) → MayOperate h hs lane → target ≡ slot_word h.roots p → IsOfLane h hs lane target a → ActsOnField h hs lane target i a → Writes h hs lane p i word op → Means h hs serials state → (v : Value) × IsRead (memory_of h) state word v × Reached state.slots state.made (birth_of (cell_of h.space (own_chunk h lane) a.0).head) × (act state lane op ≡ (with_field state (birth_of (cell_of h.space (own_chunk h lane) a.0).head) i v, Done))
+pub write-effect : (h : HeapView) (hs serials : List ℕ) (lane i : ℕ) (p : Slot) (target word : Word) (a : Address) (op : Op) (state : State) → MayOperate h hs lane → target ≡ slot_word h.roots p → IsOfLane h hs lane target a → ActsOnField h hs lane target i a → Writes h hs lane p i word op → StandsAs h hs serials state → (v : Value) × IsRead (memory_of h) state word v × Reached state.slots state.made (birth_of (cell_of h.space (own_chunk h lane) a.0).head) × (act state lane op ≡ (with_field state (birth_of (cell_of h.space (own_chunk h lane) a.0).head) i v, Done))
 write-effect h hs serials lane i p target word a op state ready e of acts writes means =
     let c = cell_of h.space (own_chunk h lane) a.0 in
     let k = writes serials state means in

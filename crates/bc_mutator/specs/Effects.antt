@@ -2,7 +2,7 @@
 use Rattle.std.specs.Prelude.{◌≡◌, ◌≢◌, ◌⊎◌, ℕ, ◌+◌, ◌/◌, ◌<◌, ◌≤◌, List, [], ◌∷◌, ◌++◌, length, replicate, slice_index, slice_set, Some, None}
 use Rattle.bc_whole_heap.specs.Closed.{buffer_of}
 use Rattle.bc_whole_heap.specs.Heaps.{HeapView, end_of}
-use Rattle.bc_whole_heap.specs.Running.{IsRunning}
+use Rattle.bc_whole_heap.specs.Running.{IsRunning, StandsAs}
 use Rattle.bc_memory.specs.Memory.{Cell, Memory, with_cell, with_field}
 use Rattle.bc_model.specs.State.{State, slot_of}
 use Rattle.bc_model.specs.State.{with_field as value_in_field}
@@ -28,7 +28,7 @@ use Rattle.bc_word.specs.declared.addresses.Address.{Address}
 use Rattle.bc_word.specs.declared.words.Word.{Word}
 use Rattle.bc_word.specs.declared.heads.Head.{Head}
 use Rattle.bc_word.specs.declared.words.Word.TheVariants.{Nil, Num, Ref}
-use Rattle.bc_mutator.specs.Objects.{AreWhole, Means, IsRead, own_chunk, memory_of, slot_word}
+use Rattle.bc_mutator.specs.Objects.{AreWhole, IsRead, own_chunk, memory_of, slot_word}
 use Rattle.bc_mutator.specs.Operations.{NoneLater, RefersToField, StoresYoung}
 
 -- the root slots with another word in one of them
@@ -38,7 +38,7 @@ with_root r p word = record r { words = slice_set r.words (root_place r p.domain
 -- an operation that changes nothing is answered this
 abbrev pub Answers : HeapView → List ℕ → ℕ → Op → Reply → Type 0
 Answers h holders lane op reply =
-    (serials : List ℕ) → (state : State) → Means h holders serials state → act state lane op ≡ (state, reply)
+    (serials : List ℕ) → (state : State) → StandsAs h holders serials state → act state lane op ≡ (state, reply)
 
 -- what a lane's operation leaves as it was: what isn't the lane's, be it chunks, buffers, pages or root slots, and all sizes
 pub record Leaves (holders : List ℕ) (lane : ℕ) (old new : HeapView) : Type 0 where
@@ -140,8 +140,8 @@ HasChanged old new holders lane serial op reply = IsChangedBy holders lane seria
 -- what an operation of a lane does to the heap and is answered, where it does this to the state: `serial` is the number of
 -- the lane's births before, and `next` after
 pub record DoesAs (does : State → State × Reply) (old new : HeapView) (holders : List ℕ) (lane serial next : ℕ) (op : Op) (reply : Reply) : Type 0 where
-  pub step : (serials : List ℕ) → (state : State) → Means old holders serials state → slice_index serials lane ≡ serial
-      → ((does state).1 ≡ reply) × Means new holders (slice_set serials lane next) (does state).0
+  pub step : (serials : List ℕ) → (state : State) → StandsAs old holders serials state → slice_index serials lane ≡ serial
+      → ((does state).1 ≡ reply) × StandsAs new holders (slice_set serials lane next) (does state).0
   pub running : NoneLater old.space old.chunks lane serial → IsRunning new holders
   pub later : NoneLater old.space old.chunks lane serial → NoneLater new.space new.chunks lane next
   pub others_later : (l n : ℕ) → l ≢ lane → NoneLater old.space old.chunks l n → NoneLater new.space new.chunks l n
@@ -227,7 +227,7 @@ pub record FindsFull (s : Layout) (buffer : Entries) (at : Address) (word : Word
 -- the operation, done to an object with that field, writes what the word is read as
 abbrev pub Writes : HeapView → List ℕ → ℕ → Slot → ℕ → Word → Op → Type 0
 Writes h holders lane p index word op =
-    (serials : List ℕ) → (state : State) → Means h holders serials state
+    (serials : List ℕ) → (state : State) → StandsAs h holders serials state
     → (v : Value) × IsRead (memory_of h) state word v
     × (act state lane op ≡ on_field state lane (slot_of state p) index (λ b. (value_in_field state b index v, Done)))
 

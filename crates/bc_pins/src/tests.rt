@@ -1,3 +1,5 @@
+//! Tests of gates.
+
 use super::*;
 
 fn passes<G: Gate>(gate: &G) {

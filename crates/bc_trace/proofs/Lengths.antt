@@ -9,7 +9,7 @@ use Rattle.bc_model.specs.Run.{ops_of, all_ops_of}
 use Rattle.bc_model.specs.declared.operations.Op.{Op}
 use Rattle.bc_trace.specs.Lines.{Line, turn, op, give, end, done, word_of_line, operands, lane_lines, phase_lines, trace_lines, trace_text, spelling, line_text, Spells}
 
-line_some : (l : Line) → 0 < length (line_text l)
+pub line_some : (l : Line) → 0 < length (line_text l)
 unfolding line_text
 line_some l = omega (arith, length-append (spelling (word_of_line l) (operands l)) (10 ∷ []))
 

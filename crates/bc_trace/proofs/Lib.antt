@@ -14,6 +14,8 @@ pub mod Whole
 pub mod Again
 pub mod Shapes
 pub mod Lengths
+pub mod Digits
+pub mod LinesAhead
 pub mod Answered
 pub mod Endings
 pub mod Shown

@@ -1,10 +1,13 @@
 -- What a line of the reader stands for.
-use Rattle.std.specs.Prelude.{◌≡◌, ℕ, ◌<◌, ◌≤◌, ◌^◌, ⊤, List, length, take, slice_index, Result, Ok, Err}
+use Rattle.std.specs.Prelude.{◌≡◌, ℕ, ◌<◌, ◌≤◌, ◌^◌, ⊤, List, ◌∷◌, ◌++◌, length, take, slice_index, Result, Ok, Err}
+use Rattle.std.specs.List.{flat_map}
+use Rattle.std.specs.Fmt.{decimal}
 use Rattle.bc_trace.specs.declared.fault.Cause.{Cause}
 use Rattle.bc_trace.specs.declared.grammar.State.{State}
 use Rattle.bc_trace.specs.declared.line.Line.{Line as ReadLine}
 use Rattle.bc_trace.specs.declared.line.Line.TheVariants as lines
-use Rattle.bc_trace.specs.Lines.{Line, version, setting, phase, turn, lane, op, give, end, done}
+use Rattle.bc_trace.specs.Lines.{Line, version, setting, phase, turn, lane, op, give, end, done, line_text}
+use Rattle.bc_trace.specs.Grammar.{Passes}
 
 -- by the numbers of the buffer
 abbrev pub said : ReadLine → List ℕ → Line
@@ -42,3 +45,14 @@ pub record IsSmall (s : State) (n : ℕ) : Type 0 where
   pub nursery : s.setup.nursery ≤ 16
   pub superpages : s.setup.superpages ≤ 4096
   pub stood : s.stood ≤ n
+
+-- ---- text that is read ahead
+
+-- each number behind a space
+unfoldable pub operands_text : List ℕ → List ℕ
+operands_text ns = flat_map (λ n. 32 ∷ decimal n) ns
+
+-- the text begins with this line, which passes, and goes on like this
+pub record IsAhead (s : State) (text : List ℕ) (l : Line) (rest : List ℕ) : Type 0 where
+  pub passes : Passes s l
+  pub begins : text ≡ line_text l ++ rest

@@ -1,12 +1,19 @@
-ghost use Rattle.std.specs.Prelude.{◌≡◌, ◌+◌, ◌^◌, ◌<◌, OnOk, IfOk};
+ghost use Rattle.std.specs.Prelude.{◌≡◌, ◌+◌, ◌^◌, ◌<◌, ◌≤◌, [], length, OnOk, IfOk};
+ghost use Rattle.bc_trace.specs.declared.grammar.Place.TheVariants as places;
+ghost use Rattle.bc_trace.specs.Lines.{turn, op as op_line};
 ghost use Rattle.bc_trace.specs.Drafts.{shown, empty_draft, put, lanes_ended, phase_ended};
+ghost use Rattle.bc_trace.specs.Reading.{lines_of, reading};
 ghost use Rattle.bc_trace.specs.Said.{said, FitsBuffer, AreHints};
 
 use crate::grammar::State;
 use crate::line::Line;
+use crate::operations::{op_ahead, turn_ahead};
 use bc_model::{Give, Op, Phase};
 use std::alloc::{AllocError, Global};
 use std::mem;
+
+/// A list of so many elements is not worth a list of its own size.
+const SHORT: usize = 1024;
 
 /// A trace that is being read.
 #[derive(Drop)]
@@ -42,7 +49,7 @@ impl Draft {
     fn end_lane(&mut self, alloc: Global) -> Result<(), AllocError>
         ensures { OnOk result (shown self.new ≡ lanes_ended (shown self.old)) }
     {
-        let ops = mem::replace(&mut self.ops, Vec::new(alloc));
+        let ops = take_all(alloc, &mut self.ops)?;
         self.lanes.push(ops)?;
         Ok(())
     }
@@ -53,9 +60,9 @@ impl Draft {
     {
         self.end_lane(alloc)?;
         let phase = Phase {
-            turns: mem::replace(&mut self.turns, Vec::new(alloc)),
+            turns: take_all(alloc, &mut self.turns)?,
             lanes: mem::replace(&mut self.lanes, Vec::new(alloc)),
-            gives: mem::replace(&mut self.gives, Vec::new(alloc)),
+            gives: take_all(alloc, &mut self.gives)?,
         };
         self.phases.push(phase)?;
         Ok(())
@@ -72,7 +79,9 @@ impl Draft {
             Line::Version | Line::Setting(_, _) | Line::Phase | Line::Done => {}
             Line::Turn(count) => self.turns.push(hints(alloc, &numbers[..count])?)?,
             Line::Lane(_) => {
-                if self.state.stood > 0 {
+                if self.state.stood == 0 {
+                    self.lanes.reserve_exact(self.state.setup.lanes as usize)?;
+                } else {
                     self.end_lane(alloc)?;
                 }
             }
@@ -83,6 +92,91 @@ impl Draft {
         self.state.advance(line);
         Ok(())
     }
+
+    /// Puts one more turn in. After an error the draft is of no use.
+    #[inline(always)]
+    #[tactic(auto, unfolding(crate::specs::Drafts::put_lists))]
+    fn put_turn(&mut self, alloc: Global, hints: &[u32]) -> Result<(), AllocError>
+        requires { self.old.state.place ≡ places.Turns }
+        ensures state { OnOk result (self.new.state ≡ self.old.state) }
+        ensures put { OnOk result (shown self.new ≡ put (turn hints.now) (shown self.old)) }
+    {
+        self.turns.push(Vec::from_slice(alloc, hints)?)?;
+        Ok(())
+    }
+
+    /// Puts one more operation in. After an error the draft is of no use.
+    #[inline(always)]
+    #[tactic(auto, unfolding(crate::specs::Drafts::put_lists))]
+    fn put_op(&mut self, op: Op) -> Result<(), AllocError>
+        requires { self.old.state.place ≡ places.Ops }
+        ensures state { OnOk result (self.new.state ≡ self.old.state) }
+        ensures put { OnOk result (shown self.new ≡ put (op_line op) (shown self.old)) }
+    {
+        self.ops.push(op)?;
+        Ok(())
+    }
+
+    /// Puts the turns in whose lines the text begins with. Answers how many lines were read by then, and what
+    /// follows them. After an error the draft is of no use.
+    pub fn put_turns<'a>(
+        &mut self,
+        alloc: Global,
+        lines: u32,
+        text: &'a [u8],
+        hints: &mut [u32; 64],
+    ) -> Result<(u32, &'a [u8]), AllocError>
+        requires place { self.old.state.place ≡ places.Turns }
+        requires count { lines + length text.now < 2 ^ 32 }
+        ensures state { OnOk result (self.new.state ≡ self.old.state) }
+        ensures count { IfOk result (λ r. r.0 + length r.1.now ≤ lines + length text.now) }
+        ensures more { IfOk result (λ r. lines ≤ r.0) }
+        ensures reads { IfOk result (λ r. reading (shown self.new) r.0 (lines_of r.1.now) ≡ reading (shown self.old) lines (lines_of text.now)) }
+    {
+        let mut count = lines;
+        let mut rest = text;
+        while let Some((many, after)) = turn_ahead(&self.state, rest, hints) {
+            self.put_turn(alloc, &hints[..many])?;
+            count += 1;
+            rest = after;
+        }
+        Ok((count, rest))
+    }
+
+    /// Puts the operations in whose lines the text begins with. Answers how many lines were read by then, and what
+    /// follows them. After an error the draft is of no use.
+    pub fn put_ops<'a>(&mut self, lines: u32, text: &'a [u8]) -> Result<(u32, &'a [u8]), AllocError>
+        requires place { self.old.state.place ≡ places.Ops }
+        requires count { lines + length text.now < 2 ^ 32 }
+        ensures state { OnOk result (self.new.state ≡ self.old.state) }
+        ensures count { IfOk result (λ r. r.0 + length r.1.now ≤ lines + length text.now) }
+        ensures more { IfOk result (λ r. lines ≤ r.0) }
+        ensures reads { IfOk result (λ r. reading (shown self.new) r.0 (lines_of r.1.now) ≡ reading (shown self.old) lines (lines_of text.now)) }
+    {
+        let mut count = lines;
+        let mut rest = text;
+        while let Some((op, after)) = op_ahead(&self.state, rest) {
+            self.put_op(op)?;
+            count += 1;
+            rest = after;
+        }
+        Ok((count, rest))
+    }
+}
+
+/// The elements, in a list with no room to spare. A short list is copied, and keeps its room for the next elements.
+fn take_all<T: Drop>(alloc: Global, list: &mut Vec<T>) -> Result<Vec<T>, AllocError>
+    ensures taken { IfOk result (λ all. all.items ≡ list.old.items) }
+    ensures left { OnOk result (list.new.items ≡ []) }
+{
+    if list.len() > SHORT {
+        let mut all = mem::replace(list, Vec::new(alloc));
+        all.shrink_to_fit();
+        return Ok(all);
+    }
+    let mut all = Vec::with_capacity(alloc, list.len())?;
+    all.append(list)?;
+    Ok(all)
 }
 
 /// The numbers as hints.

@@ -21,6 +21,7 @@
 // what the definitions say together: one trace a text, one text a trace, and one fault a bad text.
 #![tactic(auto)]
 
+mod ahead;
 mod checking;
 mod cutting;
 mod draft;
@@ -29,6 +30,7 @@ mod grammar;
 mod laws;
 mod line;
 mod numbers;
+mod operations;
 mod reading;
 mod replies;
 mod words;

@@ -6,7 +6,7 @@ ghost use Rattle.bc_trace.specs.declared.fault.TraceFault.{TraceFault};
 ghost use Rattle.bc_trace.specs.Lines.{Spells};
 ghost use Rattle.bc_trace.specs.Faults.{Fault};
 ghost use Rattle.bc_trace.specs.Drafts.{shown};
-ghost use Rattle.bc_trace.specs.Reading.{line_at, ended, read_of};
+ghost use Rattle.bc_trace.specs.Reading.{line_at, ended, lines_of, reading, read_of};
 ghost use Rattle.bc_trace.specs.Said.{Reads, IsSmall, FitsBuffer};
 ghost use Rattle.bc_trace.specs.Answers.{Gives, TellsFault, IsFaultOrMemory};
 
@@ -17,9 +17,10 @@ use crate::fault::{Cause, ReadTrace, TraceFault};
 use crate::grammar::{Place, State};
 use crate::line::Line;
 use crate::numbers::operands_of;
+use crate::operations::line_ahead;
 use crate::words::word_of;
 use bc_model::Trace;
-use std::alloc::Global;
+use std::alloc::{AllocError, Global};
 
 /// What a line says, or the first test that it fails. The hints of a turn are put into the buffer.
 #[tactic(auto, unfolding(crate::specs::Reading::line_at))]
@@ -74,6 +75,37 @@ fn end(draft: Draft, lines: u32, rest: &[u8]) -> Result<Trace, ReadTrace>
     }))
 }
 
+/// Takes up the lines of phases that the text begins with, as far as the fast way goes. Answers how many lines were
+/// read by then, and what follows them.
+fn read_ahead<'a>(
+    alloc: Global,
+    draft: &mut Draft,
+    lines: u32,
+    text: &'a [u8],
+) -> Result<(u32, &'a [u8]), AllocError>
+    requires small { IsSmall draft.old.state lines }
+    requires count { lines + length text.now < 2 ^ 32 }
+    ensures small { IfOk result (λ r. IsSmall draft.new.state r.0) }
+    ensures count { IfOk result (λ r. r.0 + length r.1.now ≤ lines + length text.now) }
+    ensures more { IfOk result (λ r. lines ≤ r.0) }
+    ensures reads { IfOk result (λ r. reading (shown draft.new) r.0 (lines_of r.1.now) ≡ reading (shown draft.old) lines (lines_of text.now)) }
+{
+    let mut hints = [0; 64];
+    let mut count = lines;
+    let mut rest = text;
+    while let Some((line, after)) = line_ahead(&draft.state, rest) {
+        draft.put(alloc, line, &[])?;
+        count += 1;
+        rest = after;
+        match draft.state.place {
+            Place::Turns => (count, rest) = draft.put_turns(alloc, count, rest, &mut hints)?,
+            Place::Ops => (count, rest) = draft.put_ops(count, rest)?,
+            _ => {}
+        }
+    }
+    Ok((count, rest))
+}
+
 /// The trace, or the fault, of the text.
 fn read_lines(alloc: Global, bytes: &[u8]) -> Result<Trace, ReadTrace>
     requires { length bytes.now < 2 ^ 32 }
@@ -89,7 +121,7 @@ fn read_lines(alloc: Global, bytes: &[u8]) -> Result<Trace, ReadTrace>
             Ok(says) => draft.put(alloc, says, &operands)?,
             Err(cause) => return Err(ReadTrace::Fault(TraceFault { line: lines, cause })),
         }
-        rest = after;
+        (lines, rest) = read_ahead(alloc, &mut draft, lines, after)?;
     }
     end(draft, lines, rest)
 }

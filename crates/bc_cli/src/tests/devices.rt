@@ -1,68 +1,172 @@
-//! Faults of the devices.
+//! Faults of the devices: a run tells one as what it is, and leaves a front of its output.
 
 ghost use Rattle.std.specs.Prelude.{◌+◌, ◌*◌, ◌<◌, ◌≤◌, length};
 
 use crate::{OpenGate, Status, top};
 use bc_io::{MemSink, MemSource};
 use std::alloc::{AllocError, Global};
+use std::process::Abort;
 use std::test::Fail;
 use std::thread::Threads;
 
-/// The first path, 137 bytes.
+/// A phase of one lane, which is done.
 const FIRST_PATH: &[u8; 137] =
     b"bc-trace 1\nlanes 1\ndomains 1\nslots 2\nsuperpages 1\nnursery 1\nbuffer 4\nframes 3\nphase\nlane 0\nnew 0 0 2\nset 0 0 1 7\nload 0 0 1 0 1\nend\ndone\n";
 
-/// What a run over these devices ends with, and what the sink holds then. The sink has room for all that a run may write.
+/// What it prints: the phase's text, and the last line.
+const FIRST_OUTPUT: &[u8; 37] = b"phase 1\nlane 0\nobj 0.1\nok\nnum 7\ndone\n";
+
+/// Three phases of two lanes. In the third the chunk of lane 1 is full before its sixth operation, and what is reached then needs a
+/// superpage more than there are.
+const CUT_SHORT: &[u8; 277] =
+    b"bc-trace 1\nlanes 2\ndomains 2\nslots 2\nsuperpages 2\nnursery 1\nbuffer 4\nframes 4\nphase\nlane 0\nnew 0 0 0\nlane 1\nnew 1 0 1\nend\nphase\nlane 0\nwho 0 0\nlane 1\nlen 1 0\nend\nphase\nlane 0\nnew 0 1 1\nlane 1\nwho 1 0\nnew 1 1 127\nnew 1 1 127\nnew 1 1 127\nnew 1 1 127\nnew 1 1 127\nwho 1 1\nend\ndone\n";
+
+/// What they print: texts of 38, 36 and 70 bytes, and the line of the need.
+const CUT_OUTPUT: &[u8; 158] =
+    b"phase 1\nlane 0\nobj 0.1\nlane 1\nobj 1.1\nphase 2\nlane 0\nobj 0.1\nlane 1\nlen 1\nphase 3\nlane 0\nobj 0.2\nlane 1\nobj 1.1\nobj 1.2\nobj 1.3\nobj 1.4\nobj 1.5\nout of heap 3\n";
+
+/// What a run over these devices ended with, whether it handed back a heap, and what the sink holds.
+#[derive(Drop)]
+struct Left {
+    status: Status,
+    has_heap: bool,
+    held: Vec<u8>,
+}
+
+/// A run over these devices. The sink has room for all that it may write.
 fn run_between<R: Threads + Sync>(
     rt: &R,
     alloc: Global,
     mut source: MemSource,
     mut sink: MemSink,
-) -> (Status, MemSink)
+) -> Result<Left, AllocError>
     requires room { 4 * length source.left + 40 ≤ sink.room }
 {
     let outcome = top(rt, alloc, &["run"], &mut source, &mut sink, &OpenGate);
-    (outcome.status, sink)
+    Ok(Left {
+        status: outcome.status,
+        has_heap: outcome.heap.is_some(),
+        held: sink.held().to_vec(alloc)?,
+    })
 }
 
-/// The first path over devices that give and take pieces, the one read and the one write of these numbers failing.
-fn first_path_between<R: Threads + Sync>(
+/// A run over devices that give and take pieces. The one read and the one write of these numbers fail.
+fn run_over<R: Threads + Sync>(
     rt: &R,
     alloc: Global,
+    trace: &[u8],
     reads: (usize, u64),
     writes: (usize, u64),
-) -> Result<(Status, Vec<u8>), AllocError>
+) -> Result<Left, AllocError>
+    requires trace { length trace.now ≤ 277 }
     requires reads { 0 < reads.0 }
     requires writes { 0 < writes.0 }
 {
-    let bytes = FIRST_PATH.to_vec(alloc)?;
+    let source = MemSource::new(trace.to_vec(alloc)?, reads.0, vec![in alloc; reads.1]?);
     let failing = vec![in alloc; writes.1]?;
-    let source = MemSource::new(bytes, reads.0, vec![in alloc; reads.1]?);
-    let sink = MemSink::new(alloc, 588, writes.0, failing)?;
-    let (status, sink) = run_between(rt, alloc, source, sink);
-    Ok((status, sink.held().to_vec(alloc)?))
+    let sink = MemSink::new(alloc, 1148, writes.0, failing)?;
+    run_between(rt, alloc, source, sink)
 }
 
-#[test]
-fn a_source_that_fails_at_one_of_its_reads(rt: HostRuntime) -> Result<(), Fail> {
-    for number in 1..=10 {
-        let (status, held) = first_path_between(&rt, rt.alloc(), (16, number), (1000, 0))?;
-        assert_eq!(rt; status, Status::ReadFault, "at read {number}");
-        assert!(rt; held.is_empty());
-    }
-    let (status, held) = first_path_between(&rt, rt.alloc(), (16, 11), (1000, 0))?;
-    assert_eq!(rt; status, Status::Done);
-    assert_eq!(rt; held.len(), 37);
+/// Shows that the run stops at the write of this number, of so many bytes at most, and leaves this front of the output.
+fn stops_at_write<R: Threads + Sync + Abort>(
+    rt: &R,
+    alloc: Global,
+    trace: &[u8],
+    write: (usize, u64),
+    front: &[u8],
+) -> Result<(), AllocError>
+    requires trace { length trace.now ≤ 277 }
+    requires write { 0 < write.0 }
+{
+    let left = run_over(rt, alloc, trace, (4096, 0), write)?;
+    assert_eq!(rt;
+        left.status,
+        Status::WriteFault,
+        "at write {} of {}",
+        write.1,
+        write.0
+    );
+    assert!(rt; left.has_heap);
+    assert_eq!(rt;
+        left.held.as_slice(),
+        front,
+        "at write {} of {}",
+        write.1,
+        write.0
+    );
     Ok(())
 }
 
 #[test]
-fn a_sink_that_fails_at_one_of_its_writes(rt: HostRuntime) -> Result<(), Fail> {
-    let (status, held) = first_path_between(&rt, rt.alloc(), (4096, 0), (1000, 2))?;
-    assert_eq!(rt; status, Status::WriteFault);
-    assert!(rt; held.as_slice() == b"phase 1\nlane 0\nobj 0.1\nok\nnum 7\n".as_slice());
-    let (status, held) = first_path_between(&rt, rt.alloc(), (4096, 0), (10, 3))?;
-    assert_eq!(rt; status, Status::WriteFault);
-    assert!(rt; held.as_slice() == b"phase 1\nlane 0\nobj 0".as_slice());
+fn each_read_that_fails_ends_the_run_with_nothing_written(rt: HostRuntime) -> Result<(), Fail> {
+    for number in 1..=10 {
+        let left = run_over(&rt, rt.alloc(), FIRST_PATH, (16, number), (1000, 0))?;
+        assert_eq!(rt; left.status, Status::ReadFault, "at read {number}");
+        assert!(rt; !left.has_heap);
+        assert!(rt; left.held.is_empty());
+    }
+    let left = run_over(&rt, rt.alloc(), FIRST_PATH, (16, 11), (1000, 0))?;
+    assert_eq!(rt; left.status, Status::Done);
+    assert_eq!(rt; left.held.as_slice(), FIRST_OUTPUT.as_slice());
+    Ok(())
+}
+
+#[test]
+fn a_write_that_fails_in_the_last_line_leaves_a_front_of_it(rt: HostRuntime) -> Result<(), Fail> {
+    let alloc = rt.alloc();
+    stops_at_write(&rt, alloc, FIRST_PATH, (1000, 2), &FIRST_OUTPUT[..32])?;
+    stops_at_write(&rt, alloc, FIRST_PATH, (3, 12), &FIRST_OUTPUT[..32])?;
+    stops_at_write(&rt, alloc, FIRST_PATH, (3, 13), &FIRST_OUTPUT[..35])?;
+    Ok(())
+}
+
+#[test]
+fn a_write_that_fails_in_the_text_of_a_phase_leaves_a_front_of_it(
+    rt: HostRuntime,
+) -> Result<(), Fail> {
+    let alloc = rt.alloc();
+    stops_at_write(&rt, alloc, FIRST_PATH, (10, 3), &FIRST_OUTPUT[..20])?;
+    stops_at_write(&rt, alloc, CUT_SHORT, (10, 6), &CUT_OUTPUT[..48])?;
+    stops_at_write(&rt, alloc, CUT_SHORT, (10, 8), &CUT_OUTPUT[..68])?;
+    Ok(())
+}
+
+#[test]
+fn a_write_that_fails_in_the_replies_before_a_need_leaves_a_front_of_them(
+    rt: HostRuntime,
+) -> Result<(), Fail> {
+    let alloc = rt.alloc();
+    stops_at_write(&rt, alloc, CUT_SHORT, (10, 9), &CUT_OUTPUT[..74])?;
+    stops_at_write(&rt, alloc, CUT_SHORT, (10, 11), &CUT_OUTPUT[..94])?;
+    stops_at_write(&rt, alloc, CUT_SHORT, (10, 15), &CUT_OUTPUT[..134])?;
+    Ok(())
+}
+
+#[test]
+fn a_write_that_fails_in_the_line_of_the_need_leaves_a_front_of_it(
+    rt: HostRuntime,
+) -> Result<(), Fail> {
+    let alloc = rt.alloc();
+    stops_at_write(&rt, alloc, CUT_SHORT, (10, 16), &CUT_OUTPUT[..144])?;
+    stops_at_write(&rt, alloc, CUT_SHORT, (10, 17), &CUT_OUTPUT[..154])?;
+    let left = run_over(&rt, alloc, CUT_SHORT, (4096, 0), (10, 18))?;
+    assert_eq!(rt; left.status, Status::OutOfHeap { need: 3 });
+    assert!(rt; left.has_heap);
+    assert_eq!(rt; left.held.as_slice(), CUT_OUTPUT.as_slice());
+    Ok(())
+}
+
+#[test]
+fn each_text_and_each_last_line_is_one_write(rt: HostRuntime) -> Result<(), Fail> {
+    let alloc = rt.alloc();
+    stops_at_write(&rt, alloc, CUT_SHORT, (1000, 1), &CUT_OUTPUT[..0])?;
+    stops_at_write(&rt, alloc, CUT_SHORT, (1000, 2), &CUT_OUTPUT[..38])?;
+    stops_at_write(&rt, alloc, CUT_SHORT, (1000, 3), &CUT_OUTPUT[..74])?;
+    stops_at_write(&rt, alloc, CUT_SHORT, (1000, 4), &CUT_OUTPUT[..144])?;
+    let left = run_over(&rt, alloc, CUT_SHORT, (4096, 0), (1000, 5))?;
+    assert_eq!(rt; left.status, Status::OutOfHeap { need: 3 });
+    let left = run_over(&rt, alloc, FIRST_PATH, (4096, 0), (1000, 3))?;
+    assert_eq!(rt; left.status, Status::Done);
     Ok(())
 }

@@ -1,6 +1,6 @@
 //! Traces that fill their heap, and what they print.
 
-use super::{header, run_words, shows_done};
+use super::{header, run_over, shows_done};
 use crate::Status;
 use std::alloc::{AllocError, Global};
 use std::process::Abort;
@@ -18,7 +18,7 @@ fn shows_need<R: Threads + Sync + Abort>(
     output: &str,
     need: u64,
 ) -> Result<(), AllocError> {
-    let ran = run_words(rt, alloc, &["run"], input.as_bytes().to_vec(alloc)?);
+    let ran = run_over(rt, alloc, &["run"], input.as_bytes().to_vec(alloc)?);
     assert_eq!(rt; ran.status, Status::OutOfHeap { need });
     assert!(rt; ran.has_heap);
     assert!(rt; ran.written.as_slice() == output.as_bytes(), "at {input}");
@@ -52,7 +52,9 @@ fn chain(alloc: Global, objects: u32) -> Result<(String, String), AllocError> {
 }
 
 #[test]
-fn dropped_two_cycles(rt: HostRuntime) -> Result<(), Fail> {
+fn cycles_of_two_that_are_dropped_in_600_phases_leave_room_for_the_next(
+    rt: HostRuntime,
+) -> Result<(), Fail> {
     let mut text = header(rt.alloc(), SMALL)?;
     let mut output = String::new(rt.alloc());
     for number in 1..=600u32 {
@@ -72,7 +74,7 @@ fn dropped_two_cycles(rt: HostRuntime) -> Result<(), Fail> {
 }
 
 #[test]
-fn full_superpage(rt: HostRuntime) -> Result<(), Fail> {
+fn a_chain_of_1024_objects_fills_a_superpage_and_is_done(rt: HostRuntime) -> Result<(), Fail> {
     let (text, mut output) = chain(rt.alloc(), 1024)?;
     output.push_str("done\n")?;
     shows_done(&rt, rt.alloc(), &text, &output)?;
@@ -80,7 +82,9 @@ fn full_superpage(rt: HostRuntime) -> Result<(), Fail> {
 }
 
 #[test]
-fn one_object_too_many(rt: HostRuntime) -> Result<(), Fail> {
+fn a_chain_of_one_object_more_ends_for_want_of_a_second_superpage(
+    rt: HostRuntime,
+) -> Result<(), Fail> {
     let (text, mut output) = chain(rt.alloc(), 1025)?;
     output.push_str("out of heap 2\n")?;
     shows_need(&rt, rt.alloc(), &text, &output, 2)?;
@@ -88,7 +92,40 @@ fn one_object_too_many(rt: HostRuntime) -> Result<(), Fail> {
 }
 
 #[test]
-fn domains_apart(rt: HostRuntime) -> Result<(), Fail> {
+fn an_end_in_the_third_phase_in_the_midst_of_lane_1_tells_the_replies_of_both_lanes_before_it(
+    rt: HostRuntime,
+) -> Result<(), Fail> {
+    let mut text = header(rt.alloc(), [2, 2, 2, 2, 1, 4, 4])?;
+    text.push_str("phase\nlane 0\nnew 0 0 0\nlane 1\nnew 1 0 1\nend\n")?;
+    text.push_str("phase\nlane 0\nwho 0 0\nlane 1\nlen 1 0\nend\n")?;
+    text.push_str("phase\nlane 0\nnew 0 1 1\nlane 1\nwho 1 0\n")?;
+    text.push_str("new 1 1 127\nnew 1 1 127\nnew 1 1 127\nnew 1 1 127\nnew 1 1 127\n")?;
+    text.push_str("who 1 1\nend\ndone\n")?;
+    let mut output = String::from_str(rt.alloc(), "phase 1\nlane 0\nobj 0.1\nlane 1\nobj 1.1\n")?;
+    output.push_str("phase 2\nlane 0\nobj 0.1\nlane 1\nlen 1\n")?;
+    output.push_str("phase 3\nlane 0\nobj 0.2\nlane 1\nobj 1.1\n")?;
+    output.push_str("obj 1.2\nobj 1.3\nobj 1.4\nobj 1.5\nout of heap 3\n")?;
+    shows_need(&rt, rt.alloc(), &text, &output, 3)?;
+    Ok(())
+}
+
+#[test]
+fn three_thousand_phases_are_all_done(rt: HostRuntime) -> Result<(), Fail> {
+    let mut text = header(rt.alloc(), SMALL)?;
+    let mut output = String::new(rt.alloc());
+    for number in 1..=3000u32 {
+        text.push_str("phase\nlane 0\nnew 0 0 0\nend\n")?;
+        let replies = format!(in rt.alloc(); "phase {number}\nlane 0\nobj 0.{number}\n")?;
+        output.push_str(&replies)?;
+    }
+    text.push_str("done\n")?;
+    output.push_str("done\n")?;
+    shows_done(&rt, rt.alloc(), &text, &output)?;
+    Ok(())
+}
+
+#[test]
+fn objects_of_two_domains_take_a_superpage_each(rt: HostRuntime) -> Result<(), Fail> {
     let mut text = header(rt.alloc(), [1, 2, 1, 1, 1, 4, 3])?;
     text.push_str("phase\nlane 0\nnew 0 0 0\nnew 1 0 0\nend\ndone\n")?;
     let output = "phase 1\nlane 0\nobj 0.1\nobj 0.2\nout of heap 2\n";
@@ -97,7 +134,7 @@ fn domains_apart(rt: HostRuntime) -> Result<(), Fail> {
 }
 
 #[test]
-fn compaction_makes_room(rt: HostRuntime) -> Result<(), Fail> {
+fn cells_of_a_dropped_chain_make_room_for_another_size_class(rt: HostRuntime) -> Result<(), Fail> {
     let mut text = header(rt.alloc(), [1, 1, 4, 2, 1, 4, 9])?;
     text.push_str("phase\nlane 0\nnew 0 0 1\ncopy 0 0 0 3\ncopy 0 0 0 1\n")?;
     let mut output = String::from_str(rt.alloc(), "phase 1\nlane 0\nobj 0.1\nok\nok\n")?;

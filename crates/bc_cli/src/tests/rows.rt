@@ -1,6 +1,6 @@
 //! Traces and what they print.
 
-use super::{header, one_phase, run_words, shows_done, shows_fault};
+use super::{header, one_phase, run_over, shows_done, shows_fault};
 use crate::Status;
 use bc_trace::Cause;
 use std::test::Fail;
@@ -9,7 +9,7 @@ use std::test::Fail;
 const SMALL: [u32; 7] = [1, 1, 2, 1, 1, 4, 3];
 
 #[test]
-fn first_path(rt: HostRuntime) -> Result<(), Fail> {
+fn a_number_is_set_and_loaded_back(rt: HostRuntime) -> Result<(), Fail> {
     let text = one_phase(
         rt.alloc(),
         SMALL,
@@ -26,7 +26,9 @@ fn first_path(rt: HostRuntime) -> Result<(), Fail> {
 }
 
 #[test]
-fn two_lanes_and_header_only(rt: HostRuntime) -> Result<(), Fail> {
+fn a_lane_without_operations_has_its_line_and_a_trace_without_phases_prints_done(
+    rt: HostRuntime,
+) -> Result<(), Fail> {
     let mut text = header(rt.alloc(), [2, 2, 1, 1, 1, 4, 4])?;
     text.push_str("phase\nlane 0\nnew 0 0 0\nlane 1\nend\ndone\n")?;
     shows_done(
@@ -42,7 +44,9 @@ fn two_lanes_and_header_only(rt: HostRuntime) -> Result<(), Fail> {
 }
 
 #[test]
-fn size_classes(rt: HostRuntime) -> Result<(), Fail> {
+fn objects_of_0_1_and_127_fields_are_made_and_128_fields_are_out_of_range(
+    rt: HostRuntime,
+) -> Result<(), Fail> {
     let sizes = [1, 1, 3, 2, 1, 4, 3];
     let text = one_phase(rt.alloc(), sizes, "new 0 0 0\nnew 0 1 1\nnew 0 2 127\n")?;
     shows_done(
@@ -61,7 +65,7 @@ fn size_classes(rt: HostRuntime) -> Result<(), Fail> {
 }
 
 #[test]
-fn largest_number(rt: HostRuntime) -> Result<(), Fail> {
+fn the_largest_number_is_kept_and_one_more_is_refused(rt: HostRuntime) -> Result<(), Fail> {
     let text = one_phase(
         rt.alloc(),
         SMALL,
@@ -83,7 +87,7 @@ fn largest_number(rt: HostRuntime) -> Result<(), Fail> {
 }
 
 #[test]
-fn give_and_take(rt: HostRuntime) -> Result<(), Fail> {
+fn a_domain_that_was_given_away_is_foreign_to_its_old_holder(rt: HostRuntime) -> Result<(), Fail> {
     let mut text = header(rt.alloc(), [2, 4, 2, 2, 1, 4, 4])?;
     text.push_str("phase\nlane 0\nnew 0 0 1\nnew 2 0 0\nlink 0 0 0 2 0\nlane 1\ngive 2 1\nend\n")?;
     text.push_str(
@@ -101,7 +105,7 @@ fn give_and_take(rt: HostRuntime) -> Result<(), Fail> {
 }
 
 #[test]
-fn every_reply(rt: HostRuntime) -> Result<(), Fail> {
+fn every_kind_of_reply_is_printed(rt: HostRuntime) -> Result<(), Fail> {
     let mut lines = String::from_str(
         rt.alloc(),
         "len 0 0\nnew 0 0 1\nset 0 0 1 5\nload 0 0 0 0 1\nwho 0 1\nlen 0 0\n",
@@ -118,7 +122,7 @@ fn every_reply(rt: HostRuntime) -> Result<(), Fail> {
 }
 
 #[test]
-fn frames_in_range(rt: HostRuntime) -> Result<(), Fail> {
+fn the_fewest_and_the_most_frames_are_taken_and_no_others(rt: HostRuntime) -> Result<(), Fail> {
     for frames in [3, 5] {
         let mut text = header(rt.alloc(), [1, 1, 2, 1, 1, 4, frames])?;
         text.push_str("done\n")?;
@@ -133,7 +137,9 @@ fn frames_in_range(rt: HostRuntime) -> Result<(), Fail> {
 }
 
 #[test]
-fn unfinished_trace(rt: HostRuntime) -> Result<(), Fail> {
+fn a_text_that_ends_early_or_goes_on_behind_its_end_is_refused_at_its_line(
+    rt: HostRuntime,
+) -> Result<(), Fail> {
     let mut text = header(rt.alloc(), SMALL)?;
     text.push_str("phase\nlane 0\nend\n")?;
     shows_fault(&rt, rt.alloc(), &text, 11, Cause::End)?;
@@ -149,7 +155,7 @@ fn unfinished_trace(rt: HostRuntime) -> Result<(), Fail> {
 }
 
 #[test]
-fn the_first_path_without_its_last_line(rt: HostRuntime) -> Result<(), Fail> {
+fn a_trace_without_its_last_line_is_refused_at_its_end(rt: HostRuntime) -> Result<(), Fail> {
     let mut text = header(rt.alloc(), SMALL)?;
     text.push_str("phase\nlane 0\nnew 0 0 2\nset 0 0 1 7\nload 0 0 1 0 1\nend\n")?;
     shows_fault(&rt, rt.alloc(), &text, 14, Cause::End)?;
@@ -157,7 +163,7 @@ fn the_first_path_without_its_last_line(rt: HostRuntime) -> Result<(), Fail> {
 }
 
 #[test]
-fn ten_thousand_objects(rt: HostRuntime) -> Result<(), Fail> {
+fn ten_thousand_dropped_objects_pass_through_one_superpage(rt: HostRuntime) -> Result<(), Fail> {
     let mut lines = String::new(rt.alloc());
     let mut output = String::from_str(rt.alloc(), "phase 1\nlane 0\n")?;
     for serial in 1..=10_000u32 {
@@ -172,14 +178,14 @@ fn ten_thousand_objects(rt: HostRuntime) -> Result<(), Fail> {
 }
 
 #[test]
-fn too_long(rt: HostRuntime) -> Result<(), Fail> {
+fn an_input_of_a_byte_more_than_16_mib_is_too_long(rt: HostRuntime) -> Result<(), Fail> {
     let input = vec![in rt.alloc(); b'a'; 16_777_217]?;
-    let ran = run_words(&rt, rt.alloc(), &["run"], input);
+    let ran = run_over(&rt, rt.alloc(), &["run"], input);
     assert_eq!(rt; ran.status, Status::TooLong);
     assert!(rt; !ran.has_heap);
     assert!(rt; ran.written.is_empty());
     let input = vec![in rt.alloc(); b'a'; 16_777_216]?;
-    let ran = run_words(&rt, rt.alloc(), &["run"], input);
+    let ran = run_over(&rt, rt.alloc(), &["run"], input);
     let cause = Cause::End;
     assert_eq!(rt; ran.status, Status::BadTrace { line: 1, cause });
     assert!(rt; ran.written.is_empty());
@@ -187,21 +193,21 @@ fn too_long(rt: HostRuntime) -> Result<(), Fail> {
 }
 
 #[test]
-fn no_command(rt: HostRuntime) -> Result<(), Fail> {
+fn other_words_than_run_are_no_command(rt: HostRuntime) -> Result<(), Fail> {
     let text = one_phase(rt.alloc(), SMALL, "")?;
     let input = text.as_bytes();
-    let walk = run_words(&rt, rt.alloc(), &["walk"], input.to_vec(rt.alloc())?);
+    let walk = run_over(&rt, rt.alloc(), &["walk"], input.to_vec(rt.alloc())?);
     assert_eq!(rt; walk.status, Status::BadWords);
     assert!(rt; !walk.has_heap);
     assert!(rt; walk.written.is_empty());
-    let workers = run_words(
+    let workers = run_over(
         &rt,
         rt.alloc(),
         &["run", "--workers", "0"],
         input.to_vec(rt.alloc())?,
     );
     assert_eq!(rt; workers.status, Status::BadWords);
-    let none = run_words(&rt, rt.alloc(), &[], input.to_vec(rt.alloc())?);
+    let none = run_over(&rt, rt.alloc(), &[], input.to_vec(rt.alloc())?);
     assert_eq!(rt; none.status, Status::BadWords);
     Ok(())
 }

@@ -1,0 +1,84 @@
+-- A phase of a trace that was run on the engine, done or ended at a cut, and what was written of its texts.
+use Rattle.std.proofs.Common.{◌≡◌, ℕ, ◌+◌, ◌<◌, inl, inr, List, ◌++◌, length, Option, None, Some, refl, sym, ◌∙◌, subst, append-nil}
+use Rattle.bc_engine.specs.Engines.{EngineView, HasRoomForBirths}
+use Rattle.bc_engine.specs.Lanes.{HasRoomForOps}
+use Rattle.bc_engine.specs.Phases.{DidPhase, CutPhase}
+use Rattle.bc_io.specs.Told.{HasRoom, HeldGrows, RoomFalls}
+use Rattle.bc_model.specs.Lists.{TraceLists}
+use Rattle.bc_model.specs.Run.{phase_at}
+use Rattle.bc_model.specs.declared.operations.Reply.{Reply}
+use Rattle.bc_trace.specs.Replies.{phase_text, out_of_heap_text}
+use Rattle.bc_cli.specs.Endings.{WritesFront, EndsInFault, EndsOutOfHeap, HasPhaseRoom, HasRun, PhaseEnded}
+use Rattle.bc_cli.specs.Output.{need_line, texts_before, text_at}
+use Rattle.bc_cli.proofs.Running.{HasRun-next, did-text, did-room, held-next, room-next, fails-in_phase, CutAt, cut-at, cut-room, ends-out_of_heap, fails-at_need}
+
+-- phase k of the trace was run, and ended so
+pub record Ran (t : TraceLists) (k : ℕ) (e f : EngineView) (replies : List (List Reply)) (need : Option ℕ) : Type 0 where
+  pub within : k < length t.phases
+  pub before : HasRun t k e
+  pub ended : PhaseEnded e (phase_at t k) f replies need
+  pub setup : f.setup ≡ e.setup
+  pub births : (n : ℕ) → HasRoomForOps e (phase_at t k).lanes n → HasRoomForBirths f n
+
+-- and these are its texts
+pub record HasTexts (k : ℕ) (replies : List (List Reply)) (need : Option ℕ) (xs ys : List ℕ) : Type 0 where
+  pub replies : xs ≡ phase_text (k + 1) replies
+  pub need : ys ≡ need_line need
+
+whole : (k : ℕ) (replies : List (List Reply)) (need : Option ℕ) (xs ys : List ℕ) → HasTexts k replies need xs ys → xs ++ ys ≡ phase_text (k + 1) replies ++ need_line need
+whole k replies need xs ys h = let e = h.replies in let d = h.need in cc
+
+-- of a phase that is done there is one text
+whole-done : (k : ℕ) (replies : List (List Reply)) (need : Option ℕ) (xs ys : List ℕ) → need ≡ None → HasTexts k replies need xs ys → xs ++ ys ≡ phase_text (k + 1) replies
+whole-done k replies need xs ys none h =
+    let e = whole k replies need xs ys h in
+    let line : need_line need ≡ need_line None = cc in
+    let empty = append-nil (phase_text (k + 1) replies) in
+    cc
+
+whole-cut : (k : ℕ) (replies : List (List Reply)) (need : Option ℕ) (n : ℕ) (xs ys : List ℕ) → need ≡ Some n → HasTexts k replies need xs ys → xs ++ ys ≡ phase_text (k + 1) replies ++ out_of_heap_text n
+whole-cut k replies need n xs ys some h =
+    let e = whole k replies need xs ys h in
+    let line : need_line need ≡ need_line (Some n) = cc in
+    cc
+
+did : (t : TraceLists) (k : ℕ) (e f : EngineView) (replies : List (List Reply)) (need : Option ℕ) → need ≡ None → Ran t k e f replies need → DidPhase e (phase_at t k) f replies
+did t k e f replies need none h = subst (PhaseEnded e (phase_at t k) f replies) none h.ended
+
+cut : (t : TraceLists) (k : ℕ) (e f : EngineView) (replies : List (List Reply)) (need : Option ℕ) (n : ℕ) → need ≡ Some n → Ran t k e f replies need → CutAt t k f replies n
+cut t k e f replies need n some h = cut-at t k e f replies n h.within h.before (subst (PhaseEnded e (phase_at t k) f replies) some h.ended) h.setup
+
+-- there is room for the texts
+pub texts-room : (t : TraceLists) (k : ℕ) (e f : EngineView) (replies : List (List Reply)) (need : Option ℕ) (xs ys : List ℕ) (a : Option ℕ) → Ran t k e f replies need → HasTexts k replies need xs ys → HasPhaseRoom a t k → HasRoom a (length (xs ++ ys))
+texts-room t k e f replies None xs ys a h texts room =
+    subst (λ (zs : List ℕ). HasRoom a (length zs)) (sym (whole-done k replies None xs ys refl texts)) (did-room t k e f (phase_at t k) replies a refl h.before h.ended room)
+texts-room t k e f replies (Some n) xs ys a h texts room =
+    subst (λ (zs : List ℕ). HasRoom a (length zs)) (sym (whole-cut k replies (Some n) n xs ys refl texts)) (cut-room t k f replies n a (cut t k e f replies (Some n) n refl h) room)
+
+-- a write failed
+pub texts-fault : (t : TraceLists) (k : ℕ) (e f : EngineView) (replies : List (List Reply)) (need : Option ℕ) (xs ys : List ℕ) (a b c : Option (List ℕ)) → Ran t k e f replies need → HasTexts k replies need xs ys → WritesFront b c (xs ++ ys) → HeldGrows a b (texts_before t k) → EndsInFault t a c (Some f)
+texts-fault t k e f replies None xs ys a b c h texts front held =
+    inl (fails-in_phase t k e f (phase_at t k) replies a b c h.within refl h.before h.ended h.setup (subst (WritesFront b c) (whole-done k replies None xs ys refl texts) front) held)
+texts-fault t k e f replies (Some n) xs ys a b c h texts front held =
+    inr (inr (fails-at_need t k f replies n a b c (cut t k e f replies (Some n) n refl h) (subst (WritesFront b c) (whole-cut k replies (Some n) n xs ys refl texts) front) held))
+
+-- all is written of a phase that is done
+pub ran-on : (t : TraceLists) (k : ℕ) (e f : EngineView) (replies : List (List Reply)) (need : Option ℕ) → need ≡ None → Ran t k e f replies need → HasRun t (k + 1) f
+ran-on t k e f replies need none h = HasRun-next t k e f (phase_at t k) replies h.within refl h.before (did t k e f replies need none h) h.setup h.births
+
+done-held : (t : TraceLists) (k : ℕ) (e f : EngineView) (replies : List (List Reply)) (need : Option ℕ) (xs ys : List ℕ) → need ≡ None → Ran t k e f replies need → HasTexts k replies need xs ys → xs ++ ys ≡ text_at t k
+done-held t k e f replies need xs ys none h texts =
+    whole-done k replies need xs ys none texts ∙ did-text t k e f (phase_at t k) replies refl h.before (did t k e f replies need none h)
+
+pub texts-written : (t : TraceLists) (k : ℕ) (e f : EngineView) (replies : List (List Reply)) (need : Option ℕ) (xs ys : List ℕ) (a b c : Option (List ℕ)) → need ≡ None → Ran t k e f replies need → HasTexts k replies need xs ys → HeldGrows b c (xs ++ ys) → HeldGrows a b (texts_before t k) → HeldGrows a c (texts_before t (k + 1))
+texts-written t k e f replies need xs ys a b c none h texts more held =
+    held-next t k a b c (xs ++ ys) h.within (done-held t k e f replies need xs ys none h texts) more held
+
+pub texts-filled : (t : TraceLists) (k : ℕ) (e f : EngineView) (replies : List (List Reply)) (need : Option ℕ) (xs ys : List ℕ) (a b c : Option ℕ) → need ≡ None → Ran t k e f replies need → HasTexts k replies need xs ys → RoomFalls b c (length (xs ++ ys)) → RoomFalls a b (length (texts_before t k)) → RoomFalls a c (length (texts_before t (k + 1)))
+texts-filled t k e f replies need xs ys a b c none h texts fell room =
+    room-next t k a b c (xs ++ ys) h.within (done-held t k e f replies need xs ys none h texts) fell room
+
+-- and of one that ended at a cut
+pub need-written : (t : TraceLists) (k : ℕ) (e f : EngineView) (replies : List (List Reply)) (need : Option ℕ) (n : ℕ) (xs ys : List ℕ) (a b c : Option (List ℕ)) → need ≡ Some n → Ran t k e f replies need → HasTexts k replies need xs ys → HeldGrows b c (xs ++ ys) → HeldGrows a b (texts_before t k) → EndsOutOfHeap t a c (Some f) n
+need-written t k e f replies need n xs ys a b c some h texts more held =
+    ends-out_of_heap t k f replies n a b c (cut t k e f replies need n some h) (subst (HeldGrows b c) (whole-cut k replies need n xs ys some texts) more) held
