@@ -12,3 +12,4 @@ pub mod Reached
 pub mod Need
 pub mod Interleaving
 pub mod Making
+pub mod Slots

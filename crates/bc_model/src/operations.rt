@@ -1,4 +1,10 @@
-//! The operations of a lane and the replies to them.
+//! The operations of a lane, the slots that they name, and the replies to them.
+
+ghost use Rattle.std.specs.Prelude.{◌≡◌};
+ghost use Rattle.bc_model.specs.Slots.{slots_of, domains_in, AreSlots};
+ghost use Rattle.bc_model.specs.Step.{domains_of};
+ghost use Rattle.bc_model.specs.WellFormed.{IsOp};
+ghost use Rattle.bc_model.specs.declared.traces.Setup.{Setup};
 
 use crate::values::{Birth, Slot};
 
@@ -25,6 +31,28 @@ pub enum Op {
     Clear(Slot),
     /// Whether two slots hold the same value.
     Same(Slot, Slot),
+}
+
+impl Op {
+    /// The root slots that the operation names: the first, and the second where it names two.
+    pub fn slots(&self) -> (Slot, Option<Slot>)
+        ensures slots { result ≡ slots_of self.now }
+        ensures domains { domains_of self.now ≡ domains_in result.0 result.1 }
+        ensures within { (s : Setup) → IsOp s self.now → AreSlots s result.0 result.1 }
+    {
+        match *self {
+            Op::New(slot, _)
+            | Op::Who(slot)
+            | Op::Len(slot)
+            | Op::Set(slot, _, _)
+            | Op::Cut(slot, _)
+            | Op::Clear(slot) => (slot, None),
+            Op::Link(first, _, second)
+            | Op::Load(first, _, second)
+            | Op::Copy(first, second)
+            | Op::Same(first, second) => (first, Some(second)),
+        }
+    }
 }
 
 /// What a lane is answered.

@@ -139,20 +139,12 @@ impl Flat {
         ensures held { result ≡ list_all (holds self.now lane) (domains_of op.now) }
         ensures state { IsState self.now }
     {
-        match *op {
-            Op::New(slot, _)
-            | Op::Who(slot)
-            | Op::Len(slot)
-            | Op::Set(slot, _, _)
-            | Op::Cut(slot, _)
-            | Op::Clear(slot) => self.holds(lane, slot.domain),
-            Op::Link(first, _, second)
-            | Op::Load(first, _, second)
-            | Op::Copy(first, second)
-            | Op::Same(first, second) => {
-                self.holds(lane, first.domain) && self.holds(lane, second.domain)
+        let (first, second) = op.slots();
+        self.holds(lane, first.domain)
+            && match second {
+                Some(slot) => self.holds(lane, slot.domain),
+                None => true,
             }
-        }
     }
 
     /// Where the slot stands.

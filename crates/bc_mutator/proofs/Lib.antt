@@ -3,10 +3,15 @@ pub mod MeaningLemmas
 pub mod TellingLemmas
 pub mod RootLemmas
 pub mod StateLemmas
+pub mod LayoutLemmas
+pub mod PartLemmas
 pub mod VecLemmas
 pub mod WritingLemmas
 pub mod RecordLemmas
+pub mod ChangeLemmas
 pub mod MatureLemmas
 pub mod YoungLemmas
 pub mod NewLemmas
 pub mod StepLemmas
+pub mod ActLemmas
+pub mod WholeLemmas

@@ -3,10 +3,10 @@ use Rattle.std.proofs.Common.{◌≡◌, ◌≢◌, ℕ, ◌+◌, ◌*◌, ◌<�
 use Rattle.std.proofs.Math.ListN.{get_or-map}
 use Rattle.std.proofs.lemmas.Bool.{ne_eqb, lt-ltb, le-ltb}
 use Rattle.bc_reach.specs.Reach.{begin, onward}
-use Rattle.bc_cycle.specs.declared.heaps.Heap.{Heap}
+use Rattle.bc_whole_heap.specs.Heaps.{HeapView, view_of}
 use Rattle.bc_whole_heap.specs.Closed.{IsCellOrYoung}
-use Rattle.bc_whole_heap.specs.Heaps.{heap_memory, root_words, view_of}
-use Rattle.bc_whole_heap.specs.Running.{StandsAs}
+use Rattle.bc_whole_heap.specs.Heaps.{heap_memory, root_words}
+use Rattle.bc_whole_heap.specs.Running.{IsRunning, StandsAs}
 use Rattle.bc_memory.specs.Memory.{Cell, Memory}
 use Rattle.bc_model.specs.Reached.{Reached}
 use Rattle.bc_model.specs.State.{State, object_of, place_of, slot_of, field_of, holds}
@@ -17,8 +17,8 @@ use Rattle.bc_model.specs.declared.values.Birth.{Birth}
 use Rattle.bc_model.specs.declared.values.Slot.{Slot}
 use Rattle.bc_model.specs.declared.values.Value.{Value}
 use Rattle.bc_model.specs.declared.values.Value.TheVariants as value
-use Rattle.bc_nursery.specs.Objects.{Nursery}
 use Rattle.bc_nursery.specs.Entries.{Entries}
+use Rattle.bc_nursery.specs.Objects.{Nursery}
 use Rattle.bc_standing.specs.Standing.{birth_of, births, read, IsHome, StandsFor}
 use Rattle.bc_standing.proofs.Homes.{births-there, home_in}
 use Rattle.bc_standing.proofs.Reading.{ReadAs-at}
@@ -29,7 +29,7 @@ use Rattle.bc_word.specs.Words.{word_of_bits}
 use Rattle.bc_word.specs.declared.addresses.Address.{Address}
 use Rattle.bc_word.specs.declared.words.Word.{Word}
 use Rattle.bc_word.specs.declared.words.Word.TheVariants as word
-use Rattle.bc_mutator.specs.Objects.{Runs, IsOwn, MayOperate, IsRead, IsOfLane, ActsOn, Refuses, ActsOnField, RefusesField, memory_of, own_chunk, cell_of, slot_word}
+use Rattle.bc_mutator.specs.Objects.{IsOwn, MayOperate, IsRead, IsOfLane, ActsOn, Refuses, ActsOnField, RefusesField, memory_of, own_chunk, cell_of, slot_word}
 use Rattle.bc_mutator.proofs.ObjectLemmas.{memory-there}
 
 -- a root slot stands where the state's slot does
@@ -108,46 +108,46 @@ holds-not state hs lane d e same domain off =
     ne_eqb (get_or state.holders e 0) lane (λ f. off (sym (ap₂ (λ (xs : List ℕ) (x : ℕ). get_or xs x 0) same (sym domain)) ∙ f))
 
 -- what an operation on an object does, told by where the object lies
-pub acts-on : (h : Heap) (hs : List ℕ) (lane : ℕ) (w : Word) (a : Address) → MayOperate h hs lane → w ≡ word.Ref a → IsCellOrYoung h.space (own_chunk h lane) a.0 → get_or hs (cell_of h.space (own_chunk h lane) a.0).head.domain 0 ≡ lane → ActsOn h hs lane w a
+pub acts-on : (h : HeapView) (hs : List ℕ) (lane : ℕ) (w : Word) (a : Address) → MayOperate h hs lane → w ≡ word.Ref a → IsCellOrYoung h.space (own_chunk h lane) a.0 → get_or hs (cell_of h.space (own_chunk h lane) a.0).head.domain 0 ≡ lane → ActsOn h hs lane w a
 acts-on h hs lane w a ready e there held = λ serials state v means read next.
     let c = cell_of h.space (own_chunk h lane) a.0 in
-    let at = memory-there h.space h.chunks.items lane a.0 ready.layout ready.apart ready.lane_within there in
+    let at = memory-there h.space h.chunks lane a.0 ready.layout ready.apart ready.lane_within there in
     let home = home-ref (memory_of h) (root_words h.roots) state w v a c means.stands e at read in
     on_object-held state lane v (birth_of c.head) next (read-ref (memory_of h) state w v a c e at read)
     (holds-is state hs lane c.head.domain (object_of state.made (birth_of c.head)).domain means.held home.domain held)
 
-pub refuses-foreign : (h : Heap) (hs : List ℕ) (lane : ℕ) (w : Word) (a : Address) → MayOperate h hs lane → w ≡ word.Ref a → IsCellOrYoung h.space (own_chunk h lane) a.0 → get_or hs (cell_of h.space (own_chunk h lane) a.0).head.domain 0 ≢ lane → Refuses h hs lane w reply.Foreign
+pub refuses-foreign : (h : HeapView) (hs : List ℕ) (lane : ℕ) (w : Word) (a : Address) → MayOperate h hs lane → w ≡ word.Ref a → IsCellOrYoung h.space (own_chunk h lane) a.0 → get_or hs (cell_of h.space (own_chunk h lane) a.0).head.domain 0 ≢ lane → Refuses h hs lane w reply.Foreign
 refuses-foreign h hs lane w a ready e there off = λ serials state v means read next.
     let c = cell_of h.space (own_chunk h lane) a.0 in
-    let at = memory-there h.space h.chunks.items lane a.0 ready.layout ready.apart ready.lane_within there in
+    let at = memory-there h.space h.chunks lane a.0 ready.layout ready.apart ready.lane_within there in
     let home = home-ref (memory_of h) (root_words h.roots) state w v a c means.stands e at read in
     on_object-foreign state lane v (birth_of c.head) next (read-ref (memory_of h) state w v a c e at read)
     (holds-not state hs lane c.head.domain (object_of state.made (birth_of c.head)).domain means.held home.domain off)
 
 -- the same of an operation on a field
-pub acts-on_field : (h : Heap) (hs : List ℕ) (lane i : ℕ) (w : Word) (a : Address) → MayOperate h hs lane → IsOfLane h hs lane w a → ActsOn h hs lane w a → i < (cell_of h.space (own_chunk h lane) a.0).head.fields → ActsOnField h hs lane w i a
+pub acts-on_field : (h : HeapView) (hs : List ℕ) (lane i : ℕ) (w : Word) (a : Address) → MayOperate h hs lane → IsOfLane h hs lane w a → ActsOn h hs lane w a → i < (cell_of h.space (own_chunk h lane) a.0).head.fields → ActsOnField h hs lane w i a
 acts-on_field h hs lane i w a ready of acts lt = λ serials state v means read next.
     let c = cell_of h.space (own_chunk h lane) a.0 in
-    let at = memory-there h.space h.chunks.items lane a.0 ready.layout ready.apart ready.lane_within of.there in
+    let at = memory-there h.space h.chunks lane a.0 ready.layout ready.apart ready.lane_within of.there in
     let home = home-ref (memory_of h) (root_words h.roots) state w v a c means.stands of.refers at read in
     acts serials state v means read (λ b. if nat_lt i (length (object_of state.made b).fields) then next b else (state, reply.Range))
     ∙ held_if (nat_lt i (length (object_of state.made (birth_of c.head)).fields)) (next (birth_of c.head)) (state, reply.Range)
     (lt-ltb i (length (object_of state.made (birth_of c.head)).fields) (let n = home.count in omega arith))
 
-pub refuses-range : (h : Heap) (hs : List ℕ) (lane i : ℕ) (w : Word) (a : Address) → MayOperate h hs lane → IsOfLane h hs lane w a → ActsOn h hs lane w a → (cell_of h.space (own_chunk h lane) a.0).head.fields ≤ i → RefusesField h hs lane w i reply.Range
+pub refuses-range : (h : HeapView) (hs : List ℕ) (lane i : ℕ) (w : Word) (a : Address) → MayOperate h hs lane → IsOfLane h hs lane w a → ActsOn h hs lane w a → (cell_of h.space (own_chunk h lane) a.0).head.fields ≤ i → RefusesField h hs lane w i reply.Range
 refuses-range h hs lane i w a ready of acts le = λ serials state v means read next.
     let c = cell_of h.space (own_chunk h lane) a.0 in
-    let at = memory-there h.space h.chunks.items lane a.0 ready.layout ready.apart ready.lane_within of.there in
+    let at = memory-there h.space h.chunks lane a.0 ready.layout ready.apart ready.lane_within of.there in
     let home = home-ref (memory_of h) (root_words h.roots) state w v a c means.stands of.refers at read in
     acts serials state v means read (λ b. if nat_lt i (length (object_of state.made b).fields) then next b else (state, reply.Range))
     ∙ other_if (nat_lt i (length (object_of state.made (birth_of c.head)).fields)) (next (birth_of c.head)) (state, reply.Range)
     (le-ltb i (length (object_of state.made (birth_of c.head)).fields) (let n = home.count in omega arith))
 
-pub refuses-before : (h : Heap) (hs : List ℕ) (lane i : ℕ) (w : Word) (r : Reply) → Refuses h hs lane w r → RefusesField h hs lane w i r
+pub refuses-before : (h : HeapView) (hs : List ℕ) (lane i : ℕ) (w : Word) (r : Reply) → Refuses h hs lane w r → RefusesField h hs lane w i r
 refuses-before h hs lane i w r refuses = λ serials state v means read next.
     refuses serials state v means read (λ b. if nat_lt i (length (object_of state.made b).fields) then next b else (state, reply.Range))
 
 -- a root slot of a domain that the lane holds has a word of the lane's
-pub own-slot : (h : Heap) (hs : List ℕ) (lane : ℕ) (p : Slot) → Runs h hs → p.domain < h.roots.domains → p.slot < h.roots.slots → get_or hs p.domain 0 ≡ lane → IsOwn h.space (own_chunk h lane) (slot_word h.roots p)
+pub own-slot : (h : HeapView) (hs : List ℕ) (lane : ℕ) (p : Slot) → IsRunning h hs → p.domain < h.roots.domains → p.slot < h.roots.slots → get_or hs p.domain 0 ≡ lane → IsOwn h.space (own_chunk h lane) (slot_word h.roots p)
 own-slot h hs lane p runs domain slot held = λ a e.
     subst (λ (l : ℕ). IsCellOrYoung h.space (own_chunk h l) a.0) held (runs.closed.root p.domain p.slot a domain slot e)

@@ -1,17 +1,15 @@
 -- A new object at the end of the lane's chunk, and a root slot that refers to it.
-use Rattle.std.proofs.Common.{◌≡◌, ◌≢◌, ◌⊎◌, ℕ, ◌+◌, ◌<◌, ◌≤◌, true, false, List, [], ◌∷◌, ◌++◌, length, get_or, set, replicate, Option, Some, None, is_some, option_map, refl, sym, ap, ap₂, subst, ◌∙◌, inl, inr, arith}
+use Rattle.std.proofs.Common.{◌≡◌, ◌≢◌, ◌⊎◌, ℕ, ◌+◌, ◌^◌, ◌<◌, ◌≤◌, true, false, List, [], ◌∷◌, ◌++◌, length, get_or, set, replicate, Option, Some, None, is_some, option_map, refl, sym, ap, ap₂, subst, ◌∙◌, inl, inr, arith}
 use Prim.Native.Nat.{zero, suc}
 use Rattle.std.proofs.Math.ListN.{get_or-map}
 use Rattle.std.proofs.Math.Nat.{mul-le-mul_left}
 use Rattle.std.proofs.lemmas.Bool.{cases_Bool, cases_eq, cases_lt}
 use Rattle.std.proofs.lemmas.List.{get_or_read, map-set, length_push, set-get_or}
-use Rattle.std.specs.Global.{Vec}
-use Rattle.std.specs.Vec.{with_item}
 use Rattle.std.specs.Option.{option_or}
 use Rattle.bc_classes.specs.Classes.{class_of}
-use Rattle.bc_cycle.specs.declared.heaps.Heap.{Heap}
+use Rattle.bc_whole_heap.specs.Heaps.{HeapView}
 use Rattle.bc_whole_heap.specs.Closed.{chunk_of, buffer_of, IsCellOrYoung, IsRecorded, IsClosedHeap}
-use Rattle.bc_whole_heap.specs.Heaps.{end_of, heap_memory, root_words, no_chunk, young, object_in, AreApart, view_of, HeapView}
+use Rattle.bc_whole_heap.specs.Heaps.{end_of, heap_memory, root_words, no_chunk, young, object_in, AreApart, view_of}
 use Rattle.bc_whole_heap.specs.Running.{IsRunning, StandsAs}
 use Rattle.bc_whole_heap.proofs.ChunkLemmas.{object_in-at, object_in-none}
 use Rattle.bc_whole_heap.proofs.HeapLemmas.{memory-below, memory-above}
@@ -29,23 +27,23 @@ use Rattle.bc_model.proofs.States.{IsState-with_new}
 use Rattle.bc_nursery.specs.Entries.{Entries}
 use Rattle.bc_nursery.specs.Objects.{ChunkObject, Nursery, has_object, the_object, object_at, object_or, new_object, with_object, left_of}
 use Rattle.bc_nursery.specs.Objects as nursery
-use Rattle.bc_nursery.proofs.ObjectLemmas.{class_of-two, words-inside, none-has, object_at-end, object_at-new, object_at-others}
+use Rattle.bc_nursery.proofs.ObjectLemmas.{IsChunk-object, class_of-two, words-inside, none-has, object_at-end, object_at-new, object_at-others}
 use Rattle.bc_standing.specs.Standing.{birth_of, births, Stands, AllBorn}
 use Rattle.bc_standing.proofs.Making.{Stands-new, AllBorn-new, births-put_here, births-put_other}
 use Rattle.bc_standing.proofs.Reading.{replicate_default}
 use Rattle.bc_superpages.specs.Layout.{Layout, IsAllocated}
 use Rattle.bc_superpages.specs.RootWords.{RootWords}
+use Rattle.bc_word.specs.Heads.{FitsHead}
 use Rattle.bc_word.specs.declared.addresses.Address.{Address}
 use Rattle.bc_word.specs.declared.heads.Head.{Head}
 use Rattle.bc_word.specs.declared.words.Word.{Word}
 use Rattle.bc_word.specs.declared.words.Word.TheVariants.{Nil, Ref}
-use Rattle.bc_mutator.specs.Effects.{with_root, DidOperation}
+use Rattle.bc_mutator.specs.Effects.{with_root, DidAct}
 use Rattle.bc_mutator.specs.Objects.{MayOperate, AreWhole, IsOwn, own_chunk}
 use Rattle.bc_mutator.specs.Operations.{NoneLater}
 use Rattle.bc_mutator.proofs.MeaningLemmas.{same_place}
-use Rattle.bc_mutator.proofs.RootLemmas.{running-root, root_words-set}
-use Rattle.bc_mutator.proofs.VecLemmas.{with_item-same}
-use Rattle.bc_mutator.proofs.YoungLemmas.{chunk-own, chunk-other, length-chunks, laid-kept}
+use Rattle.bc_mutator.proofs.RootLemmas.{buffers-same, running-root, root_words-set, slots-other}
+use Rattle.bc_mutator.proofs.YoungLemmas.{chunk-own, chunk-other, chunks-whole, length-chunks, laid-kept}
 
 -- a new object of the lane's chunk, which has room for it
 pub record MakesYoung (s : Layout) (r : RootWords) (cs ds : List Nursery) (bs : List Entries) (hs : List ℕ) (lane : ℕ) (head : Head) : Type 0 where
@@ -292,7 +290,7 @@ module _ (s : Layout) (r : RootWords) (cs ds : List Nursery) (bs : List Entries)
 
 -- how many births a lane has had
 pub births-count : {h : HeapView} (hs serials : List ℕ) (lane : ℕ) (state : State) → StandsAs h hs serials state → get_or serials lane 0 ≡ length (made_by state.made lane)
-births-count hs serials lane state h = sym (ap (λ (xs : List ℕ). get_or xs lane 0) h.births) ∙ get_or-map length state.made lane []
+births-count hs serials lane state st = sym (ap (λ (xs : List ℕ). get_or xs lane 0) st.births) ∙ get_or-map length state.made lane []
 
 -- and none is later
 pub none-later : (h : HeapView) (hs serials : List ℕ) (state : State) → StandsAs h hs serials state → (lane : ℕ) → NoneLater h.space h.chunks lane (get_or serials lane 0)
@@ -303,33 +301,47 @@ none-later h hs serials state st lane a b e same =
     omega arith
 
 -- so a new object is done
-pub done-new : (h : Heap) (chunks : Vec Nursery) (roots : RootWords) (hs : List ℕ) (lane serial n : ℕ) (p : Slot) (object : Address) → MayOperate h hs lane → p.domain < h.roots.domains → p.slot < h.roots.slots → n ≤ 127 → get_or hs p.domain 0 ≡ lane → class_of n ≤ left_of (own_chunk h lane) → chunks.items ≡ set h.chunks.items lane (with_object (own_chunk h lane) (record { lane = lane; serial = serial + 1; domain = p.domain; fields = n })) → object.0 ≡ nursery.end_of (own_chunk h lane) → roots ≡ with_root h.roots p (Ref object) → DidOperation h (record h { roots = roots; chunks = chunks }) hs lane serial (serial + 1) (New p n) (reply.Obj (record { lane = lane; serial = serial + 1 }))
-done-new h chunks roots hs lane serial n p object ready domain slot few held room is at written =
-    subst (λ (r : RootWords). DidOperation h (record h { roots = r; chunks = chunks }) hs lane serial (serial + 1) (New p n) (reply.Obj (record { lane = lane; serial = serial + 1 }))) (sym root_is) (record {
+pub done-new : (h : HeapView) (chunks : List Nursery) (roots : RootWords) (hs : List ℕ) (lane serial n : ℕ) (p : Slot) (object : Address) → MayOperate h hs lane → p.domain < h.roots.domains → p.slot < h.roots.slots → n ≤ 127 → lane < 16 → serial + 1 < 2 ^ 32 → get_or hs p.domain 0 ≡ lane → class_of n ≤ left_of (own_chunk h lane) → chunks ≡ set h.chunks lane (with_object (own_chunk h lane) (record { lane = lane; serial = serial + 1; domain = p.domain; fields = n })) → object.0 ≡ nursery.end_of (own_chunk h lane) → roots ≡ with_root h.roots p (Ref object) → DidAct h (record h { roots = roots; chunks = chunks }) hs lane serial (serial + 1) (New p n) (reply.Obj (record { lane = lane; serial = serial + 1 }))
+done-new h chunks roots hs lane serial n p object ready domain slot few lanes serials held room is at written =
+    subst (λ (r : RootWords). DidAct h (record h { roots = r; chunks = chunks }) hs lane serial (serial + 1) (New p n) (reply.Obj (record { lane = lane; serial = serial + 1 }))) (sym root_is) (record {
       step = λ serials state means e. (
         ap (λ (k : ℕ). let b : Birth = record { lane = lane; serial = k + 1 } in reply.Obj b) (sym (births-count hs serials lane state means) ∙ e),
-        subst (λ (k : ℕ). StandsAs (view_of h.space root chunks.items h.buffers.items) hs (set serials lane (k + 1)) (with_new state lane p n)) e
-            (stands-new h.space h.roots h.chunks.items chunks.items h.buffers.items hs lane head makes serials state p refl (ap (λ (k : ℕ). k + 1) (sym e)) refl few means),
+        subst (λ (k : ℕ). StandsAs (view_of h.space root chunks h.buffers) hs (set serials lane (k + 1)) (with_new state lane p n)) e
+            (stands-new h.space h.roots h.chunks chunks h.buffers hs lane head makes serials state p refl (ap (λ (k : ℕ). k + 1) (sym e)) refl few means),
       );
       running = λ none.
-          running-root h.space h.roots chunks.items h.buffers.items hs p (Ref to)
-          (made-running h.space h.roots h.chunks.items chunks.items h.buffers.items hs lane head makes serial refl refl none) slot own;
-      later = λ none. made-later h.space h.roots h.chunks.items chunks.items h.buffers.items hs lane head makes serial refl none;
-      others_later = λ l k ne none. made-others_later h.space h.roots h.chunks.items chunks.items h.buffers.items hs lane head makes l k refl ne none;
+          running-root h.space h.roots chunks h.buffers hs p (Ref to)
+          (made-running h.space h.roots h.chunks chunks h.buffers hs lane head makes serial refl refl none) slot own;
+      later = λ none. made-later h.space h.roots h.chunks chunks h.buffers hs lane head makes serial refl none;
+      others_later = λ l k ne none. made-others_later h.space h.roots h.chunks chunks h.buffers hs lane head makes l k refl ne none;
+      layout = ready.layout;
+      whole = chunks-whole h.chunks chunks lane (with_object (own_chunk h lane) head) ready.lane_within is
+          (IsChunk-object (own_chunk h lane) head fits room (ready.whole lane ready.lane_within)) ready.whole;
       leaves = record {
-        others = λ l ne. (chunk-other h.chunks.items chunks.items lane l (with_object (own_chunk h lane) head) is ne, refl);
+        chunks = is ∙ ap (λ (c : Nursery). set h.chunks lane c) (sym chunk_is);
+        buffers = buffers-same h.buffers lane;
         space = refl;
+        pages = λ page off. (refl, refl);
         roots = refl;
+        slots = λ q off less. slots-other h.roots hs lane p q (Ref to) held slot off less;
         chunk = chunk_is ∙ ap (λ (os : List ChunkObject). record (own_chunk h lane) { objects = os }) (sym (ap (λ (x : Nursery). x.objects) chunk_is));
-        lists = (length-chunks h.chunks.items chunks.items lane (with_object (own_chunk h lane) head) is, refl, refl);
         capacity = refl;
         unrecorded = λ none. (refl, refl);
       };
       recorded = (refl, refl);
+      changed = inl (
+        to.0,
+        made-free h.space h.roots h.chunks chunks h.buffers hs lane head makes,
+        refl,
+        made-memory h.space h.roots h.chunks chunks h.buffers hs lane head makes,
+      );
     })
   where
     head : Head
     head = record { lane = lane; serial = serial + 1; domain = p.domain; fields = n }
+
+    fits : FitsHead head
+    fits = record { lane = lanes; serial = serials; domain = (let few_domains = ready.few_domains in omega arith); fields = omega arith }
 
     to : Address
     to = record { 0 = nursery.end_of (own_chunk h lane) }
@@ -340,10 +352,10 @@ done-new h chunks roots hs lane serial n p object ready domain slot few held roo
     root_is : roots ≡ root
     root_is = written ∙ ap (λ (k : ℕ). let a : Address = record { 0 = k } in with_root h.roots p (Ref a)) at
 
-    chunk_is : chunk_of chunks.items lane ≡ with_object (own_chunk h lane) head
-    chunk_is = chunk-own h.chunks.items chunks.items lane (with_object (own_chunk h lane) head) ready.lane_within is
+    chunk_is : chunk_of chunks lane ≡ with_object (own_chunk h lane) head
+    chunk_is = chunk-own h.chunks chunks lane (with_object (own_chunk h lane) head) ready.lane_within is
 
-    makes : MakesYoung h.space h.roots h.chunks.items chunks.items h.buffers.items hs lane head
+    makes : MakesYoung h.space h.roots h.chunks chunks h.buffers hs lane head
     makes = record {
       run = ready.running;
       lane_within = ready.lane_within;
@@ -355,17 +367,10 @@ done-new h chunks roots hs lane serial n p object ready domain slot few held roo
       chunks = is;
     }
 
-    own : IsOwn h.space (chunk_of chunks.items (get_or hs p.domain 0)) (Ref to)
-    own = λ a e. inr (subst (λ (x : Address). has_object (chunk_of chunks.items (get_or hs p.domain 0)) x.0 ≡ true) (one_address to a e)
-        (subst (λ (l : ℕ). has_object (chunk_of chunks.items l) to.0 ≡ true) (sym held)
-        (has-new h.space h.roots h.chunks.items chunks.items h.buffers.items hs lane head makes)))
+    own : IsOwn h.space (chunk_of chunks (get_or hs p.domain 0)) (Ref to)
+    own = λ a e. inr (subst (λ (x : Address). has_object (chunk_of chunks (get_or hs p.domain 0)) x.0 ≡ true) (one_address to a e)
+        (subst (λ (l : ℕ). has_object (chunk_of chunks l) to.0 ≡ true) (sym held)
+        (has-new h.space h.roots h.chunks chunks h.buffers hs lane head makes)))
       where
         one_address : (x y : Address) → Ref x ≡ Ref y → x ≡ y
         one_address x y f = cc
-
--- nothing is done where there is no room
-pub same-full : (h : Heap) (lane : ℕ) (c d : Nursery) → lane < length h.chunks.items → c ≡ get_or h.chunks.items lane c → d ≡ c → record h { chunks = with_item h.chunks lane d } ≡ h
-same-full h lane c d lt read same =
-    let here : d ≡ get_or h.chunks.items lane no_chunk = same ∙ get_or_read h.chunks.items lane c lt read no_chunk in
-    let back : set h.chunks.items lane d ≡ h.chunks.items = ap (λ (x : Nursery). set h.chunks.items lane x) here ∙ set-get_or h.chunks.items lane no_chunk in
-    ap (λ (y : Vec Nursery). record h { chunks = y }) (with_item-same h.chunks lane d back)

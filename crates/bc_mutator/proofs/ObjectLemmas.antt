@@ -20,9 +20,13 @@ use Rattle.bc_superpages.proofs.HandLemmas.{allocated-superpage}
 use Rattle.bc_superpages.proofs.MemoryLemmas.{memory_of-cell}
 use Rattle.bc_word.specs.Addresses.{page_of, offset_of}
 use Rattle.bc_word.specs.Heads.{fields_of_bits}
+use Rattle.bc_word.specs.declared.addresses.Address.{Address}
 use Rattle.bc_word.specs.declared.words.Word.{Word}
-use Rattle.bc_word.specs.declared.words.Word.TheVariants.{Nil}
+use Rattle.bc_word.specs.declared.words.Word.TheVariants.{Nil, Ref}
 use Rattle.bc_mutator.specs.Objects.{LieBehind, cell_of}
+
+pub one_address : (x y : Address) → Ref x ≡ Ref y → x ≡ y
+one_address x y e = cc
 
 -- cells lie below the end of the superpages, and the lane's chunk behind it
 pub allocated-below : (s : Layout) (a : ℕ) → IsLayout s → IsAllocated s a → a < end_of s

@@ -1,7 +1,7 @@
 -- What a write to a field records, and so what a link does.
 use Rattle.std.proofs.Common.{◌≡◌, ℕ, ◌+◌, ◌<◌, ◌==◌, true, false, List, length, get_or, Some, refl, sym, ap, subst, ◌∙◌, inl, inr, arith}
 use Rattle.std.specs.List.{list_all}
-use Rattle.bc_cycle.specs.declared.heaps.Heap.{Heap}
+use Rattle.bc_whole_heap.specs.Heaps.{HeapView}
 use Rattle.bc_whole_heap.specs.Closed.{buffer_of}
 use Rattle.bc_whole_heap.specs.Heaps.{end_of}
 use Rattle.bc_memory.specs.Memory.{Cell}
@@ -23,17 +23,14 @@ use Rattle.bc_word.specs.declared.words.Word.TheVariants.{Ref}
 use Rattle.bc_mutator.specs.Effects.{HasRecorded, FindsFull, Records, RecordsField, RecordsNothing, RecordsWrite, StoresAt, StopsAt, Wrote}
 use Rattle.bc_mutator.specs.Objects.{MayOperate, IsOwn, IsOfLane, own_chunk, cell_of, slot_word}
 use Rattle.bc_mutator.specs.Operations.{NeedsEntry, RefersToField, StoresYoung}
-use Rattle.bc_mutator.proofs.ObjectLemmas.{allocated-below, cell_of-below}
+use Rattle.bc_mutator.proofs.ObjectLemmas.{allocated-below, cell_of-below, one_address}
 use Rattle.bc_mutator.proofs.WritingLemmas.{CanWrite, own-cell, refers-young}
-
-one_address : (x y : Address) → Ref x ≡ Ref y → x ≡ y
-one_address x y e = cc
 
 one_cell : (x y : Cell) → Some x ≡ Some y → x ≡ y
 one_cell x y e = cc
 
 -- a field of a cell that the lane may write is one that the slot refers to
-pub field-named : (h : Heap) (hs : List ℕ) (lane : ℕ) (p : Slot) (target : Word) (at : Address) (index : ℕ) (word : Word) → CanWrite h hs lane target at index word → target ≡ slot_word h.roots p → at.0 < end_of h.space → (f : RefersToField hs lane h.space h.roots p index) × (f.cell ≡ at)
+pub field-named : (h : HeapView) (hs : List ℕ) (lane : ℕ) (p : Slot) (target : Word) (at : Address) (index : ℕ) (word : Word) → CanWrite h hs lane target at index word → target ≡ slot_word h.roots p → at.0 < end_of h.space → (f : RefersToField hs lane h.space h.roots p index) × (f.cell ≡ at)
 field-named h hs lane p target at index word can e below =
     let own = own-cell h hs lane target at index word can below in (
       record {
@@ -49,11 +46,11 @@ field-named h hs lane p target at index word can e below =
     )
 
 -- what the slot refers to, if it is such a field
-field-below : (h : Heap) (hs : List ℕ) (lane : ℕ) (p : Slot) (target : Word) (at : Address) (index : ℕ) → MayOperate h hs lane → target ≡ slot_word h.roots p → target ≡ Ref at → RefersToField hs lane h.space h.roots p index → at.0 < end_of h.space
+field-below : (h : HeapView) (hs : List ℕ) (lane : ℕ) (p : Slot) (target : Word) (at : Address) (index : ℕ) → MayOperate h hs lane → target ≡ slot_word h.roots p → target ≡ Ref at → RefersToField hs lane h.space h.roots p index → at.0 < end_of h.space
 field-below h hs lane p target at index ready e refers f =
     subst (λ (a : Address). a.0 < end_of h.space) (one_address f.cell at (sym f.to ∙ sym e ∙ refers)) (allocated-below h.space f.cell.0 ready.layout f.mature)
 
-field-found : (h : Heap) (hs : List ℕ) (lane : ℕ) (p : Slot) (target : Word) (index : ℕ) → MayOperate h hs lane → target ≡ slot_word h.roots p → ((a : Address) → IsOfLane h hs lane target a → index < (cell_of h.space (own_chunk h lane) a.0).head.fields → ⊥) → RefersToField hs lane h.space h.roots p index → ⊥
+field-found : (h : HeapView) (hs : List ℕ) (lane : ℕ) (p : Slot) (target : Word) (index : ℕ) → MayOperate h hs lane → target ≡ slot_word h.roots p → ((a : Address) → IsOfLane h hs lane target a → index < (cell_of h.space (own_chunk h lane) a.0).head.fields → ⊥) → RefersToField hs lane h.space h.roots p index → ⊥
 field-found h hs lane p target index ready e none f =
     let below = allocated-below h.space f.cell.0 ready.layout f.mature in
     let is : f.content ≡ space.cell_at h.space.pages f.cell.0 =
@@ -67,7 +64,7 @@ field-found h hs lane p target index ready e none f =
     (subst (λ (c : Cell). index < c.head.fields) (sym (cell_of-below h.space (own_chunk h lane) f.cell.0 below)) few)
 
 -- what the write records
-mature-records : (h k : Heap) (hs : List ℕ) (lane : ℕ) (p : Slot) (target : Word) (at : Address) (index : ℕ) (word : Word) → CanWrite h hs lane target at index word → target ≡ slot_word h.roots p → at.0 < end_of h.space → Records h.space k.space (buffer_of h.buffers.items lane) (buffer_of k.buffers.items lane) at index word → RecordsWrite h k hs lane p index word Done
+mature-records : (h k : HeapView) (hs : List ℕ) (lane : ℕ) (p : Slot) (target : Word) (at : Address) (index : ℕ) (word : Word) → CanWrite h hs lane target at index word → target ≡ slot_word h.roots p → at.0 < end_of h.space → Records h.space k.space (buffer_of h.buffers lane) (buffer_of k.buffers lane) at index word → RecordsWrite h k hs lane p index word Done
 mature-records h k hs lane p target at index word can e below (inl r) =
     inr (λ stores. absurd (let lt = r.0 stores.1.to stores.1.refers in let le = stores.1.behind in omega arith), r.1)
 mature-records h k hs lane p target at index word can e below (inr r) =
@@ -75,30 +72,30 @@ mature-records h k hs lane p target at index word can e below (inr r) =
     inl (
       (f.0, r.0),
       refl,
-      subst (λ (a : Address). RecordsField a index (buffer_of h.buffers.items lane) (buffer_of k.buffers.items lane) h.space.states k.space.states) (sym f.1) r.1,
+      subst (λ (a : Address). RecordsField a index (buffer_of h.buffers lane) (buffer_of k.buffers lane) h.space.states k.space.states) (sym f.1) r.1,
     )
 
-pub written-records : (h k : Heap) (hs : List ℕ) (lane : ℕ) (p : Slot) (target : Word) (at : Address) (index : ℕ) (word : Word) → CanWrite h hs lane target at index word → target ≡ slot_word h.roots p → Wrote h k lane at index word → RecordsWrite h k hs lane p index word Done
+pub written-records : (h k : HeapView) (hs : List ℕ) (lane : ℕ) (p : Slot) (target : Word) (at : Address) (index : ℕ) (word : Word) → CanWrite h hs lane target at index word → target ≡ slot_word h.roots p → Wrote h k lane at index word → RecordsWrite h k hs lane p index word Done
 written-records h k hs lane p target at index word can e (inl wrote) = mature-records h k hs lane p target at index word can e wrote.below wrote.cell.entry
 written-records h k hs lane p target at index word can e (inr wrote) = inr (
   λ stores. absurd (let lt = field-below h hs lane p target at index can.ready e can.of.refers stores.0 in let le = wrote.behind in omega arith),
-  (ap (λ (x : Heap). buffer_of x.buffers.items lane) wrote.rest, ap (λ (x : Heap). x.space.states) wrote.rest),
+  (ap (λ (x : HeapView). buffer_of x.buffers lane) wrote.rest, ap (λ (x : HeapView). x.space.states) wrote.rest),
 )
 
-pub refused-records : (h : Heap) (hs : List ℕ) (lane : ℕ) (p : Slot) (target : Word) (index : ℕ) (word : Word) (reply : Reply) → MayOperate h hs lane → target ≡ slot_word h.roots p → ((a : Address) → IsOfLane h hs lane target a → index < (cell_of h.space (own_chunk h lane) a.0).head.fields → ⊥) → RecordsWrite h h hs lane p index word reply
+pub refused-records : (h : HeapView) (hs : List ℕ) (lane : ℕ) (p : Slot) (target : Word) (index : ℕ) (word : Word) (reply : Reply) → MayOperate h hs lane → target ≡ slot_word h.roots p → ((a : Address) → IsOfLane h hs lane target a → index < (cell_of h.space (own_chunk h lane) a.0).head.fields → ⊥) → RecordsWrite h h hs lane p index word reply
 refused-records h hs lane p target index word reply ready e none = inr (λ stores. field-found h hs lane p target index ready e none stores.0, (refl, refl))
 
-pub write-stops : (h : Heap) (hs : List ℕ) (lane : ℕ) (p : Slot) (target : Word) (at : Address) (index : ℕ) (word : Word) → CanWrite h hs lane target at index word → target ≡ slot_word h.roots p → FindsFull h lane at word → StopsAt h hs lane p index word
+pub write-stops : (h : HeapView) (hs : List ℕ) (lane : ℕ) (p : Slot) (target : Word) (at : Address) (index : ℕ) (word : Word) → CanWrite h hs lane target at index word → target ≡ slot_word h.roots p → FindsFull h.space (buffer_of h.buffers lane) at word → StopsAt h hs lane p index word
 write-stops h hs lane p target at index word can e finds =
     (((field-named h hs lane p target at index word can e finds.below).0, finds.young), finds.full)
 
 -- a word that is no reference is stored unrecorded
-pub plain-records : (h k : Heap) (hs : List ℕ) (lane : ℕ) (p : Slot) (index : ℕ) (word : Word) (reply : Reply) → ((a : Address) → word ≡ Ref a → ⊥) → RecordsWrite h k hs lane p index word reply → RecordsNothing (buffer_of h.buffers.items lane) (buffer_of k.buffers.items lane) h.space.states k.space.states
+pub plain-records : (h k : HeapView) (hs : List ℕ) (lane : ℕ) (p : Slot) (index : ℕ) (word : Word) (reply : Reply) → ((a : Address) → word ≡ Ref a → ⊥) → RecordsWrite h k hs lane p index word reply → RecordsNothing (buffer_of h.buffers lane) (buffer_of k.buffers lane) h.space.states k.space.states
 plain-records h k hs lane p index word reply plain (inl r) = absurd (plain r.0.1.to r.0.1.refers)
 plain-records h k hs lane p index word reply plain (inr r) = r.1
 
 -- a link, of whose slots the lane holds the domains
-link-stores : (h : Heap) (hs : List ℕ) (lane index : ℕ) (p q : Slot) (word : Word) → MayOperate h hs lane → (get_or hs p.domain 0 ≡ lane) × (get_or hs q.domain 0 ≡ lane) → word ≡ slot_word h.roots q → IsOwn h.space (own_chunk h lane) word → (stores : StoresAt h hs lane p index word) → (y : StoresYoung hs lane h.space h.roots (own_chunk h lane) p index q) × (y.target ≡ stores.0)
+link-stores : (h : HeapView) (hs : List ℕ) (lane index : ℕ) (p q : Slot) (word : Word) → MayOperate h hs lane → (get_or hs p.domain 0 ≡ lane) × (get_or hs q.domain 0 ≡ lane) → word ≡ slot_word h.roots q → IsOwn h.space (own_chunk h lane) word → (stores : StoresAt h hs lane p index word) → (y : StoresYoung hs lane h.space h.roots (own_chunk h lane) p index q) × (y.target ≡ stores.0)
 link-stores h hs lane index p q word ready held e own stores = (
   record {
     slots = held;
@@ -110,13 +107,13 @@ link-stores h hs lane index p q word ready held e own stores = (
   refl,
 )
 
-pub link-records : (h k : Heap) (hs : List ℕ) (lane index : ℕ) (p q : Slot) (word : Word) (reply : Reply) → MayOperate h hs lane → (get_or hs p.domain 0 ≡ lane) × (get_or hs q.domain 0 ≡ lane) → word ≡ slot_word h.roots q → IsOwn h.space (own_chunk h lane) word → RecordsWrite h k hs lane p index word reply → HasRecorded h k hs lane (Link p index q) reply
+pub link-records : (h k : HeapView) (hs : List ℕ) (lane index : ℕ) (p q : Slot) (word : Word) (reply : Reply) → MayOperate h hs lane → (get_or hs p.domain 0 ≡ lane) × (get_or hs q.domain 0 ≡ lane) → word ≡ slot_word h.roots q → IsOwn h.space (own_chunk h lane) word → RecordsWrite h k hs lane p index word reply → HasRecorded h k hs lane (Link p index q) reply
 link-records h k hs lane index p q word reply ready held e own (inl r) =
     let y = link-stores h hs lane index p q word ready held e own r.0 in
     inl (
       y.0,
       r.1,
-      subst (λ (f : RefersToField hs lane h.space h.roots p index). RecordsField f.cell index (buffer_of h.buffers.items lane) (buffer_of k.buffers.items lane) h.space.states k.space.states) (sym y.1) r.2,
+      subst (λ (f : RefersToField hs lane h.space h.roots p index). RecordsField f.cell index (buffer_of h.buffers lane) (buffer_of k.buffers lane) h.space.states k.space.states) (sym y.1) r.2,
     )
 link-records h k hs lane index p q word reply ready held e own (inr r) = inr (
   λ y. r.0 (y.target, record { to = y.young; refers = e ∙ y.stored; behind = ready.behind y.young.0 y.there }),
@@ -124,11 +121,11 @@ link-records h k hs lane index p q word reply ready held e own (inr r) = inr (
 )
 
 -- what stops a link
-pub link-stops : (h : Heap) (hs : List ℕ) (lane index : ℕ) (p q : Slot) (word : Word) → MayOperate h hs lane → (get_or hs p.domain 0 ≡ lane) × (get_or hs q.domain 0 ≡ lane) → word ≡ slot_word h.roots q → IsOwn h.space (own_chunk h lane) word → StopsAt h hs lane p index word → NeedsEntry hs lane h.space h.roots (own_chunk h lane) (buffer_of h.buffers.items lane) (Link p index q)
+pub link-stops : (h : HeapView) (hs : List ℕ) (lane index : ℕ) (p q : Slot) (word : Word) → MayOperate h hs lane → (get_or hs p.domain 0 ≡ lane) × (get_or hs q.domain 0 ≡ lane) → word ≡ slot_word h.roots q → IsOwn h.space (own_chunk h lane) word → StopsAt h hs lane p index word → NeedsEntry hs lane h.space h.roots (own_chunk h lane) (buffer_of h.buffers lane) (Link p index q)
 link-stops h hs lane index p q word ready held e own stops = ((link-stores h hs lane index p q word ready held e own stops.0).0, stops.1)
 
 -- an operation that names a domain that the lane doesn't hold records nothing
-pub foreign-records : (h : Heap) (hs : List ℕ) (lane : ℕ) (op : Op) (reply : Reply) → list_all (λ d. get_or hs d 0 == lane) (domains_of op) ≡ false → HasRecorded h h hs lane op reply
+pub foreign-records : (h : HeapView) (hs : List ℕ) (lane : ℕ) (op : Op) (reply : Reply) → list_all (λ d. get_or hs d 0 == lane) (domains_of op) ≡ false → HasRecorded h h hs lane op reply
 foreign-records h hs lane (New p n) reply foreign = (refl, refl)
 foreign-records h hs lane (Who p) reply foreign = (refl, refl)
 foreign-records h hs lane (Len p) reply foreign = (refl, refl)

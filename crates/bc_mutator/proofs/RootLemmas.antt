@@ -1,11 +1,10 @@
 -- A root slot becomes another word: the heap stays closed, and it stands for the state with that value in the slot.
-use Rattle.std.proofs.Common.{◌≡◌, ◌⊎◌, true, ℕ, ◌<◌, List, length, get_or, set, Some, refl, sym, ap, subst, ◌∙◌, inl, inr, arith, get_or-set_same, get_or-set_other, length-set}
+use Rattle.std.proofs.Common.{◌≡◌, ◌≢◌, ◌⊎◌, true, ℕ, ◌<◌, List, length, get_or, set, Some, refl, sym, ap, subst, ◌∙◌, inl, inr, arith, get_or-set_same, get_or-set_other, length-set}
 use Rattle.std.proofs.lemmas.Bool.{cases_eq, cases_lt}
 use Rattle.std.proofs.lemmas.List.{set-get_or, set_past, map-set}
 use Rattle.std.proofs.lemmas.Nat.{same_from_place}
-use Rattle.bc_cycle.specs.declared.heaps.Heap.{Heap}
-use Rattle.bc_whole_heap.specs.Closed.{chunk_of, buffer_of, IsCellOrYoung, IsRecorded}
-use Rattle.bc_whole_heap.specs.Heaps.{end_of, heap_memory, root_words, view_of}
+use Rattle.bc_whole_heap.specs.Closed.{chunk_of, buffer_of, no_buffer, IsCellOrYoung, IsRecorded}
+use Rattle.bc_whole_heap.specs.Heaps.{HeapView, end_of, heap_memory, no_chunk, root_words, view_of}
 use Rattle.bc_whole_heap.specs.Running.{IsRunning, StandsAs}
 use Rattle.bc_memory.specs.Memory.{Cell, Memory}
 use Rattle.bc_model.specs.Consistent.{IsValue}
@@ -36,8 +35,8 @@ use Rattle.bc_word.specs.Words.{word_bits, word_of_bits, FitsWord}
 use Rattle.bc_word.specs.declared.addresses.Address.{Address}
 use Rattle.bc_word.specs.declared.words.Word.{Word}
 use Rattle.bc_word.specs.declared.words.Word.TheVariants as word
-use Rattle.bc_mutator.specs.Effects.{with_root, Answers, Leaves, HasRecorded, DidOperation}
-use Rattle.bc_mutator.specs.Objects.{Runs, Means, MayOperate, IsRead, IsOwn, IsOfLane, ActsOnField, RefusesField, memory_of, own_chunk, cell_of, slot_word, loaded_as}
+use Rattle.bc_mutator.specs.Effects.{with_root, Answers, Leaves, HasRecorded, HasChanged, DoesAs, DidAct}
+use Rattle.bc_mutator.specs.Objects.{MayOperate, IsRead, IsOwn, IsOfLane, ActsOnField, RefusesField, memory_of, own_chunk, cell_of, slot_word, loaded_as}
 use Rattle.bc_mutator.proofs.MeaningLemmas.{same_place, read-nil, read-num, read-ref, read-field, home-ref}
 use Rattle.bc_mutator.proofs.ObjectLemmas.{there-below, there-above, cell_of-below, cell_of-above, memory-there}
 use Rattle.bc_mutator.proofs.TellingLemmas.{word-read, is-object}
@@ -134,57 +133,73 @@ stands-root s r cs hs serials state p w v h fits read = record {
 pub same_serials : (serials : List ℕ) (lane serial : ℕ) → get_or serials lane 0 ≡ serial → set serials lane serial ≡ serials
 same_serials serials lane serial e = sym (ap (λ (n : ℕ). set serials lane n) e) ∙ set-get_or serials lane 0
 
-pub Leaves-itself : (h : Heap) (lane : ℕ) → Leaves lane h h
-Leaves-itself h lane = record {
-  others = λ l ne. (refl, refl);
+-- chunks or buffers in which a lane's own is written back
+pub chunks-same : (cs : List Nursery) (lane : ℕ) → cs ≡ set cs lane (chunk_of cs lane)
+chunks-same cs lane = sym (set-get_or cs lane no_chunk)
+
+pub buffers-same : (bs : List Entries) (lane : ℕ) → bs ≡ set bs lane (buffer_of bs lane)
+buffers-same bs lane = sym (set-get_or bs lane no_buffer)
+
+-- a slot of a domain that another lane holds
+pub slots-other : (r : RootWords) (hs : List ℕ) (lane : ℕ) (p q : Slot) (w : Word) → get_or hs p.domain 0 ≡ lane → p.slot < r.slots → get_or hs q.domain 0 ≢ lane → q.slot < r.slots → slot_word (with_root r p w) q ≡ slot_word r q
+slots-other r hs lane p q w held within off less =
+    ap word_of_bits (get_or-set_other r.words (root_place r p.domain p.slot) (root_place r q.domain q.slot) (word_bits w) 0
+    (λ e. off (ap (λ (d : ℕ). get_or hs d 0) (same_from_place q.domain q.slot p.domain p.slot r.slots less within e).0 ∙ held)))
+
+Leaves-root : (h : HeapView) (r : RootWords) (hs : List ℕ) (lane : ℕ) → r ≡ record (h.roots) { words = r.words; noted = r.noted } → ((p : Slot) → get_or hs p.domain 0 ≢ lane → p.slot < h.roots.slots → slot_word r p ≡ slot_word h.roots p) → Leaves hs lane h (record h { roots = r })
+Leaves-root h r hs lane same others = record {
+  chunks = chunks-same h.chunks lane;
+  buffers = buffers-same h.buffers lane;
   space = refl;
-  roots = refl;
+  pages = λ page off. (refl, refl);
+  roots = same;
+  slots = others;
   chunk = refl;
-  lists = (refl, refl, refl);
   capacity = refl;
   unrecorded = λ none. (refl, refl);
 }
 
 -- an operation that changes nothing is done
-pub done-answers : (h : Heap) (hs : List ℕ) (lane serial : ℕ) (op : Op) (reply : Reply) → Runs h hs → Answers h hs lane op reply → HasRecorded h h hs lane op reply → DidOperation h h hs lane serial serial op reply
-done-answers h hs lane serial op reply runs answers recorded = record {
+pub done-nothing : (does : State → State × Reply) (h : HeapView) (hs : List ℕ) (lane serial : ℕ) (op : Op) (reply : Reply) → MayOperate h hs lane → ((serials : List ℕ) → (state : State) → StandsAs h hs serials state → does state ≡ (state, reply)) → HasRecorded h h hs lane op reply → HasChanged h h hs lane serial op reply → DoesAs does h h hs lane serial serial op reply
+done-nothing does h hs lane serial op reply ready answers recorded changed = record {
   step = λ serials state means e.
       let is = answers serials state means in (
         ap (λ (x : State × Reply). x.1) is,
-        subst (λ (xs : List ℕ). Means h hs xs (act state lane op).0) (sym (same_serials serials lane serial e))
-            (subst (λ (x : State). Means h hs serials x) (sym (ap (λ (x : State × Reply). x.0) is)) means),
+        subst (λ (xs : List ℕ). StandsAs h hs xs (does state).0) (sym (same_serials serials lane serial e))
+            (subst (λ (x : State). StandsAs h hs serials x) (sym (ap (λ (x : State × Reply). x.0) is)) means),
       );
-  running = λ none. runs;
+  running = λ none. ready.running;
   later = λ none. none;
   others_later = λ l n ne none. none;
-  leaves = Leaves-itself h lane;
+  layout = ready.layout;
+  whole = ready.whole;
+  leaves = Leaves-root h h.roots hs lane refl (λ p off less. refl);
   recorded = recorded;
+  changed = changed;
 }
 
+pub done-answers : (h : HeapView) (hs : List ℕ) (lane serial : ℕ) (op : Op) (reply : Reply) → MayOperate h hs lane → Answers h hs lane op reply → HasRecorded h h hs lane op reply → HasChanged h h hs lane serial op reply → DidAct h h hs lane serial serial op reply
+done-answers h hs lane serial op reply ready answers recorded changed = done-nothing (λ state. act state lane op) h hs lane serial op reply ready answers recorded changed
+
 -- so is one that writes a root slot
-pub done-root : (h : Heap) (r : RootWords) (hs : List ℕ) (lane serial : ℕ) (p : Slot) (w : Word) (op : Op) (reply : Reply) → MayOperate h hs lane → r ≡ with_root h.roots p w → p.slot < h.roots.slots → get_or hs p.domain 0 ≡ lane → IsOwn h.space (own_chunk h lane) w → FitsWord w → ((serials : List ℕ) → (state : State) → Means h hs serials state → (v : Value) × IsRead (memory_of h) state w v × (act state lane op ≡ (with_slot state p v, reply))) → HasRecorded h h hs lane op reply → DidOperation h (record h { roots = r }) hs lane serial serial op reply
-done-root h r hs lane serial p w op reply ready is within held own fits effect recorded = subst (λ (x : RootWords). DidOperation h (record h { roots = x }) hs lane serial serial op reply) (sym is) (record {
+pub done-root : (h : HeapView) (r : RootWords) (hs : List ℕ) (lane serial : ℕ) (p : Slot) (w : Word) (op : Op) (reply : Reply) → MayOperate h hs lane → r ≡ with_root h.roots p w → p.slot < h.roots.slots → get_or hs p.domain 0 ≡ lane → IsOwn h.space (own_chunk h lane) w → FitsWord w → ((serials : List ℕ) → (state : State) → StandsAs h hs serials state → (v : Value) × IsRead (memory_of h) state w v × (act state lane op ≡ (with_slot state p v, reply))) → HasRecorded h h hs lane op reply → HasChanged h h hs lane serial op reply → DidAct h (record h { roots = r }) hs lane serial serial op reply
+done-root h r hs lane serial p w op reply ready is within held own fits effect recorded changed = subst (λ (x : RootWords). DidAct h (record h { roots = x }) hs lane serial serial op reply) (sym is) (record {
   step = λ serials state means e.
       let k = effect serials state means in (
         ap (λ (x : State × Reply). x.1) k.2,
-        subst (λ (xs : List ℕ). StandsAs (view_of h.space (with_root h.roots p w) h.chunks.items h.buffers.items) hs xs (act state lane op).0) (sym (same_serials serials lane serial e))
-            (subst (λ (x : State). StandsAs (view_of h.space (with_root h.roots p w) h.chunks.items h.buffers.items) hs serials x) (sym (ap (λ (x : State × Reply). x.0) k.2))
-            (stands-root h.space h.roots h.chunks.items hs serials state p w k.0 means fits k.1)),
+        subst (λ (xs : List ℕ). StandsAs (view_of h.space (with_root h.roots p w) h.chunks h.buffers) hs xs (act state lane op).0) (sym (same_serials serials lane serial e))
+            (subst (λ (x : State). StandsAs (view_of h.space (with_root h.roots p w) h.chunks h.buffers) hs serials x) (sym (ap (λ (x : State × Reply). x.0) k.2))
+            (stands-root h.space h.roots h.chunks hs serials state p w k.0 means fits k.1)),
       );
-  running = λ none. running-root h.space h.roots h.chunks.items h.buffers.items hs p w ready.running within
-      (subst (λ (l : ℕ). IsOwn h.space (chunk_of h.chunks.items l) w) (sym held) own);
+  running = λ none. running-root h.space h.roots h.chunks h.buffers hs p w ready.running within
+      (subst (λ (l : ℕ). IsOwn h.space (chunk_of h.chunks l) w) (sym held) own);
   later = λ none. none;
   others_later = λ l n ne none. none;
-  leaves = record {
-    others = λ l ne. (refl, refl);
-    space = refl;
-    roots = refl;
-    chunk = refl;
-    lists = (refl, refl, refl);
-    capacity = refl;
-    unrecorded = λ none. (refl, refl);
-  };
+  layout = ready.layout;
+  whole = ready.whole;
+  leaves = Leaves-root h (with_root h.roots p w) hs lane refl (λ q off less. slots-other h.roots hs lane p q w held within off less);
   recorded = recorded;
+  changed = changed;
 })
 
 -- nil is nobody's reference, and is read as nil
@@ -213,7 +228,7 @@ num-read m state n = record { value = refl; reached = λ b e. absurd (none b e) 
     none c f = cc
 
 -- a field of an object of the lane's has a word of the lane's
-pub own-field : (h : Heap) (hs : List ℕ) (lane i : ℕ) (w : Word) (a : Address) → MayOperate h hs lane → IsOfLane h hs lane w a → IsOwn h.space (own_chunk h lane) (get_or (cell_of h.space (own_chunk h lane) a.0).fields i word.Nil)
+pub own-field : (h : HeapView) (hs : List ℕ) (lane i : ℕ) (w : Word) (a : Address) → MayOperate h hs lane → IsOfLane h hs lane w a → IsOwn h.space (own_chunk h lane) (get_or (cell_of h.space (own_chunk h lane) a.0).fields i word.Nil)
 own-field h hs lane i w a ready of = λ b e. elim (cases_lt a.0 (end_of h.space)) [
   | inl below ↦
       let on = there-below h.space (own_chunk h lane) a.0 ready.behind of.there below in
@@ -228,7 +243,7 @@ own-field h hs lane i w a ready of = λ b e. elim (cases_lt a.0 (end_of h.space)
       (subst (λ (x : Cell). get_or x.fields i word.Nil ≡ word.Ref b) (cell_of-above h.space (own_chunk h lane) a.0 above) e)
 ]
   where
-    named : (b : Address) (c : Cell) → get_or hs c.head.domain 0 ≡ lane → IsAllocated h.space b.0 ⊎ ((has_object (own_chunk h (get_or hs c.head.domain 0)) b.0 ≡ true) × IsRecorded (buffer_of h.buffers.items (get_or hs c.head.domain 0)) a.0 i) → IsCellOrYoung h.space (own_chunk h lane) b.0
+    named : (b : Address) (c : Cell) → get_or hs c.head.domain 0 ≡ lane → IsAllocated h.space b.0 ⊎ ((has_object (own_chunk h (get_or hs c.head.domain 0)) b.0 ≡ true) × IsRecorded (buffer_of h.buffers (get_or hs c.head.domain 0)) a.0 i) → IsCellOrYoung h.space (own_chunk h lane) b.0
     named b c held (inl on) = inl on
     named b c held (inr on) = inr (subst (λ (l : ℕ). has_object (own_chunk h l) b.0 ≡ true) held on.0)
 
@@ -239,12 +254,12 @@ loaded-read m state (word.Num n) v h = ap loaded (read-num m state (word.Num n) 
 loaded-read m state (word.Ref a) v h = ap loaded (is-object m state (word.Ref a) v a refl h).1
 
 -- a load, where it is done: the field's word goes to the second slot
-pub load-effect : (h : Heap) (hs serials : List ℕ) (lane i : ℕ) (p q : Slot) (w : Word) (a : Address) (reply : Reply) (state : State) → MayOperate h hs lane → w ≡ slot_word h.roots p → IsOfLane h hs lane w a → ActsOnField h hs lane w i a → reply ≡ loaded_as (get_or (cell_of h.space (own_chunk h lane) a.0).fields i word.Nil) → Means h hs serials state → (v : Value) × IsRead (memory_of h) state (get_or (cell_of h.space (own_chunk h lane) a.0).fields i word.Nil) v × (act state lane (Load p i q) ≡ (with_slot state q v, reply))
+pub load-effect : (h : HeapView) (hs serials : List ℕ) (lane i : ℕ) (p q : Slot) (w : Word) (a : Address) (reply : Reply) (state : State) → MayOperate h hs lane → w ≡ slot_word h.roots p → IsOfLane h hs lane w a → ActsOnField h hs lane w i a → reply ≡ loaded_as (get_or (cell_of h.space (own_chunk h lane) a.0).fields i word.Nil) → StandsAs h hs serials state → (v : Value) × IsRead (memory_of h) state (get_or (cell_of h.space (own_chunk h lane) a.0).fields i word.Nil) v × (act state lane (Load p i q) ≡ (with_slot state q v, reply))
 load-effect h hs serials lane i p q w a reply state ready e of acts is means =
     let c = cell_of h.space (own_chunk h lane) a.0 in
     let b = birth_of c.head in
     let read = word-read h hs serials state p w e means in
-    let at = memory-there h.space h.chunks.items lane a.0 ready.layout ready.apart ready.lane_within of.there in
+    let at = memory-there h.space h.chunks lane a.0 ready.layout ready.apart ready.lane_within of.there in
     let home = home-ref (memory_of h) (root_words h.roots) state w (slot_of state p) a c means.stands of.refers at read in
     let reached = read.reached b (read-ref (memory_of h) state w (slot_of state p) a c of.refers at read) in
     let field = read-field (memory_of h) state b a.0 i c reached home in (
@@ -254,6 +269,6 @@ load-effect h hs serials lane i p q w a reply state ready e of acts is means =
           ∙ ap (λ (r : Reply). let pair : State × Reply = (with_slot state q (field_of state b i), r) in pair) (loaded-read (memory_of h) state (get_or c.fields i word.Nil) (field_of state b i) field ∙ sym is),
     )
 
-pub load-refuses : (h : Heap) (hs : List ℕ) (lane i : ℕ) (p q : Slot) (w : Word) (r : Reply) → w ≡ slot_word h.roots p → RefusesField h hs lane w i r → Answers h hs lane (Load p i q) r
+pub load-refuses : (h : HeapView) (hs : List ℕ) (lane i : ℕ) (p q : Slot) (w : Word) (r : Reply) → w ≡ slot_word h.roots p → RefusesField h hs lane w i r → Answers h hs lane (Load p i q) r
 load-refuses h hs lane i p q w r e refuses = λ serials state means.
     refuses serials state (slot_of state p) means (word-read h hs serials state p w e means) (λ x. (with_slot state q (field_of state x i), loaded (field_of state x i)))

@@ -1,16 +1,23 @@
 -- From an operation that is done to the step of the state.
-use Rattle.std.proofs.Common.{◌≡◌, ◌≢◌, ℕ, ◌==◌, Bool, true, false, if◌then◌else◌, List, get_or, set, Result, Ok, Err, refl, sym, ap, subst, ◌∙◌}
+use Rattle.std.proofs.Common.{◌≡◌, ◌≢◌, ℕ, ◌<◌, ◌==◌, Bool, true, false, if◌then◌else◌, List, length, get_or, set, Result, Ok, Err, refl, sym, ap, subst, ◌∙◌, arith, length-set}
 use Rattle.std.specs.List.{list_all}
 use Rattle.std.specs.Result.{IfOk, OnErr}
-use Rattle.bc_cycle.specs.declared.heaps.Heap.{Heap}
+use Rattle.bc_superpages.specs.RootWords.{RootWords}
+use Rattle.bc_whole_heap.specs.Heaps.{HeapView}
+use Rattle.bc_whole_heap.specs.Running.{IsRunning, StandsAs}
+use Rattle.bc_whole_heap.proofs.ChunkLemmas.{AreApart-laid}
 use Rattle.bc_model.specs.State.{State}
 use Rattle.bc_model.specs.Step.{step, act, domains_of}
 use Rattle.bc_model.specs.declared.operations.Op.{Op}
 use Rattle.bc_model.specs.declared.operations.Reply.{Reply}
 use Rattle.bc_model.specs.declared.operations.Reply.TheVariants.{Foreign}
-use Rattle.bc_mutator.specs.Effects.{DidOperation}
-use Rattle.bc_mutator.specs.Objects.{Means}
+use Rattle.bc_mutator.specs.Effects.{DidAct, DidOperation}
+use Rattle.bc_mutator.specs.Objects.{MayOperate, own_chunk}
 use Rattle.bc_mutator.specs.Operations.{NoneLater}
+use Rattle.bc_mutator.proofs.ChangeLemmas.{foreign-changes}
+use Rattle.bc_mutator.proofs.ObjectLemmas.{LieBehind-laid}
+use Rattle.bc_mutator.proofs.RecordLemmas.{foreign-records}
+use Rattle.bc_mutator.proofs.RootLemmas.{done-nothing}
 
 -- a lane that holds all domains that the operation names does it
 step-act : (state : State) (hs : List ℕ) (lane : ℕ) (op : Op) → state.holders ≡ hs → list_all (λ d. get_or hs d 0 == lane) (domains_of op) ≡ true → step state lane op ≡ act state lane op
@@ -21,18 +28,58 @@ step-act state hs lane op same held =
     go true e = refl
     go false e = cc
 
-pub step-done : (h k : Heap) (hs serials : List ℕ) (lane serial next : ℕ) (op : Op) (reply : Reply) (state : State) → list_all (λ d. get_or hs d 0 == lane) (domains_of op) ≡ true → DidOperation h k hs lane serial next op reply → Means h hs serials state → get_or serials lane 0 ≡ serial → ((step state lane op).1 ≡ reply) × Means k hs (set serials lane next) (step state lane op).0
-step-done h k hs serials lane serial next op reply state held done means e =
-    subst (λ (x : State × Reply). (x.1 ≡ reply) × Means k hs (set serials lane next) x.0) (sym (step-act state hs lane op means.held held))
-    (done.step serials state means e)
+pub did-step : (h k : HeapView) (hs : List ℕ) (lane serial next : ℕ) (op : Op) (reply : Reply) → list_all (λ d. get_or hs d 0 == lane) (domains_of op) ≡ true → DidAct h k hs lane serial next op reply → DidOperation h k hs lane serial next op reply
+did-step h k hs lane serial next op reply held done = record {
+  step = λ serials state means e.
+      subst (λ (x : State × Reply). (x.1 ≡ reply) × StandsAs k hs (set serials lane next) x.0) (sym (step-act state hs lane op means.held held))
+      (done.step serials state means e);
+  running = done.running;
+  later = done.later;
+  others_later = done.others_later;
+  layout = done.layout;
+  whole = done.whole;
+  leaves = done.leaves;
+  recorded = done.recorded;
+  changed = done.changed;
+}
+
+-- and one that doesn't is told so
+step-foreign : (state : State) (hs : List ℕ) (lane : ℕ) (op : Op) → state.holders ≡ hs → list_all (λ d. get_or hs d 0 == lane) (domains_of op) ≡ false → step state lane op ≡ (state, Foreign)
+step-foreign state hs lane op same off =
+    go (list_all (λ d. get_or state.holders d 0 == lane) (domains_of op)) (ap (λ (xs : List ℕ). list_all (λ d. get_or xs d 0 == lane) (domains_of op)) same ∙ off)
+  where
+    go : (t : Bool) → t ≡ false → (if t then act state lane op else (state, Foreign)) ≡ (state, Foreign)
+    go true e = cc
+    go false e = refl
+
+pub foreign-step : (h : HeapView) (hs : List ℕ) (lane serial : ℕ) (op : Op) → MayOperate h hs lane → list_all (λ d. get_or hs d 0 == lane) (domains_of op) ≡ false → DidOperation h h hs lane serial serial op Foreign
+foreign-step h hs lane serial op ready off =
+    done-nothing (λ state. step state lane op) h hs lane serial op Foreign ready (λ serials state means. step-foreign state hs lane op means.held off)
+    (foreign-records h hs lane op Foreign off) (foreign-changes h hs lane serial op)
 
 -- no birth is later than the lane's number of them
-pub record StayBorn (h k : Heap) (lane serial next : ℕ) : Type 0 where
-  pub own : NoneLater h.space h.chunks.items lane serial → NoneLater k.space k.chunks.items lane next
-  pub others : (l n : ℕ) → l ≢ lane → NoneLater h.space h.chunks.items l n → NoneLater k.space k.chunks.items l n
+pub record StayBorn (h k : HeapView) (lane serial next : ℕ) : Type 0 where
+  pub own : NoneLater h.space h.chunks lane serial → NoneLater k.space k.chunks lane next
+  pub others : (l n : ℕ) → l ≢ lane → NoneLater h.space h.chunks l n → NoneLater k.space k.chunks l n
 
-pub stay-born : {E : Type 0} (h k : Heap) (hs : List ℕ) (lane serial next : ℕ) (op : Op) (r : Result Reply E) → IfOk r (λ reply. DidOperation h k hs lane serial next op reply) → OnErr r ((k ≡ h) × (next ≡ serial)) → StayBorn h k lane serial next
+pub stay-born : {E : Type 0} (h k : HeapView) (hs : List ℕ) (lane serial next : ℕ) (op : Op) (r : Result Reply E) → IfOk r (λ reply. DidOperation h k hs lane serial next op reply) → OnErr r ((k ≡ h) × (next ≡ serial)) → StayBorn h k lane serial next
 stay-born h k hs lane serial next op (Ok reply) done same = record { own = done.later; others = done.others_later }
 stay-born h k hs lane serial next op (Err stop) done same =
-    subst (λ (x : Heap). StayBorn h x lane serial next) (sym same.0)
+    subst (λ (x : HeapView). StayBorn h x lane serial next) (sym same.0)
     (subst (λ (n : ℕ). StayBorn h h lane serial n) (sym same.1) (record { own = λ none. none; others = λ l n ne none. none }))
+
+-- the lane may operate again
+pub next-ready : (h k : HeapView) (hs : List ℕ) (lane serial next : ℕ) (op : Op) (reply : Reply) → MayOperate h hs lane → DidOperation h k hs lane serial next op reply → NoneLater h.space h.chunks lane serial → MayOperate k hs lane
+next-ready h k hs lane serial next op reply ready done none =
+    let running : IsRunning k hs = done.running none in
+    let within : lane < length k.chunks =
+    (let long = ap length done.leaves.chunks ∙ length-set h.chunks lane (own_chunk k lane) in let lt = ready.lane_within in omega arith) in
+    record {
+      running = running;
+      layout = done.layout;
+      few_domains = (let same = ap (λ (r : RootWords). r.domains) done.leaves.roots in let few = ready.few_domains in omega arith);
+      lane_within = within;
+      whole = done.whole;
+      apart = AreApart-laid _ running.laid.0 k.chunks running.laid.1 done.whole;
+      behind = LieBehind-laid k.space running.laid.0 k.chunks lane running.laid.1 within (done.whole lane within);
+    }

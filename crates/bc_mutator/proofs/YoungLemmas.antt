@@ -12,7 +12,7 @@ use Rattle.bc_memory.specs.Memory as memory
 use Rattle.bc_memory.proofs.MemoryLemmas.{with_cell-is}
 use Rattle.bc_model.specs.declared.values.Birth.{Birth}
 use Rattle.bc_nursery.specs.Entries.{Entries}
-use Rattle.bc_nursery.specs.Objects.{ChunkObject, Nursery, has_object, the_object, object_at, object_or, changed, with_field}
+use Rattle.bc_nursery.specs.Objects.{ChunkObject, Nursery, IsChunk, has_object, the_object, object_at, object_or, changed, with_field}
 use Rattle.bc_nursery.proofs.ObjectLemmas.{find-changed, find-kept}
 use Rattle.bc_standing.specs.Standing.{births}
 use Rattle.bc_standing.proofs.Writing.{births-with_cell}
@@ -23,7 +23,7 @@ use Rattle.bc_word.specs.declared.addresses.Address.{Address}
 use Rattle.bc_word.specs.declared.heads.Head.{Head}
 use Rattle.bc_word.specs.declared.words.Word.{Word}
 use Rattle.bc_word.specs.declared.words.Word.TheVariants.{Nil, Ref}
-use Rattle.bc_mutator.specs.Objects.{IsOwn, cell_of}
+use Rattle.bc_mutator.specs.Objects.{AreWhole, IsOwn, cell_of}
 use Rattle.bc_mutator.proofs.ObjectLemmas.{cell_of-above, memory-there}
 
 -- a chunk is replaced by one of its own base and size
@@ -35,6 +35,12 @@ chunk-other cs ds lane l d is ne = ap (λ (xs : List Nursery). chunk_of xs l) is
 
 pub length-chunks : (cs ds : List Nursery) (lane : ℕ) (d : Nursery) → ds ≡ set cs lane d → length ds ≡ length cs
 length-chunks cs ds lane d is = ap length is ∙ length-set cs lane d
+
+pub chunks-whole : (cs ds : List Nursery) (lane : ℕ) (d : Nursery) → lane < length cs → ds ≡ set cs lane d → IsChunk d → AreWhole cs → AreWhole ds
+chunks-whole cs ds lane d lt is one whole = λ l less. elim (cases_eq l lane) [
+  | inl here ↦ subst IsChunk (sym (ap (λ (x : ℕ). chunk_of ds x) here ∙ chunk-own cs ds lane d lt is)) one
+  | inr ne ↦ subst IsChunk (sym (chunk-other cs ds lane l d is ne)) (whole l (let n = length-chunks cs ds lane d is in omega arith))
+]
 
 pub laid-kept : (end words : ℕ) (cs ds : List Nursery) (lane : ℕ) (d : Nursery) → lane < length cs → ds ≡ set cs lane d → d.base ≡ (chunk_of cs lane).base → d.words ≡ (chunk_of cs lane).words → AreChunks end words cs → AreChunks end words ds
 laid-kept end words cs ds lane d lt is base long laid = record {

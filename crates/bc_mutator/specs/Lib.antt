@@ -1,3 +1,4 @@
 pub mod Operations
 pub mod Objects
 pub mod Effects
+pub mod Parts

@@ -1,9 +1,7 @@
 -- The objects that an operation of a lane may look at: allocated cells, and objects of the lane's own chunk.
 use Rattle.std.specs.Prelude.{◌≡◌, ℕ, ◌<◌, ◌≤◌, nat_lt, if◌then◌else◌, true, List, length, slice_index, Some}
-use Rattle.bc_cycle.specs.declared.heaps.Heap.{Heap}
-use Rattle.bc_cycle.specs.Emptying.{heap_view}
 use Rattle.bc_whole_heap.specs.Closed.{chunk_of, IsCellOrYoung}
-use Rattle.bc_whole_heap.specs.Heaps.{end_of, heap_memory, young, AreApart}
+use Rattle.bc_whole_heap.specs.Heaps.{HeapView, end_of, heap_memory, young, AreApart}
 use Rattle.bc_whole_heap.specs.Running.{IsRunning, StandsAs}
 use Rattle.bc_memory.specs.Memory.{Cell, Memory}
 use Rattle.bc_model.specs.Reached.{Reached}
@@ -26,19 +24,12 @@ use Rattle.bc_word.specs.declared.words.Word.{Word}
 use Rattle.bc_word.specs.declared.words.Word.TheVariants.{Nil, Num, Ref}
 use Rattle.bc_word.specs.Words.{word_of_bits}
 
--- a heap between operations, and what it stands for
-abbrev pub Runs : Heap → List ℕ → Type 0
-Runs h holders = IsRunning (heap_view h) holders
-
-abbrev pub Means : Heap → List ℕ → List ℕ → State → Type 0
-Means h holders serials state = StandsAs (heap_view h) holders serials state
-
 -- the chunk of a lane, and the heap as a memory
-abbrev pub own_chunk : Heap → ℕ → Nursery
-own_chunk h lane = chunk_of h.chunks.items lane
+abbrev pub own_chunk : HeapView → ℕ → Nursery
+own_chunk h lane = chunk_of h.chunks lane
 
-abbrev pub memory_of : Heap → Memory
-memory_of h = heap_memory h.space h.chunks.items
+abbrev pub memory_of : HeapView → Memory
+memory_of h = heap_memory h.space h.chunks
 
 -- the type of each chunk keeps what it does
 abbrev pub AreWhole : List Nursery → Type 0
@@ -67,13 +58,13 @@ loaded_as (Num n) = reply.Num n
 loaded_as (Ref a) = reply.Ref
 
 -- a lane may do an operation
-pub record MayOperate (h : Heap) (holders : List ℕ) (lane : ℕ) : Type 0 where
-  pub running : Runs h holders
+pub record MayOperate (h : HeapView) (holders : List ℕ) (lane : ℕ) : Type 0 where
+  pub running : IsRunning h holders
   pub layout : IsLayout h.space
   pub few_domains : h.roots.domains ≤ 64
-  pub lane_within : lane < length h.chunks.items
-  pub whole : AreWhole h.chunks.items
-  pub apart : AreApart (end_of h.space) h.chunks.items
+  pub lane_within : lane < length h.chunks
+  pub whole : AreWhole h.chunks
+  pub apart : AreApart (end_of h.space) h.chunks
   pub behind : LieBehind h.space (own_chunk h lane)
 
 -- the word is read as the value, and what it refers to is reached
@@ -82,30 +73,30 @@ pub record IsRead (m : Memory) (state : State) (word : Word) (v : Value) : Type 
   pub reached : (b : Birth) → v ≡ Obj b → Reached state.slots state.made b
 
 -- the word refers to an object of a domain that the lane holds
-pub record IsOfLane (h : Heap) (holders : List ℕ) (lane : ℕ) (word : Word) (a : Address) : Type 0 where
+pub record IsOfLane (h : HeapView) (holders : List ℕ) (lane : ℕ) (word : Word) (a : Address) : Type 0 where
   pub refers : word ≡ Ref a
   pub there : IsCellOrYoung h.space (own_chunk h lane) a.0
   pub held : slice_index holders (cell_of h.space (own_chunk h lane) a.0).head.domain ≡ lane
 
 -- an operation on the object that the word is read as is done to the object at this address
-abbrev pub ActsOn : Heap → List ℕ → ℕ → Word → Address → Type 0
+abbrev pub ActsOn : HeapView → List ℕ → ℕ → Word → Address → Type 0
 ActsOn h holders lane word a =
-    (serials : List ℕ) → (state : State) → (v : Value) → Means h holders serials state → IsRead (memory_of h) state word v
+    (serials : List ℕ) → (state : State) → (v : Value) → StandsAs h holders serials state → IsRead (memory_of h) state word v
     → (next : Birth → State × Reply) → on_object state lane v next ≡ next (birth_of (cell_of h.space (own_chunk h lane) a.0).head)
 
 -- or it changes nothing, and is answered this
-abbrev pub Refuses : Heap → List ℕ → ℕ → Word → Reply → Type 0
+abbrev pub Refuses : HeapView → List ℕ → ℕ → Word → Reply → Type 0
 Refuses h holders lane word reply =
-    (serials : List ℕ) → (state : State) → (v : Value) → Means h holders serials state → IsRead (memory_of h) state word v
+    (serials : List ℕ) → (state : State) → (v : Value) → StandsAs h holders serials state → IsRead (memory_of h) state word v
     → (next : Birth → State × Reply) → on_object state lane v next ≡ (state, reply)
 
 -- the same of an operation on a field
-abbrev pub ActsOnField : Heap → List ℕ → ℕ → Word → ℕ → Address → Type 0
+abbrev pub ActsOnField : HeapView → List ℕ → ℕ → Word → ℕ → Address → Type 0
 ActsOnField h holders lane word index a =
-    (serials : List ℕ) → (state : State) → (v : Value) → Means h holders serials state → IsRead (memory_of h) state word v
+    (serials : List ℕ) → (state : State) → (v : Value) → StandsAs h holders serials state → IsRead (memory_of h) state word v
     → (next : Birth → State × Reply) → on_field state lane v index next ≡ next (birth_of (cell_of h.space (own_chunk h lane) a.0).head)
 
-abbrev pub RefusesField : Heap → List ℕ → ℕ → Word → ℕ → Reply → Type 0
+abbrev pub RefusesField : HeapView → List ℕ → ℕ → Word → ℕ → Reply → Type 0
 RefusesField h holders lane word index reply =
-    (serials : List ℕ) → (state : State) → (v : Value) → Means h holders serials state → IsRead (memory_of h) state word v
+    (serials : List ℕ) → (state : State) → (v : Value) → StandsAs h holders serials state → IsRead (memory_of h) state word v
     → (next : Birth → State × Reply) → on_field state lane v index next ≡ (state, reply)

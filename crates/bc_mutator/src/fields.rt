@@ -1,105 +1,138 @@
+//! A field of a slot's object becomes another word.
+
 ghost use Rattle.std.specs.Prelude.{◌≡◌, ℕ, slice_index, IfOk, IfErr, OnErr};
-ghost use Rattle.bc_whole_heap.specs.Closed.{buffer_of};
-ghost use Rattle.bc_model.specs.WellFormed.{IsSlot, IsNumber};
 ghost use Rattle.bc_model.specs.declared.operations.Op.{Op};
 ghost use Rattle.bc_model.specs.declared.operations.Op.TheVariants.{Set, Cut, Link};
+ghost use Rattle.bc_whole_heap.specs.Heaps.{HeapView};
 ghost use Rattle.bc_word.specs.Words.{FitsWord};
-ghost use Rattle.bc_mutator.specs.Effects.{DidOperation, HasRecorded, RecordsWrite, Writes, StopsAt};
-ghost use Rattle.bc_mutator.specs.Objects.{MayOperate, IsOwn, own_chunk};
-ghost use Rattle.bc_mutator.specs.Operations.{setup_of, NeedsEntry};
+ghost use Rattle.bc_mutator.specs.Effects.{DidAct, IsWrite, StopsAt};
+ghost use Rattle.bc_mutator.specs.Operations.{NeedsEntry};
+ghost use Rattle.bc_mutator.specs.Parts.{IsPartOf, Serves, ServesField, SlotLeadsToHand};
 
+use crate::cells::Cells;
 use crate::objects::object_with_field;
 use crate::operations::Stop;
-use crate::reading::slot_word;
+use crate::root_slots::RootSlots;
 use crate::writing::write_field;
-use bc_cycle::Heap;
 use bc_model::{Reply, Slot};
+use bc_nursery::{Chunk, WriteBuffer};
 use bc_word::Word;
 
 /// The field of the slot's object becomes the number.
-pub(crate) fn set(
-    heap: &mut Heap,
+pub(crate) fn set<C: Cells, R: RootSlots>(
+    cells: &mut C,
+    roots: &R,
+    chunk: &mut Chunk,
+    buffer: &mut WriteBuffer,
     holders: &[u32],
     lane: u32,
     slot: Slot,
     index: u32,
     number: u64,
 ) -> Result<Reply, Stop>
-    requires ready { MayOperate heap.old holders.now lane }
-    requires slot { IsSlot (setup_of heap.old.roots) slot }
-    requires number { IsNumber number }
+    requires serves { (h : HeapView) × Serves (C.shows cells.old) (R.shows roots.now) chunk.old buffer.old holders.now lane (Set slot index number) h }
     requires held { slice_index holders.now slot.domain ≡ lane }
-    ensures done { IfOk result (λ reply. (serial : ℕ) → DidOperation heap.old heap.new holders.now lane serial serial (Set slot index number) reply) }
+    requires slots { R.at_hand roots.now slot.domain }
+    requires hand { SlotLeadsToHand (C.shows cells.old) (R.shows roots.now) (C.at_hand cells.old) slot }
+    ensures done { IfOk result (λ reply. (h : HeapView)
+        → Serves (C.shows cells.old) (R.shows roots.now) chunk.old buffer.old holders.now lane (Set slot index number) h
+        → (k : HeapView) × IsPartOf (C.shows cells.new) (R.shows roots.now) chunk.new buffer.new lane k
+        × ((serial : ℕ) → DidAct h k holders.now lane serial serial (Set slot index number) reply)) }
     ensures never { OnErr result ⊥ }
+    ensures hand { (page : ℕ) → C.at_hand cells.old page → C.at_hand cells.new page }
 {
-    write(heap, holders, lane, slot, index, Word::Num(number))
+    write(cells, roots, chunk, buffer, holders, lane, slot, index, Word::Num(number))
 }
 
 /// The field of the slot's object becomes nil.
-pub(crate) fn cut(
-    heap: &mut Heap,
+pub(crate) fn cut<C: Cells, R: RootSlots>(
+    cells: &mut C,
+    roots: &R,
+    chunk: &mut Chunk,
+    buffer: &mut WriteBuffer,
     holders: &[u32],
     lane: u32,
     slot: Slot,
     index: u32,
 ) -> Result<Reply, Stop>
-    requires ready { MayOperate heap.old holders.now lane }
-    requires slot { IsSlot (setup_of heap.old.roots) slot }
+    requires serves { (h : HeapView) × Serves (C.shows cells.old) (R.shows roots.now) chunk.old buffer.old holders.now lane (Cut slot index) h }
     requires held { slice_index holders.now slot.domain ≡ lane }
-    ensures done { IfOk result (λ reply. (serial : ℕ) → DidOperation heap.old heap.new holders.now lane serial serial (Cut slot index) reply) }
+    requires slots { R.at_hand roots.now slot.domain }
+    requires hand { SlotLeadsToHand (C.shows cells.old) (R.shows roots.now) (C.at_hand cells.old) slot }
+    ensures done { IfOk result (λ reply. (h : HeapView)
+        → Serves (C.shows cells.old) (R.shows roots.now) chunk.old buffer.old holders.now lane (Cut slot index) h
+        → (k : HeapView) × IsPartOf (C.shows cells.new) (R.shows roots.now) chunk.new buffer.new lane k
+        × ((serial : ℕ) → DidAct h k holders.now lane serial serial (Cut slot index) reply)) }
     ensures never { OnErr result ⊥ }
+    ensures hand { (page : ℕ) → C.at_hand cells.old page → C.at_hand cells.new page }
 {
-    write(heap, holders, lane, slot, index, Word::Nil)
+    write(cells, roots, chunk, buffer, holders, lane, slot, index, Word::Nil)
 }
 
 /// The field of the first slot's object becomes what the second slot holds.
-pub(crate) fn link(
-    heap: &mut Heap,
+pub(crate) fn link<C: Cells, R: RootSlots>(
+    cells: &mut C,
+    roots: &R,
+    chunk: &mut Chunk,
+    buffer: &mut WriteBuffer,
     holders: &[u32],
     lane: u32,
     slot: Slot,
     index: u32,
     from: Slot,
 ) -> Result<Reply, Stop>
-    requires ready { MayOperate heap.old holders.now lane }
-    requires slot { IsSlot (setup_of heap.old.roots) slot }
-    requires from { IsSlot (setup_of heap.old.roots) from }
+    requires serves { (h : HeapView) × Serves (C.shows cells.old) (R.shows roots.now) chunk.old buffer.old holders.now lane (Link slot index from) h }
     requires held { (slice_index holders.now slot.domain ≡ lane) × (slice_index holders.now from.domain ≡ lane) }
-    ensures done { IfOk result (λ reply. (serial : ℕ) → DidOperation heap.old heap.new holders.now lane serial serial (Link slot index from) reply) }
-    ensures same { OnErr result (heap.new ≡ heap.old) }
-    ensures full { OnErr result (NeedsEntry holders.now lane heap.old.space heap.old.roots (own_chunk heap.old lane) (buffer_of heap.old.buffers.items lane) (Link slot index from)) }
+    requires slots { R.at_hand roots.now slot.domain × R.at_hand roots.now from.domain }
+    requires hand { SlotLeadsToHand (C.shows cells.old) (R.shows roots.now) (C.at_hand cells.old) slot }
+    ensures done { IfOk result (λ reply. (h : HeapView)
+        → Serves (C.shows cells.old) (R.shows roots.now) chunk.old buffer.old holders.now lane (Link slot index from) h
+        → (k : HeapView) × IsPartOf (C.shows cells.new) (R.shows roots.now) chunk.new buffer.new lane k
+        × ((serial : ℕ) → DidAct h k holders.now lane serial serial (Link slot index from) reply)) }
+    ensures same { OnErr result ((cells.new ≡ cells.old) × (chunk.new ≡ chunk.old) × (buffer.new ≡ buffer.old)) }
+    ensures full { OnErr result ((h : HeapView)
+        → Serves (C.shows cells.old) (R.shows roots.now) chunk.old buffer.old holders.now lane (Link slot index from) h
+        → NeedsEntry holders.now lane h.space h.roots chunk.old buffer.old (Link slot index from)) }
     ensures stop { IfErr result (λ stop. stop ≡ Stop.BufferFull) }
+    ensures hand { (page : ℕ) → C.at_hand cells.old page → C.at_hand cells.new page }
 {
-    let word = slot_word(&heap.roots, from);
-    write(heap, holders, lane, slot, index, word)
+    let word = roots.word(from);
+    write(cells, roots, chunk, buffer, holders, lane, slot, index, word)
 }
 
 /// The field of the slot's object becomes what the word is read as. It stops, and changes nothing, only where the object
 /// has the field and lies in a cell, the word refers to the lane's chunk and the lane's write buffer is at capacity.
-fn write(
-    heap: &mut Heap,
+fn write<C: Cells, R: RootSlots>(
+    cells: &mut C,
+    roots: &R,
+    chunk: &mut Chunk,
+    buffer: &mut WriteBuffer,
     holders: &[u32],
     lane: u32,
     slot: Slot,
     index: u32,
     word: Word,
 ) -> Result<Reply, Stop>
-    requires ready { MayOperate heap.old holders.now lane }
-    requires slot { IsSlot (setup_of heap.old.roots) slot }
+    requires serves { (h : HeapView) × ServesField (C.shows cells.old) (R.shows roots.now) chunk.old buffer.old holders.now lane slot word h }
     requires held { slice_index holders.now slot.domain ≡ lane }
+    requires slots { R.at_hand roots.now slot.domain }
+    requires hand { SlotLeadsToHand (C.shows cells.old) (R.shows roots.now) (C.at_hand cells.old) slot }
     requires fits { FitsWord word }
-    requires own { IsOwn heap.old.space (own_chunk heap.old lane) word }
-    ensures done { IfOk result (λ reply. (serial : ℕ) → (op : Op) → Writes heap.old holders.now lane slot index word op
-        → (RecordsWrite heap.old heap.new holders.now lane slot index word reply → HasRecorded heap.old heap.new holders.now lane op reply)
-        → DidOperation heap.old heap.new holders.now lane serial serial op reply) }
-    ensures same { OnErr result (heap.new ≡ heap.old) }
-    ensures full { OnErr result (StopsAt heap.old holders.now lane slot index word) }
+    ensures done { IfOk result (λ reply. (h : HeapView)
+        → ServesField (C.shows cells.old) (R.shows roots.now) chunk.old buffer.old holders.now lane slot word h
+        → (k : HeapView) × IsPartOf (C.shows cells.new) (R.shows roots.now) chunk.new buffer.new lane k
+        × ((serial : ℕ) → (op : Op) → IsWrite h k holders.now lane serial slot index word op reply → DidAct h k holders.now lane serial serial op reply)) }
+    ensures same { OnErr result ((cells.new ≡ cells.old) × (chunk.new ≡ chunk.old) × (buffer.new ≡ buffer.old)) }
+    ensures full { OnErr result ((h : HeapView)
+        → ServesField (C.shows cells.old) (R.shows roots.now) chunk.old buffer.old holders.now lane slot word h
+        → StopsAt h holders.now lane slot index word) }
     ensures stop { IfErr result (λ stop. stop ≡ Stop.BufferFull) }
+    ensures hand { (page : ℕ) → C.at_hand cells.old page → C.at_hand cells.new page }
 {
-    let target = slot_word(&heap.roots, slot);
-    match object_with_field(heap, holders, lane, target, index) {
+    let target = roots.word(slot);
+    match object_with_field(cells, chunk, holders, lane, target, index) {
         Ok(at) => {
-            write_field(heap, lane, at, index, word)?;
+            write_field(cells, chunk, buffer, at, index, word)?;
             Ok(Reply::Done)
         }
         Err(reply) => Ok(reply),

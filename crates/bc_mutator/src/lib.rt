@@ -29,13 +29,19 @@
 // `NewLemmas`).
 #![tactic(auto)]
 
+mod cells;
 mod fields;
 mod making;
 mod objects;
 mod operations;
 mod reading;
+mod root_slots;
 mod slots;
 mod telling;
+mod whole;
 mod writing;
 
-pub use operations::{Stop, law_births, operate};
+pub use cells::Cells;
+pub use operations::{Stop, law_births, operate_parts};
+pub use root_slots::RootSlots;
+pub use whole::operate;

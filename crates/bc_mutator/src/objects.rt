@@ -1,25 +1,43 @@
-ghost use Rattle.std.specs.Prelude.{◌<◌, IfOk, IfErr, OnErr};
-ghost use Rattle.bc_mutator.specs.Objects.{MayOperate, IsOwn, IsOfLane, ActsOn, Refuses, ActsOnField, RefusesField, cell_of, own_chunk};
+//! The object that a word of the lane's refers to, or the reply that says what is wrong.
 
+ghost use Rattle.std.specs.Prelude.{◌<◌, IfOk, IfErr, OnErr};
+ghost use Rattle.bc_model.specs.Step.{IsRefusal};
+ghost use Rattle.bc_whole_heap.specs.Heaps.{HeapView};
+ghost use Rattle.bc_mutator.specs.Objects.{IsOfLane, ActsOn, Refuses, ActsOnField, RefusesField, cell_of};
+ghost use Rattle.bc_mutator.specs.Parts.{HasWord, IsInHand, LeadsToHand};
+
+use crate::cells::Cells;
 use crate::reading::head_at;
-use bc_cycle::Heap;
 use bc_model::Reply;
+use bc_nursery::Chunk;
 use bc_word::{Address, Word};
 
 /// Where the object lies that a word of the lane's refers to, if the lane holds its domain, or the reply that says what
 /// is wrong.
-pub(crate) fn object(heap: &Heap, holders: &[u32], lane: u32, word: Word) -> Result<Address, Reply>
-    requires ready { MayOperate heap.now holders.now lane }
-    requires own { IsOwn heap.now.space (own_chunk heap.now lane) word }
-    ensures found { IfOk result (IsOfLane heap.now holders.now lane word) }
-    ensures acts { IfOk result (ActsOn heap.now holders.now lane word) }
-    ensures refuses { IfErr result (Refuses heap.now holders.now lane word) }
-    ensures none { OnErr result ((a : Address) → IsOfLane heap.now holders.now lane word a → ⊥) }
+pub(crate) fn object<C: Cells>(
+    cells: &C,
+    chunk: &Chunk,
+    holders: &[u32],
+    lane: u32,
+    word: Word,
+) -> Result<Address, Reply>
+    requires own { (h : HeapView) × HasWord (C.shows cells.now) chunk.now holders.now lane word h }
+    requires hand { LeadsToHand (C.shows cells.now) (C.at_hand cells.now) word }
+    ensures found { IfOk result (λ at. (h : HeapView) → HasWord (C.shows cells.now) chunk.now holders.now lane word h
+        → IsOfLane h holders.now lane word at) }
+    ensures acts { IfOk result (λ at. (h : HeapView) → HasWord (C.shows cells.now) chunk.now holders.now lane word h
+        → ActsOn h holders.now lane word at) }
+    ensures refuses { IfErr result (λ reply. (h : HeapView) → HasWord (C.shows cells.now) chunk.now holders.now lane word h
+        → Refuses h holders.now lane word reply) }
+    ensures hand { IfOk result (IsInHand (C.shows cells.now) (C.at_hand cells.now)) }
+    ensures refusal { IfErr result IsRefusal }
+    ensures none { OnErr result ((h : HeapView) → HasWord (C.shows cells.now) chunk.now holders.now lane word h
+        → (a : Address) → IsOfLane h holders.now lane word a → ⊥) }
 {
     let Word::Ref(at) = word else {
         return Err(Reply::NotObj);
     };
-    let head = head_at(heap, lane, at);
+    let head = head_at(cells, chunk, at);
     if holders[head.domain as usize] == lane {
         Ok(at)
     } else {
@@ -28,24 +46,31 @@ pub(crate) fn object(heap: &Heap, holders: &[u32], lane: u32, word: Word) -> Res
 }
 
 /// The same, if the object has the field.
-pub(crate) fn object_with_field(
-    heap: &Heap,
+pub(crate) fn object_with_field<C: Cells>(
+    cells: &C,
+    chunk: &Chunk,
     holders: &[u32],
     lane: u32,
     word: Word,
     index: u32,
 ) -> Result<Address, Reply>
-    requires ready { MayOperate heap.now holders.now lane }
-    requires own { IsOwn heap.now.space (own_chunk heap.now lane) word }
-    ensures found { IfOk result (IsOfLane heap.now holders.now lane word) }
-    ensures index { IfOk result (λ at. index < (cell_of heap.now.space (own_chunk heap.now lane) at.0).head.fields) }
-    ensures acts { IfOk result (ActsOnField heap.now holders.now lane word index) }
-    ensures refuses { IfErr result (RefusesField heap.now holders.now lane word index) }
-    ensures none { OnErr result ((a : Address) → IsOfLane heap.now holders.now lane word a
-        → index < (cell_of heap.now.space (own_chunk heap.now lane) a.0).head.fields → ⊥) }
+    requires own { (h : HeapView) × HasWord (C.shows cells.now) chunk.now holders.now lane word h }
+    requires hand { LeadsToHand (C.shows cells.now) (C.at_hand cells.now) word }
+    ensures found { IfOk result (λ at. (h : HeapView) → HasWord (C.shows cells.now) chunk.now holders.now lane word h
+        → IsOfLane h holders.now lane word at) }
+    ensures index { IfOk result (λ at. (h : HeapView) → HasWord (C.shows cells.now) chunk.now holders.now lane word h
+        → index < (cell_of h.space chunk.now at.0).head.fields) }
+    ensures acts { IfOk result (λ at. (h : HeapView) → HasWord (C.shows cells.now) chunk.now holders.now lane word h
+        → ActsOnField h holders.now lane word index at) }
+    ensures refuses { IfErr result (λ reply. (h : HeapView) → HasWord (C.shows cells.now) chunk.now holders.now lane word h
+        → RefusesField h holders.now lane word index reply) }
+    ensures hand { IfOk result (IsInHand (C.shows cells.now) (C.at_hand cells.now)) }
+    ensures refusal { IfErr result IsRefusal }
+    ensures none { OnErr result ((h : HeapView) → HasWord (C.shows cells.now) chunk.now holders.now lane word h
+        → (a : Address) → IsOfLane h holders.now lane word a → index < (cell_of h.space chunk.now a.0).head.fields → ⊥) }
 {
-    let at = object(heap, holders, lane, word)?;
-    if index < head_at(heap, lane, at).fields {
+    let at = object(cells, chunk, holders, lane, word)?;
+    if index < head_at(cells, chunk, at).fields {
         Ok(at)
     } else {
         Err(Reply::Range)

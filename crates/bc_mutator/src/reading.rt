@@ -1,55 +1,64 @@
-ghost use Rattle.std.specs.Prelude.{◌≡◌, ◌<◌, length, slice_index_or};
+//! Reading an object that lies in a cell or in the lane's chunk.
+
+ghost use Rattle.std.specs.Prelude.{◌≡◌, ◌<◌, ◌≤◌, slice_index_or};
+ghost use Rattle.bc_superpages.specs.Layout.{Layout};
 ghost use Rattle.bc_whole_heap.specs.Closed.{IsCellOrYoung};
-ghost use Rattle.bc_whole_heap.specs.Heaps.{NoneGone};
-ghost use Rattle.bc_model.specs.WellFormed.{IsSlot};
+ghost use Rattle.bc_whole_heap.specs.Heaps.{end_of};
 ghost use Rattle.bc_word.specs.Words.{FitsWord};
 ghost use Rattle.bc_word.specs.declared.words.Word.TheVariants.{Nil};
-ghost use Rattle.bc_mutator.specs.Objects.{LieBehind, own_chunk, cell_of, slot_word};
-ghost use Rattle.bc_mutator.specs.Operations.{setup_of};
+ghost use Rattle.bc_mutator.specs.Objects.{cell_of};
+ghost use Rattle.bc_mutator.specs.Parts.{IsInHand, IsSpaceOf};
 
-use bc_cycle::Heap;
-use bc_model::Slot;
-use bc_superpages::Roots;
-use bc_whole_heap::end_of_superpages;
-use bc_word::{Address, Head, Word, unpack};
+use crate::cells::Cells;
+use bc_nursery::Chunk;
+use bc_word::{Address, Head, Word};
 
-/// The word in a root slot.
-pub(crate) fn slot_word(roots: &Roots, slot: Slot) -> Word
-    requires { IsSlot (setup_of roots.now) slot }
-    ensures word { result ≡ slot_word roots.now slot }
-    ensures fits { FitsWord result }
-{
-    unpack(roots.get(slot.domain, slot.slot))
+/// Where an object that a lane looks at lies.
+#[derive(Clone, Copy, PartialEq, Eq, Debug)]
+pub(crate) enum Home {
+    /// In a cell of a superpage.
+    Cell,
+    /// In the lane's chunk, behind the superpages.
+    Chunk,
 }
 
-/// The head of an object that lies in a cell or in the lane's chunk.
-pub(crate) fn head_at(heap: &Heap, lane: u32, at: Address) -> Head
-    requires gone { NoneGone heap.now.space }
-    requires lane { lane < length heap.now.chunks.items }
-    requires behind { LieBehind heap.now.space (own_chunk heap.now lane) }
-    requires there { IsCellOrYoung heap.now.space (own_chunk heap.now lane) at.0 }
-    ensures head { result ≡ (cell_of heap.now.space (own_chunk heap.now lane) at.0).head }
+/// Where the object at an address lies: whatever is below the end of the superpages is a cell.
+pub(crate) fn home_of<C: Cells>(cells: &C, at: Address) -> Home
+    ensures cell { result ≡ Home.Cell → (s : Layout) → C.shows cells.now s → at.0 < end_of s }
+    ensures chunk { result ≡ Home.Chunk → (s : Layout) → C.shows cells.now s → end_of s ≤ at.0 }
 {
-    if at.0 < end_of_superpages(&heap.space) {
-        heap.space.head(at)
+    if at.0 < cells.end() {
+        Home::Cell
     } else {
-        heap.chunks[lane as usize].head(at)
+        Home::Chunk
     }
 }
 
-/// A field of such an object. The index counts from 0.
-pub(crate) fn field_at(heap: &Heap, lane: u32, at: Address, index: u32) -> Word
-    requires gone { NoneGone heap.now.space }
-    requires lane { lane < length heap.now.chunks.items }
-    requires behind { LieBehind heap.now.space (own_chunk heap.now lane) }
-    requires there { IsCellOrYoung heap.now.space (own_chunk heap.now lane) at.0 }
-    requires index { index < (cell_of heap.now.space (own_chunk heap.now lane) at.0).head.fields }
-    ensures field { result ≡ slice_index_or (cell_of heap.now.space (own_chunk heap.now lane) at.0).fields index Nil }
+/// The head of an object.
+pub(crate) fn head_at<C: Cells>(cells: &C, chunk: &Chunk, at: Address) -> Head
+    requires there { (s : Layout) × IsSpaceOf (C.shows cells.now) chunk.now s × IsCellOrYoung s chunk.now at.0 }
+    requires hand { IsInHand (C.shows cells.now) (C.at_hand cells.now) at }
+    ensures head { (s : Layout) → IsSpaceOf (C.shows cells.now) chunk.now s → IsCellOrYoung s chunk.now at.0
+        → result ≡ (cell_of s chunk.now at.0).head }
+{
+    match home_of(cells, at) {
+        Home::Cell => cells.head(at),
+        Home::Chunk => chunk.head(at),
+    }
+}
+
+/// A field of an object. The index counts from 0.
+pub(crate) fn field_at<C: Cells>(cells: &C, chunk: &Chunk, at: Address, index: u32) -> Word
+    requires there { (s : Layout) × IsSpaceOf (C.shows cells.now) chunk.now s × IsCellOrYoung s chunk.now at.0
+        × (index < (cell_of s chunk.now at.0).head.fields) }
+    requires hand { IsInHand (C.shows cells.now) (C.at_hand cells.now) at }
+    ensures field { (s : Layout) → IsSpaceOf (C.shows cells.now) chunk.now s → IsCellOrYoung s chunk.now at.0
+        → index < (cell_of s chunk.now at.0).head.fields
+        → result ≡ slice_index_or (cell_of s chunk.now at.0).fields index Nil }
     ensures fits { FitsWord result }
 {
-    if at.0 < end_of_superpages(&heap.space) {
-        heap.space.field(at, index)
-    } else {
-        heap.chunks[lane as usize].field(at, index)
+    match home_of(cells, at) {
+        Home::Cell => cells.field(at, index),
+        Home::Chunk => chunk.field(at, index),
     }
 }

@@ -1,71 +1,77 @@
+//! A root slot becomes another word.
+
 ghost use Rattle.std.specs.Prelude.{◌≡◌, ℕ, slice_index};
 ghost use Rattle.bc_model.specs.WellFormed.{IsSlot};
 ghost use Rattle.bc_model.specs.declared.operations.Op.TheVariants.{Copy, Clear, Load};
+ghost use Rattle.bc_superpages.specs.RootWords.{RootWords};
+ghost use Rattle.bc_whole_heap.specs.Heaps.{HeapView};
 ghost use Rattle.bc_word.specs.Words.{FitsWord};
-ghost use Rattle.bc_mutator.specs.Effects.{DidOperation, with_root};
-ghost use Rattle.bc_mutator.specs.Objects.{MayOperate, loaded_as};
+ghost use Rattle.bc_word.specs.declared.words.Word.TheVariants.{Nil};
+ghost use Rattle.bc_mutator.specs.Effects.{DidAct, with_root};
+ghost use Rattle.bc_mutator.specs.Objects.{loaded_as, slot_word};
 ghost use Rattle.bc_mutator.specs.Operations.{setup_of};
+ghost use Rattle.bc_mutator.specs.Parts.{Sees, SlotLeadsToHand};
 
+use crate::cells::Cells;
 use crate::objects::object_with_field;
-use crate::reading::{field_at, slot_word};
-use bc_cycle::Heap;
+use crate::reading::field_at;
+use crate::root_slots::RootSlots;
 use bc_model::{Reply, Slot};
-use bc_superpages::Roots;
-use bc_word::{Word, pack};
-
-/// A root slot becomes the word.
-pub(crate) fn set_slot(roots: &mut Roots, slot: Slot, word: Word)
-    requires slot { IsSlot (setup_of roots.old) slot }
-    requires fits { FitsWord word }
-    ensures written { roots.new ≡ with_root roots.old slot word }
-{
-    roots.set(slot.domain, slot.slot, pack(word));
-}
+use bc_nursery::Chunk;
+use bc_word::Word;
 
 /// The second slot becomes what the first one holds.
-pub(crate) fn copy(heap: &mut Heap, holders: &[u32], lane: u32, from: Slot, to: Slot) -> Reply
-    requires ready { MayOperate heap.old holders.now lane }
-    requires from { IsSlot (setup_of heap.old.roots) from }
-    requires to { IsSlot (setup_of heap.old.roots) to }
-    requires held { (slice_index holders.now from.domain ≡ lane) × (slice_index holders.now to.domain ≡ lane) }
-    ensures { (serial : ℕ) → DidOperation heap.old heap.new holders.now lane serial serial (Copy from to) result }
+pub(crate) fn copy<R: RootSlots>(roots: &mut R, from: Slot, to: Slot) -> Reply
+    requires slots { (r : RootWords) × R.shows roots.old r × IsSlot (setup_of r) from × IsSlot (setup_of r) to }
+    requires hand { R.at_hand roots.old from.domain × R.at_hand roots.old to.domain }
+    ensures written { (r : RootWords) → R.shows roots.old r → IsSlot (setup_of r) from → IsSlot (setup_of r) to
+        → R.shows roots.new (with_root r to (slot_word r from)) }
+    ensures fits { (r : RootWords) → R.shows roots.old r → IsSlot (setup_of r) from → FitsWord (slot_word r from) }
+    ensures done { result ≡ Reply.Done }
+    ensures hand { (domain : ℕ) → R.at_hand roots.old domain → R.at_hand roots.new domain }
 {
-    let word = slot_word(&heap.roots, from);
-    set_slot(&mut heap.roots, to, word);
+    let word = roots.word(from);
+    roots.set_word(to, word);
     Reply::Done
 }
 
 /// The slot becomes nil.
-pub(crate) fn clear(heap: &mut Heap, holders: &[u32], lane: u32, slot: Slot) -> Reply
-    requires ready { MayOperate heap.old holders.now lane }
-    requires slot { IsSlot (setup_of heap.old.roots) slot }
-    requires held { slice_index holders.now slot.domain ≡ lane }
-    ensures { (serial : ℕ) → DidOperation heap.old heap.new holders.now lane serial serial (Clear slot) result }
+pub(crate) fn clear<R: RootSlots>(roots: &mut R, slot: Slot) -> Reply
+    requires slot { (r : RootWords) × R.shows roots.old r × IsSlot (setup_of r) slot }
+    requires hand { R.at_hand roots.old slot.domain }
+    ensures written { (r : RootWords) → R.shows roots.old r → IsSlot (setup_of r) slot → R.shows roots.new (with_root r slot Nil) }
+    ensures done { result ≡ Reply.Done }
+    ensures hand { (domain : ℕ) → R.at_hand roots.old domain → R.at_hand roots.new domain }
 {
-    set_slot(&mut heap.roots, slot, Word::Nil);
+    roots.set_word(slot, Word::Nil);
     Reply::Done
 }
 
 /// The second slot becomes what a field of the first slot's object holds.
-pub(crate) fn load(
-    heap: &mut Heap,
+pub(crate) fn load<C: Cells, R: RootSlots>(
+    cells: &C,
+    roots: &mut R,
+    chunk: &Chunk,
     holders: &[u32],
     lane: u32,
     slot: Slot,
     index: u32,
     to: Slot,
 ) -> Reply
-    requires ready { MayOperate heap.old holders.now lane }
-    requires slot { IsSlot (setup_of heap.old.roots) slot }
-    requires to { IsSlot (setup_of heap.old.roots) to }
+    requires sees { (h : HeapView) × Sees (C.shows cells.now) (R.shows roots.old) chunk.now holders.now lane (Load slot index to) h }
     requires held { (slice_index holders.now slot.domain ≡ lane) × (slice_index holders.now to.domain ≡ lane) }
-    ensures { (serial : ℕ) → DidOperation heap.old heap.new holders.now lane serial serial (Load slot index to) result }
+    requires slots { R.at_hand roots.old slot.domain × R.at_hand roots.old to.domain }
+    requires hand { SlotLeadsToHand (C.shows cells.now) (R.shows roots.old) (C.at_hand cells.now) slot }
+    ensures done { (h : HeapView) → Sees (C.shows cells.now) (R.shows roots.old) chunk.now holders.now lane (Load slot index to) h
+        → (r : RootWords) × R.shows roots.new r
+        × ((serial : ℕ) → DidAct h (record h { roots = r }) holders.now lane serial serial (Load slot index to) result) }
+    ensures hand { (domain : ℕ) → R.at_hand roots.old domain → R.at_hand roots.new domain }
 {
-    let word = slot_word(&heap.roots, slot);
-    match object_with_field(heap, holders, lane, word, index) {
+    let word = roots.word(slot);
+    match object_with_field(cells, chunk, holders, lane, word, index) {
         Ok(at) => {
-            let held = field_at(heap, lane, at, index);
-            set_slot(&mut heap.roots, to, held);
+            let held = field_at(cells, chunk, at, index);
+            roots.set_word(to, held);
             loaded(held)
         }
         Err(reply) => reply,

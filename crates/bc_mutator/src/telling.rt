@@ -1,30 +1,45 @@
-ghost use Rattle.std.specs.Prelude.{◌≡◌, slice_index};
-ghost use Rattle.bc_model.specs.WellFormed.{IsSlot};
-ghost use Rattle.bc_model.specs.declared.operations.Op.TheVariants.{Who, Len, Same};
-ghost use Rattle.bc_mutator.specs.Effects.{Answers};
-ghost use Rattle.bc_mutator.specs.Objects.{MayOperate};
-ghost use Rattle.bc_mutator.specs.Operations.{setup_of};
+//! What a lane is told that asks about its slots.
 
+ghost use Rattle.std.specs.Prelude.{◌≡◌, ◌≢◌, ◌⊎◌, slice_index};
+ghost use Rattle.bc_model.specs.declared.operations.Op.TheVariants.{Who, Len, Same};
+ghost use Rattle.bc_superpages.specs.RootWords.{RootWords};
+ghost use Rattle.bc_whole_heap.specs.Heaps.{HeapView};
+ghost use Rattle.bc_mutator.specs.Effects.{Answers};
+ghost use Rattle.bc_mutator.specs.Objects.{slot_word};
+ghost use Rattle.bc_mutator.specs.Operations.{IsOpOf};
+ghost use Rattle.bc_mutator.specs.Parts.{Sees, SlotLeadsToHand};
+
+use crate::cells::Cells;
 use crate::objects::object;
-use crate::reading::{head_at, slot_word};
-use bc_cycle::Heap;
+use crate::reading::head_at;
+use crate::root_slots::RootSlots;
 use bc_model::{Birth, Reply, Slot};
+use bc_nursery::Chunk;
 use bc_word::Word;
 
 /// What the slot holds, an object by its birth, if the lane holds the object's domain.
-pub(crate) fn who(heap: &Heap, holders: &[u32], lane: u32, slot: Slot) -> Reply
-    requires ready { MayOperate heap.now holders.now lane }
-    requires slot { IsSlot (setup_of heap.now.roots) slot }
+pub(crate) fn who<C: Cells, R: RootSlots>(
+    cells: &C,
+    roots: &R,
+    chunk: &Chunk,
+    holders: &[u32],
+    lane: u32,
+    slot: Slot,
+) -> Reply
+    requires sees { (h : HeapView) × Sees (C.shows cells.now) (R.shows roots.now) chunk.now holders.now lane (Who slot) h }
     requires held { slice_index holders.now slot.domain ≡ lane }
-    ensures { Answers heap.now holders.now lane (Who slot) result }
+    requires slots { R.at_hand roots.now slot.domain }
+    requires hand { SlotLeadsToHand (C.shows cells.now) (R.shows roots.now) (C.at_hand cells.now) slot }
+    ensures { (h : HeapView) → Sees (C.shows cells.now) (R.shows roots.now) chunk.now holders.now lane (Who slot) h
+        → Answers h holders.now lane (Who slot) result }
 {
-    let word = slot_word(&heap.roots, slot);
+    let word = roots.word(slot);
     match word {
         Word::Nil => Reply::Nil,
         Word::Num(number) => Reply::Num(number),
-        Word::Ref(_) => match object(heap, holders, lane, word) {
+        Word::Ref(_) => match object(cells, chunk, holders, lane, word) {
             Ok(at) => {
-                let head = head_at(heap, lane, at);
+                let head = head_at(cells, chunk, at);
                 Reply::Obj(Birth {
                     lane: head.lane,
                     serial: head.serial,
@@ -36,27 +51,35 @@ pub(crate) fn who(heap: &Heap, holders: &[u32], lane: u32, slot: Slot) -> Reply
 }
 
 /// How many fields the slot's object has.
-pub(crate) fn length_of(heap: &Heap, holders: &[u32], lane: u32, slot: Slot) -> Reply
-    requires ready { MayOperate heap.now holders.now lane }
-    requires slot { IsSlot (setup_of heap.now.roots) slot }
+pub(crate) fn length_of<C: Cells, R: RootSlots>(
+    cells: &C,
+    roots: &R,
+    chunk: &Chunk,
+    holders: &[u32],
+    lane: u32,
+    slot: Slot,
+) -> Reply
+    requires sees { (h : HeapView) × Sees (C.shows cells.now) (R.shows roots.now) chunk.now holders.now lane (Len slot) h }
     requires held { slice_index holders.now slot.domain ≡ lane }
-    ensures { Answers heap.now holders.now lane (Len slot) result }
+    requires slots { R.at_hand roots.now slot.domain }
+    requires hand { SlotLeadsToHand (C.shows cells.now) (R.shows roots.now) (C.at_hand cells.now) slot }
+    ensures { (h : HeapView) → Sees (C.shows cells.now) (R.shows roots.now) chunk.now holders.now lane (Len slot) h
+        → Answers h holders.now lane (Len slot) result }
 {
-    match object(heap, holders, lane, slot_word(&heap.roots, slot)) {
-        Ok(at) => Reply::Len(head_at(heap, lane, at).fields),
+    match object(cells, chunk, holders, lane, roots.word(slot)) {
+        Ok(at) => Reply::Len(head_at(cells, chunk, at).fields),
         Err(reply) => reply,
     }
 }
 
 /// Whether two slots hold the same value: their words are the same.
-pub(crate) fn same(heap: &Heap, holders: &[u32], lane: u32, first: Slot, second: Slot) -> Reply
-    requires ready { MayOperate heap.now holders.now lane }
-    requires first { IsSlot (setup_of heap.now.roots) first }
-    requires second { IsSlot (setup_of heap.now.roots) second }
-    ensures { Answers heap.now holders.now lane (Same first second) result }
+pub(crate) fn same<R: RootSlots>(roots: &R, first: Slot, second: Slot) -> Reply
+    requires slots { (r : RootWords) × R.shows roots.now r × IsOpOf r (Same first second) }
+    requires hand { R.at_hand roots.now first.domain × R.at_hand roots.now second.domain }
+    ensures told { ((result ≡ Reply.Yes) × ((r : RootWords) → R.shows roots.now r → IsOpOf r (Same first second) → slot_word r first ≡ slot_word r second))
+        ⊎ ((result ≡ Reply.No) × ((r : RootWords) → R.shows roots.now r → IsOpOf r (Same first second) → slot_word r first ≢ slot_word r second)) }
 {
-    let roots = &heap.roots;
-    if roots.get(first.domain, first.slot) == roots.get(second.domain, second.slot) {
+    if roots.word(first) == roots.word(second) {
         Reply::Yes
     } else {
         Reply::No

@@ -1,22 +1,51 @@
-use Rattle.std.proofs.Common.{ap, arith}
+use Rattle.std.proofs.Common.{sym, ap, subst, ◌∙◌, ◌<◌, arith}
 use Rattle.std.proofs.lemmas.Result.{err_from_is_err_and}
+use Rattle.bc_word.specs.declared.addresses.Address.{Address}
 use Rattle.bc_word.specs.declared.heads.Head.{Head}
+use Rattle.bc_mutator.specs.Objects.{cell_of}
+use Rattle.bc_mutator.proofs.ObjectLemmas.{one_address}
 use Rattle.bc_mutator.proofs.MeaningLemmas.{acts-on_field, refuses-range, refuses-before}
+use Rattle.bc_mutator.proofs.PartLemmas.{head-of, space-of, there-of}
 use Rattle.bc_mutator.proofs.objects.object_with_field.Goals as goal
 
 pub returns-in_err-at-clause-refuses : goal.returns-in_err-at-clause-refuses
-returns-in_err-at-clause-refuses c =
+returns-in_err-at-clause-refuses g c =
     let p = err_from_is_err_and c.from_residual.result c.from_residual.ensures.1 in
-    rw (p.1, p.2) (refuses-before c.args.heap.now c.args.holders.now c.args.lane c.args.index c.args.word c.in_err-at.field-0.0 c.in_err-at.ensures.refuses)
+    rw (p.1, p.2) (λ h w. refuses-before h c.args.holders.now c.args.lane c.args.index c.args.word c.in_err-at.field-0.0 (c.in_err-at.ensures.refuses h w))
+
+pub head_at-requires-clause-there : goal.head_at-requires-clause-there
+head_at-requires-clause-there g c =
+    let h = c.requires.own.0 in
+    let w = c.requires.own.1 in
+    let of = c.in_ok-at.ensures.found h w in
+    (h.space, space-of w, there-of c.in_ok-at.at.0 w of.there)
+
+pub returns-then-index-head_at-clause-index : goal.returns-then-index-head_at-clause-index
+returns-then-index-head_at-clause-index g c = λ h w.
+    let of = c.in_ok-at.ensures.found h w in
+    let same = ap (λ (x : Head). x.fields) (c.head_at.ensures.head h.space (space-of w) (there-of c.in_ok-at.at.0 w of.there)) in
+    let lt = c.if-index-head_at.true in
+    omega arith
 
 pub returns-then-index-head_at-clause-acts : goal.returns-then-index-head_at-clause-acts
-returns-then-index-head_at-clause-acts c =
-    let same = ap (λ (x : Head). x.fields) c.head_at.ensures.head in
+returns-then-index-head_at-clause-acts g c = λ h w.
+    let of = c.in_ok-at.ensures.found h w in
+    let same = ap (λ (x : Head). x.fields) (head-of c.in_ok-at.at.0 c.head_at.result w c.head_at.ensures.head of.there) in
     let lt = c.if-index-head_at.true in
-    acts-on_field c.args.heap.now c.args.holders.now c.args.lane c.args.index c.args.word c.in_ok-at.at c.requires.ready c.in_ok-at.ensures.found c.in_ok-at.ensures.acts (omega arith)
+    acts-on_field h c.args.holders.now c.args.lane c.args.index c.args.word c.in_ok-at.at w.ready of (c.in_ok-at.ensures.acts h w) (omega arith)
 
 pub returns-else-index-head_at-clause-refuses : goal.returns-else-index-head_at-clause-refuses
-returns-else-index-head_at-clause-refuses c =
-    let same = ap (λ (x : Head). x.fields) c.head_at.ensures.head in
+returns-else-index-head_at-clause-refuses g c = λ h w.
+    let of = c.in_ok-at.ensures.found h w in
+    let same = ap (λ (x : Head). x.fields) (head-of c.in_ok-at.at.0 c.head_at.result w c.head_at.ensures.head of.there) in
     let out = c.if-index-head_at.false in
-    refuses-range c.args.heap.now c.args.holders.now c.args.lane c.args.index c.args.word c.in_ok-at.at c.requires.ready c.in_ok-at.ensures.found c.in_ok-at.ensures.acts (omega arith)
+    refuses-range h c.args.holders.now c.args.lane c.args.index c.args.word c.in_ok-at.at w.ready of (c.in_ok-at.ensures.acts h w) (omega arith)
+
+pub returns-else-index-head_at-clause-none : goal.returns-else-index-head_at-clause-none
+returns-else-index-head_at-clause-none g c = λ h w a of less.
+    let found = c.in_ok-at.ensures.found h w in
+    let few : c.args.index < (cell_of h.space c.args.chunk.now c.in_ok-at.at.0).head.fields =
+    subst (λ (x : Address). c.args.index < (cell_of h.space c.args.chunk.now x.0).head.fields) (one_address a c.in_ok-at.at (sym of.refers ∙ found.refers)) less in
+    let same = ap (λ (x : Head). x.fields) (c.head_at.ensures.head h.space (space-of w) (there-of c.in_ok-at.at.0 w found.there)) in
+    let out = c.if-index-head_at.false in
+    omega arith
