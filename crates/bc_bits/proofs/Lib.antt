@@ -2,3 +2,4 @@ pub mod BitLemmas
 pub mod CountLemmas
 pub mod FullLemmas
 pub mod FirstLemmas
+pub mod AnyLemmas

@@ -14,31 +14,31 @@
 
 ghost use Rattle.std.specs.Prelude.{◌≡◌, ◌≢◌, ℕ, ◌+◌, ◌*◌, ◌<◌, ◌≤◌, Bool, true, false, IfSome, IfNone, List, length};
 ghost use Rattle.bc_bits.specs.Bits.{has, with_bit, without_bit, AreWords, none_set};
-ghost use Rattle.bc_bits.specs.Counting.{count_below};
+ghost use Rattle.bc_bits.specs.Counting.{any_below, count_below};
 
-/// Is this bit of the set set? A bit is below 1,024.
-pub fn contains(set: &[u64; 16], bit: u32) -> bool
-    requires { bit < 1024 }
+/// Is this bit of the set set? A bit is below 64 times the number of words.
+pub fn contains<const N: usize>(set: &[u64; N], bit: u32) -> bool
+    requires { bit < 64 * N }
     ensures test { result ≡ has set.now bit }
 {
     let word = set[(bit / 64) as usize];
     word & (1 << (bit % 64)) != 0
 }
 
-/// Sets this bit, which is below 1,024, and leaves the others.
+/// Sets this bit, which is below 64 times the number of words, and leaves the others.
 #[tactic(auto, unfolding(crate::specs::Bits::with_bit))]
-pub fn insert(set: &mut [u64; 16], bit: u32)
-    requires { bit < 1024 }
+pub fn insert<const N: usize>(set: &mut [u64; N], bit: u32)
+    requires { bit < 64 * N }
     ensures change { set.new ≡ with_bit set.old bit }
 {
     let word = (bit / 64) as usize;
     set[word] = set[word] | (1 << (bit % 64));
 }
 
-/// Clears this bit, which is below 1,024, and leaves the others.
+/// Clears this bit, which is below 64 times the number of words, and leaves the others.
 #[tactic(auto, unfolding(crate::specs::Bits::without_bit))]
-pub fn remove(set: &mut [u64; 16], bit: u32)
-    requires { bit < 1024 }
+pub fn remove<const N: usize>(set: &mut [u64; N], bit: u32)
+    requires { bit < 64 * N }
     ensures change { set.new ≡ without_bit set.old bit }
 {
     let word = (bit / 64) as usize;
@@ -117,6 +117,12 @@ pub fn law_count()
     ensures all { (f : ℕ → Bool) → (n : ℕ) → ((i : ℕ) → i < n → f i ≡ true) → count_below f n ≡ n }
     ensures more { (f g : ℕ → Bool) → (n b : ℕ) → b < n → f b ≡ false → g b ≡ true
         → ((i : ℕ) → i ≢ b → g i ≡ f i) → count_below g n ≡ count_below f n + 1 }
+{}
+
+/// Law: the test for some number is true exactly where a number below the bound passes.
+pub fn law_any()
+    ensures some { (f : ℕ → Bool) → (n : ℕ) → any_below f n ≡ true → (i : ℕ) × (i < n) × (f i ≡ true) }
+    ensures here { (f : ℕ → Bool) → (n i : ℕ) → i < n → f i ≡ true → any_below f n ≡ true }
 {}
 
 #[cfg(test)]

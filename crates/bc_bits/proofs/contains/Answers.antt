@@ -5,4 +5,4 @@ use Rattle.bc_bits.proofs.contains.Goals as goal
 
 pub returns : goal.returns
 unfolding has
-returns c = record { test = word_test _ (c.args.bit % 64) (omega arith) }
+returns c = λ d. record { test = word_test _ (d.args.bit % 64) (omega arith) }
