@@ -1,5 +1,6 @@
 pub mod Pieces
 pub mod Bytes
+pub mod Refusing
 pub mod Replies
 pub mod Incoming
 pub mod Room
