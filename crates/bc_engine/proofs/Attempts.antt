@@ -8,7 +8,7 @@ use Rattle.bc_cycle.specs.Emptying.{heap_view}
 use Rattle.bc_cycle.specs.declared.heaps.Heap.{Heap}
 use Rattle.bc_whole_heap.specs.Closed.{chunk_of, buffer_of}
 use Rattle.bc_whole_heap.specs.Heaps.{HeapView}
-use Rattle.bc_whole_heap.specs.Running.{IsRunning}
+use Rattle.bc_whole_heap.specs.Running.{IsRunning, StandsAs}
 use Rattle.bc_model.specs.State.{State}
 use Rattle.bc_model.specs.Step.{step}
 use Rattle.bc_model.specs.declared.operations.Op.{Op}
@@ -24,23 +24,23 @@ use Rattle.bc_nursery.specs.Entries.{Entries}
 use Rattle.bc_nursery.specs.Objects.{Nursery, left_of, words_of}
 use Rattle.bc_superpages.specs.Layout.{Layout}
 use Rattle.bc_superpages.specs.RootWords.{RootWords}
-use Rattle.bc_engine.specs.Engines.{CanRunLanes, Stands}
+use Rattle.bc_engine.specs.Engines.{CanRunLanes}
 use Rattle.bc_engine.specs.Lanes.{Does, IsHeldUp, Stops}
 use Rattle.bc_engine.proofs.Sizes.{StaysBut, fits-step, op-of_state, none-young}
 
 -- what the operation is to every state that the heap stands for
 abbrev pub IsStep : List ℕ → ℕ → Op → HeapView → ℕ → HeapView → ℕ → Reply → Type 0
 IsStep hs lane op h before k after reply =
-    (serials : List ℕ) → (state : State) → Stands h hs serials state → get_or serials lane 0 ≡ before
-    → ((step state lane op).1 ≡ reply) × Stands k hs (set serials lane after) (step state lane op).0
+    (serials : List ℕ) → (state : State) → StandsAs h hs serials state → get_or serials lane 0 ≡ before
+    → ((step state lane op).1 ≡ reply) × StandsAs k hs (set serials lane after) (step state lane op).0
 
 pub does-step : (setup : Setup) (hs serials : List ℕ) (lane after : ℕ) (op : Op) (h k : HeapView) (reply : Reply) → CanRunLanes setup hs serials h → lane < length h.chunks → IsOpOf h.roots op → IsStep hs lane op h (get_or serials lane 0) k after reply → Does hs lane op h serials reply k (set serials lane after)
 does-step setup hs serials lane after op h k reply ready within fits is =
     let state = ready.meant.0 in
     let st = ready.meant.1 in
     let next = (is serials state st refl).1 in
-    let before = births-count h.space h.roots h.chunks hs serials lane state st in
-    let now = births-count k.space k.roots k.chunks hs (set serials lane after) lane (step state lane op).0 next in
+    let before = births-count hs serials lane state st in
+    let now = births-count hs (set serials lane after) lane (step state lane op).0 next in
     let made : lane < length state.made = omega (arith, within, st.lanes) in
     let few = made-step state lane op lane st.consistent made (op-of_state h hs serials state op st fits) in
     record {
@@ -55,7 +55,7 @@ ready-step setup hs serials lane after op x y (Ok reply) stays running is same r
     let st = ready.meant.1 in
     record {
       range = ready.range;
-      order = running (none-later x.space x.roots x.chunks.items hs serials state st lane);
+      order = running (none-later (heap_view x) hs serials state st lane);
       fits = fits-step setup lane (heap_view x) (heap_view y) stays ready.fits;
       lanes = length-set serials lane after ∙ ready.lanes;
       meant = ((step state lane op).0, (is serials state st refl).1);

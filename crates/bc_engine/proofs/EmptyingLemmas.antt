@@ -7,8 +7,9 @@ use Rattle.bc_cycle.specs.Emptying.{IsEmptied, IsAsBefore, bare_chunk}
 use Rattle.bc_cycle.proofs.ChunkLists.{chunk-emptied}
 use Rattle.bc_failsafe.specs.Packing.{NeedOfHeap}
 use Rattle.bc_whole_heap.specs.Closed.{chunk_of, buffer_of, no_buffer}
-use Rattle.bc_whole_heap.specs.Heaps.{heap_memory, root_words, no_chunk, HeapView}
+use Rattle.bc_whole_heap.specs.Heaps.{heap_memory, root_words, no_chunk, HeapView, Fixed}
 use Rattle.bc_whole_heap.proofs.ChunkLemmas.{length-alike}
+use Rattle.bc_whole_heap.specs.Running.{StandsAs}
 use Rattle.bc_memory.specs.Memory.{Memory}
 use Rattle.bc_model.specs.State.{State}
 use Rattle.bc_model.specs.declared.traces.Setup.{Setup}
@@ -18,7 +19,7 @@ use Rattle.bc_standing.specs.Standing.{StandsFor, AllBorn}
 use Rattle.bc_promotion.specs.Promises.{HasDomainsBelow}
 use Rattle.bc_superpages.specs.Layout.{Layout, set_of}
 use Rattle.bc_superpages.specs.RootWords.{RootWords}
-use Rattle.bc_engine.specs.Engines.{HasEmptyChunks, HasSetup, CanRunLanes, IsUnbookmarked, IsUnrecorded, Stands}
+use Rattle.bc_engine.specs.Engines.{HasEmptyChunks, HasSetup, CanRunLanes, IsUnbookmarked, IsUnrecorded}
 
 buffer-emptied : (bs : List Entries) (l : ℕ) → buffer_of (map without_entries bs) l ≡ without_entries (buffer_of bs l)
 buffer-emptied bs l = get_or-map without_entries bs l no_buffer
@@ -37,15 +38,15 @@ empty-buffers h k is = record {
   remembered = is.none_remembered;
 }
 
-pub stands-emptied : (hs serials : List ℕ) (h k : HeapView) (state : State) → IsEmptied h k → Stands h hs serials state → Stands k hs serials state
+pub stands-emptied : (hs serials : List ℕ) (h k : HeapView) (state : State) → IsEmptied h k → StandsAs h hs serials state → StandsAs k hs serials state
 stands-emptied hs serials h k state is st = record {
   consistent = st.consistent;
   stands = is.keeps state.slots state.made st.stands;
   born = λ a b e. let from = is.born a b e in st.born from.0 b from.1;
   held = st.held;
   births = st.births;
-  domains = is.sizes.roots_domains ∙ st.domains;
-  slots = is.sizes.roots_slots ∙ st.slots;
+  domains = ap (λ (x : RootWords). x.domains) is.sizes.roots ∙ st.domains;
+  slots = ap (λ (x : RootWords). x.slots) is.sizes.roots ∙ st.slots;
   lanes = ap length is.cleared ∙ length-map h.chunks emptied ∙ st.lanes;
 }
 
@@ -64,15 +65,15 @@ unbookmarked-kept s t bookmarks incoming none = record {
 fits-emptied : (setup : Setup) (h k : HeapView) → IsEmptied h k → HasSetup h setup → HasSetup k setup
 fits-emptied setup h k is fits = record {
   supers = is.sizes.supers ∙ fits.supers;
-  domains = is.sizes.roots_domains ∙ fits.domains;
-  slots = is.sizes.roots_slots ∙ fits.slots;
+  domains = ap (λ (x : RootWords). x.domains) is.sizes.roots ∙ fits.domains;
+  slots = ap (λ (x : RootWords). x.slots) is.sizes.roots ∙ fits.slots;
   lanes = ap length is.cleared ∙ length-map h.chunks emptied ∙ fits.lanes;
   words = λ l lt. ap (λ (cs : List Nursery). (chunk_of cs l).words) is.cleared ∙ ap (λ (c : Nursery). c.words) (chunk-emptied h.chunks l) ∙ fits.words l lt;
   entries = λ l lt. ap (λ (bs : List Entries). (buffer_of bs l).capacity) is.unrecorded ∙ ap (λ (b : Entries). b.capacity) (buffer-emptied h.buffers l) ∙ fits.entries l lt;
-  nursery = is.sizes.nursery ∙ fits.nursery;
-  frames = is.sizes.frames ∙ fits.frames;
+  nursery = ap (λ (x : Fixed). x.nursery) is.sizes.fixed ∙ fits.nursery;
+  frames = ap (λ (x : Fixed). x.frames) is.sizes.fixed ∙ fits.frames;
   used = used-kept setup h k fits.domains is.domains fits.used;
-  unbookmarked = unbookmarked-kept h.space k.space is.sizes.bookmarks is.sizes.incoming fits.unbookmarked;
+  unbookmarked = unbookmarked-kept h.space k.space (ap (λ (x : Fixed). x.bookmarks) is.sizes.fixed) (ap (λ (x : Fixed). x.incoming) is.sizes.fixed) fits.unbookmarked;
 }
 
 pub ready-emptied : (setup : Setup) (hs serials : List ℕ) (h k : HeapView) → IsEmptied h k → CanRunLanes setup hs serials h → CanRunLanes setup hs serials k
@@ -85,7 +86,7 @@ ready-emptied setup hs serials h k is ready = record {
 }
 
 -- a heap that is as before stands for what it stood for
-pub stands-before : (hs serials : List ℕ) (h k : HeapView) (state : State) → IsAsBefore h k → Stands h hs serials state → Stands k hs serials state
+pub stands-before : (hs serials : List ℕ) (h k : HeapView) (state : State) → IsAsBefore h k → StandsAs h hs serials state → StandsAs k hs serials state
 stands-before hs serials h k state is st = record {
   consistent = st.consistent;
   stands = subst (λ (m : Memory). StandsFor m (root_words k.roots) state) (sym is.memory)
@@ -93,8 +94,8 @@ stands-before hs serials h k state is st = record {
   born = subst (λ (m : Memory). AllBorn m state.made) (sym is.memory) st.born;
   held = st.held;
   births = st.births;
-  domains = is.sizes.roots_domains ∙ st.domains;
-  slots = is.sizes.roots_slots ∙ st.slots;
+  domains = ap (λ (x : RootWords). x.domains) is.sizes.roots ∙ st.domains;
+  slots = ap (λ (x : RootWords). x.slots) is.sizes.roots ∙ st.slots;
   lanes = length-alike bare_chunk h.chunks k.chunks is.chunks ∙ st.lanes;
 }
 
@@ -104,15 +105,15 @@ ready-before setup hs serials h k is ready = record {
   order = is.order hs ready.order;
   fits = record {
     supers = is.sizes.supers ∙ ready.fits.supers;
-    domains = is.sizes.roots_domains ∙ ready.fits.domains;
-    slots = is.sizes.roots_slots ∙ ready.fits.slots;
+    domains = ap (λ (x : RootWords). x.domains) is.sizes.roots ∙ ready.fits.domains;
+    slots = ap (λ (x : RootWords). x.slots) is.sizes.roots ∙ ready.fits.slots;
     lanes = length-alike bare_chunk h.chunks k.chunks is.chunks ∙ ready.fits.lanes;
     words = λ l lt. words-alike h.chunks k.chunks l is.chunks ∙ ready.fits.words l lt;
     entries = λ l lt. ap (λ (bs : List Entries). (buffer_of bs l).capacity) is.entries ∙ ready.fits.entries l lt;
-    nursery = is.sizes.nursery ∙ ready.fits.nursery;
-    frames = is.sizes.frames ∙ ready.fits.frames;
+    nursery = ap (λ (x : Fixed). x.nursery) is.sizes.fixed ∙ ready.fits.nursery;
+    frames = ap (λ (x : Fixed). x.frames) is.sizes.fixed ∙ ready.fits.frames;
     used = used-kept setup h k ready.fits.domains is.domains ready.fits.used;
-    unbookmarked = unbookmarked-kept h.space k.space is.sizes.bookmarks is.sizes.incoming ready.fits.unbookmarked;
+    unbookmarked = unbookmarked-kept h.space k.space (ap (λ (x : Fixed). x.bookmarks) is.sizes.fixed) (ap (λ (x : Fixed). x.incoming) is.sizes.fixed) ready.fits.unbookmarked;
   };
   lanes = ready.lanes;
   meant = (ready.meant.0, stands-before hs serials h k ready.meant.0 is ready.meant.1);

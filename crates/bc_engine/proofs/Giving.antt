@@ -3,6 +3,7 @@ use Rattle.std.proofs.Common.{◌≡◌, ℕ, ◌<◌, List, [], length, get_or,
 use Rattle.std.proofs.lemmas.Bool.{cases_eq}
 use Rattle.bc_whole_heap.specs.Closed.{chunk_of, buffer_of, IsCellOrYoung, IsClosedHeap}
 use Rattle.bc_whole_heap.specs.Heaps.{HeapView, view_of}
+use Rattle.bc_whole_heap.specs.Running.{StandsAs}
 use Rattle.bc_model.specs.State.{State, given}
 use Rattle.bc_model.specs.declared.traces.Setup.{Setup}
 use Rattle.bc_model.proofs.States.{IsState-given}
@@ -10,7 +11,7 @@ use Rattle.bc_nursery.specs.Entries.{Entries}
 use Rattle.bc_nursery.specs.Objects.{Nursery}
 use Rattle.bc_superpages.specs.Layout.{Layout, IsAllocated}
 use Rattle.bc_superpages.specs.RootWords.{RootWords}
-use Rattle.bc_engine.specs.Engines.{HasEmptyChunks, CanRunLanes, IsUnrecorded, Stands}
+use Rattle.bc_engine.specs.Engines.{HasEmptyChunks, CanRunLanes, IsUnrecorded}
 use Rattle.bc_engine.proofs.Sizes.{none-young}
 
 -- what refers to a cell or to an object of an empty chunk refers to a cell
@@ -40,7 +41,7 @@ closed-given s roots cs bs hs d l none empty within h =
       entries = λ m i lt there. absurd (omega (arith, there, ap length (empty m)));
     }
 
-pub stands-given : (setup : Setup) (hs serials : List ℕ) (h : HeapView) (d l : ℕ) (state : State) → CanRunLanes setup hs serials h → l < setup.lanes → Stands h hs serials state → Stands h (set hs d l) serials (given state (record { domain = d; lane = l }))
+pub stands-given : (setup : Setup) (hs serials : List ℕ) (h : HeapView) (d l : ℕ) (state : State) → CanRunLanes setup hs serials h → l < setup.lanes → StandsAs h hs serials state → StandsAs h (set hs d l) serials (given state (record { domain = d; lane = l }))
 stands-given setup hs serials h d l state ready within st = record {
   consistent = IsState-given state (record { domain = d; lane = l }) st.consistent (omega (arith, within, st.lanes, ready.fits.lanes));
   stands = st.stands;

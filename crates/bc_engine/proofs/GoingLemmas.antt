@@ -7,18 +7,18 @@ use Rattle.bc_model.specs.State.{State}
 use Rattle.bc_model.specs.Step.{step}
 use Rattle.bc_model.specs.declared.operations.Op.{Op}
 use Rattle.bc_model.specs.declared.operations.Reply.{Reply}
-use Rattle.bc_engine.specs.Engines.{Stands}
 use Rattle.bc_engine.specs.Lanes.{of_lane, Does, LanesWentOn}
 use Rattle.bc_engine.proofs.StepLists.{all-append, after_steps-append, ops_by-append, replies_by-append, after_steps-one, replies_by-one, after_steps-none, replies_by-none}
 use Rattle.bc_whole_heap.specs.Heaps.{HeapView}
+use Rattle.bc_whole_heap.specs.Running.{StandsAs}
 
 -- no operation was done: the heap stands for what it stood for
-pub goes-none : (lanes : List (List Op)) (hs : List ℕ) (h k : HeapView) (serials : List ℕ) (told : List (List Reply)) → ((state : State) → Stands h hs serials state → Stands k hs serials state) → LanesWentOn lanes hs h serials told k serials told
+pub goes-none : (lanes : List (List Op)) (hs : List ℕ) (h k : HeapView) (serials : List ℕ) (told : List (List Reply)) → ((state : State) → StandsAs h hs serials state → StandsAs k hs serials state) → LanesWentOn lanes hs h serials told k serials told
 goes-none lanes hs h k serials told same = record {
   steps = [];
   below = tt;
   ops = λ j. sym (append-nil (take (length (of_lane told j)) (of_lane lanes j)));
-  means = λ state st. subst (λ (s : State). Stands k hs serials s) (sym (after_steps-none state)) (same state st);
+  means = λ state st. subst (λ (s : State). StandsAs k hs serials s) (sym (after_steps-none state)) (same state st);
   replies = λ state st j. sym (append-nil (of_lane told j)) ∙ ap (λ (rs : List Reply). of_lane told j ++ rs) (sym (replies_by-none state j));
   more = λ j. omega arith;
 }
@@ -32,7 +32,7 @@ goes-then lanes hs h k l ns ms ls told mid answers g e = record {
       ∙ ap (λ (os : List Op). os ++ ops_by j e.steps) (g.ops j)
       ∙ append_assoc (take (length (of_lane told j)) (of_lane lanes j)) (ops_by j g.steps) (ops_by j e.steps)
       ∙ ap (λ (os : List Op). take (length (of_lane told j)) (of_lane lanes j) ++ os) (sym (ops_by-append j g.steps e.steps));
-  means = λ state st. subst (λ (s : State). Stands l hs ls s) (sym (after_steps-append state g.steps e.steps)) (e.means (after_steps state g.steps) (g.means state st));
+  means = λ state st. subst (λ (s : State). StandsAs l hs ls s) (sym (after_steps-append state g.steps e.steps)) (e.means (after_steps state g.steps) (g.means state st));
   replies = λ state st j.
       e.replies (after_steps state g.steps) (g.means state st) j
       ∙ ap (λ (rs : List Reply). rs ++ replies_by (after_steps state g.steps) j e.steps) (g.replies state st j)
@@ -85,7 +85,7 @@ goes-step lanes hs h k serials next told lane op reply within there less is does
             ∙ sym (append-nil (take (length (of_lane told j)) (of_lane lanes j)))
             ∙ ap (λ (os : List Op). take (length (of_lane told j)) (of_lane lanes j) ++ os) (sym (ops-one lane j op ∙ other-one lane j op ne))
       ];
-      means = λ state st. subst (λ (s : State). Stands k hs next s) (sym (after_steps-one state x)) (does.means state st).1;
+      means = λ state st. subst (λ (s : State). StandsAs k hs next s) (sym (after_steps-one state x)) (does.means state st).1;
       replies = λ state st j. elim (cases_eq j lane) [
         | inl e ↦
             subst (λ (m : ℕ). of_lane (with_reply told lane reply) m ≡ of_lane told m ++ replies_by state m (x ∷ [])) (sym e)

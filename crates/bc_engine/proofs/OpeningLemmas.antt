@@ -9,6 +9,7 @@ use Rattle.bc_cycle.specs.Openings.{new_heap}
 use Rattle.bc_cycle.proofs.OpeningLemmas.{chunk-at, chunk-none, chunks-long, supers-long, no_object, no_entries, opening-running}
 use Rattle.bc_failsafe.proofs.OpeningLemmas.{nothing}
 use Rattle.bc_whole_heap.specs.Heaps.{heap_memory, root_words, HeapView}
+use Rattle.bc_whole_heap.specs.Running.{StandsAs}
 use Rattle.bc_memory.specs.Memory.{Memory}
 use Rattle.bc_model.specs.Reached.{Holds, FieldHolds, Reached}
 use Rattle.bc_model.specs.Run.{opening}
@@ -35,7 +36,7 @@ use Rattle.bc_word.specs.declared.words.Word.{Word}
 use Rattle.bc_word.specs.declared.words.Word.TheVariants.{Nil}
 use Rattle.bc_word.specs.Words.{word_of_bits}
 use Rattle.bc_word.proofs.WordLemmas.{word_of_bits-nil}
-use Rattle.bc_engine.specs.Engines.{HasEmptyChunks, CanRunLanes, IsUnbookmarked, IsUnrecorded, Stands}
+use Rattle.bc_engine.specs.Engines.{HasEmptyChunks, CanRunLanes, IsUnbookmarked, IsUnrecorded}
 
 nil-words : (n : ℕ) → map word_of_bits (replicate n 0) ≡ replicate n Nil
 nil-words zero = refl
@@ -94,7 +95,7 @@ none-bookmarked n f k = record { bookmarks = none n; incoming = zeros n }
     zeros (suc m) zero = refl
     zeros (suc m) (suc q) = zeros m q
 
-opening-stands : (s : Setup) → IsSetup s → Stands (new_heap s) (opening s).holders (replicate s.lanes 0) (opening s)
+opening-stands : (s : Setup) → IsSetup s → StandsAs (new_heap s) (opening s).holders (replicate s.lanes 0) (opening s)
 opening-stands s range =
     let h = new_heap s in
     let m : Memory = heap_memory h.space h.chunks in
@@ -145,7 +146,7 @@ ready-opening s range =
 -- what is true of the engine that begins with such a heap
 pub record IsOpened (s : Setup) (holders serials : List ℕ) (h : HeapView) : Type 0 where
   pub ready : CanRunLanes s holders serials h
-  pub stands : Stands h holders serials (opening s)
+  pub stands : StandsAs h holders serials (opening s)
   pub chunks : HasEmptyChunks h
   pub unrecorded : IsUnrecorded h
 

@@ -6,6 +6,7 @@ use Rattle.std.proofs.lemmas.List.{get_or_append_left, get_or_push, length-map, 
 use Rattle.std.specs.List.{AllByRecursion}
 use Rattle.bc_whole_heap.specs.Closed.{chunk_of}
 use Rattle.bc_whole_heap.specs.Heaps.{heap_memory, object_in, root_words, HeapView}
+use Rattle.bc_whole_heap.specs.Running.{StandsAs}
 use Rattle.bc_model.specs.Consistent.{sizes_of}
 use Rattle.bc_model.specs.Interleaving.{replies_by, ops_by}
 use Rattle.bc_model.specs.Lists.{PhaseLists, lists_of}
@@ -20,7 +21,7 @@ use Rattle.bc_standing.specs.Standing.{StandsFor}
 use Rattle.bc_superpages.specs.Kept.{IsLayout}
 use Rattle.bc_superpages.specs.Layout.{Layout, superpages}
 use Rattle.bc_word.specs.declared.words.Word.{Word}
-use Rattle.bc_engine.specs.Engines.{EngineView, EngineStands, HasEmptyChunks, HasRoomForBirths, IsEngine, CanRunLanes, Stands}
+use Rattle.bc_engine.specs.Engines.{EngineView, EngineStands, HasEmptyChunks, HasRoomForBirths, IsEngine, CanRunLanes}
 use Rattle.bc_engine.specs.Lanes.{of_lane, AreDone, BirthsWithin, LanesWentOn, HasSerialsLeft, HasRoomForOps}
 use Rattle.bc_engine.specs.Phases.{CutPhase, DidPhase}
 use Rattle.bc_engine.specs.Rounds.{RoundsWentOn, IfTooSmall, IsRoomFor, IsThrough, IsTooSmall, IsUnderwayOn}
@@ -63,7 +64,7 @@ ops-begun : (lanes : List (List Op)) (hs : List ℕ) (h k : HeapView) (serials n
 ops-begun lanes hs h k serials next told answers g none j =
     sym (g.ops j ∙ ap (λ (rs : List Reply). take (length rs) (of_lane lanes j) ++ ops_by j g.steps) (none j))
 
-replies-begun : (lanes : List (List Op)) (hs : List ℕ) (h k : HeapView) (serials next : List ℕ) (told answers : List (List Reply)) (g : LanesWentOn lanes hs h serials told k next answers) → ((j : ℕ) → of_lane told j ≡ []) → (s : State) → Stands h hs serials s → (j : ℕ) → of_lane answers j ≡ replies_by s j g.steps
+replies-begun : (lanes : List (List Op)) (hs : List ℕ) (h k : HeapView) (serials next : List ℕ) (told answers : List (List Reply)) (g : LanesWentOn lanes hs h serials told k next answers) → ((j : ℕ) → of_lane told j ≡ []) → (s : State) → StandsAs h hs serials s → (j : ℕ) → of_lane answers j ≡ replies_by s j g.steps
 replies-begun lanes hs h k serials next told answers g none s st j =
     g.replies s st j ∙ ap (λ (rs : List Reply). rs ++ replies_by s j g.steps) (none j)
 
@@ -80,7 +81,7 @@ ops-fit e lanes s ready st ops =
 -- what the lanes of a phase did, up to a cut
 pub record IsCutOf (e : EngineView) (lanes : List (List Op)) (k : HeapView) (next : List ℕ) (answers : List (List Reply)) (s : State) : Type 0 where
   pub replies : answers ≡ replies_to_lanes s 0 (cut_lanes (map length answers) lanes)
-  pub stands : Stands k e.holders next (after_lanes s 0 (cut_lanes (map length answers) lanes))
+  pub stands : StandsAs k e.holders next (after_lanes s 0 (cut_lanes (map length answers) lanes))
 
 each-lane : (e : EngineView) (p : PhaseLists) (s : State) → CanRunLanes e.setup e.holders e.serials e.heap → IsPhase e.setup p → EngineStands e s → length p.lanes ≡ length s.made
 each-lane e p s ready phase st = phase.lanes ∙ sym ready.fits.lanes ∙ st.lanes
@@ -90,18 +91,18 @@ cut-run e p k next told answers ready phase none long goes s st =
     let cut = map length answers in
     let mixed = mixed-cut s p.lanes answers goes.steps (each-lane e p s ready phase st) (ops-fit e p.lanes s ready st phase.ops) goes.below (ops-begun p.lanes e.holders e.heap k e.serials next told answers goes none) in
     let run = run-lanes s (cut_lanes cut p.lanes) answers goes.steps st.consistent mixed (long ∙ sym (length-cut_lanes cut p.lanes)) (replies-begun p.lanes e.holders e.heap k e.serials next told answers goes none s st) in
-    record { replies = run.replies; stands = subst (λ (t : State). Stands k e.holders next t) run.state (goes.means s st) }
+    record { replies = run.replies; stands = subst (λ (t : State). StandsAs k e.holders next t) run.state (goes.means s st) }
 
 -- or to their ends
 pub record IsWhole (e : EngineView) (lanes : List (List Op)) (k : HeapView) (next : List ℕ) (answers : List (List Reply)) (s : State) : Type 0 where
   pub replies : answers ≡ replies_to_lanes s 0 lanes
-  pub stands : Stands k e.holders next (after_lanes s 0 lanes)
+  pub stands : StandsAs k e.holders next (after_lanes s 0 lanes)
 
 pub whole-run : (e : EngineView) (p : PhaseLists) (k : HeapView) (next : List ℕ) (told answers : List (List Reply)) → CanRunLanes e.setup e.holders e.serials e.heap → IsPhase e.setup p → ((j : ℕ) → of_lane told j ≡ []) → length answers ≡ length p.lanes → AreDone p.lanes answers → LanesWentOn p.lanes e.holders e.heap e.serials told k next answers → (s : State) → EngineStands e s → IsWhole e p.lanes k next answers s
 whole-run e p k next told answers ready phase none long done goes s st =
     let mixed = mixed-whole s p.lanes answers goes.steps (each-lane e p s ready phase st) (ops-fit e p.lanes s ready st phase.ops) goes.below done (ops-begun p.lanes e.holders e.heap k e.serials next told answers goes none) in
     let run = run-lanes s p.lanes answers goes.steps st.consistent mixed long (replies-begun p.lanes e.holders e.heap k e.serials next told answers goes none s st) in
-    record { replies = run.replies; stands = subst (λ (t : State). Stands k e.holders next t) run.state (goes.means s st) }
+    record { replies = run.replies; stands = subst (λ (t : State). StandsAs k e.holders next t) run.state (goes.means s st) }
 
 -- what a phase begins with: an engine in order, and room for replies, of which there are none
 pub record HasBegun (e : EngineView) (p : PhaseLists) (vs : List (Vec Reply Global)) : Type 0 where
@@ -121,7 +122,7 @@ cut-by e f p vs ws need begun engine holders long small =
       stands = λ s st. (
         cut,
         (run s st).replies,
-        subst (λ (hs : List ℕ). Stands f.heap hs f.serials (after_lanes s 0 (cut_lanes cut p.lanes))) (sym holders) (run s st).stands,
+        subst (λ (hs : List ℕ). StandsAs f.heap hs f.serials (after_lanes s 0 (cut_lanes cut p.lanes))) (sym holders) (run s st).stands,
         small.needs (after_lanes s 0 (cut_lanes cut p.lanes)) (run s st).stands.stands (sym (run s st).stands.domains),
       );
       above = omega (arith, small.above, engine.ready.fits.supers);
@@ -137,7 +138,7 @@ did-by e f g p vs ws begun holders long on through gave same room =
       empty = λ l. ap (λ (x : EngineView). (chunk_of x.heap.chunks l).objects) same ∙ through.empty l;
       stands = λ s st. (
         (run s st).replies,
-        gave (after_lanes s 0 p.lanes) (subst (λ (hs : List ℕ). Stands f.heap hs f.serials (after_lanes s 0 p.lanes)) (sym holders) (run s st).stands),
+        gave (after_lanes s 0 p.lanes) (subst (λ (hs : List ℕ). StandsAs f.heap hs f.serials (after_lanes s 0 p.lanes)) (sym holders) (run s st).stands),
       );
       need = room;
     }

@@ -8,6 +8,7 @@ use Rattle.bc_cycle.specs.declared.heaps.Heap.{Heap}
 use Rattle.std.specs.List.{AllByRecursion}
 use Rattle.bc_whole_heap.specs.Closed.{chunk_of, buffer_of}
 use Rattle.bc_whole_heap.specs.Heaps.{HeapView}
+use Rattle.bc_whole_heap.specs.Running.{StandsAs}
 use Rattle.bc_model.specs.Lists.{lists_of}
 use Rattle.bc_model.specs.WellFormed.{IsOp}
 use Rattle.bc_model.proofs.Runs.{at-index}
@@ -18,13 +19,13 @@ use Rattle.bc_model.specs.declared.traces.Setup.{Setup}
 use Rattle.bc_mutator.specs.Operations.{WantsMore}
 use Rattle.bc_nursery.specs.Entries.{Entries}
 use Rattle.bc_nursery.specs.Objects.{Nursery, left_of}
-use Rattle.bc_engine.specs.Engines.{CanRunLanes, Stands}
+use Rattle.bc_engine.specs.Engines.{CanRunLanes}
 use Rattle.bc_engine.specs.Lanes.{of_lane, BirthsWithin, Does, EachFurther, LanesWentOn, HasSerialsLeft, IsAtEndOr, IsHeldUp, IsOneMore, LeavesOthers, LanesRan, Stops, left}
 use Rattle.bc_engine.proofs.Attempts.{held-up}
 use Rattle.bc_engine.proofs.GoingLemmas.{with_reply, goes-none, goes-then, goes-step}
 
 -- nothing was done, and the heap stands for what it stood for
-pub runs-none : (lanes : List (List Op)) (hs : List ℕ) (h k : HeapView) (serials : List ℕ) (told : List (Vec Reply Global)) → ((state : State) → Stands h hs serials state → Stands k hs serials state) → ((setup : Setup) → CanRunLanes setup hs serials h → CanRunLanes setup hs serials k) → LanesRan lanes hs h serials told k serials told
+pub runs-none : (lanes : List (List Op)) (hs : List ℕ) (h k : HeapView) (serials : List ℕ) (told : List (Vec Reply Global)) → ((state : State) → StandsAs h hs serials state → StandsAs k hs serials state) → ((setup : Setup) → CanRunLanes setup hs serials h → CanRunLanes setup hs serials k) → LanesRan lanes hs h serials told k serials told
 runs-none lanes hs h k serials told means ready = record {
   goes = goes-none lanes hs h k serials (lists_of told) means;
   underway = λ setup u. record { ready = ready setup u.ready; each = u.each; ops = u.ops; long = u.long; room = u.room; births = u.births };

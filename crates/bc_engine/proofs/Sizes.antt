@@ -6,6 +6,7 @@ use Rattle.std.specs.Option.{is_some}
 use Rattle.bc_whole_heap.specs.Closed.{chunk_of, buffer_of}
 use Rattle.bc_whole_heap.specs.Heaps.{object_in, HeapView}
 use Rattle.bc_whole_heap.proofs.ChunkLemmas.{object_in-none}
+use Rattle.bc_whole_heap.specs.Running.{StandsAs}
 use Rattle.bc_model.specs.Consistent.{sizes_of}
 use Rattle.bc_model.specs.State.{State}
 use Rattle.bc_model.specs.WellFormed.{IsOp}
@@ -17,7 +18,7 @@ use Rattle.bc_nursery.specs.Objects.{ChunkObject, Nursery, has_object}
 use Rattle.bc_promotion.specs.Promises.{HasDomainsBelow}
 use Rattle.bc_superpages.specs.Layout.{Layout, superpages}
 use Rattle.bc_superpages.specs.RootWords.{RootWords}
-use Rattle.bc_engine.specs.Engines.{HasSetup, CanRunLanes, IsUnbookmarked, Stands}
+use Rattle.bc_engine.specs.Engines.{HasSetup, CanRunLanes, IsUnbookmarked}
 
 -- an operation fits whatever has as many domains and slots
 made_up : ℕ → ℕ → Setup
@@ -32,7 +33,7 @@ pub op-of_heap : (setup : Setup) (h : HeapView) (o : Op) → HasSetup h setup �
 unfolding made_up
 op-of_heap setup h o fits op = op-like setup h.roots.domains h.roots.slots o fits.domains fits.slots op
 
-pub op-of_state : (h : HeapView) (hs serials : List ℕ) (state : State) (o : Op) → Stands h hs serials state → IsOpOf h.roots o → IsOp (sizes_of state) o
+pub op-of_state : (h : HeapView) (hs serials : List ℕ) (state : State) (o : Op) → StandsAs h hs serials state → IsOpOf h.roots o → IsOp (sizes_of state) o
 unfolding made_up
 op-of_state h hs serials state o st op =
     let like = op-like (made_up h.roots.domains h.roots.slots) (length state.holders) state.width o (sym st.domains) (sym st.slots) op in

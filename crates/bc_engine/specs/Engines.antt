@@ -53,17 +53,13 @@ pub record IsUnrecorded (h : HeapView) : Type 0 where
 abbrev pub HasEmptyChunks : HeapView → Type 0
 HasEmptyChunks h = (l : ℕ) → (chunk_of h.chunks l).objects ≡ []
 
--- the heap stands for the state, with these holders and births
-abbrev pub Stands : HeapView → List ℕ → List ℕ → State → Type 0
-Stands h holders serials state = StandsAs h.space h.roots h.chunks holders serials state
-
 -- what is true of a heap that lanes can run on: it is in order, it has the setup's sizes, and there is a state that it stands for
 pub record CanRunLanes (setup : Setup) (holders serials : List ℕ) (h : HeapView) : Type 0 where
   pub range : IsSetup setup
   pub order : IsRunning h holders
   pub fits : HasSetup h setup
   pub lanes : length serials ≡ setup.lanes
-  pub meant : (state : State) × Stands h holders serials state
+  pub meant : (state : State) × StandsAs h holders serials state
 
 -- a number of threads that may mark
 abbrev pub IsWorkers : ℕ → Type 0
@@ -78,7 +74,7 @@ pub record IsEngine (e : EngineView) : Type 0 where
 
 -- the engine stands for the state
 abbrev pub EngineStands : EngineView → State → Type 0
-EngineStands e state = Stands e.heap e.holders e.serials state
+EngineStands e state = StandsAs e.heap e.holders e.serials state
 
 -- every lane can make n objects more, all with serials below 2 ^ 32
 abbrev pub HasRoomForBirths : EngineView → ℕ → Type 0

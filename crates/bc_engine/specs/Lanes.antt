@@ -4,6 +4,7 @@ use Rattle.std.specs.List.{AllByRecursion}
 use Rattle.std.specs.declared.alloc.Global.{Global}
 use Rattle.bc_whole_heap.specs.Closed.{chunk_of, buffer_of}
 use Rattle.bc_whole_heap.specs.Heaps.{HeapView}
+use Rattle.bc_whole_heap.specs.Running.{StandsAs}
 use Rattle.bc_model.specs.Interleaving.{LaneOp, after_steps, replies_by, ops_by}
 use Rattle.bc_model.specs.Lists.{lists_of}
 use Rattle.bc_model.specs.State.{State}
@@ -14,7 +15,7 @@ use Rattle.bc_model.specs.declared.operations.Reply.{Reply}
 use Rattle.bc_model.specs.declared.traces.Setup.{Setup}
 use Rattle.bc_mutator.specs.Operations.{WantsMore, NeedsEntry}
 use Rattle.bc_nursery.specs.Objects.{left_of}
-use Rattle.bc_engine.specs.Engines.{EngineView, CanRunLanes, Stands}
+use Rattle.bc_engine.specs.Engines.{EngineView, CanRunLanes}
 
 -- the operations of a lane, or its replies
 abbrev pub of_lane : {X : Type 0} → List (List X) → ℕ → List X
@@ -23,8 +24,8 @@ of_lane lists lane = slice_index_or lists lane []
 -- an operation of a lane was done: it is the step of every state that the heap stands for. The lane makes at most one object,
 -- and no other lane makes any
 pub record Does (holders : List ℕ) (lane : ℕ) (op : Op) (h : HeapView) (serials : List ℕ) (reply : Reply) (k : HeapView) (next : List ℕ) : Type 0 where
-  pub means : (state : State) → Stands h holders serials state
-      → ((step state lane op).1 ≡ reply) × Stands k holders next (step state lane op).0
+  pub means : (state : State) → StandsAs h holders serials state
+      → ((step state lane op).1 ≡ reply) × StandsAs k holders next (step state lane op).0
   pub own : slice_index next lane ≤ slice_index serials lane + 1
   pub others : (l : ℕ) → l ≢ lane → slice_index next l ≡ slice_index serials l
 
@@ -34,8 +35,8 @@ pub record LanesWentOn (lanes : List (List Op)) (holders : List ℕ) (h : HeapVi
   pub steps : List LaneOp
   pub below : AllByRecursion (λ x. x.lane < length lanes) steps
   pub ops : (j : ℕ) → take (length (of_lane answers j)) (of_lane lanes j) ≡ take (length (of_lane told j)) (of_lane lanes j) ++ ops_by j steps
-  pub means : (state : State) → Stands h holders serials state → Stands k holders next (after_steps state steps)
-  pub replies : (state : State) → Stands h holders serials state → (j : ℕ) → of_lane answers j ≡ of_lane told j ++ replies_by state j steps
+  pub means : (state : State) → StandsAs h holders serials state → StandsAs k holders next (after_steps state steps)
+  pub replies : (state : State) → StandsAs h holders serials state → (j : ℕ) → of_lane answers j ≡ of_lane told j ++ replies_by state j steps
   pub more : (j : ℕ) → length (of_lane told j) ≤ length (of_lane answers j)
 
 -- every lane can make an object by each operation that it hasn't done yet, all with serials below 2 ^ 32

@@ -5,7 +5,7 @@ use Rattle.std.proofs.lemmas.Bool.{ne_eqb, lt-ltb, le-ltb}
 use Rattle.bc_reach.specs.Reach.{begin, onward}
 use Rattle.bc_cycle.specs.declared.heaps.Heap.{Heap}
 use Rattle.bc_whole_heap.specs.Closed.{IsCellOrYoung}
-use Rattle.bc_whole_heap.specs.Heaps.{heap_memory, root_words}
+use Rattle.bc_whole_heap.specs.Heaps.{heap_memory, root_words, view_of}
 use Rattle.bc_whole_heap.specs.Running.{StandsAs}
 use Rattle.bc_memory.specs.Memory.{Cell, Memory}
 use Rattle.bc_model.specs.Reached.{Reached}
@@ -18,6 +18,7 @@ use Rattle.bc_model.specs.declared.values.Slot.{Slot}
 use Rattle.bc_model.specs.declared.values.Value.{Value}
 use Rattle.bc_model.specs.declared.values.Value.TheVariants as value
 use Rattle.bc_nursery.specs.Objects.{Nursery}
+use Rattle.bc_nursery.specs.Entries.{Entries}
 use Rattle.bc_standing.specs.Standing.{birth_of, births, read, IsHome, StandsFor}
 use Rattle.bc_standing.proofs.Homes.{births-there, home_in}
 use Rattle.bc_standing.proofs.Reading.{ReadAs-at}
@@ -40,7 +41,7 @@ root_word r i =
     ap (λ (d : Word). get_or (root_words r) i d) (sym word_of_bits-nil) ∙ get_or-map word_of_bits r.words i 0
 
 -- its word is read as the value there
-pub read-slot : (s : Layout) (r : RootWords) (cs : List Nursery) (hs serials : List ℕ) (state : State) (p : Slot) → StandsAs s r cs hs serials state → IsRead (heap_memory s cs) state (slot_word r p) (slot_of state p)
+pub read-slot : {bs : List Entries} (s : Layout) (r : RootWords) (cs : List Nursery) (hs serials : List ℕ) (state : State) (p : Slot) → StandsAs (view_of s r cs bs) hs serials state → IsRead (heap_memory s cs) state (slot_word r p) (slot_of state p)
 read-slot s r cs hs serials state p h =
     let i = place_of state.width p in
     let here : get_or (root_words r) i word.Nil ≡ slot_word r p =

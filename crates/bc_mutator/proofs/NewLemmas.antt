@@ -11,7 +11,7 @@ use Rattle.std.specs.Option.{option_or}
 use Rattle.bc_classes.specs.Classes.{class_of}
 use Rattle.bc_cycle.specs.declared.heaps.Heap.{Heap}
 use Rattle.bc_whole_heap.specs.Closed.{chunk_of, buffer_of, IsCellOrYoung, IsRecorded, IsClosedHeap}
-use Rattle.bc_whole_heap.specs.Heaps.{end_of, heap_memory, root_words, no_chunk, young, object_in, AreApart, view_of}
+use Rattle.bc_whole_heap.specs.Heaps.{end_of, heap_memory, root_words, no_chunk, young, object_in, AreApart, view_of, HeapView}
 use Rattle.bc_whole_heap.specs.Running.{IsRunning, StandsAs}
 use Rattle.bc_whole_heap.proofs.ChunkLemmas.{object_in-at, object_in-none}
 use Rattle.bc_whole_heap.proofs.HeapLemmas.{memory-below, memory-above}
@@ -261,7 +261,7 @@ module _ (s : Layout) (r : RootWords) (cs ds : List Nursery) (bs : List Entries)
   ]
 
   -- the heap stands for the state with a new object
-  pub stands-new : (serials : List ℕ) (state : State) (p : Slot) → head.lane ≡ lane → head.serial ≡ get_or serials lane 0 + 1 → head.domain ≡ p.domain → head.fields ≤ 127 → StandsAs s r cs hs serials state → StandsAs s (with_root r p (Ref (record { 0 = made_at }))) ds hs (set serials lane (get_or serials lane 0 + 1)) (with_new state lane p head.fields)
+  pub stands-new : (serials : List ℕ) (state : State) (p : Slot) → head.lane ≡ lane → head.serial ≡ get_or serials lane 0 + 1 → head.domain ≡ p.domain → head.fields ≤ 127 → StandsAs (view_of s r cs bs) hs serials state → StandsAs (view_of s (with_root r p (Ref (record { 0 = made_at }))) ds bs) hs (set serials lane (get_or serials lane 0 + 1)) (with_new state lane p head.fields)
   stands-new serials state p by next domain few h =
       let m = heap_memory s cs in
       let made = state.made in
@@ -290,15 +290,15 @@ module _ (s : Layout) (r : RootWords) (cs ds : List Nursery) (bs : List Entries)
       }
 
 -- how many births a lane has had
-pub births-count : (s : Layout) (r : RootWords) (cs : List Nursery) (hs serials : List ℕ) (lane : ℕ) (state : State) → StandsAs s r cs hs serials state → get_or serials lane 0 ≡ length (made_by state.made lane)
-births-count s r cs hs serials lane state h = sym (ap (λ (xs : List ℕ). get_or xs lane 0) h.births) ∙ get_or-map length state.made lane []
+pub births-count : {h : HeapView} (hs serials : List ℕ) (lane : ℕ) (state : State) → StandsAs h hs serials state → get_or serials lane 0 ≡ length (made_by state.made lane)
+births-count hs serials lane state h = sym (ap (λ (xs : List ℕ). get_or xs lane 0) h.births) ∙ get_or-map length state.made lane []
 
 -- and none is later
-pub none-later : (s : Layout) (r : RootWords) (cs : List Nursery) (hs serials : List ℕ) (state : State) → StandsAs s r cs hs serials state → (lane : ℕ) → NoneLater s cs lane (get_or serials lane 0)
-none-later s r cs hs serials state h lane a b e same =
-    let born = (h.born a b e).serial in
+pub none-later : (h : HeapView) (hs serials : List ℕ) (state : State) → StandsAs h hs serials state → (lane : ℕ) → NoneLater h.space h.chunks lane (get_or serials lane 0)
+none-later h hs serials state st lane a b e same =
+    let born = (st.born a b e).serial in
     let here : length (made_by state.made b.lane) ≡ length (made_by state.made lane) = ap (λ (l : ℕ). length (made_by state.made l)) same in
-    let count = births-count s r cs hs serials lane state h in
+    let count = births-count hs serials lane state st in
     omega arith
 
 -- so a new object is done
@@ -306,8 +306,8 @@ pub done-new : (h : Heap) (chunks : Vec Nursery) (roots : RootWords) (hs : List 
 done-new h chunks roots hs lane serial n p object ready domain slot few held room is at written =
     subst (λ (r : RootWords). DidOperation h (record h { roots = r; chunks = chunks }) hs lane serial (serial + 1) (New p n) (reply.Obj (record { lane = lane; serial = serial + 1 }))) (sym root_is) (record {
       step = λ serials state means e. (
-        ap (λ (k : ℕ). let b : Birth = record { lane = lane; serial = k + 1 } in reply.Obj b) (sym (births-count h.space h.roots h.chunks.items hs serials lane state means) ∙ e),
-        subst (λ (k : ℕ). StandsAs h.space root chunks.items hs (set serials lane (k + 1)) (with_new state lane p n)) e
+        ap (λ (k : ℕ). let b : Birth = record { lane = lane; serial = k + 1 } in reply.Obj b) (sym (births-count hs serials lane state means) ∙ e),
+        subst (λ (k : ℕ). StandsAs (view_of h.space root chunks.items h.buffers.items) hs (set serials lane (k + 1)) (with_new state lane p n)) e
             (stands-new h.space h.roots h.chunks.items chunks.items h.buffers.items hs lane head makes serials state p refl (ap (λ (k : ℕ). k + 1) (sym e)) refl few means),
       );
       running = λ none.

@@ -101,7 +101,7 @@ root_words-set r p w =
     ∙ ap (λ (x : Word). set (root_words r) (root_place r p.domain p.slot) x) (word_of_bits-word_bits w)
 
 -- the heap stands for the state with the value in the slot
-pub stands-root : (s : Layout) (r : RootWords) (cs : List Nursery) (hs serials : List ℕ) (state : State) (p : Slot) (w : Word) (v : Value) → StandsAs s r cs hs serials state → FitsWord w → IsRead (heap_memory s cs) state w v → StandsAs s (with_root r p w) cs hs serials (with_slot state p v)
+pub stands-root : {bs : List Entries} (s : Layout) (r : RootWords) (cs : List Nursery) (hs serials : List ℕ) (state : State) (p : Slot) (w : Word) (v : Value) → StandsAs (view_of s r cs bs) hs serials state → FitsWord w → IsRead (heap_memory s cs) state w v → StandsAs (view_of s (with_root r p w) cs bs) hs serials (with_slot state p v)
 stands-root s r cs hs serials state p w v h fits read = record {
   consistent = IsState-with_slot state p v h.consistent (value-held m (root_words r) state w v h.stands h.born fits read);
   stands = subst (λ (ws : List Word). Stands m ws (set state.slots (place_of state.width p) v) state.made) (sym words)
@@ -157,8 +157,8 @@ done-root h r hs lane serial p w op reply ready is within held own fits effect r
   step = λ serials state means e.
       let k = effect serials state means in (
         ap (λ (x : State × Reply). x.1) k.2,
-        subst (λ (xs : List ℕ). StandsAs h.space (with_root h.roots p w) h.chunks.items hs xs (act state lane op).0) (sym (same_serials serials lane serial e))
-            (subst (λ (x : State). StandsAs h.space (with_root h.roots p w) h.chunks.items hs serials x) (sym (ap (λ (x : State × Reply). x.0) k.2))
+        subst (λ (xs : List ℕ). StandsAs (view_of h.space (with_root h.roots p w) h.chunks.items h.buffers.items) hs xs (act state lane op).0) (sym (same_serials serials lane serial e))
+            (subst (λ (x : State). StandsAs (view_of h.space (with_root h.roots p w) h.chunks.items h.buffers.items) hs serials x) (sym (ap (λ (x : State × Reply). x.0) k.2))
             (stands-root h.space h.roots h.chunks.items hs serials state p w k.0 means fits k.1)),
       );
   running = λ none. running-root h.space h.roots h.chunks.items h.buffers.items hs p w ready.running within

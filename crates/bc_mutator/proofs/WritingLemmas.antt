@@ -6,7 +6,7 @@ use Rattle.std.specs.List.{find}
 use Rattle.std.specs.Vec.{with_item}
 use Rattle.bc_cycle.specs.declared.heaps.Heap.{Heap}
 use Rattle.bc_whole_heap.specs.Closed.{no_buffer, buffer_of}
-use Rattle.bc_whole_heap.specs.Heaps.{end_of, heap_memory, root_words}
+use Rattle.bc_whole_heap.specs.Heaps.{end_of, heap_memory, root_words, view_of}
 use Rattle.bc_whole_heap.specs.Running.{StandsAs}
 use Rattle.bc_memory.specs.Memory.{Cell, Memory, with_cell}
 use Rattle.bc_memory.specs.Memory as memory
@@ -193,7 +193,7 @@ births-same : (made : List (List Object)) (b : Birth) (o : Object) → map lengt
 births-same made b o =
     map-set_same length made b.lane (set (made_by made b.lane) (b.serial - 1) o) [] (length-set (made_by made b.lane) (b.serial - 1) o)
 
-pub stands-field : (s t : Layout) (r : RootWords) (cs ds : List Nursery) (hs serials : List ℕ) (state : State) (a i : ℕ) (c : Cell) (w : Word) (v : Value) → StandsAs s r cs hs serials state → heap_memory t ds ≡ with_cell (heap_memory s cs) a (Some (memory.with_field c i w)) → heap_memory s cs a ≡ Some c → length ds ≡ length cs → Reached state.slots state.made (birth_of c.head) → FitsWord w → IsRead (heap_memory s cs) state w v → StandsAs t r ds hs serials (with_field state (birth_of c.head) i v)
+pub stands-field : {bs es : List Entries} (s t : Layout) (r : RootWords) (cs ds : List Nursery) (hs serials : List ℕ) (state : State) (a i : ℕ) (c : Cell) (w : Word) (v : Value) → StandsAs (view_of s r cs bs) hs serials state → heap_memory t ds ≡ with_cell (heap_memory s cs) a (Some (memory.with_field c i w)) → heap_memory s cs a ≡ Some c → length ds ≡ length cs → Reached state.slots state.made (birth_of c.head) → FitsWord w → IsRead (heap_memory s cs) state w v → StandsAs (view_of t r ds es) hs serials (with_field state (birth_of c.head) i v)
 stands-field s t r cs ds hs serials state a i c w v h is there long reached fits read =
     let b = birth_of c.head in
     let m = heap_memory s cs in
@@ -227,7 +227,7 @@ done-field h k hs lane serial target at index word op reply can wrote fits effec
             ap (λ (x : State × Reply). x.1) f.3,
             subst (λ (xs : List ℕ). Means k hs xs (act state lane op).0) (sym (same_serials serials lane serial e))
                 (subst (λ (x : State). Means k hs serials x) (sym (ap (λ (x : State × Reply). x.0) f.3))
-                (subst (λ (r : RootWords). StandsAs k.space r k.chunks.items hs serials (with_field state (birth_of (cell_of h.space (own_chunk h lane) at.0).head) index f.0)) (sym (written-roots h k lane at index word wrote))
+                (subst (λ (r : RootWords). StandsAs (view_of k.space r k.chunks.items k.buffers.items) hs serials (with_field state (birth_of (cell_of h.space (own_chunk h lane) at.0).head) index f.0)) (sym (written-roots h k lane at index word wrote))
                 (stands-field h.space k.space h.roots h.chunks.items k.chunks.items hs serials state at.0 index (cell_of h.space (own_chunk h lane) at.0) word f.0 means is there leaves.lists.0 f.2 fits f.1))),
           );
       running = λ none. written-runs h k hs lane target at index word can wrote;

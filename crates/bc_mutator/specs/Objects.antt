@@ -31,7 +31,7 @@ abbrev pub Runs : Heap → List ℕ → Type 0
 Runs h holders = IsRunning (heap_view h) holders
 
 abbrev pub Means : Heap → List ℕ → List ℕ → State → Type 0
-Means h holders serials state = StandsAs h.space h.roots h.chunks.items holders serials state
+Means h holders serials state = StandsAs (heap_view h) holders serials state
 
 -- the chunk of a lane, and the heap as a memory
 abbrev pub own_chunk : Heap → ℕ → Nursery

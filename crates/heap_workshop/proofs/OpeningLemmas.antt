@@ -6,7 +6,7 @@ use Rattle.bc_cycle.proofs.OpeningLemmas.{chunks-long, supers-long, no_object, o
 use Rattle.bc_failsafe.proofs.OpeningLemmas.{nothing}
 use Rattle.bc_whole_heap.specs.Heaps.{heap_memory, HeapView}
 use Rattle.bc_standing.proofs.Homes.{births-cell}
-use Rattle.heap_workshop.specs.Workshops.{Bench, IsSound, AreSizes, new_workshop, setup_of}
+use Rattle.heap_workshop.specs.Workshops.{IsSound, AreSizes, new_workshop, setup_of, WorkshopView, workshop_of}
 use Rattle.heap_workshop.specs.declared.workshops.Sizes.{Sizes}
 
 opening-sound : (z : Sizes) → AreSizes z → IsSound (new_workshop z)
@@ -24,16 +24,13 @@ opening-sound z range =
     }
 
 -- the parts that it is made of
-pub record IsOpened (z : Sizes) (w : Bench) : Type 0 where
+pub record IsOpened (z : Sizes) (w : WorkshopView) : Type 0 where
   pub sound : IsSound w
   pub is : w ≡ new_workshop z
 
-abbrev bench_of : HeapView → List ℕ → List ℕ → Bench
-bench_of h hs ns = record { space = h.space; roots = h.roots; chunks = h.chunks; buffers = h.buffers; holders = hs; serials = ns }
-
-pub opened : (z : Sizes) (h : HeapView) (hs ns : List ℕ) → AreSizes z → h ≡ new_heap (setup_of z) → hs ≡ (new_workshop z).holders → ns ≡ (new_workshop z).serials → IsOpened z (bench_of h hs ns)
+pub opened : (z : Sizes) (h : HeapView) (hs ns : List ℕ) → AreSizes z → h ≡ new_heap (setup_of z) → hs ≡ (new_workshop z).holders → ns ≡ (new_workshop z).serials → IsOpened z (workshop_of h hs ns)
 opened z h hs ns range is_h is_hs is_ns =
-    subst (λ (x : HeapView). IsOpened z (bench_of x hs ns)) (sym is_h)
-    (subst (λ (x : List ℕ). IsOpened z (bench_of (new_heap (setup_of z)) x ns)) (sym is_hs)
-    (subst (λ (x : List ℕ). IsOpened z (bench_of (new_heap (setup_of z)) (new_workshop z).holders x)) (sym is_ns)
+    subst (λ (x : HeapView). IsOpened z (workshop_of x hs ns)) (sym is_h)
+    (subst (λ (x : List ℕ). IsOpened z (workshop_of (new_heap (setup_of z)) x ns)) (sym is_hs)
+    (subst (λ (x : List ℕ). IsOpened z (workshop_of (new_heap (setup_of z)) (new_workshop z).holders x)) (sym is_ns)
     (record { sound = opening-sound z range; is = refl })))

@@ -5,7 +5,8 @@ use Rattle.bc_bits.specs.Bits.{has}
 use Rattle.bc_bits.specs.Counting.{count_below}
 use Rattle.bc_cycle.specs.Openings.{new_heap}
 use Rattle.bc_cycle.specs.declared.heaps.Heap.{Heap}
-use Rattle.bc_whole_heap.specs.Heaps.{HasFrames, heap_memory, HeapView, view_of}
+use Rattle.bc_cycle.specs.Emptying.{BringsNoBirth}
+use Rattle.bc_whole_heap.specs.Heaps.{HasFrames, heap_memory, HeapView}
 use Rattle.bc_whole_heap.specs.Running.{IsRunning, StandsAs}
 use Rattle.bc_model.specs.State.{State, numbers_below}
 use Rattle.bc_model.specs.declared.operations.Op.{Op}
@@ -20,37 +21,31 @@ use Rattle.bc_superpages.specs.RootWords.{RootWords}
 use Rattle.heap_workshop.specs.declared.workshops.Sizes.{Sizes}
 
 -- the heap, the lane that holds each domain, and the number of births of each lane
-pub record Bench : Type 0 where
-  pub space : Layout
-  pub roots : RootWords
-  pub chunks : List Nursery
-  pub buffers : List Entries
+pub record WorkshopView : Type 0 where
+  pub heap : HeapView
   pub holders : List ℕ
   pub serials : List ℕ
 
--- the workshop of a heap, the heap alone, and what it stands for
-abbrev pub bench_of : Heap → List ℕ → List ℕ → Bench
-bench_of h holders serials = record { space = h.space; roots = h.roots; chunks = h.chunks.items; buffers = h.buffers.items; holders = holders; serials = serials }
+abbrev pub workshop_of : HeapView → List ℕ → List ℕ → WorkshopView
+workshop_of heap holders serials = record { heap = heap; holders = holders; serials = serials }
 
-abbrev pub parts_of : Bench → HeapView
-parts_of w = view_of w.space w.roots w.chunks w.buffers
-
-abbrev pub Stands : Bench → State → Type 0
-Stands w state = StandsAs w.space w.roots w.chunks w.holders w.serials state
+-- the workshop stands for the state
+abbrev pub WorkshopStands : WorkshopView → State → Type 0
+WorkshopStands w state = StandsAs w.heap w.holders w.serials state
 
 -- what is true between operations and collections: the heap is running, no object of it has a later birth of a lane than the
 -- lane's last one, and there is a frame for every page
-pub record IsSound (w : Bench) : Type 0 where
-  pub running : IsRunning (view_of w.space w.roots w.chunks w.buffers) w.holders
-  pub later : (l : ℕ) → l < length w.serials → NoneLater w.space w.chunks l (slice_index w.serials l)
-  pub frames : HasFrames w.space
-  pub lanes : length w.chunks ≡ length w.serials
+pub record IsSound (w : WorkshopView) : Type 0 where
+  pub running : IsRunning w.heap w.holders
+  pub later : (l : ℕ) → l < length w.serials → NoneLater w.heap.space w.heap.chunks l (slice_index w.serials l)
+  pub frames : HasFrames w.heap.space
+  pub lanes : length w.heap.chunks ≡ length w.serials
   pub few : length w.serials ≤ 16
 
 -- there is such a lane, and a heap of these root slots has the slots, fields and numbers that the operation names
-pub record IsInRange (w : Bench) (lane : ℕ) (op : Op) : Type 0 where
+pub record IsInRange (w : WorkshopView) (lane : ℕ) (op : Op) : Type 0 where
   pub known : lane < length w.serials
-  pub fits : IsOpOf w.roots op
+  pub fits : IsOpOf w.heap.roots op
 
 -- each size is in its range
 pub record AreSizes (z : Sizes) : Type 0 where
@@ -74,24 +69,15 @@ setup_of z = record {
 }
 
 -- a workshop that opens: no object, every slot nil, a frame for every page, and domain d is held by lane d % lanes
-abbrev pub new_workshop : Sizes → Bench
-new_workshop z =
-    let h = new_heap (setup_of z) in
-    record {
-      space = h.space;
-      roots = h.roots;
-      chunks = h.chunks;
-      buffers = h.buffers;
-      holders = map (λ d. d % z.lanes) (numbers_below z.domains);
-      serials = replicate z.lanes 0;
-    }
+abbrev pub new_workshop : Sizes → WorkshopView
+new_workshop z = workshop_of (new_heap (setup_of z)) (map (λ d. d % z.lanes) (numbers_below z.domains)) (replicate z.lanes 0)
 
 -- what a collection leaves: a heap that is running, in which no birth comes from nowhere, and as many frames and lanes
-pub record Collects (s : Layout) (r : RootWords) (cs : List Nursery) (t : Layout) (q : RootWords) (ds : List Nursery) (es : List Entries) (hs : List ℕ) : Type 0 where
-  pub running : IsRunning (view_of t q ds es) hs
-  pub born : (x : ℕ) → (b : Birth) → births (heap_memory t ds) x ≡ Some b → (a : ℕ) × (births (heap_memory s cs) a ≡ Some b)
-  pub frames : HasFrames s → HasFrames t
-  pub lanes : length ds ≡ length cs
+pub record Collects (h k : HeapView) (holders : List ℕ) : Type 0 where
+  pub running : IsRunning k holders
+  pub born : BringsNoBirth h k
+  pub frames : HasFrames h.space → HasFrames k.space
+  pub lanes : length k.chunks ≡ length h.chunks
 
 -- how many superpages are in use
 abbrev pub used_count : Layout → ℕ

@@ -4,7 +4,8 @@ ghost use Rattle.bc_model.specs.Step.{step};
 ghost use Rattle.bc_whole_heap.specs.Closed.{buffer_of, chunk_of};
 ghost use Rattle.bc_mutator.specs.Operations.{IsOpOf, NeedsEntry, WantsMore};
 ghost use Rattle.bc_nursery.specs.Objects.{left_of};
-ghost use Rattle.heap_workshop.specs.Workshops.{bench_of, IsSound, Stands};
+ghost use Rattle.heap_workshop.specs.Workshops.{IsSound, workshop_of, WorkshopStands};
+ghost use Rattle.bc_cycle.specs.Emptying.{heap_view};
 
 use bc_cycle::Heap;
 use bc_model::{Op, Reply, Slot};
@@ -40,13 +41,13 @@ pub(crate) fn attempt(
     lane: u32,
     op: &Op,
 ) -> Result<Reply, Stop>
-    requires sound { IsSound (bench_of heap.old holders.now serials.old) }
+    requires sound { IsSound (workshop_of (heap_view heap.old) holders.now serials.old) }
     requires lane { lane < length serials.old }
     requires op { IsOpOf heap.old.roots op.now }
     requires serial { slice_index serials.old lane + 1 < 2 ^ 32 }
-    ensures sound { IsSound (bench_of heap.new holders.now serials.new) }
-    ensures step { IfOk result (λ reply. (state : State) → Stands (bench_of heap.old holders.now serials.old) state
-        → ((step state lane op.now).1 ≡ reply) × Stands (bench_of heap.new holders.now serials.new) (step state lane op.now).0) }
+    ensures sound { IsSound (workshop_of (heap_view heap.new) holders.now serials.new) }
+    ensures step { IfOk result (λ reply. (state : State) → WorkshopStands (workshop_of (heap_view heap.old) holders.now serials.old) state
+        → ((step state lane op.now).1 ≡ reply) × WorkshopStands (workshop_of (heap_view heap.new) holders.now serials.new) (step state lane op.now).0) }
     ensures same { OnErr result ((heap.new ≡ heap.old) × (serials.new ≡ serials.old)) }
     ensures nursery { IsErrOf result Stop.NurseryFull ↔ WantsMore holders.now lane (left_of (chunk_of heap.old.chunks.items lane)) op.now }
     ensures buffer { IsErrOf result Stop.BufferFull → NeedsEntry holders.now lane heap.old.space heap.old.roots (chunk_of heap.old.chunks.items lane) (buffer_of heap.old.buffers.items lane) op.now }

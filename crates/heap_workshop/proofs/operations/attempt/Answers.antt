@@ -1,14 +1,14 @@
 use Rattle.std.proofs.Common.{refl}
 use Rattle.std.proofs.lemmas.Result.{IfOk-weaker}
-use Rattle.heap_workshop.specs.Workshops.{bench_of}
+use Rattle.heap_workshop.specs.Workshops.{workshop_of}
 use Rattle.heap_workshop.proofs.SoundLemmas.{sound-operated}
 use Rattle.heap_workshop.proofs.operations.attempt.Goals as goal
+use Rattle.bc_cycle.specs.Emptying.{heap_view}
 
 pub returns-clause-sound : goal.returns-clause-sound
 returns-clause-sound c =
     let e = c.operate.ensures in
-    let new = c.operate.new.heap in
-    sound-operated (bench_of c.args.heap.now c.args.holders.now c.args.serials.now) c.args.lane new.space new.roots new.chunks.items new.buffers.items c.args.holders.now c.operate.new.serial
+    sound-operated (workshop_of (heap_view c.args.heap.now) c.args.holders.now c.args.serials.now) c.args.lane (heap_view c.operate.new.heap) c.args.holders.now c.operate.new.serial
     refl c.requires.lane c.requires.sound
     (record { running = e.running; later = e.later.0; others = e.later.1; space = e.space; long = e.lists.0 })
 

@@ -8,5 +8,5 @@ use Rattle.heap_workshop.proofs.workshops.Workshop.objects_in_cells.Given as goa
 
 abbrev pub invariant-loop-superpage : goal.invariant-loop-superpage
 invariant-loop-superpage l =
-    (l.objects ≡ sum_by (λ q. count_below (has (set_of l.self.space.cells q)) 1024) (numbers_below l.superpage))
+    (l.objects ≡ sum_by (λ q. count_below (has (set_of l.self.heap.space.cells q)) 1024) (numbers_below l.superpage))
     × (l.objects ≤ 1024 * l.superpage)
