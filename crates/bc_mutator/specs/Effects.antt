@@ -20,7 +20,7 @@ use Rattle.bc_superpages.specs.declared.headers.PageState.{PageState}
 use Rattle.bc_superpages.specs.declared.headers.PageState.TheVariants.{Remembered}
 use Rattle.bc_superpages.specs.Layout.{Layout, state_at, with_state}
 use Rattle.bc_superpages.specs.Memory as cells
-use Rattle.bc_superpages.specs.RootWords.{RootWords, root_place}
+use Rattle.bc_superpages.specs.RootWords.{RootWords, root_place, with_note}
 use Rattle.bc_word.specs.Addresses.{page_of}
 use Rattle.bc_word.specs.Words.{word_bits}
 use Rattle.bc_word.specs.declared.addresses.Address.{Address}
@@ -29,9 +29,10 @@ use Rattle.bc_word.specs.declared.words.Word.TheVariants.{Ref}
 use Rattle.bc_mutator.specs.Objects.{Runs, Means, IsRead, own_chunk, memory_of}
 use Rattle.bc_mutator.specs.Operations.{NoneLater, RefersToField, StoresYoung}
 
--- the root slots with another word in one of them
+-- the root slots with another word in one of them, which is noted
 abbrev pub with_root : RootWords → Slot → Word → RootWords
-with_root r p word = record r { words = slice_set r.words (root_place r p.domain p.slot) (word_bits word) }
+with_root r p word =
+    record r { words = slice_set r.words (root_place r p.domain p.slot) (word_bits word); noted = with_note r.noted (root_place r p.domain p.slot) }
 
 -- an operation that changes nothing is answered this
 abbrev pub Answers : Heap → List ℕ → ℕ → Op → Reply → Type 0
@@ -42,7 +43,7 @@ Answers h holders lane op reply =
 pub record Leaves (lane : ℕ) (old new : Heap) : Type 0 where
   pub others : (l : ℕ) → l ≢ lane → (own_chunk new l ≡ own_chunk old l) × (buffer_of new.buffers.items l ≡ buffer_of old.buffers.items l)
   pub space : new.space ≡ record old.space { states = new.space.states; pages = new.space.pages }
-  pub roots : new.roots ≡ record old.roots { words = new.roots.words }
+  pub roots : new.roots ≡ record old.roots { words = new.roots.words; noted = new.roots.noted }
   pub chunk : own_chunk new lane ≡ record (own_chunk old lane) { objects = (own_chunk new lane).objects }
   pub lists : (length new.chunks.items ≡ length old.chunks.items) × (length new.buffers.items ≡ length old.buffers.items) × (new.turns ≡ old.turns)
   pub capacity : (buffer_of new.buffers.items lane).capacity ≡ (buffer_of old.buffers.items lane).capacity
