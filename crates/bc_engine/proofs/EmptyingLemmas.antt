@@ -3,7 +3,7 @@ use Rattle.std.proofs.Common.{◌≡◌, ℕ, List, slice_index, length, map, sy
 use Rattle.std.proofs.Math.ListN.{get_or-map}
 use Rattle.std.proofs.lemmas.List.{length-map}
 use Rattle.bc_bits.specs.Bits.{has}
-use Rattle.bc_cycle.specs.Emptying.{IsEmptied, IsAsBefore, bare_nursery}
+use Rattle.bc_cycle.specs.Emptying.{IsEmptied, IsAsBefore}
 use Rattle.bc_cycle.proofs.ChunkLists.{chunk-emptied}
 use Rattle.bc_failsafe.specs.Packing.{NeedOfHeap}
 use Rattle.bc_whole_heap.specs.Closed.{chunk_of, buffer_of, no_buffer}
@@ -14,7 +14,7 @@ use Rattle.bc_memory.specs.Memory.{Memory}
 use Rattle.bc_model.specs.State.{State}
 use Rattle.bc_model.specs.declared.traces.Setup.{Setup}
 use Rattle.bc_nursery.specs.Entries.{Entries, without_entries}
-use Rattle.bc_nursery.specs.Objects.{Nursery, emptied}
+use Rattle.bc_nursery.specs.Objects.{Nursery, bare_nursery, emptied}
 use Rattle.bc_standing.specs.Standing.{StandsFor, AllBorn}
 use Rattle.bc_promotion.specs.Promises.{HasDomainsBelow}
 use Rattle.bc_superpages.specs.Layout.{Layout, set_of}
