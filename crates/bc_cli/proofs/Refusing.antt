@@ -1,22 +1,22 @@
 -- What a run tells that ends before its replay: the status is that of the reader, and nothing is written.
 use Rattle.std.proofs.Common.{◌≡◌, ℕ, inl, inr, sym, subst, ◌∙◌}
 use Rattle.bc_trace.specs.declared.fault.Cause.{Cause}
-use Rattle.bc_cli.specs.Outcomes.{IfBadTrace, IfStatusOutOfHeap, IsRefusal, IsOrNoMemory}
+use Rattle.bc_cli.specs.Outcomes.{IfBadTrace, IfStatusOutOfHeap, IsRefusedStatus, IsOrNoMemory}
 use Rattle.bc_cli.specs.declared.status.Status.{Status}
 use Rattle.bc_cli.specs.declared.status.Status.TheVariants.{Done, BadWords, BadTrace, TooLong, ReadFault, WriteFault, OutOfHeap, NoMemory}
 
 -- a status that is no refusal
-pub not_refused : {X : Type 0} (s told wanted : Status) → IsRefusal s → told ≡ s → (IsRefusal wanted → ⊥) → told ≡ wanted → X
-not_refused s told wanted h is no e = absurd (no (subst IsRefusal (sym is ∙ e) h))
+pub not_refused : {X : Type 0} (s told wanted : Status) → IsRefusedStatus s → told ≡ s → (IsRefusedStatus wanted → ⊥) → told ≡ wanted → X
+not_refused s told wanted h is no e = absurd (no (subst IsRefusedStatus (sym is ∙ e) h))
 
-pub no_need : (s told : Status) (P : ℕ → Type 0) → IsRefusal s → told ≡ s → IfStatusOutOfHeap told P
+pub no_need : (s told : Status) (P : ℕ → Type 0) → IsRefusedStatus s → told ≡ s → IfStatusOutOfHeap told P
 no_need s Done P h is = tt
 no_need s BadWords P h is = tt
 no_need s (BadTrace line cause) P h is = tt
 no_need s TooLong P h is = tt
 no_need s ReadFault P h is = tt
 no_need s WriteFault P h is = tt
-no_need s (OutOfHeap n) P h is = absurd (subst IsRefusal (sym is) h)
+no_need s (OutOfHeap n) P h is = absurd (subst IsRefusedStatus (sym is) h)
 no_need s NoMemory P h is = tt
 
 -- a fault's line and cause, and that nothing is written

@@ -75,12 +75,12 @@ IfHeapless NoMemory P = P
 IfHeapless _ P = Unit {0}
 
 -- how a run can end that has read no trace
-abbrev pub IsRefusal : Status → Type 0
-IsRefusal (BadTrace line cause) = Unit {0}
-IsRefusal TooLong = Unit {0}
-IsRefusal ReadFault = Unit {0}
-IsRefusal NoMemory = Unit {0}
-IsRefusal _ = ⊥
+abbrev pub IsRefusedStatus : Status → Type 0
+IsRefusedStatus (BadTrace line cause) = Unit {0}
+IsRefusedStatus TooLong = Unit {0}
+IsRefusedStatus ReadFault = Unit {0}
+IsRefusedStatus NoMemory = Unit {0}
+IsRefusedStatus _ = ⊥
 
 -- how a run can end that has read a trace
 abbrev pub IsEnding : Status → Type 0

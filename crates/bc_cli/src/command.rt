@@ -1,3 +1,5 @@
+//! The words of the command line, read as a command.
+
 ghost use Rattle.std.specs.Prelude.{IfNone, OnSome, map};
 ghost use Rattle.bc_cli.specs.Words.{IsCommand};
 

@@ -7,7 +7,7 @@ ghost use Rattle.bc_model.specs.Lists.{TraceLists};
 ghost use Rattle.bc_trace.specs.Faults.{Fault};
 ghost use Rattle.bc_trace.specs.Lines.{Spells};
 ghost use Rattle.bc_trace.specs.declared.fault.TraceFault.{TraceFault};
-ghost use Rattle.bc_cli.specs.Outcomes.{ReadAsTrace, Faulty, IfBadTrace, IsRefusal, IsOrNoMemory, longest_trace};
+ghost use Rattle.bc_cli.specs.Outcomes.{ReadAsTrace, Faulty, IfBadTrace, IsRefusedStatus, IsOrNoMemory, longest_trace};
 
 use crate::status::Status;
 use bc_io::{Source, read_all};
@@ -23,7 +23,7 @@ pub(crate) fn read_trace<S: Source>(alloc: Global, source: &mut S) -> Result<Tra
     ensures found { IfOk result (ReadAsTrace (S.left source.old) (S.left source.new)) }
 
     // No refusal comes without its cause.
-    ensures refusal { IfErr result IsRefusal }
+    ensures refusal { IfErr result IsRefusedStatus }
     ensures bad_trace { IfErr result (λ status.
         IfBadTrace status (Faulty (S.left source.old) (S.left source.new))) }
     ensures too_long { result ≡ Err Status.TooLong →

@@ -24,10 +24,10 @@ use Rattle.bc_word.specs.declared.addresses.Address.{Address}
 use Rattle.bc_word.specs.declared.heads.Head.{Head}
 use Rattle.bc_word.specs.declared.words.Word.{Word}
 use Rattle.bc_word.specs.declared.words.Word.TheVariants.{Nil, Ref}
-use Rattle.bc_mutator.specs.Effects.{RefersBehind, RefersBelow, WritesCell, WritesField, WroteCell, Wrote, with_entry}
+use Rattle.bc_mutator.specs.Effects.{RefersBehind, RefersBelow, WritesCell, StoresWord, WroteCell, Wrote, with_entry}
 use Rattle.bc_mutator.specs.Objects.{LieBehind, IsOfLane, IsOwn, cell_of, own_chunk, slot_word}
 use Rattle.bc_mutator.specs.Operations.{NeedsEntry, setup_of}
-use Rattle.bc_mutator.specs.Parts.{CanStore, HasCell, HasField, HasWord, IsCellOrBehind, IsPartOf, IsSpaceOf, MayHold, Sees, Serves, ServesField}
+use Rattle.bc_mutator.specs.Parts.{CanStore, HasAllocated, HasField, HasWord, IsCellOrBehind, IsPartOf, IsSpaceOf, MayHold, Sees, Serves, ServesField}
 use Rattle.bc_mutator.proofs.LayoutLemmas.{IsLayout-remembered}
 use Rattle.bc_mutator.proofs.MeaningLemmas.{own-slot}
 use Rattle.bc_mutator.proofs.ObjectLemmas.{cell_of-above, cell_of-below, one_address, there-above, there-below}
@@ -35,7 +35,7 @@ use Rattle.bc_mutator.proofs.StateLemmas.{remembers-home}
 use Rattle.bc_mutator.proofs.WritingLemmas.{CanWrite}
 
 -- an object below the end of the superpages is a cell, with its head
-pub cell-there : {cells : Layout → Type 0} {chunk : Nursery} {s : Layout} (a : ℕ) → IsSpaceOf cells chunk s → IsCellOrYoung s chunk a → a < end_of s → HasCell s a
+pub cell-there : {cells : Layout → Type 0} {chunk : Nursery} {s : Layout} (a : ℕ) → IsSpaceOf cells chunk s → IsCellOrYoung s chunk a → a < end_of s → HasAllocated s a
 cell-there {chunk = chunk} {s = s} a is there lt = record { layout = is.layout; allocated = there-below s chunk a is.behind there lt }
 
 pub field-there : {cells : Layout → Type 0} {chunk : Nursery} {s : Layout} (a index : ℕ) → IsSpaceOf cells chunk s → IsCellOrYoung s chunk a → index < (cell_of s chunk a).head.fields → a < end_of s → HasField s a index
@@ -125,7 +125,7 @@ slot-sees {chunk = chunk} {hs = hs} {lane = lane} {h = h} p word sees slot held 
 }
 
 -- what was written belongs to the whole heap with it written
-pub part-wrote : (old new : Layout → Type 0) (slots : RootWords → Type 0) (c d : Nursery) (b e : Entries) (lane : ℕ) (h : HeapView) (t : Layout) (at : Address) (index : ℕ) (word : Word) → IsPartOf old slots c b lane h → lane < length h.chunks → lane < length h.buffers → new t → WritesField h.space t c d b e at index word
+pub part-wrote : (old new : Layout → Type 0) (slots : RootWords → Type 0) (c d : Nursery) (b e : Entries) (lane : ℕ) (h : HeapView) (t : Layout) (at : Address) (index : ℕ) (word : Word) → IsPartOf old slots c b lane h → lane < length h.chunks → lane < length h.buffers → new t → StoresWord h.space t c d b e at index word
     → (k : HeapView) × IsPartOf new slots d e lane k × Wrote h k lane at index word
 part-wrote old new slots c d b e lane h t at index word part chunk_in buffer_in shown (inl w) =
     let after : buffer_of (set h.buffers lane e) lane ≡ e = get_or-set_same h.buffers lane e no_buffer buffer_in in (

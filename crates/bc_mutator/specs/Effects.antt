@@ -201,8 +201,8 @@ pub record WritesYoung (s t : Layout) (c d : Nursery) (b e : Entries) (at : Addr
   pub space : t ≡ s
   pub buffer : e ≡ b
 
-abbrev pub WritesField : Layout → Layout → Nursery → Nursery → Entries → Entries → Address → ℕ → Word → Type 0
-WritesField s t c d b e at index word = WritesCell s t c d b e at index word ⊎ WritesYoung s t c d b e at index word
+abbrev pub StoresWord : Layout → Layout → Nursery → Nursery → Entries → Entries → Address → ℕ → Word → Type 0
+StoresWord s t c d b e at index word = WritesCell s t c d b e at index word ⊎ WritesYoung s t c d b e at index word
 
 -- the same of a whole heap
 pub record WroteMature (old new : HeapView) (lane : ℕ) (at : Address) (index : ℕ) (word : Word) : Type 0 where

@@ -22,7 +22,7 @@ use Rattle.bc_mutator.specs.Objects.{LieBehind, IsOwn, MayOperate, cell_of, own_
 use Rattle.bc_mutator.specs.Operations.{IsOpOf, setup_of}
 
 -- an allocated cell of the space, and a field of it
-pub record HasCell (s : Layout) (cell : ℕ) : Type 0 where
+pub record HasAllocated (s : Layout) (cell : ℕ) : Type 0 where
   pub layout : IsLayout s
   pub allocated : IsAllocated s cell
 
