@@ -1,2 +1,4 @@
+-- A set of small numbers as a list of words of 64 bits
 pub mod Bits
+-- How many numbers below a bound pass a test, and whether one does.
 pub mod Counting

@@ -1,1 +1,2 @@
+-- What the crates above need of classes, on plain numbers.
 pub mod ClassLemmas

@@ -1,14 +1,17 @@
 -- What a source told, and what was read of it.
-use Rattle.std.proofs.Common.{◌≡◌, ℕ, ◌<◌, ◌≤◌, List, Option, None, Some, IfSome, length, refl, sym, ap, subst, inl, inr, arith}
+use Rattle.std.proofs.Common.{◌≡◌, ℕ, ◌+◌, ◌*◌, ◌<◌, ◌≤◌, List, [], ◌++◌, append-nil, ◌∙◌, Option, None, Some, IfSome, length, refl, sym, ap, subst, inl, inr, arith}
 use Rattle.bc_io.specs.declared.reading.ReadAll.{ReadAll}
 use Rattle.bc_io.specs.declared.reading.ReadAll.TheVariants as reads
+use Rattle.bc_model.specs.Lists.{TraceLists}
+use Rattle.bc_model.specs.Run.{all_ops_of}
 use Rattle.bc_trace.specs.Answers.{IsFaultOrMemory}
 use Rattle.bc_trace.specs.Faults.{Fault}
 use Rattle.bc_trace.specs.declared.fault.ReadTrace.{ReadTrace}
 use Rattle.bc_trace.specs.declared.fault.ReadTrace.TheVariants as answers
 use Rattle.bc_trace.specs.declared.fault.TraceFault.{TraceFault}
-use Rattle.bc_cli.specs.Outcomes.{MayGive, IsOrNoMemory, longest_trace}
+use Rattle.bc_cli.specs.Outcomes.{MayGive, IsOrNoMemory, ReadWhole, ReadAsTrace, longest_trace}
 use Rattle.bc_cli.specs.Statuses.{refusal_of, unread}
+use Rattle.bc_cli.proofs.Incoming.{length-trace_text}
 use Rattle.bc_cli.specs.declared.status.Status.{Status}
 use Rattle.bc_cli.specs.declared.status.Status.TheVariants.{BadTrace, TooLong, NoMemory}
 
@@ -17,9 +20,23 @@ pub read_is : (told : Option (List ℕ)) (read bytes : List ℕ) → IfSome told
 read_is None read bytes h e = cc
 read_is (Some left) read bytes h e = cc
 
-pub may_give : (told : Option (List ℕ)) (read : List ℕ) → IfSome told (λ left. read ≡ left) → MayGive told read
-may_give None read h = tt
-may_give (Some left) read h = sym h
+-- the bytes of a source that was read to its end are those that it may give
+pub may_give-whole : (old new : Option (List ℕ)) (bytes : List ℕ) → ReadWhole old new bytes → MayGive old bytes
+may_give-whole None new bytes h = tt
+may_give-whole (Some left) None bytes h = let falls = h.falls in cc
+may_give-whole (Some left) (Some rest) bytes h =
+    let falls = h.falls in
+    let none : rest ≡ [] = h.end in
+    let all : left ≡ bytes ++ rest = cc in
+    all ∙ ap (λ xs. bytes ++ xs) none ∙ append-nil bytes
+
+-- what the text of a trace that was read is bounded by
+pub few-read : (old new : Option (List ℕ)) (t : TraceLists) → ReadAsTrace old new t → 8 * all_ops_of t + 10 * length t.phases ≤ longest_trace
+few-read old new t h = omega (arith, length-trace_text t h.spelled.trace, ap length h.spelled.text, h.whole.short)
+
+-- a status that the reader told
+pub told_or_no_memory : (s told wanted : Status) → told ≡ s → IsOrNoMemory s wanted → IsOrNoMemory told wanted
+told_or_no_memory s told wanted is h = subst (λ (s : Status). IsOrNoMemory s wanted) (sym is) h
 
 -- the text that was read has this fault, so this is the refusal
 pub refused_so : (f : TraceFault) (error : ReadTrace) (status : Status) → status ≡ refusal_of error → IsFaultOrMemory f error → IsOrNoMemory status (BadTrace f.line f.cause)

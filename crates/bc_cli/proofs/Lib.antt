@@ -1,11 +1,20 @@
+-- The texts of phases, one after another.
 pub mod Pieces
-pub mod Bytes
-pub mod Refusing
+-- How long the lines of replies are.
 pub mod Replies
+-- How long the text of a trace is, by how many operations it has.
 pub mod Incoming
+-- What a source told, and what was read of it.
+pub mod Bytes
+-- A run writes at most four times as many bytes as its trace has.
 pub mod Room
+-- One phase of a trace on an engine, by what the engine says of it.
 pub mod Running
+-- A phase of a trace that was run on the engine, done or ended at a cut, and what was written of its texts.
 pub mod PhaseEnds
+-- The need of a state is a number of few digits.
 pub mod NeedRoom
+-- A run whose last phase ends at a cut writes at most four times as many bytes as its trace has, and the line of the need.
 pub mod CutRoom
+-- The first and the last step of a replay, and what its ending says of a run.
 pub mod Finishing

@@ -4,7 +4,7 @@ use Rattle.bc_engine.specs.Engines.{EngineView, HasRoomForBirths}
 use Rattle.bc_engine.specs.Lanes.{HasRoomForOps}
 use Rattle.bc_engine.specs.Phases.{DidPhase, CutPhase}
 use Rattle.bc_io.specs.Told.{HasRoom, HeldGrows, RoomFalls}
-use Rattle.bc_model.specs.Lists.{TraceLists}
+use Rattle.bc_model.specs.Lists.{PhaseLists, TraceLists}
 use Rattle.bc_model.specs.Run.{phase_at}
 use Rattle.bc_model.specs.declared.operations.Reply.{Reply}
 use Rattle.bc_trace.specs.Replies.{phase_text, out_of_heap_text}
@@ -20,13 +20,23 @@ pub record Ran (t : TraceLists) (k : ℕ) (e f : EngineView) (replies : List (Li
   pub setup : f.setup ≡ e.setup
   pub births : (n : ℕ) → HasRoomForOps e (phase_at t k).lanes n → HasRoomForBirths f n
 
+pub ran-read : (t : TraceLists) (k : ℕ) (e f : EngineView) (p : PhaseLists) (replies : List (List Reply)) (need : Option ℕ) → k < length t.phases → phase_at t k ≡ p → HasRun t k e → PhaseEnded e p f replies need → f.setup ≡ e.setup
+    → ((n : ℕ) → HasRoomForOps e p.lanes n → HasRoomForBirths f n) → Ran t k e f replies need
+ran-read t k e f p replies need lt at before ended same births = record {
+  within = lt;
+  before = before;
+  ended = subst (λ (q : PhaseLists). PhaseEnded e q f replies need) (sym at) ended;
+  setup = same;
+  births = λ n. subst (λ (q : PhaseLists). HasRoomForOps e q.lanes n → HasRoomForBirths f n) (sym at) (births n);
+}
+
 -- and these are its texts
 pub record HasTexts (k : ℕ) (replies : List (List Reply)) (need : Option ℕ) (xs ys : List ℕ) : Type 0 where
-  pub replies : xs ≡ phase_text (k + 1) replies
-  pub need : ys ≡ need_line need
+  pub told : xs ≡ phase_text (k + 1) replies
+  pub line : ys ≡ need_line need
 
 whole : (k : ℕ) (replies : List (List Reply)) (need : Option ℕ) (xs ys : List ℕ) → HasTexts k replies need xs ys → xs ++ ys ≡ phase_text (k + 1) replies ++ need_line need
-whole k replies need xs ys h = let e = h.replies in let d = h.need in cc
+whole k replies need xs ys h = let e = h.told in let d = h.line in cc
 
 -- of a phase that is done there is one text
 whole-done : (k : ℕ) (replies : List (List Reply)) (need : Option ℕ) (xs ys : List ℕ) → need ≡ None → HasTexts k replies need xs ys → xs ++ ys ≡ phase_text (k + 1) replies

@@ -9,15 +9,15 @@ ghost use Rattle.bc_model.specs.WellFormed.{IsTrace};
 ghost use Rattle.bc_trace.specs.Faults.{Fault};
 ghost use Rattle.bc_trace.specs.Lines.{Spells};
 ghost use Rattle.bc_trace.specs.declared.fault.TraceFault.{TraceFault};
-ghost use Rattle.bc_cli.specs.Statuses.{exit_code_of, fault_of};
 ghost use Rattle.bc_cli.specs.Words.{IsCommand};
 ghost use Rattle.bc_cli.specs.Endings.{EndsDone, EndsOutOfHeap, EndsInFault, StopsBefore, FitsThroughout, HasRunRoom};
 ghost use Rattle.bc_cli.specs.Outcomes.{Replayed, RanOutOfHeap, ReplayedInPart, ReplayedTo, Faulty, IfBadTrace, IfStatusOutOfHeap, IfHeapless, IsEnding, IsOrNoMemory, HasRoomFor, longest_trace};
 
 use crate::command::{Command, command_of};
 use crate::input::read_trace;
+use crate::outcome::Outcome;
 use crate::phases::write_phases;
-use crate::status::{Ending, Fault, Status};
+use crate::status::{Ending, Status};
 use bc_engine::Engine;
 use bc_io::{Sink, Source, write_all};
 use bc_model::Trace;
@@ -30,47 +30,6 @@ const DONE: &[u8] = b"done\n";
 
 /// How many workers an engine is opened for.
 const WORKERS: u32 = 1;
-
-/// What a run ends with.
-#[derive(Drop)]
-pub struct Outcome {
-    pub status: Status,
-    /// The heap as it stands at the end, where a trace was read and memory didn't run out.
-    pub heap: Option<Engine>,
-}
-
-impl Outcome {
-    fn with_heap(status: Status, heap: Engine) -> Self
-        ensures status { result.status ≡ status }
-        ensures heap { result.heap ≡ Some heap }
-    {
-        Outcome {
-            status,
-            heap: Some(heap),
-        }
-    }
-
-    pub(crate) fn without_heap(status: Status) -> Self
-        ensures status { result.status ≡ status }
-        ensures heap { result.heap ≡ None }
-    {
-        Outcome { status, heap: None }
-    }
-
-    /// What is wrong with the run, if it wasn't done.
-    pub fn fault(&self) -> Option<Fault>
-        ensures { result ≡ fault_of self.now.status }
-    {
-        self.status.fault()
-    }
-
-    /// The exit status of the program.
-    pub fn exit_code(&self) -> u8
-        ensures { result ≡ exit_code_of self.now.status }
-    {
-        self.status.exit_code()
-    }
-}
 
 /// Does what the words ask for: reads a trace from the source, replays it, and writes the replies to the sink.
 ///

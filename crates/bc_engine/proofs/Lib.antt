@@ -1,11 +1,22 @@
+-- What an operation and an emptying leave as it was
 pub mod Sizes
+-- What an operation that is done or stops means to the lanes.
 pub mod Attempts
+-- A domain changes hands while all chunks and buffers are empty
 pub mod Giving
+-- The heap that an engine begins with is ready, and stands for the opening state.
 pub mod OpeningLemmas
+-- Lists of steps, one behind another.
 pub mod StepLists
+-- Lanes that go on
 pub mod GoingLemmas
+-- What an emptying of the nurseries, or its refusal, means to an engine.
 pub mod EmptyingLemmas
+-- What the lanes did is a cut of the phase
 pub mod CutLemmas
+-- Stretches of a phase, as the code keeps its replies.
 pub mod RunLemmas
+-- A round
 pub mod RoundLemmas
+-- A phase
 pub mod PhaseLemmas

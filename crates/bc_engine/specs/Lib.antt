@@ -1,5 +1,10 @@
+-- An engine
 pub mod Engines
+-- What a phase does to an engine.
 pub mod Phases
+-- Answers of a phase.
 pub mod Answers
+-- What lanes do of a phase
 pub mod Lanes
+-- The rounds of a phase
 pub mod Rounds

@@ -1,3 +1,5 @@
+//! What becomes of the notices of a phase.
+
 /// What became of a notice: the request that a page leave memory. Pages are counted from 0.
 #[derive(Clone, Copy, PartialEq, Eq, Debug)]
 pub enum Answer {

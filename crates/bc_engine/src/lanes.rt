@@ -1,3 +1,5 @@
+//! Lanes do their operations of a phase one after the other, and their replies are kept.
+
 ghost use Rattle.std.specs.Prelude.{◌≡◌, ◌≢◌, ℕ, ◌+◌, ◌^◌, ◌<◌, ◌≤◌, [], length, slice_index, true, false, IfOk, OnErr};
 ghost use Rattle.bc_engine.specs.Engines.{HasEmptyChunks, CanRunLanes, IsUnrecorded};
 ghost use Rattle.bc_cycle.specs.Emptying.{heap_view};

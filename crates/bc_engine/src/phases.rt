@@ -1,3 +1,5 @@
+//! A phase: room for the replies is taken, the rounds are run, and domains change hands.
+
 ghost use Rattle.std.specs.Prelude.{◌≡◌, ◌≢◌, ℕ, ◌+◌, ◌^◌, ◌<◌, ◌≤◌, [], length, Some, None, Result, Ok, Err, IfOk, slice_index};
 ghost use Rattle.std.specs.List.{AllByRecursion};
 ghost use Rattle.bc_engine.specs.Answers.{IfPhaseOutOfHeap, IsOutOfHeap, IsNoMemory};

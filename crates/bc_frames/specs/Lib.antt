@@ -1,3 +1,6 @@
+-- A pool of frames is a flag for each frame, by its number
 pub mod Pool
+-- A store has a place for each page, by its number, which holds the page's box or nothing, and a count of reads.
 pub mod Places
+-- The invariant of a pool
 pub mod Listed

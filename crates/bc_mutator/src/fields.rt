@@ -41,7 +41,17 @@ pub(crate) fn set<C: Cells, R: RootSlots>(
     ensures never { OnErr result ⊥ }
     ensures hand { (page : ℕ) → C.at_hand cells.old page → C.at_hand cells.new page }
 {
-    write(cells, roots, chunk, buffer, holders, lane, slot, index, Word::Num(number))
+    write(
+        cells,
+        roots,
+        chunk,
+        buffer,
+        holders,
+        lane,
+        slot,
+        index,
+        Word::Num(number),
+    )
 }
 
 /// The field of the slot's object becomes nil.
@@ -66,7 +76,17 @@ pub(crate) fn cut<C: Cells, R: RootSlots>(
     ensures never { OnErr result ⊥ }
     ensures hand { (page : ℕ) → C.at_hand cells.old page → C.at_hand cells.new page }
 {
-    write(cells, roots, chunk, buffer, holders, lane, slot, index, Word::Nil)
+    write(
+        cells,
+        roots,
+        chunk,
+        buffer,
+        holders,
+        lane,
+        slot,
+        index,
+        Word::Nil,
+    )
 }
 
 /// The field of the first slot's object becomes what the second slot holds.
@@ -97,7 +117,9 @@ pub(crate) fn link<C: Cells, R: RootSlots>(
     ensures hand { (page : ℕ) → C.at_hand cells.old page → C.at_hand cells.new page }
 {
     let word = roots.word(from);
-    write(cells, roots, chunk, buffer, holders, lane, slot, index, word)
+    write(
+        cells, roots, chunk, buffer, holders, lane, slot, index, word,
+    )
 }
 
 /// The field of the slot's object becomes what the word is read as. It stops, and changes nothing, only where the object

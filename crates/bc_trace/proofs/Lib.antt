@@ -1,51 +1,44 @@
--- The lemmas, lowest first.
-
--- ---- texts
--- the texts of lanes and phases, piece by piece
+-- Texts that loops make piece by piece.
 pub mod Texts
--- lines and words that `cut_line`, `first_word` and `is_formed` go over
+-- A list, cut where a byte stands first.
 pub mod CutLines
--- ---- a line, test by test
--- digits, read from the left
+-- Digits, read from the left.
 pub mod Numerals
--- operands, one after the other
+-- Operands, read one after the other.
 pub mod Operands
--- the numbers in the buffer of operands
+-- Numbers of the buffer.
 pub mod Hints
--- `line_at` goes through the tests in their order
+-- The tests of a line, one after the other.
 pub mod InOrder
--- what a line in range leaves small
+-- What the ranges keep small.
 pub mod Ranges
--- what the tests of form, words and numbers mean
+-- What each test of a line means.
 pub mod Meaning
--- `reading`, one line after the other
+-- Reading, one line after the other.
 pub mod Runs
--- the lines that the writer puts together
+-- Texts of lines, joined.
 pub mod Written
--- what the tests of counts and ranges mean
+-- What the tests of counts and ranges mean.
 pub mod LineMeaning
--- `line_at` answers a line that passes, or the cause of the first test that fails
+-- A line passes all tests, or one of them is the first that it fails; the reader says which.
 pub mod LineAtFails
--- ---- whole texts
--- `read_of` answers the text's fault where there is one
+-- Whole texts
 pub mod ReadOfFault
--- `read_of` answers a trace on its own text
+-- The text of a well-formed trace is read, and gives that trace.
 pub mod ReadOfTrace
--- lines that follow one another up to the end are those of a well-formed trace
+-- Lines that pass up to the end are those of a well-formed trace.
 pub mod FollowLines
--- a text is at least as long as what it spells
+-- A text is at least as long as what it spells.
 pub mod Lengths
--- ---- the fast way
--- digits with room to spare, and text that begins with a number
+-- Digits that are read on from the left, with room to spare in a word of the machine.
 pub mod Digits
--- a line that the text begins with, and how the reader goes on behind it
+-- A line that the text begins with is read, and is what the exact way reads there.
 pub mod LinesAhead
--- ---- the clauses of `read` and the laws
--- what the reader's answer says of the text
+-- What the reader's answer says of the text.
 pub mod Answered
--- lines that pass can be gone on with up to the end of a trace
+-- Lines that pass can be gone on with up to the end of a trace.
 pub mod Endings
--- a text shows the replies that it tells
+-- A text shows the replies that it tells
 pub mod Shown
--- the replies of a run fit, and are short
+-- The replies of a run fit, and are short
 pub mod Fitting

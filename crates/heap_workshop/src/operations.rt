@@ -1,3 +1,5 @@
+//! An operation of a lane, with every reason why it may not be done.
+
 ghost use Rattle.std.specs.Prelude.{◌≡◌, ◌↔◌, ◌+◌, ◌^◌, ◌<◌, length, slice_index, IsTrue, IfOk, OnErr, IsErrOf};
 ghost use Rattle.bc_model.specs.State.{State};
 ghost use Rattle.bc_model.specs.Step.{step};

@@ -1,1 +1,49 @@
+use Rattle.std.proofs.Common.{◌≡◌, Some, refl, ap, subst, string_bytes}
+use Rattle.bc_model.specs.Lists.{TraceLists}
+use Rattle.bc_model.specs.Run.{phase_at}
+use Rattle.bc_cli.specs.Endings.{EndsOutOfHeap}
+use Rattle.bc_cli.proofs.PhaseEnds.{Ran, HasTexts, ran-read, ran-on, texts-fault, texts-written, texts-filled, need-written}
+use Rattle.bc_cli.proofs.Running.{err-same, phase-read}
 use Rattle.bc_cli.proofs.phases.write_phase.Goals as goal
+
+pub returns-in_err-write_texts-clause-write_fault : goal.returns-in_err-write_texts-clause-write_fault
+returns-in_err-write_texts-clause-write_fault g c =
+    let at : phase_at c.args.trace.now c.args.index ≡ c.index.result.now = phase-read c.args.trace.now _ _ _ (ap (λ (x : TraceLists). x.phases) c.trace.view_is) c.requires.index c.index.ensures in
+    let end = c.in_ok-end in
+    let ran : Ran c.args.trace.now c.args.index c.args.engine.now c.run_phase.new.engine end.end.replies end.end.need = ran-read _ _ _ _ _ _ _ c.requires.index at c.requires.opened end.ensures.ended end.ensures.setup end.ensures.births in
+    let texts : HasTexts c.args.index end.end.replies end.end.need c.in_ok-texts.texts.replies.items (string_bytes c.in_ok-texts.texts.need) = record { told = c.in_ok-texts.ensures.replies; line = c.in_ok-texts.ensures.need } in
+    λ _. (c.in_err-write_texts.ensures.cause, λ start held. texts-fault _ _ _ _ _ _ _ _ _ _ _ ran texts c.in_err-write_texts.ensures.front held)
+
+pub returns-in-Some-clause-out_of_heap : goal.returns-in-Some-clause-out_of_heap
+returns-in-Some-clause-out_of_heap g c =
+    let at : phase_at c.args.trace.now c.args.index ≡ c.index.result.now = phase-read c.args.trace.now _ _ _ (ap (λ (x : TraceLists). x.phases) c.trace.view_is) c.requires.index c.index.ensures in
+    let end = c.in_ok-end in
+    let ran : Ran c.args.trace.now c.args.index c.args.engine.now c.run_phase.new.engine end.end.replies end.end.need = ran-read _ _ _ _ _ _ _ c.requires.index at c.requires.opened end.ensures.ended end.ensures.setup end.ensures.births in
+    let texts : HasTexts c.args.index end.end.replies end.end.need c.in_ok-texts.texts.replies.items (string_bytes c.in_ok-texts.texts.need) = record { told = c.in_ok-texts.ensures.replies; line = c.in_ok-texts.ensures.need } in
+    λ need e start held.
+    let told = err-same _ _ _ refl e in
+    let some : end.end.need ≡ Some need = cc (c.in-Some.is, told) in
+    need-written _ _ _ _ _ _ _ _ _ _ _ _ some ran texts c.in_ok-write_texts.ensures.all held
+
+pub returns-clause-run : goal.returns-clause-run
+returns-clause-run g c =
+    let at : phase_at c.args.trace.now c.args.index ≡ c.index.result.now = phase-read c.args.trace.now _ _ _ (ap (λ (x : TraceLists). x.phases) c.trace.view_is) c.requires.index c.index.ensures in
+    let end = c.in_ok-end in
+    let ran : Ran c.args.trace.now c.args.index c.args.engine.now c.run_phase.new.engine end.end.replies end.end.need = ran-read _ _ _ _ _ _ _ c.requires.index at c.requires.opened end.ensures.ended end.ensures.setup end.ensures.births in
+    ran-on _ _ _ _ _ _ c.in-None.is ran
+
+pub returns-clause-written : goal.returns-clause-written
+returns-clause-written g c =
+    let at : phase_at c.args.trace.now c.args.index ≡ c.index.result.now = phase-read c.args.trace.now _ _ _ (ap (λ (x : TraceLists). x.phases) c.trace.view_is) c.requires.index c.index.ensures in
+    let end = c.in_ok-end in
+    let ran : Ran c.args.trace.now c.args.index c.args.engine.now c.run_phase.new.engine end.end.replies end.end.need = ran-read _ _ _ _ _ _ _ c.requires.index at c.requires.opened end.ensures.ended end.ensures.setup end.ensures.births in
+    let texts : HasTexts c.args.index end.end.replies end.end.need c.in_ok-texts.texts.replies.items (string_bytes c.in_ok-texts.texts.need) = record { told = c.in_ok-texts.ensures.replies; line = c.in_ok-texts.ensures.need } in
+    λ start held. texts-written _ _ _ _ _ _ _ _ _ _ _ c.in-None.is ran texts c.in_ok-write_texts.ensures.all held
+
+pub returns-clause-filled : goal.returns-clause-filled
+returns-clause-filled g c =
+    let at : phase_at c.args.trace.now c.args.index ≡ c.index.result.now = phase-read c.args.trace.now _ _ _ (ap (λ (x : TraceLists). x.phases) c.trace.view_is) c.requires.index c.index.ensures in
+    let end = c.in_ok-end in
+    let ran : Ran c.args.trace.now c.args.index c.args.engine.now c.run_phase.new.engine end.end.replies end.end.need = ran-read _ _ _ _ _ _ _ c.requires.index at c.requires.opened end.ensures.ended end.ensures.setup end.ensures.births in
+    let texts : HasTexts c.args.index end.end.replies end.end.need c.in_ok-texts.texts.replies.items (string_bytes c.in_ok-texts.texts.need) = record { told = c.in_ok-texts.ensures.replies; line = c.in_ok-texts.ensures.need } in
+    λ start room. texts-filled _ _ _ _ _ _ _ _ _ _ _ c.in-None.is ran texts c.in_ok-write_texts.ensures.filled room

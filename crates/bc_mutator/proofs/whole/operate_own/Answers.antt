@@ -19,8 +19,11 @@ returns-clause-done c =
 pub returns-clause-same : goal.returns-clause-same
 returns-clause-same c =
     on_err_weaker c.operate_parts.result
-    (λ same. (back-same c.args.heap.now c.args.holders.now c.args.lane c.index_mut.result.now c.index_mut-2.result.now c.operate_parts.new.cells c.operate_parts.new.roots c.operate_parts.new.chunk c.operate_parts.new.buffer
-    c.requires.ready c.index_mut.ensures.value c.index_mut-2.ensures.value same.0 same.1 same.2 same.3, same.4))
+    (λ same. (
+      back-same c.args.heap.now c.args.holders.now c.args.lane c.index_mut.result.now c.index_mut-2.result.now c.operate_parts.new.cells c.operate_parts.new.roots c.operate_parts.new.chunk c.operate_parts.new.buffer
+          c.requires.ready c.index_mut.ensures.value c.index_mut-2.ensures.value same.0 same.1 same.2 same.3,
+      same.4,
+    ))
     c.operate_parts.ensures.same
 
 pub returns-clause-buffer : goal.returns-clause-buffer
