@@ -1,9 +1,13 @@
 -- The size classes of cells, in words, and how many cells of each a page and a superpage hold.
-use Rattle.std.specs.Prelude.{◌≡◌, ℕ, ◌*◌, ◌/◌, ◌⊎◌, nat_lt, if◌then◌else◌}
+use Rattle.std.specs.Prelude.{◌≡◌, ℕ, ◌*◌, ◌/◌, ◌⊎◌, List, [], ◌∷◌, nat_lt, if◌then◌else◌}
 
 -- the seven sizes that a cell may have, in words
 abbrev pub IsClass : ℕ → Type 0
 IsClass c = (c ≡ 2) ⊎ ((c ≡ 4) ⊎ ((c ≡ 8) ⊎ ((c ≡ 16) ⊎ ((c ≡ 32) ⊎ ((c ≡ 64) ⊎ (c ≡ 128))))))
+
+-- the same, as a list
+abbrev pub classes : List ℕ
+classes = 2 ∷ 4 ∷ 8 ∷ 16 ∷ 32 ∷ 64 ∷ 128 ∷ []
 
 -- the class that an object with this number of fields takes; it means something up to 127 fields
 unfoldable pub class_of : ℕ → ℕ

@@ -16,7 +16,7 @@ use Rattle.bc_trace.specs.Lines.{lane, op, phase, turn, give, end, done, version
 use Rattle.bc_trace.specs.Words.{name, verb_name}
 use Rattle.bc_trace.specs.declared.words.Verb.{Verb}
 use Rattle.bc_trace.specs.declared.words.Verb.TheVariants as verbs
-use Rattle.bc_trace.specs.declared.words.Word.TheVariants as words
+use Rattle.bc_trace.specs.declared.words.Keyword.TheVariants as words
 
 -- a verb has three letters at least
 verb_length : (v : Verb) → 3 ≤ length (verb_name v)

@@ -3,9 +3,10 @@ use Rattle.std.proofs.Common.{◌≡◌, ℕ, ◌+◌, ◌*◌, ◌^◌, ◌<◌
 use Rattle.std.specs.List.{sum_by, count_by}
 use Rattle.std.proofs.lemmas.List.Sums.{sum_by-cons, sum_by_push, count_by-le-length}
 use Rattle.bc_bits.proofs.CountLemmas.{count_below-le}
+use Rattle.bc_classes.specs.Classes.{classes}
 use Rattle.bc_reach.specs.Distinct.{Has, Distinct}
 use Rattle.bc_model.specs.Consistent.{IsState, HasSerials}
-use Rattle.bc_model.specs.Need.{IsNeed, count_of, superpages_for, classes, is_of}
+use Rattle.bc_model.specs.Need.{IsNeed, count_of, superpages_for, is_of}
 use Rattle.bc_model.specs.Reached.{Reached}
 use Rattle.bc_model.specs.State.{State, IsBorn, object_of, numbers_below}
 use Rattle.bc_model.specs.declared.values.Birth.{Birth}

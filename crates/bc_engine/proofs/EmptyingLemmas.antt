@@ -3,7 +3,7 @@ use Rattle.std.proofs.Common.{◌≡◌, ℕ, List, slice_index, length, map, sy
 use Rattle.std.proofs.Math.ListN.{get_or-map}
 use Rattle.std.proofs.lemmas.List.{length-map}
 use Rattle.bc_bits.specs.Bits.{has}
-use Rattle.bc_cycle.specs.Emptying.{IsEmptied, IsAsBefore, bare_chunk}
+use Rattle.bc_cycle.specs.Emptying.{IsEmptied, IsAsBefore}
 use Rattle.bc_cycle.proofs.ChunkLists.{chunk-emptied}
 use Rattle.bc_failsafe.specs.Packing.{NeedOfHeap}
 use Rattle.bc_whole_heap.specs.Closed.{chunk_of, buffer_of, no_buffer}
@@ -14,7 +14,7 @@ use Rattle.bc_memory.specs.Memory.{Memory}
 use Rattle.bc_model.specs.State.{State}
 use Rattle.bc_model.specs.declared.traces.Setup.{Setup}
 use Rattle.bc_nursery.specs.Entries.{Entries, without_entries}
-use Rattle.bc_nursery.specs.Objects.{Nursery, emptied}
+use Rattle.bc_nursery.specs.Objects.{Nursery, bare_nursery, emptied}
 use Rattle.bc_standing.specs.Standing.{StandsFor, AllBorn}
 use Rattle.bc_promotion.specs.Promises.{HasDomainsBelow}
 use Rattle.bc_superpages.specs.Layout.{Layout, set_of}
@@ -25,9 +25,9 @@ buffer-emptied : (bs : List Entries) (l : ℕ) → buffer_of (map without_entrie
 buffer-emptied bs l = get_or-map without_entries bs l no_buffer
 
 -- chunks that differ only in what is kept beside their objects have as many words
-words-alike : (cs ds : List Nursery) (l : ℕ) → map bare_chunk ds ≡ map bare_chunk cs → (chunk_of ds l).words ≡ (chunk_of cs l).words
+words-alike : (cs ds : List Nursery) (l : ℕ) → map bare_nursery ds ≡ map bare_nursery cs → (chunk_of ds l).words ≡ (chunk_of cs l).words
 words-alike cs ds l e =
-    ap (λ (c : Nursery). c.words) (sym (get_or-map bare_chunk ds l no_chunk)) ∙ ap (λ (xs : List Nursery). (chunk_of xs l).words) e ∙ ap (λ (c : Nursery). c.words) (get_or-map bare_chunk cs l no_chunk)
+    ap (λ (c : Nursery). c.words) (sym (get_or-map bare_nursery ds l no_chunk)) ∙ ap (λ (xs : List Nursery). (chunk_of xs l).words) e ∙ ap (λ (c : Nursery). c.words) (get_or-map bare_nursery cs l no_chunk)
 
 pub empty-chunks : (h k : HeapView) → IsEmptied h k → HasEmptyChunks k
 empty-chunks h k is l = ap (λ (cs : List Nursery). (chunk_of cs l).objects) is.cleared ∙ ap (λ (c : Nursery). c.objects) (chunk-emptied h.chunks l)
@@ -96,7 +96,7 @@ stands-before hs serials h k state is st = record {
   births = st.births;
   domains = ap (λ (x : RootWords). x.domains) is.sizes.roots ∙ st.domains;
   slots = ap (λ (x : RootWords). x.slots) is.sizes.roots ∙ st.slots;
-  lanes = length-alike bare_chunk h.chunks k.chunks is.chunks ∙ st.lanes;
+  lanes = length-alike bare_nursery h.chunks k.chunks is.chunks ∙ st.lanes;
 }
 
 pub ready-before : (setup : Setup) (hs serials : List ℕ) (h k : HeapView) → IsAsBefore h k → CanRunLanes setup hs serials h → CanRunLanes setup hs serials k
@@ -107,7 +107,7 @@ ready-before setup hs serials h k is ready = record {
     supers = is.sizes.supers ∙ ready.fits.supers;
     domains = ap (λ (x : RootWords). x.domains) is.sizes.roots ∙ ready.fits.domains;
     slots = ap (λ (x : RootWords). x.slots) is.sizes.roots ∙ ready.fits.slots;
-    lanes = length-alike bare_chunk h.chunks k.chunks is.chunks ∙ ready.fits.lanes;
+    lanes = length-alike bare_nursery h.chunks k.chunks is.chunks ∙ ready.fits.lanes;
     words = λ l lt. words-alike h.chunks k.chunks l is.chunks ∙ ready.fits.words l lt;
     entries = λ l lt. ap (λ (bs : List Entries). (buffer_of bs l).capacity) is.entries ∙ ready.fits.entries l lt;
     nursery = ap (λ (x : Fixed). x.nursery) is.sizes.fixed ∙ ready.fits.nursery;

@@ -31,6 +31,7 @@ closed-given s roots cs bs hs d l none empty within h =
         | inr ne ↦ subst (λ (m : ℕ). m < length cs) (sym (get_or-set_other hs d n l 0 ne)) (h.holder n (omega (arith, lt, long)))
       ];
       root = λ n t a in_domains in_slots e. inl (only-cell s (chunk_of cs (get_or hs n 0)) a.0 (none (get_or hs n 0)) (h.root n t a in_domains in_slots e));
+      noted = h.noted;
       young_domain = λ m a lt has. none-young (chunk_of cs m) a (none m) has;
       young = λ m a k b lt has e. none-young (chunk_of cs m) a (none m) has;
       mature_domain = λ a c e. omega (arith, h.mature_domain a c e, long);

@@ -42,7 +42,7 @@ op-of_state h hs serials state o st op =
 -- what an operation of a lane leaves
 pub record StaysBut (lane : ℕ) (h k : HeapView) : Type 0 where
   pub space : k.space ≡ record h.space { states = k.space.states; pages = k.space.pages }
-  pub roots : k.roots ≡ record h.roots { words = k.roots.words }
+  pub roots : k.roots ≡ record h.roots { words = k.roots.words; noted = k.roots.noted }
   pub chunk : chunk_of k.chunks lane ≡ record (chunk_of h.chunks lane) { objects = (chunk_of k.chunks lane).objects }
   pub others : (l : ℕ) → l ≢ lane → (chunk_of k.chunks l ≡ chunk_of h.chunks l) × (buffer_of k.buffers l ≡ buffer_of h.buffers l)
   pub long : length k.chunks ≡ length h.chunks

@@ -1,15 +1,11 @@
 -- How many superpages a state needs at least.
 use Rattle.std.specs.Prelude.{◌≡◌, ℕ, ◌+◌, ◌-◌, ◌/◌, ◌==◌, ◌&&◌, ◌↔◌, Bool, List, [], ◌∷◌, length}
 use Rattle.std.specs.List.{sum_by, count_by}
-use Rattle.bc_classes.specs.Classes.{class_of, cap}
+use Rattle.bc_classes.specs.Classes.{class_of, cap, classes}
 use Rattle.bc_reach.specs.Distinct.{Has, Distinct}
 use Rattle.bc_model.specs.Reached.{Reached}
 use Rattle.bc_model.specs.State.{State, Object, object_of, numbers_below}
 use Rattle.bc_model.specs.declared.values.Birth.{Birth}
-
--- the size classes, in words
-abbrev pub classes : List ℕ
-classes = 2 ∷ 4 ∷ 8 ∷ 16 ∷ 32 ∷ 64 ∷ 128 ∷ []
 
 -- the object is in the domain and takes cells of the class
 abbrev pub is_of : ℕ → ℕ → Object → Bool

@@ -258,6 +258,10 @@ module _ (s t : Layout) (r : RootWords) (cs : List Nursery) (bs es : List Entrie
     domains = w.run.closed.domains;
     holder = w.run.closed.holder;
     root = λ d p a lt less e. there-same s t (chunk_of cs (get_or hs d 0)) a.0 w.wrote.space (w.run.closed.root d p a lt less e);
+    noted = λ k a lt e. elim (w.run.closed.noted k a lt e) [
+      | inl on ↦ inl (subst (λ (x : Layout). IsAllocated x a.0) (sym w.wrote.space) on)
+      | inr noted ↦ inr noted
+    ];
     young_domain = w.run.closed.young_domain;
     young = λ l a k b lt on e. there-same s t (chunk_of cs l) b.0 w.wrote.space (w.run.closed.young l a k b lt on e);
     mature_domain = λ a c e.

@@ -147,6 +147,7 @@ module _ (s : Layout) (r : RootWords) (cs ds : List Nursery) (bs : List Entries)
         domains = closed.domains;
         holder = λ d lt. (let h = closed.holder d lt in omega arith);
         root = λ d p a lt less e. there-kept (get_or hs d 0) a.0 (closed.root d p a lt less e);
+        noted = closed.noted;
         young_domain = λ l a lt on. made-young_domain l a (omega arith) on;
         young = λ l a k b lt on e. there-kept l b.0 (made-young l a k b (omega arith) on e);
         mature_domain = closed.mature_domain;

@@ -1,5 +1,5 @@
 -- A root slot becomes another word: the heap stays closed, and it stands for the state with that value in the slot.
-use Rattle.std.proofs.Common.{◌≡◌, ◌≢◌, ◌⊎◌, true, ℕ, ◌<◌, List, length, get_or, set, Some, refl, sym, ap, subst, ◌∙◌, inl, inr, arith, get_or-set_same, get_or-set_other}
+use Rattle.std.proofs.Common.{◌≡◌, ◌≢◌, ◌⊎◌, true, ℕ, ◌<◌, List, length, get_or, set, Some, refl, sym, ap, subst, ◌∙◌, inl, inr, arith, get_or-set_same, get_or-set_other, length-set}
 use Rattle.std.proofs.lemmas.Bool.{cases_eq, cases_lt}
 use Rattle.std.proofs.lemmas.List.{set-get_or, set_past, map-set}
 use Rattle.std.proofs.lemmas.Nat.{same_from_place}
@@ -20,14 +20,16 @@ use Rattle.bc_model.specs.declared.values.Value.TheVariants as value
 use Rattle.bc_model.proofs.States.{IsState-with_slot}
 use Rattle.bc_nursery.specs.Entries.{Entries}
 use Rattle.bc_nursery.specs.Objects.{Nursery, has_object}
+use Rattle.bc_reach.specs.Distinct.{Has}
 use Rattle.bc_standing.specs.Standing.{birth_of, births, Stands, StandsFor, AllBorn}
 use Rattle.bc_standing.proofs.Keeping.{AllBorn-reached}
 use Rattle.bc_standing.proofs.Reading.{read_birth}
 use Rattle.bc_standing.proofs.Writing.{Stands-slot}
 use Rattle.bc_superpages.specs.Layout.{Layout, IsAllocated}
 use Rattle.bc_superpages.specs.Memory as space
-use Rattle.bc_superpages.specs.RootWords.{RootWords, root_place}
+use Rattle.bc_superpages.specs.RootWords.{RootWords, root_place, with_note}
 use Rattle.bc_superpages.proofs.MemoryLemmas.{memory_of-cell}
+use Rattle.bc_superpages.proofs.NoteLemmas.{Has-noted, Has-with_note}
 use Rattle.bc_word.proofs.WordLemmas.{word_of_bits-word_bits}
 use Rattle.bc_word.specs.Words.{word_bits, word_of_bits, FitsWord}
 use Rattle.bc_word.specs.declared.addresses.Address.{Address}
@@ -63,6 +65,10 @@ running-root s r cs bs hs p w run within own = record {
     root = λ d t a lt fits. set_cases r.words (root_place r p.domain p.slot) (word_bits w) (root_place r d t)
         (λ (n : ℕ). word_of_bits n ≡ word.Ref a → IsCellOrYoung s (chunk_of cs (get_or hs d 0)) a.0)
         (run.closed.root d t a lt fits) (λ e. here d t a fits e);
+    noted = λ k a lt. set_cases r.words (root_place r p.domain p.slot) (word_bits w) k
+        (λ (n : ℕ). word_of_bits n ≡ word.Ref a → IsAllocated s a.0 ⊎ Has (with_note r.noted (root_place r p.domain p.slot)) k)
+        (λ is. still k (run.closed.noted k a (let long = length-set r.words (root_place r p.domain p.slot) (word_bits w) in omega arith) is))
+        (λ e is. inr (subst (Has (with_note r.noted (root_place r p.domain p.slot))) (sym e) (Has-noted r.noted (root_place r p.domain p.slot))));
     young_domain = run.closed.young_domain;
     young = run.closed.young;
     mature_domain = run.closed.mature_domain;
@@ -75,6 +81,10 @@ running-root s r cs bs hs p w run within own = record {
     here d t a fits e is =
         subst (λ (x : ℕ). IsCellOrYoung s (chunk_of cs (get_or hs x 0)) a.0) (sym (same_from_place d t p.domain p.slot r.slots fits within e).0)
         (own a (sym (word_of_bits-word_bits w) ∙ is))
+
+    still : {X : Type 0} (k : ℕ) → X ⊎ Has r.noted k → X ⊎ Has (with_note r.noted (root_place r p.domain p.slot)) k
+    still k (inl cell) = inl cell
+    still k (inr noted) = inr (Has-with_note r.noted (root_place r p.domain p.slot) k noted)
 
 -- what a word is read as may be held
 pub value-held : (m : Memory) (roots : List Word) (state : State) (w : Word) (v : Value) → StandsFor m roots state → AllBorn m state.made → FitsWord w → IsRead m state w v → IsValue state.made v
@@ -136,7 +146,7 @@ slots-other r hs lane p q w held within off less =
     ap word_of_bits (get_or-set_other r.words (root_place r p.domain p.slot) (root_place r q.domain q.slot) (word_bits w) 0
     (λ e. off (ap (λ (d : ℕ). get_or hs d 0) (same_from_place q.domain q.slot p.domain p.slot r.slots less within e).0 ∙ held)))
 
-Leaves-root : (h : HeapView) (r : RootWords) (hs : List ℕ) (lane : ℕ) → r ≡ record (h.roots) { words = r.words } → ((p : Slot) → get_or hs p.domain 0 ≢ lane → p.slot < h.roots.slots → slot_word r p ≡ slot_word h.roots p) → Leaves hs lane h (record h { roots = r })
+Leaves-root : (h : HeapView) (r : RootWords) (hs : List ℕ) (lane : ℕ) → r ≡ record (h.roots) { words = r.words; noted = r.noted } → ((p : Slot) → get_or hs p.domain 0 ≢ lane → p.slot < h.roots.slots → slot_word r p ≡ slot_word h.roots p) → Leaves hs lane h (record h { roots = r })
 Leaves-root h r hs lane same others = record {
   chunks = chunks-same h.chunks lane;
   buffers = buffers-same h.buffers lane;

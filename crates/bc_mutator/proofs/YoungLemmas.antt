@@ -163,6 +163,7 @@ module _ (s : Layout) (r : RootWords) (cs ds : List Nursery) (bs : List Entries)
         domains = closed.domains;
         holder = λ d lt. (let h = closed.holder d lt in omega arith);
         root = λ d p a lt less e. there-kept (get_or hs d 0) a.0 (closed.root d p a lt less e);
+        noted = closed.noted;
         young_domain = λ l a lt on.
             let k = closed.young_domain l a (omega arith) (sym (has-same l a) ∙ on) in
             subst (λ (h : Head). (h.domain < length hs) × (get_or hs h.domain 0 ≡ l)) (sym (head-same l a)) k;

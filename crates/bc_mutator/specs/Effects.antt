@@ -21,7 +21,7 @@ use Rattle.bc_superpages.specs.declared.headers.PageState.TheVariants.{Remembere
 use Rattle.bc_superpages.specs.Kept.{IsLayout}
 use Rattle.bc_superpages.specs.Layout.{Layout, content_at, state_at, with_state, with_word}
 use Rattle.bc_superpages.specs.Memory as cells
-use Rattle.bc_superpages.specs.RootWords.{RootWords, root_place}
+use Rattle.bc_superpages.specs.RootWords.{RootWords, root_place, with_note}
 use Rattle.bc_word.specs.Addresses.{page_of}
 use Rattle.bc_word.specs.Words.{word_bits}
 use Rattle.bc_word.specs.declared.addresses.Address.{Address}
@@ -31,9 +31,10 @@ use Rattle.bc_word.specs.declared.words.Word.TheVariants.{Nil, Num, Ref}
 use Rattle.bc_mutator.specs.Objects.{AreWhole, IsRead, own_chunk, memory_of, slot_word}
 use Rattle.bc_mutator.specs.Operations.{NoneLater, RefersToField, StoresYoung}
 
--- the root slots with another word in one of them
+-- the root slots with another word in one of them, which is noted
 abbrev pub with_root : RootWords → Slot → Word → RootWords
-with_root r p word = record r { words = slice_set r.words (root_place r p.domain p.slot) (word_bits word) }
+with_root r p word =
+    record r { words = slice_set r.words (root_place r p.domain p.slot) (word_bits word); noted = with_note r.noted (root_place r p.domain p.slot) }
 
 -- an operation that changes nothing is answered this
 abbrev pub Answers : HeapView → List ℕ → ℕ → Op → Reply → Type 0
@@ -47,7 +48,7 @@ pub record Leaves (holders : List ℕ) (lane : ℕ) (old new : HeapView) : Type 
   pub space : new.space ≡ record old.space { states = new.space.states; pages = new.space.pages }
   pub pages : (page : ℕ) → slice_index holders (slice_index old.space.domains (page / 4)) ≢ lane
       → (content_at new.space.pages page ≡ content_at old.space.pages page) × (state_at new.space.states page ≡ state_at old.space.states page)
-  pub roots : new.roots ≡ record old.roots { words = new.roots.words }
+  pub roots : new.roots ≡ record old.roots { words = new.roots.words; noted = new.roots.noted }
   pub slots : (p : Slot) → slice_index holders p.domain ≢ lane → p.slot < old.roots.slots → slot_word new.roots p ≡ slot_word old.roots p
   pub chunk : own_chunk new lane ≡ record (own_chunk old lane) { objects = (own_chunk new lane).objects }
   pub capacity : (buffer_of new.buffers lane).capacity ≡ (buffer_of old.buffers lane).capacity

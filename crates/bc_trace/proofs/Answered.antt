@@ -10,19 +10,19 @@ use Rattle.bc_trace.specs.declared.fault.TraceFault.{TraceFault}
 use Rattle.bc_trace.specs.Lines.{trace_text, line_text, Spells}
 use Rattle.bc_trace.specs.Faults.{Fault}
 use Rattle.bc_trace.specs.Drafts.{empty_draft}
-use Rattle.bc_trace.specs.Reading.{fault, finished, read_of}
+use Rattle.bc_trace.specs.Reading.{fault, trace_of_draft, read_of}
 use Rattle.bc_trace.specs.Answers.{TellsFault, IsFaultOrMemory, Gives}
-use Rattle.bc_trace.proofs.Whole.{put_all, AllPass, Reading, read_means, fault_read}
-use Rattle.bc_trace.proofs.Again.{trace_read}
-use Rattle.bc_trace.proofs.Shapes.{passing_lines}
+use Rattle.bc_trace.proofs.ReadOfFault.{put_all, AllPass, Reading, read_means, fault_read}
+use Rattle.bc_trace.proofs.ReadOfTrace.{trace_read}
+use Rattle.bc_trace.proofs.FollowLines.{passing_lines}
 use Rattle.bc_trace.proofs.Lengths.{text_fits}
 use Rattle.std.specs.List.{flat_map}
 
 spelled_by : (bytes : List ℕ) (t : TraceLists) → AllPass empty_draft bytes t → Spells bytes t
 unfolding trace_text
 spelled_by bytes t h =
-    let found = passing_lines h.lines h.pass h.place in
-    let made : Spells bytes (finished (put_all empty_draft h.lines)) = record { trace = found.1; text = h.text ∙ ap (λ ls. flat_map line_text ls) found.0 } in
+    let found = passing_lines h.lines h.pass h.stage in
+    let made : Spells bytes (trace_of_draft (put_all empty_draft h.lines)) = record { trace = found.1; text = h.text ∙ ap (λ ls. flat_map line_text ls) found.0 } in
     subst (λ t. Spells bytes t) h.trace made
 
 read_spelled : (bytes : List ℕ) (t : TraceLists) → Reading bytes → read_of bytes ≡ Ok t → Spells bytes t

@@ -8,12 +8,12 @@ use Rattle.bc_trace.specs.declared.fault.Cause.{Cause}
 use Rattle.bc_trace.specs.declared.line.Line.{Line as ReadLine}
 use Rattle.bc_trace.specs.declared.line.Line.TheVariants as lines
 use Rattle.bc_trace.specs.declared.words.Verb.TheVariants as verbs
-use Rattle.bc_trace.specs.declared.words.Word.{Word}
-use Rattle.bc_trace.specs.declared.words.Word.TheVariants as words
+use Rattle.bc_trace.specs.declared.words.Keyword.{Keyword}
+use Rattle.bc_trace.specs.declared.words.Keyword.TheVariants as words
 use Rattle.bc_trace.specs.Lines.{Line, turn}
 use Rattle.bc_trace.specs.Grammar.{arity}
 use Rattle.bc_trace.specs.Reading.{has_count}
-use Rattle.bc_trace.specs.Said.{said, Reads, AreHints, IsWhole, FitsBuffer}
+use Rattle.bc_trace.specs.Said.{said, Reads, AreHints, HoldsAllHints, FitsBuffer}
 
 pub hints_all : (ns : List ℕ) → list_all (λ h. ltb h (2 ^ 32)) ns ≡ true → AreHints ns
 hints_all [] e i = omega arith
@@ -21,7 +21,7 @@ hints_all (n ∷ ns) e zero = ltb-true n (2 ^ 32) (and_parts (ltb n (2 ^ 32)) (l
 hints_all (n ∷ ns) e (suc i) = hints_all ns (and_parts (ltb n (2 ^ 32)) (list_all (λ h. ltb h (2 ^ 32)) ns) e).1 i
 
 -- the numbers of a line are the first ones of the buffer
-said-take : (l : ReadLine) (n : ℕ) (ns : List ℕ) → IsWhole l (take n ns) → said l (take n ns) ≡ said l ns
+said-take : (l : ReadLine) (n : ℕ) (ns : List ℕ) → HoldsAllHints l (take n ns) → said l (take n ns) ≡ said l ns
 said-take lines.Version n ns h = refl
 said-take (lines.Setting k m) n ns h = refl
 said-take lines.Phase n ns h = refl
@@ -32,11 +32,11 @@ said-take (lines.Give g) n ns h = refl
 said-take lines.End n ns h = refl
 said-take lines.Done n ns h = refl
 
-pub Reads-take : (line : Result Line Cause) (r : Result ReadLine Cause) (n : ℕ) (ns : List ℕ) → IfOk r (λ l. IsWhole l (take n ns)) → Reads line r (take n ns) → Reads line r ns
+pub Reads-take : (line : Result Line Cause) (r : Result ReadLine Cause) (n : ℕ) (ns : List ℕ) → IfOk r (λ l. HoldsAllHints l (take n ns)) → Reads line r (take n ns) → Reads line r ns
 Reads-take line (Ok l) n ns h e = e ∙ ap Ok (said-take l n ns h)
 Reads-take line (Err cause) n ns h e = e
 
-fits-take : (l : ReadLine) (n : ℕ) (ns : List ℕ) → IsWhole l (take n ns) → FitsBuffer l ns
+fits-take : (l : ReadLine) (n : ℕ) (ns : List ℕ) → HoldsAllHints l (take n ns) → FitsBuffer l ns
 fits-take lines.Version n ns h = tt
 fits-take (lines.Setting k m) n ns h = tt
 fits-take lines.Phase n ns h = tt
@@ -49,12 +49,12 @@ fits-take (lines.Give g) n ns h = tt
 fits-take lines.End n ns h = tt
 fits-take lines.Done n ns h = tt
 
-pub FitsBuffer-take : (r : Result ReadLine Cause) (n : ℕ) (ns : List ℕ) → IfOk r (λ l. IsWhole l (take n ns)) → IfOk r (λ l. FitsBuffer l ns)
+pub FitsBuffer-take : (r : Result ReadLine Cause) (n : ℕ) (ns : List ℕ) → IfOk r (λ l. HoldsAllHints l (take n ns)) → IfOk r (λ l. FitsBuffer l ns)
 FitsBuffer-take (Ok l) n ns h = fits-take l n ns h
 FitsBuffer-take (Err cause) n ns h = tt
 
 -- no word has more than 64 operands
-pub has_count-many : (w : Word) (n : ℕ) → 64 < n → has_count w n ≡ false
+pub has_count-many : (w : Keyword) (n : ℕ) → 64 < n → has_count w n ≡ false
 unfolding has_count arity
 has_count-many words.Version n many = ne_eqb n 1 (omega arith)
 has_count-many (words.Setting k) n many = ne_eqb n 1 (omega arith)

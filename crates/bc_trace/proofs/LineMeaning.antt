@@ -9,11 +9,11 @@ use Rattle.bc_model.specs.declared.operations.Op.{Op}
 use Rattle.bc_model.specs.declared.operations.Op.TheVariants as ops
 use Rattle.bc_model.specs.declared.traces.Setup.{Setup}
 use Rattle.bc_model.specs.declared.values.Slot.{Slot}
-use Rattle.bc_trace.specs.declared.grammar.State.{State}
+use Rattle.bc_trace.specs.declared.grammar.Progress.{Progress}
 use Rattle.bc_trace.specs.declared.words.Setting.TheVariants as settings
 use Rattle.bc_trace.specs.declared.words.Verb.TheVariants as verbs
-use Rattle.bc_trace.specs.declared.words.Word.{Word}
-use Rattle.bc_trace.specs.declared.words.Word.TheVariants as words
+use Rattle.bc_trace.specs.declared.words.Keyword.{Keyword}
+use Rattle.bc_trace.specs.declared.words.Keyword.TheVariants as words
 use Rattle.bc_trace.specs.Lines.{Line, version, setting, phase, turn, lane, op, give, end, done, word_of_line, operands}
 use Rattle.bc_trace.specs.Grammar.{arity, IsCount, InRange, FramesFit}
 use Rattle.bc_trace.specs.Reading.{has_count, line_of, is_slot, is_op, is_setting, in_range, least_frames, most_frames, frames_fit}
@@ -21,7 +21,7 @@ use Rattle.bc_trace.proofs.Meaning.{Decides-within}
 
 -- ---- counts
 
-pub Decides-count : (w : Word) (n : ℕ) → Decides (has_count w n) (IsCount w n)
+pub Decides-count : (w : Keyword) (n : ℕ) → Decides (has_count w n) (IsCount w n)
 unfolding has_count
 Decides-count words.Version n = Decides-eqb n (arity words.Version)
 Decides-count (words.Setting k) n = Decides-eqb n (arity (words.Setting k))
@@ -62,7 +62,7 @@ numbers_5 : (ns : List ℕ) → length ns ≡ 5 → at ns 0 ∷ at ns 1 ∷ at n
 numbers_5 [] e = absurd (omega arith)
 numbers_5 (a ∷ ns) e = ap (λ (ms : List ℕ). a ∷ ms) (numbers_4 ns (omega arith))
 
-pub word_of_line-line_of : (w : Word) (ns : List ℕ) → word_of_line (line_of w ns) ≡ w
+pub word_of_line-line_of : (w : Keyword) (ns : List ℕ) → word_of_line (line_of w ns) ≡ w
 word_of_line-line_of words.Version ns = refl
 word_of_line-line_of (words.Setting k) ns = refl
 word_of_line-line_of words.Phase ns = refl
@@ -82,7 +82,7 @@ word_of_line-line_of (words.Op verbs.Copy) ns = refl
 word_of_line-line_of (words.Op verbs.Clear) ns = refl
 word_of_line-line_of (words.Op verbs.Same) ns = refl
 
-pub operands-line_of : (w : Word) (ns : List ℕ) → IsCount w (length ns) → operands (line_of w ns) ≡ ns
+pub operands-line_of : (w : Keyword) (ns : List ℕ) → IsCount w (length ns) → operands (line_of w ns) ≡ ns
 unfolding arity
 operands-line_of words.Version ns e = numbers_1 ns e
 operands-line_of (words.Setting k) ns e = numbers_1 ns e
@@ -148,7 +148,7 @@ Decides-hints (n ∷ ns) = Decides-and (ltb n (2 ^ 32)) (list_all (λ h. ltb h (
 always : Decides true (Unit {0})
 always = (λ e. tt, λ h. refl)
 
-pub Decides-range : (s : State) (l : Line) → Decides (in_range s l) (InRange s l)
+pub Decides-range : (s : Progress) (l : Line) → Decides (in_range s l) (InRange s l)
 unfolding in_range is_setting
 Decides-range s (version n) = Decides-eqb n 1
 Decides-range s (setting settings.Lanes n) = Decides-within 1 16 n
@@ -166,7 +166,7 @@ Decides-range s (give g) = Decides-and (ltb g.domain s.setup.domains) (ltb g.lan
 Decides-range s end = always
 Decides-range s done = always
 
-pub Decides-frames : (s : State) (l : Line) → Decides (frames_fit s l) (FramesFit s l)
+pub Decides-frames : (s : Progress) (l : Line) → Decides (frames_fit s l) (FramesFit s l)
 unfolding frames_fit
 Decides-frames s (version n) = always
 Decides-frames s (setting settings.Lanes n) = always

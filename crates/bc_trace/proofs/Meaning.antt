@@ -15,11 +15,11 @@ use Rattle.bc_trace.specs.declared.words.Setting.{Setting}
 use Rattle.bc_trace.specs.declared.words.Setting.TheVariants as settings
 use Rattle.bc_trace.specs.declared.words.Verb.{Verb}
 use Rattle.bc_trace.specs.declared.words.Verb.TheVariants as verbs
-use Rattle.bc_trace.specs.declared.words.Word.{Word}
-use Rattle.bc_trace.specs.declared.words.Word.TheVariants as words
+use Rattle.bc_trace.specs.declared.words.Keyword.{Keyword}
+use Rattle.bc_trace.specs.declared.words.Keyword.TheVariants as words
 use Rattle.bc_trace.specs.Words.{name, verb_name, setting_name}
-use Rattle.bc_trace.specs.Faults.{words_of, IsWord, IsFormed, IsNumeral}
-use Rattle.bc_trace.specs.Reading.{next_fresh, where_some, is_within, formed_from, named, word_of, op_word, setting_word, or_word, all_verbs, all_settings, all_others, read_on, digits_of, number_of, both, numbers_of}
+use Rattle.bc_trace.specs.Faults.{line_words, IsWord, IsFormed, IsNumeral}
+use Rattle.bc_trace.specs.Reading.{next_fresh, where_some, is_within, formed_from, named, word_of, op_word, setting_word, or_word, all_verbs, all_settings, all_others, read_on, digits_of, number_of, both, read_numbers}
 
 -- ---- words of visible bytes
 
@@ -62,19 +62,19 @@ space_rest : (fresh : Bool) (ws : List (List ℕ)) (r : Bool) → Decides r (All
 space_rest true ws r h = (λ e. absurd cc, λ x. absurd x.0)
 space_rest false ws r h = (λ e. (tt, h.0 e), λ x. h.1 x.1)
 
-formed_means : (bytes : List ℕ) (fresh : Bool) → Decides (formed_from fresh bytes) (AreRest fresh (words_of bytes))
+formed_means : (bytes : List ℕ) (fresh : Bool) → Decides (formed_from fresh bytes) (AreRest fresh (line_words bytes))
 unfolding formed_from
 formed_means [] true = (λ e. absurd cc, λ h. absurd h.0)
 formed_means [] false = (λ e. (tt, tt), λ h. refl)
 formed_means (b ∷ bs) fresh =
     elim (cases_Bool (eqb b 32)) [
-      | inl is ↦ rw (formed-space bs b fresh is, slice_split-cons_yes (λ b. eqb b 32) b bs is) (space_rest fresh (words_of bs) (formed_from true bs) (fresh_rest (words_of bs) (formed_from true bs) (formed_means bs true)))
-      | inr isnt ↦ rw (formed-other bs b fresh isnt, slice_split-cons_no (λ b. eqb b 32) b bs isnt) (begun_rest b fresh (words_of bs) (formed_from false bs) (formed_means bs false))
+      | inl is ↦ rw (formed-space bs b fresh is, slice_split-cons_yes (λ b. eqb b 32) b bs is) (space_rest fresh (line_words bs) (formed_from true bs) (fresh_rest (line_words bs) (formed_from true bs) (formed_means bs true)))
+      | inr isnt ↦ rw (formed-other bs b fresh isnt, slice_split-cons_no (λ b. eqb b 32) b bs isnt) (begun_rest b fresh (line_words bs) (formed_from false bs) (formed_means bs false))
     ]
 
 -- the first test
 pub Decides-formed : (line : List ℕ) → Decides (formed_from true line) (IsFormed line)
-Decides-formed line = fresh_rest (words_of line) (formed_from true line) (formed_means line true)
+Decides-formed line = fresh_rest (line_words line) (formed_from true line) (formed_means line true)
 
 -- ---- the words of the language
 
@@ -85,16 +85,16 @@ named-is f (v ∷ ws) bytes w e = go (named-is f ws bytes w) (bytes_eq bytes (f 
   go next true is e = let same : v ≡ w = cc in (bytes_eq-Decides bytes (f v)).0 is ∙ ap f same
   go next false is e = next e
 
-pub word_of-is : (bytes : List ℕ) (w : Word) → word_of bytes ≡ Some w → bytes ≡ name w
+pub word_of-is : (bytes : List ℕ) (w : Keyword) → word_of bytes ≡ Some w → bytes ≡ name w
 unfolding word_of name
 word_of-is bytes w e = go (named verb_name all_verbs bytes) (named name all_others bytes) (named setting_name all_settings bytes) refl refl refl e where
-  go : (a : Option Verb) (b : Option Word) (c : Option Setting) → named verb_name all_verbs bytes ≡ a → named name all_others bytes ≡ b → named setting_name all_settings bytes ≡ c → or_word (op_word a) (or_word b (setting_word c)) ≡ Some w → bytes ≡ name w
+  go : (a : Option Verb) (b : Option Keyword) (c : Option Setting) → named verb_name all_verbs bytes ≡ a → named name all_others bytes ≡ b → named setting_name all_settings bytes ≡ c → or_word (op_word a) (or_word b (setting_word c)) ≡ Some w → bytes ≡ name w
   go (Some v) b c x y z e = let same : words.Op v ≡ w = cc in named-is verb_name all_verbs bytes v x ∙ ap name same
   go None (Some v) c x y z e = let same : v ≡ w = cc in named-is name all_others bytes v y ∙ ap name same
   go None None (Some k) x y z e = let same : words.Setting k ≡ w = cc in named-is setting_name all_settings bytes k z ∙ ap name same
   go None None None x y z e = absurd cc
 
-pub word_of-name : (w : Word) → word_of (name w) ≡ Some w
+pub word_of-name : (w : Keyword) → word_of (name w) ≡ Some w
 unfolding word_of name verb_name setting_name
 word_of-name words.Version = refl
 word_of-name (words.Setting settings.Lanes) = refl
@@ -169,11 +169,11 @@ number_of-decimal n lt =
     let one : digits_of (decimal n) ≡ Some n = rw (digits, value, lt-ltb n (2 ^ 63) lt) refl in
     number_of-digits (decimal n) (decimal_nonempty n (omega arith)) (lead_of n lt) ∙ one
 
-pub numbers_of-is : (ws : List (List ℕ)) (ns : List ℕ) → numbers_of ws ≡ Some ns → (ws ≡ map decimal ns) × AllByRecursion IsNumber ns
-unfolding numbers_of
-numbers_of-is [] ns e = let same : [] ≡ ns = cc in subst (λ (ns : List ℕ). ([] ≡ map decimal ns) × AllByRecursion IsNumber ns) same (refl, tt)
-numbers_of-is (w ∷ ws) ns e = go (numbers_of-is ws) (number_of w) (numbers_of ws) refl refl e where
-  go : ((ms : List ℕ) → numbers_of ws ≡ Some ms → (ws ≡ map decimal ms) × AllByRecursion IsNumber ms) → (a : Option ℕ) (b : Option (List ℕ)) → number_of w ≡ a → numbers_of ws ≡ b → both a b ≡ Some ns → (w ∷ ws ≡ map decimal ns) × AllByRecursion IsNumber ns
+pub read_numbers-is : (ws : List (List ℕ)) (ns : List ℕ) → read_numbers ws ≡ Some ns → (ws ≡ map decimal ns) × AllByRecursion IsNumber ns
+unfolding read_numbers
+read_numbers-is [] ns e = let same : [] ≡ ns = cc in subst (λ (ns : List ℕ). ([] ≡ map decimal ns) × AllByRecursion IsNumber ns) same (refl, tt)
+read_numbers-is (w ∷ ws) ns e = go (read_numbers-is ws) (number_of w) (read_numbers ws) refl refl e where
+  go : ((ms : List ℕ) → read_numbers ws ≡ Some ms → (ws ≡ map decimal ms) × AllByRecursion IsNumber ms) → (a : Option ℕ) (b : Option (List ℕ)) → number_of w ≡ a → read_numbers ws ≡ b → both a b ≡ Some ns → (w ∷ ws ≡ map decimal ns) × AllByRecursion IsNumber ns
   go more None b x y e = absurd cc
   go more (Some n) None x y e = absurd cc
   go more (Some n) (Some ms) x y e =
@@ -182,10 +182,10 @@ numbers_of-is (w ∷ ws) ns e = go (numbers_of-is ws) (number_of w) (numbers_of 
       let same : n ∷ ms ≡ ns = cc in
       subst (λ (ns : List ℕ). (w ∷ ws ≡ map decimal ns) × AllByRecursion IsNumber ns) same (rw (first.0, rest.0) refl, (first.1, rest.1))
 
-pub numbers_of-decimal : (ns : List ℕ) → AllByRecursion IsNumber ns → numbers_of (map decimal ns) ≡ Some ns
-unfolding numbers_of
-numbers_of-decimal [] h = refl
-numbers_of-decimal (n ∷ ns) h = rw (number_of-decimal n h.0, numbers_of-decimal ns h.1) refl
+pub read_numbers-decimal : (ns : List ℕ) → AllByRecursion IsNumber ns → read_numbers (map decimal ns) ≡ Some ns
+unfolding read_numbers
+read_numbers-decimal [] h = refl
+read_numbers-decimal (n ∷ ns) h = rw (number_of-decimal n h.0, read_numbers-decimal ns h.1) refl
 
 -- words that are numerals are those of some numbers
 pub numerals : (ws : List (List ℕ)) → AllByRecursion IsNumeral ws → (ns : List ℕ) × (ws ≡ map decimal ns) × AllByRecursion IsNumber ns

@@ -1,7 +1,7 @@
 -- What the ranges keep small.
 use Rattle.std.proofs.Common.{◌≡◌, ℕ, ◌+◌, ◌≤◌, true, ◌&&◌, leb, arith}
 use Rattle.std.proofs.lemmas.Bool.{leb-true, and_parts}
-use Rattle.bc_trace.specs.declared.grammar.State.{State}
+use Rattle.bc_trace.specs.declared.grammar.Progress.{Progress}
 use Rattle.bc_trace.specs.declared.words.Setting.TheVariants as settings
 use Rattle.bc_trace.specs.Lines.{Line, version, setting, phase, turn, lane, op, give, end, done}
 use Rattle.bc_trace.specs.Grammar.{after}
@@ -12,7 +12,7 @@ most : (n m : ℕ) → (leb 1 n && leb n m) ≡ true → n ≤ m
 most n m e = leb-true n m (and_parts (leb 1 n) (leb n m) e).1
 
 -- behind a line whose numbers are in range
-pub IsSmall-after : (l : Line) (s : State) (n : ℕ) → in_range s l ≡ true → IsSmall s n → IsSmall (after l s) (n + 1)
+pub IsSmall-after : (l : Line) (s : Progress) (n : ℕ) → in_range s l ≡ true → IsSmall s n → IsSmall (after l s) (n + 1)
 unfolding in_range is_setting
 IsSmall-after (version v) s n e h = record { lanes = h.lanes; nursery = h.nursery; superpages = h.superpages; stood = omega (arith, h.stood) }
 IsSmall-after (setting settings.Lanes v) s n e h = record { lanes = most v 16 e; nursery = h.nursery; superpages = h.superpages; stood = omega (arith, h.stood) }

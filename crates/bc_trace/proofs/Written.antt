@@ -5,7 +5,7 @@ use Rattle.std.proofs.lemmas.List.{map_more, append-nil, length-map, length-take
 use Rattle.std.proofs.lemmas.List.Concat.{flat_map-append}
 use Rattle.bc_model.specs.Lists.{PhaseLists, TraceLists}
 use Rattle.bc_model.specs.declared.operations.Op.{Op}
-use Rattle.bc_trace.specs.declared.words.Word.TheVariants as words
+use Rattle.bc_trace.specs.declared.words.Keyword.TheVariants as words
 use Rattle.bc_trace.specs.Lines.{Line, turn, lane, op, give, end, done, setup_lines, lane_lines, phase_lines, trace_text, spelling, line_text}
 
 abbrev text_of : List Line → List ℕ

@@ -4,14 +4,14 @@ use Rattle.bc_model.specs.Lists.{PhaseLists}
 use Rattle.bc_model.specs.declared.operations.Op.{Op}
 use Rattle.bc_model.specs.declared.traces.Give.{Give}
 use Rattle.bc_trace.specs.declared.draft.Draft.{Draft}
-use Rattle.bc_trace.specs.declared.grammar.State.{State}
+use Rattle.bc_trace.specs.declared.grammar.Progress.{Progress}
 use Rattle.bc_trace.specs.Lines.{Line, turn, lane, op, give, end}
 use Rattle.bc_trace.specs.Grammar.{start, after}
 
 -- the phases that were read, and what was read of the next one: its turns, the lanes before the
 -- last one that was begun, that lane's operations, and its gives
 pub record DraftLists : Type 0 where
-  pub state : State
+  pub progress : Progress
   pub phases : List PhaseLists
   pub turns : List (List ℕ)
   pub lanes : List (List Op)
@@ -19,10 +19,10 @@ pub record DraftLists : Type 0 where
   pub gives : List Give
 
 abbrev pub shown : Draft → DraftLists
-shown d = record { state = d.state; phases = d.phases.items; turns = map (λ v. v.items) d.turns.items; lanes = map (λ v. v.items) d.lanes.items; ops = d.ops.items; gives = d.gives.items }
+shown d = record { progress = d.progress; phases = d.phases.items; turns = map (λ v. v.items) d.turns.items; lanes = map (λ v. v.items) d.lanes.items; ops = d.ops.items; gives = d.gives.items }
 
 abbrev pub empty_draft : DraftLists
-empty_draft = record { state = start; phases = []; turns = []; lanes = []; ops = []; gives = [] }
+empty_draft = record { progress = start; phases = []; turns = []; lanes = []; ops = []; gives = [] }
 
 -- the lane that was begun last stands among the others
 abbrev pub lanes_ended : DraftLists → DraftLists
@@ -30,12 +30,12 @@ lanes_ended d = record d { lanes = d.lanes ++ d.ops ∷ []; ops = [] }
 
 -- the phase stands among the others
 abbrev pub phase_ended : DraftLists → DraftLists
-phase_ended d = record { state = d.state; phases = d.phases ++ record { turns = d.turns; lanes = d.lanes ++ d.ops ∷ []; gives = d.gives } ∷ []; turns = []; lanes = []; ops = []; gives = [] }
+phase_ended d = record { progress = d.progress; phases = d.phases ++ record { turns = d.turns; lanes = d.lanes ++ d.ops ∷ []; gives = d.gives } ∷ []; turns = []; lanes = []; ops = []; gives = [] }
 
 -- the lists with one more line
 unfoldable pub put_lists : Line → DraftLists → DraftLists
 put_lists (turn hints) d = record d { turns = d.turns ++ hints ∷ [] }
-put_lists (lane j) d = if d.state.stood == 0 then d else lanes_ended d
+put_lists (lane j) d = if d.progress.stood == 0 then d else lanes_ended d
 put_lists (op o) d = record d { ops = d.ops ++ o ∷ [] }
 put_lists (give g) d = record d { gives = d.gives ++ g ∷ [] }
 put_lists end d = phase_ended d
@@ -43,4 +43,4 @@ put_lists l d = d
 
 -- with one more line
 abbrev pub put : Line → DraftLists → DraftLists
-put l d = record (put_lists l d) { state = after l d.state }
+put l d = record (put_lists l d) { progress = after l d.progress }

@@ -5,17 +5,17 @@ use Rattle.std.specs.Fmt.{decimal}
 use Rattle.bc_model.specs.WellFormed.{IsWithin, IsNumber}
 use Rattle.bc_trace.specs.declared.fault.Cause.{Cause}
 use Rattle.bc_trace.specs.declared.fault.Cause.TheVariants as causes
-use Rattle.bc_trace.specs.declared.grammar.Place.{Place}
-use Rattle.bc_trace.specs.declared.grammar.Place.TheVariants as places
-use Rattle.bc_trace.specs.declared.grammar.State.{State}
-use Rattle.bc_trace.specs.declared.words.Word.{Word}
+use Rattle.bc_trace.specs.declared.grammar.Stage.{Stage}
+use Rattle.bc_trace.specs.declared.grammar.Stage.TheVariants as stages
+use Rattle.bc_trace.specs.declared.grammar.Progress.{Progress}
+use Rattle.bc_trace.specs.declared.words.Keyword.{Keyword}
 use Rattle.bc_trace.specs.Words.{name}
 use Rattle.bc_trace.specs.Lines.{Line, word_of_line, operands, spelling, line_text}
 use Rattle.bc_trace.specs.Grammar.{start, MayStand, IsCount, InRange, FramesFit, after_all, Follow}
 
 -- what single spaces separate
-abbrev pub words_of : List ℕ → List (List ℕ)
-words_of line = slice_split (λ b. b == 32) line
+abbrev pub line_words : List ℕ → List (List ℕ)
+line_words line = slice_split (λ b. b == 32) line
 
 -- one byte or more, each from 0x21 to 0x7e
 abbrev pub IsWord : List ℕ → Type 0
@@ -24,11 +24,11 @@ IsWord (b ∷ bs) = AllByRecursion (IsWithin 33 126) (b ∷ bs)
 
 -- nothing but words, with single spaces between them
 abbrev pub IsFormed : List ℕ → Type 0
-IsFormed line = AllByRecursion IsWord (words_of line)
+IsFormed line = AllByRecursion IsWord (line_words line)
 
 -- the line begins with the word, and these are its operands
-abbrev pub BeginsWith : List ℕ → Word → List (List ℕ) → Type 0
-BeginsWith line w others = words_of line ≡ name w ∷ others
+abbrev pub BeginsWith : List ℕ → Keyword → List (List ℕ) → Type 0
+BeginsWith line w others = line_words line ≡ name w ∷ others
 
 -- a number below 2^63, as numbers are written
 abbrev pub IsNumeral : List ℕ → Type 0
@@ -38,26 +38,26 @@ IsNumeral word = (n : ℕ) × IsNumber n × (word ≡ decimal n)
 
 pub record WordFails (line : List ℕ) : Type 0 where
   pub formed : IsFormed line
-  pub unknown : (w : Word) (others : List (List ℕ)) → ¬ BeginsWith line w others
+  pub unknown : (w : Keyword) (others : List (List ℕ)) → ¬ BeginsWith line w others
 
-pub record OrderFails (s : State) (line : List ℕ) : Type 0 where
+pub record OrderFails (s : Progress) (line : List ℕ) : Type 0 where
   pub formed : IsFormed line
-  pub word : Word
+  pub word : Keyword
   pub others : List (List ℕ)
   pub begins : BeginsWith line word others
   pub order : ¬ MayStand s word
 
-pub record CountFails (s : State) (line : List ℕ) : Type 0 where
+pub record CountFails (s : Progress) (line : List ℕ) : Type 0 where
   pub formed : IsFormed line
-  pub word : Word
+  pub word : Keyword
   pub others : List (List ℕ)
   pub begins : BeginsWith line word others
   pub stands : MayStand s word
   pub count : ¬ IsCount word (length others)
 
-pub record NumberFails (s : State) (line : List ℕ) : Type 0 where
+pub record NumberFails (s : Progress) (line : List ℕ) : Type 0 where
   pub formed : IsFormed line
-  pub word : Word
+  pub word : Keyword
   pub others : List (List ℕ)
   pub begins : BeginsWith line word others
   pub stands : MayStand s word
@@ -65,25 +65,25 @@ pub record NumberFails (s : State) (line : List ℕ) : Type 0 where
   pub number : ¬ AllByRecursion IsNumeral others
 
 -- the line is a word that may stand here, and so many numbers as it may have
-pub record IsReadable (s : State) (line : List ℕ) (l : Line) : Type 0 where
+pub record IsReadable (s : Progress) (line : List ℕ) (l : Line) : Type 0 where
   pub text : line ≡ spelling (word_of_line l) (operands l)
   pub stands : MayStand s (word_of_line l)
   pub count : IsCount (word_of_line l) (length (operands l))
   pub numbers : AllByRecursion IsNumber (operands l)
 
-pub record RangeFails (s : State) (line : List ℕ) : Type 0 where
+pub record RangeFails (s : Progress) (line : List ℕ) : Type 0 where
   pub says : Line
   pub readable : IsReadable s line says
   pub range : ¬ InRange s says
 
-pub record FramesFails (s : State) (line : List ℕ) : Type 0 where
+pub record FramesFails (s : Progress) (line : List ℕ) : Type 0 where
   pub says : Line
   pub readable : IsReadable s line says
   pub range : InRange s says
   pub frames : ¬ FramesFit s says
 
--- in this state the first test that the line fails has this cause
-abbrev pub Fails : State → List ℕ → Cause → Type 0
+-- in this progress the first test that the line fails has this cause
+abbrev pub Fails : Progress → List ℕ → Cause → Type 0
 Fails s line causes.Form = ¬ IsFormed line ⊎ CountFails s line
 Fails s line causes.Word = WordFails line
 Fails s line causes.Order = OrderFails s line
@@ -104,10 +104,10 @@ pub record FaultOfLine (bytes : List ℕ) (line : ℕ) (cause : Cause) : Type 0 
   pub fails : Fails (after_all start before) bad cause
 
 -- something stands behind the last line, or that line should not be the last
-abbrev pub EndFails : Place → List ℕ → Cause → Type 0
-EndFails place rest causes.Order = (place ≡ places.Finished) × (rest ≢ [])
-EndFails place rest causes.End = place ≢ places.Finished
-EndFails place rest _ = ⊥
+abbrev pub EndFails : Stage → List ℕ → Cause → Type 0
+EndFails stage rest causes.Order = (stage ≡ stages.Finished) × (rest ≢ [])
+EndFails stage rest causes.End = stage ≢ stages.Finished
+EndFails stage rest _ = ⊥
 
 -- what is begun counts as a line
 abbrev pub lines_begun : List ℕ → ℕ
@@ -122,7 +122,7 @@ pub record FaultAtEnd (bytes : List ℕ) (line : ℕ) (cause : Cause) : Type 0 w
   pub begun : AllByRecursion (λ b. b ≢ 10) rest
   pub pass : Follow start before
   pub number : line ≡ length before + lines_begun rest
-  pub ends : EndFails (after_all start before).place rest cause
+  pub ends : EndFails (after_all start before).stage rest cause
 
 -- the one fault of a text that is no trace: its line, counted from 1, and the cause
 abbrev pub Fault : List ℕ → ℕ → Cause → Type 0

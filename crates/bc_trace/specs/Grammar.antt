@@ -4,19 +4,19 @@ use Rattle.std.specs.List.{AllByRecursion}
 use Rattle.bc_model.specs.Lists.{TraceLists}
 use Rattle.bc_model.specs.WellFormed.{IsWithin, IsNumber, IsOp, IsGive, IsTrace}
 use Rattle.bc_model.specs.declared.traces.Setup.{Setup}
-use Rattle.bc_trace.specs.declared.grammar.Place.{Place}
-use Rattle.bc_trace.specs.declared.grammar.Place.TheVariants as places
-use Rattle.bc_trace.specs.declared.grammar.State.{State}
+use Rattle.bc_trace.specs.declared.grammar.Stage.{Stage}
+use Rattle.bc_trace.specs.declared.grammar.Stage.TheVariants as stages
+use Rattle.bc_trace.specs.declared.grammar.Progress.{Progress}
 use Rattle.bc_trace.specs.declared.words.Setting.{Setting}
 use Rattle.bc_trace.specs.declared.words.Setting.TheVariants as settings
 use Rattle.bc_trace.specs.declared.words.Verb.TheVariants as verbs
-use Rattle.bc_trace.specs.declared.words.Word.{Word}
-use Rattle.bc_trace.specs.declared.words.Word.TheVariants as words
+use Rattle.bc_trace.specs.declared.words.Keyword.{Keyword}
+use Rattle.bc_trace.specs.declared.words.Keyword.TheVariants as words
 use Rattle.bc_trace.specs.Lines.{Line, version, setting, phase, turn, lane, op, give, end, done, word_of_line, operands, trace_lines}
 
 -- before the first line
-abbrev pub start : State
-start = record { place = places.Start; setup = record { lanes = 0; domains = 0; slots = 0; superpages = 0; nursery = 0; buffer = 0; frames = 0 }; stood = 0 }
+abbrev pub start : Progress
+start = record { stage = stages.Start; setup = record { lanes = 0; domains = 0; slots = 0; superpages = 0; nursery = 0; buffer = 0; frames = 0 }; stood = 0 }
 
 unfoldable pub same_setting : Setting → Setting → Bool
 same_setting settings.Lanes settings.Lanes = true
@@ -29,27 +29,27 @@ same_setting settings.Frames settings.Frames = true
 same_setting _ _ = false
 
 -- the header's lines stand in one order; in a phase the turns come first, then all lanes, then the gives
-unfoldable pub may_stand : Word → Place → Bool → Bool
-may_stand words.Version places.Start all = true
-may_stand (words.Setting k) (places.Awaiting awaited) all = same_setting k awaited
-may_stand words.Phase places.Phases all = true
-may_stand words.Done places.Phases all = true
-may_stand words.Turn places.Turns all = true
-may_stand words.Lane places.Turns all = true
-may_stand words.Lane places.Ops all = not all
-may_stand (words.Op v) places.Ops all = true
-may_stand words.Give places.Ops all = all
-may_stand words.Give places.Gives all = true
-may_stand words.End places.Ops all = all
-may_stand words.End places.Gives all = true
+unfoldable pub may_stand : Keyword → Stage → Bool → Bool
+may_stand words.Version stages.Start all = true
+may_stand (words.Setting k) (stages.Awaiting awaited) all = same_setting k awaited
+may_stand words.Phase stages.Phases all = true
+may_stand words.Done stages.Phases all = true
+may_stand words.Turn stages.Turns all = true
+may_stand words.Lane stages.Turns all = true
+may_stand words.Lane stages.Ops all = not all
+may_stand (words.Op v) stages.Ops all = true
+may_stand words.Give stages.Ops all = all
+may_stand words.Give stages.Gives all = true
+may_stand words.End stages.Ops all = all
+may_stand words.End stages.Gives all = true
 may_stand _ _ all = false
 
 -- the word may stand next; all lanes have stood where as many have stood as there are lanes
-abbrev pub MayStand : State → Word → Type 0
-MayStand s w = may_stand w s.place (s.stood == s.setup.lanes) ≡ true
+abbrev pub MayStand : Progress → Keyword → Type 0
+MayStand s w = may_stand w s.stage (s.stood == s.setup.lanes) ≡ true
 
 -- how many numbers follow a word other than `turn`
-unfoldable pub arity : Word → ℕ
+unfoldable pub arity : Keyword → ℕ
 arity words.Version = 1
 arity (words.Setting s) = 1
 arity words.Phase = 0
@@ -70,12 +70,12 @@ arity (words.Op verbs.Clear) = 2
 arity (words.Op verbs.Same) = 4
 
 -- so many numbers may follow the word
-abbrev pub IsCount : Word → ℕ → Type 0
+abbrev pub IsCount : Keyword → ℕ → Type 0
 IsCount words.Turn n = n ≤ 64
 IsCount w n = n ≡ arity w
 
 -- the numbers are in their ranges, that of frames aside
-abbrev pub InRange : State → Line → Type 0
+abbrev pub InRange : Progress → Line → Type 0
 InRange s (version n) = n ≡ 1
 InRange s (setting settings.Lanes n) = IsWithin 1 16 n
 InRange s (setting settings.Domains n) = IsWithin 1 64 n
@@ -93,12 +93,12 @@ InRange s end = ⊤
 InRange s done = ⊤
 
 -- two frames beyond the nurseries, and at most one for each page
-abbrev pub FramesFit : State → Line → Type 0
+abbrev pub FramesFit : Progress → Line → Type 0
 FramesFit s (setting settings.Frames n) = IsWithin (s.setup.lanes * s.setup.nursery + 2) (s.setup.lanes * s.setup.nursery + 4 * s.setup.superpages) n
 FramesFit s l = ⊤
 
 -- the line may stand next, and says what it may say
-pub record Passes (s : State) (l : Line) : Type 0 where
+pub record Passes (s : Progress) (l : Line) : Type 0 where
   pub stands : MayStand s (word_of_line l)
   pub count : IsCount (word_of_line l) (length (operands l))
   pub numbers : AllByRecursion IsNumber (operands l)
@@ -106,14 +106,14 @@ pub record Passes (s : State) (l : Line) : Type 0 where
   pub frames : FramesFit s l
 
 -- the header's settings stand in this order
-abbrev pub place_after_setting : Setting → Place
-place_after_setting settings.Lanes = places.Awaiting settings.Domains
-place_after_setting settings.Domains = places.Awaiting settings.Slots
-place_after_setting settings.Slots = places.Awaiting settings.Superpages
-place_after_setting settings.Superpages = places.Awaiting settings.Nursery
-place_after_setting settings.Nursery = places.Awaiting settings.Buffer
-place_after_setting settings.Buffer = places.Awaiting settings.Frames
-place_after_setting settings.Frames = places.Phases
+abbrev pub stage_after_setting : Setting → Stage
+stage_after_setting settings.Lanes = stages.Awaiting settings.Domains
+stage_after_setting settings.Domains = stages.Awaiting settings.Slots
+stage_after_setting settings.Slots = stages.Awaiting settings.Superpages
+stage_after_setting settings.Superpages = stages.Awaiting settings.Nursery
+stage_after_setting settings.Nursery = stages.Awaiting settings.Buffer
+stage_after_setting settings.Buffer = stages.Awaiting settings.Frames
+stage_after_setting settings.Frames = stages.Phases
 
 abbrev pub with_setting : Setting → ℕ → Setup → Setup
 with_setting settings.Lanes n s = record s { lanes = n }
@@ -124,24 +124,24 @@ with_setting settings.Nursery n s = record s { nursery = n }
 with_setting settings.Buffer n s = record s { buffer = n }
 with_setting settings.Frames n s = record s { frames = n }
 
--- the state behind a line
-abbrev pub after : Line → State → State
-after (version n) s = record s { place = places.Awaiting settings.Lanes }
-after (setting k n) s = record s { place = place_after_setting k; setup = with_setting k n s.setup }
-after phase s = record s { place = places.Turns; stood = 0 }
-after (turn hints) s = record s { place = places.Turns }
-after (lane j) s = record s { place = places.Ops; stood = s.stood + 1 }
-after (op o) s = record s { place = places.Ops }
-after (give g) s = record s { place = places.Gives }
-after end s = record s { place = places.Phases }
-after done s = record s { place = places.Finished }
+-- the progress behind a line
+abbrev pub after : Line → Progress → Progress
+after (version n) s = record s { stage = stages.Awaiting settings.Lanes }
+after (setting k n) s = record s { stage = stage_after_setting k; setup = with_setting k n s.setup }
+after phase s = record s { stage = stages.Turns; stood = 0 }
+after (turn hints) s = record s { stage = stages.Turns }
+after (lane j) s = record s { stage = stages.Ops; stood = s.stood + 1 }
+after (op o) s = record s { stage = stages.Ops }
+after (give g) s = record s { stage = stages.Gives }
+after end s = record s { stage = stages.Phases }
+after done s = record s { stage = stages.Finished }
 
-abbrev pub after_all : State → List Line → State
+abbrev pub after_all : Progress → List Line → Progress
 after_all s [] = s
 after_all s (l ∷ ls) = after_all (after l s) ls
 
 -- each line passes, given those before it
-abbrev pub Follow : State → List Line → Type 0
+abbrev pub Follow : Progress → List Line → Type 0
 Follow s [] = ⊤
 Follow s (l ∷ ls) = Passes s l × Follow (after l s) ls
 
@@ -153,7 +153,7 @@ pub record Begins (ls : List Line) : Type 0 where
   pub lines : trace_lines trace ≡ ls ++ rest
 
 -- some well-formed trace goes on behind these lines with a line of the word
-pub record GoesOn (before : List Line) (w : Word) : Type 0 where
+pub record GoesOnWith (before : List Line) (w : Keyword) : Type 0 where
   pub line : Line
   pub word : word_of_line line ≡ w
   pub begins : Begins (before ++ line ∷ [])

@@ -12,8 +12,8 @@ use Rattle.bc_trace.specs.declared.words.Setting.{Setting}
 use Rattle.bc_trace.specs.declared.words.Setting.TheVariants as settings
 use Rattle.bc_trace.specs.declared.words.Verb.{Verb}
 use Rattle.bc_trace.specs.declared.words.Verb.TheVariants as verbs
-use Rattle.bc_trace.specs.declared.words.Word.{Word}
-use Rattle.bc_trace.specs.declared.words.Word.TheVariants as words
+use Rattle.bc_trace.specs.declared.words.Keyword.{Keyword}
+use Rattle.bc_trace.specs.declared.words.Keyword.TheVariants as words
 use Rattle.bc_trace.specs.Words.{name}
 
 -- a line, with what its operands say
@@ -53,7 +53,7 @@ operands_of_op (ops.Clear p) = p.domain ∷ p.slot ∷ []
 operands_of_op (ops.Same p q) = p.domain ∷ p.slot ∷ q.domain ∷ q.slot ∷ []
 
 -- the word that a line begins with
-abbrev pub word_of_line : Line → Word
+abbrev pub word_of_line : Line → Keyword
 word_of_line (version n) = words.Version
 word_of_line (setting s n) = words.Setting s
 word_of_line phase = words.Phase
@@ -77,7 +77,7 @@ operands end = []
 operands done = []
 
 -- a word and numbers, single spaces between them
-unfoldable pub spelling : Word → List ℕ → List ℕ
+unfoldable pub spelling : Keyword → List ℕ → List ℕ
 spelling w ns = name w ++ flat_map (λ n. 32 ∷ decimal n) ns
 
 -- the bytes of a line, its line feed too

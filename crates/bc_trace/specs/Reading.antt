@@ -11,20 +11,20 @@ use Rattle.bc_model.specs.declared.values.Slot.{Slot}
 use Rattle.bc_trace.specs.declared.fault.Cause.{Cause}
 use Rattle.bc_trace.specs.declared.fault.Cause.TheVariants as causes
 use Rattle.bc_trace.specs.declared.fault.TraceFault.{TraceFault}
-use Rattle.bc_trace.specs.declared.grammar.Place.{Place}
-use Rattle.bc_trace.specs.declared.grammar.Place.TheVariants as places
-use Rattle.bc_trace.specs.declared.grammar.State.{State}
+use Rattle.bc_trace.specs.declared.grammar.Stage.{Stage}
+use Rattle.bc_trace.specs.declared.grammar.Stage.TheVariants as stages
+use Rattle.bc_trace.specs.declared.grammar.Progress.{Progress}
 use Rattle.bc_trace.specs.declared.words.Setting.{Setting}
 use Rattle.bc_trace.specs.declared.words.Setting.TheVariants as settings
 use Rattle.bc_trace.specs.declared.words.Verb.{Verb}
 use Rattle.bc_trace.specs.declared.words.Verb.TheVariants as verbs
-use Rattle.bc_trace.specs.declared.words.Word.{Word}
-use Rattle.bc_trace.specs.declared.words.Word.TheVariants as words
+use Rattle.bc_trace.specs.declared.words.Keyword.{Keyword}
+use Rattle.bc_trace.specs.declared.words.Keyword.TheVariants as words
 use Rattle.bc_trace.specs.Words.{setting_name, verb_name, name}
 use Rattle.bc_trace.specs.Lines.{Line, version, setting, phase, turn, lane, op, give, end, done}
 use Rattle.bc_trace.specs.Grammar.{may_stand, arity}
 use Rattle.bc_trace.specs.Drafts.{DraftLists, empty_draft, put}
-use Rattle.bc_trace.specs.Faults.{words_of, lines_begun}
+use Rattle.bc_trace.specs.Faults.{line_words, lines_begun}
 
 -- ---- words
 
@@ -47,7 +47,7 @@ formed_from fresh (b ∷ bs) = where_some (next_fresh fresh b) (λ f. formed_fro
 -- the words of what follows a line's first word, from the space on
 abbrev pub words_after : List ℕ → List (List ℕ)
 words_after [] = []
-words_after (b ∷ bs) = words_of bs
+words_after (b ∷ bs) = line_words bs
 
 -- the first of these that is written so
 abbrev pub named : {W : Type 0} → (W → List ℕ) → List W → List ℕ → Option W
@@ -61,22 +61,22 @@ abbrev pub all_settings : List Setting
 all_settings = settings.Lanes ∷ settings.Domains ∷ settings.Slots ∷ settings.Superpages ∷ settings.Nursery ∷ settings.Buffer ∷ settings.Frames ∷ []
 
 -- the words that are neither
-abbrev pub all_others : List Word
+abbrev pub all_others : List Keyword
 all_others = words.Turn ∷ words.Lane ∷ words.Give ∷ words.Phase ∷ words.End ∷ words.Done ∷ words.Version ∷ []
 
-abbrev pub or_word : Option Word → Option Word → Option Word
+abbrev pub or_word : Option Keyword → Option Keyword → Option Keyword
 or_word None other = other
 or_word (Some w) other = Some w
 
-abbrev pub op_word : Option Verb → Option Word
+abbrev pub op_word : Option Verb → Option Keyword
 op_word None = None
 op_word (Some v) = Some (words.Op v)
 
-abbrev pub setting_word : Option Setting → Option Word
+abbrev pub setting_word : Option Setting → Option Keyword
 setting_word None = None
 setting_word (Some s) = Some (words.Setting s)
 
-unfoldable pub word_of : List ℕ → Option Word
+unfoldable pub word_of : List ℕ → Option Keyword
 word_of bytes = or_word (op_word (named verb_name all_verbs bytes)) (or_word (named name all_others bytes) (setting_word (named setting_name all_settings bytes)))
 
 -- ---- numbers
@@ -99,13 +99,13 @@ both None ns = None
 both (Some n) None = None
 both (Some n) (Some ns) = Some (n ∷ ns)
 
-unfoldable pub numbers_of : List (List ℕ) → Option (List ℕ)
-numbers_of [] = Some []
-numbers_of (w ∷ ws) = both (number_of w) (numbers_of ws)
+unfoldable pub read_numbers : List (List ℕ) → Option (List ℕ)
+read_numbers [] = Some []
+read_numbers (w ∷ ws) = both (number_of w) (read_numbers ws)
 
 -- ---- lines
 
-unfoldable pub has_count : Word → ℕ → Bool
+unfoldable pub has_count : Keyword → ℕ → Bool
 has_count words.Turn n = nat_le n 64
 has_count w n = n == arity w
 
@@ -129,7 +129,7 @@ abbrev pub give_at : List ℕ → Give
 give_at ns = record { domain = slice_index ns 0; lane = slice_index ns 1 }
 
 -- what the word and its numbers say
-abbrev pub line_of : Word → List ℕ → Line
+abbrev pub line_of : Keyword → List ℕ → Line
 line_of words.Version ns = version (slice_index ns 0)
 line_of (words.Setting k) ns = setting k (slice_index ns 0)
 line_of words.Phase ns = phase
@@ -168,7 +168,7 @@ unfoldable pub is_setting : Setting → ℕ → Bool
 is_setting settings.Frames n = true
 is_setting k n = is_within 1 (most_of k) n
 
-unfoldable pub in_range : State → Line → Bool
+unfoldable pub in_range : Progress → Line → Bool
 in_range s (version n) = n == 1
 in_range s (setting k n) = is_setting k n
 in_range s phase = true
@@ -185,29 +185,29 @@ least_frames s = s.lanes * s.nursery + 2
 abbrev pub most_frames : Setup → ℕ
 most_frames s = s.lanes * s.nursery + 4 * s.superpages
 
-unfoldable pub frames_fit : State → Line → Bool
+unfoldable pub frames_fit : Progress → Line → Bool
 frames_fit s (setting settings.Frames n) = is_within (least_frames s.setup) (most_frames s.setup) n
 frames_fit s l = true
 
 -- ---- the tests of a line, in their order
 
-unfoldable pub with_line : State → Line → Result Line Cause
-with_line s l = if in_range s l then (if frames_fit s l then Ok l else Err causes.Frames) else Err causes.Range
+unfoldable pub judge_line : Progress → Line → Result Line Cause
+judge_line s l = if in_range s l then (if frames_fit s l then Ok l else Err causes.Frames) else Err causes.Range
 
-abbrev pub with_numbers : State → Word → Option (List ℕ) → Result Line Cause
-with_numbers s w None = Err causes.Number
-with_numbers s w (Some ns) = with_line s (line_of w ns)
+abbrev pub judge_numbers : Progress → Keyword → Option (List ℕ) → Result Line Cause
+judge_numbers s w None = Err causes.Number
+judge_numbers s w (Some ns) = judge_line s (line_of w ns)
 
-abbrev pub with_word : State → Option Word → List (List ℕ) → Result Line Cause
-with_word s None others = Err causes.Word
-with_word s (Some w) others = if may_stand w s.place (s.stood == s.setup.lanes) then (if has_count w (length others) then with_numbers s w (numbers_of others) else Err causes.Form) else Err causes.Order
+abbrev pub judge_word : Progress → Option Keyword → List (List ℕ) → Result Line Cause
+judge_word s None others = Err causes.Word
+judge_word s (Some w) others = if may_stand w s.stage (s.stood == s.setup.lanes) then (if has_count w (length others) then judge_numbers s w (read_numbers others) else Err causes.Form) else Err causes.Order
 
-abbrev pub with_words : State → List (List ℕ) → Result Line Cause
-with_words s [] = Err causes.Form
-with_words s (first ∷ others) = with_word s (word_of first) others
+abbrev pub judge_words : Progress → List (List ℕ) → Result Line Cause
+judge_words s [] = Err causes.Form
+judge_words s (first ∷ others) = judge_word s (word_of first) others
 
-unfoldable pub line_at : State → List ℕ → Result Line Cause
-line_at s line = if formed_from true line then with_words s (words_of line) else Err causes.Form
+unfoldable pub line_at : Progress → List ℕ → Result Line Cause
+line_at s line = if formed_from true line then judge_words s (line_words line) else Err causes.Form
 
 -- ---- whole texts
 
@@ -218,17 +218,17 @@ lines_of bytes = slice_split (λ b. b == 10) bytes
 abbrev pub fault : ℕ → Cause → TraceFault
 fault line cause = record { line = line; cause = cause }
 
-abbrev pub finished : DraftLists → TraceLists
-finished d = record { setup = d.state.setup; phases = d.phases }
+abbrev pub trace_of_draft : DraftLists → TraceLists
+trace_of_draft d = record { setup = d.progress.setup; phases = d.phases }
 
 -- behind n whole lines and the rest
-abbrev pub ended_at : Place → DraftLists → ℕ → List ℕ → Result TraceLists TraceFault
-ended_at places.Finished d n [] = Ok (finished d)
-ended_at places.Finished d n (b ∷ bs) = Err (fault (n + 1) causes.Order)
+abbrev pub ended_at : Stage → DraftLists → ℕ → List ℕ → Result TraceLists TraceFault
+ended_at stages.Finished d n [] = Ok (trace_of_draft d)
+ended_at stages.Finished d n (b ∷ bs) = Err (fault (n + 1) causes.Order)
 ended_at _ d n rest = Err (fault (n + lines_begun rest) causes.End)
 
 unfoldable pub ended : DraftLists → ℕ → List ℕ → Result TraceLists TraceFault
-ended d n rest = ended_at d.state.place d n rest
+ended d n rest = ended_at d.progress.stage d n rest
 
 abbrev pub go_on : ℕ → Result Line Cause → (Line → Result TraceLists TraceFault) → Result TraceLists TraceFault
 go_on n (Ok l) next = next l
@@ -238,7 +238,7 @@ go_on n (Err cause) next = Err (fault n cause)
 unfoldable pub reading : DraftLists → ℕ → List (List ℕ) → Result TraceLists TraceFault
 reading d n [] = ended d n []
 reading d n (rest ∷ []) = ended d n rest
-reading d n (line ∷ next ∷ parts) = go_on (n + 1) (line_at d.state line) (λ l. reading (put l d) (n + 1) (next ∷ parts))
+reading d n (line ∷ next ∷ parts) = go_on (n + 1) (line_at d.progress line) (λ l. reading (put l d) (n + 1) (next ∷ parts))
 
 unfoldable pub read_of : List ℕ → Result TraceLists TraceFault
 read_of bytes = reading empty_draft 0 (lines_of bytes)

@@ -3,7 +3,7 @@ use Rattle.std.specs.Prelude.{◌≡◌, ℕ, ◌<◌, ◌≤◌, ◌^◌, ⊤, 
 use Rattle.std.specs.List.{flat_map}
 use Rattle.std.specs.Fmt.{decimal}
 use Rattle.bc_trace.specs.declared.fault.Cause.{Cause}
-use Rattle.bc_trace.specs.declared.grammar.State.{State}
+use Rattle.bc_trace.specs.declared.grammar.Progress.{Progress}
 use Rattle.bc_trace.specs.declared.line.Line.{Line as ReadLine}
 use Rattle.bc_trace.specs.declared.line.Line.TheVariants as lines
 use Rattle.bc_trace.specs.Lines.{Line, version, setting, phase, turn, lane, op, give, end, done, line_text}
@@ -30,9 +30,9 @@ abbrev pub AreHints : List ℕ → Type 0
 AreHints ns = (i : ℕ) → slice_index ns i < 2 ^ 32
 
 -- the hints of a turn are all of these numbers
-abbrev pub IsWhole : ReadLine → List ℕ → Type 0
-IsWhole (lines.Turn count) ns = (count ≡ length ns) × AreHints ns
-IsWhole l ns = ⊤
+abbrev pub HoldsAllHints : ReadLine → List ℕ → Type 0
+HoldsAllHints (lines.Turn count) ns = (count ≡ length ns) × AreHints ns
+HoldsAllHints l ns = ⊤
 
 -- the hints of a turn stand in the buffer
 abbrev pub FitsBuffer : ReadLine → List ℕ → Type 0
@@ -40,7 +40,7 @@ FitsBuffer (lines.Turn count) ns = (count ≤ length ns) × AreHints (take count
 FitsBuffer l ns = ⊤
 
 -- the setup's numbers are in range, and no more lanes stood than n
-pub record IsSmall (s : State) (n : ℕ) : Type 0 where
+pub record IsSmall (s : Progress) (n : ℕ) : Type 0 where
   pub lanes : s.setup.lanes ≤ 16
   pub nursery : s.setup.nursery ≤ 16
   pub superpages : s.setup.superpages ≤ 4096
@@ -53,6 +53,6 @@ unfoldable pub operands_text : List ℕ → List ℕ
 operands_text ns = flat_map (λ n. 32 ∷ decimal n) ns
 
 -- the text begins with this line, which passes, and goes on like this
-pub record IsAhead (s : State) (text : List ℕ) (l : Line) (rest : List ℕ) : Type 0 where
+pub record IsAhead (s : Progress) (text : List ℕ) (l : Line) (rest : List ℕ) : Type 0 where
   pub passes : Passes s l
   pub begins : text ≡ line_text l ++ rest

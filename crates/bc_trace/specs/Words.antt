@@ -4,8 +4,8 @@ use Rattle.bc_trace.specs.declared.words.Setting.{Setting}
 use Rattle.bc_trace.specs.declared.words.Setting.TheVariants as settings
 use Rattle.bc_trace.specs.declared.words.Verb.{Verb}
 use Rattle.bc_trace.specs.declared.words.Verb.TheVariants as verbs
-use Rattle.bc_trace.specs.declared.words.Word.{Word}
-use Rattle.bc_trace.specs.declared.words.Word.TheVariants as words
+use Rattle.bc_trace.specs.declared.words.Keyword.{Keyword}
+use Rattle.bc_trace.specs.declared.words.Keyword.TheVariants as words
 
 unfoldable pub setting_name : Setting → List ℕ
 setting_name settings.Lanes = codes "lanes"
@@ -28,7 +28,7 @@ verb_name verbs.Copy = codes "copy"
 verb_name verbs.Clear = codes "clear"
 verb_name verbs.Same = codes "same"
 
-unfoldable pub name : Word → List ℕ
+unfoldable pub name : Keyword → List ℕ
 name words.Version = codes "bc-trace"
 name (words.Setting s) = setting_name s
 name words.Phase = codes "phase"

@@ -9,7 +9,7 @@ ghost use Rattle.bc_trace.specs.Words.{verb_name, name};
 ghost use Rattle.bc_trace.specs.Said.{operands_text};
 
 use crate::numbers::MOST_OPERANDS;
-use crate::words::{Verb, Word};
+use crate::words::{Keyword, Verb};
 use bc_model::{Setup, Slot};
 
 /// The least number that a line can't say.
@@ -18,9 +18,9 @@ const LIMIT: u64 = 1 << 63;
 /// So many digits say a number that a `u64` can hold.
 const SAFE_DIGITS: usize = 19;
 
-/// What follows the byte.
+/// What follows the byte, where the text begins with it.
 #[inline(always)]
-pub fn behind(text: &[u8], byte: u8) -> Option<&[u8]>
+pub fn byte_ahead(text: &[u8], byte: u8) -> Option<&[u8]>
     ensures { IfSome result (λ rest. text.now ≡ byte ∷ rest.now) }
 {
     match text {
@@ -71,7 +71,7 @@ pub fn operand_ahead(text: &[u8], limit: u64) -> Option<(u64, &[u8])>
     ensures number { IfSome result (λ r. IsNumber r.0) }
     ensures text { IfSome result (λ r. text.now ≡ 32 ∷ (decimal r.0 ++ r.1.now)) }
 {
-    let (number, rest) = number_ahead(behind(text, b' ')?)?;
+    let (number, rest) = number_ahead(byte_ahead(text, b' ')?)?;
     if number < limit {
         Some((number, rest))
     } else {
@@ -127,7 +127,7 @@ pub fn verb_ahead(text: &[u8]) -> Option<(Verb, &[u8])>
 #[inline(always)]
 #[tactic(auto, unfolding(crate::specs::Words::name))]
 pub fn turn_word_ahead(text: &[u8]) -> Option<&[u8]>
-    ensures { IfSome result (λ rest. text.now ≡ name Word.Turn ++ rest.now) }
+    ensures { IfSome result (λ rest. text.now ≡ name Keyword.Turn ++ rest.now) }
 {
     match text {
         [b't', b'u', b'r', b'n', rest @ ..] => Some(rest),
@@ -138,14 +138,14 @@ pub fn turn_word_ahead(text: &[u8]) -> Option<&[u8]>
 /// The word of a phase's other lines that the text begins with, and what follows it.
 #[inline(always)]
 #[tactic(auto, unfolding(crate::specs::Words::name))]
-pub fn word_ahead(text: &[u8]) -> Option<(Word, &[u8])>
+pub fn word_ahead(text: &[u8]) -> Option<(Keyword, &[u8])>
     ensures { IfSome result (λ r. text.now ≡ name r.0 ++ r.1.now) }
 {
     match text {
-        [b'l', b'a', b'n', b'e', rest @ ..] => Some((Word::Lane, rest)),
-        [b'p', b'h', b'a', b's', b'e', rest @ ..] => Some((Word::Phase, rest)),
-        [b'e', b'n', b'd', rest @ ..] => Some((Word::End, rest)),
-        [b'g', b'i', b'v', b'e', rest @ ..] => Some((Word::Give, rest)),
+        [b'l', b'a', b'n', b'e', rest @ ..] => Some((Keyword::Lane, rest)),
+        [b'p', b'h', b'a', b's', b'e', rest @ ..] => Some((Keyword::Phase, rest)),
+        [b'e', b'n', b'd', rest @ ..] => Some((Keyword::End, rest)),
+        [b'g', b'i', b'v', b'e', rest @ ..] => Some((Keyword::Give, rest)),
         _ => None,
     }
 }
@@ -167,6 +167,6 @@ pub fn hints_ahead<'a>(text: &'a [u8], hints: &mut [u32; 64]) -> Option<(usize, 
         count += 1;
         rest = after;
     }
-    let after = behind(rest, b'\n')?;
+    let after = byte_ahead(rest, b'\n')?;
     Some((count, after))
 }

@@ -1,28 +1,28 @@
-// What a line says once its word and its numbers are read: the tests of counts and ranges.
+//! What a line says once its word and its numbers are read: the tests of counts and ranges.
 ghost use Rattle.std.specs.Prelude.{◌≡◌, ◌+◌, ◌*◌, ◌^◌, ◌<◌, ◌≤◌, ◌==◌, ◌&&◌, [], if◌then◌else◌, nat_lt, true, length, slice_index, Some, None, Ok, Err, IfOk};
 ghost use Rattle.std.specs.List.{list_all};
-ghost use Rattle.bc_trace.specs.declared.words.Word.TheVariants as words;
+ghost use Rattle.bc_trace.specs.declared.words.Keyword.TheVariants as words;
 ghost use Rattle.bc_trace.specs.Grammar.{arity};
-ghost use Rattle.bc_trace.specs.Reading.{most_of, has_count, slot_at, op_of, give_at, is_slot, is_op, is_within, is_setting, least_frames, most_frames, in_range, frames_fit, line_of, with_line};
+ghost use Rattle.bc_trace.specs.Reading.{most_of, has_count, slot_at, op_of, give_at, is_slot, is_op, is_within, is_setting, least_frames, most_frames, in_range, frames_fit, line_of, judge_line};
 ghost use Rattle.bc_trace.specs.Lines.{setting as setting_of};
-ghost use Rattle.bc_trace.specs.Said.{Reads, IsSmall, IsWhole};
+ghost use Rattle.bc_trace.specs.Said.{Reads, IsSmall, HoldsAllHints};
 
 use crate::fault::Cause;
-use crate::grammar::State;
+use crate::grammar::Progress;
 use crate::line::Line;
-use crate::words::{Setting, Verb, Word};
+use crate::words::{Keyword, Setting, Verb};
 use bc_model::{Give, Op, Setup, Slot};
 
 /// How many numbers follow the word, `turn` aside.
 #[tactic(auto, unfolding(crate::specs::Grammar::arity))]
-fn arity(word: Word) -> usize
+fn arity(word: Keyword) -> usize
     ensures { result ≡ arity word }
 {
     match word {
-        Word::Version | Word::Setting(_) | Word::Lane => 1,
-        Word::Phase | Word::Turn | Word::End | Word::Done => 0,
-        Word::Give => 2,
-        Word::Op(verb) => match verb {
+        Keyword::Version | Keyword::Setting(_) | Keyword::Lane => 1,
+        Keyword::Phase | Keyword::Turn | Keyword::End | Keyword::Done => 0,
+        Keyword::Give => 2,
+        Keyword::Op(verb) => match verb {
             Verb::Who | Verb::Len | Verb::Clear => 2,
             Verb::New | Verb::Cut => 3,
             Verb::Set | Verb::Copy | Verb::Same => 4,
@@ -33,11 +33,11 @@ fn arity(word: Word) -> usize
 
 /// Whether so many numbers may follow the word.
 #[tactic(auto, unfolding(crate::specs::Reading::has_count))]
-pub fn has_count(word: Word, count: usize) -> bool
+pub fn has_count(word: Keyword, count: usize) -> bool
     ensures { result ≡ has_count word count }
 {
     match word {
-        Word::Turn => count <= 64,
+        Keyword::Turn => count <= 64,
         _ => count == arity(word),
     }
 }
@@ -141,14 +141,14 @@ fn most_of(setting: Setting) -> u64
 }
 
 /// What the line of a setting says.
-#[tactic(auto, unfolding(crate::specs::Reading::with_line, crate::specs::Reading::in_range, crate::specs::Reading::frames_fit, crate::specs::Reading::is_setting))]
-fn setting_line(state: &State, setting: Setting, number: u64) -> Result<Line, Cause>
-    requires { IsSmall state.now state.now.stood }
-    ensures { Reads (with_line state.now (setting_of setting number)) result [] }
+#[tactic(auto, unfolding(crate::specs::Reading::judge_line, crate::specs::Reading::in_range, crate::specs::Reading::frames_fit, crate::specs::Reading::is_setting))]
+fn setting_line(progress: &Progress, setting: Setting, number: u64) -> Result<Line, Cause>
+    requires { IsSmall progress.now progress.now.stood }
+    ensures { Reads (judge_line progress.now (setting_of setting number)) result [] }
 {
     match setting {
         Setting::Frames => {
-            if fits_frames(&state.setup, number) {
+            if fits_frames(&progress.setup, number) {
                 Ok(Line::Setting(setting, number as u32))
             } else {
                 Err(Cause::Frames)
@@ -165,44 +165,44 @@ fn setting_line(state: &State, setting: Setting, number: u64) -> Result<Line, Ca
 }
 
 /// What a line says: its word, and as many numbers as may follow it.
-#[tactic(auto, unfolding(crate::specs::Reading::with_line, crate::specs::Reading::in_range, crate::specs::Reading::frames_fit, crate::specs::Reading::has_count, crate::specs::Grammar::arity))]
-pub fn line_of(state: &State, word: Word, numbers: &[u64]) -> Result<Line, Cause>
-    requires small { IsSmall state.now state.now.stood }
+#[tactic(auto, unfolding(crate::specs::Reading::judge_line, crate::specs::Reading::in_range, crate::specs::Reading::frames_fit, crate::specs::Reading::has_count, crate::specs::Grammar::arity))]
+pub fn line_of(progress: &Progress, word: Keyword, numbers: &[u64]) -> Result<Line, Cause>
+    requires small { IsSmall progress.now progress.now.stood }
     requires count { has_count word (length numbers.now) ≡ true }
-    ensures reads { Reads (with_line state.now (line_of word numbers.now)) result numbers.now }
-    ensures whole { IfOk result (λ l. IsWhole l numbers.now) }
+    ensures reads { Reads (judge_line progress.now (line_of word numbers.now)) result numbers.now }
+    ensures whole { IfOk result (λ l. HoldsAllHints l numbers.now) }
 {
     match word {
-        Word::Version => {
+        Keyword::Version => {
             if numbers[0] == 1 {
                 Ok(Line::Version)
             } else {
                 Err(Cause::Range)
             }
         }
-        Word::Setting(setting) => setting_line(state, setting, numbers[0]),
-        Word::Phase => Ok(Line::Phase),
-        Word::Turn => {
+        Keyword::Setting(setting) => setting_line(progress, setting, numbers[0]),
+        Keyword::Phase => Ok(Line::Phase),
+        Keyword::Turn => {
             if are_hints(numbers) {
                 Ok(Line::Turn(numbers.len()))
             } else {
                 Err(Cause::Range)
             }
         }
-        Word::Lane => {
-            if numbers[0] == state.stood as u64 {
-                Ok(Line::Lane(state.stood))
+        Keyword::Lane => {
+            if numbers[0] == progress.stood as u64 {
+                Ok(Line::Lane(progress.stood))
             } else {
                 Err(Cause::Range)
             }
         }
-        Word::Give => match give_of(&state.setup, numbers) {
+        Keyword::Give => match give_of(&progress.setup, numbers) {
             Some(give) => Ok(Line::Give(give)),
             None => Err(Cause::Range),
         },
-        Word::End => Ok(Line::End),
-        Word::Done => Ok(Line::Done),
-        Word::Op(verb) => match op_of(&state.setup, verb, numbers) {
+        Keyword::End => Ok(Line::End),
+        Keyword::Done => Ok(Line::Done),
+        Keyword::Op(verb) => match op_of(&progress.setup, verb, numbers) {
             Some(op) => Ok(Line::Op(op)),
             None => Err(Cause::Range),
         },

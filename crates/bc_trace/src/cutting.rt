@@ -1,5 +1,6 @@
+//! Lines cut off a text, words cut off a line, and whether a line is formed.
 ghost use Rattle.std.specs.Prelude.{◌≡◌, ◌<◌, ◌≤◌, ◌+◌, [], ◌∷◌, length, true, IfSome, MatchOption};
-ghost use Rattle.bc_trace.specs.Faults.{words_of};
+ghost use Rattle.bc_trace.specs.Faults.{line_words};
 ghost use Rattle.bc_trace.specs.Reading.{next_fresh, formed_from, lines_of, words_after};
 
 use memchr::memchr;
@@ -17,7 +18,7 @@ pub fn cut_line(bytes: &[u8]) -> Option<(&[u8], &[u8])>
 
 /// The bytes before the first space, and the rest from that space on.
 pub fn first_word(line: &[u8]) -> (&[u8], &[u8])
-    ensures parts { words_of line.now ≡ result.0.now ∷ words_after result.1.now }
+    ensures parts { line_words line.now ≡ result.0.now ∷ words_after result.1.now }
     ensures shorter { length result.1.now ≤ length line.now }
 {
     for (i, byte) in line.iter().enumerate() {

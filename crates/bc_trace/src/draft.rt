@@ -1,24 +1,25 @@
+//! The trace that is being read: what the lines so far say, put together.
 ghost use Rattle.std.specs.Prelude.{◌≡◌, ◌+◌, ◌^◌, ◌<◌, ◌≤◌, [], length, OnOk, IfOk};
-ghost use Rattle.bc_trace.specs.declared.grammar.Place.TheVariants as places;
+ghost use Rattle.bc_trace.specs.declared.grammar.Stage.TheVariants as stages;
 ghost use Rattle.bc_trace.specs.Lines.{turn, op as op_line};
 ghost use Rattle.bc_trace.specs.Drafts.{shown, empty_draft, put, lanes_ended, phase_ended};
 ghost use Rattle.bc_trace.specs.Reading.{lines_of, reading};
 ghost use Rattle.bc_trace.specs.Said.{said, FitsBuffer, AreHints};
 
-use crate::grammar::State;
+use crate::grammar::Progress;
 use crate::line::Line;
 use crate::operations::{op_ahead, turn_ahead};
 use bc_model::{Give, Op, Phase};
 use std::alloc::{AllocError, Global};
 use std::mem;
 
-/// A list of so many elements is not worth a list of its own size.
+/// Up to so many elements are copied into a list of their own size.
 const SHORT: usize = 1024;
 
 /// A trace that is being read.
 #[derive(Drop)]
 pub struct Draft {
-    pub state: State,
+    pub progress: Progress,
     /// The phases that were read.
     pub phases: Vec<Phase>,
     /// The turns of the phase that is being read.
@@ -36,7 +37,7 @@ impl Draft {
         ensures { shown result ≡ empty_draft }
     {
         Draft {
-            state: State::new(),
+            progress: Progress::new(),
             phases: Vec::new(alloc),
             turns: Vec::new(alloc),
             lanes: Vec::new(alloc),
@@ -46,6 +47,7 @@ impl Draft {
     }
 
     /// Behind the last operation of a lane.
+    #[inline(always)]
     fn end_lane(&mut self, alloc: Global) -> Result<(), AllocError>
         ensures { OnOk result (shown self.new ≡ lanes_ended (shown self.old)) }
     {
@@ -55,6 +57,7 @@ impl Draft {
     }
 
     /// Behind the last line of a phase.
+    #[inline(always)]
     fn end_phase(&mut self, alloc: Global) -> Result<(), AllocError>
         ensures { OnOk result (shown self.new ≡ phase_ended (shown self.old)) }
     {
@@ -69,9 +72,10 @@ impl Draft {
     }
 
     /// Puts one more line in. After an error the draft is of no use.
+    #[inline(always)]
     #[tactic(auto, unfolding(crate::specs::Drafts::put_lists))]
     pub fn put(&mut self, alloc: Global, line: Line, numbers: &[u64]) -> Result<(), AllocError>
-        requires room { self.old.state.stood + 1 < 2 ^ 32 }
+        requires room { self.old.progress.stood + 1 < 2 ^ 32 }
         requires buffer { FitsBuffer line numbers.now }
         ensures { OnOk result (shown self.new ≡ put (said line numbers.now) (shown self.old)) }
     {
@@ -79,8 +83,9 @@ impl Draft {
             Line::Version | Line::Setting(_, _) | Line::Phase | Line::Done => {}
             Line::Turn(count) => self.turns.push(hints(alloc, &numbers[..count])?)?,
             Line::Lane(_) => {
-                if self.state.stood == 0 {
-                    self.lanes.reserve_exact(self.state.setup.lanes as usize)?;
+                if self.progress.stood == 0 {
+                    self.lanes
+                        .reserve_exact(self.progress.setup.lanes as usize)?;
                 } else {
                     self.end_lane(alloc)?;
                 }
@@ -89,7 +94,7 @@ impl Draft {
             Line::Give(give) => self.gives.push(give)?,
             Line::End => self.end_phase(alloc)?,
         }
-        self.state.advance(line);
+        self.progress.advance(line);
         Ok(())
     }
 
@@ -97,8 +102,8 @@ impl Draft {
     #[inline(always)]
     #[tactic(auto, unfolding(crate::specs::Drafts::put_lists))]
     fn put_turn(&mut self, alloc: Global, hints: &[u32]) -> Result<(), AllocError>
-        requires { self.old.state.place ≡ places.Turns }
-        ensures state { OnOk result (self.new.state ≡ self.old.state) }
+        requires { self.old.progress.stage ≡ stages.Turns }
+        ensures progress { OnOk result (self.new.progress ≡ self.old.progress) }
         ensures put { OnOk result (shown self.new ≡ put (turn hints.now) (shown self.old)) }
     {
         self.turns.push(Vec::from_slice(alloc, hints)?)?;
@@ -109,8 +114,8 @@ impl Draft {
     #[inline(always)]
     #[tactic(auto, unfolding(crate::specs::Drafts::put_lists))]
     fn put_op(&mut self, op: Op) -> Result<(), AllocError>
-        requires { self.old.state.place ≡ places.Ops }
-        ensures state { OnOk result (self.new.state ≡ self.old.state) }
+        requires { self.old.progress.stage ≡ stages.Ops }
+        ensures progress { OnOk result (self.new.progress ≡ self.old.progress) }
         ensures put { OnOk result (shown self.new ≡ put (op_line op) (shown self.old)) }
     {
         self.ops.push(op)?;
@@ -126,16 +131,16 @@ impl Draft {
         text: &'a [u8],
         hints: &mut [u32; 64],
     ) -> Result<(u32, &'a [u8]), AllocError>
-        requires place { self.old.state.place ≡ places.Turns }
+        requires stage { self.old.progress.stage ≡ stages.Turns }
         requires count { lines + length text.now < 2 ^ 32 }
-        ensures state { OnOk result (self.new.state ≡ self.old.state) }
+        ensures progress { OnOk result (self.new.progress ≡ self.old.progress) }
         ensures count { IfOk result (λ r. r.0 + length r.1.now ≤ lines + length text.now) }
         ensures more { IfOk result (λ r. lines ≤ r.0) }
         ensures reads { IfOk result (λ r. reading (shown self.new) r.0 (lines_of r.1.now) ≡ reading (shown self.old) lines (lines_of text.now)) }
     {
         let mut count = lines;
         let mut rest = text;
-        while let Some((many, after)) = turn_ahead(&self.state, rest, hints) {
+        while let Some((many, after)) = turn_ahead(&self.progress, rest, hints) {
             self.put_turn(alloc, &hints[..many])?;
             count += 1;
             rest = after;
@@ -146,16 +151,16 @@ impl Draft {
     /// Puts the operations in whose lines the text begins with. Answers how many lines were read by then, and what
     /// follows them. After an error the draft is of no use.
     pub fn put_ops<'a>(&mut self, lines: u32, text: &'a [u8]) -> Result<(u32, &'a [u8]), AllocError>
-        requires place { self.old.state.place ≡ places.Ops }
+        requires stage { self.old.progress.stage ≡ stages.Ops }
         requires count { lines + length text.now < 2 ^ 32 }
-        ensures state { OnOk result (self.new.state ≡ self.old.state) }
+        ensures progress { OnOk result (self.new.progress ≡ self.old.progress) }
         ensures count { IfOk result (λ r. r.0 + length r.1.now ≤ lines + length text.now) }
         ensures more { IfOk result (λ r. lines ≤ r.0) }
         ensures reads { IfOk result (λ r. reading (shown self.new) r.0 (lines_of r.1.now) ≡ reading (shown self.old) lines (lines_of text.now)) }
     {
         let mut count = lines;
         let mut rest = text;
-        while let Some((op, after)) = op_ahead(&self.state, rest) {
+        while let Some((op, after)) = op_ahead(&self.progress, rest) {
             self.put_op(op)?;
             count += 1;
             rest = after;
@@ -164,11 +169,16 @@ impl Draft {
     }
 }
 
-/// The elements, in a list with no room to spare. A short list is copied, and keeps its room for the next elements.
+/// Takes the elements out, into a list with no room to spare. A short list keeps its room for those of the next lane or
+/// phase: to grow anew each time would cost more than the copy.
+#[inline(always)]
 fn take_all<T: Drop>(alloc: Global, list: &mut Vec<T>) -> Result<Vec<T>, AllocError>
     ensures taken { IfOk result (λ all. all.items ≡ list.old.items) }
     ensures left { OnOk result (list.new.items ≡ []) }
 {
+    if list.is_empty() {
+        return Ok(Vec::new(alloc));
+    }
     if list.len() > SHORT {
         let mut all = mem::replace(list, Vec::new(alloc));
         all.shrink_to_fit();

@@ -1,3 +1,4 @@
+//! What is wrong with a text that is no trace, and how the causes are written.
 ghost use Rattle.std.specs.Prelude.{◌≡◌};
 ghost use Rattle.bc_trace.specs.declared.fault.ReadTrace.TheVariants.{NoMemory};
 

@@ -1,14 +1,15 @@
+//! Which line may stand next, and how far a line brings the reader.
 ghost use Rattle.std.specs.Prelude.{◌≡◌, ◌==◌, ◌+◌, ◌^◌, ◌<◌, ℕ, List};
-ghost use Rattle.bc_trace.specs.Grammar.{start, may_stand, place_after_setting, with_setting, after};
+ghost use Rattle.bc_trace.specs.Grammar.{start, may_stand, stage_after_setting, with_setting, after};
 ghost use Rattle.bc_trace.specs.Said.{said};
 
 use crate::line::Line;
-use crate::words::{Setting, Word};
+use crate::words::{Keyword, Setting};
 use bc_model::Setup;
 
 /// How far a trace has been read: which lines may stand next.
 #[derive(Clone, Copy, Debug)]
-pub enum Place {
+pub enum Stage {
     /// At the first line.
     Start,
     /// In the header, at the line of this setting.
@@ -27,21 +28,21 @@ pub enum Place {
 
 /// What the lines so far say about which line may stand next, and what it may say.
 #[derive(Clone, Copy, Debug)]
-pub struct State {
-    pub place: Place,
+pub struct Progress {
+    pub stage: Stage,
     /// The header's numbers; 0 where they weren't read yet.
     pub setup: Setup,
     /// The lanes of this phase that have stood.
     pub stood: u32,
 }
 
-impl State {
+impl Progress {
     /// Before the first line.
-    pub fn new() -> State
+    pub fn new() -> Progress
         ensures { result ≡ start }
     {
-        State {
-            place: Place::Start,
+        Progress {
+            stage: Stage::Start,
             setup: Setup {
                 lanes: 0,
                 domains: 0,
@@ -56,73 +57,75 @@ impl State {
     }
 
     /// Whether a line with this word may stand next.
+    #[inline(always)]
     #[tactic(auto, unfolding(crate::specs::Grammar::may_stand))]
-    pub fn may_stand(&self, word: Word) -> bool
-        ensures { result ≡ may_stand word self.now.place (self.now.stood == self.now.setup.lanes) }
+    pub fn may_stand(&self, word: Keyword) -> bool
+        ensures { result ≡ may_stand word self.now.stage (self.now.stood == self.now.setup.lanes) }
     {
         let all_stood = self.stood == self.setup.lanes;
         match word {
-            Word::Version => matches!(self.place, Place::Start),
-            Word::Setting(setting) => match self.place {
-                Place::Awaiting(awaited) => setting == awaited,
+            Keyword::Version => matches!(self.stage, Stage::Start),
+            Keyword::Setting(setting) => match self.stage {
+                Stage::Awaiting(awaited) => setting == awaited,
                 _ => false,
             },
-            Word::Phase | Word::Done => matches!(self.place, Place::Phases),
-            Word::Turn => matches!(self.place, Place::Turns),
-            Word::Lane => match self.place {
-                Place::Turns => true,
-                Place::Ops => !all_stood,
+            Keyword::Phase | Keyword::Done => matches!(self.stage, Stage::Phases),
+            Keyword::Turn => matches!(self.stage, Stage::Turns),
+            Keyword::Lane => match self.stage {
+                Stage::Turns => true,
+                Stage::Ops => !all_stood,
                 _ => false,
             },
-            Word::Op(_) => matches!(self.place, Place::Ops),
-            Word::Give | Word::End => match self.place {
-                Place::Ops => all_stood,
-                Place::Gives => true,
+            Keyword::Op(_) => matches!(self.stage, Stage::Ops),
+            Keyword::Give | Keyword::End => match self.stage {
+                Stage::Ops => all_stood,
+                Stage::Gives => true,
                 _ => false,
             },
         }
     }
 
     /// Goes on behind the line.
+    #[inline(always)]
     pub fn advance(&mut self, line: Line)
         requires { self.old.stood + 1 < 2 ^ 32 }
         ensures { (ns : List ℕ) → self.new ≡ after (said line ns) self.old }
     {
         match line {
-            Line::Version => self.place = Place::Awaiting(Setting::Lanes),
+            Line::Version => self.stage = Stage::Awaiting(Setting::Lanes),
             Line::Setting(setting, number) => {
-                self.place = behind(setting);
+                self.stage = behind(setting);
                 set(&mut self.setup, setting, number);
             }
             Line::Phase => {
-                self.place = Place::Turns;
+                self.stage = Stage::Turns;
                 self.stood = 0;
             }
-            Line::Turn(_) => self.place = Place::Turns,
+            Line::Turn(_) => self.stage = Stage::Turns,
             Line::Lane(_) => {
-                self.place = Place::Ops;
+                self.stage = Stage::Ops;
                 self.stood += 1;
             }
-            Line::Op(_) => self.place = Place::Ops,
-            Line::Give(_) => self.place = Place::Gives,
-            Line::End => self.place = Place::Phases,
-            Line::Done => self.place = Place::Finished,
+            Line::Op(_) => self.stage = Stage::Ops,
+            Line::Give(_) => self.stage = Stage::Gives,
+            Line::End => self.stage = Stage::Phases,
+            Line::Done => self.stage = Stage::Finished,
         }
     }
 }
 
-/// The place behind the line of a setting.
-fn behind(setting: Setting) -> Place
-    ensures { result ≡ place_after_setting setting }
+/// The stage behind the line of a setting.
+fn behind(setting: Setting) -> Stage
+    ensures { result ≡ stage_after_setting setting }
 {
     match setting {
-        Setting::Lanes => Place::Awaiting(Setting::Domains),
-        Setting::Domains => Place::Awaiting(Setting::Slots),
-        Setting::Slots => Place::Awaiting(Setting::Superpages),
-        Setting::Superpages => Place::Awaiting(Setting::Nursery),
-        Setting::Nursery => Place::Awaiting(Setting::Buffer),
-        Setting::Buffer => Place::Awaiting(Setting::Frames),
-        Setting::Frames => Place::Phases,
+        Setting::Lanes => Stage::Awaiting(Setting::Domains),
+        Setting::Domains => Stage::Awaiting(Setting::Slots),
+        Setting::Slots => Stage::Awaiting(Setting::Superpages),
+        Setting::Superpages => Stage::Awaiting(Setting::Nursery),
+        Setting::Nursery => Stage::Awaiting(Setting::Buffer),
+        Setting::Buffer => Stage::Awaiting(Setting::Frames),
+        Setting::Frames => Stage::Phases,
     }
 }
 

@@ -6,14 +6,17 @@
 // spells which trace: it lists the lines of a trace in order and writes each of them, and knows
 // nothing of reading.
 //
-// The reader makes one pass over the lines. It looks at each line a fixed number of times (for its
-// end, its form, its words, its numbers), so its time is linear in the bytes. `cutting` takes off a
-// line and its words, `words` and `numbers` say what they are, `grammar` whether such a line may
-// stand next, `checking` whether its numbers are in range, and `draft` puts what it says behind
-// what was read so far. A line is tested in seven steps, and the first test that fails gives the
-// fault (`specs/Faults.antt`). Between two lines the reader keeps a draft of the trace and a
-// `State`: the place in the text, the setup, and how many lanes of the phase have stood. The
-// operands of a line go through one buffer of 64.
+// The reader has two ways. The fast one takes up the lines of phases, which are nearly all of a trace, in one look at each
+// byte: `ahead` takes a number or a word off the front of the text, `operations` a whole line, and `draft` puts what it
+// says behind what was read so far. Where it meets anything else it stops, and says nothing of what it met: its contracts
+// tell good lines alone. There the exact way reads one line, which is a line of the header, `done`, or one that fails.
+// `cutting` takes off the line and its words, `words` and `numbers` say what they are, `grammar` whether such a line may
+// stand next, and `checking` whether its numbers are in range. A line is tested in seven steps, and the first test that
+// fails gives the fault (`specs/Faults.antt`).
+//
+// Between two lines the reader keeps a draft of the trace and its `Progress`: the stage in the text, the setup, and how
+// many lanes of the phase have stood. A list of the trace is made at its own length once its last element is read, and
+// the hints of a turn go through one buffer of 64, so a trace takes no more room than its lists need.
 //
 // In contracts the reader is a function of the bytes (`specs/Reading.antt`), which each function of
 // the code mirrors. What counts are the clauses of `read`, which don't name it: a trace is answered
@@ -37,7 +40,10 @@ mod words;
 mod writing;
 
 pub use fault::{Cause, ReadTrace, TraceFault};
-pub use laws::{first_lines, next_word, one_fault, one_reply, one_text, one_trace, replies_fit};
+pub use laws::{
+    law_first_lines, law_next_word, law_one_fault, law_one_reply, law_one_text, law_one_trace,
+    law_replies_fit,
+};
 pub use reading::read;
 pub use replies::{phase_text, reply_line};
 pub use writing::write;

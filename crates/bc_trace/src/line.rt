@@ -1,3 +1,5 @@
+//! What a line says.
+
 use crate::words::Setting;
 use bc_model::{Give, Op};
 

@@ -1,5 +1,6 @@
+//! Numbers and operands, as the language writes them.
 ghost use Rattle.std.specs.Prelude.{◌≡◌, ◌<◌, ◌≤◌, ℕ, if◌then◌else◌, length, take, Some, None, IfSome, IfNone};
-ghost use Rattle.bc_trace.specs.Reading.{digits_of, number_of, numbers_of, words_after};
+ghost use Rattle.bc_trace.specs.Reading.{digits_of, number_of, read_numbers, words_after};
 
 use crate::cutting::first_word;
 
@@ -45,7 +46,7 @@ pub fn operands_of(words: &[u8], operands: &mut [u64; 64]) -> Option<(usize, boo
     ensures none { IfNone result (64 < length (words_after words.now)) }
     ensures count { IfSome result (λ r. r.0 ≡ length (words_after words.now)) }
     ensures few { IfSome result (λ r. r.0 ≤ 64) }
-    ensures numbers { IfSome result (λ r. numbers_of (words_after words.now) ≡ (if r.1 then Some (take r.0 operands.new) else None)) }
+    ensures numbers { IfSome result (λ r. read_numbers (words_after words.now) ≡ (if r.1 then Some (take r.0 operands.new) else None)) }
 {
     let mut rest = words;
     let mut count = 0;

@@ -2,17 +2,17 @@
 ghost use Rattle.std.specs.Prelude.{◌≡◌, ◌<◌, ◌≤◌, ◌++◌, [], length, take, IfSome};
 ghost use Rattle.std.specs.List.{AllByRecursion};
 ghost use Rattle.bc_model.specs.WellFormed.{IsNumber, IsOp};
-ghost use Rattle.bc_trace.specs.declared.grammar.Place.TheVariants as places;
+ghost use Rattle.bc_trace.specs.declared.grammar.Stage.TheVariants as stages;
 ghost use Rattle.bc_trace.specs.Lines.{op, turn, verb_of_op, operands_of_op};
 ghost use Rattle.bc_trace.specs.Said.{said, operands_text, FitsBuffer, IsAhead};
 
 use crate::ahead::{
-    behind, hints_ahead, operand_ahead, slot_ahead, small_ahead, turn_word_ahead, verb_ahead,
+    byte_ahead, hints_ahead, operand_ahead, slot_ahead, small_ahead, turn_word_ahead, verb_ahead,
     word_ahead,
 };
-use crate::grammar::State;
+use crate::grammar::Progress;
 use crate::line::Line;
-use crate::words::{Verb, Word};
+use crate::words::{Keyword, Verb};
 use bc_model::{Give, Op, Setup};
 
 /// The operation whose operands the text begins with, and what follows them.
@@ -65,26 +65,26 @@ fn operands_of_op_ahead<'a>(setup: &Setup, verb: Verb, text: &'a [u8]) -> Option
 
 /// The operation whose line the text begins with, and what follows the line.
 #[inline(always)]
-pub fn op_ahead<'a>(state: &State, text: &'a [u8]) -> Option<(Op, &'a [u8])>
-    requires { state.now.place ≡ places.Ops }
-    ensures ahead { IfSome result (λ r. IsAhead state.now text.now (op r.0) r.1.now) }
+pub fn op_ahead<'a>(progress: &Progress, text: &'a [u8]) -> Option<(Op, &'a [u8])>
+    requires { progress.now.stage ≡ stages.Ops }
+    ensures ahead { IfSome result (λ r. IsAhead progress.now text.now (op r.0) r.1.now) }
     ensures shorter { IfSome result (λ r. length r.1.now < length text.now) }
 {
     let (verb, rest) = verb_ahead(text)?;
-    let (op, rest) = operands_of_op_ahead(&state.setup, verb, rest)?;
-    let rest = behind(rest, b'\n')?;
+    let (op, rest) = operands_of_op_ahead(&progress.setup, verb, rest)?;
+    let rest = byte_ahead(rest, b'\n')?;
     Some((op, rest))
 }
 
 /// The turn whose line the text begins with: how many hints it put into the buffer, and what follows the line.
 #[inline(always)]
 pub fn turn_ahead<'a>(
-    state: &State,
+    progress: &Progress,
     text: &'a [u8],
     hints: &mut [u32; 64],
 ) -> Option<(usize, &'a [u8])>
-    requires { state.now.place ≡ places.Turns }
-    ensures ahead { IfSome result (λ r. IsAhead state.now text.now (turn (take r.0 hints.new)) r.1.now) }
+    requires { progress.now.stage ≡ stages.Turns }
+    ensures ahead { IfSome result (λ r. IsAhead progress.now text.now (turn (take r.0 hints.new)) r.1.now) }
     ensures few { IfSome result (λ r. r.0 ≤ 64) }
     ensures shorter { IfSome result (λ r. length r.1.now < length text.now) }
 {
@@ -95,30 +95,30 @@ pub fn turn_ahead<'a>(
 
 /// What the line says that the text begins with, and what follows the line; None also at a turn and at an operation.
 #[inline(always)]
-pub fn line_ahead<'a>(state: &State, text: &'a [u8]) -> Option<(Line, &'a [u8])>
-    ensures ahead { IfSome result (λ r. IsAhead state.now text.now (said r.0 []) r.1.now) }
+pub fn line_ahead<'a>(progress: &Progress, text: &'a [u8]) -> Option<(Line, &'a [u8])>
+    ensures ahead { IfSome result (λ r. IsAhead progress.now text.now (said r.0 []) r.1.now) }
     ensures buffer { IfSome result (λ r. FitsBuffer r.0 []) }
     ensures shorter { IfSome result (λ r. length r.1.now < length text.now) }
 {
     let (word, rest) = word_ahead(text)?;
-    if !state.may_stand(word) {
+    if !progress.may_stand(word) {
         return None;
     }
     match word {
-        Word::Phase => Some((Line::Phase, behind(rest, b'\n')?)),
-        Word::Lane => {
-            let (lane, rest) = small_ahead(rest, state.setup.lanes)?;
-            if lane != state.stood {
+        Keyword::Phase => Some((Line::Phase, byte_ahead(rest, b'\n')?)),
+        Keyword::Lane => {
+            let (lane, rest) = small_ahead(rest, progress.setup.lanes)?;
+            if lane != progress.stood {
                 return None;
             }
-            Some((Line::Lane(lane), behind(rest, b'\n')?))
+            Some((Line::Lane(lane), byte_ahead(rest, b'\n')?))
         }
-        Word::Give => {
-            let (domain, rest) = small_ahead(rest, state.setup.domains)?;
-            let (lane, rest) = small_ahead(rest, state.setup.lanes)?;
-            Some((Line::Give(Give { domain, lane }), behind(rest, b'\n')?))
+        Keyword::Give => {
+            let (domain, rest) = small_ahead(rest, progress.setup.domains)?;
+            let (lane, rest) = small_ahead(rest, progress.setup.lanes)?;
+            Some((Line::Give(Give { domain, lane }), byte_ahead(rest, b'\n')?))
         }
-        Word::End => Some((Line::End, behind(rest, b'\n')?)),
+        Keyword::End => Some((Line::End, byte_ahead(rest, b'\n')?)),
         _ => None,
     }
 }

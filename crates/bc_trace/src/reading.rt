@@ -1,3 +1,4 @@
+//! The reader: from the bytes to the trace that they spell, or to their one fault.
 ghost use Rattle.std.specs.Prelude.{◌≡◌, ◌+◌, ◌^◌, ◌<◌, ◌≤◌, ℕ, length, IfOk, IfErr, IsErrAnd, MatchResult};
 ghost use Rattle.bc_model.specs.Lists.{TraceLists};
 ghost use Rattle.bc_model.specs.Run.{all_ops_of};
@@ -14,7 +15,7 @@ use crate::checking::{has_count, line_of};
 use crate::cutting::{cut_line, first_word, is_formed};
 use crate::draft::Draft;
 use crate::fault::{Cause, ReadTrace, TraceFault};
-use crate::grammar::{Place, State};
+use crate::grammar::{Progress, Stage};
 use crate::line::Line;
 use crate::numbers::operands_of;
 use crate::operations::line_ahead;
@@ -24,9 +25,9 @@ use std::alloc::{AllocError, Global};
 
 /// What a line says, or the first test that it fails. The hints of a turn are put into the buffer.
 #[tactic(auto, unfolding(crate::specs::Reading::line_at))]
-fn line_at(state: &State, line: &[u8], operands: &mut [u64; 64]) -> Result<Line, Cause>
-    requires { IsSmall state.now state.now.stood }
-    ensures reads { Reads (line_at state.now line.now) result operands.new }
+fn line_at(progress: &Progress, line: &[u8], operands: &mut [u64; 64]) -> Result<Line, Cause>
+    requires { IsSmall progress.now progress.now.stood }
+    ensures reads { Reads (line_at progress.now line.now) result operands.new }
     ensures buffer { IfOk result (λ l. FitsBuffer l operands.new) }
 {
     if !is_formed(line) {
@@ -37,7 +38,7 @@ fn line_at(state: &State, line: &[u8], operands: &mut [u64; 64]) -> Result<Line,
         Some(word) => word,
         None => return Err(Cause::Word),
     };
-    if !state.may_stand(word) {
+    if !progress.may_stand(word) {
         return Err(Cause::Order);
     }
     let (count, all_numbers) = match operands_of(rest, operands) {
@@ -50,7 +51,7 @@ fn line_at(state: &State, line: &[u8], operands: &mut [u64; 64]) -> Result<Line,
     if !all_numbers {
         return Err(Cause::Number);
     }
-    line_of(state, word, &operands[..count])
+    line_of(progress, word, &operands[..count])
 }
 
 /// What the text ends with, behind `lines` whole lines.
@@ -59,8 +60,8 @@ fn end(draft: Draft, lines: u32, rest: &[u8]) -> Result<Trace, ReadTrace>
     requires { lines + length rest.now < 2 ^ 32 }
     ensures { Gives result (ended (shown draft) lines rest.now) }
 {
-    let setup = draft.state.setup;
-    let done = matches!(draft.state.place, Place::Finished);
+    let setup = draft.progress.setup;
+    let done = matches!(draft.progress.stage, Stage::Finished);
     let begun = if rest.is_empty() { 0 } else { 1 };
     if done && rest.is_empty() {
         return Ok(Trace {
@@ -83,9 +84,9 @@ fn read_ahead<'a>(
     lines: u32,
     text: &'a [u8],
 ) -> Result<(u32, &'a [u8]), AllocError>
-    requires small { IsSmall draft.old.state lines }
+    requires small { IsSmall draft.old.progress lines }
     requires count { lines + length text.now < 2 ^ 32 }
-    ensures small { IfOk result (λ r. IsSmall draft.new.state r.0) }
+    ensures small { IfOk result (λ r. IsSmall draft.new.progress r.0) }
     ensures count { IfOk result (λ r. r.0 + length r.1.now ≤ lines + length text.now) }
     ensures more { IfOk result (λ r. lines ≤ r.0) }
     ensures reads { IfOk result (λ r. reading (shown draft.new) r.0 (lines_of r.1.now) ≡ reading (shown draft.old) lines (lines_of text.now)) }
@@ -93,13 +94,13 @@ fn read_ahead<'a>(
     let mut hints = [0; 64];
     let mut count = lines;
     let mut rest = text;
-    while let Some((line, after)) = line_ahead(&draft.state, rest) {
+    while let Some((line, after)) = line_ahead(&draft.progress, rest) {
         draft.put(alloc, line, &[])?;
         count += 1;
         rest = after;
-        match draft.state.place {
-            Place::Turns => (count, rest) = draft.put_turns(alloc, count, rest, &mut hints)?,
-            Place::Ops => (count, rest) = draft.put_ops(count, rest)?,
+        match draft.progress.stage {
+            Stage::Turns => (count, rest) = draft.put_turns(alloc, count, rest, &mut hints)?,
+            Stage::Ops => (count, rest) = draft.put_ops(count, rest)?,
             _ => {}
         }
     }
@@ -117,7 +118,7 @@ fn read_lines(alloc: Global, bytes: &[u8]) -> Result<Trace, ReadTrace>
     let mut rest = bytes;
     while let Some((line, after)) = cut_line(rest) {
         lines += 1;
-        match line_at(&draft.state, line, &mut operands) {
+        match line_at(&draft.progress, line, &mut operands) {
             Ok(says) => draft.put(alloc, says, &operands)?,
             Err(cause) => return Err(ReadTrace::Fault(TraceFault { line: lines, cause })),
         }

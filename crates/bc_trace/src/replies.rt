@@ -1,3 +1,4 @@
+//! The texts that a replay prints: the line of a reply, and that of a whole phase.
 ghost use Rattle.std.specs.Prelude.{◌≡◌, ◌++◌, [], ◌∷◌, OnOk, IfOk};
 ghost use Rattle.std.specs.Fmt.{decimal};
 ghost use Rattle.bc_trace.specs.Replies.{reply_text, lane_text, phase_text};

@@ -1,3 +1,5 @@
+//! Texts from outside, read and written again, and each cause of a fault once.
+
 use super::*;
 use bc_model::{Birth, Op, Replies, Reply, Slot};
 use std::alloc::{AllocError, Global};
@@ -45,7 +47,7 @@ fn fault_of(rt: &impl Abort, alloc: Global, bytes: &[u8]) -> TraceFault {
 }
 
 #[test]
-fn first_path_is_read(rt: HostRuntime) -> Result<(), Fail> {
+fn the_first_path_is_read_with_its_setup_and_its_one_phase(rt: HostRuntime) -> Result<(), Fail> {
     let bytes = changed(rt.alloc(), 0, "", "")?;
     assert_eq!(rt; bytes.len(), 137);
     let trace = read(rt.alloc(), &bytes).ok().ok_or("the text is a trace")?;
@@ -56,7 +58,9 @@ fn first_path_is_read(rt: HostRuntime) -> Result<(), Fail> {
 }
 
 #[test]
-fn hostile_texts(rt: HostRuntime) -> Result<(), Fail> {
+fn each_spoilt_line_is_refused_at_its_number_and_with_its_cause(
+    rt: HostRuntime,
+) -> Result<(), Fail> {
     for (line, text, cause) in [
         (1, "bc-trace 4", Cause::Range),
         (2, " lanes 1", Cause::Form),
@@ -80,7 +84,7 @@ fn hostile_texts(rt: HostRuntime) -> Result<(), Fail> {
 }
 
 #[test]
-fn ends_of_texts(rt: HostRuntime) -> Result<(), Fail> {
+fn what_goes_on_behind_done_or_stops_before_it_is_refused(rt: HostRuntime) -> Result<(), Fail> {
     // A line behind `done`, and a byte behind its line feed.
     let line_behind = changed(rt.alloc(), 0, "", "phase\n")?;
     let byte_behind = changed(rt.alloc(), 0, "", "x")?;
@@ -102,7 +106,7 @@ fn ends_of_texts(rt: HostRuntime) -> Result<(), Fail> {
 }
 
 #[test]
-fn unfinished_trace(rt: HostRuntime) {
+fn a_trace_without_done_is_refused_at_its_last_line(rt: HostRuntime) {
     let text =
         b"bc-trace 1\nlanes 1\ndomains 1\nslots 2\nsuperpages 1\nnursery 1\nbuffer 4\nframes 3\nphase\nlane 0\nend\n";
     let fault = fault_of(&rt, rt.alloc(), text);
@@ -111,7 +115,7 @@ fn unfinished_trace(rt: HostRuntime) {
 }
 
 #[test]
-fn frames_in_range(rt: HostRuntime) -> Result<(), Fail> {
+fn frames_3_and_5_are_read_and_2_and_6_are_refused(rt: HostRuntime) -> Result<(), Fail> {
     for frames in ["frames 2", "frames 6"] {
         let bytes = changed(rt.alloc(), 8, frames, "")?;
         let fault = fault_of(&rt, rt.alloc(), &bytes);
@@ -127,7 +131,7 @@ fn frames_in_range(rt: HostRuntime) -> Result<(), Fail> {
 }
 
 #[test]
-fn largest_number(rt: HostRuntime) -> Result<(), Fail> {
+fn the_number_2_to_the_63_is_refused_and_one_less_is_read(rt: HostRuntime) -> Result<(), Fail> {
     let bytes = changed(rt.alloc(), 12, "set 0 0 0 9223372036854775807", "")?;
     assert!(rt; bytes.len() < 10000);
     let trace = read(rt.alloc(), &bytes).ok().ok_or("the text is a trace")?;
@@ -146,7 +150,7 @@ fn largest_number(rt: HostRuntime) -> Result<(), Fail> {
 }
 
 #[test]
-fn size_classes(rt: HostRuntime) {
+fn objects_of_0_1_and_127_fields_are_read_and_one_of_128_is_refused(rt: HostRuntime) {
     let text =
         b"bc-trace 1\nlanes 1\ndomains 1\nslots 3\nsuperpages 2\nnursery 1\nbuffer 4\nframes 3\nphase\nlane 0\nnew 0 0 0\nnew 0 1 1\nnew 0 2 127\nnew 0 0 128\nend\ndone\n";
     let fault = fault_of(&rt, rt.alloc(), text);
@@ -155,7 +159,7 @@ fn size_classes(rt: HostRuntime) {
 }
 
 #[test]
-fn written_and_read_again(rt: HostRuntime) -> Result<(), Fail> {
+fn what_is_read_is_written_again_byte_for_byte(rt: HostRuntime) -> Result<(), Fail> {
     let header_only =
         b"bc-trace 1\nlanes 2\ndomains 2\nslots 1\nsuperpages 1\nnursery 1\nbuffer 4\nframes 4\ndone\n";
     let two_lanes =
@@ -178,7 +182,7 @@ fn written_and_read_again(rt: HostRuntime) -> Result<(), Fail> {
 }
 
 #[test]
-fn every_reply(rt: HostRuntime) -> Result<(), Fail> {
+fn every_reply_is_written_on_a_line_of_its_own(rt: HostRuntime) -> Result<(), Fail> {
     let mut replies = Vec::new(rt.alloc());
     for reply in [
         Reply::Obj(Birth {
@@ -211,7 +215,7 @@ fn every_reply(rt: HostRuntime) -> Result<(), Fail> {
 }
 
 #[test]
-fn causes_are_written(rt: HostRuntime) -> Result<(), Fail> {
+fn each_cause_is_written_as_its_word(rt: HostRuntime) -> Result<(), Fail> {
     for (cause, text) in [
         (Cause::Form, "form"),
         (Cause::Word, "word"),

@@ -1,3 +1,4 @@
+//! The 24 words that a line may begin with.
 ghost use Rattle.std.specs.Prelude.{◌≡◌};
 ghost use Rattle.bc_trace.specs.Words.{setting_name, verb_name, name};
 ghost use Rattle.bc_trace.specs.Reading.{all_verbs, all_settings, all_others, named, word_of};
@@ -31,7 +32,7 @@ pub enum Verb {
 
 /// The first word of a line.
 #[derive(Clone, Copy, Debug)]
-pub enum Word {
+pub enum Keyword {
     /// `bc-trace`
     Version,
     Setting(Setting),
@@ -100,23 +101,23 @@ fn setting_of(word: &[u8]) -> Option<Setting>
 
 /// The other word that is written so.
 #[tactic(auto, unfolding(crate::specs::Words::name))]
-fn other_of(word: &[u8]) -> Option<Word>
+fn other_of(word: &[u8]) -> Option<Keyword>
     ensures { result ≡ named name all_others word.now }
 {
     if word == b"turn".as_slice() {
-        Some(Word::Turn)
+        Some(Keyword::Turn)
     } else if word == b"lane".as_slice() {
-        Some(Word::Lane)
+        Some(Keyword::Lane)
     } else if word == b"give".as_slice() {
-        Some(Word::Give)
+        Some(Keyword::Give)
     } else if word == b"phase".as_slice() {
-        Some(Word::Phase)
+        Some(Keyword::Phase)
     } else if word == b"end".as_slice() {
-        Some(Word::End)
+        Some(Keyword::End)
     } else if word == b"done".as_slice() {
-        Some(Word::Done)
+        Some(Keyword::Done)
     } else if word == b"bc-trace".as_slice() {
-        Some(Word::Version)
+        Some(Keyword::Version)
     } else {
         None
     }
@@ -124,16 +125,16 @@ fn other_of(word: &[u8]) -> Option<Word>
 
 /// The word of the language that is written so.
 #[tactic(auto, unfolding(crate::specs::Reading::word_of))]
-pub fn word_of(word: &[u8]) -> Option<Word>
+pub fn word_of(word: &[u8]) -> Option<Keyword>
     ensures { result ≡ word_of word.now }
 {
     if let Some(verb) = verb_of(word) {
-        return Some(Word::Op(verb));
+        return Some(Keyword::Op(verb));
     }
     if let Some(other) = other_of(word) {
         return Some(other);
     }
-    setting_of(word).map(Word::Setting)
+    setting_of(word).map(Keyword::Setting)
 }
 
 impl Verb {
@@ -175,22 +176,22 @@ impl Setting {
     }
 }
 
-impl Word {
+impl Keyword {
     /// How the word is written.
     #[tactic(auto, unfolding(crate::specs::Words::name))]
     pub fn name(self) -> &'static [u8]
         ensures { result.now ≡ name self }
     {
         match self {
-            Word::Version => b"bc-trace",
-            Word::Setting(setting) => setting.name(),
-            Word::Phase => b"phase",
-            Word::Turn => b"turn",
-            Word::Lane => b"lane",
-            Word::Give => b"give",
-            Word::End => b"end",
-            Word::Done => b"done",
-            Word::Op(verb) => verb.name(),
+            Keyword::Version => b"bc-trace",
+            Keyword::Setting(setting) => setting.name(),
+            Keyword::Phase => b"phase",
+            Keyword::Turn => b"turn",
+            Keyword::Lane => b"lane",
+            Keyword::Give => b"give",
+            Keyword::End => b"end",
+            Keyword::Done => b"done",
+            Keyword::Op(verb) => verb.name(),
         }
     }
 }

@@ -1,3 +1,4 @@
+//! The writer: the one text of a trace.
 ghost use Rattle.std.specs.Prelude.{◌≡◌, ◌++◌, [], ◌∷◌, map, OnOk, IfOk};
 ghost use Rattle.std.specs.List.{flat_map};
 ghost use Rattle.std.specs.Fmt.{decimal};
@@ -5,7 +6,7 @@ ghost use Rattle.bc_model.specs.WellFormed.{IsTrace};
 ghost use Rattle.bc_trace.specs.Lines.{setting as setting_line, turn as turn_line, lane as lane_line, op as op_line, give as give_line, setup_lines, lane_lines, phase_lines, trace_text, spelling, line_text};
 
 use crate::replies::push_number;
-use crate::words::{Setting, Verb, Word};
+use crate::words::{Keyword, Setting, Verb};
 use bc_model::{Give, Op, Phase, Setup, Slot, Trace};
 use std::alloc::{AllocError, Global};
 
@@ -22,7 +23,7 @@ fn push_operands(out: &mut Vec<u8>, numbers: &[u64]) -> Result<(), AllocError>
 
 /// Puts the line of the word and the numbers at the end.
 #[tactic(auto, unfolding(crate::specs::Lines::spelling))]
-fn push_line(out: &mut Vec<u8>, word: Word, numbers: &[u64]) -> Result<(), AllocError>
+fn push_line(out: &mut Vec<u8>, word: Keyword, numbers: &[u64]) -> Result<(), AllocError>
     ensures { OnOk result (out.new.items ≡ out.old.items ++ (spelling word numbers.now ++ 10 ∷ [])) }
 {
     out.extend_from_slice(word.name())?;
@@ -35,7 +36,7 @@ fn push_line(out: &mut Vec<u8>, word: Word, numbers: &[u64]) -> Result<(), Alloc
 fn push_setting(out: &mut Vec<u8>, setting: Setting, number: u32) -> Result<(), AllocError>
     ensures { OnOk result (out.new.items ≡ out.old.items ++ line_text (setting_line setting number)) }
 {
-    push_line(out, Word::Setting(setting), &[number as u64])
+    push_line(out, Keyword::Setting(setting), &[number as u64])
 }
 
 /// Puts the lines of a setup at the end.
@@ -57,7 +58,7 @@ fn push_setup(out: &mut Vec<u8>, setup: &Setup) -> Result<(), AllocError>
 fn push_turn(out: &mut Vec<u8>, hints: &[u32]) -> Result<(), AllocError>
     ensures { OnOk result (out.new.items ≡ out.old.items ++ line_text (turn_line hints.now)) }
 {
-    out.extend_from_slice(Word::Turn.name())?;
+    out.extend_from_slice(Keyword::Turn.name())?;
     for hint in hints {
         out.push(b' ')?;
         push_number(out, *hint as u64)?;
@@ -69,9 +70,9 @@ fn push_turn(out: &mut Vec<u8>, hints: &[u32]) -> Result<(), AllocError>
 #[tactic(auto, unfolding(crate::specs::Lines::spelling))]
 fn push_on(out: &mut Vec<u8>, verb: Verb, slot: Slot, operands: &[u64]) -> Result<(), AllocError>
     ensures { OnOk result (out.new.items
-        ≡ out.old.items ++ (spelling (Word.Op verb) (slot.domain ∷ slot.slot ∷ operands.now) ++ 10 ∷ [])) }
+        ≡ out.old.items ++ (spelling (Keyword.Op verb) (slot.domain ∷ slot.slot ∷ operands.now) ++ 10 ∷ [])) }
 {
-    out.extend_from_slice(Word::Op(verb).name())?;
+    out.extend_from_slice(Keyword::Op(verb).name())?;
     push_operands(out, &[slot.domain as u64, slot.slot as u64])?;
     push_operands(out, operands)?;
     out.extend_from_slice(b"\n")
@@ -114,7 +115,7 @@ fn numbers_of(slot: Slot) -> [u64; 2]
 fn push_lane_line(out: &mut Vec<u8>, lane: u64) -> Result<(), AllocError>
     ensures { OnOk result (out.new.items ≡ out.old.items ++ line_text (lane_line lane)) }
 {
-    push_line(out, Word::Lane, &[lane])
+    push_line(out, Keyword::Lane, &[lane])
 }
 
 /// Puts a lane's line and those of its operations at the end.
@@ -153,7 +154,7 @@ fn push_turns(out: &mut Vec<u8>, turns: &[Vec<u32>]) -> Result<(), AllocError>
 fn push_give(out: &mut Vec<u8>, give: &Give) -> Result<(), AllocError>
     ensures { OnOk result (out.new.items ≡ out.old.items ++ line_text (give_line give.now)) }
 {
-    push_line(out, Word::Give, &[give.domain as u64, give.lane as u64])
+    push_line(out, Keyword::Give, &[give.domain as u64, give.lane as u64])
 }
 
 /// Puts the lines of all gives at the end.
@@ -170,11 +171,11 @@ fn push_gives(out: &mut Vec<u8>, gives: &[Give]) -> Result<(), AllocError>
 fn push_phase(out: &mut Vec<u8>, phase: &Phase) -> Result<(), AllocError>
     ensures { OnOk result (out.new.items ≡ out.old.items ++ flat_map line_text (phase_lines phase.now)) }
 {
-    push_line(out, Word::Phase, &[])?;
+    push_line(out, Keyword::Phase, &[])?;
     push_turns(out, &phase.turns)?;
     push_lanes(out, &phase.lanes)?;
     push_gives(out, &phase.gives)?;
-    push_line(out, Word::End, &[])?;
+    push_line(out, Keyword::End, &[])?;
     Ok(())
 }
 
@@ -184,11 +185,11 @@ pub fn write(alloc: Global, trace: &Trace) -> Result<Vec<u8>, AllocError>
     ensures { IfOk result (λ text. text.items ≡ trace_text trace.now) }
 {
     let mut text = Vec::new(alloc);
-    push_line(&mut text, Word::Version, &[1])?;
+    push_line(&mut text, Keyword::Version, &[1])?;
     push_setup(&mut text, &trace.setup)?;
     for phase in &trace.phases {
         push_phase(&mut text, phase)?;
     }
-    push_line(&mut text, Word::Done, &[])?;
+    push_line(&mut text, Keyword::Done, &[])?;
     Ok(text)
 }

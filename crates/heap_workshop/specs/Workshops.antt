@@ -53,6 +53,7 @@ pub record AreSizes (z : Sizes) : Type 0 where
   pub lanes : z.lanes ≤ 16
   pub domains : z.domains ≤ 64
   pub slots : z.slots ≤ 256
+  pub some_superpages : 1 ≤ z.superpages
   pub superpages : z.superpages ≤ 4096
   pub nursery : z.nursery ≤ 4096
 

@@ -1,7 +1,7 @@
 use Rattle.std.proofs.Common.{◌+◌, arith}
 use Rattle.std.proofs.lemmas.Bool.{eqb-true, eq-eqb}
 use Rattle.std.proofs.lemmas.List.{take_rest}
-use Rattle.bc_trace.proofs.Parts.{parts_at, parts_none}
+use Rattle.bc_trace.proofs.CutLines.{parts_at, parts_none}
 use Rattle.bc_trace.proofs.cutting.cut_line.Goals as goal
 
 pub returns-in-Some-clause-parts : goal.returns-in-Some-clause-parts

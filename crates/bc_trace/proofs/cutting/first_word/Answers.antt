@@ -1,6 +1,6 @@
 use Rattle.std.proofs.Common.{arith}
 use Rattle.std.proofs.lemmas.List.{take_rest}
-use Rattle.bc_trace.proofs.Parts.{parts_at, parts_none, words_after-drop}
+use Rattle.bc_trace.proofs.CutLines.{parts_at, parts_none, words_after-drop}
 use Rattle.bc_trace.proofs.cutting.first_word.Goals as goal
 
 pub returns-then-byte-eq32-clause-parts : goal.returns-then-byte-eq32-clause-parts

@@ -1,5 +1,5 @@
 use Rattle.std.proofs.Common.{sym, ◌∙◌}
-use Rattle.bc_trace.proofs.Parts.{formed-next, formed-stop, formed-end}
+use Rattle.bc_trace.proofs.CutLines.{formed-next, formed-stop, formed-end}
 use Rattle.bc_trace.proofs.cutting.is_formed.Goals as goal
 
 pub loop-byte-preserved : goal.loop-byte-preserved

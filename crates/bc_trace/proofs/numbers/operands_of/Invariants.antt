@@ -1,5 +1,5 @@
 use Rattle.std.proofs.Common.{◌≡◌, ◌+◌, ◌≤◌, length, take}
-use Rattle.bc_trace.specs.Reading.{numbers_of, words_after}
+use Rattle.bc_trace.specs.Reading.{read_numbers, words_after}
 use Rattle.bc_trace.proofs.Operands.{with_front}
 use Rattle.bc_trace.proofs.numbers.operands_of.Given as goal
 
@@ -7,7 +7,7 @@ abbrev pub invariant-loop-rest : goal.invariant-loop-rest
 invariant-loop-rest l = record {
   count : l.count + length (words_after l.rest) ≡ length (words_after l.words);
   few : l.count ≤ 64;
-  numbers : with_front l.all_numbers (take l.count l.operands) (numbers_of (words_after l.rest)) ≡ numbers_of (words_after l.words);
+  numbers : with_front l.all_numbers (take l.count l.operands) (read_numbers (words_after l.rest)) ≡ read_numbers (words_after l.words);
   long : length l.operands ≡ 64;
 }
 

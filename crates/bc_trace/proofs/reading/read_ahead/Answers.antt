@@ -10,7 +10,7 @@ loop-line-preserved-in-Turns c =
     let small = IsSmall-ahead (shown c.loop-line.draft) (shown c.put.new.self) c.loop-line.count c.loop-line.rest.now c.in-Some.after.now says c.in-Some.ensures.ahead c.in_ok-put.ensures c.loop-line.invariant.small in
     let more = c.in_ok-count-in-Turns in
     record {
-      small = rw more.ensures.state (IsSmall-more c.put.new.self.state (c.loop-line.count + 1) more.field-0-0 more.ensures.more small);
+      small = rw more.ensures.progress (IsSmall-more c.put.new.self.progress (c.loop-line.count + 1) more.field-0-0 more.ensures.more small);
       count = omega (arith, c.in-Some.ensures.shorter, more.ensures.count);
       more = omega (arith, more.ensures.more);
       reads = more.ensures.reads ∙ went_ahead (shown c.loop-line.draft) (shown c.put.new.self) c.loop-line.count c.loop-line.rest.now c.in-Some.after.now says c.in-Some.ensures.ahead c.in_ok-put.ensures ∙ c.loop-line.invariant.reads;
@@ -22,7 +22,7 @@ loop-line-preserved-in-Ops c =
     let small = IsSmall-ahead (shown c.loop-line.draft) (shown c.put.new.self) c.loop-line.count c.loop-line.rest.now c.in-Some.after.now says c.in-Some.ensures.ahead c.in_ok-put.ensures c.loop-line.invariant.small in
     let more = c.in_ok-count-in-Ops in
     record {
-      small = rw more.ensures.state (IsSmall-more c.put.new.self.state (c.loop-line.count + 1) more.field-0-0 more.ensures.more small);
+      small = rw more.ensures.progress (IsSmall-more c.put.new.self.progress (c.loop-line.count + 1) more.field-0-0 more.ensures.more small);
       count = omega (arith, c.in-Some.ensures.shorter, more.ensures.count);
       more = omega (arith, more.ensures.more);
       reads = more.ensures.reads ∙ went_ahead (shown c.loop-line.draft) (shown c.put.new.self) c.loop-line.count c.loop-line.rest.now c.in-Some.after.now says c.in-Some.ensures.ahead c.in_ok-put.ensures ∙ c.loop-line.invariant.reads;

@@ -6,7 +6,7 @@ use Rattle.bc_trace.proofs.reading.read_ahead.Given as goal
 
 abbrev pub invariant-loop-line : goal.invariant-loop-line
 invariant-loop-line l = record {
-  small : IsSmall l.draft.state l.count;
+  small : IsSmall l.draft.progress l.count;
   count : l.count + length l.rest ≤ l.lines + length l.text;
   more : l.lines ≤ l.count;
   reads : reading (shown l.draft) l.count (lines_of l.rest) ≡ reading (shown l.fn.draft) l.lines (lines_of l.text);

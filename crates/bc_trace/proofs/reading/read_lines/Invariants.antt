@@ -8,7 +8,7 @@ abbrev pub invariant-loop-line : goal.invariant-loop-line
 invariant-loop-line l = record {
   so_far : reading (shown l.draft) l.lines (lines_of l.rest) ≡ read_of l.bytes;
   count : l.lines + length l.rest ≤ length l.bytes;
-  small : IsSmall l.draft.state l.lines;
+  small : IsSmall l.draft.progress l.lines;
 }
 
 abbrev pub decreases-loop-line : goal.decreases-loop-line

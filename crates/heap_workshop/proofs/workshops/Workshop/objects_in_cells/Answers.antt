@@ -15,7 +15,7 @@ overflow_add-objects c =
     let count = c.count-objects.ensures.count in
     let test = c.loop-superpage-test.true in
     let inv = c.loop-superpage.invariant in
-    let pages = c.pages-superpage-end.ensures.pages in
+    let size = c.superpages-superpage-end.ensures.superpages in
     grind arith
 
 pub loop-superpage-preserved : goal.loop-superpage-preserved

@@ -1,0 +1,294 @@
+-- A line passes all tests, or one of them is the first that it fails; the reader says which.
+use Rattle.std.proofs.Common.{◌≡◌, ℕ, ◌<◌, Bool, true, false, eqb, leb, ◌≤◌, List, [], ◌∷◌, ◌++◌, length, map, Option, Some, None, Ok, Err, refl, sym, ap, subst, ◌∙◌, inl, inr, arith}
+use Rattle.std.specs.Prelude.{◌⊎◌}
+use Rattle.std.specs.Bool.{Decides}
+use Rattle.std.specs.List.{AllByRecursion, flat_map, join_with_byte, list_all}
+use Rattle.std.specs.Fmt.{decimal}
+use Rattle.std.proofs.lemmas.Bool.{cases_Bool, both_ways, false_from_ne_true, and_parts, ne_eqb, leb-true}
+use Rattle.std.specs.Char.{is_ascii_digit}
+use Rattle.std.specs.Str.{all_ascii_digits}
+use Rattle.std.proofs.lemmas.Fmt.{decimal_nonempty, digits_decimal}
+use Rattle.std.proofs.lemmas.List.Elements.{All-from_recursion}
+use Rattle.std.proofs.lemmas.Bool.Decides.{not_from_Decides}
+use Rattle.std.proofs.lemmas.List.{length-map, append-nil}
+use Rattle.std.proofs.lemmas.List.Splits.{join_with_byte-slice_split, slice_split_at, slice_split_none}
+use Rattle.bc_model.specs.WellFormed.{IsWithin, IsNumber}
+use Rattle.bc_trace.specs.declared.fault.Cause.{Cause}
+use Rattle.bc_trace.specs.declared.fault.Cause.TheVariants as causes
+use Rattle.bc_trace.specs.declared.grammar.Progress.{Progress}
+use Rattle.bc_trace.specs.declared.words.Setting.TheVariants as settings
+use Rattle.bc_trace.specs.declared.words.Verb.TheVariants as verbs
+use Rattle.bc_trace.specs.declared.words.Keyword.{Keyword}
+use Rattle.bc_trace.specs.declared.words.Keyword.TheVariants as words
+use Rattle.bc_trace.specs.Words.{name, verb_name, setting_name}
+use Rattle.bc_trace.specs.Lines.{Line, word_of_line, operands, spelling}
+use Rattle.bc_trace.specs.Grammar.{may_stand, MayStand, IsCount, Passes}
+use Rattle.bc_trace.specs.Faults.{line_words, IsWord, IsFormed, BeginsWith, IsNumeral, WordFails, OrderFails, CountFails, NumberFails, IsReadable, RangeFails, FramesFails, Fails}
+use Rattle.bc_trace.specs.Reading.{is_within, formed_from, word_of, has_count, read_numbers, line_of, in_range, frames_fit, judge_line, line_at}
+use Rattle.bc_trace.proofs.Operands.{line_words-some}
+use Rattle.bc_trace.proofs.InOrder.{line_at-unformed, line_at-unknown, line_at-misplaced, line_at-miscounted, line_at-no_numbers, line_at-says}
+use Rattle.bc_trace.proofs.Meaning.{own, Decides-within, Decides-formed, word_of-is, word_of-name, read_numbers-is, read_numbers-decimal, numerals, are_numerals}
+use Rattle.bc_trace.proofs.LineMeaning.{Decides-count, word_of_line-line_of, operands-line_of, line_of-line, Decides-range, Decides-frames}
+
+cases_Option : {A : Type 0} (o : Option A) → (o ≡ None) ⊎ ((x : A) × (o ≡ Some x))
+cases_Option None = inl refl
+cases_Option (Some x) = inr (x, refl)
+
+pub cases_parts : (ws : List (List ℕ)) → 0 < length ws → (first : List ℕ) × (others : List (List ℕ)) × (ws ≡ first ∷ others)
+cases_parts [] some = absurd (omega arith)
+cases_parts (w ∷ ws) some = (w, ws, refl)
+
+-- ---- words with single spaces between them
+
+joined : (first : List ℕ) (ns : List ℕ) → join_with_byte 32 (first ∷ map decimal ns) ≡ first ++ flat_map (λ n. 32 ∷ decimal n) ns
+joined first [] = sym (append-nil first)
+joined first (n ∷ ns) = ap (λ (t : List ℕ). first ++ 32 ∷ t) (joined (decimal n) ns)
+
+pub spelled : (line : List ℕ) (w : Keyword) (ns : List ℕ) → line_words line ≡ name w ∷ map decimal ns → line ≡ spelling w ns
+unfolding spelling
+spelled line w ns e = sym (join_with_byte-slice_split 32 line) ∙ ap (λ (ws : List (List ℕ)). join_with_byte 32 ws) e ∙ joined (name w) ns
+
+no_space : (bs : List ℕ) → AllByRecursion (IsWithin 33 126) bs → AllByRecursion (λ b. eqb b 32 ≡ false) bs
+no_space [] h = tt
+no_space (b ∷ bs) h = (ne_eqb b 32 (omega (arith, h.0)), no_space bs h.1)
+
+pub visible : (w : List ℕ) → IsWord w → AllByRecursion (IsWithin 33 126) w
+visible [] h = tt
+visible (b ∷ bs) h = h
+
+cut_word : (w rest : List ℕ) → IsWord w → line_words (w ++ 32 ∷ rest) ≡ w ∷ line_words rest
+cut_word w rest h = slice_split_at (λ b. eqb b 32) w 32 rest (All-from_recursion (λ b. eqb b 32 ≡ false) w (no_space w (visible w h))) refl
+
+last_word : (w : List ℕ) → IsWord w → line_words w ≡ w ∷ []
+last_word w h = slice_split_none (λ b. eqb b 32) w (All-from_recursion (λ b. eqb b 32 ≡ false) w (no_space w (visible w h)))
+
+line_words-joined : (first : List ℕ) (ns : List ℕ) → IsWord first → AllByRecursion IsWord (map decimal ns) → line_words (first ++ flat_map (λ n. 32 ∷ decimal n) ns) ≡ first ∷ map decimal ns
+line_words-joined first [] h hs = ap line_words (append-nil first) ∙ last_word first h
+line_words-joined first (n ∷ ns) h hs = cut_word first (decimal n ++ flat_map (λ n. 32 ∷ decimal n) ns) h ∙ ap (λ (ws : List (List ℕ)). first ∷ ws) (line_words-joined (decimal n) ns hs.0 hs.1)
+
+-- ---- names and numerals are words
+
+abbrev is_word : List ℕ → Bool
+is_word [] = false
+is_word (b ∷ bs) = list_all (λ b. is_within 33 126 b) (b ∷ bs)
+
+all_visible : (bs : List ℕ) → list_all (λ b. is_within 33 126 b) bs ≡ true → AllByRecursion (IsWithin 33 126) bs
+all_visible [] e = tt
+all_visible (b ∷ bs) e =
+    let both = and_parts (is_within 33 126 b) (list_all (λ b. is_within 33 126 b) bs) e in
+    ((Decides-within 33 126 b).0 both.0, all_visible bs both.1)
+
+word_from : (bs : List ℕ) → is_word bs ≡ true → IsWord bs
+word_from [] e = absurd cc
+word_from (b ∷ bs) e = all_visible (b ∷ bs) e
+
+is_word-name : (w : Keyword) → is_word (name w) ≡ true
+unfolding name verb_name setting_name
+is_word-name words.Version = refl
+is_word-name (words.Setting settings.Lanes) = refl
+is_word-name (words.Setting settings.Domains) = refl
+is_word-name (words.Setting settings.Slots) = refl
+is_word-name (words.Setting settings.Superpages) = refl
+is_word-name (words.Setting settings.Nursery) = refl
+is_word-name (words.Setting settings.Buffer) = refl
+is_word-name (words.Setting settings.Frames) = refl
+is_word-name words.Phase = refl
+is_word-name words.Turn = refl
+is_word-name words.Lane = refl
+is_word-name words.Give = refl
+is_word-name words.End = refl
+is_word-name words.Done = refl
+is_word-name (words.Op verbs.New) = refl
+is_word-name (words.Op verbs.Who) = refl
+is_word-name (words.Op verbs.Len) = refl
+is_word-name (words.Op verbs.Set) = refl
+is_word-name (words.Op verbs.Cut) = refl
+is_word-name (words.Op verbs.Link) = refl
+is_word-name (words.Op verbs.Load) = refl
+is_word-name (words.Op verbs.Copy) = refl
+is_word-name (words.Op verbs.Clear) = refl
+is_word-name (words.Op verbs.Same) = refl
+
+pub IsWord-name : (w : Keyword) → IsWord (name w)
+IsWord-name w = word_from (name w) (is_word-name w)
+
+digit_visible : (b : ℕ) → is_ascii_digit b ≡ true → IsWithin 33 126 b
+digit_visible b e =
+    let both = and_parts (leb 48 b) (leb b 57) e in
+    let low : 48 ≤ b = leb-true 48 b both.0 in
+    let high : b ≤ 57 = leb-true b 57 both.1 in
+    (omega arith, omega arith)
+
+digits_visible : (bs : List ℕ) → all_ascii_digits bs ≡ true → AllByRecursion (IsWithin 33 126) bs
+digits_visible [] e = tt
+digits_visible (b ∷ bs) e =
+    let both = and_parts (is_ascii_digit b) (all_ascii_digits bs) e in
+    (digit_visible b both.0, digits_visible bs both.1)
+
+word_made : (bs : List ℕ) → 0 < length bs → AllByRecursion (IsWithin 33 126) bs → IsWord bs
+word_made [] some h = absurd (omega arith)
+word_made (b ∷ bs) some h = h
+
+pub IsWord-decimal : (n : ℕ) → IsNumber n → IsWord (decimal n)
+IsWord-decimal n lt = word_made (decimal n) (decimal_nonempty n (omega arith)) (digits_visible (decimal n) (digits_decimal own n (omega arith)))
+
+pub are_words : (ns : List ℕ) → AllByRecursion IsNumber ns → AllByRecursion IsWord (map decimal ns)
+are_words [] h = tt
+are_words (n ∷ ns) h = (IsWord-decimal n h.0, are_words ns h.1)
+
+module _ (w : Keyword) (ns : List ℕ) (fits : AllByRecursion IsNumber ns) where
+  pub line_words-spelling : line_words (spelling w ns) ≡ name w ∷ map decimal ns
+  unfolding spelling
+  line_words-spelling = line_words-joined (name w) ns (IsWord-name w) (are_words ns fits)
+
+  pub IsFormed-spelling : IsFormed (spelling w ns)
+  IsFormed-spelling = rw line_words-spelling (IsWord-name w, are_words ns fits)
+
+-- ---- a line that passes is read again
+
+says_again : (s : Progress) (l : Line) → MayStand s (word_of_line l) → IsCount (word_of_line l) (length (operands l)) → AllByRecursion IsNumber (operands l) → line_at s (spelling (word_of_line l) (operands l)) ≡ judge_line s l
+says_again s l stands right fits =
+    let w = word_of_line l in
+    let ns = operands l in
+    let count : has_count w (length (map decimal ns)) ≡ true = rw (length-map ns decimal) ((Decides-count w (length ns)).1 right) in
+    line_at-says s (spelling w ns) (name w) (map decimal ns) ((Decides-formed (spelling w ns)).1 (IsFormed-spelling w ns fits)) (line_words-spelling w ns fits) w ns (word_of-name w) stands count (read_numbers-decimal ns fits)
+    ∙ ap (λ l. judge_line s l) (line_of-line l)
+
+pub read_again : (s : Progress) (l : Line) → Passes s l → line_at s (spelling (word_of_line l) (operands l)) ≡ Ok l
+unfolding judge_line
+read_again s l h = says_again s l h.stands h.count h.numbers ∙ rw ((Decides-range s l).1 h.range, (Decides-frames s l).1 h.frames) refl
+
+-- ---- the verdict on a line
+
+abbrev pub Judgement : Progress → List ℕ → Type 0
+Judgement s line = ((l : Line) × (line_at s line ≡ Ok l) × (line ≡ spelling (word_of_line l) (operands l)) × Passes s l) ⊎ ((cause : Cause) × (line_at s line ≡ Err cause) × Fails s line cause)
+
+not_none : (others : List (List ℕ)) → read_numbers others ≡ None → ¬ AllByRecursion IsNumeral others
+not_none others none h =
+    let found = numerals others h in
+    let some : read_numbers others ≡ Some found.0 = ap read_numbers found.1 ∙ read_numbers-decimal found.0 found.2 in
+    absurd cc
+
+no_word : (line first : List ℕ) (others more : List (List ℕ)) (w : Keyword) → line_words line ≡ first ∷ others → word_of first ≡ None → ¬ BeginsWith line w more
+no_word line first others more w parts none h =
+    let both : first ∷ others ≡ name w ∷ more = sym parts ∙ h in
+    let same : first ≡ name w = cc in
+    let some : word_of first ≡ Some w = rw same (word_of-name w) in
+    absurd cc
+
+-- a line whose words and count are right, and which is readable
+module _ (s : Progress) (line : List ℕ) where
+  judged_line : (l : Line) → line_at s line ≡ judge_line s l → IsReadable s line l → Judgement s line
+  unfolding judge_line
+  judged_line l e readable =
+      elim (cases_Bool (in_range s l)) [
+        | inl range ↦ elim (cases_Bool (frames_fit s l)) [
+          | inl frames ↦ inl (l, e ∙ rw (range, frames) refl, readable.text, record { stands = readable.stands; count = readable.count; numbers = readable.numbers; range = (Decides-range s l).0 range; frames = (Decides-frames s l).0 frames })
+          | inr misfit ↦ inr (causes.Frames, e ∙ rw (range, misfit) refl, record { says = l; readable = readable; range = (Decides-range s l).0 range; frames = not_from_Decides (frames_fit s l) (Decides-frames s l) misfit })
+        ]
+        | inr out ↦ inr (causes.Range, e ∙ rw out refl, record { says = l; readable = readable; range = not_from_Decides (in_range s l) (Decides-range s l) out })
+      ]
+
+  module _ (first : List ℕ) (others : List (List ℕ)) (formed : formed_from true line ≡ true) (parts : line_words line ≡ first ∷ others) where
+    module _ (w : Keyword) (is : word_of first ≡ Some w) where
+      begins : BeginsWith line w others
+      begins = parts ∙ ap (λ (v : List ℕ). v ∷ others) (word_of-is first w is)
+
+      judged_numbers : (stands : may_stand w s.stage (eqb s.stood s.setup.lanes) ≡ true) (count : has_count w (length others) ≡ true) (ns : List ℕ) → read_numbers others ≡ Some ns → Judgement s line
+      judged_numbers stands count ns numbers =
+          let facts = read_numbers-is others ns numbers in
+          let same : length others ≡ length ns = ap (λ (ws : List (List ℕ)). length ws) facts.0 ∙ length-map ns decimal in
+          let right : IsCount w (length ns) = subst (λ n. IsCount w n) same ((Decides-count w (length others)).0 count) in
+          let text : line ≡ spelling w ns = spelled line w ns (begins ∙ ap (λ (ws : List (List ℕ)). name w ∷ ws) facts.0) in
+          let w-is = word_of_line-line_of w ns in
+          let ns-is = operands-line_of w ns right in
+          judged_line (line_of w ns) (line_at-says s line first others formed parts w ns is stands count numbers) (record {
+            text = rw (w-is, ns-is) text;
+            stands = rw w-is stands;
+            count = rw (w-is, ns-is) right;
+            numbers = rw ns-is facts.1;
+          })
+
+      judged_word : Judgement s line
+      judged_word =
+          elim (cases_Bool (may_stand w s.stage (eqb s.stood s.setup.lanes))) [
+            | inr misplaced ↦ inr (causes.Order, line_at-misplaced s line first others formed parts w is misplaced, record { formed = (Decides-formed line).0 formed; word = w; others = others; begins = begins; order = λ h. both_ways _ misplaced h })
+            | inl stands ↦ elim (cases_Bool (has_count w (length others))) [
+              | inr miscounted ↦ inr (causes.Form, line_at-miscounted s line first others formed parts w is stands miscounted, inr (record { formed = (Decides-formed line).0 formed; word = w; others = others; begins = begins; stands = stands; count = not_from_Decides (has_count w (length others)) (Decides-count w (length others)) miscounted }))
+              | inl count ↦ elim (cases_Option (read_numbers others)) [
+                | inl none ↦ inr (causes.Number, line_at-no_numbers s line first others formed parts w is stands count none, record { formed = (Decides-formed line).0 formed; word = w; others = others; begins = begins; stands = stands; count = (Decides-count w (length others)).0 count; number = λ h. not_none others none h })
+                | inr (ns, numbers) ↦ judged_numbers stands count ns numbers
+              ]
+            ]
+          ]
+
+    judged_words : Judgement s line
+    judged_words =
+        elim (cases_Option (word_of first)) [
+          | inl none ↦ inr (causes.Word, line_at-unknown s line first others formed parts none, record { formed = (Decides-formed line).0 formed; unknown = λ w more h. no_word line first others more w parts none h })
+          | inr (w, is) ↦ judged_word w is
+        ]
+
+  pub judged : Judgement s line
+  judged =
+      elim (cases_Bool (formed_from true line)) [
+        | inr unformed ↦ inr (causes.Form, line_at-unformed s line unformed, inl (not_from_Decides (formed_from true line) (Decides-formed line) unformed))
+        | inl formed ↦ let cut = cases_parts (line_words line) (line_words-some line) in judged_words cut.0 cut.1 formed cut.2
+      ]
+
+-- ---- the first test that fails gives the reader's cause
+
+false_from : {P : Type 0} (r : Bool) → Decides r P → ¬ P → r ≡ false
+false_from r h fails = false_from_ne_true r (λ e. fails (h.0 e))
+
+none_from : (others : List (List ℕ)) → ¬ AllByRecursion IsNumeral others → read_numbers others ≡ None
+none_from others bad =
+    elim (cases_Option (read_numbers others)) [
+      | inl none ↦ none
+      | inr (ns, is) ↦ let facts = read_numbers-is others ns is in absurd (bad (subst (λ (ws : List (List ℕ)). AllByRecursion IsNumeral ws) (sym facts.0) (are_numerals ns facts.1)))
+    ]
+
+module _ (s : Progress) (line : List ℕ) where
+  fails_count : CountFails s line → line_at s line ≡ Err causes.Form
+  fails_count h = line_at-miscounted s line (name h.word) h.others ((Decides-formed line).1 h.formed) h.begins h.word (word_of-name h.word) h.stands (false_from (has_count h.word (length h.others)) (Decides-count h.word (length h.others)) h.count)
+
+  fails_word : WordFails line → line_at s line ≡ Err causes.Word
+  fails_word h =
+      let cut = cases_parts (line_words line) (line_words-some line) in
+      elim (cases_Option (word_of cut.0)) [
+        | inl none ↦ line_at-unknown s line cut.0 cut.1 ((Decides-formed line).1 h.formed) cut.2 none
+        | inr (w, is) ↦ absurd (h.unknown w cut.1 (cut.2 ∙ ap (λ (v : List ℕ). v ∷ cut.1) (word_of-is cut.0 w is)))
+      ]
+
+  fails_order : OrderFails s line → line_at s line ≡ Err causes.Order
+  fails_order h = line_at-misplaced s line (name h.word) h.others ((Decides-formed line).1 h.formed) h.begins h.word (word_of-name h.word) (false_from_ne_true (may_stand h.word s.stage (eqb s.stood s.setup.lanes)) h.order)
+
+  fails_number : NumberFails s line → line_at s line ≡ Err causes.Number
+  fails_number h = line_at-no_numbers s line (name h.word) h.others ((Decides-formed line).1 h.formed) h.begins h.word (word_of-name h.word) h.stands ((Decides-count h.word (length h.others)).1 h.count) (none_from h.others h.number)
+
+  fails_range : RangeFails s line → line_at s line ≡ Err causes.Range
+  unfolding judge_line
+  fails_range h =
+      let l = h.says in
+      ap (λ (line : List ℕ). line_at s line) h.readable.text ∙ says_again s l h.readable.stands h.readable.count h.readable.numbers
+      ∙ rw (false_from (in_range s l) (Decides-range s l) h.range) refl
+
+  fails_frames : FramesFails s line → line_at s line ≡ Err causes.Frames
+  unfolding judge_line
+  fails_frames h =
+      let l = h.says in
+      ap (λ (line : List ℕ). line_at s line) h.readable.text ∙ says_again s l h.readable.stands h.readable.count h.readable.numbers
+      ∙ rw ((Decides-range s l).1 h.range, false_from (frames_fit s l) (Decides-frames s l) h.frames) refl
+
+  fails_form : (¬ IsFormed line ⊎ CountFails s line) → line_at s line ≡ Err causes.Form
+  fails_form (inl h) = line_at-unformed s line (false_from (formed_from true line) (Decides-formed line) h)
+  fails_form (inr h) = fails_count h
+
+  pub fails_read : (cause : Cause) → Fails s line cause → line_at s line ≡ Err cause
+  fails_read causes.Form h = fails_form h
+  fails_read causes.Word h = fails_word h
+  fails_read causes.Order h = fails_order h
+  fails_read causes.Number h = fails_number h
+  fails_read causes.Range h = fails_range h
+  fails_read causes.Frames h = fails_frames h
+  fails_read causes.End h = absurd h

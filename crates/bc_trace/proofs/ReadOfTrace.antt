@@ -1,0 +1,290 @@
+-- The text of a well-formed trace is read, and gives that trace.
+use Rattle.std.proofs.Common.{◌≡◌, ℕ, suc, ◌+◌, ◌*◌, ◌^◌, ◌<◌, ◌≤◌, true, eqb, List, [], ◌∷◌, ◌++◌, length, map, Ok, refl, sym, ap, subst, ◌∙◌, append_assoc, arith, add-zero}
+use Rattle.std.specs.List.{AllByRecursion, flat_map}
+use Rattle.std.proofs.lemmas.Bool.{eq-eqb, ne_eqb}
+use Rattle.std.proofs.lemmas.List.{append-nil}
+use Rattle.bc_model.specs.Lists.{PhaseLists, TraceLists}
+use Rattle.bc_model.specs.WellFormed.{IsSetup, IsNumber, IsOp, IsGive, IsTurn, IsPhase, IsTrace}
+use Rattle.bc_model.specs.declared.operations.Op.{Op}
+use Rattle.bc_model.specs.declared.operations.Op.TheVariants as ops
+use Rattle.bc_model.specs.declared.traces.Give.{Give}
+use Rattle.bc_model.specs.declared.traces.Setup.{Setup}
+use Rattle.bc_trace.specs.declared.grammar.Stage.{Stage}
+use Rattle.bc_trace.specs.declared.grammar.Stage.TheVariants as stages
+use Rattle.bc_trace.specs.declared.grammar.Progress.{Progress}
+use Rattle.bc_trace.specs.declared.words.Keyword.TheVariants as words
+use Rattle.bc_trace.specs.Lines.{Line, version, phase, turn, lane, op, give, end, done, verb_of_op, operands_of_op, setup_lines, lane_lines, phase_lines, trace_lines, trace_text, line_text}
+use Rattle.bc_trace.specs.Grammar.{start, may_stand, same_setting, arity, IsCount, Passes, after, after_all, Follow}
+use Rattle.bc_trace.specs.Drafts.{DraftLists, empty_draft, put, put_lists}
+use Rattle.bc_trace.specs.Reading.{lines_of, ended, reading, read_of}
+use Rattle.bc_trace.proofs.Runs.{reading-end, read_of-is}
+use Rattle.bc_trace.proofs.ReadOfFault.{put_all, put_all-state, forward}
+
+-- the lines pass, and make one draft of the other
+record Runs (d : DraftLists) (ls : List Line) (d' : DraftLists) : Type 0 where
+  pass : Follow d.progress ls
+  makes : put_all d ls ≡ d'
+
+pub follow-append : (xs ys : List Line) (s : Progress) → Follow s xs → Follow (after_all s xs) ys → Follow s (xs ++ ys)
+follow-append [] ys s h g = g
+follow-append (x ∷ xs) ys s h g = (h.0, follow-append xs ys (after x s) h.1 g)
+
+pub put_all-append : (xs ys : List Line) (d : DraftLists) → put_all d (xs ++ ys) ≡ put_all (put_all d xs) ys
+put_all-append [] ys d = refl
+put_all-append (x ∷ xs) ys d = put_all-append xs ys (put x d)
+
+runs-append : (a b c : DraftLists) (xs ys : List Line) → Runs a xs b → Runs b ys c → Runs a (xs ++ ys) c
+runs-append a b c xs ys h g =
+    let progress : b.progress ≡ after_all a.progress xs = ap (λ d. d.progress) (sym h.makes) ∙ put_all-state xs a in
+    record {
+      pass = follow-append xs ys a.progress h.pass (subst (λ s. Follow s ys) progress g.pass);
+      makes = put_all-append xs ys a ∙ ap (λ d. put_all d ys) h.makes ∙ g.makes;
+    }
+
+runs-cons : (a c : DraftLists) (l : Line) (ls : List Line) → Passes a.progress l → Runs (put l a) ls c → Runs a (l ∷ ls) c
+runs-cons a c l ls h g = record { pass = (h, g.pass); makes = g.makes }
+
+runs-at : (a b c : DraftLists) (ls : List Line) → b ≡ c → Runs a ls b → Runs a ls c
+runs-at a b c ls e h = record { pass = h.pass; makes = h.makes ∙ e }
+
+runs-from : (a b c : DraftLists) (ls : List Line) → a ≡ b → Runs b ls c → Runs a ls c
+runs-from a b c ls e h = subst (λ d. Runs d ls c) (sym e) h
+
+abbrev progress : Stage → Setup → ℕ → Progress
+progress p s k = record { stage = p; setup = s; stood = k }
+
+abbrev draft : Progress → List PhaseLists → List (List ℕ) → List (List Op) → List Op → List Give → DraftLists
+draft st ps ts ls os gs = record { progress = st; phases = ps; turns = ts; lanes = ls; ops = os; gives = gs }
+
+-- ---- the header
+
+pub product_small : (a b : ℕ) → a ≤ 16 → b ≤ 16 → a * b ≤ 16 * 16
+product_small a b h g = grind arith
+
+frames_small : (s : Setup) → IsSetup s → s.frames < 2 ^ 63
+frames_small s h = omega (arith, h.frames, h.superpages, product_small s.lanes s.nursery h.lanes.1 h.nursery.1)
+
+module _ (s : Setup) (h : IsSetup s) where
+  runs_header : Runs empty_draft (version 1 ∷ setup_lines s) (draft (progress stages.Phases s 0) [] [] [] [] [])
+  unfolding may_stand same_setting arity put_lists
+  runs_header = record {
+    pass = (record { stands = refl; count = refl; numbers = (omega arith, tt); range = refl; frames = tt }, (record { stands = refl; count = refl; numbers = (omega (arith, h.lanes), tt); range = h.lanes; frames = tt }, (record { stands = refl; count = refl; numbers = (omega (arith, h.domains), tt); range = h.domains; frames = tt }, (record { stands = refl; count = refl; numbers = (omega (arith, h.slots), tt); range = h.slots; frames = tt }, (record { stands = refl; count = refl; numbers = (omega (arith, h.superpages), tt); range = h.superpages; frames = tt }, (record { stands = refl; count = refl; numbers = (omega (arith, h.nursery), tt); range = h.nursery; frames = tt }, (record { stands = refl; count = refl; numbers = (omega (arith, h.buffer), tt); range = h.buffer; frames = tt }, (record { stands = refl; count = refl; numbers = (frames_small s h, tt); range = tt; frames = h.frames }, tt))))))));
+    makes = refl;
+  }
+
+-- ---- turns
+
+hints_numbers : (hints : List ℕ) → AllByRecursion (λ h. h < 2 ^ 32) hints → AllByRecursion IsNumber hints
+hints_numbers [] h = tt
+hints_numbers (n ∷ ns) h = (omega (arith, h.0), hints_numbers ns h.1)
+
+module _ (s : Setup) (ps : List PhaseLists) where
+  runs_turns : (turns ts : List (List ℕ)) → AllByRecursion IsTurn turns → Runs (draft (progress stages.Turns s 0) ps ts [] [] []) (map turn turns) (draft (progress stages.Turns s 0) ps (ts ++ turns) [] [] [])
+  unfolding may_stand put_lists
+  runs_turns [] ts h = record { pass = tt; makes = ap (λ (us : List (List ℕ)). draft (progress stages.Turns s 0) ps us [] [] []) (sym (append-nil ts)) }
+  runs_turns (t ∷ turns) ts h =
+      let line : Passes (progress stages.Turns s 0) (turn t) = record { stands = refl; count = h.0.0; numbers = hints_numbers t h.0.1; range = h.0.1; frames = tt } in
+      let rest = runs_turns turns (ts ++ t ∷ []) h.1 in
+      runs-cons (draft (progress stages.Turns s 0) ps ts [] [] []) (draft (progress stages.Turns s 0) ps (ts ++ t ∷ turns) [] [] []) (turn t) (map turn turns) line
+      (runs-at (draft (progress stages.Turns s 0) ps (ts ++ t ∷ []) [] [] []) (draft (progress stages.Turns s 0) ps ((ts ++ t ∷ []) ++ turns) [] [] []) (draft (progress stages.Turns s 0) ps (ts ++ t ∷ turns) [] [] []) (map turn turns) (ap (λ (us : List (List ℕ)). draft (progress stages.Turns s 0) ps us [] [] []) (append_assoc ts (t ∷ []) turns)) rest)
+
+-- ---- operations and lanes
+
+pub right_count : (o : Op) → IsCount (words.Op (verb_of_op o)) (length (operands_of_op o))
+unfolding arity
+right_count (ops.New p n) = refl
+right_count (ops.Who p) = refl
+right_count (ops.Len p) = refl
+right_count (ops.Set p i v) = refl
+right_count (ops.Cut p i) = refl
+right_count (ops.Link p i q) = refl
+right_count (ops.Load p i q) = refl
+right_count (ops.Copy p q) = refl
+right_count (ops.Clear p) = refl
+right_count (ops.Same p q) = refl
+
+module _ (s : Setup) (setup : IsSetup s) where
+  pub op_numbers : (o : Op) → IsOp s o → AllByRecursion IsNumber (operands_of_op o)
+  op_numbers (ops.New p n) h = (omega (arith, h.0, setup.domains), (omega (arith, h.0, setup.slots), (omega (arith, h.1), tt)))
+  op_numbers (ops.Who p) h = (omega (arith, h.0, setup.domains), (omega (arith, h.1, setup.slots), tt))
+  op_numbers (ops.Len p) h = (omega (arith, h.0, setup.domains), (omega (arith, h.1, setup.slots), tt))
+  op_numbers (ops.Set p i v) h = (omega (arith, h.0, setup.domains), (omega (arith, h.0, setup.slots), (omega (arith, h.1), (h.2, tt))))
+  op_numbers (ops.Cut p i) h = (omega (arith, h.0, setup.domains), (omega (arith, h.0, setup.slots), (omega (arith, h.1), tt)))
+  op_numbers (ops.Link p i q) h = (omega (arith, h.0, setup.domains), (omega (arith, h.0, setup.slots), (omega (arith, h.1), (omega (arith, h.2, setup.domains), (omega (arith, h.2, setup.slots), tt)))))
+  op_numbers (ops.Load p i q) h = (omega (arith, h.0, setup.domains), (omega (arith, h.0, setup.slots), (omega (arith, h.1), (omega (arith, h.2, setup.domains), (omega (arith, h.2, setup.slots), tt)))))
+  op_numbers (ops.Copy p q) h = (omega (arith, h.0, setup.domains), (omega (arith, h.0, setup.slots), (omega (arith, h.1, setup.domains), (omega (arith, h.1, setup.slots), tt))))
+  op_numbers (ops.Clear p) h = (omega (arith, h.0, setup.domains), (omega (arith, h.1, setup.slots), tt))
+  op_numbers (ops.Same p q) h = (omega (arith, h.0, setup.domains), (omega (arith, h.0, setup.slots), (omega (arith, h.1, setup.domains), (omega (arith, h.1, setup.slots), tt))))
+
+  module _ (ps : List PhaseLists) (ts : List (List ℕ)) where
+    ops_draft : ℕ → List (List Op) → List Op → DraftLists
+    ops_draft k ls os = draft (progress stages.Ops s k) ps ts ls os []
+
+    runs_ops : (more : List Op) (k : ℕ) (ls : List (List Op)) (os : List Op) → AllByRecursion (IsOp s) more → Runs (ops_draft k ls os) (map op more) (ops_draft k ls (os ++ more))
+    unfolding may_stand put_lists ops_draft
+    runs_ops [] k ls os h = record { pass = tt; makes = ap (λ (xs : List Op). draft (progress stages.Ops s k) ps ts ls xs []) (sym (append-nil os)) }
+    runs_ops (o ∷ more) k ls os h =
+        let line : Passes (progress stages.Ops s k) (op o) = record { stands = refl; count = right_count o; numbers = op_numbers o h.0; range = h.0; frames = tt } in
+        let rest = runs_ops more k ls (os ++ o ∷ []) h.1 in
+        runs-cons (ops_draft k ls os) (ops_draft k ls (os ++ o ∷ more)) (op o) (map op more) line
+        (runs-at (ops_draft k ls (os ++ o ∷ [])) (ops_draft k ls ((os ++ o ∷ []) ++ more)) (ops_draft k ls (os ++ o ∷ more)) (map op more) (ap (λ (xs : List Op). draft (progress stages.Ops s k) ps ts ls xs []) (append_assoc os (o ∷ []) more)) rest)
+
+    -- the lanes behind the one that was begun last
+    record LanesRun (k : ℕ) (front : List (List Op)) (os : List Op) (lanes : List (List Op)) : Type 0 where
+      before : List (List Op)
+      last : List Op
+      all : before ++ last ∷ [] ≡ front ++ os ∷ lanes
+      runs : Runs (ops_draft k front os) (lane_lines k lanes) (ops_draft s.lanes before last)
+
+    lane_line : (k j : ℕ) (front : List (List Op)) (os : List Op) → k ≡ suc j → k < s.lanes → Passes (progress stages.Ops s k) (lane k)
+    unfolding may_stand arity
+    lane_line k j front os e lt = record { stands = rw (ne_eqb k s.lanes (λ h. absurd (omega arith))) refl; count = refl; numbers = (omega (arith, setup.lanes), tt); range = refl; frames = tt }
+
+    put_lane : (j : ℕ) (front : List (List Op)) (os : List Op) → put (lane (suc j)) (ops_draft (suc j) front os) ≡ ops_draft (suc j + 1) (front ++ os ∷ []) []
+    unfolding put_lists ops_draft
+    put_lane j front os = rw (ne_eqb (suc j) 0 (λ h. absurd (omega arith))) refl
+
+    runs_lanes : (lanes : List (List Op)) (j : ℕ) (front : List (List Op)) (os : List Op) → suc j + length lanes ≡ s.lanes → AllByRecursion (AllByRecursion (IsOp s)) lanes → LanesRun (suc j) front os lanes
+    unfolding ops_draft
+    runs_lanes [] j front os count h = record { before = front; last = os; all = refl; runs = record { pass = tt; makes = ap (λ k. draft (progress stages.Ops s k) ps ts front os []) (sym (add-zero (suc j)) ∙ count) } }
+    runs_lanes (more ∷ lanes) j front os count h =
+        let rest = runs_lanes lanes (suc j) (front ++ os ∷ []) more (omega arith) h.1 in
+        let its = runs_ops more (suc (suc j)) (front ++ os ∷ []) [] h.0 in
+        let line = lane_line (suc j) j front os refl (omega arith) in
+        let here : put (lane (suc j)) (ops_draft (suc j) front os) ≡ ops_draft (suc (suc j)) (front ++ os ∷ []) [] = put_lane j front os ∙ ap (λ k. draft (progress stages.Ops s k) ps ts (front ++ os ∷ []) [] []) (omega arith) in
+        record {
+          before = rest.before;
+          last = rest.last;
+          all = rest.all ∙ append_assoc front (os ∷ []) (more ∷ lanes);
+          runs = runs-cons (ops_draft (suc j) front os) (ops_draft s.lanes rest.before rest.last) (lane (suc j)) (map op more ++ lane_lines (suc (suc j)) lanes) line
+              (runs-from (put (lane (suc j)) (ops_draft (suc j) front os)) (ops_draft (suc (suc j)) (front ++ os ∷ []) []) (ops_draft s.lanes rest.before rest.last) (map op more ++ lane_lines (suc (suc j)) lanes) here
+              (runs-append (ops_draft (suc (suc j)) (front ++ os ∷ []) []) (ops_draft (suc (suc j)) (front ++ os ∷ []) more) (ops_draft s.lanes rest.before rest.last) (map op more) (lane_lines (suc (suc j)) lanes) its rest.runs));
+        }
+
+    first_lane : Passes (progress stages.Turns s 0) (lane 0)
+    unfolding may_stand arity
+    first_lane = record { stands = refl; count = refl; numbers = (omega arith, tt); range = refl; frames = tt }
+
+    put_first_lane : put (lane 0) (draft (progress stages.Turns s 0) ps ts [] [] []) ≡ ops_draft 1 [] []
+    unfolding put_lists ops_draft
+    put_first_lane = refl
+
+    record AllLanesRun (lanes : List (List Op)) : Type 0 where
+      before : List (List Op)
+      last : List Op
+      all : before ++ last ∷ [] ≡ lanes
+      runs : Runs (draft (progress stages.Turns s 0) ps ts [] [] []) (lane_lines 0 lanes) (ops_draft s.lanes before last)
+
+    runs_all_lanes : (lanes : List (List Op)) → length lanes ≡ s.lanes → AllByRecursion (AllByRecursion (IsOp s)) lanes → AllLanesRun lanes
+    runs_all_lanes [] count h = absurd (omega (arith, setup.lanes))
+    runs_all_lanes (os ∷ lanes) count h =
+        let rest = runs_lanes lanes 0 [] os (omega arith) h.1 in
+        let its = runs_ops os 1 [] [] h.0 in
+        record {
+          before = rest.before;
+          last = rest.last;
+          all = rest.all;
+          runs = runs-cons (draft (progress stages.Turns s 0) ps ts [] [] []) (ops_draft s.lanes rest.before rest.last) (lane 0) (map op os ++ lane_lines 1 lanes) first_lane
+              (runs-from (put (lane 0) (draft (progress stages.Turns s 0) ps ts [] [] [])) (ops_draft 1 [] []) (ops_draft s.lanes rest.before rest.last) (map op os ++ lane_lines 1 lanes) put_first_lane
+              (runs-append (ops_draft 1 [] []) (ops_draft 1 [] os) (ops_draft s.lanes rest.before rest.last) (map op os) (lane_lines 1 lanes) its rest.runs));
+        }
+
+    -- ---- gives, and the end of a phase
+
+    module _ (before : List (List Op)) (last : List Op) where
+      with_gives : Stage → List Give → DraftLists
+      with_gives p gs = draft (progress p s s.lanes) ps ts before last gs
+
+      phase_done : List Give → DraftLists
+      phase_done gs = draft (progress stages.Phases s s.lanes) (ps ++ record { turns = ts; lanes = before ++ last ∷ []; gives = gs } ∷ []) [] [] [] []
+
+      -- a give and the end may stand there
+      record MayGive (p : Stage) : Type 0 where
+        gives : may_stand words.Give p true ≡ true
+        ends : may_stand words.End p true ≡ true
+
+      all_stood : eqb s.lanes s.lanes ≡ true
+      all_stood = eq-eqb s.lanes s.lanes refl
+
+      runs_gives : (more : List Give) (p : Stage) (gs : List Give) → MayGive p → AllByRecursion (IsGive s) more → Runs (with_gives p gs) (map give more ++ end ∷ []) (phase_done (gs ++ more))
+      unfolding with_gives phase_done put_lists arity may_stand
+      runs_gives [] p gs may h =
+          let line : Passes (progress p s s.lanes) end = record { stands = rw all_stood may.ends; count = refl; numbers = tt; range = tt; frames = tt } in
+          record { pass = (line, tt); makes = ap (λ (xs : List Give). phase_done xs) (sym (append-nil gs)) }
+      runs_gives (g ∷ more) p gs may h =
+          let line : Passes (progress p s s.lanes) (give g) = record { stands = rw all_stood may.gives; count = refl; numbers = (omega (arith, h.0, setup.domains), (omega (arith, h.0, setup.lanes), tt)); range = h.0; frames = tt } in
+          let rest = runs_gives more stages.Gives (gs ++ g ∷ []) (record { gives = refl; ends = refl }) h.1 in
+          runs-cons (with_gives p gs) (phase_done (gs ++ g ∷ more)) (give g) (map give more ++ end ∷ []) line
+          (runs-at (with_gives stages.Gives (gs ++ g ∷ [])) (phase_done ((gs ++ g ∷ []) ++ more)) (phase_done (gs ++ g ∷ more)) (map give more ++ end ∷ []) (ap (λ (xs : List Give). phase_done xs) (append_assoc gs (g ∷ []) more)) rest)
+
+      gives_after_ops : MayGive stages.Ops
+      unfolding may_stand
+      gives_after_ops = record { gives = refl; ends = refl }
+
+  -- ---- phases
+
+  phase_line : (k : ℕ) → Passes (progress stages.Phases s k) phase
+  unfolding may_stand arity
+  phase_line k = record { stands = refl; count = refl; numbers = tt; range = tt; frames = tt }
+
+  between : ℕ → List PhaseLists → DraftLists
+  between k ps = draft (progress stages.Phases s k) ps [] [] [] []
+
+  put_phase : (k : ℕ) (ps : List PhaseLists) → put phase (between k ps) ≡ draft (progress stages.Turns s 0) ps [] [] [] []
+  unfolding put_lists between
+  put_phase k ps = refl
+
+  runs_phase : (p : PhaseLists) (k : ℕ) (ps : List PhaseLists) → IsPhase s p → Runs (between k ps) (phase_lines p) (between s.lanes (ps ++ p ∷ []))
+  unfolding ops_draft with_gives phase_done between
+  runs_phase p k ps h =
+      let turns_at = draft (progress stages.Turns s 0) ps p.turns [] [] [] in
+      let lanes = runs_all_lanes ps p.turns p.lanes h.lanes h.ops in
+      let lanes_at = ops_draft ps p.turns s.lanes lanes.before lanes.last in
+      let made : phase_done ps p.turns lanes.before lanes.last p.gives ≡ between s.lanes (ps ++ p ∷ []) = ap (λ (ls : List (List Op)). between s.lanes (ps ++ record { turns = p.turns; lanes = ls; gives = p.gives } ∷ [])) lanes.all in
+      let gives = runs_gives ps p.turns lanes.before lanes.last p.gives stages.Ops [] (gives_after_ops ps p.turns lanes.before lanes.last) h.gives in
+      let rest = runs-append turns_at lanes_at (phase_done ps p.turns lanes.before lanes.last p.gives) (lane_lines 0 p.lanes) (map give p.gives ++ end ∷ []) lanes.runs gives in
+      let all = runs-append (draft (progress stages.Turns s 0) ps [] [] [] []) turns_at (phase_done ps p.turns lanes.before lanes.last p.gives) (map turn p.turns) (lane_lines 0 p.lanes ++ (map give p.gives ++ end ∷ [])) (runs_turns s ps p.turns [] h.turns) rest in
+      let whole = runs-cons (between k ps) (phase_done ps p.turns lanes.before lanes.last p.gives) phase (map turn p.turns ++ (lane_lines 0 p.lanes ++ (map give p.gives ++ end ∷ []))) (phase_line k) (runs-from (put phase (between k ps)) (draft (progress stages.Turns s 0) ps [] [] [] []) (phase_done ps p.turns lanes.before lanes.last p.gives) (map turn p.turns ++ (lane_lines 0 p.lanes ++ (map give p.gives ++ end ∷ []))) (put_phase k ps) all) in
+      runs-at (between k ps) (phase_done ps p.turns lanes.before lanes.last p.gives) (between s.lanes (ps ++ p ∷ [])) (phase_lines p) made whole
+
+  runs_phases : (more : List PhaseLists) (k : ℕ) (ps : List PhaseLists) → AllByRecursion (IsPhase s) more → (m : ℕ) × Runs (between k ps) (flat_map phase_lines more) (between m (ps ++ more))
+  unfolding between
+  runs_phases [] k ps h = (k, record { pass = tt; makes = ap (λ (xs : List PhaseLists). between k xs) (sym (append-nil ps)) })
+  runs_phases (p ∷ more) k ps h =
+      let rest = runs_phases more s.lanes (ps ++ p ∷ []) h.1 in (
+        rest.0,
+        runs-at (between k ps) (between rest.0 ((ps ++ p ∷ []) ++ more)) (between rest.0 (ps ++ p ∷ more)) (flat_map phase_lines (p ∷ more)) (ap (λ (xs : List PhaseLists). between rest.0 xs) (append_assoc ps (p ∷ []) more))
+            (runs-append (between k ps) (between s.lanes (ps ++ p ∷ [])) (between rest.0 ((ps ++ p ∷ []) ++ more)) (phase_lines p) (flat_map phase_lines more) (runs_phase p k ps h.0) rest.1),
+      )
+
+  done_line : (k : ℕ) → Passes (progress stages.Phases s k) done
+  unfolding may_stand arity
+  done_line k = record { stands = refl; count = refl; numbers = tt; range = tt; frames = tt }
+
+  runs_done : (k : ℕ) (ps : List PhaseLists) → Runs (between k ps) (done ∷ []) (draft (progress stages.Finished s k) ps [] [] [] [])
+  unfolding put_lists between
+  runs_done k ps = record { pass = (done_line k, tt); makes = refl }
+
+runs_trace : (t : TraceLists) → IsTrace t → (k : ℕ) × Runs empty_draft (trace_lines t) (draft (progress stages.Finished t.setup k) t.phases [] [] [] [])
+unfolding between
+runs_trace t h =
+    let s = t.setup in
+    let phases = runs_phases s h.setup t.phases 0 [] h.phases in
+    let k = phases.0 in
+    let last = draft (progress stages.Finished s k) t.phases [] [] [] [] in
+    let rest = runs-append (between s h.setup 0 []) (between s h.setup k t.phases) last (flat_map phase_lines t.phases) (done ∷ []) phases.1 (runs_done s h.setup k t.phases) in
+    (k, runs-append empty_draft (between s h.setup 0 []) last (version 1 ∷ setup_lines s) (flat_map phase_lines t.phases ++ done ∷ []) (runs_header s h.setup) rest)
+
+pub trace_passes : (t : TraceLists) → IsTrace t → Follow start (trace_lines t)
+trace_passes t h = (runs_trace t h).1.pass
+
+pub trace_read : (t : TraceLists) → IsTrace t → read_of (trace_text t) ≡ Ok t
+unfolding trace_text ended
+trace_read t h =
+    let r = runs_trace t h in
+    let last = draft (progress stages.Finished t.setup r.0) t.phases [] [] [] [] in
+    read_of-is (trace_text t)
+    ∙ ap (λ (bs : List ℕ). reading empty_draft 0 (lines_of bs)) (sym (append-nil (flat_map line_text (trace_lines t))))
+    ∙ forward (trace_lines t) empty_draft 0 [] r.1.pass
+    ∙ reading-end (put_all empty_draft (trace_lines t)) (0 + length (trace_lines t)) []
+    ∙ ap (λ d. ended d (0 + length (trace_lines t)) []) r.1.makes

@@ -1,5 +1,0 @@
-use Rattle.bc_trace.proofs.Endings.{goes_on, stands_there}
-use Rattle.bc_trace.proofs.laws.next_word.Goals as goal
-
-pub returns : goal.returns
-returns c = λ before w pass. (goes_on before w pass, stands_there before w)
