@@ -8,8 +8,8 @@
 //
 // Contracts speak of a set by the test `has` alone, which stays shut above this crate: `with_bit` and
 // `without_bit` are sets, and the words in them are nobody's business. The library's laws are the
-// contracts of the four `law_` functions. `count_below` counts what passes a test below a bound,
-// and is the measure of loops that set bits until none is left.
+// contracts of the `law_` functions. `count_below` counts what passes a test below a bound, and is
+// the measure of loops that set bits until none is left; `any_below` tells whether anything passes.
 #![tactic(auto)]
 
 ghost use Rattle.std.specs.Prelude.{◌≡◌, ◌≢◌, ℕ, ◌+◌, ◌*◌, ◌<◌, ◌≤◌, Bool, true, false, IfSome, IfNone, List, length};
