@@ -33,10 +33,10 @@ no_births lanes j =
 
 pub births-opened : (setup : Setup) (e : EngineView) (n : ℕ) → n < 2 ^ 32 → EngineStands e (opening setup) → HasRoomForBirths e n
 births-opened setup e n small h = λ j.
-    let none : get_or e.serials j 0 ≡ 0 = ap (λ (xs : List ℕ). get_or xs j 0) (sym h.births) ∙ no_births setup.lanes j in
+    let none : get_or e.running.serials j 0 ≡ 0 = ap (λ (xs : List ℕ). get_or xs j 0) (sym h.births) ∙ no_births setup.lanes j in
     omega (arith, none)
 
-pub HasRun-opened : (t : TraceLists) (setup : Setup) (e : EngineView) → setup ≡ t.setup → all_ops_of t < 2 ^ 32 → EngineStands e (opening setup) → (e.setup ≡ setup) × (e.ended ≡ None) × HasEmptyChunks e.heap → HasRun t 0 e
+pub HasRun-opened : (t : TraceLists) (setup : Setup) (e : EngineView) → setup ≡ t.setup → all_ops_of t < 2 ^ 32 → EngineStands e (opening setup) → (e.setup ≡ setup) × (e.ended ≡ None) × HasEmptyChunks e.running.heap → HasRun t 0 e
 HasRun-opened t setup e is small stands h = record {
   setup = h.0 ∙ is;
   going = h.1;

@@ -60,7 +60,7 @@ pub record WritesFrontAfter (held held' : Option (List ℕ)) (first next : List 
 pub record EndsDone (t : TraceLists) (held held' : Option (List ℕ)) (heap : Option EngineView) : Type 0 where
   pub written : HeldGrows held held' (whole_text t)
   pub handed : HandsBack heap t None (final_state t)
-  pub empty : IsSomeAnd heap (λ e. HasEmptyChunks e.heap)
+  pub empty : IsSomeAnd heap (λ e. HasEmptyChunks e.running.heap)
   pub fits : NeedsFit t (length t.phases)
 
 -- A phase ended at a cut for want of heap: its replies up to there are written, and the line of the need. The heap stands for the
@@ -106,7 +106,7 @@ PhaseEnded e p f replies (Some need) = CutPhase e p f replies need
 pub record HasRun (t : TraceLists) (k : ℕ) (engine : EngineView) : Type 0 where
   pub setup : engine.setup ≡ t.setup
   pub going : engine.ended ≡ None
-  pub empty : HasEmptyChunks engine.heap
+  pub empty : HasEmptyChunks engine.running.heap
   pub stands : EngineStands engine (before t k)
   pub births : HasRoomForBirths engine (sum_by ops_of (drop k t.phases))
   pub fits : NeedsFit t k

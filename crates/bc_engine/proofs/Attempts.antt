@@ -1,14 +1,10 @@
 -- What an operation that is done or stops means to the lanes.
-use Rattle.std.proofs.Common.{◌≡◌, ◌⊎◌, ℕ, ◌*◌, ◌<◌, ◌≤◌, List, [], length, get_or, set, Result, Ok, Err, refl, sym, ap, subst, ◌∙◌, arith, get_or-set_other, length-set, inl, inr}
-use Rattle.std.proofs.lemmas.List.{set-get_or}
+use Rattle.std.proofs.Common.{◌≡◌, ◌⊎◌, ℕ, ◌*◌, ◌<◌, ◌≤◌, List, [], length, get_or, Result, Ok, Err, refl, sym, ap, subst, ◌∙◌, arith, get_or-set_other, length-set, inl, inr}
 use Rattle.std.specs.Result.{IfOk, OnErr}
 use Rattle.std.specs.Prelude.{IsErrOf}
 use Rattle.bc_classes.proofs.ClassLemmas.{class_of-class}
-use Rattle.bc_cycle.specs.Emptying.{heap_view}
-use Rattle.bc_cycle.specs.declared.heaps.Heap.{Heap}
 use Rattle.bc_whole_heap.specs.Closed.{chunk_of, buffer_of}
-use Rattle.bc_whole_heap.specs.Heaps.{HeapView}
-use Rattle.bc_whole_heap.specs.Running.{IsRunning, StandsAs}
+use Rattle.bc_running.specs.Running.{RunningView, RunningStands, IsSound, StaysBut}
 use Rattle.bc_model.specs.State.{State}
 use Rattle.bc_model.specs.Step.{step}
 use Rattle.bc_model.specs.declared.operations.Op.{Op}
@@ -16,53 +12,58 @@ use Rattle.bc_model.specs.declared.operations.Op.TheVariants.{New, Who, Len, Set
 use Rattle.bc_model.specs.declared.operations.Reply.{Reply}
 use Rattle.bc_model.specs.declared.traces.Setup.{Setup}
 use Rattle.bc_model.proofs.Steps.{made-step}
-use Rattle.bc_mutator.specs.Operations.{IsOpOf, NoneLater, WantsMore, NeedsEntry}
+use Rattle.bc_mutator.specs.Operations.{IsOpOf, WantsMore, NeedsEntry}
 use Rattle.bc_mutator.specs.declared.operations.Stop.{Stop}
 use Rattle.bc_mutator.specs.declared.operations.Stop.TheVariants.{NurseryFull, BufferFull}
 use Rattle.bc_mutator.proofs.NewLemmas.{births-count, none-later}
 use Rattle.bc_nursery.specs.Entries.{Entries}
 use Rattle.bc_nursery.specs.Objects.{Nursery, left_of, words_of}
-use Rattle.bc_superpages.specs.Layout.{Layout}
+use Rattle.bc_superpages.specs.declared.headers.PageState.{PageState}
+use Rattle.bc_superpages.specs.Layout.{Layout, superpages, state_at}
 use Rattle.bc_superpages.specs.RootWords.{RootWords}
-use Rattle.bc_engine.specs.Engines.{CanRunLanes}
+use Rattle.bc_engine.specs.Engines.{CanRunLanes, IsUnrecorded}
 use Rattle.bc_engine.specs.Lanes.{Does, IsHeldUp, Stops}
-use Rattle.bc_engine.proofs.Sizes.{StaysBut, fits-step, op-of_state, none-young}
+use Rattle.bc_engine.proofs.Sizes.{fits-step, op-of_state, none-young}
 
 -- what the operation is to every state that the heap stands for
-abbrev pub IsStep : List ℕ → ℕ → Op → HeapView → ℕ → HeapView → ℕ → Reply → Type 0
-IsStep hs lane op h before k after reply =
-    (serials : List ℕ) → (state : State) → StandsAs h hs serials state → get_or serials lane 0 ≡ before
-    → ((step state lane op).1 ≡ reply) × StandsAs k hs (set serials lane after) (step state lane op).0
+abbrev pub IsStep : ℕ → Op → RunningView → RunningView → Reply → Type 0
+IsStep lane op r q reply = (state : State) → RunningStands r state → ((step state lane op).1 ≡ reply) × RunningStands q (step state lane op).0
 
-pub does-step : (setup : Setup) (hs serials : List ℕ) (lane after : ℕ) (op : Op) (h k : HeapView) (reply : Reply) → CanRunLanes setup hs serials h → lane < length h.chunks → IsOpOf h.roots op → IsStep hs lane op h (get_or serials lane 0) k after reply → Does hs lane op h serials reply k (set serials lane after)
-does-step setup hs serials lane after op h k reply ready within fits is =
+-- lanes run on a heap that is in order
+pub ready-sound : {setup : Setup} {r : RunningView} → CanRunLanes setup r → IsSound r
+ready-sound {setup} {r} ready = record {
+  running = ready.order;
+  later = λ l lt. none-later r.heap r.holders r.serials ready.meant.0 ready.meant.1 l;
+  frames = omega (arith, ready.fits.nursery, ready.fits.frames, ready.fits.supers);
+  lanes = ready.fits.lanes ∙ sym ready.lanes;
+  few = omega (arith, ready.lanes, ready.range.lanes.1);
+}
+
+pub does-step : {setup : Setup} {r q : RunningView} (lane : ℕ) (op : Op) (reply : Reply) → CanRunLanes setup r → lane < length r.serials → IsOpOf r.heap.roots op → StaysBut lane r q → IsStep lane op r q reply → Does lane op r reply q
+does-step {setup} {r} {q} lane op reply ready within fits stays is =
     let state = ready.meant.0 in
     let st = ready.meant.1 in
-    let next = (is serials state st refl).1 in
-    let before = births-count hs serials lane state st in
-    let now = births-count hs (set serials lane after) lane (step state lane op).0 next in
-    let made : lane < length state.made = omega (arith, within, st.lanes) in
-    let few = made-step state lane op lane st.consistent made (op-of_state h hs serials state op st fits) in
+    let next = (is state st).1 in
+    let before = births-count r.holders r.serials lane state st in
+    let now = births-count q.holders q.serials lane (step state lane op).0 next in
+    let made : lane < length state.made = omega (arith, within, ready.lanes, ready.fits.lanes, st.lanes) in
+    let few = made-step state lane op lane st.consistent made (op-of_state r.heap r.holders r.serials state op st fits) in
     record {
-      means = λ t stands. is serials t stands refl;
+      means = is;
       own = omega (arith, before, now, few);
-      others = λ l ne. get_or-set_other serials lane l after 0 ne;
+      others = λ l ne. ap (λ (ns : List ℕ). get_or ns l 0) stays.serials ∙ get_or-set_other r.serials lane l (get_or q.serials lane 0) 0 ne;
+      held = stays.holders;
     }
 
-pub ready-step : (setup : Setup) (hs serials : List ℕ) (lane after : ℕ) (op : Op) (x y : Heap) (r : Result Reply Stop) → StaysBut lane (heap_view x) (heap_view y) → (NoneLater x.space x.chunks.items lane (get_or serials lane 0) → IsRunning (heap_view y) hs) → IfOk r (IsStep hs lane op (heap_view x) (get_or serials lane 0) (heap_view y) after) → OnErr r ((y ≡ x) × (after ≡ get_or serials lane 0)) → CanRunLanes setup hs serials (heap_view x) → CanRunLanes setup hs (set serials lane after) (heap_view y)
-ready-step setup hs serials lane after op x y (Ok reply) stays running is same ready =
-    let state = ready.meant.0 in
-    let st = ready.meant.1 in
-    record {
-      range = ready.range;
-      order = running (none-later (heap_view x) hs serials state st lane);
-      fits = fits-step setup lane (heap_view x) (heap_view y) stays ready.fits;
-      lanes = length-set serials lane after ∙ ready.lanes;
-      meant = ((step state lane op).0, (is serials state st refl).1);
-    }
-ready-step setup hs serials lane after op x y (Err stop) stays running is same ready =
-    subst (λ (z : Heap). CanRunLanes setup hs (set serials lane after) (heap_view z)) (sym same.0)
-    (subst (λ (ns : List ℕ). CanRunLanes setup hs ns (heap_view x)) (sym (ap (set serials lane) same.1 ∙ set-get_or serials lane 0)) ready)
+pub ready-step : (setup : Setup) {r q : RunningView} (lane : ℕ) (op : Op) (x : Result Reply Stop) → StaysBut lane r q → IsSound q → IfOk x (IsStep lane op r q) → OnErr x (q ≡ r) → CanRunLanes setup r → CanRunLanes setup q
+ready-step setup {r} {q} lane op (Ok reply) stays sound is same ready = record {
+  range = ready.range;
+  order = sound.running;
+  fits = fits-step setup stays ready.fits;
+  lanes = ap length stays.serials ∙ length-set r.serials lane (get_or q.serials lane 0) ∙ ready.lanes;
+  meant = ((step ready.meant.0 lane op).0, (is ready.meant.0 ready.meant.1).1);
+}
+ready-step setup lane op (Err stop) stays sound is same ready = subst (CanRunLanes setup) (sym same) ready
 
 -- an empty chunk has room for every object
 never-full : (hs : List ℕ) (lane words : ℕ) (c : Nursery) (op : Op) → c.objects ≡ [] → 512 ≤ c.words → WantsMore hs lane (left_of c) op → ⊥
@@ -93,13 +94,13 @@ never-recorded hs lane s roots c b (Copy p q) none needs = needs
 never-recorded hs lane s roots c b (Clear p) none needs = needs
 never-recorded hs lane s roots c b (Same p q) none needs = needs
 
-pub never-stops : (setup : Setup) (hs serials : List ℕ) (lane : ℕ) (op : Op) (h : HeapView) (r : Result Reply Stop) → CanRunLanes setup hs serials h → lane < length h.chunks → (chunk_of h.chunks lane).objects ≡ [] → (IsErrOf r NurseryFull → WantsMore hs lane (left_of (chunk_of h.chunks lane)) op) → (IsErrOf r BufferFull → NeedsEntry hs lane h.space h.roots (chunk_of h.chunks lane) (buffer_of h.buffers lane) op) → OnErr r ⊥
-never-stops setup hs serials lane op h (Ok reply) ready within none full wants = tt
-never-stops setup hs serials lane op h (Err NurseryFull) ready within none full wants =
-    let long : (chunk_of h.chunks lane).words ≡ 512 * setup.nursery = ready.fits.words lane (omega (arith, within, ready.fits.lanes)) in
-    never-full hs lane 0 (chunk_of h.chunks lane) op none (omega (arith, long, ready.range.nursery.0)) (full refl)
-never-stops setup hs serials lane op h (Err BufferFull) ready within none full wants =
-    never-recorded hs lane h.space h.roots (chunk_of h.chunks lane) (buffer_of h.buffers lane) op none (wants refl)
+pub never-stops : {setup : Setup} {r : RunningView} (lane : ℕ) (op : Op) (x : Result Reply Stop) → CanRunLanes setup r → lane < setup.lanes → (chunk_of r.heap.chunks lane).objects ≡ [] → (IsErrOf x NurseryFull → WantsMore r.holders lane (left_of (chunk_of r.heap.chunks lane)) op) → (IsErrOf x BufferFull → NeedsEntry r.holders lane r.heap.space r.heap.roots (chunk_of r.heap.chunks lane) (buffer_of r.heap.buffers lane) op) → OnErr x ⊥
+never-stops lane op (Ok reply) ready within none full wants = tt
+never-stops {setup} {r} lane op (Err NurseryFull) ready within none full wants =
+    let long : (chunk_of r.heap.chunks lane).words ≡ 512 * setup.nursery = ready.fits.words lane within in
+    never-full r.holders lane 0 (chunk_of r.heap.chunks lane) op none (omega (arith, long, ready.range.nursery.0)) (full refl)
+never-stops {setup} {r} lane op (Err BufferFull) ready within none full wants =
+    never-recorded r.holders lane r.heap.space r.heap.roots (chunk_of r.heap.chunks lane) (buffer_of r.heap.buffers lane) op none (wants refl)
 
 -- why an operation stopped
 pub why-stopped : (A B : Type 0) (r : Result Reply Stop) → (IsErrOf r NurseryFull → A) → (IsErrOf r BufferFull → B) → OnErr r (A ⊎ B)
@@ -120,6 +121,15 @@ at-capacity hs lane s roots c b (Copy p q) needs = absurd needs
 at-capacity hs lane s roots c b (Clear p) needs = absurd needs
 at-capacity hs lane s roots c b (Same p q) needs = absurd needs
 
-pub held-up : (hs : List ℕ) (lane : ℕ) (op : Op) (h : HeapView) → Stops hs lane op h → IsHeldUp hs lane op h
-held-up hs lane op h (inl wants) = inl wants
-held-up hs lane op h (inr needs) = inr (at-capacity hs lane h.space h.roots (chunk_of h.chunks lane) (buffer_of h.buffers lane) op needs)
+pub held-up : (lane : ℕ) (op : Op) (r : RunningView) → Stops lane op r → IsHeldUp lane op r
+held-up lane op r (inl wants) = inl wants
+held-up lane op r (inr needs) = inr (at-capacity r.holders lane r.heap.space r.heap.roots (chunk_of r.heap.chunks lane) (buffer_of r.heap.buffers lane) op needs)
+
+-- where nothing was recorded nothing is, if neither a buffer nor the state of a page changed
+pub unrecorded-kept : {lane : ℕ} {r q : RunningView} → (q.heap.buffers ≡ r.heap.buffers) × (q.heap.space.states ≡ r.heap.space.states) → StaysBut lane r q → IsUnrecorded r.heap → IsUnrecorded q.heap
+unrecorded-kept {lane} {r} {q} same stays none = record {
+  entries = λ l. ap (λ (bs : List Entries). (buffer_of bs l).entries) same.0 ∙ none.entries l;
+  remembered = λ p lt is.
+      none.remembered p (let long = ap (λ (s : Layout). superpages s) stays.space in omega arith)
+      (ap (λ (ss : List (List PageState)). state_at ss p) (sym same.1) ∙ is);
+}

@@ -1,5 +1,5 @@
 -- What an emptying of the nurseries, or its refusal, means to an engine.
-use Rattle.std.proofs.Common.{◌≡◌, ℕ, List, slice_index, length, map, sym, ap, subst, ◌∙◌}
+use Rattle.std.proofs.Common.{Vec, Global, ◌≡◌, ℕ, List, slice_index, length, map, sym, ap, subst, ◌∙◌}
 use Rattle.std.proofs.Math.ListN.{get_or-map}
 use Rattle.std.proofs.lemmas.List.{length-map}
 use Rattle.bc_bits.specs.Bits.{has}
@@ -19,7 +19,17 @@ use Rattle.bc_standing.specs.Standing.{StandsFor, AllBorn}
 use Rattle.bc_promotion.specs.Promises.{HasDomainsBelow}
 use Rattle.bc_superpages.specs.Layout.{Layout, set_of}
 use Rattle.bc_superpages.specs.RootWords.{RootWords}
+use Rattle.bc_model.specs.declared.operations.Op.{Op}
+use Rattle.bc_model.specs.declared.operations.Reply.{Reply}
+use Rattle.bc_running.specs.Running.{RunningView, RunningStands, running_of}
+use Rattle.bc_engine.specs.Lanes.{LanesRan}
+use Rattle.bc_engine.proofs.RunLemmas.{runs-none}
 use Rattle.bc_engine.specs.Engines.{HasEmptyChunks, HasSetup, CanRunLanes, IsUnbookmarked, IsUnrecorded}
+
+-- what is true of a heap with the holders and births that there were is true with those that there are, which are the same
+through : (r q : RunningView) (P : RunningView → Type 0) → q.holders ≡ r.holders → q.serials ≡ r.serials → P (running_of q.heap r.holders r.serials) → P q
+through r q P held same p =
+    subst (λ (ns : List ℕ). P (running_of q.heap q.holders ns)) (sym same) (subst (λ (hs : List ℕ). P (running_of q.heap hs r.serials)) (sym held) p)
 
 buffer-emptied : (bs : List Entries) (l : ℕ) → buffer_of (map without_entries bs) l ≡ without_entries (buffer_of bs l)
 buffer-emptied bs l = get_or-map without_entries bs l no_buffer
@@ -29,17 +39,17 @@ words-alike : (cs ds : List Nursery) (l : ℕ) → map bare_nursery ds ≡ map b
 words-alike cs ds l e =
     ap (λ (c : Nursery). c.words) (sym (get_or-map bare_nursery ds l no_chunk)) ∙ ap (λ (xs : List Nursery). (chunk_of xs l).words) e ∙ ap (λ (c : Nursery). c.words) (get_or-map bare_nursery cs l no_chunk)
 
-pub empty-chunks : (h k : HeapView) → IsEmptied h k → HasEmptyChunks k
-empty-chunks h k is l = ap (λ (cs : List Nursery). (chunk_of cs l).objects) is.cleared ∙ ap (λ (c : Nursery). c.objects) (chunk-emptied h.chunks l)
+pub empty-chunks : {h k : HeapView} → IsEmptied h k → HasEmptyChunks k
+empty-chunks {h} is l = ap (λ (cs : List Nursery). (chunk_of cs l).objects) is.cleared ∙ ap (λ (c : Nursery). c.objects) (chunk-emptied h.chunks l)
 
-pub empty-buffers : (h k : HeapView) → IsEmptied h k → IsUnrecorded k
-empty-buffers h k is = record {
+pub empty-buffers : {h k : HeapView} → IsEmptied h k → IsUnrecorded k
+empty-buffers {h} is = record {
   entries = λ l. ap (λ (bs : List Entries). (buffer_of bs l).entries) is.unrecorded ∙ ap (λ (b : Entries). b.entries) (buffer-emptied h.buffers l);
   remembered = is.none_remembered;
 }
 
-pub stands-emptied : (hs serials : List ℕ) (h k : HeapView) (state : State) → IsEmptied h k → StandsAs h hs serials state → StandsAs k hs serials state
-stands-emptied hs serials h k state is st = record {
+stands-emptied : {hs serials : List ℕ} {h k : HeapView} (state : State) → IsEmptied h k → StandsAs h hs serials state → StandsAs k hs serials state
+stands-emptied {hs} {serials} {h} state is st = record {
   consistent = st.consistent;
   stands = is.keeps state.slots state.made st.stands;
   born = λ a b e. let from = is.born a b e in st.born from.0 b from.1;
@@ -62,8 +72,8 @@ unbookmarked-kept s t bookmarks incoming none = record {
   incoming = λ q. ap (λ (ns : List ℕ). slice_index ns q) incoming ∙ none.incoming q;
 }
 
-fits-emptied : (setup : Setup) (h k : HeapView) → IsEmptied h k → HasSetup h setup → HasSetup k setup
-fits-emptied setup h k is fits = record {
+fits-emptied : (setup : Setup) {h k : HeapView} → IsEmptied h k → HasSetup h setup → HasSetup k setup
+fits-emptied setup {h} {k} is fits = record {
   supers = is.sizes.supers ∙ fits.supers;
   domains = ap (λ (x : RootWords). x.domains) is.sizes.roots ∙ fits.domains;
   slots = ap (λ (x : RootWords). x.slots) is.sizes.roots ∙ fits.slots;
@@ -76,18 +86,24 @@ fits-emptied setup h k is fits = record {
   unbookmarked = unbookmarked-kept h.space k.space (ap (λ (x : Fixed). x.bookmarks) is.sizes.fixed) (ap (λ (x : Fixed). x.incoming) is.sizes.fixed) fits.unbookmarked;
 }
 
-pub ready-emptied : (setup : Setup) (hs serials : List ℕ) (h k : HeapView) → IsEmptied h k → CanRunLanes setup hs serials h → CanRunLanes setup hs serials k
-ready-emptied setup hs serials h k is ready = record {
+ready-emptied : {hs serials : List ℕ} {h k : HeapView} (setup : Setup) → IsEmptied h k → CanRunLanes setup (running_of h hs serials) → CanRunLanes setup (running_of k hs serials)
+ready-emptied {hs} setup is ready = record {
   range = ready.range;
   order = is.order hs ready.order;
-  fits = fits-emptied setup h k is ready.fits;
+  fits = fits-emptied setup is ready.fits;
   lanes = ready.lanes;
-  meant = (ready.meant.0, stands-emptied hs serials h k ready.meant.0 is ready.meant.1);
+  meant = (ready.meant.0, stands-emptied ready.meant.0 is ready.meant.1);
 }
 
+-- so lanes can run on
+pub runs-emptied : (lanes : List (List Op)) {r q : RunningView} (told : List (Vec Reply Global)) → q.holders ≡ r.holders → q.serials ≡ r.serials → IsEmptied r.heap q.heap → LanesRan lanes r told q told
+runs-emptied lanes {r} {q} told held same is =
+    runs-none lanes r q told held same (λ state st. through r q (λ (x : RunningView). RunningStands x state) held same (stands-emptied state is st))
+    (λ setup ready. through r q (CanRunLanes setup) held same (ready-emptied setup is ready))
+
 -- a heap that is as before stands for what it stood for
-pub stands-before : (hs serials : List ℕ) (h k : HeapView) (state : State) → IsAsBefore h k → StandsAs h hs serials state → StandsAs k hs serials state
-stands-before hs serials h k state is st = record {
+stands-before : {hs serials : List ℕ} {h k : HeapView} (state : State) → IsAsBefore h k → StandsAs h hs serials state → StandsAs k hs serials state
+stands-before {hs} {serials} {h} {k} state is st = record {
   consistent = st.consistent;
   stands = subst (λ (m : Memory). StandsFor m (root_words k.roots) state) (sym is.memory)
       (subst (λ (r : RootWords). StandsFor (heap_memory h.space h.chunks) (root_words r) state) (sym is.slots) st.stands);
@@ -99,8 +115,8 @@ stands-before hs serials h k state is st = record {
   lanes = length-alike bare_nursery h.chunks k.chunks is.chunks ∙ st.lanes;
 }
 
-pub ready-before : (setup : Setup) (hs serials : List ℕ) (h k : HeapView) → IsAsBefore h k → CanRunLanes setup hs serials h → CanRunLanes setup hs serials k
-ready-before setup hs serials h k is ready = record {
+ready-before : {hs serials : List ℕ} {h k : HeapView} (setup : Setup) → IsAsBefore h k → CanRunLanes setup (running_of h hs serials) → CanRunLanes setup (running_of k hs serials)
+ready-before {hs} {serials} {h} {k} setup is ready = record {
   range = ready.range;
   order = is.order hs ready.order;
   fits = record {
@@ -116,12 +132,17 @@ ready-before setup hs serials h k is ready = record {
     unbookmarked = unbookmarked-kept h.space k.space (ap (λ (x : Fixed). x.bookmarks) is.sizes.fixed) (ap (λ (x : Fixed). x.incoming) is.sizes.fixed) ready.fits.unbookmarked;
   };
   lanes = ready.lanes;
-  meant = (ready.meant.0, stands-before hs serials h k ready.meant.0 is ready.meant.1);
+  meant = (ready.meant.0, stands-before ready.meant.0 is ready.meant.1);
 }
 
+pub runs-before : (lanes : List (List Op)) {r q : RunningView} (told : List (Vec Reply Global)) → q.holders ≡ r.holders → q.serials ≡ r.serials → IsAsBefore r.heap q.heap → LanesRan lanes r told q told
+runs-before lanes {r} {q} told held same is =
+    runs-none lanes r q told held same (λ state st. through r q (λ (x : RunningView). RunningStands x state) held same (stands-before state is st))
+    (λ setup ready. through r q (CanRunLanes setup) held same (ready-before setup is ready))
+
 -- and has the same need
-pub need-before : (h k : HeapView) (n : ℕ) → IsAsBefore h k → NeedOfHeap h.space h.roots h.chunks n → NeedOfHeap k.space k.roots k.chunks n
-need-before h k n is need state stands domains =
+pub need-before : {h k : HeapView} (n : ℕ) → IsAsBefore h k → NeedOfHeap h.space h.roots h.chunks n → NeedOfHeap k.space k.roots k.chunks n
+need-before {h} {k} n is need state stands domains =
     need state
     (subst (λ (r : RootWords). StandsFor (heap_memory h.space h.chunks) (root_words r) state) is.slots
     (subst (λ (m : Memory). StandsFor m (root_words k.roots) state) is.memory stands))

@@ -2,8 +2,8 @@
 use Rattle.std.proofs.Common.{◌≡◌, ℕ, ◌<◌, List, [], length, get_or, set, sym, ap, subst, ◌∙◌, inl, inr, arith, get_or-set_same, get_or-set_other, length-set}
 use Rattle.std.proofs.lemmas.Bool.{cases_eq}
 use Rattle.bc_whole_heap.specs.Closed.{chunk_of, buffer_of, IsCellOrYoung, IsClosedHeap}
-use Rattle.bc_whole_heap.specs.Heaps.{HeapView, view_of}
-use Rattle.bc_whole_heap.specs.Running.{StandsAs}
+use Rattle.bc_whole_heap.specs.Heaps.{view_of}
+use Rattle.bc_running.specs.Running.{RunningView, RunningStands}
 use Rattle.bc_model.specs.State.{State, given}
 use Rattle.bc_model.specs.declared.traces.Setup.{Setup}
 use Rattle.bc_model.proofs.States.{IsState-given}
@@ -42,8 +42,8 @@ closed-given s roots cs bs hs d l none empty within h =
       entries = λ m i lt there. absurd (omega (arith, there, ap length (empty m)));
     }
 
-pub stands-given : (setup : Setup) (hs serials : List ℕ) (h : HeapView) (d l : ℕ) (state : State) → CanRunLanes setup hs serials h → l < setup.lanes → StandsAs h hs serials state → StandsAs h (set hs d l) serials (given state (record { domain = d; lane = l }))
-stands-given setup hs serials h d l state ready within st = record {
+pub stands-given : {setup : Setup} {r : RunningView} (d l : ℕ) (state : State) → CanRunLanes setup r → l < setup.lanes → RunningStands r state → RunningStands (record r { holders = set r.holders d l }) (given state (record { domain = d; lane = l }))
+stands-given d l state ready within st = record {
   consistent = IsState-given state (record { domain = d; lane = l }) st.consistent (omega (arith, within, st.lanes, ready.fits.lanes));
   stands = st.stands;
   born = st.born;
@@ -54,8 +54,8 @@ stands-given setup hs serials h d l state ready within st = record {
   lanes = st.lanes;
 }
 
-pub ready-given : (setup : Setup) (hs serials : List ℕ) (h : HeapView) (d l : ℕ) → HasEmptyChunks h → IsUnrecorded h → l < setup.lanes → CanRunLanes setup hs serials h → CanRunLanes setup (set hs d l) serials h
-ready-given setup hs serials h d l none empty within ready =
+pub ready-given : {setup : Setup} {r : RunningView} (d l : ℕ) → HasEmptyChunks r.heap → IsUnrecorded r.heap → l < setup.lanes → CanRunLanes setup r → CanRunLanes setup (record r { holders = set r.holders d l })
+ready-given {setup} {r} d l none empty within ready =
     let order = ready.order in
     record {
       range = ready.range;
@@ -64,9 +64,9 @@ ready-given setup hs serials h d l none empty within ready =
         none_promised = order.none_promised;
         laid = order.laid;
         once = order.once;
-        closed = closed-given h.space h.roots h.chunks h.buffers hs d l none empty.entries (omega (arith, within, ready.fits.lanes)) order.closed;
+        closed = closed-given r.heap.space r.heap.roots r.heap.chunks r.heap.buffers r.holders d l none empty.entries (omega (arith, within, ready.fits.lanes)) order.closed;
       };
       fits = ready.fits;
       lanes = ready.lanes;
-      meant = (given ready.meant.0 (record { domain = d; lane = l }), stands-given setup hs serials h d l ready.meant.0 ready within ready.meant.1);
+      meant = (given ready.meant.0 (record { domain = d; lane = l }), stands-given d l ready.meant.0 ready within ready.meant.1);
     }

@@ -9,30 +9,29 @@ use Rattle.bc_model.specs.declared.operations.Op.{Op}
 use Rattle.bc_model.specs.declared.operations.Reply.{Reply}
 use Rattle.bc_engine.specs.Lanes.{of_lane, Does, LanesWentOn}
 use Rattle.bc_engine.proofs.StepLists.{all-append, after_steps-append, ops_by-append, replies_by-append, after_steps-one, replies_by-one, after_steps-none, replies_by-none}
-use Rattle.bc_whole_heap.specs.Heaps.{HeapView}
-use Rattle.bc_whole_heap.specs.Running.{StandsAs}
+use Rattle.bc_running.specs.Running.{RunningView, RunningStands}
 
 -- no operation was done: the heap stands for what it stood for
-pub goes-none : (lanes : List (List Op)) (hs : List ℕ) (h k : HeapView) (serials : List ℕ) (told : List (List Reply)) → ((state : State) → StandsAs h hs serials state → StandsAs k hs serials state) → LanesWentOn lanes hs h serials told k serials told
-goes-none lanes hs h k serials told same = record {
+pub goes-none : (lanes : List (List Op)) (r q : RunningView) (told : List (List Reply)) → ((state : State) → RunningStands r state → RunningStands q state) → LanesWentOn lanes r told q told
+goes-none lanes r q told same = record {
   steps = [];
   below = tt;
   ops = λ j. sym (append-nil (take (length (of_lane told j)) (of_lane lanes j)));
-  means = λ state st. subst (λ (s : State). StandsAs k hs serials s) (sym (after_steps-none state)) (same state st);
+  means = λ state st. subst (λ (s : State). RunningStands q s) (sym (after_steps-none state)) (same state st);
   replies = λ state st j. sym (append-nil (of_lane told j)) ∙ ap (λ (rs : List Reply). of_lane told j ++ rs) (sym (replies_by-none state j));
   more = λ j. omega arith;
 }
 
-pub goes-then : (lanes : List (List Op)) (hs : List ℕ) (h k l : HeapView) (ns ms ls : List ℕ) (told mid answers : List (List Reply)) → LanesWentOn lanes hs h ns told k ms mid → LanesWentOn lanes hs k ms mid l ls answers → LanesWentOn lanes hs h ns told l ls answers
-goes-then lanes hs h k l ns ms ls told mid answers g e = record {
+pub goes-then : {lanes : List (List Op)} {r q x : RunningView} {told mid answers : List (List Reply)} → LanesWentOn lanes r told q mid → LanesWentOn lanes q mid x answers → LanesWentOn lanes r told x answers
+goes-then {lanes} {r} {q} {x} {told} {mid} {answers} g e = record {
   steps = g.steps ++ e.steps;
-  below = all-append (λ (x : LaneOp). x.lane < length lanes) g.steps e.steps g.below e.below;
+  below = all-append (λ (o : LaneOp). o.lane < length lanes) g.steps e.steps g.below e.below;
   ops = λ j.
       e.ops j
       ∙ ap (λ (os : List Op). os ++ ops_by j e.steps) (g.ops j)
       ∙ append_assoc (take (length (of_lane told j)) (of_lane lanes j)) (ops_by j g.steps) (ops_by j e.steps)
       ∙ ap (λ (os : List Op). take (length (of_lane told j)) (of_lane lanes j) ++ os) (sym (ops_by-append j g.steps e.steps));
-  means = λ state st. subst (λ (s : State). StandsAs l hs ls s) (sym (after_steps-append state g.steps e.steps)) (e.means (after_steps state g.steps) (g.means state st));
+  means = λ state st. subst (λ (s : State). RunningStands x s) (sym (after_steps-append state g.steps e.steps)) (e.means (after_steps state g.steps) (g.means state st));
   replies = λ state st j.
       e.replies (after_steps state g.steps) (g.means state st) j
       ∙ ap (λ (rs : List Reply). rs ++ replies_by (after_steps state g.steps) j e.steps) (g.replies state st j)
@@ -63,8 +62,8 @@ ops-one lane j op = go (lane == j)
     go true = refl
     go false = refl
 
-pub goes-step : (lanes : List (List Op)) (hs : List ℕ) (h k : HeapView) (serials next : List ℕ) (told : List (List Reply)) (lane : ℕ) (op : Op) (reply : Reply) → lane < length lanes → lane < length told → length (of_lane told lane) < length (of_lane lanes lane) → op ≡ get_or (of_lane lanes lane) (length (of_lane told lane)) op → Does hs lane op h serials reply k next → LanesWentOn lanes hs h serials told k next (with_reply told lane reply)
-goes-step lanes hs h k serials next told lane op reply within there less is does =
+pub goes-step : (lanes : List (List Op)) {r q : RunningView} (told : List (List Reply)) (lane : ℕ) (op : Op) (reply : Reply) → lane < length lanes → lane < length told → length (of_lane told lane) < length (of_lane lanes lane) → op ≡ get_or (of_lane lanes lane) (length (of_lane told lane)) op → Does lane op r reply q → LanesWentOn lanes r told q (with_reply told lane reply)
+goes-step lanes {r} {q} told lane op reply within there less is does =
     let n = length (of_lane told lane) in
     let x : LaneOp = record { lane = lane; op = op } in
     let own : of_lane (with_reply told lane reply) lane ≡ of_lane told lane ++ reply ∷ [] = get_or-set_same told lane (of_lane told lane ++ reply ∷ []) [] there in
@@ -85,11 +84,11 @@ goes-step lanes hs h k serials next told lane op reply within there less is does
             ∙ sym (append-nil (take (length (of_lane told j)) (of_lane lanes j)))
             ∙ ap (λ (os : List Op). take (length (of_lane told j)) (of_lane lanes j) ++ os) (sym (ops-one lane j op ∙ other-one lane j op ne))
       ];
-      means = λ state st. subst (λ (s : State). StandsAs k hs next s) (sym (after_steps-one state x)) (does.means state st).1;
+      means = λ state st. subst (λ (s : State). RunningStands q s) (sym (after_steps-one state x)) (does.means state st).1;
       replies = λ state st j. elim (cases_eq j lane) [
         | inl e ↦
             subst (λ (m : ℕ). of_lane (with_reply told lane reply) m ≡ of_lane told m ++ replies_by state m (x ∷ [])) (sym e)
-            (own ∙ ap (λ (r : Reply). of_lane told lane ++ r ∷ []) (sym (does.means state st).0)
+            (own ∙ ap (λ (a : Reply). of_lane told lane ++ a ∷ []) (sym (does.means state st).0)
             ∙ ap (λ (rs : List Reply). of_lane told lane ++ rs) (sym (replies_by-one state lane x ∙ own-one lane (step state lane op).1)))
         | inr ne ↦
             other j ne

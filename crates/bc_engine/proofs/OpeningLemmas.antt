@@ -8,7 +8,7 @@ use Rattle.bc_bits.proofs.BitLemmas.{has-zeros, has-beyond}
 use Rattle.bc_cycle.specs.Openings.{new_heap}
 use Rattle.bc_cycle.proofs.OpeningLemmas.{chunk-at, chunk-none, chunks-long, supers-long, no_object, no_entries, opening-running}
 use Rattle.bc_failsafe.proofs.OpeningLemmas.{nothing}
-use Rattle.bc_whole_heap.specs.Heaps.{heap_memory, root_words, HeapView}
+use Rattle.bc_whole_heap.specs.Heaps.{heap_memory, root_words}
 use Rattle.bc_whole_heap.specs.Running.{StandsAs}
 use Rattle.bc_memory.specs.Memory.{Memory}
 use Rattle.bc_model.specs.Reached.{Holds, FieldHolds, Reached}
@@ -36,6 +36,7 @@ use Rattle.bc_word.specs.declared.words.Word.{Word}
 use Rattle.bc_word.specs.declared.words.Word.TheVariants.{Nil}
 use Rattle.bc_word.specs.Words.{word_of_bits}
 use Rattle.bc_word.proofs.WordLemmas.{word_of_bits-nil}
+use Rattle.bc_running.specs.Running.{RunningView, RunningStands, new_running}
 use Rattle.bc_engine.specs.Engines.{HasEmptyChunks, CanRunLanes, IsUnbookmarked, IsUnrecorded}
 
 nil-words : (n : ℕ) → map word_of_bits (replicate n 0) ≡ replicate n Nil
@@ -119,7 +120,7 @@ opening-stands s range =
     no-births zero = refl
     no-births (suc n) = ap (λ (ns : List ℕ). 0 ∷ ns) (no-births n)
 
-ready-opening : (s : Setup) → IsSetup s → CanRunLanes s (opening s).holders (replicate s.lanes 0) (new_heap s)
+ready-opening : (s : Setup) → IsSetup s → CanRunLanes s (new_running s)
 ready-opening s range =
     let n = s.superpages in
     let nursery = s.lanes * s.nursery in
@@ -144,19 +145,16 @@ ready-opening s range =
     }
 
 -- what is true of the engine that begins with such a heap
-pub record IsOpened (s : Setup) (holders serials : List ℕ) (h : HeapView) : Type 0 where
-  pub ready : CanRunLanes s holders serials h
-  pub stands : StandsAs h holders serials (opening s)
-  pub chunks : HasEmptyChunks h
-  pub unrecorded : IsUnrecorded h
+pub record IsOpened (s : Setup) (r : RunningView) : Type 0 where
+  pub ready : CanRunLanes s r
+  pub stands : RunningStands r (opening s)
+  pub chunks : HasEmptyChunks r.heap
+  pub unrecorded : IsUnrecorded r.heap
 
-pub opened : (s : Setup) (holders serials : List ℕ) (h : HeapView) → IsSetup s → h ≡ new_heap s → holders ≡ (opening s).holders → serials ≡ replicate s.lanes 0 → IsOpened s holders serials h
-opened s holders serials h range heap held born =
-    subst (λ (x : HeapView). IsOpened s holders serials x) (sym heap)
-    (subst (λ (xs : List ℕ). IsOpened s xs serials (new_heap s)) (sym held)
-    (subst (λ (xs : List ℕ). IsOpened s (opening s).holders xs (new_heap s)) (sym born) (record {
-      ready = ready-opening s range;
-      stands = opening-stands s range;
-      chunks = chunk-none s;
-      unrecorded = record { entries = no_entries s; remembered = λ p lt. none-remembered s.superpages p };
-    })))
+pub opened : (s : Setup) (r : RunningView) → IsSetup s → r ≡ new_running s → IsOpened s r
+opened s r range new = subst (IsOpened s) (sym new) (record {
+  ready = ready-opening s range;
+  stands = opening-stands s range;
+  chunks = chunk-none s;
+  unrecorded = record { entries = no_entries s; remembered = λ p lt. none-remembered s.superpages p };
+})

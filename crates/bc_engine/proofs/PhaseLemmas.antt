@@ -5,8 +5,8 @@ use Rattle.std.proofs.lemmas.Bool.{cases_lt}
 use Rattle.std.proofs.lemmas.List.{get_or_append_left, get_or_push, length-map, length_push}
 use Rattle.std.specs.List.{AllByRecursion}
 use Rattle.bc_whole_heap.specs.Closed.{chunk_of}
-use Rattle.bc_whole_heap.specs.Heaps.{heap_memory, object_in, root_words, HeapView}
-use Rattle.bc_whole_heap.specs.Running.{StandsAs}
+use Rattle.bc_whole_heap.specs.Heaps.{heap_memory, object_in, root_words}
+use Rattle.bc_running.specs.Running.{RunningView, RunningStands}
 use Rattle.bc_model.specs.Consistent.{sizes_of}
 use Rattle.bc_model.specs.Interleaving.{replies_by, ops_by}
 use Rattle.bc_model.specs.Lists.{PhaseLists, lists_of}
@@ -21,7 +21,7 @@ use Rattle.bc_standing.specs.Standing.{StandsFor}
 use Rattle.bc_superpages.specs.Kept.{IsLayout}
 use Rattle.bc_superpages.specs.Layout.{Layout, superpages}
 use Rattle.bc_word.specs.declared.words.Word.{Word}
-use Rattle.bc_engine.specs.Engines.{EngineView, EngineStands, HasEmptyChunks, HasRoomForBirths, IsEngine, CanRunLanes}
+use Rattle.bc_engine.specs.Engines.{EngineView, EngineStands, with_holders, HasEmptyChunks, HasRoomForBirths, IsEngine, CanRunLanes}
 use Rattle.bc_engine.specs.Lanes.{of_lane, AreDone, BirthsWithin, LanesWentOn, HasSerialsLeft, HasRoomForOps}
 use Rattle.bc_engine.specs.Phases.{CutPhase, DidPhase}
 use Rattle.bc_engine.specs.Rounds.{RoundsWentOn, IfTooSmall, IsRoomFor, IsThrough, IsTooSmall, IsUnderwayOn}
@@ -33,11 +33,11 @@ use Rattle.bc_engine.proofs.CutLemmas.{mixed-cut, mixed-whole, run-lanes}
 use Rattle.bc_engine.proofs.Sizes.{no-object, op-of_heap, op-of_state}
 
 -- room for a birth by each operation of the phase
-fits-births : (e : EngineView) (p : PhaseLists) (told : List (List Reply)) → HasRoomForOps e p.lanes 0 → HasSerialsLeft p.lanes e.serials told
+fits-births : (e : EngineView) (p : PhaseLists) (told : List (List Reply)) → HasRoomForOps e p.lanes 0 → HasSerialsLeft p.lanes e.running.serials told
 fits-births e p told fits j = omega (arith, fits j)
 
 -- and at most so many births leave room for others
-pub fits-later : (e f : EngineView) (lanes : List (List Op)) → ((j : ℕ) → get_or f.serials j 0 ≤ get_or e.serials j 0 + length (of_lane lanes j)) → (n : ℕ) → HasRoomForOps e lanes n → HasRoomForBirths f n
+pub fits-later : (e f : EngineView) (lanes : List (List Op)) → ((j : ℕ) → get_or f.running.serials j 0 ≤ get_or e.running.serials j 0 + length (of_lane lanes j)) → (n : ℕ) → HasRoomForOps e lanes n → HasRoomForBirths f n
 fits-later e f lanes births n fits j = omega (arith, births j, fits j)
 
 pub underway-begun : (e : EngineView) (p : PhaseLists) (vs : List (Vec Reply Global)) → IsEngine e → IsPhase e.setup p → HasRoomForOps e p.lanes 0 → length vs ≡ length p.lanes → IsRoomFor p.lanes vs → IsUnderwayOn e p.lanes vs
@@ -60,12 +60,12 @@ pub none-yet : (lanes : List (List Op)) (vs : List (Vec Reply Global)) → IsRoo
 none-yet lanes vs room j = none-told vs (λ i v lt is. (room i v lt is).0) j
 
 -- what lanes did that had no reply before
-ops-begun : (lanes : List (List Op)) (hs : List ℕ) (h k : HeapView) (serials next : List ℕ) (told answers : List (List Reply)) (g : LanesWentOn lanes hs h serials told k next answers) → ((j : ℕ) → of_lane told j ≡ []) → (j : ℕ) → ops_by j g.steps ≡ take (length (of_lane answers j)) (of_lane lanes j)
-ops-begun lanes hs h k serials next told answers g none j =
+ops-begun : {lanes : List (List Op)} {r q : RunningView} {told answers : List (List Reply)} (g : LanesWentOn lanes r told q answers) → ((j : ℕ) → of_lane told j ≡ []) → (j : ℕ) → ops_by j g.steps ≡ take (length (of_lane answers j)) (of_lane lanes j)
+ops-begun {lanes} g none j =
     sym (g.ops j ∙ ap (λ (rs : List Reply). take (length rs) (of_lane lanes j) ++ ops_by j g.steps) (none j))
 
-replies-begun : (lanes : List (List Op)) (hs : List ℕ) (h k : HeapView) (serials next : List ℕ) (told answers : List (List Reply)) (g : LanesWentOn lanes hs h serials told k next answers) → ((j : ℕ) → of_lane told j ≡ []) → (s : State) → StandsAs h hs serials s → (j : ℕ) → of_lane answers j ≡ replies_by s j g.steps
-replies-begun lanes hs h k serials next told answers g none s st j =
+replies-begun : {lanes : List (List Op)} {r q : RunningView} {told answers : List (List Reply)} (g : LanesWentOn lanes r told q answers) → ((j : ℕ) → of_lane told j ≡ []) → (s : State) → RunningStands r s → (j : ℕ) → of_lane answers j ≡ replies_by s j g.steps
+replies-begun g none s st j =
     g.replies s st j ∙ ap (λ (rs : List Reply). rs ++ replies_by s j g.steps) (none j)
 
 -- the operations of a phase fit each state that the heap stands for
@@ -73,36 +73,36 @@ all-weaker : {X : Type 0} (P Q : X → Type 0) → ((x : X) → P x → Q x) →
 all-weaker P Q f [] h = tt
 all-weaker P Q f (x ∷ xs) h = (f x h.0, all-weaker P Q f xs h.1)
 
-ops-fit : (e : EngineView) (lanes : List (List Op)) (s : State) → CanRunLanes e.setup e.holders e.serials e.heap → EngineStands e s → AllByRecursion (AllByRecursion (IsOp e.setup)) lanes → AllByRecursion (AllByRecursion (IsOp (sizes_of s))) lanes
+ops-fit : (e : EngineView) (lanes : List (List Op)) (s : State) → CanRunLanes e.setup e.running → EngineStands e s → AllByRecursion (AllByRecursion (IsOp e.setup)) lanes → AllByRecursion (AllByRecursion (IsOp (sizes_of s))) lanes
 ops-fit e lanes s ready st ops =
     all-weaker (AllByRecursion (IsOp e.setup)) (AllByRecursion (IsOp (sizes_of s)))
-    (λ os fits. all-weaker (IsOp e.setup) (IsOp (sizes_of s)) (λ o fit. op-of_state e.heap e.holders e.serials s o st (op-of_heap e.setup e.heap o ready.fits fit)) os fits) lanes ops
+    (λ os fits. all-weaker (IsOp e.setup) (IsOp (sizes_of s)) (λ o fit. op-of_state e.running.heap e.running.holders e.running.serials s o st (op-of_heap e.setup e.running.heap o ready.fits fit)) os fits) lanes ops
 
 -- what the lanes of a phase did, up to a cut
-pub record IsCutOf (e : EngineView) (lanes : List (List Op)) (k : HeapView) (next : List ℕ) (answers : List (List Reply)) (s : State) : Type 0 where
+pub record IsCutOf (lanes : List (List Op)) (q : RunningView) (answers : List (List Reply)) (s : State) : Type 0 where
   pub replies : answers ≡ replies_to_lanes s 0 (cut_lanes (map length answers) lanes)
-  pub stands : StandsAs k e.holders next (after_lanes s 0 (cut_lanes (map length answers) lanes))
+  pub stands : RunningStands q (after_lanes s 0 (cut_lanes (map length answers) lanes))
 
-each-lane : (e : EngineView) (p : PhaseLists) (s : State) → CanRunLanes e.setup e.holders e.serials e.heap → IsPhase e.setup p → EngineStands e s → length p.lanes ≡ length s.made
+each-lane : (e : EngineView) (p : PhaseLists) (s : State) → CanRunLanes e.setup e.running → IsPhase e.setup p → EngineStands e s → length p.lanes ≡ length s.made
 each-lane e p s ready phase st = phase.lanes ∙ sym ready.fits.lanes ∙ st.lanes
 
-pub cut-run : (e : EngineView) (p : PhaseLists) (k : HeapView) (next : List ℕ) (told answers : List (List Reply)) → CanRunLanes e.setup e.holders e.serials e.heap → IsPhase e.setup p → ((j : ℕ) → of_lane told j ≡ []) → length answers ≡ length p.lanes → LanesWentOn p.lanes e.holders e.heap e.serials told k next answers → (s : State) → EngineStands e s → IsCutOf e p.lanes k next answers s
-cut-run e p k next told answers ready phase none long goes s st =
+cut-run : (e : EngineView) {p : PhaseLists} {q : RunningView} {told answers : List (List Reply)} → CanRunLanes e.setup e.running → IsPhase e.setup p → ((j : ℕ) → of_lane told j ≡ []) → length answers ≡ length p.lanes → LanesWentOn p.lanes e.running told q answers → (s : State) → EngineStands e s → IsCutOf p.lanes q answers s
+cut-run e {p} {q} {told} {answers} ready phase none long goes s st =
     let cut = map length answers in
-    let mixed = mixed-cut s p.lanes answers goes.steps (each-lane e p s ready phase st) (ops-fit e p.lanes s ready st phase.ops) goes.below (ops-begun p.lanes e.holders e.heap k e.serials next told answers goes none) in
-    let run = run-lanes s (cut_lanes cut p.lanes) answers goes.steps st.consistent mixed (long ∙ sym (length-cut_lanes cut p.lanes)) (replies-begun p.lanes e.holders e.heap k e.serials next told answers goes none s st) in
-    record { replies = run.replies; stands = subst (λ (t : State). StandsAs k e.holders next t) run.state (goes.means s st) }
+    let mixed = mixed-cut s p.lanes answers goes.steps (each-lane e p s ready phase st) (ops-fit e p.lanes s ready st phase.ops) goes.below (ops-begun goes none) in
+    let run = run-lanes s (cut_lanes cut p.lanes) answers goes.steps st.consistent mixed (long ∙ sym (length-cut_lanes cut p.lanes)) (replies-begun goes none s st) in
+    record { replies = run.replies; stands = subst (RunningStands q) run.state (goes.means s st) }
 
 -- or to their ends
-pub record IsWhole (e : EngineView) (lanes : List (List Op)) (k : HeapView) (next : List ℕ) (answers : List (List Reply)) (s : State) : Type 0 where
+pub record IsWhole (lanes : List (List Op)) (q : RunningView) (answers : List (List Reply)) (s : State) : Type 0 where
   pub replies : answers ≡ replies_to_lanes s 0 lanes
-  pub stands : StandsAs k e.holders next (after_lanes s 0 lanes)
+  pub stands : RunningStands q (after_lanes s 0 lanes)
 
-pub whole-run : (e : EngineView) (p : PhaseLists) (k : HeapView) (next : List ℕ) (told answers : List (List Reply)) → CanRunLanes e.setup e.holders e.serials e.heap → IsPhase e.setup p → ((j : ℕ) → of_lane told j ≡ []) → length answers ≡ length p.lanes → AreDone p.lanes answers → LanesWentOn p.lanes e.holders e.heap e.serials told k next answers → (s : State) → EngineStands e s → IsWhole e p.lanes k next answers s
-whole-run e p k next told answers ready phase none long done goes s st =
-    let mixed = mixed-whole s p.lanes answers goes.steps (each-lane e p s ready phase st) (ops-fit e p.lanes s ready st phase.ops) goes.below done (ops-begun p.lanes e.holders e.heap k e.serials next told answers goes none) in
-    let run = run-lanes s p.lanes answers goes.steps st.consistent mixed long (replies-begun p.lanes e.holders e.heap k e.serials next told answers goes none s st) in
-    record { replies = run.replies; stands = subst (λ (t : State). StandsAs k e.holders next t) run.state (goes.means s st) }
+whole-run : (e : EngineView) {p : PhaseLists} {q : RunningView} {told answers : List (List Reply)} → CanRunLanes e.setup e.running → IsPhase e.setup p → ((j : ℕ) → of_lane told j ≡ []) → length answers ≡ length p.lanes → AreDone p.lanes answers → LanesWentOn p.lanes e.running told q answers → (s : State) → EngineStands e s → IsWhole p.lanes q answers s
+whole-run e {p} {q} {told} {answers} ready phase none long done goes s st =
+    let mixed = mixed-whole s p.lanes answers goes.steps (each-lane e p s ready phase st) (ops-fit e p.lanes s ready st phase.ops) goes.below done (ops-begun goes none) in
+    let run = run-lanes s p.lanes answers goes.steps st.consistent mixed long (replies-begun goes none s st) in
+    record { replies = run.replies; stands = subst (RunningStands q) run.state (goes.means s st) }
 
 -- what a phase begins with: an engine in order, and room for replies, of which there are none
 pub record HasBegun (e : EngineView) (p : PhaseLists) (vs : List (Vec Reply Global)) : Type 0 where
@@ -111,34 +111,34 @@ pub record HasBegun (e : EngineView) (p : PhaseLists) (vs : List (Vec Reply Glob
   pub room : IsRoomFor p.lanes vs
 
 -- rounds that end for want of heap cut the phase
-pub cut-by : (e f : EngineView) (p : PhaseLists) (vs ws : List (Vec Reply Global)) (need : ℕ) → HasBegun e p vs → IsEngine f → f.holders ≡ e.holders → length ws ≡ length p.lanes → IsTooSmall p.lanes e vs f ws need → CutPhase e p f (lists_of ws) need
-cut-by e f p vs ws need begun engine holders long small =
+pub cut-by : (e f : EngineView) (p : PhaseLists) (vs ws : List (Vec Reply Global)) (need : ℕ) → HasBegun e p vs → IsEngine f → length ws ≡ length p.lanes → IsTooSmall p.lanes e vs f ws need → CutPhase e p f (lists_of ws) need
+cut-by e f p vs ws need begun engine long small =
     let answers = lists_of ws in
     let cut = map length answers in
-    let run : (s : State) → EngineStands e s → IsCutOf e p.lanes f.heap f.serials answers s = λ s st.
-    cut-run e p f.heap f.serials (lists_of vs) answers begun.engine.ready begun.phase (none-yet p.lanes vs begun.room) (length-map ws (λ (v : Vec Reply Global). v.items) ∙ long) small.goes s st in
+    let run : (s : State) → EngineStands e s → IsCutOf p.lanes f.running answers s = λ s st.
+    cut-run e begun.engine.ready begun.phase (none-yet p.lanes vs begun.room) (length-map ws (λ (v : Vec Reply Global). v.items) ∙ long) small.goes s st in
     record {
       cause = small.cause;
       stands = λ s st. (
         cut,
         (run s st).replies,
-        subst (λ (hs : List ℕ). StandsAs f.heap hs f.serials (after_lanes s 0 (cut_lanes cut p.lanes))) (sym holders) (run s st).stands,
+        (run s st).stands,
         small.needs (after_lanes s 0 (cut_lanes cut p.lanes)) (run s st).stands.stands (sym (run s st).stands.domains),
       );
       above = omega (arith, small.above, engine.ready.fits.supers);
     }
 
 -- rounds that end with all lanes at their ends, and then the gives, do it
-pub did-by : (e f g : EngineView) (p : PhaseLists) (vs ws : List (Vec Reply Global)) → HasBegun e p vs → f.holders ≡ e.holders → length ws ≡ length p.lanes → RoundsWentOn p.lanes e vs f ws → IsThrough p.lanes f ws → ((s : State) → EngineStands f s → EngineStands g (after_gives s p.gives)) → g ≡ record f { holders = g.holders } → ((s : State) → EngineStands g s → (n : ℕ) × IsNeed s n × (n ≤ g.setup.superpages)) → DidPhase e p g (lists_of ws)
-did-by e f g p vs ws begun holders long on through gave same room =
-    let run : (s : State) → EngineStands e s → IsWhole e p.lanes f.heap f.serials (lists_of ws) s = λ s st.
-    whole-run e p f.heap f.serials (lists_of vs) (lists_of ws) begun.engine.ready begun.phase (none-yet p.lanes vs begun.room) (length-map ws (λ (v : Vec Reply Global). v.items) ∙ long) through.done on.runs.goes s st in
+pub did-by : (e f g : EngineView) (p : PhaseLists) (vs ws : List (Vec Reply Global)) → HasBegun e p vs → length ws ≡ length p.lanes → RoundsWentOn p.lanes e vs f ws → IsThrough p.lanes f ws → ((s : State) → EngineStands f s → EngineStands g (after_gives s p.gives)) → g ≡ with_holders f g.running.holders → ((s : State) → EngineStands g s → (n : ℕ) × IsNeed s n × (n ≤ g.setup.superpages)) → DidPhase e p g (lists_of ws)
+did-by e f g p vs ws begun long on through gave same room =
+    let run : (s : State) → EngineStands e s → IsWhole p.lanes f.running (lists_of ws) s = λ s st.
+    whole-run e begun.engine.ready begun.phase (none-yet p.lanes vs begun.room) (length-map ws (λ (v : Vec Reply Global). v.items) ∙ long) through.done on.runs.goes s st in
     record {
       going = ap (λ (x : EngineView). x.ended) same ∙ on.going;
-      empty = λ l. ap (λ (x : EngineView). (chunk_of x.heap.chunks l).objects) same ∙ through.empty l;
+      empty = λ l. ap (λ (x : EngineView). (chunk_of x.running.heap.chunks l).objects) same ∙ through.empty l;
       stands = λ s st. (
         (run s st).replies,
-        gave (after_lanes s 0 p.lanes) (subst (λ (hs : List ℕ). StandsAs f.heap hs f.serials (after_lanes s 0 p.lanes)) (sym holders) (run s st).stands),
+        gave (after_lanes s 0 p.lanes) (run s st).stands,
       );
       need = room;
     }
@@ -154,31 +154,29 @@ room-push lanes vs w i long room none wide j v lt is = elim (cases_lt j (length 
 ]
 
 -- one give after another changes the holders alone
-pub holders-then : (e f g : EngineView) (hs : List ℕ) → f ≡ record e { holders = f.holders } → g ≡ record f { holders = hs } → g ≡ record e { holders = g.holders }
+pub holders-then : (e f g : EngineView) (hs : List ℕ) → f ≡ with_holders e f.running.holders → g ≡ with_holders f hs → g ≡ with_holders e g.running.holders
 holders-then e f g hs first second =
-    second
-    ∙ ap (λ (x : EngineView). let y : EngineView = record x { holders = hs } in y) first
-    ∙ ap (λ (xs : List ℕ). let y : EngineView = record e { holders = xs } in y) (sym (ap (λ (x : EngineView). x.holders) second))
+    second ∙ ap (λ (x : EngineView). with_holders x hs) first ∙ ap (with_holders e) (sym (ap (λ (x : EngineView). x.running.holders) second))
 
 -- with empty chunks there is room for what the engine stands for
-pub has-room : (e : EngineView) → ((s : Layout) → (chunks : List Nursery) → (roots : List Word) → (state : State) → (n : ℕ) → IsLayout s → ((a : ℕ) → object_in chunks a ≡ None) → StandsFor (heap_memory s chunks) roots state → IsNeed state n → n ≤ superpages s) → IsLayout e.heap.space → IsEngine e → HasEmptyChunks e.heap → (s : State) → EngineStands e s → (n : ℕ) × IsNeed s n × (n ≤ e.setup.superpages)
+pub has-room : (e : EngineView) → ((s : Layout) → (chunks : List Nursery) → (roots : List Word) → (state : State) → (n : ℕ) → IsLayout s → ((a : ℕ) → object_in chunks a ≡ None) → StandsFor (heap_memory s chunks) roots state → IsNeed state n → n ≤ superpages s) → IsLayout e.running.heap.space → IsEngine e → HasEmptyChunks e.running.heap → (s : State) → EngineStands e s → (n : ℕ) × IsNeed s n × (n ≤ e.setup.superpages)
 has-room e law layout engine none s st =
     let need = need-found s st.consistent in
-    let within = law e.heap.space e.heap.chunks (root_words e.heap.roots) s need.0 layout (no-object e.heap.chunks none) st.stands need.1 in
+    let within = law e.running.heap.space e.running.heap.chunks (root_words e.running.heap.roots) s need.0 layout (no-object e.running.heap.chunks none) st.stands need.1 in
     (need.0, need.1, omega (arith, within, engine.ready.fits.supers))
 
 -- the phase as the code has it: `os` are its operations as they were lent to the rounds, `us` the lists for replies
-pub did-lent : (e f g : EngineView) (p : PhaseLists) (os : List (List Op)) (us vs ws xs : List (Vec Reply Global)) → HasBegun e p vs → os ≡ p.lanes → us ≡ vs → xs ≡ ws → f.holders ≡ e.holders → length ws ≡ length p.lanes → RoundsWentOn os e us f ws → IsThrough os f ws → ((s : State) → EngineStands f s → EngineStands g (after_gives s p.gives)) → g ≡ record f { holders = g.holders } → ((s : State) → EngineStands g s → (n : ℕ) × IsNeed s n × (n ≤ g.setup.superpages)) → DidPhase e p g (lists_of xs)
-did-lent e f g p os us vs ws xs begun lanes lent back holders long on through gave same room =
+pub did-lent : (e f g : EngineView) (p : PhaseLists) (os : List (List Op)) (us vs ws xs : List (Vec Reply Global)) → HasBegun e p vs → os ≡ p.lanes → us ≡ vs → xs ≡ ws → length ws ≡ length p.lanes → RoundsWentOn os e us f ws → IsThrough os f ws → ((s : State) → EngineStands f s → EngineStands g (after_gives s p.gives)) → g ≡ with_holders f g.running.holders → ((s : State) → EngineStands g s → (n : ℕ) × IsNeed s n × (n ≤ g.setup.superpages)) → DidPhase e p g (lists_of xs)
+did-lent e f g p os us vs ws xs begun lanes lent back long on through gave same room =
     subst (λ (ys : List (Vec Reply Global)). DidPhase e p g (lists_of ys)) (sym back)
-    (did-by e f g p vs ws begun holders long
+    (did-by e f g p vs ws begun long
     (subst (λ (ls : List (List Op)). RoundsWentOn ls e vs f ws) lanes (subst (λ (ys : List (Vec Reply Global)). RoundsWentOn os e ys f ws) lent on))
     (subst (λ (ls : List (List Op)). IsThrough ls f ws) lanes through) gave same room)
 
-pub cut-lent : (e f : EngineView) (p : PhaseLists) (os : List (List Op)) (us vs ws xs : List (Vec Reply Global)) (need : ℕ) → HasBegun e p vs → IsEngine f → os ≡ p.lanes → us ≡ vs → xs ≡ ws → f.holders ≡ e.holders → length ws ≡ length p.lanes → IsTooSmall os e us f ws need → CutPhase e p f (lists_of xs) need
-cut-lent e f p os us vs ws xs need begun engine lanes lent back holders long small =
+pub cut-lent : (e f : EngineView) (p : PhaseLists) (os : List (List Op)) (us vs ws xs : List (Vec Reply Global)) (need : ℕ) → HasBegun e p vs → IsEngine f → os ≡ p.lanes → us ≡ vs → xs ≡ ws → length ws ≡ length p.lanes → IsTooSmall os e us f ws need → CutPhase e p f (lists_of xs) need
+cut-lent e f p os us vs ws xs need begun engine lanes lent back long small =
     subst (λ (ys : List (Vec Reply Global)). CutPhase e p f (lists_of ys) need) (sym back)
-    (cut-by e f p vs ws need begun engine holders long
+    (cut-by e f p vs ws need begun engine long
     (subst (λ (ls : List (List Op)). IsTooSmall ls e vs f ws need) lanes (subst (λ (ys : List (Vec Reply Global)). IsTooSmall os e ys f ws need) lent small)))
 
 pub underway-lent : (e : EngineView) (p : PhaseLists) (os : List (List Op)) (us vs : List (Vec Reply Global)) → HasBegun e p vs → HasRoomForOps e p.lanes 0 → length vs ≡ length p.lanes → os ≡ p.lanes → us ≡ vs → IsUnderwayOn e os us
@@ -187,7 +185,7 @@ underway-lent e p os us vs begun fits long lanes lent =
     (subst (λ (ys : List (Vec Reply Global)). IsUnderwayOn e p.lanes ys) (sym lent)
     (underway-begun e p vs begun.engine begun.phase fits long begun.room))
 
-pub births-lent : (e f : EngineView) (p : PhaseLists) (os : List (List Op)) (us ws : List (Vec Reply Global)) → os ≡ p.lanes → BirthsWithin os e.serials (lists_of us) f.serials (lists_of ws) → (j : ℕ) → get_or f.serials j 0 ≤ get_or e.serials j 0 + length (of_lane p.lanes j)
+pub births-lent : (e f : EngineView) (p : PhaseLists) (os : List (List Op)) (us ws : List (Vec Reply Global)) → os ≡ p.lanes → BirthsWithin os e.running.serials (lists_of us) f.running.serials (lists_of ws) → (j : ℕ) → get_or f.running.serials j 0 ≤ get_or e.running.serials j 0 + length (of_lane p.lanes j)
 births-lent e f p os us ws lanes births j =
     omega (arith, births j, ap (λ (ls : List (List Op)). length (of_lane ls j)) lanes)
 

@@ -3,12 +3,9 @@ use Rattle.std.proofs.Common.{Vec, Global, vec_capacity, vec_len, ◌≡◌, ◌
 use Prim.Native.Nat.{zero, suc}
 use Rattle.std.proofs.lemmas.Bool.{cases_eq}
 use Rattle.std.proofs.lemmas.List.{get_or-map, map-set, length_push, length-map}
-use Rattle.bc_cycle.specs.Emptying.{heap_view}
-use Rattle.bc_cycle.specs.declared.heaps.Heap.{Heap}
 use Rattle.std.specs.List.{AllByRecursion}
 use Rattle.bc_whole_heap.specs.Closed.{chunk_of, buffer_of}
-use Rattle.bc_whole_heap.specs.Heaps.{HeapView}
-use Rattle.bc_whole_heap.specs.Running.{StandsAs}
+use Rattle.bc_running.specs.Running.{RunningView, RunningStands}
 use Rattle.bc_model.specs.Lists.{lists_of}
 use Rattle.bc_model.specs.WellFormed.{IsOp}
 use Rattle.bc_model.proofs.Runs.{at-index}
@@ -25,24 +22,31 @@ use Rattle.bc_engine.proofs.Attempts.{held-up}
 use Rattle.bc_engine.proofs.GoingLemmas.{with_reply, goes-none, goes-then, goes-step}
 
 -- nothing was done, and the heap stands for what it stood for
-pub runs-none : (lanes : List (List Op)) (hs : List ℕ) (h k : HeapView) (serials : List ℕ) (told : List (Vec Reply Global)) → ((state : State) → StandsAs h hs serials state → StandsAs k hs serials state) → ((setup : Setup) → CanRunLanes setup hs serials h → CanRunLanes setup hs serials k) → LanesRan lanes hs h serials told k serials told
-runs-none lanes hs h k serials told means ready = record {
-  goes = goes-none lanes hs h k serials (lists_of told) means;
-  underway = λ setup u. record { ready = ready setup u.ready; each = u.each; ops = u.ops; long = u.long; room = u.room; births = u.births };
-  births = λ j. omega arith;
+pub runs-none : (lanes : List (List Op)) (r q : RunningView) (told : List (Vec Reply Global)) → q.holders ≡ r.holders → q.serials ≡ r.serials → ((state : State) → RunningStands r state → RunningStands q state) → ((setup : Setup) → CanRunLanes setup r → CanRunLanes setup q) → LanesRan lanes r told q told
+runs-none lanes r q told held same means ready = record {
+  goes = goes-none lanes r q (lists_of told) means;
+  underway = λ setup u. record {
+    ready = ready setup u.ready;
+    each = u.each;
+    ops = u.ops;
+    long = u.long;
+    room = u.room;
+    births = subst (λ (ns : List ℕ). HasSerialsLeft lanes ns (lists_of told)) (sym same) u.births;
+  };
+  births = λ j. omega (arith, ap (λ (ns : List ℕ). get_or ns j 0) same);
+  held = held;
 }
 
-pub runs-same : (lanes : List (List Op)) (hs : List ℕ) (x y : Heap) (serials next : List ℕ) (told : List (Vec Reply Global)) → y ≡ x → next ≡ serials → LanesRan lanes hs (heap_view x) serials told (heap_view y) next told
-runs-same lanes hs x y serials next told heap born =
-    subst (λ (z : Heap). LanesRan lanes hs (heap_view x) serials told (heap_view z) next told) (sym heap)
-    (subst (λ (ns : List ℕ). LanesRan lanes hs (heap_view x) serials told (heap_view x) ns told) (sym born)
-    (runs-none lanes hs (heap_view x) (heap_view x) serials told (λ state st. st) (λ setup ready. ready)))
+pub runs-same : (lanes : List (List Op)) (r q : RunningView) (told : List (Vec Reply Global)) → q ≡ r → LanesRan lanes r told q told
+runs-same lanes r q told same =
+    subst (λ (x : RunningView). LanesRan lanes r told x told) (sym same) (runs-none lanes r r told refl refl (λ state st. st) (λ setup ready. ready))
 
-pub runs-then : (lanes : List (List Op)) (hs : List ℕ) (h k l : HeapView) (ns ms ls : List ℕ) (told mid answers : List (Vec Reply Global)) → LanesRan lanes hs h ns told k ms mid → LanesRan lanes hs k ms mid l ls answers → LanesRan lanes hs h ns told l ls answers
-runs-then lanes hs h k l ns ms ls told mid answers g e = record {
-  goes = goes-then lanes hs h k l ns ms ls (lists_of told) (lists_of mid) (lists_of answers) g.goes e.goes;
+pub runs-then : {lanes : List (List Op)} {r q x : RunningView} {told mid answers : List (Vec Reply Global)} → LanesRan lanes r told q mid → LanesRan lanes q mid x answers → LanesRan lanes r told x answers
+runs-then g e = record {
+  goes = goes-then g.goes e.goes;
   underway = λ setup u. e.underway setup (g.underway setup u);
   births = λ j. omega (arith, e.births j, g.births j);
+  held = e.held ∙ g.held;
 }
 
 -- the list behind a lane's Vec
@@ -55,13 +59,13 @@ lists-pushed vs lane v w reply within is pushed =
     ∙ ap (set (lists_of vs) lane) (pushed ∙ ap (λ (rs : List Reply). rs ++ reply ∷ []) (sym (of_lane-vec vs lane v within is)))
 
 -- one reply more leaves one operation less, and one birth more at most
-births-step : (lanes : List (List Op)) (hs : List ℕ) (lane : ℕ) (op : Op) (h k : HeapView) (serials next : List ℕ) (reply : Reply) (told : List (List Reply)) → lane < length told → length (of_lane told lane) < length (of_lane lanes lane) → Does hs lane op h serials reply k next → BirthsWithin lanes serials told next (with_reply told lane reply)
-births-step lanes hs lane op h k serials next reply told within less does j =
+births-step : (lanes : List (List Op)) (lane : ℕ) (op : Op) {r q : RunningView} (reply : Reply) (told : List (List Reply)) → lane < length told → length (of_lane told lane) < length (of_lane lanes lane) → Does lane op r reply q → BirthsWithin lanes r.serials told q.serials (with_reply told lane reply)
+births-step lanes lane op {r} {q} reply told within less does j =
     let answers = with_reply told lane reply in
     elim (cases_eq j lane) [
       | inl e ↦
           let long : length (of_lane answers lane) ≡ length (of_lane told lane) + 1 = ap length (get_or-set_same told lane (of_lane told lane ++ reply ∷ []) [] within) ∙ length_push (of_lane told lane) reply in
-          subst (λ (m : ℕ). get_or next m 0 + (length (of_lane lanes m) - length (of_lane answers m)) ≤ get_or serials m 0 + (length (of_lane lanes m) - length (of_lane told m))) (sym e) (omega (arith, long, less, does.own))
+          subst (λ (m : ℕ). get_or q.serials m 0 + (length (of_lane lanes m) - length (of_lane answers m)) ≤ get_or r.serials m 0 + (length (of_lane lanes m) - length (of_lane told m))) (sym e) (omega (arith, long, less, does.own))
       | inr ne ↦
           let same : length (of_lane answers j) ≡ length (of_lane told j) = ap length (get_or-set_other told lane j (of_lane told lane ++ reply ∷ []) [] ne) in
           omega (arith, same, does.others j ne)
@@ -104,28 +108,29 @@ pub record IsKept (lanes : List (List Op)) (lane : ℕ) (op : Op) (reply : Reply
   pub capacity : vec_capacity w ≡ vec_capacity before
 
 -- an operation was done, and its reply was kept
-pub runs-step : (lanes : List (List Op)) (hs : List ℕ) (h k : HeapView) (serials next : List ℕ) (vs : List (Vec Reply Global)) (lane : ℕ) (op : Op) (reply : Reply) (w : Vec Reply Global) → IsKept lanes lane op reply vs w → Does hs lane op h serials reply k next → ((setup : Setup) → CanRunLanes setup hs serials h → CanRunLanes setup hs next k) → LanesRan lanes hs h serials vs k next (set vs lane w)
-runs-step lanes hs h k serials next vs lane op reply w kept does ready =
+pub runs-step : {lanes : List (List Op)} {r q : RunningView} {vs : List (Vec Reply Global)} {lane : ℕ} {op : Op} {reply : Reply} {w : Vec Reply Global} → IsKept lanes lane op reply vs w → Does lane op r reply q → ((setup : Setup) → CanRunLanes setup r → CanRunLanes setup q) → LanesRan lanes r vs q (set vs lane w)
+runs-step {lanes} {r} {q} {vs} {lane} {op} {reply} {w} kept does ready =
     let told = lists_of vs in
     let answers : lists_of (set vs lane w) ≡ with_reply told lane reply = lists-pushed vs lane kept.before w reply kept.there kept.is kept.pushed in
     let there : lane < length told = omega (arith, kept.there, length-map vs (λ (x : Vec Reply Global). x.items)) in
-    let births : BirthsWithin lanes serials told next (lists_of (set vs lane w)) =
-    subst (λ (rs : List (List Reply)). BirthsWithin lanes serials told next rs) (sym answers) (births-step lanes hs lane op h k serials next reply told there kept.less does) in
+    let births : BirthsWithin lanes r.serials told q.serials (lists_of (set vs lane w)) =
+    subst (λ (rs : List (List Reply)). BirthsWithin lanes r.serials told q.serials rs) (sym answers) (births-step lanes lane op reply told there kept.less does) in
     record {
-      goes = subst (λ (rs : List (List Reply)). LanesWentOn lanes hs h serials told k next rs) (sym answers) (goes-step lanes hs h k serials next told lane op reply kept.within there kept.less kept.at does);
+      goes = subst (λ (rs : List (List Reply)). LanesWentOn lanes r told q rs) (sym answers) (goes-step lanes told lane op reply kept.within there kept.less kept.at does);
       underway = λ setup u. record {
         ready = ready setup u.ready;
         each = u.each;
         ops = u.ops;
         long = length-set vs lane w ∙ u.long;
         room = room-step lanes vs lane kept.before w kept.there kept.is kept.capacity u.room;
-        births = serials-later lanes serials next told (lists_of (set vs lane w)) births u.births;
+        births = serials-later lanes r.serials q.serials told (lists_of (set vs lane w)) births u.births;
       };
       births = births;
+      held = does.held;
     }
 
-pub one-more : (lanes : List (List Op)) (vs : List (Vec Reply Global)) (lane : ℕ) (op : Op) (reply : Reply) (w : Vec Reply Global) → IsKept lanes lane op reply vs w → IsOneMore (of_lane lanes lane) (of_lane (lists_of vs) lane) (of_lane (lists_of (set vs lane w)) lane)
-one-more lanes vs lane op reply w kept =
+pub one-more : {lanes : List (List Op)} {vs : List (Vec Reply Global)} {lane : ℕ} {op : Op} {reply : Reply} {w : Vec Reply Global} → IsKept lanes lane op reply vs w → IsOneMore (of_lane lanes lane) (of_lane (lists_of vs) lane) (of_lane (lists_of (set vs lane w)) lane)
+one-more {lanes} {vs} {lane} {op} {reply} {w} kept =
     let told = lists_of vs in
     let there : lane < length told = omega (arith, kept.there, length-map vs (λ (x : Vec Reply Global). x.items)) in (
       kept.less,
@@ -168,41 +173,43 @@ pub told-other : (vs : List (Vec Reply Global)) (lane l : ℕ) (w : Vec Reply Gl
 told-other vs lane l w ne =
     ap (λ (rs : List (List Reply)). of_lane rs l) (map-set (λ (x : Vec Reply Global). x.items) vs lane w) ∙ get_or-set_other (lists_of vs) lane l w.items [] ne
 
-pub leaves-same : (lane : ℕ) (x y : Heap) (told : List (List Reply)) → y ≡ x → LeavesOthers lane (heap_view x) told (heap_view y) told
-leaves-same lane x y told heap = record {
-  chunk = λ l ne. ap (λ (z : Heap). chunk_of z.chunks.items l) heap;
-  buffer = λ l ne. ap (λ (z : Heap). buffer_of z.buffers.items l) heap;
+pub leaves-same : (lane : ℕ) (r q : RunningView) (told : List (List Reply)) → q ≡ r → LeavesOthers lane r told q told
+leaves-same lane r q told same = record {
+  chunk = λ l ne. ap (λ (x : RunningView). chunk_of x.heap.chunks l) same;
+  buffer = λ l ne. ap (λ (x : RunningView). buffer_of x.heap.buffers l) same;
   replies = λ l ne. refl;
+  held = ap (λ (x : RunningView). x.holders) same;
 }
 
-pub leaves-then : (lane : ℕ) (h k m : HeapView) (told mid answers : List (List Reply)) → LeavesOthers lane h told k mid → LeavesOthers lane k mid m answers → LeavesOthers lane h told m answers
-leaves-then lane h k m told mid answers first second = record {
+pub leaves-then : {lane : ℕ} {r q x : RunningView} {told mid answers : List (List Reply)} → LeavesOthers lane r told q mid → LeavesOthers lane q mid x answers → LeavesOthers lane r told x answers
+leaves-then first second = record {
   chunk = λ l ne. second.chunk l ne ∙ first.chunk l ne;
   buffer = λ l ne. second.buffer l ne ∙ first.buffer l ne;
   replies = λ l ne. second.replies l ne ∙ first.replies l ne;
+  held = second.held ∙ first.held;
 }
 
 -- a lane that is held up is so when another one has run
-still-held : (hs : List ℕ) (lane l : ℕ) (op : Op) (h k : HeapView) (told answers : List (List Reply)) → LeavesOthers lane h told k answers → l ≢ lane → IsHeldUp hs l op h → IsHeldUp hs l op k
-still-held hs lane l op h k told answers leaves ne (inl wants) =
-    inl (subst (λ (c : Nursery). WantsMore hs l (left_of c) op) (sym (leaves.chunk l ne)) wants)
-still-held hs lane l op h k told answers leaves ne (inr full) =
-    inr (subst (λ (b : Entries). length b.entries ≡ b.capacity) (sym (leaves.buffer l ne)) full)
+still-held : {lane : ℕ} (l : ℕ) (op : Op) {r q : RunningView} {told answers : List (List Reply)} → LeavesOthers lane r told q answers → l ≢ lane → IsHeldUp l op r → IsHeldUp l op q
+still-held l op {r} {q} leaves ne (inl wants) =
+    inl (subst (λ (hs : List ℕ). WantsMore hs l (left_of (chunk_of q.heap.chunks l)) op) (sym leaves.held)
+    (subst (λ (c : Nursery). WantsMore r.holders l (left_of c) op) (sym (leaves.chunk l ne)) wants))
+still-held l op leaves ne (inr full) = inr (subst (λ (b : Entries). length b.entries ≡ b.capacity) (sym (leaves.buffer l ne)) full)
 
 weaker : (P Q : Op → Type 0) (ops : List Op) (rs : List Reply) → ((op : Op) → P op → Q op) → IsAtEndOr ops rs P → IsAtEndOr ops rs Q
 weaker P Q ops rs f (inl end) = inl end
 weaker P Q ops rs f (inr x) = inr (x.0, x.1, x.2, f x.0 x.3)
 
-still-stopped : (lanes : List (List Op)) (hs : List ℕ) (lane l : ℕ) (h k : HeapView) (told answers : List (List Reply)) → LeavesOthers lane h told k answers → l ≢ lane → IsAtEndOr (of_lane lanes l) (of_lane told l) (λ op. IsHeldUp hs l op h) → IsAtEndOr (of_lane lanes l) (of_lane answers l) (λ op. IsHeldUp hs l op k)
-still-stopped lanes hs lane l h k told answers leaves ne stopped =
-    subst (λ (rs : List Reply). IsAtEndOr (of_lane lanes l) rs (λ op. IsHeldUp hs l op k)) (sym (leaves.replies l ne))
-    (weaker (λ op. IsHeldUp hs l op h) (λ op. IsHeldUp hs l op k) (of_lane lanes l) (of_lane told l) (λ op held. still-held hs lane l op h k told answers leaves ne held) stopped)
+still-stopped : (lanes : List (List Op)) {lane : ℕ} (l : ℕ) {r q : RunningView} {told answers : List (List Reply)} → LeavesOthers lane r told q answers → l ≢ lane → IsAtEndOr (of_lane lanes l) (of_lane told l) (λ op. IsHeldUp l op r) → IsAtEndOr (of_lane lanes l) (of_lane answers l) (λ op. IsHeldUp l op q)
+still-stopped lanes l {r} {q} {told} leaves ne stopped =
+    subst (λ (rs : List Reply). IsAtEndOr (of_lane lanes l) rs (λ op. IsHeldUp l op q)) (sym (leaves.replies l ne))
+    (weaker (λ op. IsHeldUp l op r) (λ op. IsHeldUp l op q) (of_lane lanes l) (of_lane told l) (λ op held. still-held l op leaves ne held) stopped)
 
 -- the lanes that have run so far have stopped, and so has the next one
-pub stopped-more : (lanes : List (List Op)) (hs : List ℕ) (lane : ℕ) (h k : HeapView) (told answers : List (List Reply)) → LeavesOthers lane h told k answers → ((j : ℕ) → j < lane → IsAtEndOr (of_lane lanes j) (of_lane told j) (λ op. IsHeldUp hs j op h)) → IsAtEndOr (of_lane lanes lane) (of_lane answers lane) (λ op. Stops hs lane op k) → (j : ℕ) → j < lane + 1 → IsAtEndOr (of_lane lanes j) (of_lane answers j) (λ op. IsHeldUp hs j op k)
-stopped-more lanes hs lane h k told answers leaves before here j lt = elim (cases_eq j lane) [
+pub stopped-more : (lanes : List (List Op)) {lane : ℕ} {r q : RunningView} {told answers : List (List Reply)} → LeavesOthers lane r told q answers → ((j : ℕ) → j < lane → IsAtEndOr (of_lane lanes j) (of_lane told j) (λ op. IsHeldUp j op r)) → IsAtEndOr (of_lane lanes lane) (of_lane answers lane) (λ op. Stops lane op q) → (j : ℕ) → j < lane + 1 → IsAtEndOr (of_lane lanes j) (of_lane answers j) (λ op. IsHeldUp j op q)
+stopped-more lanes {lane} {r} {q} {told} {answers} leaves before here j lt = elim (cases_eq j lane) [
   | inl e ↦
-      subst (λ (l : ℕ). IsAtEndOr (of_lane lanes l) (of_lane answers l) (λ op. IsHeldUp hs l op k)) (sym e)
-      (weaker (λ op. Stops hs lane op k) (λ op. IsHeldUp hs lane op k) (of_lane lanes lane) (of_lane answers lane) (λ op stops. held-up hs lane op k stops) here)
-  | inr ne ↦ still-stopped lanes hs lane j h k told answers leaves ne (before j (omega (arith, lt, ne)))
+      subst (λ (l : ℕ). IsAtEndOr (of_lane lanes l) (of_lane answers l) (λ op. IsHeldUp l op q)) (sym e)
+      (weaker (λ op. Stops lane op q) (λ op. IsHeldUp lane op q) (of_lane lanes lane) (of_lane answers lane) (λ op stops. held-up lane op q stops) here)
+  | inr ne ↦ still-stopped lanes j leaves ne (before j (omega (arith, lt, ne)))
 ]

@@ -1,5 +1,5 @@
 -- What an operation and an emptying leave as it was: the sizes of a heap, and which operations fit it.
-use Rattle.std.proofs.Common.{◌≡◌, ◌≢◌, ℕ, Bool, true, false, ◌==◌, List, [], length, None, sym, ap, subst, ◌∙◌, inl, inr, arith}
+use Rattle.std.proofs.Common.{◌≡◌, ℕ, Bool, true, false, ◌==◌, List, [], length, None, sym, ap, subst, ◌∙◌, inl, inr, arith}
 use Rattle.std.proofs.lemmas.Bool.{cases_eq}
 use Rattle.std.specs.List.{find}
 use Rattle.std.specs.Option.{is_some}
@@ -18,7 +18,8 @@ use Rattle.bc_nursery.specs.Objects.{ChunkObject, Nursery, has_object}
 use Rattle.bc_promotion.specs.Promises.{HasDomainsBelow}
 use Rattle.bc_superpages.specs.Layout.{Layout, superpages}
 use Rattle.bc_superpages.specs.RootWords.{RootWords}
-use Rattle.bc_engine.specs.Engines.{HasSetup, CanRunLanes, IsUnbookmarked}
+use Rattle.bc_running.specs.Running.{RunningView, StaysBut}
+use Rattle.bc_engine.specs.Engines.{HasSetup, IsUnbookmarked}
 
 -- an operation fits whatever has as many domains and slots
 made_up : ℕ → ℕ → Setup
@@ -39,27 +40,19 @@ op-of_state h hs serials state o st op =
     let like = op-like (made_up h.roots.domains h.roots.slots) (length state.holders) state.width o (sym st.domains) (sym st.slots) op in
     like
 
--- what an operation of a lane leaves
-pub record StaysBut (lane : ℕ) (h k : HeapView) : Type 0 where
-  pub space : k.space ≡ record h.space { states = k.space.states; pages = k.space.pages }
-  pub roots : k.roots ≡ record h.roots { words = k.roots.words; noted = k.roots.noted }
-  pub chunk : chunk_of k.chunks lane ≡ record (chunk_of h.chunks lane) { objects = (chunk_of k.chunks lane).objects }
-  pub others : (l : ℕ) → l ≢ lane → (chunk_of k.chunks l ≡ chunk_of h.chunks l) × (buffer_of k.buffers l ≡ buffer_of h.buffers l)
-  pub long : length k.chunks ≡ length h.chunks
-  pub capacity : (buffer_of k.buffers lane).capacity ≡ (buffer_of h.buffers lane).capacity
-
-pub fits-step : (setup : Setup) (lane : ℕ) (h k : HeapView) → StaysBut lane h k → HasSetup h setup → HasSetup k setup
-fits-step setup lane h k stays fits = record {
+-- an operation of a lane leaves the sizes
+pub fits-step : (setup : Setup) {lane : ℕ} {r q : RunningView} → StaysBut lane r q → HasSetup r.heap setup → HasSetup q.heap setup
+fits-step setup {lane} {r} {q} stays fits = record {
   supers = ap (λ (s : Layout). superpages s) stays.space ∙ fits.supers;
-  domains = ap (λ (r : RootWords). r.domains) stays.roots ∙ fits.domains;
-  slots = ap (λ (r : RootWords). r.slots) stays.roots ∙ fits.slots;
-  lanes = stays.long ∙ fits.lanes;
+  domains = ap (λ (x : RootWords). x.domains) stays.roots ∙ fits.domains;
+  slots = ap (λ (x : RootWords). x.slots) stays.roots ∙ fits.slots;
+  lanes = stays.chunks ∙ fits.lanes;
   words = λ l lt. elim (cases_eq l lane) [
-    | inl e ↦ ap (λ (n : ℕ). (chunk_of k.chunks n).words) e ∙ ap (λ (c : Nursery). c.words) stays.chunk ∙ ap (λ (n : ℕ). (chunk_of h.chunks n).words) (sym e) ∙ fits.words l lt
+    | inl e ↦ ap (λ (n : ℕ). (chunk_of q.heap.chunks n).words) e ∙ ap (λ (c : Nursery). c.words) stays.chunk ∙ ap (λ (n : ℕ). (chunk_of r.heap.chunks n).words) (sym e) ∙ fits.words l lt
     | inr ne ↦ ap (λ (c : Nursery). c.words) (stays.others l ne).0 ∙ fits.words l lt
   ];
   entries = λ l lt. elim (cases_eq l lane) [
-    | inl e ↦ ap (λ (n : ℕ). (buffer_of k.buffers n).capacity) e ∙ stays.capacity ∙ ap (λ (n : ℕ). (buffer_of h.buffers n).capacity) (sym e) ∙ fits.entries l lt
+    | inl e ↦ ap (λ (n : ℕ). (buffer_of q.heap.buffers n).capacity) e ∙ stays.capacity ∙ ap (λ (n : ℕ). (buffer_of r.heap.buffers n).capacity) (sym e) ∙ fits.entries l lt
     | inr ne ↦ ap (λ (b : Entries). b.capacity) (stays.others l ne).1 ∙ fits.entries l lt
   ];
   nursery = ap (λ (s : Layout). s.nursery) stays.space ∙ fits.nursery;
@@ -85,10 +78,3 @@ none-in c a none = grind (arith, none)
 
 pub no-object : (cs : List Nursery) → ((l : ℕ) → (chunk_of cs l).objects ≡ []) → (a : ℕ) → object_in cs a ≡ None
 no-object cs none a = object_in-none cs a (λ k lt. none-in (chunk_of cs k) a (none k))
-
--- a heap that is ready, through slices that the holders and serials were lent as
-pub ready-through : (setup : Setup) (hs ks ns ms ls js : List ℕ) (h k : HeapView) → ks ≡ hs → ms ≡ ns → js ≡ ls → ((s : Setup) → CanRunLanes s ks ms h → CanRunLanes s ks ls k) → CanRunLanes setup hs ns h → CanRunLanes setup hs js k
-ready-through setup hs ks ns ms ls js h k holders before after keeps ready =
-    subst (λ (xs : List ℕ). CanRunLanes setup hs xs k) (sym after)
-    (subst (λ (xs : List ℕ). CanRunLanes setup xs ls k) holders
-    (keeps setup (subst (λ (xs : List ℕ). CanRunLanes setup xs ms h) (sym holders) (subst (λ (xs : List ℕ). CanRunLanes setup hs xs h) (sym before) ready))))

@@ -1,9 +1,9 @@
--- An engine: a heap, and for each domain and lane who holds it and how many births it made.
+-- An engine: a heap that lanes run on, and what phases rest on.
 use Rattle.std.specs.Prelude.{◌≡◌, ◌≢◌, ℕ, ◌+◌, ◌*◌, ◌^◌, ◌<◌, ◌≤◌, false, List, [], length, Option, Some, None, slice_index}
 use Rattle.bc_bits.specs.Bits.{has}
 use Rattle.bc_whole_heap.specs.Closed.{chunk_of, buffer_of}
 use Rattle.bc_whole_heap.specs.Heaps.{NoneRemembered, HeapView}
-use Rattle.bc_whole_heap.specs.Running.{StandsAs, IsRunning}
+use Rattle.bc_whole_heap.specs.Running.{IsRunning}
 use Rattle.bc_model.specs.State.{State}
 use Rattle.bc_model.specs.WellFormed.{IsSetup}
 use Rattle.bc_model.specs.declared.traces.Setup.{Setup}
@@ -12,11 +12,10 @@ use Rattle.bc_superpages.specs.Layout.{Layout, superpages, set_of}
 use Rattle.bc_engine.specs.declared.answers.Answer.{Answer}
 use Rattle.bc_engine.specs.declared.engines.Ended.{Ended}
 use Rattle.bc_engine.specs.declared.engines.Ended.TheVariants.{NoMemory}
+use Rattle.bc_running.specs.Running.{RunningView, RunningStands}
 
 pub record EngineView : Type 0 where
-  pub heap : HeapView
-  pub holders : List ℕ
-  pub serials : List ℕ
+  pub running : RunningView
   pub setup : Setup
   -- how many threads may mark
   pub workers : ℕ
@@ -24,6 +23,10 @@ pub record EngineView : Type 0 where
   pub ended : Option Ended
   -- what became of the notices of the latest phase
   pub answers : List Answer
+
+-- the engine with these holders of the domains
+abbrev pub with_holders : EngineView → List ℕ → EngineView
+with_holders e holders = record e { running = record (e.running) { holders = holders } }
 
 -- no object is bookmarked, and no superpage is referred to from an evicted page
 pub record IsUnbookmarked (s : Layout) : Type 0 where
@@ -53,13 +56,13 @@ pub record IsUnrecorded (h : HeapView) : Type 0 where
 abbrev pub HasEmptyChunks : HeapView → Type 0
 HasEmptyChunks h = (l : ℕ) → (chunk_of h.chunks l).objects ≡ []
 
--- what is true of a heap that lanes can run on: it is in order, it has the setup's sizes, and there is a state that it stands for
-pub record CanRunLanes (setup : Setup) (holders serials : List ℕ) (h : HeapView) : Type 0 where
+-- lanes can run: the heap is in order, it has the setup's sizes, and there is a state that it stands for
+pub record CanRunLanes (setup : Setup) (r : RunningView) : Type 0 where
   pub range : IsSetup setup
-  pub order : IsRunning h holders
-  pub fits : HasSetup h setup
-  pub lanes : length serials ≡ setup.lanes
-  pub meant : (state : State) × StandsAs h holders serials state
+  pub order : IsRunning r.heap r.holders
+  pub fits : HasSetup r.heap setup
+  pub lanes : length r.serials ≡ setup.lanes
+  pub meant : (state : State) × RunningStands r state
 
 -- a number of threads that may mark
 abbrev pub IsWorkers : ℕ → Type 0
@@ -69,16 +72,16 @@ IsWorkers n = (1 ≤ n) × (n ≤ 16)
 -- nothing is recorded
 pub record IsEngine (e : EngineView) : Type 0 where
   pub workers : IsWorkers e.workers
-  pub ready : CanRunLanes e.setup e.holders e.serials e.heap
-  pub going : e.ended ≡ None → IsUnrecorded e.heap
+  pub ready : CanRunLanes e.setup e.running
+  pub going : e.ended ≡ None → IsUnrecorded e.running.heap
 
 -- the engine stands for the state
 abbrev pub EngineStands : EngineView → State → Type 0
-EngineStands e state = StandsAs e.heap e.holders e.serials state
+EngineStands e state = RunningStands e.running state
 
 -- every lane can make n objects more, all with serials below 2 ^ 32
 abbrev pub HasRoomForBirths : EngineView → ℕ → Type 0
-HasRoomForBirths e n = (j : ℕ) → slice_index e.serials j + n < 2 ^ 32
+HasRoomForBirths e n = (j : ℕ) → slice_index e.running.serials j + n < 2 ^ 32
 
 -- what the type keeps: until it runs out of memory an engine's heap is in order. There are no notices yet, and so no answers
 pub record IsSoundEngine (e : EngineView) : Type 0 where

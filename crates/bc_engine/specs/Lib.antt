@@ -8,3 +8,4 @@ pub mod Answers
 pub mod Lanes
 -- The rounds of a phase
 pub mod Rounds
+pub mod Inside

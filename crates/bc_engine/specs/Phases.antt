@@ -12,7 +12,7 @@ use Rattle.bc_model.specs.declared.operations.Reply.{Reply}
 -- it. Chunks are empty, so that state has a need that is at most the number of superpages
 pub record DidPhase (e : EngineView) (p : PhaseLists) (f : EngineView) (replies : List (List Reply)) : Type 0 where
   pub going : f.ended ≡ None
-  pub empty : HasEmptyChunks f.heap
+  pub empty : HasEmptyChunks f.running.heap
   pub stands : (s : State) → EngineStands e s → (replies ≡ replies_to_lanes s 0 p.lanes) × EngineStands f (after_phase s p)
   pub need : (s : State) → EngineStands f s → (n : ℕ) × IsNeed s n × (n ≤ f.setup.superpages)
 

@@ -15,7 +15,7 @@ use Rattle.bc_engine.specs.declared.engines.Ended.TheVariants.{OutOfHeap, NoMemo
 
 -- a phase is under way on the engine
 abbrev pub IsUnderwayOn : EngineView → List (List Op) → List (Vec Reply Global) → Type 0
-IsUnderwayOn e lanes replies = IsUnderway e.setup lanes e.holders e.heap e.serials replies
+IsUnderwayOn e lanes replies = IsUnderway e.setup lanes e.running replies
 
 -- room for the replies, and none yet
 abbrev pub IsRoomFor : List (List Op) → List (Vec Reply Global) → Type 0
@@ -40,18 +40,18 @@ IsGone (Err (OutOfHeap need)) = ⊥
 IsGone (Err NoMemory) = Unit {0}
 
 -- the engine goes on: the lanes went on, nothing else changed, and the engine hasn't ended
-pub record RoundsWentOn (lanes : List (List Op)) (e : EngineView) (told : List (Vec Reply Global)) (f : EngineView) (answers : List (Vec Reply Global)) : Type 0 where
+pub record RoundsWentOn (lanes : List (List Op)) (e : EngineView) (before : List (Vec Reply Global)) (f : EngineView) (after : List (Vec Reply Global)) : Type 0 where
   pub going : f.ended ≡ None
-  pub runs : LanesRan lanes e.holders e.heap e.serials told f.heap f.serials answers
+  pub runs : LanesRan lanes e.running before f.running after
 
 -- all lanes are at their ends, and the nurseries are empty
-pub record IsThrough (lanes : List (List Op)) (f : EngineView) (answers : List (Vec Reply Global)) : Type 0 where
-  pub done : AreDone lanes (lists_of answers)
-  pub empty : HasEmptyChunks f.heap
+pub record IsThrough (lanes : List (List Op)) (f : EngineView) (after : List (Vec Reply Global)) : Type 0 where
+  pub done : AreDone lanes (lists_of after)
+  pub empty : HasEmptyChunks f.running.heap
 
 -- the lanes went on, and the engine ended there, since what it stands for needs so many superpages, which is more than there are
-pub record IsTooSmall (lanes : List (List Op)) (e : EngineView) (told : List (Vec Reply Global)) (f : EngineView) (answers : List (Vec Reply Global)) (need : ℕ) : Type 0 where
+pub record IsTooSmall (lanes : List (List Op)) (e : EngineView) (before : List (Vec Reply Global)) (f : EngineView) (after : List (Vec Reply Global)) (need : ℕ) : Type 0 where
   pub cause : f.ended ≡ Some (OutOfHeap need)
-  pub goes : LanesWentOn lanes e.holders e.heap e.serials (lists_of told) f.heap f.serials (lists_of answers)
-  pub needs : NeedOfHeap f.heap.space f.heap.roots f.heap.chunks need
-  pub above : superpages f.heap.space < need
+  pub goes : LanesWentOn lanes e.running (lists_of before) f.running (lists_of after)
+  pub needs : NeedOfHeap f.running.heap.space f.running.heap.roots f.running.heap.chunks need
+  pub above : superpages f.running.heap.space < need

@@ -1,9 +1,9 @@
 //! A phase: room for the replies is taken, the rounds are run, and domains change hands.
 
-ghost use Rattle.std.specs.Prelude.{◌≡◌, ◌≢◌, ℕ, ◌+◌, ◌^◌, ◌<◌, ◌≤◌, [], length, Some, None, Result, Ok, Err, IfOk, slice_index};
+ghost use Rattle.std.specs.Prelude.{◌≡◌, ◌≢◌, ℕ, ◌+◌, ◌<◌, ◌≤◌, [], length, Some, None, Result, Ok, Err, IfOk, slice_index};
 ghost use Rattle.std.specs.List.{AllByRecursion};
 ghost use Rattle.bc_engine.specs.Answers.{IfPhaseOutOfHeap, IsOutOfHeap, IsNoMemory};
-ghost use Rattle.bc_engine.specs.Engines.{EngineStands, HasEmptyChunks, HasRoomForBirths, IsUnrecorded};
+ghost use Rattle.bc_engine.specs.Engines.{EngineStands, HasEmptyChunks, HasRoomForBirths, IsUnrecorded, with_holders};
 ghost use Rattle.bc_engine.specs.Lanes.{of_lane, HasRoomForOps};
 ghost use Rattle.bc_engine.specs.Phases.{DidPhase, CutPhase};
 ghost use Rattle.bc_engine.specs.Rounds.{IsRoomFor};
@@ -58,7 +58,7 @@ impl Engine {
         ensures gone { self.old.ended ≡ Some Ended.NoMemory → IsNoMemory result }
         ensures setup { (self.new.setup ≡ self.old.setup) × (self.new.workers ≡ self.old.workers) }
         ensures no_memory { IsNoMemory result → self.new.ended ≡ Some Ended.NoMemory }
-        ensures births { (j : ℕ) → slice_index self.new.serials j ≤ slice_index self.old.serials j + length (of_lane phase.now.lanes j) }
+        ensures births { (j : ℕ) → slice_index self.new.running.serials j ≤ slice_index self.old.running.serials j + length (of_lane phase.now.lanes j) }
         ensures room { (n : ℕ) → HasRoomForOps self.old phase.now.lanes n → HasRoomForBirths self.new n }
     {
         match self.ended {
@@ -101,7 +101,7 @@ impl Engine {
         ensures cut { IfPhaseOutOfHeap result (λ told need. CutPhase self.old phase.now self.new told need) }
         ensures setup { (self.new.setup ≡ self.old.setup) × (self.new.workers ≡ self.old.workers) }
         ensures no_memory { IsNoMemory result → self.new.ended ≡ Some Ended.NoMemory }
-        ensures births { (j : ℕ) → slice_index self.new.serials j ≤ slice_index self.old.serials j + length (of_lane phase.now.lanes j) }
+        ensures births { (j : ℕ) → slice_index self.new.running.serials j ≤ slice_index self.old.running.serials j + length (of_lane phase.now.lanes j) }
     {
         self.facts();
         match self.rounds(rt, alloc, &phase.lanes, &mut replies, gate) {
@@ -123,11 +123,11 @@ impl Engine {
     /// Has the domains change hands, one after the other. All chunks and write buffers are empty, and no page is remembered.
     fn give_all(&mut self, gives: &[Give])
         requires alive { self.old.ended ≢ Some Ended.NoMemory }
-        requires empty { HasEmptyChunks self.old.heap }
-        requires unrecorded { IsUnrecorded self.old.heap }
+        requires empty { HasEmptyChunks self.old.running.heap }
+        requires unrecorded { IsUnrecorded self.old.running.heap }
         requires gives { AllByRecursion (IsGive self.old.setup) gives.now }
         ensures given { (s : State) → EngineStands self.old s → EngineStands self.new (after_gives s gives.now) }
-        ensures same { self.new ≡ record self.old { holders = self.new.holders } }
+        ensures same { self.new ≡ with_holders self.old self.new.running.holders }
     {
         for give in gives {
             self.give(give.domain, give.lane);
@@ -138,11 +138,11 @@ impl Engine {
     /// nothing.
     fn room_facts(&self)
         requires going { self.now.ended ≡ None }
-        requires empty { HasEmptyChunks self.now.heap }
+        requires empty { HasEmptyChunks self.now.running.heap }
         ensures { (s : State) → EngineStands self.now s → (n : ℕ) × IsNeed s n × (n ≤ self.now.setup.superpages) }
     {
         law_room();
-        self.heap.space.facts();
+        self.running.heap().space.facts();
     }
 }
 

@@ -30,5 +30,3 @@ pub mod NewLemmas
 pub mod StepLemmas
 -- Each operation in the whole heap that the lane's parts belong to.
 pub mod ActLemmas
--- The parts of a lane that are taken out of a whole heap and put back.
-pub mod WholeLemmas

@@ -8,8 +8,8 @@
 //
 // The theorem stands on `operate_parts`, clause `done`: whatever whole heap the parts belong to (`Serves`), they then belong
 // to one in which the operation is done (`DidOperation`). What it is answered, and what that heap stands for, are the step's
-// of the heap that never frees, moves or pages. What other lanes have isn't among the arguments. `operate` in `whole` is
-// the same of a heap as a whole, derived from it, and is all that needs the heap's type.
+// of the heap that never frees, moves or pages. What other lanes have isn't among the arguments. `bc_running` has
+// the same of a heap as a whole, derived from it.
 //
 // There are four things that an operation may do, and each is done in one place: nothing, with a reply read off the heap
 // (`telling`); a root slot becomes another word (`slots`); a field of an object does (`fields`, `writing`); and a new
@@ -49,10 +49,8 @@ mod reading;
 mod root_slots;
 mod slots;
 mod telling;
-mod whole;
 mod writing;
 
 pub use cells::Cells;
 pub use operations::{Stop, law_births, operate_parts};
 pub use root_slots::RootSlots;
-pub use whole::operate;

@@ -8,7 +8,6 @@
 // meet. What a call does is told by the clauses of the collector's own calls, passed on.
 #![tactic(auto)]
 
-mod collecting;
 mod operations;
 mod workshops;
 

@@ -1,17 +1,10 @@
 //! An operation of a lane, with every reason why it may not be done.
 
-ghost use Rattle.std.specs.Prelude.{◌≡◌, ◌↔◌, ◌+◌, ◌^◌, ◌<◌, length, slice_index, IsTrue, IfOk, OnErr, IsErrOf};
-ghost use Rattle.bc_model.specs.State.{State};
-ghost use Rattle.bc_model.specs.Step.{step};
-ghost use Rattle.bc_whole_heap.specs.Closed.{buffer_of, chunk_of};
-ghost use Rattle.bc_mutator.specs.Operations.{IsOpOf, NeedsEntry, WantsMore};
-ghost use Rattle.bc_nursery.specs.Objects.{left_of};
-ghost use Rattle.heap_workshop.specs.Workshops.{IsSound, workshop_of, WorkshopStands};
-ghost use Rattle.bc_cycle.specs.Emptying.{heap_view};
+ghost use Rattle.std.specs.Prelude.{◌↔◌, ◌<◌, IsTrue};
+ghost use Rattle.bc_mutator.specs.Operations.{IsOpOf};
 
-use bc_cycle::Heap;
-use bc_model::{Op, Reply, Slot};
-use bc_mutator::{Stop, operate};
+use bc_model::{Op, Slot};
+use bc_mutator::Stop;
 use bc_superpages::Roots;
 
 /// Why an operation wasn't done.
@@ -33,28 +26,6 @@ impl From<Stop> for Halt {
     fn from(stop: Stop) -> Halt {
         Halt::Stopped(stop)
     }
-}
-
-/// The lane does an operation that fits, or stops with nothing changed.
-pub(crate) fn attempt(
-    heap: &mut Heap,
-    holders: &[u32],
-    serials: &mut [u32],
-    lane: u32,
-    op: &Op,
-) -> Result<Reply, Stop>
-    requires sound { IsSound (workshop_of (heap_view heap.old) holders.now serials.old) }
-    requires lane { lane < length serials.old }
-    requires op { IsOpOf heap.old.roots op.now }
-    requires serial { slice_index serials.old lane + 1 < 2 ^ 32 }
-    ensures sound { IsSound (workshop_of (heap_view heap.new) holders.now serials.new) }
-    ensures step { IfOk result (λ reply. (state : State) → WorkshopStands (workshop_of (heap_view heap.old) holders.now serials.old) state
-        → ((step state lane op.now).1 ≡ reply) × WorkshopStands (workshop_of (heap_view heap.new) holders.now serials.new) (step state lane op.now).0) }
-    ensures same { OnErr result ((heap.new ≡ heap.old) × (serials.new ≡ serials.old)) }
-    ensures nursery { IsErrOf result Stop.NurseryFull ↔ WantsMore holders.now lane (left_of (chunk_of heap.old.chunks.items lane)) op.now }
-    ensures buffer { IsErrOf result Stop.BufferFull → NeedsEntry holders.now lane heap.old.space heap.old.roots (chunk_of heap.old.chunks.items lane) (buffer_of heap.old.buffers.items lane) op.now }
-{
-    operate(heap, holders, &mut serials[lane as usize], lane, op)
 }
 
 /// Are the operation's slots, fields and numbers in range?

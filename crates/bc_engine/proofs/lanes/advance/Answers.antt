@@ -1,18 +1,17 @@
-use Rattle.std.proofs.Common.{◌≡◌, ◌<◌, length, get_or, refl, sym, ap, subst, inl, inr, ◌∙◌, arith, ◌++◌, ◌∷◌, [], Vec, Global, vec_capacity, vec_len}
+use Rattle.std.proofs.Common.{◌≡◌, ◌<◌, length, get_or, refl, sym, ap, subst, inl, inr, ◌∙◌, arith, ◌++◌, ◌∷◌, [], Vec, Global, vec_capacity, vec_len, Err}
 use Rattle.std.proofs.lemmas.List.{length-map}
-use Rattle.bc_cycle.specs.declared.heaps.Heap.{Heap}
 use Rattle.bc_model.specs.Lists.{lists_of}
 use Rattle.bc_model.specs.declared.operations.Op.{Op}
 use Rattle.bc_model.specs.declared.operations.Reply.{Reply}
-use Rattle.bc_cycle.specs.Emptying.{heap_view}
-use Rattle.bc_engine.specs.Lanes.{of_lane, Stops}
+use Rattle.bc_engine.specs.Lanes.{of_lane, Does, Stops}
+use Rattle.bc_engine.proofs.Attempts.{does-step, ready-sound, ready-step, never-stops, unrecorded-kept, why-stopped}
 use Rattle.bc_engine.proofs.RunLemmas.{IsKept, of_lane-long, of_lane-at, op-fits, runs-step, runs-same, one-more, told-other, leaves-same}
 use Rattle.bc_engine.proofs.Sizes.{op-of_heap}
 use Rattle.bc_engine.proofs.lanes.advance.Goals as goal
 
 pub returns-then-done-len-clause-runs : goal.returns-then-done-len-clause-runs
 returns-then-done-len-clause-runs c =
-    runs-same (lists_of c.args.lanes.now) c.args.holders.now c.args.heap.now c.args.heap.now c.args.serials.now c.args.serials.now c.args.replies.now refl refl
+    runs-same (lists_of c.args.lanes.now) c.args.running.now c.args.running.now c.args.replies.now refl
 
 pub returns-then-done-len-clause-stopped : goal.returns-then-done-len-clause-stopped
 returns-then-done-len-clause-stopped c = λ e.
@@ -28,7 +27,7 @@ returns-then-done-len-clause-stopped c = λ e.
     inl (omega arith)
 
 pub returns-then-done-len-clause-others : goal.returns-then-done-len-clause-others
-returns-then-done-len-clause-others c = leaves-same c.args.lane c.args.heap.now c.args.heap.now (lists_of c.args.replies.now) refl
+returns-then-done-len-clause-others c = leaves-same c.args.lane c.args.running.now c.args.running.now (lists_of c.args.replies.now) refl
 
 -- the operation is the next one of the lane
 next_op : (c : goal.After-index) → (c.len-done.result < length (of_lane (lists_of c.args.lanes.now) c.args.lane)) × (c.index.result.now ≡ get_or (of_lane (lists_of c.args.lanes.now) c.args.lane) c.len-done.result c.index.result.now)
@@ -39,14 +38,22 @@ next_op c =
     let less = c.if-done-len.false in
     (omega arith, of_lane-at lanes lane c.len-done.result c.index-lanes-index-2.result c.index.result.now c.requires.lane c.index-lanes-index-2.is c.index.ensures)
 
-pub attempt-requires-clause-op : goal.attempt-requires-clause-op
-attempt-requires-clause-op c =
+pub operate-requires-clause-sound : goal.operate-requires-clause-sound
+operate-requires-clause-sound c = ready-sound c.requires.underway.1.ready
+
+pub operate-requires-clause-lane : goal.operate-requires-clause-lane
+operate-requires-clause-lane c =
+    let u = c.requires.underway.1 in
+    omega (arith, c.requires.lane, u.each, u.ready.lanes, length-map c.args.lanes.now (λ (v : Vec Op Global). v.items))
+
+pub operate-requires-clause-op : goal.operate-requires-clause-op
+operate-requires-clause-op c =
     let setup = c.requires.underway.0 in
     let u = c.requires.underway.1 in
     let lanes = lists_of c.args.lanes.now in
     let within : c.args.lane < length lanes = (let lt = c.requires.lane in omega (arith, length-map c.args.lanes.now (λ (v : Vec Op Global). v.items))) in
     let op = next_op c in
-    op-of_heap setup (heap_view c.args.heap.now) c.index.result.now u.ready.fits (op-fits setup lanes c.args.lane c.len-done.result c.index.result.now u.ops within op.0 op.1)
+    op-of_heap setup c.args.running.now.heap c.index.result.now u.ready.fits (op-fits setup lanes c.args.lane c.len-done.result c.index.result.now u.ops within op.0 op.1)
 
 -- and its reply is kept
 kept : (c : goal.After-push_reserved) → IsKept (lists_of c.args.lanes.now) c.args.lane c.index.result.now c.in-Ok.reply c.args.replies.now c.push_reserved.new.self
@@ -75,26 +82,48 @@ kept c =
       capacity = c.push_reserved.ensures.capacity ∙ ap vec_capacity (sym c.index-replies-index-in-Ok.is);
     }
 
+-- the lane did it
+done : (c : goal.After-push_reserved) → Does c.args.lane c.index.result.now c.args.running.now c.in-Ok.reply c.operate.new.self
+done c =
+    let u = c.requires.underway.1 in
+    let lanes = lists_of c.args.lanes.now in
+    let within : c.args.lane < length lanes = (let lt = c.requires.lane in omega (arith, length-map c.args.lanes.now (λ (v : Vec Op Global). v.items))) in
+    let op = (kept c).at in
+    does-step c.args.lane c.index.result.now c.in-Ok.reply u.ready (omega (arith, within, u.each, u.ready.lanes))
+    (op-of_heap c.requires.underway.0 c.args.running.now.heap c.index.result.now u.ready.fits (op-fits c.requires.underway.0 lanes c.args.lane _ c.index.result.now u.ops within (kept c).less op))
+    c.operate.ensures.stays c.in-Ok.ensures.step
+
 pub returns-in-Ok-clause-runs : goal.returns-in-Ok-clause-runs
-returns-in-Ok-clause-runs c =
-    runs-step (lists_of c.args.lanes.now) c.args.holders.now (heap_view c.args.heap.now) (heap_view c.attempt.new.heap) c.args.serials.now c.attempt.new.serials c.args.replies.now c.args.lane c.index.result.now c.in-Ok.reply c.push_reserved.new.self (kept c) c.in-Ok.ensures.done c.attempt.ensures.ready
+returns-in-Ok-clause-runs c = runs-step (kept c) (done c) (λ setup ready. ready-step setup c.args.lane c.index.result.now c.operate.result c.operate.ensures.stays c.operate.ensures.sound c.operate.ensures.step c.operate.ensures.same ready)
 
 pub returns-in-Ok-clause-further : goal.returns-in-Ok-clause-further
-returns-in-Ok-clause-further c = λ e. one-more (lists_of c.args.lanes.now) c.args.replies.now c.args.lane c.index.result.now c.in-Ok.reply c.push_reserved.new.self (kept c)
+returns-in-Ok-clause-further c = λ e. one-more (kept c)
 
 pub returns-in-Err-clause-runs : goal.returns-in-Err-clause-runs
-returns-in-Err-clause-runs c =
-    runs-same (lists_of c.args.lanes.now) c.args.holders.now c.args.heap.now c.attempt.new.heap c.args.serials.now c.attempt.new.serials c.args.replies.now c.in-Err.ensures.same.0 c.in-Err.ensures.same.1
+returns-in-Err-clause-runs c = runs-same (lists_of c.args.lanes.now) c.args.running.now c.operate.new.self c.args.replies.now c.in-Err.ensures.same
+
+pub returns-in-Err-clause-alone : goal.returns-in-Err-clause-alone
+returns-in-Err-clause-alone c = λ none is.
+    let u = c.requires.underway.1 in
+    let lt = c.requires.lane in
+    absurd (never-stops c.args.lane c.index.result.now (Err c.in-Err.field-0) u.ready (omega (arith, u.each, length-map c.args.lanes.now (λ (v : Vec Op Global). v.items))) none c.in-Err.ensures.nursery.0 c.in-Err.ensures.buffer)
+
+pub returns-in-Ok-clause-unrecorded : goal.returns-in-Ok-clause-unrecorded
+returns-in-Ok-clause-unrecorded c = λ none unrecorded. unrecorded-kept (c.operate.ensures.unrecorded none) c.operate.ensures.stays unrecorded
+
+pub returns-in-Err-clause-unrecorded : goal.returns-in-Err-clause-unrecorded
+returns-in-Err-clause-unrecorded c = λ none unrecorded. unrecorded-kept (c.operate.ensures.unrecorded none) c.operate.ensures.stays unrecorded
 
 pub returns-in-Ok-clause-others : goal.returns-in-Ok-clause-others
 returns-in-Ok-clause-others c = record {
-  chunk = c.attempt.ensures.others;
-  buffer = c.attempt.ensures.buffers;
+  chunk = λ l ne. (c.operate.ensures.stays.others l ne).0;
+  buffer = λ l ne. (c.operate.ensures.stays.others l ne).1;
   replies = λ l ne. told-other c.args.replies.now c.args.lane l c.push_reserved.new.self ne;
+  held = c.operate.ensures.stays.holders;
 }
 
 pub returns-in-Err-clause-others : goal.returns-in-Err-clause-others
-returns-in-Err-clause-others c = leaves-same c.args.lane c.args.heap.now c.attempt.new.heap (lists_of c.args.replies.now) c.in-Err.ensures.same.0
+returns-in-Err-clause-others c = leaves-same c.args.lane c.args.running.now c.operate.new.self (lists_of c.args.replies.now) c.in-Err.ensures.same
 
 pub returns-in-Err-clause-stopped : goal.returns-in-Err-clause-stopped
 returns-in-Err-clause-stopped c = λ e.
@@ -112,5 +141,5 @@ returns-in-Err-clause-stopped c = λ e.
       op,
       omega arith,
       of_lane-at lanes lane c.len-done.result c.index-lanes-index-2.result op lt c.index-lanes-index-2.is c.index.ensures ∙ ap (λ n. get_or (of_lane (lists_of lanes) lane) n op) (sym done),
-      subst (λ (x : Heap). Stops c.args.holders.now lane op (heap_view x)) (sym c.in-Err.ensures.same.0) c.in-Err.ensures.stops,
+      subst (Stops lane op) (sym c.in-Err.ensures.same) (why-stopped _ _ (Err c.in-Err.field-0) c.in-Err.ensures.nursery.0 c.in-Err.ensures.buffer),
     )

@@ -1,13 +1,12 @@
 use Rattle.std.proofs.Common.{◌-◌, length}
 use Rattle.bc_model.specs.Lists.{lists_of}
-use Rattle.bc_cycle.specs.Emptying.{heap_view}
 use Rattle.bc_engine.specs.Lanes.{of_lane, LeavesOthers, LanesRan}
 use Rattle.bc_engine.proofs.lanes.run_lane.Given as goal
 
 abbrev pub invariant-operations : goal.invariant-operations
 invariant-operations l = record {
-  runs : LanesRan (lists_of l.lanes) l.holders (heap_view l.initial.heap) l.initial.serials l.initial.replies (heap_view l.heap) l.serials l.replies;
-  others : LeavesOthers l.lane (heap_view l.initial.heap) (lists_of l.initial.replies) (heap_view l.heap) (lists_of l.replies);
+  runs : LanesRan (lists_of l.lanes) l.initial.running l.initial.replies l.running l.replies;
+  others : LeavesOthers l.lane l.initial.running (lists_of l.initial.replies) l.running (lists_of l.replies);
 }
 
 abbrev pub decreases-operations : goal.decreases-operations

@@ -1,13 +1,12 @@
 use Rattle.std.proofs.Common.{refl, ◌≢◌, ◌∙◌, ap, arith}
 use Rattle.bc_model.specs.Lists.{lists_of}
 use Rattle.bc_nursery.specs.Objects.{Nursery}
-use Rattle.bc_cycle.specs.Emptying.{heap_view}
 use Rattle.bc_engine.proofs.RunLemmas.{runs-same, runs-then, each-further}
 use Rattle.bc_engine.proofs.lanes.step_lanes.Goals as goal
 
 pub loop-lane-init : goal.loop-lane-init
 loop-lane-init c = record {
-  runs = runs-same (lists_of c.args.lanes.now) c.args.holders.now c.args.heap.now c.args.heap.now c.args.serials.now c.args.serials.now c.args.replies.now refl refl;
+  runs = runs-same (lists_of c.args.lanes.now) c.args.running.now c.args.running.now c.args.replies.now refl;
   unrecorded = c.requires.unrecorded;
   empty = λ n le. c.requires.empty n;
   each = λ j lt. absurd (omega arith);
@@ -20,7 +19,7 @@ loop-lane-preserved c =
     let before = c.loop-lane.invariant in
     let here = before.empty lane (omega arith) in
     record {
-      runs = runs-then (lists_of c.args.lanes.now) c.args.holders.now (heap_view c.args.heap.now) (heap_view c.loop-lane.heap) (heap_view c.advance-further.new.heap) c.args.serials.now c.loop-lane.serials c.advance-further.new.serials c.args.replies.now c.loop-lane.replies c.advance-further.new.replies before.runs e.runs;
+      runs = runs-then before.runs e.runs;
       unrecorded = e.unrecorded here before.unrecorded;
       empty = λ n le.
           let ne : n ≢ lane = omega arith in

@@ -2,14 +2,13 @@ use Rattle.std.proofs.Common.{◌≡◌, ℕ, ◌≤◌, []}
 use Rattle.bc_whole_heap.specs.Closed.{chunk_of}
 use Rattle.bc_model.specs.Lists.{lists_of}
 use Rattle.bc_engine.specs.Engines.{IsUnrecorded}
-use Rattle.bc_cycle.specs.Emptying.{heap_view}
 use Rattle.bc_engine.specs.Lanes.{EachFurther, LanesRan}
 use Rattle.bc_engine.proofs.lanes.step_lanes.Given as goal
 
 abbrev pub invariant-loop-lane : goal.invariant-loop-lane
 invariant-loop-lane l = record {
-  runs : LanesRan (lists_of l.lanes) l.holders (heap_view l.initial.heap) l.initial.serials l.initial.replies (heap_view l.heap) l.serials l.replies;
-  unrecorded : IsUnrecorded (heap_view l.heap);
-  empty : (n : ℕ) → l.lane ≤ n → (chunk_of l.heap.chunks.items n).objects ≡ [];
+  runs : LanesRan (lists_of l.lanes) l.initial.running l.initial.replies l.running l.replies;
+  unrecorded : IsUnrecorded l.running.heap;
+  empty : (n : ℕ) → l.lane ≤ n → (chunk_of l.running.heap.chunks n).objects ≡ [];
   each : EachFurther l.lane (lists_of l.lanes) (lists_of l.initial.replies) (lists_of l.replies);
 }

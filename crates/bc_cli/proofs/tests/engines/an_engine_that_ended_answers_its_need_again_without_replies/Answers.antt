@@ -19,6 +19,6 @@ pub phase-requires-2-clause-births : goal.phase-requires-2-clause-births
 phase-requires-2-clause-births g c κs = λ j.
     let few = c.in_ok-phase.ensures.few j in
     let before = births-opened (record { lanes = 2; domains = 2; slots = 1; superpages = 1; nursery = 1; buffer = 4; frames = 4 }) c.in_ok-engine.engine 4 (omega arith) c.in_ok-engine.ensures.opening j in
-    let given : get_or c.give.new.self.serials j 0 ≡ get_or c.in_ok-engine.engine.serials j 0 = ap (λ (e : EngineView). get_or e.serials j 0) c.give.ensures.same in
+    let given : get_or c.give.new.self.running.serials j 0 ≡ get_or c.in_ok-engine.engine.running.serials j 0 = ap (λ (e : EngineView). get_or e.running.serials j 0) c.give.ensures.same in
     let after = c.phase-2.ensures.births j in
     omega (arith, few, before, given, after)

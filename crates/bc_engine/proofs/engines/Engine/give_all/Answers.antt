@@ -35,10 +35,10 @@ pub give-requires-clause-alive : goal.give-requires-clause-alive
 give-requires-clause-alive c = subst (λ (e : EngineView). e.ended ≢ Some NoMemory) (sym c.loop-give.invariant.same) c.requires.alive
 
 pub give-requires-clause-unrecorded : goal.give-requires-clause-unrecorded
-give-requires-clause-unrecorded c = subst (λ (e : EngineView). IsUnrecorded e.heap) (sym c.loop-give.invariant.same) c.requires.unrecorded
+give-requires-clause-unrecorded c = subst (λ (e : EngineView). IsUnrecorded e.running.heap) (sym c.loop-give.invariant.same) c.requires.unrecorded
 
 pub give-requires-clause-empty : goal.give-requires-clause-empty
-give-requires-clause-empty c = subst (λ (e : EngineView). HasEmptyChunks e.heap) (sym c.loop-give.invariant.same) c.requires.empty
+give-requires-clause-empty c = subst (λ (e : EngineView). HasEmptyChunks e.running.heap) (sym c.loop-give.invariant.same) c.requires.empty
 
 -- the give fits the engine's setup, which stays
 pub give-requires-clause-domain : goal.give-requires-clause-domain

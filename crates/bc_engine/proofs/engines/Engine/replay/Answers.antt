@@ -25,7 +25,7 @@ returns-in-Ok-clause-done g c =
     (record { engine = c.facts.ensures; phase = c.requires.phase; room = c.requires.room })
     (ap lists_of c.deref.ensures.value ∙ ap (λ (p : PhaseLists). p.lanes) c.phase.view_is) c.deref_mut.ensures.value
     (take_at c.rounds.new.replies _ c.args.replies.len (omega arith))
-    c.rounds.ensures.same.0 (omega (arith, c.requires.long)) c.in-Ok.ensures.on c.in-Ok.ensures.through
+    (omega (arith, c.requires.long)) c.in-Ok.ensures.on c.in-Ok.ensures.through
     (λ s st. subst (λ gs. EngineStands c.give_all.new.self (after_gives s gs)) gives (c.give_all.ensures.given s st))
     c.give_all.ensures.same c.room_facts.ensures
 
@@ -33,7 +33,7 @@ pub returns-in-Ok-clause-births : goal.returns-in-Ok-clause-births
 returns-in-Ok-clause-births g c = λ j.
     let few = births-lent c.args.self.now c.rounds.new.self c.args.phase.now (lists_of c.deref.result.now) c.deref_mut.result.now c.rounds.new.replies
     (ap lists_of c.deref.ensures.value ∙ ap (λ (p : PhaseLists). p.lanes) c.phase.view_is) c.rounds.ensures.births j in
-    omega (arith, few, ap (λ (e : EngineView). get_or e.serials j 0) c.give_all.ensures.same)
+    omega (arith, few, ap (λ (e : EngineView). get_or e.running.serials j 0) c.give_all.ensures.same)
 
 pub returns-in-Err-OutOfHeap-clause-cut : goal.returns-in-Err-OutOfHeap-clause-cut
 returns-in-Err-OutOfHeap-clause-cut g c =
@@ -47,7 +47,7 @@ returns-in-Err-OutOfHeap-clause-cut g c =
     c.facts-in-Err-OutOfHeap.ensures
     (ap lists_of c.deref.ensures.value ∙ ap (λ (p : PhaseLists). p.lanes) c.phase.view_is) c.deref_mut.ensures.value
     (take_at c.rounds.new.replies _ c.args.replies.len (omega arith))
-    c.rounds.ensures.same.0 (omega (arith, c.requires.long))
+    (omega (arith, c.requires.long))
     (small-at (Unit {0}) (IsTooSmall os c.args.self.now c.deref_mut.result.now c.rounds.new.self c.rounds.new.replies) c.in-Err-OutOfHeap.field-0 c.in-Err-OutOfHeap.need c.in-Err-OutOfHeap.field-0-is c.in-Err-OutOfHeap.ensures.cut))
 
 pub returns-in-Err-OutOfHeap-clause-births : goal.returns-in-Err-OutOfHeap-clause-births

@@ -14,14 +14,13 @@ rounds-init g c = record {
 
 pub rounds-preserved : goal.rounds-preserved
 rounds-preserved g c =
-    let lanes = lists_of c.args.lanes.now in
     let before = c.rounds.invariant in
     let round = c.round.ensures in
     record {
       same = (round.same.0 ∙ before.same.0, round.same.1 ∙ before.same.1, round.same.2 ∙ before.same.2);
       births = λ j. omega (arith, round.births j, before.births j);
-      on = on-then lanes c.args.self.now c.rounds.self c.round.new.self c.args.replies.now c.rounds.replies c.round.new.replies before.same.0 before.on c.in_ok-round.ensures.on;
-      underway = underway-then lanes c.rounds.self c.round.new.self c.rounds.replies c.round.new.replies round.same.0 round.same.1 c.in_ok-round.ensures.on before.underway;
+      on = on-then before.on c.in_ok-round.ensures.on;
+      underway = underway-then round.same.1 c.in_ok-round.ensures.on before.underway;
     }
 
 pub returns-then-branch-clause-births : goal.returns-then-branch-clause-births
@@ -29,8 +28,7 @@ returns-then-branch-clause-births g c = λ j. omega (arith, c.round.ensures.birt
 
 pub returns-then-branch-clause-on : goal.returns-then-branch-clause-on
 returns-then-branch-clause-on g c =
-    on-then (lists_of c.args.lanes.now) c.args.self.now c.rounds.self c.round.new.self c.args.replies.now c.rounds.replies c.round.new.replies
-    c.rounds.invariant.same.0 c.rounds.invariant.on c.in_ok-round.ensures.on
+    on-then c.rounds.invariant.on c.in_ok-round.ensures.on
 
 pub returns-in_err-round-clause-births : goal.returns-in_err-round-clause-births
 returns-in_err-round-clause-births g c = λ j. omega (arith, c.round.ensures.births j, c.rounds.invariant.births j)
@@ -39,5 +37,4 @@ pub returns-in_err-round-clause-cut : goal.returns-in_err-round-clause-cut
 returns-in_err-round-clause-cut g c =
     let p = err_from_is_err_and c.from_residual.result c.from_residual.ensures.1 in
     rw p.1 (rw p.2
-    (small-then Bool (Unit {0}) (lists_of c.args.lanes.now) c.args.self.now c.rounds.self c.round.new.self c.args.replies.now c.rounds.replies c.round.new.replies _
-    c.rounds.invariant.same.0 c.rounds.invariant.on c.in_err-round.ensures.cut))
+    (small-then Bool (Unit {0}) c.round.new.self c.round.new.replies _ c.rounds.invariant.on c.in_err-round.ensures.cut))

@@ -6,8 +6,8 @@ use Rattle.bc_engine.proofs.engines.Engine.rounds.Given as goal
 
 abbrev pub invariant-rounds : goal.invariant-rounds
 invariant-rounds g l = record {
-  same : (l.self.holders ≡ l.initial.self.holders) × (l.self.setup ≡ l.initial.self.setup) × (l.self.workers ≡ l.initial.self.workers);
-  births : BirthsWithin (lists_of l.lanes) l.initial.self.serials (lists_of l.initial.replies) l.self.serials (lists_of l.replies);
+  same : (l.self.running.holders ≡ l.initial.self.running.holders) × (l.self.setup ≡ l.initial.self.setup) × (l.self.workers ≡ l.initial.self.workers);
+  births : BirthsWithin (lists_of l.lanes) l.initial.self.running.serials (lists_of l.initial.replies) l.self.running.serials (lists_of l.replies);
   on : RoundsWentOn (lists_of l.lanes) l.initial.self l.initial.replies l.self l.replies;
   underway : IsUnderwayOn l.self (lists_of l.lanes) l.replies;
 }

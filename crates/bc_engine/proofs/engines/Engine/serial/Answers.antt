@@ -1,12 +1,10 @@
-use Rattle.std.proofs.Common.{arith}
-use Rattle.std.proofs.lemmas.List.{take_at}
-use Rattle.bc_cycle.specs.Emptying.{heap_view}
-use Rattle.bc_engine.proofs.Sizes.{ready-through}
+use Rattle.std.proofs.Common.{Err}
+use Rattle.bc_engine.proofs.Attempts.{ready-sound, ready-step, never-stops, unrecorded-kept}
 use Rattle.bc_engine.proofs.engines.Engine.serial.Goals as goal
 
 pub invariant_of-self : goal.invariant_of-self
 invariant_of-self c =
-    let e = c.attempt.ensures in
+    let e = c.operate.ensures in
     let empty = rw (← c.self.view_is) at c.requires.empty in
     let unrecorded = rw (← c.self.view_is) at c.requires.unrecorded in
     record {
@@ -14,12 +12,20 @@ invariant_of-self c =
           let old = c.self.invariant.alive alive in
           record {
             workers = old.workers;
-            ready = ready-through c.self.inside.setup c.self.inside.holders.items c.deref.result.now c.self.inside.serials.items c.deref_mut.result.now c.attempt.new.serials _
-                (heap_view c.self.inside.heap) (heap_view c.attempt.new.heap)
-                c.deref.ensures.value c.deref_mut.ensures.value
-                (take_at c.attempt.new.serials _ c.self.inside.serials.len (let len = c.deref_mut.ensures.len in let same = c.attempt.auto.serials in omega arith))
-                e.ready old.ready;
-            going = λ going. e.unrecorded empty unrecorded;
+            ready = ready-step c.self.inside.setup c.args.lane c.args.op.now c.operate.result e.stays e.sound e.step e.same old.ready;
+            going = λ going. unrecorded-kept (e.unrecorded empty) e.stays unrecorded;
           };
       unanswered = c.self.invariant.unanswered;
     }
+
+pub operate-requires-clause-sound : goal.operate-requires-clause-sound
+operate-requires-clause-sound c =
+    let going = rw (← c.self.view_is) at c.requires.going in
+    ready-sound (c.self.invariant.alive going).ready
+
+pub unreachable-requires : goal.unreachable-requires
+unreachable-requires c =
+    let going = rw (← c.self.view_is) at c.requires.going in
+    let empty = rw (← c.self.view_is) at c.requires.empty in
+    let lane = rw (← c.self.view_is) at c.requires.lane in
+    never-stops c.args.lane c.args.op.now (Err c.in-Err.field-0) (c.self.invariant.alive going).ready lane empty c.in-Err.ensures.nursery.0 c.in-Err.ensures.buffer

@@ -1,0 +1,12 @@
+-- The engine that contracts see.
+use Rattle.bc_engine.specs.Engines.{EngineView}
+use Rattle.bc_engine.specs.declared.engines.Engine.TheInside.{Inside}
+
+abbrev pub engine_of : Inside → EngineView
+engine_of e = record {
+  running = e.running;
+  setup = e.setup;
+  workers = e.workers;
+  ended = e.ended;
+  answers = e.answers.items;
+}

@@ -1,0 +1,10 @@
+-- The parts of a lane that are taken out of a whole heap and put back.
+pub mod WholeLemmas
+-- A heap that is running is such as the fail-safe collection is given.
+pub mod ReadyLemmas
+-- A heap that was collected is running.
+pub mod CollectedLemmas
+-- A heap that lanes run on stays in order: after an operation, after a collection and after an emptying.
+pub mod SoundLemmas
+-- What a run begins with is in order.
+pub mod OpeningLemmas

@@ -1,0 +1,81 @@
+-- A heap that lanes run on stays in order: after an operation, after a collection and after an emptying.
+use Rattle.std.proofs.Common.{◌≡◌, ◌≢◌, ℕ, ◌<◌, List, length, get_or, set, Result, Ok, Err, sym, ap, subst, ◌∙◌, inl, inr, arith}
+use Rattle.std.proofs.lemmas.Bool.{cases_eq}
+use Rattle.std.proofs.lemmas.List.{get_or-set_same, get_or-set_other, length-set, length-map}
+use Rattle.bc_cycle.specs.Causes.{IfOutOfHeap}
+use Rattle.bc_cycle.specs.Emptying.{IsEmptied, IsAsBefore}
+use Rattle.bc_cycle.specs.declared.emptying.CycleNo.{CycleNo}
+use Rattle.bc_cycle.specs.declared.emptying.CycleNo.TheVariants.{OutOfHeap, NoMemory}
+use Rattle.bc_whole_heap.specs.Heaps.{HasFrames, HeapView, Fixed}
+use Rattle.bc_whole_heap.specs.Running.{IsRunning}
+use Rattle.bc_memory.specs.Memory.{Memory}
+use Rattle.bc_mutator.specs.Operations.{NoneLater}
+use Rattle.bc_nursery.specs.Objects.{emptied}
+use Rattle.bc_standing.specs.Standing.{births}
+use Rattle.bc_running.specs.Running.{IsSound, Collects, RunningView, running_of}
+
+-- after a collection
+pub sound-collected : (r : RunningView) (k : HeapView) → IsSound r → Collects r.heap k r.holders → IsSound (running_of k r.holders r.serials)
+sound-collected r k h c = record {
+  running = c.running;
+  later = λ l lt a b there lane. let from = c.born a b there in h.later l lt from.0 b from.1 lane;
+  frames = c.frames h.frames;
+  lanes = c.lanes ∙ h.lanes;
+  few = h.few;
+}
+
+-- what an operation leaves
+pub record Operates (r : RunningView) (lane : ℕ) (k : HeapView) (n : ℕ) : Type 0 where
+  pub running : NoneLater r.heap.space r.heap.chunks lane (get_or r.serials lane 0) → IsRunning k r.holders
+  pub later : NoneLater r.heap.space r.heap.chunks lane (get_or r.serials lane 0) → NoneLater k.space k.chunks lane n
+  pub others : (l m : ℕ) → l ≢ lane → NoneLater r.heap.space r.heap.chunks l m → NoneLater k.space k.chunks l m
+  pub space : k.space ≡ record r.heap.space { states = k.space.states; pages = k.space.pages }
+  pub long : length k.chunks ≡ length r.heap.chunks
+
+pub sound-operated : (r : RunningView) (lane : ℕ) (k : HeapView) (n : ℕ) → lane < length r.serials → IsSound r → Operates r lane k n → IsSound (running_of k r.holders (set r.serials lane n))
+sound-operated r lane k n within h o = record {
+  running = o.running (h.later lane within);
+  later = later;
+  frames = subst HasFrames (sym o.space) h.frames;
+  lanes = o.long ∙ h.lanes ∙ sym (length-set r.serials lane n);
+  few = let same = length-set r.serials lane n in let few = h.few in omega arith;
+}
+  where
+    later : (l : ℕ) → l < length (set r.serials lane n) → NoneLater k.space k.chunks l (get_or (set r.serials lane n) l 0)
+    later l lt = elim (cases_eq l lane) [
+      | inl e ↦
+          subst (λ (x : ℕ). NoneLater k.space k.chunks x (get_or (set r.serials lane n) x 0)) (sym e)
+          (subst (λ (m : ℕ). NoneLater k.space k.chunks lane m) (sym (get_or-set_same r.serials lane n 0 within)) (o.later (h.later lane within)))
+      | inr ne ↦
+          subst (λ (m : ℕ). NoneLater k.space k.chunks l m) (sym (get_or-set_other r.serials lane l n 0 ne))
+          (o.others l (get_or r.serials l 0) ne (h.later l (let same = length-set r.serials lane n in omega arith)))
+    ]
+
+-- an emptying leaves what a collection does, and so does one that was refused
+emptied-collects : (h k : HeapView) (hs : List ℕ) → IsRunning h hs → IsEmptied h k → Collects h k hs
+emptied-collects h k hs order is = record {
+  running = is.order hs order;
+  born = is.born;
+  frames = λ f. let supers = is.sizes.supers in let frames = ap (λ (x : Fixed). x.frames) is.sizes.fixed in let nursery = ap (λ (x : Fixed). x.nursery) is.sizes.fixed in omega arith;
+  lanes = ap length is.cleared ∙ length-map h.chunks emptied;
+}
+
+before-collects : (h k : HeapView) (hs : List ℕ) → IsRunning h hs → IsAsBefore h k → Collects h k hs
+before-collects h k hs order is = record {
+  running = is.order hs order;
+  born = λ x b e. (x, ap (λ (m : Memory). births m x) (sym is.memory) ∙ e);
+  frames = λ f. let supers = is.sizes.supers in let frames = ap (λ (x : Fixed). x.frames) is.sizes.fixed in let nursery = ap (λ (x : Fixed). x.nursery) is.sizes.fixed in omega arith;
+  lanes = sym (is.order hs order).closed.lanes ∙ ap length is.entries ∙ order.closed.lanes;
+}
+
+pub sound-emptied : (r : RunningView) (k : HeapView) → IsSound r → IsEmptied r.heap k → IsSound (running_of k r.holders r.serials)
+sound-emptied r k h is = sound-collected r k h (emptied-collects r.heap k r.holders h.running is)
+
+pub sound-refused : (r : RunningView) (k : HeapView) → IsSound r → IsAsBefore r.heap k → IsSound (running_of k r.holders r.serials)
+sound-refused r k h is = sound-collected r k h (before-collects r.heap k r.holders h.running is)
+
+-- what a heap that is too small has in one way it has in another
+pub too-small-weaker : {T : Type 0} (r : Result T CycleNo) (P Q : ℕ → Type 0) → ((need : ℕ) → P need → Q need) → IfOutOfHeap r P → IfOutOfHeap r Q
+too-small-weaker (Ok x) P Q f h = tt
+too-small-weaker (Err (OutOfHeap need)) P Q f h = f need h
+too-small-weaker (Err NoMemory) P Q f h = tt

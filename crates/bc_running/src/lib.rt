@@ -1,0 +1,20 @@
+// A heap that lanes run on, as one value: the engine replays phases on one, and tests and benches work on one by hand.
+//
+// A `Running` is a heap with what the lanes need beside it: the lane that holds each domain, and how many objects each lane has
+// made, by which it numbers the next one. A lane does an operation on it (`operate`), a domain changes hands (`give`), the
+// nurseries are emptied (`empty_nursery`), and the whole heap is collected by the fail-safe (`collect`).
+//
+// What is true of it between calls is `IsSound`: the heap is running (`IsRunning` in `bc_whole_heap`), no object in it has a later
+// birth of a lane than the lane's count, and there is a frame for every page. Each call asks for it and leaves it; only a want of
+// memory loses the heap.
+//
+// The theorem is that of the crates below, told of the value as a whole. An operation is the step of every state that the heap
+// stands for (`RunningStands`), a collection keeps what it stands for, and what isn't the lane's stays (`StaysBut`).
+#![tactic(auto)]
+
+mod collecting;
+mod operating;
+mod running;
+mod whole;
+
+pub use running::Running;
