@@ -12,12 +12,7 @@ use bc_running::Running;
 
 /// Does the next operation of a lane and keeps its reply. It answers `false` where the lane is at its end, or its operation
 /// stops; then nothing has changed.
-fn advance(
-    running: &mut Running,
-    lanes: &[Vec<Op>],
-    replies: &mut [Vec<Reply>],
-    lane: u32,
-) -> bool
+fn advance(running: &mut Running, lanes: &[Vec<Op>], replies: &mut [Vec<Reply>], lane: u32) -> bool
     requires lane { lane < length lanes.now }
     requires underway { (setup : Setup) × IsUnderway setup (lists_of lanes.now) running.old replies.old }
     ensures runs { LanesRan (lists_of lanes.now) running.old replies.old running.new replies.new }
@@ -43,12 +38,7 @@ fn advance(
 }
 
 /// Does operations of a lane until it is at its end, or one stops.
-fn run_lane(
-    running: &mut Running,
-    lanes: &[Vec<Op>],
-    replies: &mut [Vec<Reply>],
-    lane: u32,
-)
+fn run_lane(running: &mut Running, lanes: &[Vec<Op>], replies: &mut [Vec<Reply>], lane: u32)
     requires lane { lane < length lanes.now }
     requires underway { (setup : Setup) × IsUnderway setup (lists_of lanes.now) running.old replies.old }
     ensures runs { LanesRan (lists_of lanes.now) running.old replies.old running.new replies.new }
@@ -59,11 +49,7 @@ fn run_lane(
 }
 
 /// Does operations of each lane, in the order of the lanes, until it is at its end or one stops.
-pub(crate) fn run_lanes(
-    running: &mut Running,
-    lanes: &[Vec<Op>],
-    replies: &mut [Vec<Reply>],
-)
+pub(crate) fn run_lanes(running: &mut Running, lanes: &[Vec<Op>], replies: &mut [Vec<Reply>])
     requires { (setup : Setup) × IsUnderway setup (lists_of lanes.now) running.old replies.old }
     ensures runs { LanesRan (lists_of lanes.now) running.old replies.old running.new replies.new }
     ensures stopped { (j : ℕ) → j < length lanes.now
@@ -76,11 +62,7 @@ pub(crate) fn run_lanes(
 
 /// Does one operation of each lane that isn't at its end, in the order of the lanes. All chunks and write buffers are empty, so
 /// none stops.
-pub(crate) fn step_lanes(
-    running: &mut Running,
-    lanes: &[Vec<Op>],
-    replies: &mut [Vec<Reply>],
-)
+pub(crate) fn step_lanes(running: &mut Running, lanes: &[Vec<Op>], replies: &mut [Vec<Reply>])
     requires underway { (setup : Setup) × IsUnderway setup (lists_of lanes.now) running.old replies.old }
     requires empty { HasEmptyChunks running.old.heap }
     requires unrecorded { IsUnrecorded running.old.heap }

@@ -23,7 +23,7 @@ use Rattle.bc_word.specs.declared.addresses.Address.{Address}
 use Rattle.bc_word.specs.declared.heads.Head.{Head}
 use Rattle.bc_word.specs.declared.words.Word.TheVariants.{Nil, Ref}
 use Rattle.bc_mutator.specs.Effects.{Answers, DidAct, HasChanged, HasRecorded, with_root}
-use Rattle.bc_mutator.specs.Objects.{memory_of, own_chunk, slot_word}
+use Rattle.bc_mutator.specs.Objects.{whole_memory, own_chunk, slot_word}
 use Rattle.bc_mutator.specs.Operations.{setup_of}
 use Rattle.bc_mutator.specs.Parts.{IsPartOf, Sees, Serves}
 use Rattle.bc_mutator.proofs.MeaningLemmas.{own-slot}
@@ -85,7 +85,7 @@ act-clear {hs = hs} {lane = lane} {op = op} {h = h} new serial p reply s e held 
       did-as h (record h { roots = with_root h.roots p Nil }) hs lane serial serial op (Clear p) reply e
           (done-root h (with_root h.roots p Nil) hs lane serial p Nil (Clear p) reply s.ready refl t.fits.1 (held-first hs lane p.domain [] one)
           (own-nil h.space (own_chunk h lane)) tt
-          (λ serials state means. (value.Nil, nil-read (memory_of h) state, ap (λ (r : Reply). (with_slot state p value.Nil, r)) (sym done))) (refl, refl) refl),
+          (λ serials state means. (value.Nil, nil-read (whole_memory h) state, ap (λ (r : Reply). (with_slot state p value.Nil, r)) (sym done))) (refl, refl) refl),
     )
 
 -- an object more

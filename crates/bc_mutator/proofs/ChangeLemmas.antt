@@ -20,7 +20,7 @@ use Rattle.bc_word.specs.Heads.{fields_of_bits}
 use Rattle.bc_word.specs.declared.addresses.Address.{Address}
 use Rattle.bc_word.specs.declared.words.Word.{Word}
 use Rattle.bc_mutator.specs.Effects.{ChangesField, HasChanged, Wrote}
-use Rattle.bc_mutator.specs.Objects.{MayOperate, cell_of, memory_of, own_chunk, slot_word}
+use Rattle.bc_mutator.specs.Objects.{MayOperate, cell_of, whole_memory, own_chunk, slot_word}
 use Rattle.bc_mutator.proofs.ObjectLemmas.{cell_of-above, cell_of-below, memory-there, there-above}
 use Rattle.bc_mutator.proofs.WritingLemmas.{CanWrite, written-memory}
 
@@ -41,7 +41,7 @@ filled h hs lane a ready there = elim (cases_lt a (end_of h.space)) [
 ]
 
 -- a field that is written
-pub written-changes : (h k : HeapView) (hs : List ℕ) (lane : ℕ) (p : Slot) (target : Word) (at : Address) (index : ℕ) (word : Word) → CanWrite h hs lane target at index word → target ≡ slot_word h.roots p → Wrote h k lane at index word → ChangesField hs lane (memory_of h) (memory_of k) h.roots p index word Done
+pub written-changes : (h k : HeapView) (hs : List ℕ) (lane : ℕ) (p : Slot) (target : Word) (at : Address) (index : ℕ) (word : Word) → CanWrite h hs lane target at index word → target ≡ slot_word h.roots p → Wrote h k lane at index word → ChangesField hs lane (whole_memory h) (whole_memory k) h.roots p index word Done
 written-changes h k hs lane p target at index word can e wrote =
     let long = filled h hs lane at.0 can.ready can.of.there in
     let few = can.less in
@@ -64,7 +64,7 @@ not-done reply (inl e) f = cc
 not-done reply (inr (inl e)) f = cc
 not-done reply (inr (inr e)) f = cc
 
-pub refused-changes : (h : HeapView) (hs : List ℕ) (lane : ℕ) (p : Slot) (index : ℕ) (word : Word) (reply : Reply) → IsRefusal reply → ChangesField hs lane (memory_of h) (memory_of h) h.roots p index word reply
+pub refused-changes : (h : HeapView) (hs : List ℕ) (lane : ℕ) (p : Slot) (index : ℕ) (word : Word) (reply : Reply) → IsRefusal reply → ChangesField hs lane (whole_memory h) (whole_memory h) h.roots p index word reply
 refused-changes h hs lane p index word reply refusal = inr (not-done reply refusal, refl)
 
 foreign-done : Foreign ≢ Done

@@ -29,7 +29,7 @@ use Rattle.bc_word.specs.Words.{word_of_bits}
 use Rattle.bc_word.specs.declared.addresses.Address.{Address}
 use Rattle.bc_word.specs.declared.words.Word.{Word}
 use Rattle.bc_word.specs.declared.words.Word.TheVariants as word
-use Rattle.bc_mutator.specs.Objects.{IsOwn, MayOperate, IsRead, IsOfLane, ActsOn, Refuses, ActsOnField, RefusesField, memory_of, own_chunk, cell_of, slot_word}
+use Rattle.bc_mutator.specs.Objects.{IsOwn, MayOperate, IsRead, IsOfLane, ActsOn, Refuses, ActsOnField, RefusesField, whole_memory, own_chunk, cell_of, slot_word}
 use Rattle.bc_mutator.proofs.ObjectLemmas.{memory-there}
 
 -- a root slot stands where the state's slot does
@@ -112,16 +112,16 @@ pub acts-on : (h : HeapView) (hs : List ℕ) (lane : ℕ) (w : Word) (a : Addres
 acts-on h hs lane w a ready e there held = λ serials state v means read next.
     let c = cell_of h.space (own_chunk h lane) a.0 in
     let at = memory-there h.space h.chunks lane a.0 ready.layout ready.apart ready.lane_within there in
-    let home = home-ref (memory_of h) (root_words h.roots) state w v a c means.stands e at read in
-    on_object-held state lane v (birth_of c.head) next (read-ref (memory_of h) state w v a c e at read)
+    let home = home-ref (whole_memory h) (root_words h.roots) state w v a c means.stands e at read in
+    on_object-held state lane v (birth_of c.head) next (read-ref (whole_memory h) state w v a c e at read)
     (holds-is state hs lane c.head.domain (object_of state.made (birth_of c.head)).domain means.held home.domain held)
 
 pub refuses-foreign : (h : HeapView) (hs : List ℕ) (lane : ℕ) (w : Word) (a : Address) → MayOperate h hs lane → w ≡ word.Ref a → IsCellOrYoung h.space (own_chunk h lane) a.0 → get_or hs (cell_of h.space (own_chunk h lane) a.0).head.domain 0 ≢ lane → Refuses h hs lane w reply.Foreign
 refuses-foreign h hs lane w a ready e there off = λ serials state v means read next.
     let c = cell_of h.space (own_chunk h lane) a.0 in
     let at = memory-there h.space h.chunks lane a.0 ready.layout ready.apart ready.lane_within there in
-    let home = home-ref (memory_of h) (root_words h.roots) state w v a c means.stands e at read in
-    on_object-foreign state lane v (birth_of c.head) next (read-ref (memory_of h) state w v a c e at read)
+    let home = home-ref (whole_memory h) (root_words h.roots) state w v a c means.stands e at read in
+    on_object-foreign state lane v (birth_of c.head) next (read-ref (whole_memory h) state w v a c e at read)
     (holds-not state hs lane c.head.domain (object_of state.made (birth_of c.head)).domain means.held home.domain off)
 
 -- the same of an operation on a field
@@ -129,7 +129,7 @@ pub acts-on_field : (h : HeapView) (hs : List ℕ) (lane i : ℕ) (w : Word) (a 
 acts-on_field h hs lane i w a ready of acts lt = λ serials state v means read next.
     let c = cell_of h.space (own_chunk h lane) a.0 in
     let at = memory-there h.space h.chunks lane a.0 ready.layout ready.apart ready.lane_within of.there in
-    let home = home-ref (memory_of h) (root_words h.roots) state w v a c means.stands of.refers at read in
+    let home = home-ref (whole_memory h) (root_words h.roots) state w v a c means.stands of.refers at read in
     acts serials state v means read (λ b. if nat_lt i (length (object_of state.made b).fields) then next b else (state, reply.Range))
     ∙ held_if (nat_lt i (length (object_of state.made (birth_of c.head)).fields)) (next (birth_of c.head)) (state, reply.Range)
     (lt-ltb i (length (object_of state.made (birth_of c.head)).fields) (let n = home.count in omega arith))
@@ -138,7 +138,7 @@ pub refuses-range : (h : HeapView) (hs : List ℕ) (lane i : ℕ) (w : Word) (a 
 refuses-range h hs lane i w a ready of acts le = λ serials state v means read next.
     let c = cell_of h.space (own_chunk h lane) a.0 in
     let at = memory-there h.space h.chunks lane a.0 ready.layout ready.apart ready.lane_within of.there in
-    let home = home-ref (memory_of h) (root_words h.roots) state w v a c means.stands of.refers at read in
+    let home = home-ref (whole_memory h) (root_words h.roots) state w v a c means.stands of.refers at read in
     acts serials state v means read (λ b. if nat_lt i (length (object_of state.made b).fields) then next b else (state, reply.Range))
     ∙ other_if (nat_lt i (length (object_of state.made (birth_of c.head)).fields)) (next (birth_of c.head)) (state, reply.Range)
     (le-ltb i (length (object_of state.made (birth_of c.head)).fields) (let n = home.count in omega arith))

@@ -36,7 +36,7 @@ use Rattle.bc_word.specs.declared.addresses.Address.{Address}
 use Rattle.bc_word.specs.declared.words.Word.{Word}
 use Rattle.bc_word.specs.declared.words.Word.TheVariants as word
 use Rattle.bc_mutator.specs.Effects.{with_root, Answers, Leaves, HasRecorded, HasChanged, DoesAs, DidAct}
-use Rattle.bc_mutator.specs.Objects.{MayOperate, IsRead, IsOwn, IsOfLane, ActsOnField, RefusesField, memory_of, own_chunk, cell_of, slot_word, loaded_as}
+use Rattle.bc_mutator.specs.Objects.{MayOperate, IsRead, IsOwn, IsOfLane, ActsOnField, RefusesField, whole_memory, own_chunk, cell_of, slot_word, loaded_as}
 use Rattle.bc_mutator.proofs.MeaningLemmas.{same_place, read-nil, read-num, read-ref, read-field, home-ref}
 use Rattle.bc_mutator.proofs.ObjectLemmas.{there-below, there-above, cell_of-below, cell_of-above, memory-there}
 use Rattle.bc_mutator.proofs.TellingLemmas.{word-read, is-object}
@@ -182,7 +182,7 @@ pub done-answers : (h : HeapView) (hs : List ℕ) (lane serial : ℕ) (op : Op) 
 done-answers h hs lane serial op reply ready answers recorded changed = done-nothing (λ state. act state lane op) h hs lane serial op reply ready answers recorded changed
 
 -- so is one that writes a root slot
-pub done-root : (h : HeapView) (r : RootWords) (hs : List ℕ) (lane serial : ℕ) (p : Slot) (w : Word) (op : Op) (reply : Reply) → MayOperate h hs lane → r ≡ with_root h.roots p w → p.slot < h.roots.slots → get_or hs p.domain 0 ≡ lane → IsOwn h.space (own_chunk h lane) w → FitsWord w → ((serials : List ℕ) → (state : State) → StandsAs h hs serials state → (v : Value) × IsRead (memory_of h) state w v × (act state lane op ≡ (with_slot state p v, reply))) → HasRecorded h h hs lane op reply → HasChanged h h hs lane serial op reply → DidAct h (record h { roots = r }) hs lane serial serial op reply
+pub done-root : (h : HeapView) (r : RootWords) (hs : List ℕ) (lane serial : ℕ) (p : Slot) (w : Word) (op : Op) (reply : Reply) → MayOperate h hs lane → r ≡ with_root h.roots p w → p.slot < h.roots.slots → get_or hs p.domain 0 ≡ lane → IsOwn h.space (own_chunk h lane) w → FitsWord w → ((serials : List ℕ) → (state : State) → StandsAs h hs serials state → (v : Value) × IsRead (whole_memory h) state w v × (act state lane op ≡ (with_slot state p v, reply))) → HasRecorded h h hs lane op reply → HasChanged h h hs lane serial op reply → DidAct h (record h { roots = r }) hs lane serial serial op reply
 done-root h r hs lane serial p w op reply ready is within held own fits effect recorded changed = subst (λ (x : RootWords). DidAct h (record h { roots = x }) hs lane serial serial op reply) (sym is) (record {
   step = λ serials state means e.
       let k = effect serials state means in (
@@ -254,19 +254,19 @@ loaded-read m state (word.Num n) v h = ap loaded (read-num m state (word.Num n) 
 loaded-read m state (word.Ref a) v h = ap loaded (is-object m state (word.Ref a) v a refl h).1
 
 -- a load, where it is done: the field's word goes to the second slot
-pub load-effect : (h : HeapView) (hs serials : List ℕ) (lane i : ℕ) (p q : Slot) (w : Word) (a : Address) (reply : Reply) (state : State) → MayOperate h hs lane → w ≡ slot_word h.roots p → IsOfLane h hs lane w a → ActsOnField h hs lane w i a → reply ≡ loaded_as (get_or (cell_of h.space (own_chunk h lane) a.0).fields i word.Nil) → StandsAs h hs serials state → (v : Value) × IsRead (memory_of h) state (get_or (cell_of h.space (own_chunk h lane) a.0).fields i word.Nil) v × (act state lane (Load p i q) ≡ (with_slot state q v, reply))
+pub load-effect : (h : HeapView) (hs serials : List ℕ) (lane i : ℕ) (p q : Slot) (w : Word) (a : Address) (reply : Reply) (state : State) → MayOperate h hs lane → w ≡ slot_word h.roots p → IsOfLane h hs lane w a → ActsOnField h hs lane w i a → reply ≡ loaded_as (get_or (cell_of h.space (own_chunk h lane) a.0).fields i word.Nil) → StandsAs h hs serials state → (v : Value) × IsRead (whole_memory h) state (get_or (cell_of h.space (own_chunk h lane) a.0).fields i word.Nil) v × (act state lane (Load p i q) ≡ (with_slot state q v, reply))
 load-effect h hs serials lane i p q w a reply state ready e of acts is means =
     let c = cell_of h.space (own_chunk h lane) a.0 in
     let b = birth_of c.head in
     let read = word-read h hs serials state p w e means in
     let at = memory-there h.space h.chunks lane a.0 ready.layout ready.apart ready.lane_within of.there in
-    let home = home-ref (memory_of h) (root_words h.roots) state w (slot_of state p) a c means.stands of.refers at read in
-    let reached = read.reached b (read-ref (memory_of h) state w (slot_of state p) a c of.refers at read) in
-    let field = read-field (memory_of h) state b a.0 i c reached home in (
+    let home = home-ref (whole_memory h) (root_words h.roots) state w (slot_of state p) a c means.stands of.refers at read in
+    let reached = read.reached b (read-ref (whole_memory h) state w (slot_of state p) a c of.refers at read) in
+    let field = read-field (whole_memory h) state b a.0 i c reached home in (
       field_of state b i,
       field,
       acts serials state (slot_of state p) means read (λ x. (with_slot state q (field_of state x i), loaded (field_of state x i)))
-          ∙ ap (λ (r : Reply). let pair : State × Reply = (with_slot state q (field_of state b i), r) in pair) (loaded-read (memory_of h) state (get_or c.fields i word.Nil) (field_of state b i) field ∙ sym is),
+          ∙ ap (λ (r : Reply). let pair : State × Reply = (with_slot state q (field_of state b i), r) in pair) (loaded-read (whole_memory h) state (get_or c.fields i word.Nil) (field_of state b i) field ∙ sym is),
     )
 
 pub load-refuses : (h : HeapView) (hs : List ℕ) (lane i : ℕ) (p q : Slot) (w : Word) (r : Reply) → w ≡ slot_word h.roots p → RefusesField h hs lane w i r → Answers h hs lane (Load p i q) r

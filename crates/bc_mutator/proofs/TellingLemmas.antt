@@ -22,23 +22,23 @@ use Rattle.bc_word.specs.declared.heads.Head.{Head}
 use Rattle.bc_word.specs.declared.words.Word.{Word}
 use Rattle.bc_word.specs.declared.words.Word.TheVariants as word
 use Rattle.bc_mutator.specs.Effects.{Answers}
-use Rattle.bc_mutator.specs.Objects.{MayOperate, IsRead, IsOfLane, ActsOn, Refuses, memory_of, own_chunk, cell_of, slot_word}
+use Rattle.bc_mutator.specs.Objects.{MayOperate, IsRead, IsOfLane, ActsOn, Refuses, whole_memory, own_chunk, cell_of, slot_word}
 use Rattle.bc_mutator.proofs.MeaningLemmas.{read-slot, read-nil, read-num, home-ref}
 use Rattle.bc_mutator.proofs.ObjectLemmas.{memory-there}
 
 -- a word that a slot has is read as its value
-pub word-read : (h : HeapView) (hs serials : List ℕ) (state : State) (p : Slot) (w : Word) → w ≡ slot_word h.roots p → StandsAs h hs serials state → IsRead (memory_of h) state w (slot_of state p)
+pub word-read : (h : HeapView) (hs serials : List ℕ) (state : State) (p : Slot) (w : Word) → w ≡ slot_word h.roots p → StandsAs h hs serials state → IsRead (whole_memory h) state w (slot_of state p)
 word-read h hs serials state p w e means =
-    subst (λ (x : Word). IsRead (memory_of h) state x (slot_of state p)) (sym e) (read-slot h.space h.roots h.chunks hs serials state p means)
+    subst (λ (x : Word). IsRead (whole_memory h) state x (slot_of state p)) (sym e) (read-slot h.space h.roots h.chunks hs serials state p means)
 
 -- nil and numbers
 pub who-nil : (h : HeapView) (hs : List ℕ) (lane : ℕ) (p : Slot) (w : Word) → w ≡ slot_word h.roots p → w ≡ word.Nil → Answers h hs lane (Who p) reply.Nil
 who-nil h hs lane p w e is = λ serials state means.
-    ap (λ (v : Value). (state, told state lane v)) (read-nil (memory_of h) state w (slot_of state p) is (word-read h hs serials state p w e means))
+    ap (λ (v : Value). (state, told state lane v)) (read-nil (whole_memory h) state w (slot_of state p) is (word-read h hs serials state p w e means))
 
 pub who-num : (h : HeapView) (hs : List ℕ) (lane n : ℕ) (p : Slot) (w : Word) → w ≡ slot_word h.roots p → w ≡ word.Num n → Answers h hs lane (Who p) (reply.Num n)
 who-num h hs lane n p w e is = λ serials state means.
-    ap (λ (v : Value). (state, told state lane v)) (read-num (memory_of h) state w (slot_of state p) n is (word-read h hs serials state p w e means))
+    ap (λ (v : Value). (state, told state lane v)) (read-num (whole_memory h) state w (slot_of state p) n is (word-read h hs serials state p w e means))
 
 -- what is told of an object
 told-if : (state : State) (t : Bool) (x y : Reply) → let pair : State × Reply = (state, if t then x else y) in pair ≡ (if t then (state, x) else (state, y))
@@ -61,7 +61,7 @@ pub who-acts : (h : HeapView) (hs : List ℕ) (lane : ℕ) (p : Slot) (w : Word)
 who-acts h hs lane p w a head e is acts same = λ serials state means.
     let v = slot_of state p in
     let read = word-read h hs serials state p w e means in
-    let b = is-object (memory_of h) state w v a is read in
+    let b = is-object (whole_memory h) state w v a is read in
     told-object state lane v b.0 b.1
     ∙ acts serials state v means read (λ c. (state, reply.Obj c))
     ∙ ap (λ (x : Head). (state, reply.Obj (birth_of x))) (sym same)
@@ -70,7 +70,7 @@ pub who-refuses : (h : HeapView) (hs : List ℕ) (lane : ℕ) (p : Slot) (w : Wo
 who-refuses h hs lane p w a r e is refuses = λ serials state means.
     let v = slot_of state p in
     let read = word-read h hs serials state p w e means in
-    let b = is-object (memory_of h) state w v a is read in
+    let b = is-object (whole_memory h) state w v a is read in
     told-object state lane v b.0 b.1 ∙ refuses serials state v means read (λ c. (state, reply.Obj c))
 
 -- the number of fields
@@ -80,7 +80,7 @@ len-acts h hs lane n p w a ready e of acts same = λ serials state means.
     let c = cell_of h.space (own_chunk h lane) a.0 in
     let read = word-read h hs serials state p w e means in
     let at = memory-there h.space h.chunks lane a.0 ready.layout ready.apart ready.lane_within of.there in
-    let home = home-ref (memory_of h) (root_words h.roots) state w v a c means.stands of.refers at read in
+    let home = home-ref (whole_memory h) (root_words h.roots) state w v a c means.stands of.refers at read in
     acts serials state v means read (λ b. (state, reply.Len (length (object_of state.made b).fields)))
     ∙ ap (λ (k : ℕ). (state, reply.Len k)) (sym (same ∙ home.count))
 
@@ -164,8 +164,8 @@ same-no h hs lane p q runs ne = λ serials state means.
     let second = word-read h hs serials state q (slot_word h.roots q) refl means in
     let off : is_same (slot_of state p) (slot_of state q) ≡ false =
     elim (cases_Bool (is_same (slot_of state p) (slot_of state q))) [
-      | inl on ↦ absurd (ne (one-word (memory_of h) state (slot_word h.roots p) (slot_word h.roots q) (slot_of state p) runs.once first
-          (subst (λ (v : Value). IsRead (memory_of h) state (slot_word h.roots q) v) (sym (same-value (slot_of state p) (slot_of state q) on)) second)))
+      | inl on ↦ absurd (ne (one-word (whole_memory h) state (slot_word h.roots p) (slot_word h.roots q) (slot_of state p) runs.once first
+          (subst (λ (v : Value). IsRead (whole_memory h) state (slot_word h.roots q) v) (sym (same-value (slot_of state p) (slot_of state q) on)) second)))
       | inr out ↦ out
     ] in
     ap (λ (t : Bool). let pair : State × Reply = (state, if t then reply.Yes else reply.No) in pair) off

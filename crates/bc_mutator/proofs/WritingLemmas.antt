@@ -41,7 +41,7 @@ use Rattle.bc_word.specs.Words.{FitsWord, word_bits}
 use Rattle.bc_word.specs.declared.addresses.Address.{Address}
 use Rattle.bc_word.specs.declared.words.Word.{Word}
 use Rattle.bc_mutator.specs.Effects.{HasRecorded, RefersBehind, Records, WroteCell, WroteMature, WroteYoung, Wrote, Writes, HasChanged, Leaves, Answers, DidAct}
-use Rattle.bc_mutator.specs.Objects.{AreWhole, MayOperate, IsRead, IsOwn, IsOfLane, ActsOnField, RefusesField, memory_of, own_chunk, cell_of, slot_word}
+use Rattle.bc_mutator.specs.Objects.{AreWhole, MayOperate, IsRead, IsOwn, IsOfLane, ActsOnField, RefusesField, whole_memory, own_chunk, cell_of, slot_word}
 use Rattle.bc_mutator.proofs.LayoutLemmas.{IsLayout-field, IsLayout-remembered}
 use Rattle.bc_mutator.proofs.MatureLemmas.{MatureWrite, mature-memory, mature-births, mature-running}
 use Rattle.bc_mutator.proofs.MeaningLemmas.{read-ref}
@@ -102,20 +102,20 @@ young-write h k hs lane target at index word can wrote = record {
 }
 
 -- the heap as a memory after the write
-pub written-memory : (h k : HeapView) (hs : List ℕ) (lane : ℕ) (target : Word) (at : Address) (index : ℕ) (word : Word) → CanWrite h hs lane target at index word → Wrote h k lane at index word → memory_of k ≡ with_cell (memory_of h) at.0 (Some (memory.with_field (cell_of h.space (own_chunk h lane) at.0) index word))
+pub written-memory : (h k : HeapView) (hs : List ℕ) (lane : ℕ) (target : Word) (at : Address) (index : ℕ) (word : Word) → CanWrite h hs lane target at index word → Wrote h k lane at index word → whole_memory k ≡ with_cell (whole_memory h) at.0 (Some (memory.with_field (cell_of h.space (own_chunk h lane) at.0) index word))
 written-memory h k hs lane target at index word can (inl wrote) =
-    ap memory_of wrote.rest
+    ap whole_memory wrote.rest
     ∙ mature-memory h.space k.space h.roots h.chunks h.buffers k.buffers hs lane at index word (mature-write h k hs lane target at index word can wrote) can.ready.layout
 written-memory h k hs lane target at index word can (inr wrote) =
-    ap memory_of wrote.rest
+    ap whole_memory wrote.rest
     ∙ young-memory h.space h.roots h.chunks k.chunks h.buffers hs lane at.0 index word (young-write h k hs lane target at index word can wrote)
 
-pub written-births : (h k : HeapView) (hs : List ℕ) (lane : ℕ) (target : Word) (at : Address) (index : ℕ) (word : Word) → CanWrite h hs lane target at index word → Wrote h k lane at index word → births (memory_of k) ≡ births (memory_of h)
+pub written-births : (h k : HeapView) (hs : List ℕ) (lane : ℕ) (target : Word) (at : Address) (index : ℕ) (word : Word) → CanWrite h hs lane target at index word → Wrote h k lane at index word → births (whole_memory k) ≡ births (whole_memory h)
 written-births h k hs lane target at index word can (inl wrote) =
-    ap (λ (x : HeapView). births (memory_of x)) wrote.rest
+    ap (λ (x : HeapView). births (whole_memory x)) wrote.rest
     ∙ mature-births h.space k.space h.roots h.chunks h.buffers k.buffers hs lane at index word (mature-write h k hs lane target at index word can wrote) can.ready.layout can.ready.apart
 written-births h k hs lane target at index word can (inr wrote) =
-    ap (λ (x : HeapView). births (memory_of x)) wrote.rest
+    ap (λ (x : HeapView). births (whole_memory x)) wrote.rest
     ∙ young-births h.space h.roots h.chunks k.chunks h.buffers hs lane at.0 index word (young-write h k hs lane target at index word can wrote)
 
 -- it runs on
@@ -252,7 +252,7 @@ written-roots h k lane at index word (inl wrote) = ap (λ (x : HeapView). x.root
 written-roots h k lane at index word (inr wrote) = ap (λ (x : HeapView). x.roots) wrote.rest
 
 -- so an operation that writes a field is done
-pub done-field : (h k : HeapView) (hs : List ℕ) (lane serial : ℕ) (target : Word) (at : Address) (index : ℕ) (word : Word) (op : Op) (reply : Reply) → CanWrite h hs lane target at index word → Wrote h k lane at index word → FitsWord word → ((serials : List ℕ) → (state : State) → StandsAs h hs serials state → (v : Value) × IsRead (memory_of h) state word v × Reached state.slots state.made (birth_of (cell_of h.space (own_chunk h lane) at.0).head) × (act state lane op ≡ (with_field state (birth_of (cell_of h.space (own_chunk h lane) at.0).head) index v, reply))) → HasRecorded h k hs lane op reply → HasChanged h k hs lane serial op reply → DidAct h k hs lane serial serial op reply
+pub done-field : (h k : HeapView) (hs : List ℕ) (lane serial : ℕ) (target : Word) (at : Address) (index : ℕ) (word : Word) (op : Op) (reply : Reply) → CanWrite h hs lane target at index word → Wrote h k lane at index word → FitsWord word → ((serials : List ℕ) → (state : State) → StandsAs h hs serials state → (v : Value) × IsRead (whole_memory h) state word v × Reached state.slots state.made (birth_of (cell_of h.space (own_chunk h lane) at.0).head) × (act state lane op ≡ (with_field state (birth_of (cell_of h.space (own_chunk h lane) at.0).head) index v, reply))) → HasRecorded h k hs lane op reply → HasChanged h k hs lane serial op reply → DidAct h k hs lane serial serial op reply
 done-field h k hs lane serial target at index word op reply can wrote fits effect recorded changed =
     let leaves = written-leaves h k hs lane target at index word can wrote in
     let there = memory-there h.space h.chunks lane at.0 can.ready.layout can.ready.apart can.ready.lane_within can.of.there in
@@ -278,7 +278,7 @@ done-field h k hs lane serial target at index word op reply can wrote fits effec
     }
 
 -- the object of a slot is written, or the operation changes nothing
-pub write-effect : (h : HeapView) (hs serials : List ℕ) (lane i : ℕ) (p : Slot) (target word : Word) (a : Address) (op : Op) (state : State) → MayOperate h hs lane → target ≡ slot_word h.roots p → IsOfLane h hs lane target a → ActsOnField h hs lane target i a → Writes h hs lane p i word op → StandsAs h hs serials state → (v : Value) × IsRead (memory_of h) state word v × Reached state.slots state.made (birth_of (cell_of h.space (own_chunk h lane) a.0).head) × (act state lane op ≡ (with_field state (birth_of (cell_of h.space (own_chunk h lane) a.0).head) i v, Done))
+pub write-effect : (h : HeapView) (hs serials : List ℕ) (lane i : ℕ) (p : Slot) (target word : Word) (a : Address) (op : Op) (state : State) → MayOperate h hs lane → target ≡ slot_word h.roots p → IsOfLane h hs lane target a → ActsOnField h hs lane target i a → Writes h hs lane p i word op → StandsAs h hs serials state → (v : Value) × IsRead (whole_memory h) state word v × Reached state.slots state.made (birth_of (cell_of h.space (own_chunk h lane) a.0).head) × (act state lane op ≡ (with_field state (birth_of (cell_of h.space (own_chunk h lane) a.0).head) i v, Done))
 write-effect h hs serials lane i p target word a op state ready e of acts writes means =
     let c = cell_of h.space (own_chunk h lane) a.0 in
     let k = writes serials state means in
@@ -286,7 +286,7 @@ write-effect h hs serials lane i p target word a op state ready e of acts writes
     let at = memory-there h.space h.chunks lane a.0 ready.layout ready.apart ready.lane_within of.there in (
       k.0,
       k.1,
-      read.reached (birth_of c.head) (read-ref (memory_of h) state target (slot_of state p) a c of.refers at read),
+      read.reached (birth_of c.head) (read-ref (whole_memory h) state target (slot_of state p) a c of.refers at read),
       k.2 ∙ acts serials state (slot_of state p) means read (λ b. (with_field state b i k.0, Done)),
     )
 

@@ -28,7 +28,7 @@ use Rattle.bc_word.specs.declared.addresses.Address.{Address}
 use Rattle.bc_word.specs.declared.words.Word.{Word}
 use Rattle.bc_word.specs.declared.heads.Head.{Head}
 use Rattle.bc_word.specs.declared.words.Word.TheVariants.{Nil, Num, Ref}
-use Rattle.bc_mutator.specs.Objects.{AreWhole, IsRead, own_chunk, memory_of, slot_word}
+use Rattle.bc_mutator.specs.Objects.{AreWhole, IsRead, own_chunk, whole_memory, slot_word}
 use Rattle.bc_mutator.specs.Operations.{NoneLater, RefersToField, StoresYoung}
 
 -- the root slots with another word in one of them, which is noted
@@ -136,7 +136,7 @@ IsChangedBy holders lane serial m n roots (Same p q) reply = n ≡ m
 
 -- the same of a heap before and after the operation
 abbrev pub HasChanged : HeapView → HeapView → List ℕ → ℕ → ℕ → Op → Reply → Type 0
-HasChanged old new holders lane serial op reply = IsChangedBy holders lane serial (memory_of old) (memory_of new) old.roots op reply
+HasChanged old new holders lane serial op reply = IsChangedBy holders lane serial (whole_memory old) (whole_memory new) old.roots op reply
 
 -- what an operation of a lane does to the heap and is answered, where it does this to the state: `serial` is the number of
 -- the lane's births before, and `next` after
@@ -229,7 +229,7 @@ pub record FindsFull (s : Layout) (buffer : Entries) (at : Address) (word : Word
 abbrev pub Writes : HeapView → List ℕ → ℕ → Slot → ℕ → Word → Op → Type 0
 Writes h holders lane p index word op =
     (serials : List ℕ) → (state : State) → StandsAs h holders serials state
-    → (v : Value) × IsRead (memory_of h) state word v
+    → (v : Value) × IsRead (whole_memory h) state word v
     × (act state lane op ≡ on_field state lane (slot_of state p) index (λ b. (value_in_field state b index v, Done)))
 
 -- the slot refers to such a field of a cell, and the word refers behind the superpages
@@ -253,4 +253,4 @@ RecordsWrite old new holders lane p index word reply =
 pub record IsWrite (old new : HeapView) (holders : List ℕ) (lane serial : ℕ) (p : Slot) (index : ℕ) (word : Word) (op : Op) (reply : Reply) : Type 0 where
   pub writes : Writes old holders lane p index word op
   pub records : RecordsWrite old new holders lane p index word reply → HasRecorded old new holders lane op reply
-  pub changes : ChangesField holders lane (memory_of old) (memory_of new) old.roots p index word reply → HasChanged old new holders lane serial op reply
+  pub changes : ChangesField holders lane (whole_memory old) (whole_memory new) old.roots p index word reply → HasChanged old new holders lane serial op reply

@@ -28,8 +28,8 @@ use Rattle.bc_word.specs.Words.{word_of_bits}
 abbrev pub own_chunk : HeapView → ℕ → Nursery
 own_chunk h lane = chunk_of h.chunks lane
 
-abbrev pub memory_of : HeapView → Memory
-memory_of h = heap_memory h.space h.chunks
+abbrev pub whole_memory : HeapView → Memory
+whole_memory h = heap_memory h.space h.chunks
 
 -- the type of each chunk keeps what it does
 abbrev pub AreWhole : List Nursery → Type 0
@@ -81,22 +81,22 @@ pub record IsOfLane (h : HeapView) (holders : List ℕ) (lane : ℕ) (word : Wor
 -- an operation on the object that the word is read as is done to the object at this address
 abbrev pub ActsOn : HeapView → List ℕ → ℕ → Word → Address → Type 0
 ActsOn h holders lane word a =
-    (serials : List ℕ) → (state : State) → (v : Value) → StandsAs h holders serials state → IsRead (memory_of h) state word v
+    (serials : List ℕ) → (state : State) → (v : Value) → StandsAs h holders serials state → IsRead (whole_memory h) state word v
     → (next : Birth → State × Reply) → on_object state lane v next ≡ next (birth_of (cell_of h.space (own_chunk h lane) a.0).head)
 
 -- or it changes nothing, and is answered this
 abbrev pub Refuses : HeapView → List ℕ → ℕ → Word → Reply → Type 0
 Refuses h holders lane word reply =
-    (serials : List ℕ) → (state : State) → (v : Value) → StandsAs h holders serials state → IsRead (memory_of h) state word v
+    (serials : List ℕ) → (state : State) → (v : Value) → StandsAs h holders serials state → IsRead (whole_memory h) state word v
     → (next : Birth → State × Reply) → on_object state lane v next ≡ (state, reply)
 
 -- the same of an operation on a field
 abbrev pub ActsOnField : HeapView → List ℕ → ℕ → Word → ℕ → Address → Type 0
 ActsOnField h holders lane word index a =
-    (serials : List ℕ) → (state : State) → (v : Value) → StandsAs h holders serials state → IsRead (memory_of h) state word v
+    (serials : List ℕ) → (state : State) → (v : Value) → StandsAs h holders serials state → IsRead (whole_memory h) state word v
     → (next : Birth → State × Reply) → on_field state lane v index next ≡ next (birth_of (cell_of h.space (own_chunk h lane) a.0).head)
 
 abbrev pub RefusesField : HeapView → List ℕ → ℕ → Word → ℕ → Reply → Type 0
 RefusesField h holders lane word index reply =
-    (serials : List ℕ) → (state : State) → (v : Value) → StandsAs h holders serials state → IsRead (memory_of h) state word v
+    (serials : List ℕ) → (state : State) → (v : Value) → StandsAs h holders serials state → IsRead (whole_memory h) state word v
     → (next : Birth → State × Reply) → on_field state lane v index next ≡ (state, reply)

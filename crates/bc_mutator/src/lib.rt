@@ -36,8 +36,8 @@
 //
 // In `proofs/` there is a file for each thing that is done: what it does to the heap as one memory, that the heap stays
 // closed, and that it stands for the next state then (`RootLemmas`; `MatureLemmas`, `YoungLemmas` and `WritingLemmas`;
-// `NewLemmas`), all of a whole heap. `PartLemmas` leads from the lane's parts to that heap, `ActLemmas` puts the ten
-// operations together, and `WholeLemmas` takes the parts out of a heap and puts them back.
+// `NewLemmas`), all of a whole heap. `PartLemmas` leads from the lane's parts to that heap, and `ActLemmas` puts the ten
+// operations together.
 #![tactic(auto)]
 
 mod cells;

@@ -1,6 +1,6 @@
 //! An operation of a lane, with every reason why it may not be done.
 
-ghost use Rattle.std.specs.Prelude.{◌↔◌, ◌<◌, IsTrue};
+ghost use Rattle.std.specs.Prelude.{◌≡◌, ◌↔◌, ◌<◌, IsTrue};
 ghost use Rattle.bc_mutator.specs.Operations.{IsOpOf};
 
 use bc_model::{Op, Slot};

@@ -4,7 +4,7 @@ use Rattle.bc_model.specs.declared.operations.Op.TheVariants.{Cut}
 use Rattle.bc_model.specs.declared.values.Value.TheVariants.{Nil}
 use Rattle.bc_word.specs.declared.addresses.Address.{Address}
 use Rattle.bc_word.specs.declared.words.Word.TheVariants as word
-use Rattle.bc_mutator.specs.Objects.{memory_of}
+use Rattle.bc_mutator.specs.Objects.{whole_memory}
 use Rattle.bc_mutator.proofs.RootLemmas.{nil-read, own-nil}
 use Rattle.bc_mutator.proofs.RecordLemmas.{plain-records}
 use Rattle.bc_mutator.proofs.fields.cut.Goals as goal
@@ -26,7 +26,7 @@ returns-clause-done g c =
       k.0,
       k.1,
       λ serial. k.2 serial (Cut c.args.slot c.args.index) (record {
-        writes = λ serials state means. (Nil, nil-read (memory_of h) state, refl);
+        writes = λ serials state means. (Nil, nil-read (whole_memory h) state, refl);
         records = plain-records h k.0 c.args.holders.now c.args.lane c.args.slot c.args.index word.Nil reply none;
         changes = λ changes. changes;
       }),

@@ -4,7 +4,7 @@ use Rattle.bc_model.specs.State.{slot_of}
 use Rattle.bc_model.specs.declared.operations.Op.TheVariants.{Link}
 use Rattle.bc_word.specs.declared.words.Word.{Word}
 use Rattle.bc_mutator.specs.Effects.{ChangesField}
-use Rattle.bc_mutator.specs.Objects.{memory_of}
+use Rattle.bc_mutator.specs.Objects.{whole_memory}
 use Rattle.bc_mutator.proofs.PartLemmas.{link-serves, needs-part, own-part}
 use Rattle.bc_mutator.proofs.RecordLemmas.{link-records, link-stops}
 use Rattle.bc_mutator.proofs.TellingLemmas.{word-read}
@@ -31,7 +31,7 @@ returns-clause-done g c =
       λ serial. k.2 serial (Link c.args.slot c.args.index c.args.from) (record {
         writes = λ serials state means. (slot_of state c.args.from, word-read h hs serials state c.args.from w e means, refl);
         records = link-records h k.0 hs lane c.args.index c.args.slot c.args.from w reply s.ready c.requires.held e (own-part f);
-        changes = λ changes. subst (λ (x : Word). ChangesField hs lane (memory_of h) (memory_of k.0) h.roots c.args.slot c.args.index x reply) e changes;
+        changes = λ changes. subst (λ (x : Word). ChangesField hs lane (whole_memory h) (whole_memory k.0) h.roots c.args.slot c.args.index x reply) e changes;
       }),
     ))
     c.write.ensures.done

@@ -4,7 +4,7 @@ use Rattle.bc_model.specs.declared.operations.Op.TheVariants.{Set}
 use Rattle.bc_model.specs.declared.values.Value.TheVariants.{Num}
 use Rattle.bc_word.specs.declared.addresses.Address.{Address}
 use Rattle.bc_word.specs.declared.words.Word.TheVariants as word
-use Rattle.bc_mutator.specs.Objects.{memory_of}
+use Rattle.bc_mutator.specs.Objects.{whole_memory}
 use Rattle.bc_mutator.proofs.RootLemmas.{num-read, own-num}
 use Rattle.bc_mutator.proofs.RecordLemmas.{plain-records}
 use Rattle.bc_mutator.proofs.fields.set.Goals as goal
@@ -26,7 +26,7 @@ returns-clause-done g c =
       k.0,
       k.1,
       λ serial. k.2 serial (Set c.args.slot c.args.index c.args.number) (record {
-        writes = λ serials state means. (Num c.args.number, num-read (memory_of h) state c.args.number, refl);
+        writes = λ serials state means. (Num c.args.number, num-read (whole_memory h) state c.args.number, refl);
         records = plain-records h k.0 c.args.holders.now c.args.lane c.args.slot c.args.index (word.Num c.args.number) reply (none c.args.number);
         changes = λ changes. changes;
       }),
