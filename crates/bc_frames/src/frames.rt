@@ -1,6 +1,6 @@
 //! Frames, and the pool that claims and gives them.
 
-ghost use Rattle.std.specs.Prelude.{◌≡◌, ℕ, ◌<◌, ◌≤◌, ◌==◌, Bool, true, false, List, length, slice_set, replicate, count_by, IfOk, IfSome, IfNone, vec_capacity, nat_lt};
+ghost use Rattle.std.specs.Prelude.{◌≡◌, ℕ, ◌<◌, ◌≤◌, ◌==◌, Bool, true, false, List, [], length, slice_set, replicate, count_by, IfOk, IfSome, IfNone, vec_capacity, nat_lt};
 ghost use Rattle.bc_bits.specs.Counting.{one_if};
 ghost use Rattle.bc_frames.specs.Pool.{is_free, free_count};
 
@@ -19,6 +19,22 @@ impl Model for Frame {
     ghost Value = { ℕ };
 
     ghost view = { λ f. f.number };
+}
+
+impl Frame {
+    /// The frame's number.
+    pub fn number(&self) -> u32
+        ensures number { result ≡ self.now }
+    {
+        self.number
+    }
+
+    /// The right to the frame of this number. Who makes it keeps that no other right to this frame is in use.
+    pub fn of(number: u32) -> Self
+        ensures number { result ≡ number }
+    {
+        Frame { number }
+    }
 }
 
 /// The frames that nobody uses.
@@ -51,6 +67,16 @@ impl FramePool {
         Ok(FramePool { flags, numbers })
     }
 
+    /// A pool of no frames. It takes no memory.
+    pub fn empty(alloc: Global) -> Self
+        ensures none { result ≡ [] }
+    {
+        FramePool {
+            flags: Vec::new(alloc),
+            numbers: Vec::new(alloc),
+        }
+    }
+
     /// A frame that was free and no longer is, or nothing where no frame is free.
     pub fn claim(&mut self) -> Option<Frame>
         ensures none { IfNone result ((n : ℕ) → is_free self.old n ≡ false) }
@@ -72,6 +98,13 @@ impl FramePool {
         let Frame { number } = frame;
         self.flags[number as usize] = true;
         self.numbers.push_reserved(number);
+    }
+
+    /// Is the frame of this number free? One that the pool doesn't have is not.
+    pub fn is_free(&self, number: u32) -> bool
+        ensures free { result ≡ is_free self.now number }
+    {
+        (number as usize) < self.flags.len() && self.flags[number as usize]
     }
 
     /// How many frames are free.

@@ -10,6 +10,12 @@
 // each stands exactly once: `claim` takes the last, and `give` adds one. The list has room for all frames
 // from the start, so `give` takes no memory. The store is seen as the boxes' contents by page.
 //
+// While workers share a table of pages, the boxes of pages that aren't resident lie there shut (`Shut`): `lift` takes one out
+// of the store and `lower` puts it back, and neither is a read. Who opens a shut box counts it in an `Opens`, which can't be
+// dropped and can't be read: `Store::count` spends it and adds its number to `reads`. There too a frame is a bit of a
+// table, so `Frame::number` and `Frame::of` take a right apart and make it again; that no two rights to one frame
+// are in use is then kept by who makes them.
+//
 // The theorems are the contracts: `claim` gives a frame that was free and no longer is, and nothing exactly
 // where no frame is free; a place of the store gives back what was put there, and `reads` counts each
 // `take_back` and no `take_blank`. Only the two `new` take memory.
@@ -17,10 +23,12 @@
 
 mod frames;
 mod pages;
+mod shutting;
 mod storage;
 
 pub use frames::{Frame, FramePool};
 pub use pages::Page;
+pub use shutting::{Opens, Shut};
 pub use storage::Store;
 
 /// Memory ran out.

@@ -2,6 +2,7 @@
 
 ghost use Rattle.std.specs.Prelude.{◌≡◌, ℕ, ◌+◌, ◌<◌, ◌≤◌, ◌++◌, List, length, slice_index, slice_set, take, drop, replicate, IfOk};
 
+use crate::shutting::Shut;
 use std::alloc::{AllocError, Global};
 use std::marker::Model;
 
@@ -60,5 +61,12 @@ impl Page {
         ensures zeros { self.new ≡ replicate 512 0 }
     {
         *self.words = [0; 512];
+    }
+
+    /// Shuts the box.
+    pub fn shut(self) -> Shut
+        ensures content { result ≡ self }
+    {
+        Shut::of(self)
     }
 }

@@ -1,9 +1,10 @@
 //! The store, where the boxes of pages lie that aren't resident.
 
-ghost use Rattle.std.specs.Prelude.{◌≡◌, ℕ, ◌<◌, Option, Some, None, length, slice_set, replicate, IfOk, IsSome};
+ghost use Rattle.std.specs.Prelude.{◌≡◌, ℕ, ◌+◌, ◌-◌, ◌^◌, ◌<◌, Option, Some, None, [], length, min, slice_set, replicate, IfOk, IsSome};
 ghost use Rattle.bc_frames.specs.Places.{StoreView, place_at, one_more};
 
 use crate::pages::Page;
+use crate::shutting::{Opens, Shut};
 use std::alloc::{AllocError, Global};
 use std::marker::Model;
 
@@ -32,6 +33,16 @@ impl Store {
             places.push_reserved(Some(Page::zeroed(alloc)?));
         }
         Ok(Store { places, reads: 0 })
+    }
+
+    /// A store of no pages. It takes no memory.
+    pub fn empty(alloc: Global) -> Self
+        ensures none { result ≡ record { places = []; reads = 0 } }
+    {
+        Store {
+            places: Vec::new(alloc),
+            reads: 0,
+        }
     }
 
     /// Puts the box of a page into its place, which is empty.
@@ -68,6 +79,32 @@ impl Store {
         let mut content = self.places[page as usize].take().unwrap();
         content.clear();
         content
+    }
+
+    /// Takes the box of a page out of its place, which is full, and leaves it shut. That is no read.
+    pub fn lift(&mut self, page: u32) -> Shut
+        requires page { page < length self.old.places }
+        requires full { IsSome (place_at self.old page) }
+        ensures content { place_at self.old page ≡ Some result }
+        ensures lifted { self.new ≡ record self.old { places = slice_set self.old.places page None } }
+    {
+        self.places[page as usize].take().unwrap().shut()
+    }
+
+    /// Puts the shut box of a page into its place, which is empty.
+    pub fn lower(&mut self, page: u32, shut: Shut)
+        requires page { page < length self.old.places }
+        requires empty { place_at self.old page ≡ None }
+        ensures lowered { self.new ≡ record self.old { places = slice_set self.old.places page (Some shut) } }
+    {
+        self.places[page as usize] = Some(shut.into_page());
+    }
+
+    /// Counts as reads the boxes that were opened.
+    pub fn count(&mut self, opens: Opens)
+        ensures counted { self.new ≡ record self.old { reads = min (self.old.reads + opens) (2 ^ 64 - 1) } }
+    {
+        self.reads = self.reads.saturating_add(opens.spend());
     }
 
     /// How many pages were read back. The count stays at the last value of 64 bits.

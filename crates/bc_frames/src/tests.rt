@@ -41,3 +41,39 @@ fn a_store_gives_back_what_was_put_and_counts_it_once(rt: HostRuntime) -> Result
     assert_eq!(rt; store.reads(), 1);
     Ok(())
 }
+
+#[test]
+fn a_right_to_a_frame_is_made_from_its_number(rt: HostRuntime) -> Result<(), Fail> {
+    let mut pool = FramePool::new(rt.alloc(), 3)?;
+    let claimed = pool.claim().expect(&rt, "a frame is free");
+    let number = claimed.number();
+    assert!(rt; !pool.is_free(number));
+    assert!(rt; !pool.is_free(3));
+    pool.give(Frame::of(number));
+    assert!(rt; pool.is_free(number));
+    assert_eq!(rt; pool.free(), 3);
+    assert_eq!(rt; FramePool::empty(rt.alloc()).free(), 0);
+    Ok(())
+}
+
+#[test]
+fn a_box_is_read_where_it_is_opened_and_not_where_it_is_lifted(
+    rt: HostRuntime,
+) -> Result<(), Fail> {
+    let mut store = Store::new(rt.alloc(), 2)?;
+    let mut page = store.take_blank(1);
+    page.set(7, 15);
+    store.lower(1, page.shut());
+    let unread = store.lift(1);
+    store.lower(1, unread);
+    assert_eq!(rt; store.reads(), 0);
+    let mut opens = Opens::new();
+    let mut page = store.lift(1).open(&mut opens);
+    assert_eq!(rt; page.get(7), 15);
+    page.set(7, 16);
+    let again = page.shut().open(&mut opens);
+    assert_eq!(rt; again.get(7), 16);
+    store.count(opens);
+    assert_eq!(rt; store.reads(), 2);
+    Ok(())
+}
