@@ -1,12 +1,14 @@
 -- The simple command by which `clap` reads the words after the first: the option `--workers` and any plain values. Behind this file
 -- its rules are known by these facts alone.
-use Rattle.std.proofs.Common.{◌≡◌, ◌≢◌, ◌∙◌, ◌&&◌, ◌||◌, ℕ, Bool, true, false, List, [], ◌∷◌, Option, Some, None, cond, codes, refl}
+use Rattle.std.proofs.Common.{◌≡◌, ◌≢◌, ◌∙◌, ◌&&◌, ◌||◌, ap, ap₂, ℕ, Bool, true, false, List, [], ◌∷◌, Option, Some, None, cond, codes, refl}
 use Rattle.std.specs.Str.{bytes_eq}
 use Rattle.clap.specs.Walk.{Held, Row, Rule, Text, arg_by_id, arg_by_index, arg_by_long, arg_by_short, has_row, is_multiple, takes_several, takes_values, most_values, used, with_values, without, with_default, finished, settled}
-use Rattle.clap.specs.Simple.{App, Shape, built, filled, is_simple, new_app, new_rule, new_shape, on_top, with_index, with_rule}
+use Rattle.clap.specs.Simple.{App, Shape, app_of, app_of_fields, built, filled, is_simple, new_app, new_rule, new_shape, on_top, with_index, with_rule}
 use Rattle.clap.specs.Kinds.{Kinds, or_else}
 use Rattle.clap.specs.Faults.{check_fault, default_fault, defaults_fault, is_simple_and_free, use_fault}
 use Rattle.clap.specs.declared.builder.action.ArgAction.TheVariants.{Append}
+use Rattle.clap.specs.declared.builder.command.Command.{Command}
+use Rattle.clap.specs.declared.builder.command.Command.TheViews.{out-Command}
 use Rattle.clap.specs.declared.builder.value_parser.Reading.TheVariants.{AsWritten}
 use Rattle.clap.specs.declared.error.kind.ErrorKind.{ErrorKind}
 use Rattle.clap.specs.declared.error.kind.ErrorKind.TheVariants as kind
@@ -47,6 +49,17 @@ shape name = record (new_shape name) {
   disable_version_flag = true;
   is_built = true;
 }
+
+-- the command that the code makes is this one
+pub app_made : (new help version one two : Command) (w v : Rule) (name : Text) → app_of new ≡ new_app name
+    → out-Command help ≡ record (out-Command new) { disable_help_flag = true } → out-Command version ≡ record (out-Command help) { disable_version_flag = true }
+    → app_of one ≡ with_rule (app_of version) w → w ≡ workers_arg → app_of two ≡ with_rule (app_of one) v → v ≡ values_arg → app_of two ≡ app name
+app_made new help version one two w v name made no_help no_version first w_is second v_is =
+    let helped : app_of help ≡ on_top (λ s. record s { disable_help_flag = true }) (app_of new) = ap app_of_fields no_help in
+    let bare : app_of version ≡ on_top (λ s. record s { disable_version_flag = true }) (app_of help) = ap app_of_fields no_version in
+    let start : app_of version ≡ on_top (λ s. record s { disable_help_flag = true; disable_version_flag = true }) (new_app name) =
+    bare ∙ ap (λ a. on_top (λ s. record s { disable_version_flag = true }) a) (helped ∙ ap (λ a. on_top (λ s. record s { disable_help_flag = true }) a) made) in
+    second ∙ ap₂ with_rule (first ∙ ap₂ with_rule start w_is) v_is
 
 pub built_app : (name : Text) → built (app name) ≡ record { top = shape name; subs = [] }
 unfolding clap_on_literals rules workers_rule values_rule

@@ -14,3 +14,7 @@ pub mod Walking
 pub mod Reading
 -- From what `clap` keeps to the rules.
 pub mod Telling
+-- What a parse says of the command.
+pub mod Parsing
+-- Where `--workers` stands.
+pub mod Order

@@ -1,11 +1,19 @@
 -- Short lists of words, and what asks for a command.
-use Rattle.std.proofs.Common.{◌≡◌, ℕ, ◌<◌, ◌≤◌, List, [], ◌∷◌, Bor, length, map, slice_index_or, refl, arith}
+use Rattle.std.proofs.Common.{◌≡◌, ℕ, ◌<◌, ◌≤◌, List, [], ◌∷◌, Bor, drop, length, map, slice_index_or, refl, arith}
 use Rattle.bc_words.specs.Commands.{AsksFor, GivesWorkers, Word}
 use Rattle.bc_words.specs.declared.command.Command.{Command}
 use Rattle.bc_words.specs.declared.command.Command.TheVariants.{Run, Churn}
 
 abbrev pub texts : List (Bor Word) → List Word
 texts = map (λ w. w.now)
+
+-- the first word, where there is one
+abbrev pub leading : List (Bor Word) → Word
+leading ws = (slice_index_or ws 0 (record { ref_ptr = (0, 0); now = [] })).now
+
+pub leads : (ws : List (Bor Word)) → 1 ≤ length ws → texts ws ≡ leading ws ∷ drop 1 (texts ws)
+leads [] some = absurd (omega (arith, some))
+leads (w ∷ ws) some = refl
 
 pub no_words : (ws : List (Bor Word)) → length ws < 1 → texts ws ≡ []
 no_words [] few = refl

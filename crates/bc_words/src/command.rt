@@ -53,8 +53,10 @@ pub fn command_of(alloc: Global, words: &[&str]) -> Result<Option<Command>, Allo
             matches.get_str("workers"),
             matches.get_strs("values").unwrap_or(&[]),
         )),
-        Err(error) if error.kind() == ErrorKind::OutOfMemory => Err(AllocError),
-        Err(_) => Ok(None),
+        Err(error) => match error.kind() {
+            ErrorKind::OutOfMemory => Err(AllocError),
+            _ => Ok(None),
+        },
     }
 }
 
