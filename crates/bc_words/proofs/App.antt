@@ -1,6 +1,6 @@
 -- The simple command by which `clap` reads the words after the first: the option `--workers` and any plain values. Behind this file
 -- its rules are known by these facts alone.
-use Rattle.std.proofs.Common.{◌≡◌, ◌≢◌, ◌∙◌, ◌&&◌, ◌||◌, ap, ap₂, ℕ, Bool, true, false, List, [], ◌∷◌, Option, Some, None, cond, codes, refl}
+use Rattle.std.proofs.Common.{◌≡◌, ◌≢◌, ◌∙◌, ◌&&◌, ◌||◌, ap, ap₂, ℕ, Bool, true, false, List, [], ◌∷◌, Some, None, cond, codes, refl}
 use Rattle.std.specs.Str.{bytes_eq}
 use Rattle.clap.specs.Walk.{Held, Row, Rule, Text, arg_by_id, arg_by_index, arg_by_long, arg_by_short, has_row, is_multiple, takes_several, takes_values, most_values, used, with_values, without, with_default, finished, settled}
 use Rattle.clap.specs.Simple.{App, Shape, app_of, app_of_fields, built, filled, is_simple, new_app, new_rule, new_shape, on_top, with_index, with_rule}

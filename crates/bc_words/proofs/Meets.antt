@@ -1,6 +1,6 @@
 -- What one word is to the command, before any `--`: it passes over, it is the option with a value or without, it is refused, or it is
 -- a plain word, which is a value of whatever waits.
-use Rattle.std.proofs.Common.{◌≡◌, ◌≢◌, ◌∙◌, ap, sym, refl, ℕ, zero, suc, ◌<◌, ◌==◌, Bool, true, false, List, [], ◌∷◌, ◌++◌, length, get_or, subst, Option, Some, None, codes, inl, inr, arith}
+use Rattle.std.proofs.Common.{◌≡◌, ◌≢◌, ◌∙◌, ap, sym, refl, ℕ, zero, suc, ◌==◌, false, List, [], ◌∷◌, ◌++◌, subst, Option, Some, None, codes, inl, inr, arith}
 use Rattle.std.specs.Prelude.{option_and_then, slice_get}
 use Rattle.std.specs.Option.{option_map_or}
 use Rattle.std.specs.Str.{bytes_eq, chars}
@@ -115,7 +115,7 @@ short_meets y ys other o e =
       no_dashes = rw other refl;
       no_fault = λ h skip. fault h ∙ (no_bundle y ys h skip e).0;
       met = λ waiting h skip. met waiting h
-      ∙ ap (λ b. after_flag rules waiting (45 ∷ y ∷ ys) b.0 b.1) ((no_bundle y ys h skip e).1 ∙ ap (λ k. (k, plain)) (held_back h skip));
+          ∙ ap (λ b. after_flag rules waiting (45 ∷ y ∷ ys) b.0 b.1) ((no_bundle y ys h skip e).1 ∙ ap (λ k. (k, plain)) (held_back h skip));
     })
     go (Some x) e fault met = refused (rw other refl) (λ h skip none. some_bundle y ys x h skip e (sym (fault h) ∙ none))
 

@@ -1,5 +1,5 @@
 -- Where `--workers` stands among plain values makes no difference.
-use Rattle.std.proofs.Common.{◌≡◌, ◌∙◌, ap, sym, subst, refl, List, [], ◌∷◌, ◌++◌, codes}
+use Rattle.std.proofs.Common.{◌≡◌, ap, sym, subst, refl, List, [], ◌∷◌, ◌++◌, codes}
 use Rattle.std.specs.List.{AllByRecursion}
 use Rattle.bc_words.specs.Commands.{IsCommandOf, IsHyphened, Parts, Word, ended, dashes, apart, joined, bare}
 use Rattle.bc_words.specs.declared.command.Command.{Command}

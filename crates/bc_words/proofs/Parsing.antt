@@ -1,10 +1,10 @@
 -- What a parse of all the words says of the command that they are.
-use Rattle.std.proofs.Common.{◌≡◌, ◌≢◌, ◌∙◌, ap, sym, subst, refl, ℕ, zero, suc, ◌<◌, ◌≤◌, ◌^◌, Bool, true, false, List, [], ◌∷◌, ◌++◌, Option, Some, None, Bor, IfNone, IfSome, length, map, drop, get_or, slice_index_or, option_map, option_to_list, inl, inr, arith}
+use Rattle.std.proofs.Common.{◌≡◌, ◌∙◌, ap, sym, subst, refl, ℕ, ◌<◌, ◌^◌, true, false, List, [], ◌∷◌, Option, Some, None, Bor, IfNone, IfSome, map, drop, get_or, option_map, option_to_list, inl, inr, arith}
 use Rattle.std.specs.Prelude.{option_and_then, slice_get, unwrap_or}
 use Rattle.std.specs.List.{AllByRecursion}
 use Rattle.std.specs.Fmt.{decimal}
-use Rattle.clap.specs.Walk.{Row, Text, Walk, all_of, first_of, finished, idle, nothing_held, rows_of, walk, walk_from}
-use Rattle.clap.specs.Simple.{App, HasMatchesOf, is_simple, matches_of, rows_at, argument_words, names_of}
+use Rattle.clap.specs.Walk.{Row, Text, Walk, all_of, first_of, finished, idle, nothing_held, rows_of, walk}
+use Rattle.clap.specs.Simple.{App, HasMatchesOf, is_simple, matches_of, names_of}
 use Rattle.clap.specs.Kinds.{HasKind, Kinds, or_else}
 use Rattle.clap.specs.Matches.{first_value, found_of, matched_of, raw_values}
 use Rattle.clap.specs.Values.{kind_of}
@@ -12,7 +12,7 @@ use Rattle.clap.specs.declared.error.Error.{Error}
 use Rattle.clap.specs.declared.error.kind.ErrorKind.TheVariants.{OutOfMemory}
 use Rattle.clap.specs.declared.parser.matches.ArgMatches.{ArgMatches}
 use Rattle.clap.proofs.WalkLemmas.{first_value-rows, raw_values-rows}
-use Rattle.clap.specs.Faults.{built_fault, check_fault, defaults_fault, fault_of, is_simple_and_free, level_fault}
+use Rattle.clap.specs.Faults.{built_fault, check_fault, defaults_fault, fault_of, is_simple_and_free}
 use Rattle.clap.proofs.FaultLemmas.{leaf_fault}
 use Rattle.bc_words.specs.Commands.{AsksFor, GivesWorkers, IsCommandOf, Parts}
 use Rattle.bc_words.specs.declared.command.Command.{Command}
@@ -20,10 +20,10 @@ use Rattle.bc_words.specs.declared.command.Command.TheVariants.{Run, Churn}
 use Rattle.bc_words.proofs.App.{app, app_is_free, app_is_simple, built_app, finished-is, no_checks, no_defaults, rules, shape, workers_id, values_id}
 use Rattle.bc_words.proofs.Lists.{asked_workers, texts}
 use Rattle.bc_words.proofs.Numerals.{decimal-begins}
-use Rattle.bc_words.proofs.Rows.{Kept, given_row, listed_row, row_at}
+use Rattle.bc_words.proofs.Rows.{Kept, given_row, listed_row}
 use Rattle.bc_words.proofs.Walking.{at, idle-rests}
 use Rattle.bc_words.proofs.Reading.{IsBare, IsDone, reads, rest_fault, rest_rows}
-use Rattle.bc_words.proofs.Telling.{Tells, tells}
+use Rattle.bc_words.proofs.Telling.{tells}
 
 abbrev pub opening : Walk
 opening = at [] None idle false
@@ -183,15 +183,14 @@ ok_command words name begins m none rows got got_is o d o_is empty u u_is c =
     let rest = drop 1 words in
     let told = command-told name rest none in
     let got_new : option_map (λ w. w.now) got ≡ told.new = got_is ∙ workers_got m rest told.new told.plain rows told.kept in
-    let got_plain : texts u.now ≡ told.plain = ap (λ b. texts b.now) u_is ∙ listed_values o d told.plain (o_is ∙ values_got m rest told.new told.plain rows told.kept) empty in
-    (
+    let got_plain : texts u.now ≡ told.plain = ap (λ b. texts b.now) u_is ∙ listed_values o d told.plain (o_is ∙ values_got m rest told.new told.plain rows told.kept) empty in (
       λ asked. subst (λ ws. IsCommandOf ws c) (sym begins)
-      (told.command c (subst (λ ps. AsksFor name (option_to_list told.new) ps c) got_plain (subst (λ g. AsksFor name (option_to_list g) (texts u.now) c) got_new asked))),
+          (told.command c (subst (λ ps. AsksFor name (option_to_list told.new) ps c) got_plain (subst (λ g. AsksFor name (option_to_list g) (texts u.now) c) got_new asked))),
       λ command.
-        let read = command-read name rest c (subst (λ ws. IsCommandOf ws c) begins command) in
-        let read_new : option_map (λ w. w.now) got ≡ read.new = got_is ∙ workers_got m rest read.new read.plain rows read.done.kept in
-        let read_plain : texts u.now ≡ read.plain = ap (λ b. texts b.now) u_is ∙ listed_values o d read.plain (o_is ∙ values_got m rest read.new read.plain rows read.done.kept) empty in
-        subst (λ g. AsksFor name (option_to_list g) (texts u.now) c) (sym read_new) (subst (λ ps. AsksFor name (option_to_list read.new) ps c) (sym read_plain) read.asked),
+          let read = command-read name rest c (subst (λ ws. IsCommandOf ws c) begins command) in
+          let read_new : option_map (λ w. w.now) got ≡ read.new = got_is ∙ workers_got m rest read.new read.plain rows read.done.kept in
+          let read_plain : texts u.now ≡ read.plain = ap (λ b. texts b.now) u_is ∙ listed_values o d read.plain (o_is ∙ values_got m rest read.new read.plain rows read.done.kept) empty in
+          subst (λ g. AsksFor name (option_to_list g) (texts u.now) c) (sym read_new) (subst (λ ps. AsksFor name (option_to_list read.new) ps c) (sym read_plain) read.asked),
     )
 
 -- where the words are a command, a parse fails for want of memory alone

@@ -1,22 +1,18 @@
 -- All the words after the first: `clap` finds no fault exactly where the rules read them, and keeps what the rules say.
-use Rattle.std.proofs.Common.{◌≡◌, ◌≢◌, ◌∙◌, ap, sym, subst, refl, ℕ, Bool, true, false, List, [], ◌∷◌, ◌++◌, Option, Some, None, cond, codes, is_some, append_assoc, append-nil, drop, option_to_list}
+use Rattle.std.proofs.Common.{◌≡◌, ◌≢◌, ◌∙◌, ap, sym, subst, refl, true, false, List, [], ◌∷◌, ◌++◌, Option, Some, None, is_some, append_assoc, append-nil, option_to_list}
 use Rattle.std.proofs.Common.{inl, inr}
 use Rattle.std.specs.Option.{option_map_or}
 use Rattle.std.specs.List.{AllByRecursion, fold}
-use Rattle.std.specs.Str.{bytes_eq}
 use Rattle.std.proofs.lemmas.Bool.{cases_eq, ne_eqb}
 use Rattle.clap.specs.Lexer.{strip_byte}
-use Rattle.clap.specs.Walk.{Row, Text, Waiting, Walk, has_row, idle, nothing_held, option, positional, settled, settled_rows, used, used_by_id, walked}
-use Rattle.clap.specs.Simple.{App, matches_of}
+use Rattle.clap.specs.Walk.{Row, Text, Waiting, Walk, has_row, idle, positional, settled, settled_rows, used, used_by_id, walked}
 use Rattle.clap.specs.Kinds.{Kinds, or_else}
-use Rattle.clap.specs.Faults.{built_fault, check_fault, defaults_fault, fault_of, level_fault, settle_fault, turn_fault, use_fault, walk_fault}
-use Rattle.clap.proofs.FaultLemmas.{leaf_fault}
+use Rattle.clap.specs.Faults.{settle_fault, turn_fault, use_fault, walk_fault}
 use Rattle.bc_words.specs.Commands.{IsHyphened, Parts, ended, dashes, apart, joined, bare}
-use Rattle.bc_words.proofs.App.{app, built_app, finished-is, no_checks, no_defaults, repeated, rules, shape, workers_rule, values_rule, workers-by_id, workers-fault, workers-unfinished, values-by_id, values-fault, workers_id, values_id}
-use Rattle.bc_words.proofs.Rows.{Kept, given_row, has_row-at, kept-given, kept-plain}
-use Rattle.bc_words.proofs.Meets.{Meets, IsPlainMet, double_hyphen, hold, meets, plain_met}
-use Rattle.bc_words.proofs.Meets as met
-use Rattle.bc_words.proofs.Walking.{IsResting, Turn, at, apart_turn, bare_turn, dashes_turn, first_fails, idle-rests, joined_turn, positional-rests, refused_turn, trailing_turn, value_turn}
+use Rattle.bc_words.proofs.App.{repeated, rules, shape, workers_rule, values_rule, workers-by_id, workers-fault, values-by_id, values-fault, workers_id, values_id}
+use Rattle.bc_words.proofs.Rows.{Kept, has_row-at, kept-given, kept-plain}
+use Rattle.bc_words.proofs.Meets.{hold, plain_met}
+use Rattle.bc_words.proofs.Walking.{IsResting, Turn, at, apart_turn, bare_turn, dashes_turn, idle-rests, joined_turn, positional-rests, trailing_turn, value_turn}
 
 abbrev pub IsBare : Text → Type 0
 IsBare word = ¬ IsHyphened word
@@ -150,7 +146,7 @@ pub reads : (name : Text) {rest ws qs : List Text} → Parts rest ws qs
 reads name ended rows pending waiting given new plain rests k e same bares = record {
   no_fault = fault_ends name (at rows pending waiting false) ∙ e;
   kept = subst (λ g. Kept (settled_rows rules pending rows) g (plain ++ [])) (same_given given new same)
-  (subst (λ ps. Kept (settled_rows rules pending rows) given ps) (sym (append-nil plain)) k);
+      (subst (λ ps. Kept (settled_rows rules pending rows) given ps) (sym (append-nil plain)) k);
 }
 reads name (dashes words) rows pending waiting given new plain rests k e same bares =
     let k' = subst (λ g. Kept (settled_rows rules pending rows) g plain) (same_given given new same) k in

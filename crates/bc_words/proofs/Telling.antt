@@ -1,16 +1,16 @@
 -- From what `clap` keeps to the rules: where it finds no fault, and every plain value begins with no hyphen, the rules read the words
 -- as it did.
-use Rattle.std.proofs.Common.{◌≡◌, ◌≢◌, ◌∙◌, ap, sym, subst, refl, ℕ, Bool, true, false, List, [], ◌∷◌, ◌++◌, Option, Some, None, codes, append_assoc, append-nil, option_to_list}
+use Rattle.std.proofs.Common.{◌≡◌, ◌≢◌, ◌∙◌, ap, sym, subst, refl, true, false, List, [], ◌∷◌, ◌++◌, Option, Some, None, codes, append_assoc, append-nil, option_to_list}
 use Rattle.std.specs.List.{AllByRecursion}
 use Rattle.clap.specs.Walk.{Row, Text, Waiting, Walk, idle, option, positional, settled_rows, used}
-use Rattle.clap.specs.Kinds.{Kinds, or_else}
-use Rattle.clap.specs.Faults.{settle_fault, turn_fault, use_fault, walk_fault}
+use Rattle.clap.specs.Kinds.{Kinds}
+use Rattle.clap.specs.Faults.{settle_fault, turn_fault, walk_fault}
 use Rattle.bc_words.specs.Commands.{Parts, ended, dashes, apart, joined, bare}
-use Rattle.bc_words.proofs.App.{rules, shape, workers_rule, values_rule, workers-unfinished, workers_id, values_id}
-use Rattle.bc_words.proofs.Rows.{Kept, kept-given, kept-plain}
+use Rattle.bc_words.proofs.App.{rules, shape, workers_rule, workers-unfinished, workers_id, values_id}
+use Rattle.bc_words.proofs.Rows.{Kept, kept-given}
 use Rattle.bc_words.proofs.Meets.{Meets, double_hyphen, hold, meets}
 use Rattle.bc_words.proofs.Meets as met
-use Rattle.bc_words.proofs.Walking.{IsResting, Turn, at, apart_turn, bare_turn, dashes_turn, first_fails, idle-rests, joined_turn, positional-rests, refused_turn, trailing_turn, value_turn}
+use Rattle.bc_words.proofs.Walking.{IsResting, Turn, at, apart_turn, bare_turn, dashes_turn, idle-rests, joined_turn, positional-rests, refused_turn, trailing_turn, value_turn}
 use Rattle.bc_words.proofs.Reading.{IsBare, rest_fault, rest_rows, or_else_parts, fault_next, rows_next, fault_ends, workers_settle, values_settle, once, twice, kept_value, kept_workers, trails}
 
 -- what is kept at the end is what the rules read of the words that are left

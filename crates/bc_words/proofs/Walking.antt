@@ -2,10 +2,10 @@
 use Rattle.std.proofs.Common.{◌≡◌, ◌≢◌, ◌∙◌, ◌&&◌, ◌||◌, ap, sym, refl, Bool, true, false, List, [], ◌∷◌, ◌++◌, Option, Some, None, cond, codes}
 use Rattle.std.specs.Str.{bytes_eq}
 use Rattle.clap.specs.Lexer.{long_of}
-use Rattle.clap.specs.Walk.{Held, Outcome, Row, Rule, Step, after_flag, option_met, Text, Waiting, Walk, arg_by_index, has_row, idle, option, plain_word, positional, settled, settled_rows, subcommand_met, subcommand_or_other, to_positional, trailing, next, used, value, walked, word_met, after_step, long_met, long_or_other, option_word, pending_count, most_values, pushed}
+use Rattle.clap.specs.Walk.{Held, Outcome, Row, Rule, Step, after_flag, option_met, Text, Waiting, Walk, idle, option, plain_word, positional, settled_rows, subcommand_met, subcommand_or_other, to_positional, trailing, next, used, value, walked, word_met, after_step, long_met, long_or_other, option_word, pushed}
 use Rattle.clap.specs.Kinds.{Kinds, or_else}
-use Rattle.clap.specs.Faults.{flag_word_fault, long_fault, option_fault, other_fault, positional_fault, settle_fault, step_fault, stray_fault, turn_fault, use_fault, word_fault}
-use Rattle.bc_words.proofs.App.{rules, shape, workers_rule, values_rule, workers-by_id, workers-by_long, workers-id, workers-takes, workers-most, values-by_id, values-by_index, values-id, values-several, values-multiple, values-trailing, values-fault, workers_id, values_id}
+use Rattle.clap.specs.Faults.{flag_word_fault, long_fault, option_fault, other_fault, settle_fault, step_fault, turn_fault, use_fault, word_fault}
+use Rattle.bc_words.proofs.App.{rules, shape, workers_rule, values_rule, workers-by_id, workers-by_long, workers-id, values-by_index, values-several, workers_id, values_id}
 use Rattle.bc_words.proofs.Meets.{IsPlainMet, double_hyphen, hold}
 
 -- where the walk stands between two words
@@ -47,7 +47,7 @@ turn_is : (name : Text) (rows : List Row) (pending : Option (Text × List Text))
 unfolding walked
 turn_is name rows pending waiting is_trailing word fault met e f = (
   ap (λ k. or_else k (step_fault (shape name) 1 (word_met rules [] is_trailing waiting 1 word (hold rows pending)).0 (word_met rules [] is_trailing waiting 1 word (hold rows pending)).1)) e
-  ∙ ap (λ (m : Held × Step). or_else fault (step_fault (shape name) 1 m.0 m.1)) f,
+      ∙ ap (λ (m : Held × Step). or_else fault (step_fault (shape name) 1 m.0 m.1)) f,
   ap (λ (m : Held × Step). after_step rules word (at rows pending waiting is_trailing) m.0 m.1) f,
 )
 

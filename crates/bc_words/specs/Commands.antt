@@ -4,6 +4,7 @@ use Rattle.std.specs.Fmt.{decimal}
 use Rattle.bc_words.specs.declared.command.Command.{Command}
 use Rattle.bc_words.specs.declared.command.Command.TheVariants.{Run, Churn}
 
+-- a word of the command line, as its bytes
 abbrev pub Word : Type 0
 Word = List ℕ
 
@@ -32,14 +33,15 @@ pub data Parts : List Word → List Word → List Word → Type 0 where
 abbrev pub GivesWorkers : List Word → ℕ → Type 0
 GivesWorkers values n = ((values ≡ []) × (n ≡ 1)) ⊎ ((values ≡ decimal n ∷ []) × (1 ≤ n) × (n ≤ 16))
 
--- the first word, the values of `--workers` and the plain values ask for the command: `run` takes no plain value, `churn` takes two
+-- The first word, the values of `--workers` and the plain values ask for the command: `run` takes no plain value, and `churn` takes
+-- exactly two, its starting number, below 2^63, and then its operations, 100,000 at most. A number has no sign and no leading zero.
 abbrev pub AsksFor : Word → List Word → List Word → Command → Type 0
 AsksFor first values plain (Run workers) = (first ≡ codes "run") × (plain ≡ []) × GivesWorkers values workers
 AsksFor first values plain (Churn start ops workers) =
     (first ≡ codes "churn") × (plain ≡ decimal start ∷ decimal ops ∷ []) × (start < 2 ^ 63) × (ops ≤ 100000)
     × GivesWorkers values workers
 
--- the words are this command
+-- the words are this command: the first of them and the parts of the others ask for it
 pub record IsCommandOf (words : List Word) (command : Command) : Type 0 where
   pub first : Word
   pub rest : List Word

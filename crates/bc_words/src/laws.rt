@@ -14,5 +14,4 @@ pub fn law_workers_anywhere()
     ensures one_word { (first value : Word) (front back : List Word) (c : Command) → AllByRecursion (λ w. ¬ IsHyphened w) front →
         IsCommandOf (first ∷ (front ++ (codes "--workers=" ++ value) ∷ back)) c
         ↔ IsCommandOf (first ∷ codes "--workers" ∷ value ∷ (front ++ back)) c }
-{
-}
+{}

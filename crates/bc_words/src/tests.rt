@@ -19,12 +19,14 @@ fn is_churn(
     workers: u32,
 ) -> Result<bool, AllocError> {
     let found = command_of(alloc, words)?;
-    Ok(found
-        == Some(Command::Churn {
-            start,
-            ops,
-            workers,
-        }))
+    Ok(
+        found
+            == Some(Command::Churn {
+                start,
+                ops,
+                workers,
+            }),
+    )
 }
 
 /// Whether the words are no command.
@@ -56,7 +58,15 @@ fn churn_takes_its_workers_before_between_and_behind_its_numbers(
 fn churn_takes_the_greatest_numbers_and_none_above(rt: HostRuntime) -> Result<(), Fail> {
     let alloc = rt.alloc();
     let greatest = 9_223_372_036_854_775_807;
-    assert!(rt; is_churn(alloc, &["churn", "9223372036854775807", "100000"], greatest, 100_000, 1)?);
+    assert!(rt;
+        is_churn(
+            alloc,
+            &["churn", "9223372036854775807", "100000"],
+            greatest,
+            100_000,
+            1
+        )?
+    );
     assert!(rt; is_none(alloc, &["churn", "9223372036854775808", "0"])?);
     assert!(rt; is_none(alloc, &["churn", "7", "100001"])?);
     Ok(())

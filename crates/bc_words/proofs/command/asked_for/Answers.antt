@@ -1,5 +1,4 @@
-use Rattle.std.proofs.Common.{◌≡◌, rules, arith, codes, map, Some, None}
-use Rattle.std.specs.Fmt.{decimal}
+use Rattle.std.proofs.Common.{◌≡◌, rules, arith, Some, None}
 use Rattle.bc_words.proofs.Lists.{no_words, two_words, asked_workers}
 use Rattle.bc_words.proofs.command.asked_for.Goals as goal
 
