@@ -1,0 +1,2 @@
+-- Which words are a command.
+pub mod Commands
