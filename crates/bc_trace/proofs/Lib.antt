@@ -42,3 +42,9 @@ pub mod Endings
 pub mod Shown
 -- The replies of a run fit, and are short
 pub mod Fitting
+-- What the loops of `churn` draw
+pub mod Drawing
+-- The trace of `churn` is well formed
+pub mod Formed
+-- Replies counted one at a time
+pub mod Counting

@@ -18,3 +18,9 @@ pub mod Drafts
 pub mod Reading
 -- What a line of the reader stands for.
 pub mod Said
+-- What the generator of `churn` draws
+pub mod Draws
+-- The workload of `churn`
+pub mod Churn
+-- The counts of the replies of a run
+pub mod Counts

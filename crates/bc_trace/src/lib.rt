@@ -26,8 +26,11 @@
 
 mod ahead;
 mod checking;
+mod churn;
+mod counts;
 mod cutting;
 mod draft;
+mod draws;
 mod fault;
 mod grammar;
 mod laws;
@@ -39,6 +42,8 @@ mod replies;
 mod words;
 mod writing;
 
+pub use churn::generate;
+pub use counts::{Counts, churn_text};
 pub use fault::{Cause, ReadTrace, TraceFault};
 pub use laws::{
     law_first_lines, law_next_word, law_one_fault, law_one_reply, law_one_text, law_one_trace,

@@ -215,6 +215,60 @@ fn every_reply_is_written_on_a_line_of_its_own(rt: HostRuntime) -> Result<(), Fa
 }
 
 #[test]
+fn the_trace_of_churn_is_written_as_its_text_and_read_again(rt: HostRuntime) -> Result<(), Fail> {
+    let wanted =
+        b"bc-trace 1\nlanes 2\ndomains 4\nslots 8\nsuperpages 32\nnursery 2\nbuffer 64\nframes 24\nphase\nturn 94 63 49\nturn 17 105 3\nlane 0\nclear 0 0\nclear 0 1\nclear 0 2\nclear 0 3\nclear 0 4\nclear 0 5\nclear 0 6\nclear 0 7\nclear 2 0\nclear 2 1\nclear 2 2\nclear 2 3\nclear 2 4\nclear 2 5\nclear 2 6\nclear 2 7\nnew 0 3 6\nload 3 0 0 1 2\nnew 3 4 7\nlane 1\nclear 1 0\nclear 1 1\nclear 1 2\nclear 1 3\nclear 1 4\nclear 1 5\nclear 1 6\nclear 1 7\nclear 3 0\nclear 3 1\nclear 3 2\nclear 3 3\nclear 3 4\nclear 3 5\nclear 3 6\nclear 3 7\nload 1 6 2 1 0\nnew 1 5 0\nlink 1 6 3 1 3\ngive 1 1\nend\ndone\n";
+    let trace = generate(rt.alloc(), 7, 3)?;
+    let text = write(rt.alloc(), &trace)?;
+    assert_eq!(rt; text.as_slice(), wanted.as_slice());
+    assert!(rt; text.len() < 10000);
+    let again = read(rt.alloc(), &text).ok().ok_or("the text is a trace")?;
+    assert_eq!(rt; write(rt.alloc(), &again)?.as_slice(), text.as_slice());
+    Ok(())
+}
+
+#[test]
+fn the_operations_of_churn_go_on_in_a_phase_more_past_each_thousand(
+    rt: HostRuntime,
+) -> Result<(), Fail> {
+    for (ops, phases) in [(0, 0), (1, 1), (1000, 1), (1001, 2), (2000, 2)] {
+        let trace = generate(rt.alloc(), 1, ops)?;
+        assert_eq!(rt; trace.phases.len(), phases);
+    }
+    Ok(())
+}
+
+#[test]
+fn a_churn_of_no_operations_has_eleven_counts_of_0(rt: HostRuntime) -> Result<(), Fail> {
+    let text = churn_text(rt.alloc(), 7, 0, &Counts::new())?;
+    let wanted =
+        b"churn 7 0\nobj 0\nok 0\nnil 0\nnum 0\nref 0\nlen 0\nyes 0\nno 0\nnotobj 0\nrange 0\nforeign 0\ndone\n";
+    assert_eq!(rt; wanted.len(), 88);
+    assert_eq!(rt; text.as_slice(), wanted.as_slice());
+    Ok(())
+}
+
+#[test]
+fn replies_are_counted_by_their_kinds(rt: HostRuntime) -> Result<(), Fail> {
+    let mut first = Vec::new(rt.alloc());
+    for reply in [Reply::Done, Reply::Num(5), Reply::Num(6), Reply::Foreign] {
+        first.push(reply)?;
+    }
+    let mut second = Vec::new(rt.alloc());
+    for reply in [Reply::Len(5), Reply::No, Reply::Done] {
+        second.push(reply)?;
+    }
+    let lanes = vec![in rt.alloc(); first, second]?;
+    let mut counts = Counts::new();
+    counts.add(&Replies { lanes });
+    let text = churn_text(rt.alloc(), 0, 12, &counts)?;
+    let wanted =
+        b"churn 0 12\nobj 0\nok 2\nnil 0\nnum 2\nref 0\nlen 1\nyes 0\nno 1\nnotobj 0\nrange 0\nforeign 1\ndone\n";
+    assert_eq!(rt; text.as_slice(), wanted.as_slice());
+    Ok(())
+}
+
+#[test]
 fn each_cause_is_written_as_its_word(rt: HostRuntime) -> Result<(), Fail> {
     for (cause, text) in [
         (Cause::Form, "form"),

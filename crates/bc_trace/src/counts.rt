@@ -1,0 +1,139 @@
+//! How many replies of each kind a run has had, and the output of `churn`, which tells them.
+ghost use Rattle.std.specs.Prelude.{◌≡◌, ◌+◌, ◌<◌, ◌^◌, ◌++◌, [], ◌∷◌, List, ℕ, length, sum_by, slice_index, OnOk, IfOk};
+ghost use Rattle.std.specs.Fmt.{decimal};
+ghost use Rattle.bc_model.specs.declared.operations.Reply.{Reply as ModelReply};
+ghost use Rattle.bc_trace.specs.Counts.{churn_line, churn_text, count_line, count_lines, count_of_kind, counts, kind_names, kind_of_reply, phase_replies, run_counts};
+ghost use Rattle.bc_trace.specs.Replies.{done_text};
+
+use crate::replies::push_number;
+use bc_model::{Replies, Reply};
+use std::alloc::{AllocError, Global};
+use std::marker::Model;
+
+/// How many replies of each of the eleven kinds a run has had so far.
+#[derive(Clone, Copy, Debug)]
+pub struct Counts {
+    kinds: [u64; 11],
+}
+
+impl Model for Counts {
+    ghost use Rattle.std.specs.Prelude.{List, ℕ};
+
+    ghost Value = { List ℕ };
+
+    ghost view = { λ c. c.kinds };
+
+    ghost inverse = { λ cs. record { kinds = cs } };
+}
+
+/// The place of the reply's kind among the eleven.
+#[tactic(auto, unfolding(crate::specs::Counts::kind_of_reply))]
+fn kind_of(reply: &Reply) -> usize
+    ensures kind { result ≡ kind_of_reply reply.now }
+    ensures below { result < 11 }
+{
+    match *reply {
+        Reply::Obj(_) => 0,
+        Reply::Done => 1,
+        Reply::Nil => 2,
+        Reply::Num(_) => 3,
+        Reply::Ref => 4,
+        Reply::Len(_) => 5,
+        Reply::Yes => 6,
+        Reply::No => 7,
+        Reply::NotObj => 8,
+        Reply::Range => 9,
+        Reply::Foreign => 10,
+    }
+}
+
+impl Counts {
+    /// Those of no replies.
+    #[tactic(auto, unfolding(crate::specs::Counts::counts))]
+    pub fn new() -> Counts
+        ensures { result ≡ counts [] }
+    {
+        Counts { kinds: [0; 11] }
+    }
+
+    /// Counts the replies of a lane too.
+    fn add_lane(&mut self, replies: &[Reply])
+        requires { (k : ℕ) → slice_index self.old k + length replies.now < 2 ^ 64 }
+        ensures each { (k : ℕ) → slice_index self.new k ≡ slice_index self.old k + count_of_kind k replies.now }
+        ensures kinds { length self.new ≡ length self.old }
+    {
+        for reply in replies {
+            self.kinds[kind_of(reply)] += 1;
+        }
+    }
+
+    /// Counts the replies of one more phase too.
+    pub fn add(&mut self, replies: &Replies)
+        requires { (k : ℕ) → slice_index self.old k + length (phase_replies replies.now) < 2 ^ 64 }
+        ensures each { (k : ℕ) → slice_index self.new k ≡ slice_index self.old k + count_of_kind k (phase_replies replies.now) }
+        ensures phase { (before : List (List (List ModelReply))) → self.old ≡ run_counts before → self.new ≡ run_counts (before ++ replies.now ∷ []) }
+    {
+        for lane in &replies.lanes {
+            self.add_lane(lane);
+        }
+    }
+}
+
+/// Puts a line at the end: the name of a kind, and how many there were.
+#[tactic(auto, unfolding(crate::specs::Counts::count_line))]
+fn push_count(out: &mut Vec<u8>, name: &[u8], count: u64) -> Result<(), AllocError>
+    ensures { OnOk result (out.new.items ≡ out.old.items ++ count_line name.now count) }
+{
+    out.extend_from_slice(name)?;
+    out.push(b' ')?;
+    push_number(out, count)?;
+    out.extend_from_slice(b"\n")
+}
+
+/// Puts the line of the workload at the end.
+#[tactic(auto, unfolding(crate::specs::Counts::churn_line))]
+fn push_churn(out: &mut Vec<u8>, start: u64, ops: u32) -> Result<(), AllocError>
+    ensures { OnOk result (out.new.items ≡ out.old.items ++ churn_line start ops) }
+{
+    out.extend_from_slice(b"churn ")?;
+    push_number(out, start)?;
+    out.push(b' ')?;
+    push_number(out, ops as u64)?;
+    out.extend_from_slice(b"\n")
+}
+
+/// Puts the lines of the eleven counts at the end.
+fn push_counts(out: &mut Vec<u8>, counts: &Counts) -> Result<(), AllocError>
+    ensures { OnOk result (out.new.items ≡ out.old.items ++ count_lines kind_names counts.now 0) }
+{
+    let kinds = counts.kinds;
+    push_count(out, b"obj", kinds[0])?;
+    push_count(out, b"ok", kinds[1])?;
+    push_count(out, b"nil", kinds[2])?;
+    push_count(out, b"num", kinds[3])?;
+    push_count(out, b"ref", kinds[4])?;
+    push_count(out, b"len", kinds[5])?;
+    push_count(out, b"yes", kinds[6])?;
+    push_count(out, b"no", kinds[7])?;
+    push_count(out, b"notobj", kinds[8])?;
+    push_count(out, b"range", kinds[9])?;
+    push_count(out, b"foreign", kinds[10])?;
+    Ok(())
+}
+
+/// The whole output of `bc churn start ops`, whose replies have these counts.
+#[tactic(auto, unfolding(crate::specs::Counts::churn_text, crate::specs::Replies::done_text))]
+pub fn churn_text(
+    alloc: Global,
+    start: u64,
+    ops: u32,
+    counts: &Counts,
+) -> Result<Vec<u8>, AllocError>
+    ensures { IfOk result (λ text. text.items ≡ churn_text start ops counts.now) }
+{
+    let mut text = Vec::new(alloc);
+    push_churn(&mut text, start, ops)?;
+    push_counts(&mut text, counts)?;
+    text.extend_from_slice(b"done\n")?;
+    Ok(text)
+}
