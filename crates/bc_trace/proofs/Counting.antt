@@ -1,6 +1,5 @@
 -- Replies counted one at a time, and the lines of the counts.
-use Rattle.std.proofs.Common.{◌≡◌, ℕ, ◌+◌, ◌-◌, ◌<◌, ◌≤◌, ◌==◌, if◌then◌else◌, List, [], ◌∷◌, ◌++◌, map, Bool, true, false, zero, suc, length, take, get_or, set, slice_index, refl, sym, ap, subst, ◌∙◌, inl, inr, append_assoc, arith}
-use Rattle.std.specs.List.{count_by, flat_map, sum_by}
+use Rattle.std.proofs.Common.{◌≡◌, ℕ, ◌+◌, ◌-◌, ◌<◌, ◌==◌, if◌then◌else◌, List, [], ◌∷◌, ◌++◌, map, Bool, true, false, zero, suc, length, take, get_or, set, slice_index, refl, sym, ap, subst, ◌∙◌, inl, inr, append_assoc, arith}
 use Rattle.std.proofs.lemmas.Bool.{cases_lt}
 use Rattle.std.proofs.lemmas.Bool.Decides.{eqb_tells}
 use Rattle.std.proofs.lemmas.Grind.{same_number_lists, flat_map-append}
@@ -9,7 +8,6 @@ use Rattle.std.proofs.lemmas.List.Folds.{flat_map-map, length-flat_map-take}
 use Rattle.std.proofs.lemmas.List.Sums.{count_by_more_no, count_by_more_yes, count_by-le-length, sum_by-append}
 use Rattle.bc_model.specs.State.{numbers_below}
 use Rattle.bc_model.specs.declared.operations.Reply.{Reply}
-use Rattle.bc_model.specs.declared.operations.Reply.TheVariants as replies
 use Rattle.bc_model.proofs.Openings.{length-numbers_below}
 use Rattle.std.specs.Prelude.{codes}
 use Rattle.bc_trace.specs.Counts.{all_replies, count_line, count_lines, count_of_kind, counts, kind_names, kind_of_reply, phase_replies, run_counts}

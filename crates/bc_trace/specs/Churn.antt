@@ -73,12 +73,12 @@ abbrev pub number_before : ℕ → ℕ → ℕ → ℕ
 number_before start ops zero = start
 number_before start ops (suc k) = number_after_phase (ops_in ops k) (number_before start ops k)
 
-abbrev pub give_at : ℕ → ℕ → ℕ → Give
-give_at start ops k = churn_give k (ops_in ops k) (number_before start ops k)
+abbrev pub phase_give : ℕ → ℕ → ℕ → Give
+phase_give start ops k = churn_give k (ops_in ops k) (number_before start ops k)
 
 -- whose each domain is in phase k, by the gives of the phases before it
 abbrev pub holders_before : ℕ → ℕ → ℕ → List ℕ
-holders_before start ops k = (after_gives (opening churn_setup) (map (give_at start ops) (numbers_below k))).holders
+holders_before start ops k = (after_gives (opening churn_setup) (map (phase_give start ops) (numbers_below k))).holders
 
 abbrev pub churn_phase : ℕ → ℕ → ℕ → PhaseLists
 churn_phase start ops k = phase_from k (ops_in ops k) (number_before start ops k) (holders_before start ops k)

@@ -1,9 +1,8 @@
 //! How many replies of each kind a run has had, and the output of `churn`, which tells them.
-ghost use Rattle.std.specs.Prelude.{◌≡◌, ◌+◌, ◌<◌, ◌^◌, ◌++◌, [], ◌∷◌, List, ℕ, length, sum_by, slice_index, OnOk, IfOk};
+ghost use Rattle.std.specs.Prelude.{◌≡◌, ◌+◌, ◌<◌, ◌^◌, ◌++◌, [], ◌∷◌, List, ℕ, length, slice_index, OnOk, IfOk};
 ghost use Rattle.std.specs.Fmt.{decimal};
 ghost use Rattle.bc_model.specs.declared.operations.Reply.{Reply as ModelReply};
 ghost use Rattle.bc_trace.specs.Counts.{churn_line, churn_text, count_line, count_lines, count_of_kind, counts, kind_names, kind_of_reply, phase_replies, run_counts};
-ghost use Rattle.bc_trace.specs.Replies.{done_text};
 
 use crate::replies::push_number;
 use bc_model::{Replies, Reply};

@@ -27,6 +27,7 @@
 mod ahead;
 mod checking;
 mod churn;
+mod churn_laws;
 mod counts;
 mod cutting;
 mod draft;
@@ -43,6 +44,9 @@ mod words;
 mod writing;
 
 pub use churn::generate;
+pub use churn_laws::{
+    law_churn_need, law_churn_ops, law_churn_trace, law_counts, law_kinds, law_reply_kinds,
+};
 pub use counts::{Counts, churn_text};
 pub use fault::{Cause, ReadTrace, TraceFault};
 pub use laws::{

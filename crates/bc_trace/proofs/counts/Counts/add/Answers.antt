@@ -1,7 +1,7 @@
-use Rattle.std.proofs.Common.{◌≡◌, ◌^◌, ◌+◌, ◌<◌, ℕ, List, length, map, get_or, ap, sym, subst, refl, ◌∙◌, arith}
+use Rattle.std.proofs.Common.{◌^◌, ◌+◌, ◌<◌, List, length, map, get_or, ap, sym, subst, refl, ◌∙◌, arith}
 use Rattle.std.proofs.lemmas.List.{take_all}
 use Rattle.bc_model.specs.declared.operations.Reply.{Reply}
-use Rattle.bc_trace.specs.Counts.{count_of_kind, phase_replies}
+use Rattle.bc_trace.specs.Counts.{phase_replies}
 use Rattle.bc_trace.proofs.Counting.{Counted, lanes-counted, room-for-lane, counts-phase, counts-length}
 use Rattle.bc_trace.proofs.counts.Counts.add.Goals as goal
 
