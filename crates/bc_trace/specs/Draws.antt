@@ -41,7 +41,7 @@ verb_of_kind k =
     if nat_lt k 18 then verbs.Copy else
     if nat_lt k 19 then verbs.Clear else verbs.Same
 
--- the same, from the first kind of an operation to the last
+-- the first of an operation's kinds
 abbrev pub first_kind : Verb → ℕ
 first_kind verbs.New = 0
 first_kind verbs.Who = 6
@@ -54,6 +54,7 @@ first_kind verbs.Copy = 17
 first_kind verbs.Clear = 18
 first_kind verbs.Same = 19
 
+-- and the last one
 abbrev pub last_kind : Verb → ℕ
 last_kind verbs.New = 5
 last_kind verbs.Who = 6
@@ -98,10 +99,11 @@ drawn_with verbs.Copy x = ops.Copy (drawn_slot x) (drawn_slot (number_after 2 x)
 drawn_with verbs.Clear x = ops.Clear (drawn_slot x)
 drawn_with verbs.Same x = ops.Same (drawn_slot x) (drawn_slot (number_after 2 x))
 
--- what is drawn first, the kind, says
+-- which operation it is the first draw says, that of the kind
 abbrev pub drawn_verb : ℕ → Verb
 drawn_verb x = verb_of_kind (draw x 20)
 
+-- the operation that is drawn from a number on
 abbrev pub drawn_op : ℕ → Op
 drawn_op x = drawn_with (drawn_verb x) (next_number x)
 
@@ -109,7 +111,7 @@ drawn_op x = drawn_with (drawn_verb x) (next_number x)
 unfoldable pub number_after_op : ℕ → ℕ
 number_after_op x = number_after (length (limits_of (drawn_verb x))) (next_number x)
 
--- and after those of so many operations
+-- the number after the draws of so many operations
 abbrev pub number_after_ops : ℕ → ℕ → ℕ
 number_after_ops zero x = x
 number_after_ops (suc n) x = number_after_op (number_after_ops n x)

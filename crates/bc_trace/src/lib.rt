@@ -22,6 +22,11 @@
 // the code mirrors. What counts are the clauses of `read`, which don't name it: a trace is answered
 // exactly where the bytes spell it, and a fault exactly where it is the text's fault. `laws` has
 // what the definitions say together: one trace a text, one text a trace, and one fault a bad text.
+//
+// `churn` makes a trace of its own from a starting number: `draws` has the generator and the table of kinds, and
+// `specs/Churn.antt` says the whole trace as lists. `counts` counts the replies of a run by their kinds and writes the output.
+// `churn_laws` has the table, the sums, and why the run never wants for superpages: a lane clears what it holds as a phase
+// begins, so that what is reached was made in that phase or the one before it.
 #![tactic(auto)]
 
 mod ahead;
