@@ -1,15 +1,14 @@
 -- Replies counted one at a time, and the lines of the counts.
 use Rattle.std.proofs.Common.{◌≡◌, ℕ, ◌+◌, ◌-◌, ◌<◌, ◌≤◌, ◌==◌, if◌then◌else◌, List, [], ◌∷◌, ◌++◌, map, Bool, true, false, zero, suc, length, take, get_or, set, slice_index, refl, sym, ap, subst, ◌∙◌, inl, inr, append_assoc, arith}
-use Rattle.std.specs.List.{count_by, flat_map, sum_by}
+use Rattle.std.specs.List.{sum}
 use Rattle.std.proofs.lemmas.Bool.{cases_lt}
 use Rattle.std.proofs.lemmas.Bool.Decides.{eqb_tells}
 use Rattle.std.proofs.lemmas.Grind.{same_number_lists, flat_map-append}
-use Rattle.std.proofs.lemmas.List.{get_or-set_same, get_or-set_other, get_or-map, get_or_append_left, get_or-append_right, length-take, map_more, append-nil}
+use Rattle.std.proofs.lemmas.List.{get_or-set_same, get_or-set_other, get_or-map, get_or_append_left, get_or-append_right, get_or_past, length-take, map_more, append-nil}
 use Rattle.std.proofs.lemmas.List.Folds.{flat_map-map, length-flat_map-take}
-use Rattle.std.proofs.lemmas.List.Sums.{count_by_more_no, count_by_more_yes, count_by-le-length, sum_by-append}
+use Rattle.std.proofs.lemmas.List.Sums.{count_by_more_no, count_by_more_yes, count_by-le-length, get_or-le-sum_by, sum_by-append}
 use Rattle.bc_model.specs.State.{numbers_below}
 use Rattle.bc_model.specs.declared.operations.Reply.{Reply}
-use Rattle.bc_model.specs.declared.operations.Reply.TheVariants as replies
 use Rattle.bc_model.proofs.Openings.{length-numbers_below}
 use Rattle.std.specs.Prelude.{codes}
 use Rattle.bc_trace.specs.Counts.{all_replies, count_line, count_lines, count_of_kind, counts, kind_names, kind_of_reply, phase_replies, run_counts}
@@ -61,6 +60,13 @@ room-for-lane f old now vs i d k room within so_far h =
     let whole = ap length (flat_map-map (λ (rs : List Reply). rs) f vs) in
     let less = length-flat_map-take f vs i d within in
     omega (arith, so_far k, few, front, whole, less, h)
+
+pub at-most-sum : (xs : List ℕ) (k : ℕ) → get_or xs k 0 ≤ sum xs
+at-most-sum xs k =
+    elim (cases_lt k (length xs)) [
+      | inl within ↦ get_or-le-sum_by (λ (x : ℕ). x) xs k 0 within
+      | inr past ↦ (let e = get_or_past xs k 0 past in omega (arith, e))
+    ]
 
 -- ---- a list of the eleven counts
 

@@ -1,5 +1,5 @@
 -- What the loops of `churn` draw, one more at a time.
-use Rattle.std.proofs.Common.{◌≡◌, ℕ, ◌+◌, ◌==◌, ◌≤◌, if◌then◌else◌, List, [], ◌∷◌, ◌++◌, map, Bool, true, false, zero, suc, slice_index, refl, sym, ap, subst, ◌∙◌, append_assoc, slice_set, eq-eqb, arith}
+use Rattle.std.proofs.Common.{◌≡◌, ℕ, ◌+◌, ◌==◌, ◌≤◌, if◌then◌else◌, List, [], ◌∷◌, ◌++◌, map, Bool, true, false, suc, slice_index, refl, sym, ap, subst, ◌∙◌, slice_set, eq-eqb, arith}
 use Rattle.std.proofs.lemmas.Bool.{ne_eqb}
 use Rattle.std.specs.List.{flat_map}
 use Rattle.std.proofs.lemmas.List.{append-nil, map-append}
@@ -12,7 +12,7 @@ use Rattle.bc_model.specs.State.{State, given, numbers_below}
 use Rattle.bc_model.specs.declared.traces.Give.{Give}
 use Rattle.bc_model.specs.declared.operations.Op.{Op}
 use Rattle.bc_trace.specs.Draws.{drawn_op, number_after_op, number_after_ops}
-use Rattle.bc_trace.specs.Churn.{churn_phase, churn_setup, clears_below, domain_clears, drawn_ops, give_at, holders_before, number_after_phase, number_before, ops_in, phase_from, phases_of, churn_give, churn_trace}
+use Rattle.bc_trace.specs.Churn.{churn_phase, churn_setup, clears_below, domain_clears, drawn_ops, phase_give, holders_before, number_after_phase, number_before, ops_in, phase_from, phases_of, churn_give, churn_trace}
 
 pub clears-none : (holders : List ℕ) (j : ℕ) → clears_below holders j 0 ≡ []
 unfolding clears_below
@@ -22,7 +22,7 @@ clears-one : (holders : List ℕ) (j n : ℕ) (b : Bool) → flat_map domain_cle
 clears-one holders j n true = append-nil (domain_clears n)
 clears-one holders j n false = refl
 
-clears-suc : (holders : List ℕ) (j n : ℕ) → clears_below holders j (suc n) ≡ clears_below holders j n ++ (if slice_index holders n == j then domain_clears n else [])
+pub clears-suc : (holders : List ℕ) (j n : ℕ) → clears_below holders j (suc n) ≡ clears_below holders j n ++ (if slice_index holders n == j then domain_clears n else [])
 unfolding clears_below
 clears-suc holders j n =
     ap (flat_map domain_clears) (filter-append (λ d. slice_index holders d == j) (numbers_below n) (n ∷ []))
@@ -56,13 +56,15 @@ unfolding after_gives
 after_gives-more s [] g = refl
 after_gives-more s (x ∷ gs) g = after_gives-more (given s x) gs g
 
-pub holders-more : (start ops k : ℕ) → holders_before start ops (k + 1) ≡ slice_set (holders_before start ops k) (give_at start ops k).domain (give_at start ops k).lane
+pub holders-suc : (start ops k : ℕ) → holders_before start ops (suc k) ≡ slice_set (holders_before start ops k) (phase_give start ops k).domain (phase_give start ops k).lane
+holders-suc start ops k =
+    ap (λ (gs : List Give). (after_gives (opening churn_setup) gs).holders) (map-append (phase_give start ops) (numbers_below k) (k ∷ []))
+    ∙ ap (λ (s : State). s.holders) (after_gives-more (opening churn_setup) (map (phase_give start ops) (numbers_below k)) (phase_give start ops k))
+
+pub holders-more : (start ops k : ℕ) → holders_before start ops (k + 1) ≡ slice_set (holders_before start ops k) (phase_give start ops k).domain (phase_give start ops k).lane
 holders-more start ops k =
     let e : k + 1 ≡ suc k = omega arith in
-    let gives = map-append (give_at start ops) (numbers_below k) (k ∷ []) in
-    subst (λ (m : ℕ). holders_before start ops m ≡ slice_set (holders_before start ops k) (give_at start ops k).domain (give_at start ops k).lane) (sym e)
-    (ap (λ (gs : List Give). (after_gives (opening churn_setup) gs).holders) gives
-    ∙ ap (λ (s : State). s.holders) (after_gives-more (opening churn_setup) (map (give_at start ops) (numbers_below k)) (give_at start ops k)))
+    subst (λ (m : ℕ). holders_before start ops m ≡ slice_set (holders_before start ops k) (phase_give start ops k).domain (phase_give start ops k).lane) (sym e) (holders-suc start ops k)
 
 pub before-more : (start ops k : ℕ) → number_before start ops (k + 1) ≡ number_after_phase (ops_in ops k) (number_before start ops k)
 before-more start ops k = let e : k + 1 ≡ suc k = omega arith in rw e refl
@@ -84,7 +86,7 @@ pub holders-made : (start ops k x : ℕ) (holders new : List ℕ) → x ≡ numb
 holders-made start ops k x holders new number held made =
     made
     ∙ ap (λ (y : ℕ). slice_set holders (churn_give k (ops_in ops k) y).domain (churn_give k (ops_in ops k) y).lane) number
-    ∙ ap (λ (hs : List ℕ). slice_set hs (give_at start ops k).domain (give_at start ops k).lane) held
+    ∙ ap (λ (hs : List ℕ). slice_set hs (phase_give start ops k).domain (phase_give start ops k).lane) held
     ∙ sym (holders-more start ops k)
 
 -- as many phases as there are thousands, rounded up

@@ -1,15 +1,13 @@
 -- The trace of `churn` is well formed.
-use Rattle.std.proofs.Common.{◌≡◌, ℕ, ◌+◌, ◌-◌, ◌*◌, ◌/◌, ◌%◌, ◌^◌, ◌<◌, ◌≤◌, ◌==◌, if◌then◌else◌, List, [], ◌∷◌, ◌++◌, map, min, Bool, true, false, zero, suc, length, slice_index, refl, sym, ap, subst, ◌∙◌, arith, rules}
+use Rattle.std.proofs.Common.{ℕ, ◌^◌, ◌<◌, ◌≤◌, ◌==◌, if◌then◌else◌, List, [], ◌∷◌, ◌++◌, map, Bool, true, false, zero, suc, slice_index, refl, arith}
 use Rattle.std.specs.List.{flat_map, AllByRecursion, filter}
-use Rattle.bc_model.specs.Lists.{PhaseLists, TraceLists}
 use Rattle.bc_model.specs.State.{numbers_below}
-use Rattle.bc_model.specs.WellFormed.{IsTrace, IsPhase, IsSetup, IsOp, IsTurn, IsGive}
-use Rattle.bc_model.specs.declared.operations.Op.{Op}
+use Rattle.bc_model.specs.WellFormed.{IsTrace, IsPhase, IsSetup, IsOp, IsTurn}
 use Rattle.bc_model.specs.declared.operations.Op.TheVariants as ops
 use Rattle.bc_trace.specs.declared.words.Verb.{Verb}
 use Rattle.bc_trace.specs.declared.words.Verb.TheVariants as verbs
-use Rattle.bc_trace.specs.Draws.{draw, draws, next_number, number_after, drawn_with, drawn_op, number_after_op, number_after_ops}
-use Rattle.bc_trace.specs.Churn.{churn_setup, drawn_hints, number_before_lane, drawn_ops, held_below, domain_clears, clears_below, lane_clears, churn_lane, churn_give, phase_from, phases_of, ops_in, number_before, holders_before, churn_phase, churn_trace}
+use Rattle.bc_trace.specs.Draws.{draw, number_after, drawn_with, drawn_op, number_after_ops}
+use Rattle.bc_trace.specs.Churn.{churn_setup, drawn_hints, number_before_lane, drawn_ops, held_below, domain_clears, clears_below, lane_clears, churn_lane, phase_from, phases_of, churn_phase, churn_trace}
 
 pub draw-below : (x m : ℕ) → 0 < m → draw x m < m
 unfolding draw

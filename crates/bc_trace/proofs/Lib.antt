@@ -48,3 +48,15 @@ pub mod Drawing
 pub mod Formed
 -- Replies counted one at a time
 pub mod Counting
+-- Young objects
+pub mod Young
+-- Phases of the churn: what is behind their clears
+pub mod Cleared
+-- How many there can be
+pub mod Few
+-- No state of the churn needs more than 27 superpages
+pub mod ChurnNeed
+-- How many operations and replies the churn has
+pub mod ChurnSums
+-- The table of kinds
+pub mod KindTable

@@ -1,6 +1,6 @@
 -- A line that the text begins with is read, and is what the exact way reads there.
 use Rattle.std.proofs.Common.{◌≡◌, ℕ, ◌+◌, ◌<◌, ◌^◌, ◌≤◌, true, eqb, List, [], ◌∷◌, ◌++◌, length, set, take, Ok, refl, sym, ap, ◌∙◌, append_assoc, arith}
-use Rattle.std.specs.List.{AllByRecursion, flat_map}
+use Rattle.std.specs.List.{AllByRecursion}
 use Rattle.std.specs.Fmt.{decimal}
 use Rattle.std.proofs.lemmas.List.{length-append, take_more_set}
 use Rattle.bc_model.specs.WellFormed.{IsNumber, IsOp, IsGive}
@@ -14,7 +14,7 @@ use Rattle.bc_trace.specs.declared.words.Keyword.{Keyword}
 use Rattle.bc_trace.specs.declared.words.Keyword.TheVariants as words
 use Rattle.bc_trace.specs.Words.{name, verb_name}
 use Rattle.bc_trace.specs.Lines.{Line, phase, turn, lane, op, give, end, word_of_line, operands, verb_of_op, operands_of_op, spelling, line_text}
-use Rattle.bc_trace.specs.Grammar.{may_stand, MayStand, arity, IsCount, Passes}
+use Rattle.bc_trace.specs.Grammar.{may_stand, arity, IsCount, Passes}
 use Rattle.bc_trace.specs.Drafts.{DraftLists, put}
 use Rattle.bc_trace.specs.Reading.{lines_of, reading, line_at}
 use Rattle.bc_trace.specs.Said.{IsSmall, operands_text, IsAhead}

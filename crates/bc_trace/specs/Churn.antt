@@ -10,6 +10,7 @@ use Rattle.bc_model.specs.declared.traces.Give.{Give}
 use Rattle.bc_model.specs.declared.traces.Setup.{Setup}
 use Rattle.bc_trace.specs.Draws.{draw, draws, next_number, number_after, drawn_op, number_after_ops}
 
+-- two lanes, four domains of eight slots, 32 superpages
 abbrev pub churn_setup : Setup
 churn_setup = record { lanes = 2; domains = 4; slots = 8; superpages = 32; nursery = 2; buffer = 64; frames = 24 }
 
@@ -24,6 +25,7 @@ abbrev pub number_before_lane : ℕ → ℕ → ℕ → ℕ
 number_before_lane n x zero = number_after 6 x
 number_before_lane n x (suc j) = number_after_ops n (number_before_lane n x j)
 
+-- n operations, drawn one after another
 abbrev pub drawn_ops : ℕ → ℕ → List Op
 drawn_ops n x = map (λ i. drawn_op (number_after_ops i x)) (numbers_below n)
 
@@ -35,6 +37,7 @@ held_below holders j n = filter (λ d. slice_index holders d == j) (numbers_belo
 unfoldable pub domain_clears : ℕ → List Op
 domain_clears d = map (λ s. ops.Clear (record { domain = d; slot = s })) (numbers_below 8)
 
+-- and their clears
 unfoldable pub clears_below : List ℕ → ℕ → ℕ → List Op
 clears_below holders j n = flat_map domain_clears (held_below holders j n)
 
@@ -42,6 +45,7 @@ clears_below holders j n = flat_map domain_clears (held_below holders j n)
 abbrev pub lane_clears : List ℕ → ℕ → List Op
 lane_clears holders j = clears_below holders j 4
 
+-- the operations of a lane: its clears, and then n drawn ones
 abbrev pub churn_lane : ℕ → ℕ → List ℕ → ℕ → List Op
 churn_lane n x holders j = lane_clears holders j ++ drawn_ops n (number_before_lane n x j)
 
@@ -49,6 +53,7 @@ churn_lane n x holders j = lane_clears holders j ++ drawn_ops n (number_before_l
 abbrev pub churn_give : ℕ → ℕ → ℕ → Give
 churn_give k n x = record { domain = (k + 1) % 4; lane = draw (number_before_lane n x 2) 2 }
 
+-- phase k with n drawn operations a lane, from the number x before it and whose the domains are then
 unfoldable pub phase_from : ℕ → ℕ → ℕ → List ℕ → PhaseLists
 phase_from k n x holders = record {
   turns = drawn_hints x ∷ drawn_hints (number_after 3 x) ∷ [];
@@ -56,15 +61,17 @@ phase_from k n x holders = record {
   gives = churn_give k n x ∷ [];
 }
 
+-- the give is the last draw
 unfoldable pub number_after_phase : ℕ → ℕ → ℕ
 number_after_phase n x = next_number (number_before_lane n x 2)
 
 -- ---- the trace
 
--- a thousand drawn operations a lane in each phase, and what is left of them in the last one
+-- a phase for each thousand drawn operations of a lane, or part of it
 abbrev pub phases_of : ℕ → ℕ
 phases_of ops = (ops + 999) / 1000
 
+-- a thousand of them in each phase, and what is left in the last one
 abbrev pub ops_in : ℕ → ℕ → ℕ
 ops_in ops k = min 1000 (ops - 1000 * k)
 
@@ -73,15 +80,18 @@ abbrev pub number_before : ℕ → ℕ → ℕ → ℕ
 number_before start ops zero = start
 number_before start ops (suc k) = number_after_phase (ops_in ops k) (number_before start ops k)
 
-abbrev pub give_at : ℕ → ℕ → ℕ → Give
-give_at start ops k = churn_give k (ops_in ops k) (number_before start ops k)
+-- the give at the end of phase k
+abbrev pub phase_give : ℕ → ℕ → ℕ → Give
+phase_give start ops k = churn_give k (ops_in ops k) (number_before start ops k)
 
 -- whose each domain is in phase k, by the gives of the phases before it
 abbrev pub holders_before : ℕ → ℕ → ℕ → List ℕ
-holders_before start ops k = (after_gives (opening churn_setup) (map (give_at start ops) (numbers_below k))).holders
+holders_before start ops k = (after_gives (opening churn_setup) (map (phase_give start ops) (numbers_below k))).holders
 
+-- phase k of the trace
 abbrev pub churn_phase : ℕ → ℕ → ℕ → PhaseLists
 churn_phase start ops k = phase_from k (ops_in ops k) (number_before start ops k) (holders_before start ops k)
 
+-- the trace that `bc churn start ops` replays
 unfoldable pub churn_trace : ℕ → ℕ → TraceLists
 churn_trace start ops = record { setup = churn_setup; phases = map (churn_phase start ops) (numbers_below (phases_of ops)) }

@@ -1,11 +1,11 @@
 -- The counts of the replies of a run by their kinds, and the output of `churn`.
-use Rattle.std.specs.Prelude.{◌≡◌, ℕ, ◌+◌, ◌==◌, List, [], ◌∷◌, ◌++◌, codes, map, length, slice_index, suc}
+use Rattle.std.specs.Prelude.{◌≡◌, ◌⊎◌, ℕ, ◌==◌, List, [], ◌∷◌, ◌++◌, codes, map, slice_index, suc}
 use Rattle.std.specs.List.{count_by, flat_map}
 use Rattle.std.specs.Fmt.{decimal}
 use Rattle.bc_model.specs.State.{numbers_below}
 use Rattle.bc_model.specs.declared.operations.Reply.{Reply}
 use Rattle.bc_model.specs.declared.operations.Reply.TheVariants as replies
-use Rattle.bc_trace.specs.Replies.{reply_word, done_text}
+use Rattle.bc_trace.specs.Replies.{done_text}
 
 -- the place of a reply's kind among the eleven
 unfoldable pub kind_of_reply : Reply → ℕ
@@ -21,28 +21,37 @@ kind_of_reply replies.NotObj = 8
 kind_of_reply replies.Range = 9
 kind_of_reply replies.Foreign = 10
 
+-- how the kinds are written, each at its place
 abbrev pub kind_names : List (List ℕ)
 kind_names = codes "obj" ∷ codes "ok" ∷ codes "nil" ∷ codes "num" ∷ codes "ref" ∷ codes "len" ∷ codes "yes" ∷ codes "no" ∷ codes "notobj" ∷ codes "range" ∷ codes "foreign" ∷ []
+
+-- the word is the name, or begins with the name and a space
+abbrev pub IsNamed : List ℕ → List ℕ → Type 0
+IsNamed word name = (word ≡ name) ⊎ ((rest : List ℕ) × (word ≡ name ++ 32 ∷ rest))
 
 -- how many of the replies are of the kind
 abbrev pub count_of_kind : ℕ → List Reply → ℕ
 count_of_kind k rs = count_by (λ r. kind_of_reply r == k) rs
 
+-- the eleven counts, each at the place of its kind
 unfoldable pub counts : List Reply → List ℕ
 counts rs = map (λ k. count_of_kind k rs) (numbers_below 11)
 
--- the replies of a phase, and of phases, one after another
+-- the replies of a phase, lane after lane
 abbrev pub phase_replies : List (List Reply) → List Reply
 phase_replies lanes = flat_map (λ rs. rs) lanes
 
+-- the replies of phases, one after another
 abbrev pub all_replies : List (List (List Reply)) → List Reply
 all_replies phases = flat_map phase_replies phases
 
+-- how many of them are of each kind
 abbrev pub run_counts : List (List (List Reply)) → List ℕ
 run_counts phases = counts (all_replies phases)
 
 -- ---- the output
 
+-- a name and how many
 unfoldable pub count_line : List ℕ → ℕ → List ℕ
 count_line name n = name ++ 32 ∷ decimal n ++ 10 ∷ []
 
@@ -51,6 +60,7 @@ abbrev pub count_lines : List (List ℕ) → List ℕ → ℕ → List ℕ
 count_lines [] cs k = []
 count_lines (name ∷ names) cs k = count_line name (slice_index cs k) ++ count_lines names cs (suc k)
 
+-- the first line of the output
 unfoldable pub churn_line : ℕ → ℕ → List ℕ
 churn_line start ops = codes "churn " ++ decimal start ++ 32 ∷ decimal ops ++ 10 ∷ []
 

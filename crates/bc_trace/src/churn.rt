@@ -1,9 +1,8 @@
 //! The workload of `churn`: a trace that a starting number and a number of operations give.
-ghost use Rattle.std.specs.Prelude.{◌≡◌, ◌+◌, ◌*◌, ◌%◌, ◌<◌, ◌≤◌, ◌^◌, ◌++◌, length, IfOk, OnOk, map, slice_set};
-ghost use Rattle.bc_model.specs.State.{numbers_below};
+ghost use Rattle.std.specs.Prelude.{◌≡◌, ◌+◌, ◌%◌, ◌<◌, ◌≤◌, ◌^◌, ◌++◌, IfOk, OnOk, slice_set};
 ghost use Rattle.bc_model.specs.WellFormed.{IsTrace};
-ghost use Rattle.bc_trace.specs.Draws.{draw, number_after, number_after_ops, next_number};
-ghost use Rattle.bc_trace.specs.Churn.{churn_give, churn_trace, domain_clears, drawn_ops, lane_clears, number_after_phase, number_before_lane, phase_from};
+ghost use Rattle.bc_trace.specs.Draws.{draw, next_number, number_after_ops};
+ghost use Rattle.bc_trace.specs.Churn.{churn_give, churn_trace, domain_clears, drawn_ops, lane_clears, number_after_phase, phase_from};
 
 use crate::draws::{DOMAINS, Generator, SLOTS};
 use bc_model::{Give, Op, Phase, Setup, Slot, Trace};

@@ -1,9 +1,8 @@
 //! How many replies of each kind a run has had, and the output of `churn`, which tells them.
-ghost use Rattle.std.specs.Prelude.{◌≡◌, ◌+◌, ◌<◌, ◌^◌, ◌++◌, [], ◌∷◌, List, ℕ, length, sum_by, slice_index, OnOk, IfOk};
+ghost use Rattle.std.specs.Prelude.{◌≡◌, ◌+◌, ◌<◌, ◌^◌, ◌++◌, [], ◌∷◌, List, ℕ, length, slice_index, sum, OnOk, IfOk};
 ghost use Rattle.std.specs.Fmt.{decimal};
 ghost use Rattle.bc_model.specs.declared.operations.Reply.{Reply as ModelReply};
 ghost use Rattle.bc_trace.specs.Counts.{churn_line, churn_text, count_line, count_lines, count_of_kind, counts, kind_names, kind_of_reply, phase_replies, run_counts};
-ghost use Rattle.bc_trace.specs.Replies.{done_text};
 
 use crate::replies::push_number;
 use bc_model::{Replies, Reply};
@@ -67,9 +66,9 @@ impl Counts {
         }
     }
 
-    /// Counts the replies of one more phase too.
+    /// Counts the replies of one more phase too. All that are counted fit a `u64`.
     pub fn add(&mut self, replies: &Replies)
-        requires { (k : ℕ) → slice_index self.old k + length (phase_replies replies.now) < 2 ^ 64 }
+        requires { sum self.old + length (phase_replies replies.now) < 2 ^ 64 }
         ensures each { (k : ℕ) → slice_index self.new k ≡ slice_index self.old k + count_of_kind k (phase_replies replies.now) }
         ensures phase { (before : List (List (List ModelReply))) → self.old ≡ run_counts before → self.new ≡ run_counts (before ++ replies.now ∷ []) }
     {

@@ -1,6 +1,6 @@
 //! The generator of `churn`: numbers, and the operations that they stand for.
-ghost use Rattle.std.specs.Prelude.{◌≡◌, ◌+◌, ◌<◌};
-ghost use Rattle.bc_trace.specs.Draws.{draw, next_number, number_after, number_after_op, verb_of_kind, drawn_slot, drawn_op, limits_of};
+ghost use Rattle.std.specs.Prelude.{◌≡◌, ◌<◌};
+ghost use Rattle.bc_trace.specs.Draws.{draw, drawn_op, drawn_slot, next_number, number_after, number_after_op, verb_of_kind};
 ghost use Rattle.bc_trace.specs.Churn.{drawn_hints};
 
 use crate::words::Verb;
@@ -11,9 +11,10 @@ const MULTIPLIER: u64 = 6_364_136_223_846_793_005;
 
 const INCREMENT: u64 = 1_442_695_040_888_963_407;
 
-/// Domains and root slots of the workload.
+/// Domains of the workload.
 pub const DOMAINS: u32 = 4;
 
+/// Root slots of each domain.
 pub const SLOTS: u32 = 8;
 
 /// A linear congruential generator, of which draws take the high bits.

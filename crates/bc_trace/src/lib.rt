@@ -22,11 +22,17 @@
 // the code mirrors. What counts are the clauses of `read`, which don't name it: a trace is answered
 // exactly where the bytes spell it, and a fault exactly where it is the text's fault. `laws` has
 // what the definitions say together: one trace a text, one text a trace, and one fault a bad text.
+//
+// `churn` makes a trace of its own from a starting number: `draws` has the generator and the table of kinds, and
+// `specs/Churn.antt` says the whole trace as lists. `counts` counts the replies of a run by their kinds and writes the output.
+// `churn_laws` has the table, the sums, and why the run never wants for superpages: a lane clears what it holds as a phase
+// begins, so that what is reached was made in that phase or the one before it.
 #![tactic(auto)]
 
 mod ahead;
 mod checking;
 mod churn;
+mod churn_laws;
 mod counts;
 mod cutting;
 mod draft;
@@ -43,6 +49,9 @@ mod words;
 mod writing;
 
 pub use churn::generate;
+pub use churn_laws::{
+    law_churn_need, law_churn_ops, law_churn_trace, law_counts, law_kinds, law_reply_kinds,
+};
 pub use counts::{Counts, churn_text};
 pub use fault::{Cause, ReadTrace, TraceFault};
 pub use laws::{

@@ -250,15 +250,12 @@ fn a_churn_of_no_operations_has_eleven_counts_of_0(rt: HostRuntime) -> Result<()
 
 #[test]
 fn replies_are_counted_by_their_kinds(rt: HostRuntime) -> Result<(), Fail> {
-    let mut first = Vec::new(rt.alloc());
-    for reply in [Reply::Done, Reply::Num(5), Reply::Num(6), Reply::Foreign] {
-        first.push(reply)?;
-    }
-    let mut second = Vec::new(rt.alloc());
-    for reply in [Reply::Len(5), Reply::No, Reply::Done] {
-        second.push(reply)?;
-    }
-    let lanes = vec![in rt.alloc(); first, second]?;
+    let first = [Reply::Done, Reply::Num(5), Reply::Num(6), Reply::Foreign];
+    let second = [Reply::Len(5), Reply::No, Reply::Done];
+    let lanes = vec![in rt.alloc();
+        Vec::from_slice(rt.alloc(), &first)?,
+        Vec::from_slice(rt.alloc(), &second)?,
+    ]?;
     let mut counts = Counts::new();
     counts.add(&Replies { lanes });
     let text = churn_text(rt.alloc(), 0, 12, &counts)?;

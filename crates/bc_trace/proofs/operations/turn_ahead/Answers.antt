@@ -1,4 +1,4 @@
-use Rattle.std.proofs.Common.{◌∷◌, length, take, refl, arith}
+use Rattle.std.proofs.Common.{◌∷◌, take, refl, arith}
 use Rattle.std.proofs.lemmas.List.{length-take}
 use Rattle.bc_trace.proofs.LinesAhead.{turn_is_ahead}
 use Rattle.bc_trace.proofs.operations.turn_ahead.Goals as goal

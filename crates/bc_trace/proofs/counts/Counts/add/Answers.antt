@@ -1,8 +1,8 @@
-use Rattle.std.proofs.Common.{◌≡◌, ◌^◌, ◌+◌, ◌<◌, ℕ, List, length, map, get_or, ap, sym, subst, refl, ◌∙◌, arith}
+use Rattle.std.proofs.Common.{◌^◌, ◌+◌, ◌<◌, List, length, map, get_or, ap, sym, subst, refl, ◌∙◌, arith}
 use Rattle.std.proofs.lemmas.List.{take_all}
 use Rattle.bc_model.specs.declared.operations.Reply.{Reply}
-use Rattle.bc_trace.specs.Counts.{count_of_kind, phase_replies}
-use Rattle.bc_trace.proofs.Counting.{Counted, lanes-counted, room-for-lane, counts-phase, counts-length}
+use Rattle.bc_trace.specs.Counts.{phase_replies}
+use Rattle.bc_trace.proofs.Counting.{at-most-sum, Counted, lanes-counted, room-for-lane, counts-phase, counts-length}
 use Rattle.bc_trace.proofs.counts.Counts.add.Goals as goal
 
 pub loop-lane-init : goal.loop-lane-init
@@ -11,7 +11,9 @@ loop-lane-init c = ((λ k. omega arith), refl)
 pub add_lane-requires : goal.add_lane-requires
 add_lane-requires c = λ k.
     let lists = ap (map (λ v. v.items)) c.deref-lane-items.ensures.value ∙ c.replies.view_is in
-    let room = subst (λ (rs : List (List Reply)). get_or c.args.self.now k 0 + length (phase_replies rs) < 2 ^ 64) (sym lists) (c.requires k) in
+    let all = ap length (ap phase_replies (sym lists)) in
+    let least = at-most-sum c.args.self.now k in
+    let room : get_or c.args.self.now k 0 + length (phase_replies (map (λ v. v.items) c.deref-lane-items.result.now)) < 2 ^ 64 = omega (arith, all, least, c.requires) in
     let fits = room-for-lane (λ v. v.items) c.args.self.now c.loop-lane.self c.deref-lane-items.result.now c.loop-lane.lane-index c.lane-item.result k (2 ^ 64) c.loop-lane-test.true c.loop-lane.invariant.0 room in
     subst (λ (rs : List Reply). get_or c.loop-lane.self k 0 + length rs < 2 ^ 64) (sym (c.deref.ensures.value ∙ ap (λ v. v.items) c.lane-item.is)) fits
 

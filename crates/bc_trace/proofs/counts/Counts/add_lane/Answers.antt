@@ -1,6 +1,6 @@
-use Rattle.std.proofs.Common.{◌≡◌, ◌<◌, ◌+◌, ◌^◌, List, ℕ, length, get_or, refl, sym, ap, ◌∙◌, subst, arith}
-use Rattle.std.proofs.lemmas.List.{length-set, take_all}
-use Rattle.bc_trace.proofs.Counting.{Counted, counted-more, room-for-one}
+use Rattle.std.proofs.Common.{◌<◌, ◌+◌, ◌^◌, List, ℕ, length, get_or, refl, sym, ◌∙◌, subst, arith}
+use Rattle.std.proofs.lemmas.List.{length-set}
+use Rattle.bc_trace.proofs.Counting.{counted-more, room-for-one}
 use Rattle.bc_trace.proofs.counts.Counts.add_lane.Goals as goal
 
 pub loop-reply-init : goal.loop-reply-init
