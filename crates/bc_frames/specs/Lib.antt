@@ -4,3 +4,5 @@ pub mod Pool
 pub mod Places
 -- The invariant of a pool
 pub mod Listed
+-- What lies in a page's place of the store
+pub mod Lying

@@ -10,6 +10,11 @@
 // each stands exactly once: `claim` takes the last, and `give` adds one. The list has room for all frames
 // from the start, so `give` takes no memory. The store is seen as the boxes' contents by page.
 //
+// A page that was never used has no box yet: its place in the store says so, and contracts see zeros there (`Place`). Room for
+// the boxes of all pages is taken at once, in rows of 64, of which nothing is written before a page of it is
+// wanted (`Rows`), so memory that no page uses is never touched. A row is then cut into its pages. It stays
+// the program's until that ends, for a box can't give back a part of a row.
+//
 // While workers share a table of pages, the boxes of pages that aren't resident lie there shut (`Shut`): `lift` takes one out
 // of the store and `lower` puts it back, and neither is a read. Who opens a shut box counts it in an `Opens`, which can't be
 // dropped and can't be read: `Store::count` spends it and adds its number to `reads`. There too a frame is a bit of a
@@ -23,6 +28,7 @@
 
 mod frames;
 mod pages;
+mod rows;
 mod shutting;
 mod storage;
 

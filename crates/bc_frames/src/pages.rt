@@ -1,31 +1,33 @@
-//! The box of one page.
+//! One page: 512 words.
 
-ghost use Rattle.std.specs.Prelude.{◌≡◌, ℕ, ◌+◌, ◌<◌, ◌≤◌, ◌++◌, List, length, slice_index, slice_set, take, drop, replicate, IfOk};
+ghost use Rattle.std.specs.Prelude.{◌≡◌, ℕ, ◌+◌, ◌<◌, ◌≤◌, ◌++◌, List, length, slice_index, slice_set, take, drop, replicate};
 
 use crate::shutting::Shut;
-use std::alloc::{AllocError, Global};
 use std::marker::Model;
 
-/// The box of one page: 512 words.
+/// The box of one page: 512 words, a part of a row.
 #[derive(Drop)]
 pub struct Page {
-    words: Box<[u64; 512]>,
+    words: &'static mut [u64; 512],
 }
 
 impl Model for Page {
+    ghost use Rattle.std.specs.Prelude.{◌≡◌, ℕ, List, length};
+
     ghost Value = { List ℕ };
 
-    ghost view = { λ p. p.words.value };
+    ghost view = { λ p. p.words.now };
+
+    ghost invariant = { λ p. length p.words.now ≡ 512 };
 }
 
 impl Page {
-    /// A box of zeros.
-    pub(crate) fn zeroed(alloc: Global) -> Result<Self, AllocError>
-        ensures zeros { IfOk result (λ page. page ≡ replicate 512 0) }
+    /// The page of these words.
+    pub(crate) fn of(words: &'static mut [u64; 512]) -> Self
+        ensures words { result ≡ words.old }
+        ensures long { length words.old ≡ 512 }
     {
-        Ok(Page {
-            words: Box::new(alloc, [0; 512])?,
-        })
+        Page { words }
     }
 
     /// The word at a place, which is below 512.
@@ -34,7 +36,7 @@ impl Page {
         ensures word { result ≡ slice_index self.now at }
         ensures long { length self.now ≡ 512 }
     {
-        self.words[at as usize]
+        word_at(self.words, at as usize)
     }
 
     /// Writes one word at a place, which is below 512.
@@ -52,8 +54,7 @@ impl Page {
         ensures written { self.new ≡ take at self.old ++ (words.now ++ drop (at + length words.now) self.old) }
         ensures long { length self.old ≡ 512 }
     {
-        let from = at as usize;
-        self.words[from..from + words.len()].copy_from_slice(words);
+        write_at(self.words, at as usize, words);
     }
 
     /// Makes every word 0.
@@ -65,8 +66,24 @@ impl Page {
 
     /// Shuts the box.
     pub fn shut(self) -> Shut
-        ensures content { result ≡ self }
+        ensures content { result ≡ self.entry }
     {
         Shut::of(self)
     }
+}
+
+/// The word at a place.
+fn word_at(words: &[u64], at: usize) -> u64
+    requires { at < length words.now }
+    ensures word { result ≡ slice_index words.now at }
+{
+    words[at]
+}
+
+/// Writes words one after another from a place on.
+fn write_at(all: &mut [u64], from: usize, words: &[u64])
+    requires { from + length words.now ≤ length all.old }
+    ensures written { all.new ≡ take from all.old ++ (words.now ++ drop (from + length words.now) all.old) }
+{
+    all[from..from + words.len()].copy_from_slice(words);
 }

@@ -21,14 +21,14 @@ impl Model for Shut {
 impl Shut {
     /// The shut box of a page.
     pub(crate) fn of(page: Page) -> Self
-        ensures content { result ≡ page }
+        ensures content { result ≡ page.entry }
     {
         Shut { page }
     }
 
     /// The box that is shut, where that is no read.
     pub(crate) fn into_page(self) -> Page
-        ensures content { result ≡ self }
+        ensures content { result ≡ self.entry }
     {
         let Shut { page } = self;
         page
@@ -36,7 +36,7 @@ impl Shut {
 
     /// Opens the box, and counts that.
     pub fn open(self, opens: &mut Opens) -> Page
-        ensures content { result ≡ self }
+        ensures content { result ≡ self.entry }
         ensures counted { opens.new ≡ one_more opens.old }
     {
         opens.count = opens.count.saturating_add(1);

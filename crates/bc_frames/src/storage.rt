@@ -4,23 +4,43 @@ ghost use Rattle.std.specs.Prelude.{◌≡◌, ℕ, ◌+◌, ◌-◌, ◌^◌, �
 ghost use Rattle.bc_frames.specs.Places.{StoreView, place_at, one_more};
 
 use crate::pages::Page;
+use crate::rows::Rows;
 use crate::shutting::{Opens, Shut};
 use std::alloc::{AllocError, Global};
 use std::marker::Model;
+use std::mem;
+
+/// What lies in a page's place.
+#[derive(Drop)]
+pub(crate) enum Place {
+    /// Nothing.
+    Empty,
+    /// Zeros: the page was never used, so it has no box yet.
+    Unused,
+    /// The page's box.
+    Full(Page),
+}
 
 /// A place for the box of each page that isn't resident, by the page's number.
 #[derive(Drop)]
 pub struct Store {
-    places: Vec<Option<Page>>,
+    places: Vec<Place>,
     reads: u64,
+    /// The boxes of pages that were never used.
+    rows: Rows,
 }
 
 impl Model for Store {
+    ghost use Rattle.std.specs.Prelude.{map};
     ghost use Rattle.bc_frames.specs.Places.{StoreView};
 
     ghost Value = { StoreView };
 
-    ghost view = { λ s. record { places = s.places.items; reads = s.reads } };
+    ghost use Rattle.bc_frames.specs.Lying.{lying_in, HasPages};
+
+    ghost view = { λ s. record { places = map lying_in s.places.items; reads = s.reads } };
+
+    ghost invariant = { λ s. HasPages s.places.items s.rows };
 }
 
 impl Store {
@@ -30,9 +50,14 @@ impl Store {
     {
         let mut places = Vec::with_capacity(alloc, pages as usize)?;
         for _page in 0..pages {
-            places.push_reserved(Some(Page::zeroed(alloc)?));
+            places.push_reserved(Place::Unused);
         }
-        Ok(Store { places, reads: 0 })
+        let rows = Rows::new(alloc, pages)?;
+        Ok(Store {
+            places,
+            reads: 0,
+            rows,
+        })
     }
 
     /// A store of no pages. It takes no memory.
@@ -42,16 +67,18 @@ impl Store {
         Store {
             places: Vec::new(alloc),
             reads: 0,
+            rows: Rows::empty(alloc),
         }
     }
 
     /// Puts the box of a page into its place, which is empty.
+    #[tactic(auto, using(crate::proofs::LyingLemmas::lying_set, crate::proofs::LyingLemmas::lying_at))]
     pub fn put(&mut self, page: u32, content: Page)
         requires page { page < length self.old.places }
         requires empty { place_at self.old page ≡ None }
-        ensures put { self.new ≡ record self.old { places = slice_set self.old.places page (Some content) } }
+        ensures put { self.new ≡ record self.old { places = slice_set self.old.places page (Some content.entry) } }
     {
-        self.places[page as usize] = Some(content);
+        self.places[page as usize] = Place::Full(content);
     }
 
     /// Takes the box of a page out of its place, which is full, and counts a read.
@@ -66,19 +93,25 @@ impl Store {
             } }
     {
         self.reads = self.reads.saturating_add(1);
-        self.places[page as usize].take().unwrap()
+        self.remove(page)
     }
 
     /// Takes the box of a page out of its place, which is full, and fills it with zeros. That is no read.
+    #[tactic(auto, using(crate::proofs::LyingLemmas::lying_set, crate::proofs::LyingLemmas::lying_at))]
     pub fn take_blank(&mut self, page: u32) -> Page
         requires page { page < length self.old.places }
         requires full { IsSome (place_at self.old page) }
         ensures zeros { result ≡ replicate 512 0 }
         ensures taken { self.new ≡ record self.old { places = slice_set self.old.places page None } }
     {
-        let mut content = self.places[page as usize].take().unwrap();
-        content.clear();
-        content
+        match mem::replace(&mut self.places[page as usize], Place::Empty) {
+            Place::Full(mut content) => {
+                content.clear();
+                content
+            }
+            Place::Unused => self.rows.take(),
+            Place::Empty => unreachable!(),
+        }
     }
 
     /// Takes the box of a page out of its place, which is full, and leaves it shut. That is no read.
@@ -88,16 +121,17 @@ impl Store {
         ensures content { place_at self.old page ≡ Some result }
         ensures lifted { self.new ≡ record self.old { places = slice_set self.old.places page None } }
     {
-        self.places[page as usize].take().unwrap().shut()
+        self.remove(page).shut()
     }
 
     /// Puts the shut box of a page into its place, which is empty.
+    #[tactic(auto, using(crate::proofs::LyingLemmas::lying_set, crate::proofs::LyingLemmas::lying_at))]
     pub fn lower(&mut self, page: u32, shut: Shut)
         requires page { page < length self.old.places }
         requires empty { place_at self.old page ≡ None }
-        ensures lowered { self.new ≡ record self.old { places = slice_set self.old.places page (Some shut) } }
+        ensures lowered { self.new ≡ record self.old { places = slice_set self.old.places page (Some shut.entry) } }
     {
-        self.places[page as usize] = Some(shut.into_page());
+        self.places[page as usize] = Place::Full(shut.into_page());
     }
 
     /// Counts as reads the boxes that were opened.
@@ -112,5 +146,20 @@ impl Store {
         ensures reads { result ≡ self.now.reads }
     {
         self.reads
+    }
+
+    /// Takes the box of a page out of its place, which is full.
+    #[tactic(auto, using(crate::proofs::LyingLemmas::lying_set, crate::proofs::LyingLemmas::lying_at))]
+    fn remove(&mut self, page: u32) -> Page
+        requires page { page < length self.old.places }
+        requires full { IsSome (place_at self.old page) }
+        ensures content { place_at self.old page ≡ Some result }
+        ensures removed { self.new ≡ record self.old { places = slice_set self.old.places page None } }
+    {
+        match mem::replace(&mut self.places[page as usize], Place::Empty) {
+            Place::Full(content) => content,
+            Place::Unused => self.rows.take(),
+            Place::Empty => unreachable!(),
+        }
     }
 }

@@ -1,6 +1,7 @@
 //! Tests of the pool of frames and of the store.
 
 use super::*;
+use std::marker::Send;
 use std::test::Fail;
 
 #[test]
@@ -75,5 +76,34 @@ fn a_box_is_read_where_it_is_opened_and_not_where_it_is_lifted(
     assert_eq!(rt; again.get(7), 16);
     store.count(opens);
     assert_eq!(rt; store.reads(), 2);
+    Ok(())
+}
+
+/// Takes what may go to another thread.
+fn sent<T: Send>(_value: &T) {}
+
+#[test]
+fn boxes_may_go_to_another_thread(rt: HostRuntime) -> Result<(), Fail> {
+    let mut store = Store::new(rt.alloc(), 1)?;
+    let page = store.take_blank(0);
+    sent(&page);
+    let shut = page.shut();
+    sent(&shut);
+    store.lower(0, shut);
+    sent(&store);
+    Ok(())
+}
+
+#[test]
+fn pages_of_several_rows_are_used_one_after_another(rt: HostRuntime) -> Result<(), Fail> {
+    let mut store = Store::new(rt.alloc(), 130)?;
+    for page in 0..130 {
+        let mut content = store.take_blank(page);
+        assert_eq!(rt; content.get(0), 0);
+        content.set(0, page as u64);
+        store.put(page, content);
+    }
+    assert_eq!(rt; store.take_back(129).get(0), 129);
+    assert_eq!(rt; store.take_back(0).get(0), 0);
     Ok(())
 }

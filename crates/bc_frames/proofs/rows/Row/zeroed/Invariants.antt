@@ -1,0 +1,10 @@
+use Rattle.std.proofs.Common.{◌≡◌, ◌≤◌, length, replicate, vec_capacity}
+use Rattle.bc_frames.specs.declared.rows.TheConstants.{ROW}
+use Rattle.bc_frames.proofs.rows.Row.zeroed.Given as goal
+
+abbrev pub invariant-loop-page : goal.invariant-loop-page
+invariant-loop-page l = record {
+  room : ROW ≤ vec_capacity l.pages;
+  long : length l.pages.items ≡ l._page;
+  zeros : l.pages.items ≡ replicate l._page (replicate 512 0);
+}
