@@ -6,7 +6,8 @@ use Rattle.std.specs.Int.{bit_at, bit_not, trailing_zeros}
 use Rattle.std.proofs.lemmas.Nat.{and_le_l, or_lt, one_shl, pow_pos}
 use Rattle.std.proofs.lemmas.Nat.Bits.{and_pow, bit_at_set_same, bit_at_set_other, bit_at_clear_same, bit_at_clear_other, bit_at-zero, bit_at-trailing_zeros}
 use Rattle.std.proofs.lemmas.Bool.{cases_eq, cases_lt, cases_Bool}
-use Rattle.bc_bits.specs.Bits.{has, with_bit, without_bit, AreWords, none_set}
+use Rattle.bc_bits.specs.Bits.{has}
+use Rattle.bc_bits.specs.BitChanges.{with_bit, without_bit, AreWords, none_set}
 
 -- the test of one bit of a word
 pub word_test : (n k : ℕ) → k < 64 → not (nat_eq (bit_and n (1 * 2 ^ k % 2 ^ 64)) 0) ≡ nat_eq (bit_at n k) 1

@@ -13,7 +13,8 @@
 #![tactic(auto)]
 
 ghost use Rattle.std.specs.Prelude.{◌≡◌, ◌≢◌, ℕ, ◌+◌, ◌*◌, ◌<◌, ◌≤◌, Bool, true, false, IfSome, IfNone, List, length};
-ghost use Rattle.bc_bits.specs.Bits.{has, with_bit, without_bit, AreWords, none_set};
+ghost use Rattle.bc_bits.specs.Bits.{has};
+ghost use Rattle.bc_bits.specs.BitChanges.{with_bit, without_bit, AreWords, none_set};
 ghost use Rattle.bc_bits.specs.Counting.{any_below, count_below};
 
 /// Is this bit of the set set? A bit is below 64 times the number of words.
@@ -26,7 +27,7 @@ pub fn contains<const N: usize>(set: &[u64; N], bit: u32) -> bool
 }
 
 /// Sets this bit, which is below 64 times the number of words, and leaves the others.
-#[tactic(auto, unfolding(crate::specs::Bits::with_bit))]
+#[tactic(auto, unfolding(crate::specs::BitChanges::with_bit))]
 pub fn insert<const N: usize>(set: &mut [u64; N], bit: u32)
     requires { bit < 64 * N }
     ensures change { set.new ≡ with_bit set.old bit }
@@ -36,7 +37,7 @@ pub fn insert<const N: usize>(set: &mut [u64; N], bit: u32)
 }
 
 /// Clears this bit, which is below 64 times the number of words, and leaves the others.
-#[tactic(auto, unfolding(crate::specs::Bits::without_bit))]
+#[tactic(auto, unfolding(crate::specs::BitChanges::without_bit))]
 pub fn remove<const N: usize>(set: &mut [u64; N], bit: u32)
     requires { bit < 64 * N }
     ensures change { set.new ≡ without_bit set.old bit }

@@ -1,7 +1,8 @@
 -- What the crates above need of classes, on plain numbers.
 use Rattle.std.proofs.Common.{◌≡◌, ℕ, ◌+◌, ◌*◌, ◌<◌, ◌≤◌, arith}
 use Rattle.std.proofs.lemmas.Grind.{common_steps}
-use Rattle.bc_classes.specs.Classes.{IsClass, class_of, cells_a_page, cap}
+use Rattle.bc_classes.specs.Classes.{class_of, cells_a_page, cap}
+use Rattle.bc_classes.specs.ClassNumbers.{IsClass}
 
 pub class_of-class : (n : ℕ) → IsClass (class_of n)
 unfolding class_of

@@ -1,9 +1,5 @@
 -- The size classes of cells, in words, and how many cells of each a page and a superpage hold.
-use Rattle.std.specs.Prelude.{◌≡◌, ℕ, ◌*◌, ◌/◌, ◌⊎◌, List, [], ◌∷◌, nat_lt, if◌then◌else◌}
-
--- the seven sizes that a cell may have, in words
-abbrev pub IsClass : ℕ → Type 0
-IsClass c = (c ≡ 2) ⊎ ((c ≡ 4) ⊎ ((c ≡ 8) ⊎ ((c ≡ 16) ⊎ ((c ≡ 32) ⊎ ((c ≡ 64) ⊎ (c ≡ 128))))))
+use Rattle.std.specs.Prelude.{ℕ, ◌*◌, ◌/◌, List, [], ◌∷◌, nat_lt, if◌then◌else◌}
 
 -- the same, as a list
 abbrev pub classes : List ℕ

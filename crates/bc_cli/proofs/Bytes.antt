@@ -3,7 +3,7 @@ use Rattle.std.proofs.Common.{◌≡◌, ℕ, ◌+◌, ◌*◌, ◌<◌, ◌≤�
 use Rattle.bc_io.specs.declared.reading.ReadAll.{ReadAll}
 use Rattle.bc_io.specs.declared.reading.ReadAll.TheVariants as reads
 use Rattle.bc_model.specs.Lists.{TraceLists}
-use Rattle.bc_model.specs.Run.{all_ops_of}
+use Rattle.bc_model.specs.RunLengths.{all_ops_of}
 use Rattle.bc_trace.specs.Answers.{IsFaultOrMemory}
 use Rattle.bc_trace.specs.Faults.{Fault}
 use Rattle.bc_trace.specs.declared.fault.ReadTrace.{ReadTrace}

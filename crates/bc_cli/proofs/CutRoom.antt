@@ -4,7 +4,8 @@ use Rattle.std.specs.List.{AllByRecursion, flat_map}
 use Rattle.std.specs.Fmt.{decimal}
 use Rattle.std.proofs.lemmas.Fmt.{length-decimal-le}
 use Rattle.bc_model.specs.Lists.{PhaseLists, TraceLists}
-use Rattle.bc_model.specs.Run.{opening, after_cut, after_phase, after_phases, replies_to_lanes, replies_of_phases, cut_lanes, no_phase, all_ops_of}
+use Rattle.bc_model.specs.Run.{opening, after_cut, after_phase, after_phases, replies_to_lanes, replies_of_phases, cut_lanes, no_phase}
+use Rattle.bc_model.specs.RunLengths.{all_ops_of}
 use Rattle.bc_model.specs.State.{State}
 use Rattle.bc_model.specs.WellFormed.{IsOp, IsSetup, IsPhase, IsTrace}
 use Rattle.bc_model.specs.declared.operations.Op.{Op}

@@ -2,18 +2,23 @@
 use Rattle.std.proofs.Common.{◌≡◌, ◌≢◌, ℕ, ◌+◌, ◌^◌, ◌<◌, ◌≤◌, List, [], ◌++◌, length, map, replicate, get_or, Option, Some, None, refl, sym, ap, ◌∙◌, append_assoc, arith, subst, inl, inr, take_all}
 use Rattle.std.proofs.lemmas.Bool.{cases_lt}
 use Rattle.std.proofs.lemmas.List.{get_or-map, get_or_past, length-map, length-replicate}
-use Rattle.bc_engine.specs.Engines.{EngineView, EngineStands, HasEmptyChunks, HasRoomForBirths}
-use Rattle.bc_io.specs.Told.{HeldGrows, RoomFalls, IsPrefix}
+use Rattle.bc_engine.specs.Engines.{EngineView, EngineStands, HasEmptyChunks}
+use Rattle.bc_engine.specs.EngineFacts.{HasRoomForBirths}
+use Rattle.bc_io.specs.Told.{HeldGrows, IsPrefix}
+use Rattle.bc_io.specs.Pieces.{RoomFalls}
 use Rattle.bc_io.proofs.Telling.{HeldGrows-more, IsPrefix-refl, IsPrefix-trans, IsPrefix-append}
 use Rattle.bc_model.specs.Lists.{TraceLists}
-use Rattle.bc_model.specs.Run.{opening, before, after_phases, final_state, all_ops_of}
+use Rattle.bc_model.specs.Run.{opening, before, after_phases, final_state}
+use Rattle.bc_model.specs.RunLengths.{all_ops_of}
 use Rattle.bc_model.specs.State.{Object}
 use Rattle.bc_model.specs.WellFormed.{IsSetup, IsTrace}
 use Rattle.bc_model.specs.declared.traces.Setup.{Setup}
 use Rattle.bc_model.proofs.Openings.{made_by-opening}
 use Rattle.bc_trace.specs.Replies.{done_text, out_of_heap_text}
-use Rattle.bc_cli.specs.Endings.{WritesFront, FitsThroughout, HasRun, HasRunRoom, HasPhaseRoom, EndsDone, EndsOutOfHeap, FailsAtDone}
-use Rattle.bc_cli.specs.Outcomes.{IfStatusOutOfHeap, IsEnding, IsOrNoMemory}
+use Rattle.bc_cli.specs.Endings.{FitsThroughout, HasRunRoom, EndsDone, EndsOutOfHeap, FailsAtDone}
+use Rattle.bc_cli.specs.BetweenPhases.{WritesFront, HasRun, HasPhaseRoom}
+use Rattle.bc_cli.specs.Outcomes.{IfStatusOutOfHeap, IsOrNoMemory}
+use Rattle.bc_cli.specs.PartEndings.{IsEnding}
 use Rattle.bc_cli.specs.Output.{texts_from, texts_before, all_texts, whole_text, text_at, need_text, cut_text}
 use Rattle.bc_cli.specs.declared.status.Status.{Status}
 use Rattle.bc_cli.specs.declared.status.Status.TheVariants.{Done, BadWords, BadTrace, TooLong, ReadFault, WriteFault, OutOfHeap, NoMemory}

@@ -4,7 +4,7 @@ use Rattle.std.specs.Prelude.{sum_by}
 use Rattle.std.proofs.lemmas.List.Concat.{flat_map-append}
 use Rattle.std.proofs.lemmas.List.Sums.{sum_by-cons}
 use Rattle.bc_model.specs.Lists.{PhaseLists, TraceLists}
-use Rattle.bc_model.specs.Run.{ops_of, all_ops_of}
+use Rattle.bc_model.specs.RunLengths.{ops_of, all_ops_of}
 use Rattle.std.specs.List.{AllByRecursion, flat_map}
 use Rattle.std.specs.Fmt.{decimal}
 use Rattle.std.proofs.lemmas.Fmt.{decimal_nonempty}

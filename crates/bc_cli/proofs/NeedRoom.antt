@@ -5,7 +5,8 @@ use Rattle.std.proofs.lemmas.List.Sums.{sum_by-cons, sum_by_push, count_by-le-le
 use Rattle.bc_bits.proofs.CountLemmas.{count_below-le}
 use Rattle.bc_classes.specs.Classes.{classes}
 use Rattle.bc_reach.specs.Distinct.{Has, Distinct}
-use Rattle.bc_model.specs.Consistent.{IsState, HasSerials}
+use Rattle.bc_model.specs.Consistent.{IsState}
+use Rattle.bc_model.specs.StateSizes.{HasSerials}
 use Rattle.bc_model.specs.Need.{IsNeed, count_of, superpages_for, is_of}
 use Rattle.bc_model.specs.Reached.{Reached}
 use Rattle.bc_model.specs.State.{State, IsBorn, object_of, numbers_below}

@@ -1,15 +1,19 @@
 -- A phase of a trace that was run on the engine, done or ended at a cut, and what was written of its texts.
 use Rattle.std.proofs.Common.{◌≡◌, ℕ, ◌+◌, ◌<◌, inl, inr, List, ◌++◌, length, Option, None, Some, refl, sym, ◌∙◌, subst, append-nil}
-use Rattle.bc_engine.specs.Engines.{EngineView, HasRoomForBirths}
+use Rattle.bc_engine.specs.Engines.{EngineView}
+use Rattle.bc_engine.specs.EngineFacts.{HasRoomForBirths}
 use Rattle.bc_engine.specs.Lanes.{HasRoomForOps}
 use Rattle.bc_engine.specs.Phases.{DidPhase, CutPhase}
-use Rattle.bc_io.specs.Told.{HasRoom, HeldGrows, RoomFalls}
+use Rattle.bc_io.specs.Told.{HasRoom, HeldGrows}
+use Rattle.bc_io.specs.Pieces.{RoomFalls}
 use Rattle.bc_model.specs.Lists.{PhaseLists, TraceLists}
 use Rattle.bc_model.specs.Run.{phase_at}
 use Rattle.bc_model.specs.declared.operations.Reply.{Reply}
 use Rattle.bc_trace.specs.Replies.{phase_text, out_of_heap_text}
-use Rattle.bc_cli.specs.Endings.{WritesFront, EndsInFault, EndsOutOfHeap, HasPhaseRoom, HasRun, PhaseEnded}
-use Rattle.bc_cli.specs.Output.{need_line, texts_before, text_at}
+use Rattle.bc_cli.specs.Endings.{EndsInFault, EndsOutOfHeap}
+use Rattle.bc_cli.specs.BetweenPhases.{WritesFront, HasPhaseRoom, HasRun, PhaseEnded}
+use Rattle.bc_cli.specs.Output.{texts_before, text_at}
+use Rattle.bc_cli.specs.NeedLine.{need_line}
 use Rattle.bc_cli.proofs.Running.{HasRun-next, did-text, did-room, held-next, room-next, fails-in_phase, CutAt, cut-at, cut-room, ends-out_of_heap, fails-at_need}
 
 -- phase k of the trace was run, and ended so

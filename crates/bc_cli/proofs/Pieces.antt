@@ -2,9 +2,11 @@
 use Rattle.std.proofs.Common.{◌≡◌, ℕ, ◌+◌, suc, ◌<◌, ◌≤◌, List, [], ◌∷◌, ◌++◌, length, take, drop, get_or, refl, ap, ◌∙◌, append-nil, arith, take-append-drop, length-append, subst, Option}
 use Rattle.std.proofs.lemmas.List.{take_more, length-take-le}
 use Rattle.bc_io.specs.Faults.{Rose}
-use Rattle.bc_io.specs.Told.{HasRoom, HeldGrows, IsPrefix, RoomFalls, TakesFront}
+use Rattle.bc_io.specs.Told.{HasRoom, HeldGrows, IsPrefix}
+use Rattle.bc_io.specs.Pieces.{RoomFalls, TakesFront}
 use Rattle.bc_io.proofs.Telling.{HasRoom-less, HasRoom-rest, HeldGrows-more}
-use Rattle.bc_cli.specs.Endings.{WritesFront, WritesFrontAfter}
+use Rattle.bc_cli.specs.Endings.{WritesFrontAfter}
+use Rattle.bc_cli.specs.BetweenPhases.{WritesFront}
 use Rattle.bc_model.specs.Lists.{PhaseLists}
 use Rattle.bc_model.specs.Run.{after_phase, after_phases, replies_of_phases, replies_to_lanes}
 use Rattle.bc_model.specs.State.{State}

@@ -4,21 +4,25 @@ use Rattle.std.specs.Prelude.{sum_by, OnOk, Result, Ok, Err}
 use Rattle.std.proofs.lemmas.Bool.{cases_lt}
 use Rattle.std.proofs.lemmas.List.{get_or_past, get_or_read}
 use Rattle.std.proofs.lemmas.List.Sums.{get_or-le-sum_by, sum_by-drop_more}
-use Rattle.bc_engine.specs.Engines.{EngineView, EngineStands, HasRoomForBirths}
+use Rattle.bc_engine.specs.Engines.{EngineView, EngineStands}
+use Rattle.bc_engine.specs.EngineFacts.{HasRoomForBirths}
 use Rattle.bc_engine.specs.Lanes.{of_lane, HasRoomForOps}
 use Rattle.bc_engine.specs.Phases.{DidPhase, CutPhase}
 use Rattle.bc_engine.specs.declared.engines.Ended.TheVariants as ended
-use Rattle.bc_io.specs.Told.{HasRoom, HeldGrows, RoomFalls}
+use Rattle.bc_io.specs.Told.{HasRoom, HeldGrows}
+use Rattle.bc_io.specs.Pieces.{RoomFalls}
 use Rattle.bc_io.proofs.Telling.{HeldGrows-more, RoomFalls-more}
 use Rattle.bc_model.specs.Lists.{PhaseLists, TraceLists}
-use Rattle.bc_model.specs.Run.{opening, before, phase_at, no_phase, after_phase, after_cut, replies_of_cut, replies_to_lanes, ops_of}
+use Rattle.bc_model.specs.Run.{opening, before, phase_at, no_phase, after_phase, after_cut, replies_of_cut, replies_to_lanes}
+use Rattle.bc_model.specs.RunLengths.{ops_of}
 use Rattle.bc_model.specs.WellFormed.{IsPhase, IsTrace}
 use Rattle.bc_model.specs.declared.operations.Op.{Op}
 use Rattle.bc_model.specs.declared.operations.Reply.{Reply}
 use Rattle.bc_model.specs.declared.traces.Setup.{Setup}
 use Rattle.bc_model.proofs.Runs.{at-index}
 use Rattle.bc_trace.specs.Replies.{phase_text, out_of_heap_text}
-use Rattle.bc_cli.specs.Endings.{WritesFront, NeedsMore, HandsBack, HasRun, NeedFits, HasPhaseRoom, EndsOutOfHeap, FailsInPhase, FailsAtNeed}
+use Rattle.bc_cli.specs.Endings.{NeedsMore, HandsBack, NeedFits, EndsOutOfHeap, FailsInPhase, FailsAtNeed}
+use Rattle.bc_cli.specs.BetweenPhases.{WritesFront, HasRun, HasPhaseRoom}
 use Rattle.bc_cli.specs.Output.{texts_before, text_at, need_text}
 use Rattle.bc_cli.proofs.Pieces.{texts-step, state-step, front-behind}
 

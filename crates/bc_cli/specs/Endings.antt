@@ -1,15 +1,13 @@
 -- How the replay of a trace ends: what is written of it, and what the heap stands for that it hands back.
-use Rattle.std.specs.Prelude.{◌≡◌, ◌⊎◌, ℕ, ◌+◌, ◌<◌, ◌≤◌, List, ◌++◌, length, drop, sum_by, Option, None, Some, IsSomeAnd}
-use Rattle.bc_engine.specs.Engines.{EngineView, EngineStands, HasEmptyChunks, HasRoomForBirths}
-use Rattle.bc_engine.specs.Phases.{DidPhase, CutPhase}
+use Rattle.std.specs.Prelude.{◌≡◌, ◌⊎◌, ℕ, ◌+◌, ◌<◌, ◌≤◌, List, ◌++◌, length, Option, None, Some, IsSomeAnd}
+use Rattle.bc_engine.specs.Engines.{EngineView, EngineStands, HasEmptyChunks}
 use Rattle.bc_engine.specs.declared.engines.Ended.{Ended}
 use Rattle.bc_engine.specs.declared.engines.Ended.TheVariants.{OutOfHeap}
 use Rattle.bc_io.specs.Told.{HeldGrows, HasRoom, IsPrefix}
-use Rattle.bc_model.specs.Lists.{PhaseLists, TraceLists}
+use Rattle.bc_model.specs.Lists.{TraceLists}
 use Rattle.bc_model.specs.Need.{IsNeed}
-use Rattle.bc_model.specs.Run.{before, after_cut, final_state, ops_of}
+use Rattle.bc_model.specs.Run.{before, after_cut, final_state}
 use Rattle.bc_model.specs.State.{State}
-use Rattle.bc_model.specs.declared.operations.Reply.{Reply}
 use Rattle.bc_trace.specs.Replies.{done_text, out_of_heap_text}
 use Rattle.bc_cli.specs.Output.{texts_before, all_texts, whole_text, text_at, need_text, cut_text}
 
@@ -41,13 +39,6 @@ pub record NeedsMore (t : TraceLists) (k : ℕ) (cut : List ℕ) (need : ℕ) : 
   pub within : k < length t.phases
   pub counted : IsNeed (after_cut t k cut) need
   pub above : t.setup.superpages < need
-
--- A front of these bytes is written, and not all of them.
-pub record WritesFront (held held' : Option (List ℕ)) (whole : List ℕ) : Type 0 where
-  pub front : List ℕ
-  pub is_front : IsPrefix front whole
-  pub not_all : length front < length whole
-  pub written : HeldGrows held held' front
 
 -- Bytes are written, and behind them a front of the next ones, and not all of these.
 pub record WritesFrontAfter (held held' : Option (List ℕ)) (first next : List ℕ) : Type 0 where
@@ -97,30 +88,11 @@ abbrev pub EndsInFault : TraceLists → Option (List ℕ) → Option (List ℕ) 
 EndsInFault t held held' heap =
     FailsInPhase t held held' heap ⊎ (FailsAtDone t held held' heap ⊎ FailsAtNeed t held held' heap)
 
--- A phase was run on the engine: it is done, or it ended at a cut for want of heap, by this need.
-abbrev pub PhaseEnded : EngineView → PhaseLists → EngineView → List (List Reply) → Option ℕ → Type 0
-PhaseEnded e p f replies None = DidPhase e p f replies
-PhaseEnded e p f replies (Some need) = CutPhase e p f replies need
-
--- The engine has run the first k phases of the trace, and can run the others.
-pub record HasRun (t : TraceLists) (k : ℕ) (engine : EngineView) : Type 0 where
-  pub setup : engine.setup ≡ t.setup
-  pub going : engine.ended ≡ None
-  pub empty : HasEmptyChunks engine.running.heap
-  pub stands : EngineStands engine (before t k)
-  pub births : HasRoomForBirths engine (sum_by ops_of (drop k t.phases))
-  pub fits : NeedsFit t k
-
 -- Memory ran out in a phase: the texts of those before it are written.
 pub record StopsBefore (t : TraceLists) (held held' : Option (List ℕ)) : Type 0 where
   pub phase : ℕ
   pub within : phase < length t.phases
   pub written : HeldGrows held held' (texts_before t phase)
-
--- What phase k may write fits the room.
-pub record HasPhaseRoom (room : Option ℕ) (t : TraceLists) (k : ℕ) : Type 0 where
-  pub whole : HasRoom room (length (text_at t k))
-  pub cut_short : (cut : List ℕ) → (need : ℕ) → NeedsMore t k cut need → HasRoom room (length (need_text t k cut need))
 
 -- What a replay of the trace may write fits the room: its whole output, and each one that ends by the need of a cut. All else that
 -- it may write is a front of one of these.

@@ -4,7 +4,13 @@ pub mod Words
 pub mod Statuses
 -- What a run writes.
 pub mod Output
+-- The line of the need
+pub mod NeedLine
 -- How the replay of a trace ends
 pub mod Endings
+-- A replay between its phases
+pub mod BetweenPhases
 -- What each status says of the source, from its left bytes before and after, and of the sink, from its held bytes before and after.
 pub mod Outcomes
+-- With which statuses the parts of a run end
+pub mod PartEndings

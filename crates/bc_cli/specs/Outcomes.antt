@@ -10,7 +10,7 @@ use Rattle.bc_trace.specs.Lines.{Spells}
 use Rattle.bc_trace.specs.declared.fault.Cause.{Cause}
 use Rattle.bc_cli.specs.Endings.{EndsDone, EndsOutOfHeap, EndsInFault, StopsBefore, HasRunRoom}
 use Rattle.bc_cli.specs.declared.status.Status.{Status}
-use Rattle.bc_cli.specs.declared.status.Status.TheVariants.{Done, BadWords, BadTrace, TooLong, ReadFault, WriteFault, OutOfHeap, NoMemory}
+use Rattle.bc_cli.specs.declared.status.Status.TheVariants.{BadWords, BadTrace, TooLong, ReadFault, OutOfHeap, NoMemory}
 
 abbrev pub longest_trace : ℕ
 longest_trace = 16777216
@@ -73,22 +73,6 @@ IfHeapless TooLong P = P
 IfHeapless ReadFault P = P
 IfHeapless NoMemory P = P
 IfHeapless _ P = Unit {0}
-
--- how a run can end that has read no trace
-abbrev pub IsRefusedStatus : Status → Type 0
-IsRefusedStatus (BadTrace line cause) = Unit {0}
-IsRefusedStatus TooLong = Unit {0}
-IsRefusedStatus ReadFault = Unit {0}
-IsRefusedStatus NoMemory = Unit {0}
-IsRefusedStatus _ = ⊥
-
--- how a run can end that has read a trace
-abbrev pub IsEnding : Status → Type 0
-IsEnding Done = Unit {0}
-IsEnding WriteFault = Unit {0}
-IsEnding (OutOfHeap need) = Unit {0}
-IsEnding NoMemory = Unit {0}
-IsEnding _ = ⊥
 
 -- This status, unless memory ran out.
 abbrev pub IsOrNoMemory : Status → Status → Type 0

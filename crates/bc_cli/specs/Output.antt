@@ -1,5 +1,5 @@
 -- What a run writes.
-use Rattle.std.specs.Prelude.{ℕ, ◌+◌, List, [], ◌++◌, take, Option, Some, None}
+use Rattle.std.specs.Prelude.{ℕ, ◌+◌, List, ◌++◌, take}
 use Rattle.bc_model.specs.Lists.{PhaseLists, TraceLists}
 use Rattle.bc_model.specs.Run.{opening, replies_of_phases, replies_to_lanes, before, phase_at, replies_of_cut}
 use Rattle.bc_model.specs.State.{State}
@@ -24,11 +24,6 @@ whole_text t = all_texts t ++ done_text
 -- the whole text of phase k, counted from 0: its number is k + 1
 abbrev pub text_at : TraceLists → ℕ → List ℕ
 text_at t k = phase_text (k + 1) (replies_to_lanes (before t k) 0 (phase_at t k).lanes)
-
--- the line of the need, where one is told
-abbrev pub need_line : Option ℕ → List ℕ
-need_line None = []
-need_line (Some need) = out_of_heap_text need
 
 -- the text of phase k up to a cut, and then the line of the need
 abbrev pub need_text : TraceLists → ℕ → List ℕ → ℕ → List ℕ

@@ -7,7 +7,8 @@ ghost use Rattle.bc_model.specs.Lists.{TraceLists};
 ghost use Rattle.bc_trace.specs.Faults.{Fault};
 ghost use Rattle.bc_trace.specs.Lines.{Spells};
 ghost use Rattle.bc_trace.specs.declared.fault.TraceFault.{TraceFault};
-ghost use Rattle.bc_cli.specs.Outcomes.{ReadAsTrace, Faulty, IfBadTrace, IsRefusedStatus, IsOrNoMemory, longest_trace};
+ghost use Rattle.bc_cli.specs.Outcomes.{ReadAsTrace, Faulty, IfBadTrace, IsOrNoMemory, longest_trace};
+ghost use Rattle.bc_cli.specs.PartEndings.{IsRefusedStatus};
 
 use crate::status::Status;
 use bc_io::{Source, read_all};

@@ -1,14 +1,16 @@
 //! The phases of a trace: each is run, and what it prints is written.
 
 ghost use Rattle.std.specs.Prelude.{◌≡◌, ℕ, ◌+◌, ◌^◌, ◌<◌, List, Option, Some, None, length, OnOk, IfOk, IsErr, IsErrOf};
-ghost use Rattle.bc_engine.specs.Engines.{HasRoomForBirths};
+ghost use Rattle.bc_engine.specs.EngineFacts.{HasRoomForBirths};
 ghost use Rattle.bc_engine.specs.Lanes.{HasRoomForOps};
 ghost use Rattle.bc_engine.specs.declared.engines.Ended.{Ended};
 ghost use Rattle.bc_io.specs.Faults.{Rose};
-ghost use Rattle.bc_io.specs.Told.{HeldGrows, RoomFalls};
+ghost use Rattle.bc_io.specs.Told.{HeldGrows};
+ghost use Rattle.bc_io.specs.Pieces.{RoomFalls};
 ghost use Rattle.bc_model.specs.WellFormed.{IsPhase, IsTrace};
 ghost use Rattle.bc_cli.specs.Output.{texts_before, all_texts};
-ghost use Rattle.bc_cli.specs.Endings.{EndsOutOfHeap, EndsInFault, StopsBefore, HasRun, HasRunRoom, HasPhaseRoom, PhaseEnded};
+ghost use Rattle.bc_cli.specs.Endings.{EndsOutOfHeap, EndsInFault, StopsBefore, HasRunRoom};
+ghost use Rattle.bc_cli.specs.BetweenPhases.{HasRun, HasPhaseRoom, PhaseEnded};
 
 use crate::status::Ending;
 use crate::texts::{texts_of, write_texts};

@@ -4,14 +4,15 @@ ghost use Rattle.std.specs.Prelude.{◌≡◌, ◌≢◌, ℕ, ◌+◌, ◌^◌,
 ghost use Rattle.bc_io.specs.Faults.{Rose};
 ghost use Rattle.bc_io.specs.Told.{GivesAtMost, GivesExactly};
 ghost use Rattle.bc_model.specs.Lists.{TraceLists};
-ghost use Rattle.bc_model.specs.Run.{all_ops_of};
+ghost use Rattle.bc_model.specs.RunLengths.{all_ops_of};
 ghost use Rattle.bc_model.specs.WellFormed.{IsTrace};
 ghost use Rattle.bc_trace.specs.Faults.{Fault};
 ghost use Rattle.bc_trace.specs.Lines.{Spells};
 ghost use Rattle.bc_trace.specs.declared.fault.TraceFault.{TraceFault};
 ghost use Rattle.bc_cli.specs.Words.{IsCommand};
 ghost use Rattle.bc_cli.specs.Endings.{EndsDone, EndsOutOfHeap, EndsInFault, StopsBefore, FitsThroughout, HasRunRoom};
-ghost use Rattle.bc_cli.specs.Outcomes.{Replayed, RanOutOfHeap, ReplayedInPart, ReplayedTo, Faulty, IfBadTrace, IfStatusOutOfHeap, IfHeapless, IsEnding, IsOrNoMemory, HasRoomFor, longest_trace};
+ghost use Rattle.bc_cli.specs.Outcomes.{Replayed, RanOutOfHeap, ReplayedInPart, ReplayedTo, Faulty, IfBadTrace, IfStatusOutOfHeap, IfHeapless, IsOrNoMemory, HasRoomFor, longest_trace};
+ghost use Rattle.bc_cli.specs.PartEndings.{IsEnding};
 
 use crate::command::{Command, command_of};
 use crate::input::read_trace;

@@ -2,10 +2,11 @@
 
 ghost use Rattle.std.specs.Prelude.{◌≡◌, ◌++◌, Some, length, string_bytes, IfOk, OnOk, OnErr};
 ghost use Rattle.bc_io.specs.Faults.{Rose};
-ghost use Rattle.bc_io.specs.Told.{HeldGrows, RoomFalls, HasRoom};
+ghost use Rattle.bc_io.specs.Told.{HeldGrows, HasRoom};
+ghost use Rattle.bc_io.specs.Pieces.{RoomFalls};
 ghost use Rattle.bc_trace.specs.Replies.{phase_text, out_of_heap_text};
-ghost use Rattle.bc_cli.specs.Endings.{WritesFront};
-ghost use Rattle.bc_cli.specs.Output.{need_line};
+ghost use Rattle.bc_cli.specs.BetweenPhases.{WritesFront};
+ghost use Rattle.bc_cli.specs.NeedLine.{need_line};
 
 use bc_io::{Sink, WriteFault, write_all};
 use bc_model::Replies;

@@ -3,8 +3,10 @@ use Rattle.std.proofs.Common.{◌≡◌, ◌⊎◌, ℕ, ◌*◌, ◌<◌, ◌�
 use Rattle.std.specs.Result.{IfOk, OnErr}
 use Rattle.std.specs.Prelude.{IsErrOf}
 use Rattle.bc_classes.proofs.ClassLemmas.{class_of-class}
-use Rattle.bc_whole_heap.specs.Closed.{chunk_of, buffer_of}
-use Rattle.bc_running.specs.Running.{RunningView, RunningStands, IsSound, StaysBut}
+use Rattle.bc_whole_heap.specs.Closed.{buffer_of}
+use Rattle.bc_whole_heap.specs.LaneChunks.{chunk_of}
+use Rattle.bc_running.specs.Running.{RunningView, RunningStands}
+use Rattle.bc_running.specs.RunningFacts.{IsSound, StaysBut}
 use Rattle.bc_model.specs.State.{State}
 use Rattle.bc_model.specs.Step.{step}
 use Rattle.bc_model.specs.declared.operations.Op.{Op}
@@ -17,11 +19,13 @@ use Rattle.bc_mutator.specs.declared.operations.Stop.{Stop}
 use Rattle.bc_mutator.specs.declared.operations.Stop.TheVariants.{NurseryFull, BufferFull}
 use Rattle.bc_mutator.proofs.NewLemmas.{births-count, none-later}
 use Rattle.bc_nursery.specs.Entries.{Entries}
-use Rattle.bc_nursery.specs.Objects.{Nursery, left_of, words_of}
+use Rattle.bc_nursery.specs.Objects.{left_of, words_of}
+use Rattle.bc_nursery.specs.Nurseries.{Nursery}
 use Rattle.bc_superpages.specs.declared.headers.PageState.{PageState}
-use Rattle.bc_superpages.specs.Layout.{Layout, superpages, state_at}
+use Rattle.bc_superpages.specs.Layout.{Layout, superpages}
+use Rattle.bc_superpages.specs.LayoutAt.{state_at}
 use Rattle.bc_superpages.specs.RootWords.{RootWords}
-use Rattle.bc_engine.specs.Engines.{CanRunLanes, IsUnrecorded}
+use Rattle.bc_engine.specs.EngineFacts.{CanRunLanes, IsUnrecorded}
 use Rattle.bc_engine.specs.Lanes.{Does, IsHeldUp, Stops}
 use Rattle.bc_engine.proofs.Sizes.{fits-step, op-of_state, none-young}
 

@@ -6,25 +6,31 @@ use Rattle.bc_bits.specs.Bits.{has}
 use Rattle.bc_cycle.specs.Emptying.{IsEmptied, IsAsBefore}
 use Rattle.bc_cycle.proofs.ChunkLists.{chunk-emptied}
 use Rattle.bc_failsafe.specs.Packing.{NeedOfHeap}
-use Rattle.bc_whole_heap.specs.Closed.{chunk_of, buffer_of, no_buffer}
-use Rattle.bc_whole_heap.specs.Heaps.{heap_memory, root_words, no_chunk, HeapView, Fixed}
+use Rattle.bc_whole_heap.specs.Closed.{buffer_of, no_buffer}
+use Rattle.bc_whole_heap.specs.LaneChunks.{chunk_of}
+use Rattle.bc_whole_heap.specs.Heaps.{heap_memory, root_words, no_chunk, HeapView}
+use Rattle.bc_whole_heap.specs.HeapFacts.{Fixed}
 use Rattle.bc_whole_heap.proofs.ChunkLemmas.{length-alike}
-use Rattle.bc_whole_heap.specs.Running.{StandsAs}
+use Rattle.bc_whole_heap.specs.LaneStates.{StandsAs}
 use Rattle.bc_memory.specs.Memory.{Memory}
 use Rattle.bc_model.specs.State.{State}
 use Rattle.bc_model.specs.declared.traces.Setup.{Setup}
-use Rattle.bc_nursery.specs.Entries.{Entries, without_entries}
-use Rattle.bc_nursery.specs.Objects.{Nursery, bare_nursery, emptied}
+use Rattle.bc_nursery.specs.Entries.{Entries}
+use Rattle.bc_nursery.specs.Buffers.{without_entries}
+use Rattle.bc_nursery.specs.Objects.{bare_nursery, emptied}
+use Rattle.bc_nursery.specs.Nurseries.{Nursery}
 use Rattle.bc_standing.specs.Standing.{StandsFor, AllBorn}
 use Rattle.bc_promotion.specs.Promises.{HasDomainsBelow}
 use Rattle.bc_superpages.specs.Layout.{Layout, set_of}
 use Rattle.bc_superpages.specs.RootWords.{RootWords}
 use Rattle.bc_model.specs.declared.operations.Op.{Op}
 use Rattle.bc_model.specs.declared.operations.Reply.{Reply}
-use Rattle.bc_running.specs.Running.{RunningView, RunningStands, running_of}
+use Rattle.bc_running.specs.Running.{RunningView, RunningStands}
+use Rattle.bc_running.specs.RunningFacts.{running_of}
 use Rattle.bc_engine.specs.Lanes.{LanesRan}
 use Rattle.bc_engine.proofs.RunLemmas.{runs-none}
-use Rattle.bc_engine.specs.Engines.{HasEmptyChunks, HasSetup, CanRunLanes, IsUnbookmarked, IsUnrecorded}
+use Rattle.bc_engine.specs.Engines.{HasEmptyChunks}
+use Rattle.bc_engine.specs.EngineFacts.{HasSetup, CanRunLanes, IsUnbookmarked, IsUnrecorded}
 
 -- what is true of a heap with the holders and births that there were is true with those that there are, which are the same
 through : (r q : RunningView) (P : RunningView → Type 0) → q.holders ≡ r.holders → q.serials ≡ r.serials → P (running_of q.heap r.holders r.serials) → P q

@@ -1,17 +1,20 @@
 -- A domain changes hands while all chunks and buffers are empty: only the holders change.
 use Rattle.std.proofs.Common.{◌≡◌, ℕ, ◌<◌, List, [], length, get_or, set, sym, ap, subst, ◌∙◌, inl, inr, arith, get_or-set_same, get_or-set_other, length-set}
 use Rattle.std.proofs.lemmas.Bool.{cases_eq}
-use Rattle.bc_whole_heap.specs.Closed.{chunk_of, buffer_of, IsCellOrYoung, IsClosedHeap}
-use Rattle.bc_whole_heap.specs.Heaps.{view_of}
+use Rattle.bc_whole_heap.specs.Closed.{buffer_of, IsCellOrYoung, IsClosedHeap}
+use Rattle.bc_whole_heap.specs.LaneChunks.{chunk_of}
+use Rattle.bc_whole_heap.specs.HeapFacts.{view_of}
 use Rattle.bc_running.specs.Running.{RunningView, RunningStands}
 use Rattle.bc_model.specs.State.{State, given}
 use Rattle.bc_model.specs.declared.traces.Setup.{Setup}
 use Rattle.bc_model.proofs.States.{IsState-given}
 use Rattle.bc_nursery.specs.Entries.{Entries}
-use Rattle.bc_nursery.specs.Objects.{Nursery}
-use Rattle.bc_superpages.specs.Layout.{Layout, IsAllocated}
+use Rattle.bc_nursery.specs.Nurseries.{Nursery}
+use Rattle.bc_superpages.specs.Layout.{Layout}
+use Rattle.bc_superpages.specs.LayoutAt.{IsAllocated}
 use Rattle.bc_superpages.specs.RootWords.{RootWords}
-use Rattle.bc_engine.specs.Engines.{HasEmptyChunks, CanRunLanes, IsUnrecorded}
+use Rattle.bc_engine.specs.Engines.{HasEmptyChunks}
+use Rattle.bc_engine.specs.EngineFacts.{CanRunLanes, IsUnrecorded}
 use Rattle.bc_engine.proofs.Sizes.{none-young}
 
 -- what refers to a cell or to an object of an empty chunk refers to a cell

@@ -9,7 +9,7 @@ use Rattle.bc_cycle.specs.Openings.{new_heap}
 use Rattle.bc_cycle.proofs.OpeningLemmas.{chunk-at, chunk-none, chunks-long, supers-long, no_object, no_entries, opening-running}
 use Rattle.bc_failsafe.proofs.OpeningLemmas.{nothing}
 use Rattle.bc_whole_heap.specs.Heaps.{heap_memory, root_words}
-use Rattle.bc_whole_heap.specs.Running.{StandsAs}
+use Rattle.bc_whole_heap.specs.LaneStates.{StandsAs}
 use Rattle.bc_memory.specs.Memory.{Memory}
 use Rattle.bc_model.specs.Reached.{Holds, FieldHolds, Reached}
 use Rattle.bc_model.specs.Run.{opening}
@@ -20,14 +20,14 @@ use Rattle.bc_model.specs.declared.values.Birth.{Birth}
 use Rattle.bc_model.specs.declared.values.Value.TheVariants as value
 use Rattle.bc_model.proofs.Openings.{IsState-opening, length-numbers_below}
 use Rattle.bc_nursery.specs.Entries.{Entries}
-use Rattle.bc_nursery.specs.Objects.{Nursery}
+use Rattle.bc_nursery.specs.Nurseries.{Nursery}
 use Rattle.bc_reach.proofs.Reaching.{Reach-least}
 use Rattle.bc_standing.specs.Standing.{ReadAs, births}
 use Rattle.bc_standing.proofs.Homes.{births-cell}
 use Rattle.bc_standing.proofs.Reading.{ReadAs-nil, replicate_default}
 use Rattle.bc_promotion.specs.Promises.{HasDomainsBelow}
 use Rattle.bc_superpages.specs.Calls as space
-use Rattle.bc_superpages.specs.Layout.{state_at}
+use Rattle.bc_superpages.specs.LayoutAt.{state_at}
 use Rattle.bc_superpages.specs.declared.headers.PageState.{PageState}
 use Rattle.bc_superpages.specs.declared.headers.PageState.TheVariants.{Absent, Remembered}
 use Rattle.bc_superpages.specs.declared.headers.Header.{Header}
@@ -36,8 +36,10 @@ use Rattle.bc_word.specs.declared.words.Word.{Word}
 use Rattle.bc_word.specs.declared.words.Word.TheVariants.{Nil}
 use Rattle.bc_word.specs.Words.{word_of_bits}
 use Rattle.bc_word.proofs.WordLemmas.{word_of_bits-nil}
-use Rattle.bc_running.specs.Running.{RunningView, RunningStands, new_running}
-use Rattle.bc_engine.specs.Engines.{HasEmptyChunks, CanRunLanes, IsUnbookmarked, IsUnrecorded}
+use Rattle.bc_running.specs.Running.{RunningView, RunningStands}
+use Rattle.bc_running.specs.RunningFacts.{new_running}
+use Rattle.bc_engine.specs.Engines.{HasEmptyChunks}
+use Rattle.bc_engine.specs.EngineFacts.{CanRunLanes, IsUnbookmarked, IsUnrecorded}
 
 nil-words : (n : ℕ) → map word_of_bits (replicate n 0) ≡ replicate n Nil
 nil-words zero = refl
@@ -72,7 +74,7 @@ none-remembered n p e = absent_remembered (sym absent ∙ e)
     ]
 
 -- no superpage is in use
-none-used : (n f k domains : ℕ) → HasDomainsBelow (space.opening n f k) domains
+none-used : (n f k domains : ℕ) → HasDomainsBelow (space.new_space n f k) domains
 none-used n f k domains q used = absurd (false_true (sym (unused n q) ∙ used))
   where
     false_true : false ≡ true → ⊥
@@ -83,7 +85,7 @@ none-used n f k domains q used = absurd (false_true (sym (unused n q) ∙ used))
     unused (suc m) zero = refl
     unused (suc m) (suc p) = unused m p
 
-none-bookmarked : (n f k : ℕ) → IsUnbookmarked (space.opening n f k)
+none-bookmarked : (n f k : ℕ) → IsUnbookmarked (space.new_space n f k)
 none-bookmarked n f k = record { bookmarks = none n; incoming = zeros n }
   where
     none : (m q b : ℕ) → has (get_or (map (λ (h : Header). h.bookmarks) (replicate m unused_header)) q []) b ≡ false

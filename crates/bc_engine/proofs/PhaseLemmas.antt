@@ -4,24 +4,26 @@ use Prim.Native.Nat.{zero, suc}
 use Rattle.std.proofs.lemmas.Bool.{cases_lt}
 use Rattle.std.proofs.lemmas.List.{get_or_append_left, get_or_push, length-map, length_push}
 use Rattle.std.specs.List.{AllByRecursion}
-use Rattle.bc_whole_heap.specs.Closed.{chunk_of}
+use Rattle.bc_whole_heap.specs.LaneChunks.{chunk_of}
 use Rattle.bc_whole_heap.specs.Heaps.{heap_memory, object_in, root_words}
 use Rattle.bc_running.specs.Running.{RunningView, RunningStands}
-use Rattle.bc_model.specs.Consistent.{sizes_of}
+use Rattle.bc_model.specs.StateSizes.{sizes_of}
 use Rattle.bc_model.specs.Interleaving.{replies_by, ops_by}
-use Rattle.bc_model.specs.Lists.{PhaseLists, lists_of}
+use Rattle.bc_model.specs.Lists.{PhaseLists}
+use Rattle.bc_model.specs.Rows.{lists_of}
 use Rattle.bc_model.specs.Need.{IsNeed}
 use Rattle.bc_model.specs.Run.{after_gives, after_lanes, cut_lanes, replies_to_lanes}
 use Rattle.bc_model.specs.State.{State}
 use Rattle.bc_model.specs.WellFormed.{IsOp, IsPhase}
 use Rattle.bc_model.specs.declared.operations.Op.{Op}
 use Rattle.bc_model.specs.declared.operations.Reply.{Reply}
-use Rattle.bc_nursery.specs.Objects.{Nursery}
+use Rattle.bc_nursery.specs.Nurseries.{Nursery}
 use Rattle.bc_standing.specs.Standing.{StandsFor}
 use Rattle.bc_superpages.specs.Kept.{IsLayout}
 use Rattle.bc_superpages.specs.Layout.{Layout, superpages}
 use Rattle.bc_word.specs.declared.words.Word.{Word}
-use Rattle.bc_engine.specs.Engines.{EngineView, EngineStands, with_holders, HasEmptyChunks, HasRoomForBirths, IsEngine, CanRunLanes}
+use Rattle.bc_engine.specs.Engines.{EngineView, EngineStands, HasEmptyChunks}
+use Rattle.bc_engine.specs.EngineFacts.{with_holders, HasRoomForBirths, IsEngine, CanRunLanes}
 use Rattle.bc_engine.specs.Lanes.{of_lane, AreDone, BirthsWithin, LanesWentOn, HasSerialsLeft, HasRoomForOps}
 use Rattle.bc_engine.specs.Phases.{CutPhase, DidPhase}
 use Rattle.bc_engine.specs.Rounds.{RoundsWentOn, IfTooSmall, IsRoomFor, IsThrough, IsTooSmall, IsUnderwayOn}

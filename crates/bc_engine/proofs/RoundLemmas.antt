@@ -9,7 +9,8 @@ use Rattle.bc_model.specs.declared.traces.Setup.{Setup}
 use Rattle.bc_model.specs.declared.operations.Op.{Op}
 use Rattle.bc_model.specs.declared.operations.Reply.{Reply}
 use Rattle.bc_superpages.specs.Layout.{superpages}
-use Rattle.bc_engine.specs.Engines.{EngineView, CanRunLanes}
+use Rattle.bc_engine.specs.Engines.{EngineView}
+use Rattle.bc_engine.specs.EngineFacts.{CanRunLanes}
 use Rattle.bc_engine.specs.Lanes.{of_lane, EachFurther, HasMore, IsUnderway, LanesRan, left}
 use Rattle.bc_engine.specs.Rounds.{ended_of, RoundsWentOn, IfTooSmall, IsTooSmall, IsUnderwayOn}
 use Rattle.bc_engine.specs.declared.engines.Ended.{Ended}

@@ -4,9 +4,10 @@ use Prim.Native.Nat.{zero, suc}
 use Rattle.std.proofs.lemmas.Bool.{cases_eq}
 use Rattle.std.proofs.lemmas.List.{get_or-map, map-set, length_push, length-map}
 use Rattle.std.specs.List.{AllByRecursion}
-use Rattle.bc_whole_heap.specs.Closed.{chunk_of, buffer_of}
+use Rattle.bc_whole_heap.specs.Closed.{buffer_of}
+use Rattle.bc_whole_heap.specs.LaneChunks.{chunk_of}
 use Rattle.bc_running.specs.Running.{RunningView, RunningStands}
-use Rattle.bc_model.specs.Lists.{lists_of}
+use Rattle.bc_model.specs.Rows.{lists_of}
 use Rattle.bc_model.specs.WellFormed.{IsOp}
 use Rattle.bc_model.proofs.Runs.{at-index}
 use Rattle.bc_model.specs.State.{State}
@@ -15,8 +16,9 @@ use Rattle.bc_model.specs.declared.operations.Reply.{Reply}
 use Rattle.bc_model.specs.declared.traces.Setup.{Setup}
 use Rattle.bc_mutator.specs.Operations.{WantsMore}
 use Rattle.bc_nursery.specs.Entries.{Entries}
-use Rattle.bc_nursery.specs.Objects.{Nursery, left_of}
-use Rattle.bc_engine.specs.Engines.{CanRunLanes}
+use Rattle.bc_nursery.specs.Objects.{left_of}
+use Rattle.bc_nursery.specs.Nurseries.{Nursery}
+use Rattle.bc_engine.specs.EngineFacts.{CanRunLanes}
 use Rattle.bc_engine.specs.Lanes.{of_lane, BirthsWithin, Does, EachFurther, LanesWentOn, HasSerialsLeft, IsAtEndOr, IsHeldUp, IsOneMore, LeavesOthers, LanesRan, Stops, left}
 use Rattle.bc_engine.proofs.Attempts.{held-up}
 use Rattle.bc_engine.proofs.GoingLemmas.{with_reply, goes-none, goes-then, goes-step}

@@ -3,23 +3,26 @@ use Rattle.std.proofs.Common.{◌≡◌, ℕ, Bool, true, false, ◌==◌, List,
 use Rattle.std.proofs.lemmas.Bool.{cases_eq}
 use Rattle.std.specs.List.{find}
 use Rattle.std.specs.Option.{is_some}
-use Rattle.bc_whole_heap.specs.Closed.{chunk_of, buffer_of}
+use Rattle.bc_whole_heap.specs.Closed.{buffer_of}
+use Rattle.bc_whole_heap.specs.LaneChunks.{chunk_of}
 use Rattle.bc_whole_heap.specs.Heaps.{object_in, HeapView}
 use Rattle.bc_whole_heap.proofs.ChunkLemmas.{object_in-none}
-use Rattle.bc_whole_heap.specs.Running.{StandsAs}
-use Rattle.bc_model.specs.Consistent.{sizes_of}
+use Rattle.bc_whole_heap.specs.LaneStates.{StandsAs}
+use Rattle.bc_model.specs.StateSizes.{sizes_of}
 use Rattle.bc_model.specs.State.{State}
 use Rattle.bc_model.specs.WellFormed.{IsOp}
 use Rattle.bc_model.specs.declared.operations.Op.{Op}
 use Rattle.bc_model.specs.declared.traces.Setup.{Setup}
 use Rattle.bc_mutator.specs.Operations.{IsOpOf}
 use Rattle.bc_nursery.specs.Entries.{Entries}
-use Rattle.bc_nursery.specs.Objects.{ChunkObject, Nursery, has_object}
+use Rattle.bc_nursery.specs.Objects.{has_object}
+use Rattle.bc_nursery.specs.Nurseries.{ChunkObject, Nursery}
 use Rattle.bc_promotion.specs.Promises.{HasDomainsBelow}
 use Rattle.bc_superpages.specs.Layout.{Layout, superpages}
 use Rattle.bc_superpages.specs.RootWords.{RootWords}
-use Rattle.bc_running.specs.Running.{RunningView, StaysBut}
-use Rattle.bc_engine.specs.Engines.{HasSetup, IsUnbookmarked}
+use Rattle.bc_running.specs.Running.{RunningView}
+use Rattle.bc_running.specs.RunningFacts.{StaysBut}
+use Rattle.bc_engine.specs.EngineFacts.{HasSetup, IsUnbookmarked}
 
 -- an operation fits whatever has as many domains and slots
 made_up : ℕ → ℕ → Setup

@@ -1,17 +1,11 @@
 -- An engine: a heap that lanes run on, and what phases rest on.
-use Rattle.std.specs.Prelude.{◌≡◌, ◌≢◌, ℕ, ◌+◌, ◌*◌, ◌^◌, ◌<◌, ◌≤◌, false, List, [], length, Option, Some, None, slice_index}
-use Rattle.bc_bits.specs.Bits.{has}
-use Rattle.bc_whole_heap.specs.Closed.{chunk_of, buffer_of}
-use Rattle.bc_whole_heap.specs.Heaps.{NoneRemembered, HeapView}
-use Rattle.bc_whole_heap.specs.Running.{IsRunning}
+use Rattle.std.specs.Prelude.{◌≡◌, ℕ, List, [], Option}
+use Rattle.bc_whole_heap.specs.LaneChunks.{chunk_of}
+use Rattle.bc_whole_heap.specs.Heaps.{HeapView}
 use Rattle.bc_model.specs.State.{State}
-use Rattle.bc_model.specs.WellFormed.{IsSetup}
 use Rattle.bc_model.specs.declared.traces.Setup.{Setup}
-use Rattle.bc_promotion.specs.Promises.{HasDomainsBelow}
-use Rattle.bc_superpages.specs.Layout.{Layout, superpages, set_of}
 use Rattle.bc_engine.specs.declared.answers.Answer.{Answer}
 use Rattle.bc_engine.specs.declared.engines.Ended.{Ended}
-use Rattle.bc_engine.specs.declared.engines.Ended.TheVariants.{NoMemory}
 use Rattle.bc_running.specs.Running.{RunningView, RunningStands}
 
 pub record EngineView : Type 0 where
@@ -24,66 +18,10 @@ pub record EngineView : Type 0 where
   -- what became of the notices of the latest phase
   pub answers : List Answer
 
--- the engine with these holders of the domains
-abbrev pub with_holders : EngineView → List ℕ → EngineView
-with_holders e holders = record e { running = record (e.running) { holders = holders } }
-
--- no object is bookmarked, and no superpage is referred to from an evicted page
-pub record IsUnbookmarked (s : Layout) : Type 0 where
-  pub bookmarks : (q b : ℕ) → has (set_of s.bookmarks q) b ≡ false
-  pub incoming : (q : ℕ) → slice_index s.incoming q ≡ 0
-
--- the heap has the setup's superpages, root slots, chunks, buffers and frames: a frame for every page. Superpages are in use for the
--- setup's domains. No page was ever evicted, so nothing is bookmarked
-pub record HasSetup (h : HeapView) (setup : Setup) : Type 0 where
-  pub supers : superpages h.space ≡ setup.superpages
-  pub domains : h.roots.domains ≡ setup.domains
-  pub slots : h.roots.slots ≡ setup.slots
-  pub lanes : length h.chunks ≡ setup.lanes
-  pub words : (l : ℕ) → l < setup.lanes → (chunk_of h.chunks l).words ≡ 512 * setup.nursery
-  pub entries : (l : ℕ) → l < setup.lanes → (buffer_of h.buffers l).capacity ≡ setup.buffer
-  pub nursery : h.space.nursery ≡ setup.lanes * setup.nursery
-  pub frames : h.space.frames ≡ setup.lanes * setup.nursery + 4 * setup.superpages
-  pub used : HasDomainsBelow h.space setup.domains
-  pub unbookmarked : IsUnbookmarked h.space
-
--- all write buffers are empty, and no page is remembered
-pub record IsUnrecorded (h : HeapView) : Type 0 where
-  pub entries : (l : ℕ) → (buffer_of h.buffers l).entries ≡ []
-  pub remembered : NoneRemembered h.space
-
 -- all chunks are empty
 abbrev pub HasEmptyChunks : HeapView → Type 0
 HasEmptyChunks h = (l : ℕ) → (chunk_of h.chunks l).objects ≡ []
 
--- lanes can run: the heap is in order, it has the setup's sizes, and there is a state that it stands for
-pub record CanRunLanes (setup : Setup) (r : RunningView) : Type 0 where
-  pub range : IsSetup setup
-  pub order : IsRunning r.heap r.holders
-  pub fits : HasSetup r.heap setup
-  pub lanes : length r.serials ≡ setup.lanes
-  pub meant : (state : State) × RunningStands r state
-
--- a number of threads that may mark
-abbrev pub IsWorkers : ℕ → Type 0
-IsWorkers n = (1 ≤ n) × (n ≤ 16)
-
--- what is true of an engine whose heap is in order: that of one that hasn't run out of memory. As long as it hasn't ended,
--- nothing is recorded
-pub record IsEngine (e : EngineView) : Type 0 where
-  pub workers : IsWorkers e.workers
-  pub ready : CanRunLanes e.setup e.running
-  pub going : e.ended ≡ None → IsUnrecorded e.running.heap
-
 -- the engine stands for the state
 abbrev pub EngineStands : EngineView → State → Type 0
 EngineStands e state = RunningStands e.running state
-
--- every lane can make n objects more, all with serials below 2 ^ 32
-abbrev pub HasRoomForBirths : EngineView → ℕ → Type 0
-HasRoomForBirths e n = (j : ℕ) → slice_index e.running.serials j + n < 2 ^ 32
-
--- what the type keeps: until it runs out of memory an engine's heap is in order. There are no notices yet, and so no answers
-pub record IsSoundEngine (e : EngineView) : Type 0 where
-  pub alive : e.ended ≢ Some NoMemory → IsEngine e
-  pub unanswered : e.answers ≡ []

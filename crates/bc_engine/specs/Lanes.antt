@@ -2,9 +2,10 @@
 use Rattle.std.specs.Prelude.{◌≡◌, ◌≢◌, ℕ, ◌+◌, ◌-◌, ◌^◌, ◌<◌, ◌≤◌, ◌⊎◌, List, [], ◌∷◌, ◌++◌, length, take, Vec, vec_capacity, slice_index, slice_index_or}
 use Rattle.std.specs.List.{AllByRecursion}
 use Rattle.std.specs.declared.alloc.Global.{Global}
-use Rattle.bc_whole_heap.specs.Closed.{chunk_of, buffer_of}
+use Rattle.bc_whole_heap.specs.Closed.{buffer_of}
+use Rattle.bc_whole_heap.specs.LaneChunks.{chunk_of}
 use Rattle.bc_model.specs.Interleaving.{LaneOp, after_steps, replies_by, ops_by}
-use Rattle.bc_model.specs.Lists.{lists_of}
+use Rattle.bc_model.specs.Rows.{lists_of}
 use Rattle.bc_model.specs.State.{State}
 use Rattle.bc_model.specs.Step.{step}
 use Rattle.bc_model.specs.WellFormed.{IsOp}
@@ -13,7 +14,8 @@ use Rattle.bc_model.specs.declared.operations.Reply.{Reply}
 use Rattle.bc_model.specs.declared.traces.Setup.{Setup}
 use Rattle.bc_mutator.specs.Operations.{WantsMore, NeedsEntry}
 use Rattle.bc_nursery.specs.Objects.{left_of}
-use Rattle.bc_engine.specs.Engines.{EngineView, CanRunLanes}
+use Rattle.bc_engine.specs.Engines.{EngineView}
+use Rattle.bc_engine.specs.EngineFacts.{CanRunLanes}
 use Rattle.bc_running.specs.Running.{RunningView, RunningStands}
 
 -- the operations of a lane, or its replies

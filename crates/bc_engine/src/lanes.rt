@@ -1,10 +1,11 @@
 //! Lanes do their operations of a phase one after the other, and their replies are kept.
 
 ghost use Rattle.std.specs.Prelude.{◌≡◌, ℕ, ◌<◌, ◌≤◌, [], length, true, false};
-ghost use Rattle.bc_engine.specs.Engines.{HasEmptyChunks, IsUnrecorded};
+ghost use Rattle.bc_engine.specs.Engines.{HasEmptyChunks};
+ghost use Rattle.bc_engine.specs.EngineFacts.{IsUnrecorded};
 ghost use Rattle.bc_engine.specs.Lanes.{of_lane, AreDone, EachFurther, HasMore, IsAtEndOr, IsHeldUp, IsOneMore, IsUnderway, LeavesOthers, LanesRan, Stops};
-ghost use Rattle.bc_whole_heap.specs.Closed.{chunk_of};
-ghost use Rattle.bc_model.specs.Lists.{lists_of};
+ghost use Rattle.bc_whole_heap.specs.LaneChunks.{chunk_of};
+ghost use Rattle.bc_model.specs.Rows.{lists_of};
 ghost use Rattle.bc_model.specs.declared.traces.Setup.{Setup};
 
 use bc_model::{Op, Reply};

@@ -3,11 +3,12 @@
 ghost use Rattle.std.specs.Prelude.{◌≡◌, ◌≢◌, ℕ, ◌+◌, ◌<◌, ◌≤◌, [], length, Some, None, Result, Ok, Err, IfOk, slice_index};
 ghost use Rattle.std.specs.List.{AllByRecursion};
 ghost use Rattle.bc_engine.specs.Answers.{IfPhaseOutOfHeap, IsOutOfHeap, IsNoMemory};
-ghost use Rattle.bc_engine.specs.Engines.{EngineStands, HasEmptyChunks, HasRoomForBirths, IsUnrecorded, with_holders};
+ghost use Rattle.bc_engine.specs.Engines.{EngineStands, HasEmptyChunks};
+ghost use Rattle.bc_engine.specs.EngineFacts.{HasRoomForBirths, IsUnrecorded, with_holders};
 ghost use Rattle.bc_engine.specs.Lanes.{of_lane, HasRoomForOps};
 ghost use Rattle.bc_engine.specs.Phases.{DidPhase, CutPhase};
 ghost use Rattle.bc_engine.specs.Rounds.{IsRoomFor};
-ghost use Rattle.bc_model.specs.Lists.{lists_of};
+ghost use Rattle.bc_model.specs.Rows.{lists_of};
 ghost use Rattle.bc_model.specs.Need.{IsNeed};
 ghost use Rattle.bc_model.specs.Run.{after_gives};
 ghost use Rattle.bc_model.specs.State.{State};

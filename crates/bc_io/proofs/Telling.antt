@@ -5,7 +5,8 @@ use Rattle.std.proofs.lemmas.List.{take_rest, take-append-le}
 use lib.Seq.{take-take}
 use Rattle.std.specs.Prelude.{option_map}
 use Rattle.std.specs.Io.KnownBytes.{append_known, prepend_known}
-use Rattle.bc_io.specs.Told.{LeftFalls, HeldGrows, RoomFalls, HasRoom, IsPrefix, GivesAtMost, GivesExactly, TakesFront}
+use Rattle.bc_io.specs.Told.{LeftFalls, HeldGrows, HasRoom, IsPrefix, GivesAtMost, GivesExactly}
+use Rattle.bc_io.specs.Pieces.{RoomFalls, TakesFront}
 
 -- ---- what a sink holds
 

@@ -1,6 +1,6 @@
 -- What contracts see of a source and of sinks in memory.
 use Rattle.std.specs.Prelude.{ℕ, ◌+◌, ◌-◌, List, ◌++◌, length, take, drop, Contains, Result, Ok, Err}
-use Rattle.bc_io.specs.Faults.{counted}
+use Rattle.bc_io.specs.FaultCounts.{counted}
 
 -- a source in memory: the bytes that it has left, how many it gives in a call at most, the numbers of the calls that
 -- fail, how many calls were made, and how many of them failed

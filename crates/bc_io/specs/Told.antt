@@ -1,6 +1,6 @@
 -- What is told of the bytes that a source has left, and of the bytes that a sink holds and the room that it has.
 -- Each is `None` where it isn't told. What is told stays told, and what isn't stays untold.
-use Rattle.std.specs.Prelude.{◌≡◌, ℕ, ◌-◌, ◌<◌, ◌≤◌, List, ◌++◌, length, Option, None, Some, option_map, ⊤}
+use Rattle.std.specs.Prelude.{◌≡◌, ℕ, ◌≤◌, List, ◌++◌, length, Option, None, Some, ⊤}
 use Rattle.std.specs.Io.KnownBytes.{append_known, prepend_known}
 
 -- A source gave these bytes: it had them left, and behind them what it has left now.
@@ -10,10 +10,6 @@ LeftFalls old new bytes = old ≡ prepend_known bytes new
 -- A sink holds these bytes more, behind those that it held.
 abbrev pub HeldGrows : Option (List ℕ) → Option (List ℕ) → List ℕ → Type 0
 HeldGrows old new bytes = new ≡ append_known old bytes
-
--- The room fell by this number of bytes.
-abbrev pub RoomFalls : Option ℕ → Option ℕ → ℕ → Type 0
-RoomFalls old new count = new ≡ option_map (λ room. room - count) old
 
 -- This number of bytes is at most the room, where it is told.
 abbrev pub HasRoom : Option ℕ → ℕ → Type 0
@@ -35,12 +31,3 @@ pub record GivesExactly (old new : Option (List ℕ)) (count : ℕ) : Type 0 whe
   pub given : List ℕ
   pub counted : length given ≡ count
   pub falls : LeftFalls old new given
-
--- A sink took a front of the bytes and not all of them: what it holds grew by the front, and its room fell by as many.
-pub record TakesFront (held_old held_new : Option (List ℕ)) (room_old room_new : Option ℕ) (bytes : List ℕ) : Type 0 where
-  pub taken : List ℕ
-  pub rest : List ℕ
-  pub whole : bytes ≡ taken ++ rest
-  pub not_all : 0 < length rest
-  pub grows : HeldGrows held_old held_new taken
-  pub falls : RoomFalls room_old room_new (length taken)

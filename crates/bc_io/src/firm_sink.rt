@@ -2,7 +2,8 @@
 
 ghost use Rattle.std.specs.Prelude.{◌≡◌, ℕ, ◌<◌, ◌≤◌, [], max, length, take, IfOk, IsOk, OnOk, OnErr, Ok, Some};
 ghost use Rattle.bc_io.specs.Faults.{Rose};
-ghost use Rattle.bc_io.specs.Told.{HasRoom, HeldGrows, RoomFalls};
+ghost use Rattle.bc_io.specs.Told.{HasRoom, HeldGrows};
+ghost use Rattle.bc_io.specs.Pieces.{RoomFalls};
 ghost use Rattle.bc_io.specs.Scripts.{filled_with};
 
 use crate::faults::{Failed, NoMemory};

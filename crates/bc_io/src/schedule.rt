@@ -1,7 +1,7 @@
 //! Which calls of a device in memory fail.
 
 ghost use Rattle.std.specs.Prelude.{◌≡◌, ◌+◌, ◌<◌, ◌≤◌, ◌↔◌, IsTrue, if◌then◌else◌};
-ghost use Rattle.bc_io.specs.Faults.{counted};
+ghost use Rattle.bc_io.specs.FaultCounts.{counted};
 ghost use Rattle.bc_io.specs.Scripts.{FailsNext};
 
 /// The numbers of the calls that fail, how many calls were made, and how many of them failed.

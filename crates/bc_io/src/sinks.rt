@@ -2,7 +2,8 @@
 
 ghost use Rattle.std.specs.Prelude.{◌≡◌, ℕ, ◌<◌, ◌≤◌, List, Option, length, take, IfOk, OnOk, OnErr};
 ghost use Rattle.bc_io.specs.Faults.{Rose};
-ghost use Rattle.bc_io.specs.Told.{HasRoom, HeldGrows, RoomFalls};
+ghost use Rattle.bc_io.specs.Told.{HasRoom, HeldGrows};
+ghost use Rattle.bc_io.specs.Pieces.{RoomFalls};
 
 use crate::faults::Failed;
 

@@ -2,7 +2,8 @@
 
 ghost use Rattle.std.specs.Prelude.{◌≡◌, ℕ, ◌<◌, ◌≤◌, ◌⊎◌, length, IfOk, OnOk, OnErr, Ok, None, IsErr, IsTrue, IsFalse, is_ok, if◌then◌else◌};
 ghost use Rattle.std.specs.Io.KnownBytes.{WriteAppends};
-ghost use Rattle.bc_io.specs.Faults.{Rose, counted};
+ghost use Rattle.bc_io.specs.Faults.{Rose};
+ghost use Rattle.bc_io.specs.FaultCounts.{counted};
 
 use crate::faults::Failed;
 use crate::sinks::Sink;

@@ -2,7 +2,8 @@
 
 ghost use Rattle.std.specs.Prelude.{◌≡◌, ℕ, ◌<◌, ◌≤◌, length, take, IfOk, OnOk, OnErr, Ok, None, IsErr, is_ok, if◌then◌else◌};
 ghost use Rattle.std.specs.Io.KnownBytes.{ReadConsumes};
-ghost use Rattle.bc_io.specs.Faults.{Rose, counted};
+ghost use Rattle.bc_io.specs.Faults.{Rose};
+ghost use Rattle.bc_io.specs.FaultCounts.{counted};
 ghost use Rattle.bc_io.specs.Told.{LeftFalls};
 
 use crate::faults::Failed;

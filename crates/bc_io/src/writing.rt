@@ -2,7 +2,8 @@
 
 ghost use Rattle.std.specs.Prelude.{◌≡◌, ◌≤◌, [], length, OnOk, OnErr};
 ghost use Rattle.bc_io.specs.Faults.{Rose};
-ghost use Rattle.bc_io.specs.Told.{HasRoom, HeldGrows, RoomFalls, TakesFront};
+ghost use Rattle.bc_io.specs.Told.{HasRoom, HeldGrows};
+ghost use Rattle.bc_io.specs.Pieces.{RoomFalls, TakesFront};
 
 use crate::faults::Failed;
 use crate::sinks::Sink;

@@ -3,8 +3,9 @@ use Rattle.std.proofs.Common.{◌≡◌, ◌≢◌, ℕ, ◌+◌, ◌*◌, ◌<�
 use Rattle.std.proofs.lemmas.Bool.{cases_eq}
 use Rattle.std.proofs.lemmas.List.{length_push}
 use Rattle.std.proofs.lemmas.Nat.{mul-add-lt, same_from_place}
-use Rattle.bc_model.specs.Consistent.{IsState, sizes_of}
-use Rattle.bc_model.specs.State.{State, Object, IsBorn, made_by, object_of, next_birth, with_object, with_made, with_value, with_slot, with_field, place_of, holds}
+use Rattle.bc_model.specs.Consistent.{IsState}
+use Rattle.bc_model.specs.StateSizes.{sizes_of}
+use Rattle.bc_model.specs.State.{State, Object, IsBorn, made_by, object_of, next_birth, with_born, with_made, with_value, with_slot, with_born_field, place_of, holds}
 use Rattle.bc_model.specs.WellFormed.{IsSlot}
 use Rattle.bc_model.specs.declared.values.Birth.{Birth}
 use Rattle.bc_model.specs.declared.values.Slot.{Slot}
@@ -73,7 +74,7 @@ other-put k j s p v ne fits own = record {
 }
 
 -- it writes a field
-other-write : (k j : ℕ) (s : State) (c : Birth) (i : ℕ) (v : Value) → j ≢ k → IsBorn s.made c → holds s j (object_of s.made c).domain ≡ true → Agrees k s (with_field s c i v)
+other-write : (k j : ℕ) (s : State) (c : Birth) (i : ℕ) (v : Value) → j ≢ k → IsBorn s.made c → holds s j (object_of s.made c).domain ≡ true → Agrees k s (with_born_field s c i v)
 other-write k j s c i v ne born own =
     let o : Object = with_value (object_of s.made c) i v in
     let grows = Grows-after_write s c i v born in
@@ -148,7 +149,7 @@ own-put k s t p v a hs ht fits =
     }
 
 -- a field
-own-write : (k : ℕ) (s t : State) (c : Birth) (i : ℕ) (v : Value) → Agrees k s t → IsBorn s.made c → holds s k (object_of s.made c).domain ≡ true → Agrees k (with_field s c i v) (with_field t c i v)
+own-write : (k : ℕ) (s t : State) (c : Birth) (i : ℕ) (v : Value) → Agrees k s t → IsBorn s.made c → holds s k (object_of s.made c).domain ≡ true → Agrees k (with_born_field s c i v) (with_born_field t c i v)
 own-write k s t c i v a born own =
     let os : Object = with_value (object_of s.made c) i v in
     let ot : Object = with_value (object_of t.made c) i v in
@@ -168,9 +169,9 @@ own-write k s t c i v a born own =
           let before = IsBorn-from_with_object s.made c os x born m in
           elim (cases_birth x c) [
             | inl e ↦
-                ap (λ (y : Birth). object_of (with_object t.made c ot) y) e ∙ object_of-with_object_same t.made c ot born'
+                ap (λ (y : Birth). object_of (with_born t.made c ot) y) e ∙ object_of-with_object_same t.made c ot born'
                 ∙ ap (λ (y : Object). with_value y i v) (a.object c born own)
-                ∙ sym (ap (λ (y : Birth). object_of (with_object s.made c os) y) e ∙ object_of-with_object_same s.made c os born)
+                ∙ sym (ap (λ (y : Birth). object_of (with_born s.made c os) y) e ∙ object_of-with_object_same s.made c os born)
             | inr ne ↦
                 object_of-with_object_other t.made c ot x born' (a.born x before) ne
                 ∙ a.object x before (subst (λ (d : ℕ). holds s k d ≡ true) (gs.domain x before) held)

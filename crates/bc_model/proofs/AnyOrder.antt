@@ -1,7 +1,8 @@
 -- The law of any order, and that two steps commute.
 use Rattle.std.proofs.Common.{◌≡◌, ◌≢◌, ℕ, ◌+◌, ◌<◌, ◌≤◌, Bool, true, false, cond, ◌==◌, List, [], ◌∷◌, length, get_or, map, refl, sym, ap, subst, ◌∙◌, inl, inr, arith, eqb-true, eq-eqb, eq-zero-or-pos}
 use Rattle.std.specs.List.{AllByRecursion, filter}
-use Rattle.bc_model.specs.Consistent.{IsState, sizes_of}
+use Rattle.bc_model.specs.Consistent.{IsState}
+use Rattle.bc_model.specs.StateSizes.{sizes_of}
 use Rattle.bc_model.specs.Interleaving.{LaneOp, after_steps, ops_by, FitSteps, IsInterleaving, IsAsInOrder, Commute}
 use Rattle.bc_model.specs.Run.{after_ops, replies_to, after_lanes}
 use Rattle.bc_model.specs.State.{State}

@@ -1,6 +1,6 @@
 -- For callers that replay a trace phase by phase: what fits the setup fits every state of its sizes.
 use Rattle.std.proofs.Common.{◌≡◌, ℕ, length, sym, ap, subst, ◌∙◌}
-use Rattle.bc_model.specs.Consistent.{sizes_of, HasSizes}
+use Rattle.bc_model.specs.StateSizes.{sizes_of, HasSizes}
 use Rattle.bc_model.specs.Lists.{PhaseLists}
 use Rattle.bc_model.specs.State.{State}
 use Rattle.bc_model.specs.WellFormed.{IsOp, IsPhase}

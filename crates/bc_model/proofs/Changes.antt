@@ -4,11 +4,13 @@ use Rattle.std.specs.List.{list_all}
 use Rattle.std.proofs.lemmas.Bool.{cases_lt}
 use Rattle.std.proofs.lemmas.List.{length-replicate, length_push, length-set, get_or-replicate, get_or_past}
 use Rattle.bc_model.specs.Changes.{WritesSlot, WritesField}
-use Rattle.bc_model.specs.Consistent.{IsState, IsValue, sizes_of}
+use Rattle.bc_model.specs.Consistent.{IsState, IsValue}
+use Rattle.bc_model.specs.StateSizes.{sizes_of}
 use Rattle.bc_model.specs.Making.{IsNew}
 use Rattle.bc_model.specs.Refused.{IsRefused}
-use Rattle.bc_model.specs.State.{State, Object, IsBorn, made_by, object_of, next_birth, with_value, with_slot, with_field, field_of, slot_of, place_of, holds}
-use Rattle.bc_model.specs.Step.{step, act, domains_of, on_object, on_field, with_new, IsRefusal}
+use Rattle.bc_model.specs.State.{State, Object, IsBorn, made_by, object_of, next_birth, with_value, with_slot, with_born_field, field_of, slot_of, place_of, holds}
+use Rattle.bc_model.specs.Step.{step, act, domains_of, on_object, on_field, with_new}
+use Rattle.bc_model.specs.Refusals.{IsRefusal}
 use Rattle.bc_model.specs.WellFormed.{IsSlot, IsOp}
 use Rattle.bc_model.specs.declared.operations.Op.{Op}
 use Rattle.bc_model.specs.declared.operations.Op.TheVariants as op
@@ -27,7 +29,7 @@ record HasWritten (s : State) (p : Slot) (i : ℕ) (v : Value) (t : State) : Typ
   birth : Birth
   object : slot_of s p ≡ Obj birth
   field : i < length (object_of s.made birth).fields
-  state : t ≡ with_field s birth i v
+  state : t ≡ with_born_field s birth i v
 
 -- t is s with what the field of that object holds in a slot
 record HasLoaded (s : State) (p : Slot) (i : ℕ) (q : Slot) (t : State) : Type 0 where
@@ -177,7 +179,7 @@ field-other s t p i v b k hs born ne h =
     ∙ elim (cases_birth b c) [
       | inl e ↦
           let apart : k ≢ i = λ f. ne (h.object ∙ ap Obj (sym e), f) in
-          ap (λ (x : Birth). field_of (with_field s c i v) x k) e
+          ap (λ (x : Birth). field_of (with_born_field s c i v) x k) e
           ∙ ap (λ (x : Object). slice_index_or x.fields k Nil) (object_of-with_object_same s.made c o there)
           ∙ get_or-set_other (object_of s.made c).fields i k v Nil apart
           ∙ ap (λ (x : Birth). field_of s x k) (sym e)
@@ -278,8 +280,8 @@ rest-slot : (s t : State) (p : Slot) (v : Value) → t ≡ with_slot s p v → H
 rest-slot s t p v e =
     subst (HasRest s) (sym e) (rest_of s (with_slot s p v) refl (length-set s.slots (place_of s.width p) v))
 
-rest-field : (s t : State) (b : Birth) (i : ℕ) (v : Value) → t ≡ with_field s b i v → HasRest s t
-rest-field s t b i v e = subst (HasRest s) (sym e) (rest_of s (with_field s b i v) refl refl)
+rest-field : (s t : State) (b : Birth) (i : ℕ) (v : Value) → t ≡ with_born_field s b i v → HasRest s t
+rest-field s t b i v e = subst (HasRest s) (sym e) (rest_of s (with_born_field s b i v) refl refl)
 
 rest-done : (s : State) (j : ℕ) (o : Op) (t : State) → HasDone s j o t → HasRest s t
 rest-done s j (op.New p n) t h =

@@ -3,8 +3,9 @@
 use Rattle.std.proofs.Common.{◌≡◌, ℕ, ◌+◌, ◌≤◌, Bool, true, false, ◌==◌, nat_lt, if◌then◌else◌, List, length, slice_index_or, refl, sym, ap, ap₂, subst, ◌∙◌}
 use Rattle.std.specs.List.{list_all}
 use Rattle.std.proofs.lemmas.Bool.{and_parts}
-use Rattle.bc_model.specs.Consistent.{IsValue, IsState, sizes_of}
-use Rattle.bc_model.specs.State.{State, Object, IsBorn, made_by, object_of, next_birth, slot_of, field_of, with_slot, with_field, holds}
+use Rattle.bc_model.specs.Consistent.{IsValue, IsState}
+use Rattle.bc_model.specs.StateSizes.{sizes_of}
+use Rattle.bc_model.specs.State.{State, Object, IsBorn, made_by, object_of, next_birth, slot_of, field_of, with_slot, with_born_field, holds}
 use Rattle.bc_model.specs.Step.{step, act, domains_of, on_object, on_field, told, loaded, is_same, with_new}
 use Rattle.bc_model.specs.WellFormed.{IsSlot, IsOp}
 use Rattle.bc_model.specs.declared.operations.Op.{Op}
@@ -26,7 +27,7 @@ pub data Effect : Type 0 where
 abbrev pub after_effect : State → ℕ → Effect → State
 after_effect s k Keep = s
 after_effect s k (Put p v) = with_slot s p v
-after_effect s k (Write b i v) = with_field s b i v
+after_effect s k (Write b i v) = with_born_field s b i v
 after_effect s k (Make p n) = with_new s k p n
 
 -- it touches a slot or an object of a domain of the lane's, and writes what may be held
@@ -103,23 +104,23 @@ Same-act k s t (op.Len p) a hs ho held =
     (Same-on_object k s t (slot_of s p) _ _ a (hs.values _) (λ b born mine.
     Same-keep k s t _ _ (ap (λ (o : Object). reply.Len (length o.fields)) (a.object b born mine))))
 Same-act k s t (op.Set p i v) a hs ho held =
-    subst (λ (x : Value). Same k s t (act s k (op.Set p i v)) (on_field t k x i (λ b. (with_field t b i (Num v), reply.Done)))) (sym (a.slot p ho.0 (and_parts _ _ held).0))
+    subst (λ (x : Value). Same k s t (act s k (op.Set p i v)) (on_field t k x i (λ b. (with_born_field t b i (Num v), reply.Done)))) (sym (a.slot p ho.0 (and_parts _ _ held).0))
     (Same-on_field k s t (slot_of s p) i _ _ a (hs.values _) (λ b born mine.
     record { effect = Write b i (Num v); answer = reply.Done; own = (born, mine, ho.2); here = refl; there = refl }))
 Same-act k s t (op.Cut p i) a hs ho held =
-    subst (λ (x : Value). Same k s t (act s k (op.Cut p i)) (on_field t k x i (λ b. (with_field t b i Nil, reply.Done)))) (sym (a.slot p ho.0 (and_parts _ _ held).0))
+    subst (λ (x : Value). Same k s t (act s k (op.Cut p i)) (on_field t k x i (λ b. (with_born_field t b i Nil, reply.Done)))) (sym (a.slot p ho.0 (and_parts _ _ held).0))
     (Same-on_field k s t (slot_of s p) i _ _ a (hs.values _) (λ b born mine.
     record { effect = Write b i Nil; answer = reply.Done; own = (born, mine, tt); here = refl; there = refl }))
 Same-act k s t (op.Link p i q) a hs ho held =
     let from = a.slot q ho.2 (and_parts _ _ (and_parts _ _ held).1).0 in
-    subst (λ (x : Value). Same k s t (act s k (op.Link p i q)) (on_field t k x i (λ b. (with_field t b i (slot_of t q), reply.Done)))) (sym (a.slot p ho.0 (and_parts _ _ held).0))
+    subst (λ (x : Value). Same k s t (act s k (op.Link p i q)) (on_field t k x i (λ b. (with_born_field t b i (slot_of t q), reply.Done)))) (sym (a.slot p ho.0 (and_parts _ _ held).0))
     (Same-on_field k s t (slot_of s p) i _ _ a (hs.values _) (λ b born mine.
     record {
       effect = Write b i (slot_of s q);
       answer = reply.Done;
       own = (born, mine, hs.values _);
       here = refl;
-      there = ap (λ (x : Value). (with_field t b i x, reply.Done)) from;
+      there = ap (λ (x : Value). (with_born_field t b i x, reply.Done)) from;
     }))
 Same-act k s t (op.Load p i q) a hs ho held =
     subst (λ (x : Value). Same k s t (act s k (op.Load p i q)) (on_field t k x i (λ b. (with_slot t q (field_of t b i), loaded (field_of t b i))))) (sym (a.slot p ho.0 (and_parts _ _ held).0))

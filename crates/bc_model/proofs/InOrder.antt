@@ -1,7 +1,8 @@
 -- Lane after lane: each lane runs as if it were alone.
 use Rattle.std.proofs.Common.{◌≡◌, ◌≢◌, ℕ, ◌+◌, ◌<◌, ◌≤◌, zero, suc, List, [], ◌∷◌, length, get_or, refl, sym, ap, subst, ◌∙◌, arith}
 use Rattle.std.specs.List.{AllByRecursion}
-use Rattle.bc_model.specs.Consistent.{IsState, sizes_of}
+use Rattle.bc_model.specs.Consistent.{IsState}
+use Rattle.bc_model.specs.StateSizes.{sizes_of}
 use Rattle.bc_model.specs.Interleaving.{LaneOp, after_steps, FitSteps}
 use Rattle.bc_model.specs.Run.{after_ops, replies_to, after_lanes, replies_to_lanes}
 use Rattle.bc_model.specs.State.{State}

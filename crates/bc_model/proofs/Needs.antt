@@ -1,13 +1,15 @@
 -- Reached by paths; one need; rounding up.
 use Rattle.std.proofs.Common.{◌≡◌, ℕ, ◌+◌, ◌-◌, ◌*◌, ◌/◌, ◌≤◌, ◌↔◌, cond, List, [], ◌∷◌, ◌++◌, length, get_or, refl, sym, ap, subst, ◌∙◌, inl, inr, arith}
 use Rattle.std.proofs.Math.Path.{fun_ext}
-use Rattle.bc_classes.specs.Classes.{IsClass, cap}
-use Rattle.bc_reach.specs.Distinct.{HasSame}
+use Rattle.bc_classes.specs.Classes.{cap}
+use Rattle.bc_classes.specs.ClassNumbers.{IsClass}
+use Rattle.bc_reach.specs.SameItems.{HasSame}
 use Rattle.bc_reach.specs.Reach.{begin, onward}
 use Rattle.bc_reach.proofs.Reaching.{Reach-least}
 use Rattle.bc_reach.proofs.Sums.{same_sums}
 use Rattle.bc_model.specs.Need.{IsNeed, is_of, need_of, count_of, superpages_for}
-use Rattle.bc_model.specs.Reached.{Holds, FieldHolds, Reached, HasPath, value_along}
+use Rattle.bc_model.specs.Reached.{Holds, FieldHolds, Reached}
+use Rattle.bc_model.specs.Paths.{HasPath, value_along}
 use Rattle.bc_model.specs.State.{State, Object, object_of}
 use Rattle.bc_model.specs.declared.values.Birth.{Birth}
 use Rattle.bc_model.specs.declared.values.Value.{Value}

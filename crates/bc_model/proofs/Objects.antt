@@ -2,7 +2,7 @@
 use Rattle.std.proofs.Common.{◌≡◌, ◌≢◌, ℕ, ◌+◌, ◌-◌, ◌<◌, ◌⊎◌, List, [], ◌∷◌, ◌++◌, length, get_or, set, sym, ap, subst, ◌∙◌, inl, inr, arith, get_or-set_same, get_or-set_other, length-set}
 use Rattle.std.proofs.lemmas.Bool.{cases_eq}
 use Rattle.std.proofs.lemmas.List.{get_or_append_left, get_or_push, length_push}
-use Rattle.bc_model.specs.State.{Object, IsBorn, made_by, object_of, no_object, with_object, with_made, next_birth}
+use Rattle.bc_model.specs.State.{Object, IsBorn, made_by, object_of, no_object, with_born, with_made, next_birth}
 use Rattle.bc_model.specs.declared.values.Birth.{Birth}
 
 -- a birth is its lane and its serial
@@ -20,39 +20,39 @@ pub made_by-set_other : (made : List (List Object)) (j k : ℕ) (xs : List Objec
 made_by-set_other made j k xs ne = get_or-set_other made j k xs [] ne
 
 -- a write to an object leaves how many each lane has made
-pub length-made_by-with_object : (made : List (List Object)) (c : Birth) (o : Object) (j : ℕ) → IsBorn made c → length (made_by (with_object made c o) j) ≡ length (made_by made j)
+pub length-made_by-with_object : (made : List (List Object)) (c : Birth) (o : Object) (j : ℕ) → IsBorn made c → length (made_by (with_born made c o) j) ≡ length (made_by made j)
 length-made_by-with_object made c o j h =
     elim (cases_eq j c.lane) [
-      | inl e ↦ subst (λ (k : ℕ). length (made_by (with_object made c o) k) ≡ length (made_by made k)) (sym e)
+      | inl e ↦ subst (λ (k : ℕ). length (made_by (with_born made c o) k) ≡ length (made_by made k)) (sym e)
           (ap length (made_by-set_same made c.lane _ h.lane) ∙ length-set (made_by made c.lane) (c.serial - 1) o)
       | inr ne ↦ ap length (made_by-set_other made c.lane j _ ne)
     ]
 
-pub IsBorn-with_object : (made : List (List Object)) (c : Birth) (o : Object) (b : Birth) → IsBorn made c → IsBorn made b → IsBorn (with_object made c o) b
+pub IsBorn-with_object : (made : List (List Object)) (c : Birth) (o : Object) (b : Birth) → IsBorn made c → IsBorn made b → IsBorn (with_born made c o) b
 IsBorn-with_object made c o b h k = record {
   lane = omega (arith, k.lane, length-set made c.lane (set (made_by made c.lane) (c.serial - 1) o));
   positive = k.positive;
   serial = omega (arith, k.serial, length-made_by-with_object made c o b.lane h);
 }
 
-pub IsBorn-from_with_object : (made : List (List Object)) (c : Birth) (o : Object) (b : Birth) → IsBorn made c → IsBorn (with_object made c o) b → IsBorn made b
+pub IsBorn-from_with_object : (made : List (List Object)) (c : Birth) (o : Object) (b : Birth) → IsBorn made c → IsBorn (with_born made c o) b → IsBorn made b
 IsBorn-from_with_object made c o b h k = record {
   lane = omega (arith, k.lane, length-set made c.lane (set (made_by made c.lane) (c.serial - 1) o));
   positive = k.positive;
   serial = omega (arith, k.serial, length-made_by-with_object made c o b.lane h);
 }
 
-pub object_of-with_object_same : (made : List (List Object)) (c : Birth) (o : Object) → IsBorn made c → object_of (with_object made c o) c ≡ o
+pub object_of-with_object_same : (made : List (List Object)) (c : Birth) (o : Object) → IsBorn made c → object_of (with_born made c o) c ≡ o
 object_of-with_object_same made c o h =
     ap (λ (xs : List Object). get_or xs (c.serial - 1) no_object) (made_by-set_same made c.lane (set (made_by made c.lane) (c.serial - 1) o) h.lane)
     ∙ get_or-set_same (made_by made c.lane) (c.serial - 1) o no_object (omega (arith, h.serial, h.positive))
 
-pub object_of-with_object_other : (made : List (List Object)) (c : Birth) (o : Object) (b : Birth) → IsBorn made c → IsBorn made b → (b ≡ c → ⊥) → object_of (with_object made c o) b ≡ object_of made b
+pub object_of-with_object_other : (made : List (List Object)) (c : Birth) (o : Object) (b : Birth) → IsBorn made c → IsBorn made b → (b ≡ c → ⊥) → object_of (with_born made c o) b ≡ object_of made b
 object_of-with_object_other made c o b h k ne =
     elim (cases_eq b.lane c.lane) [
       | inl e ↦
           let apart : b.serial - 1 ≡ c.serial - 1 → ⊥ = λ f. ne (same_birth b c e (omega (arith, f, h.positive, k.positive))) in
-          ap (λ (l : ℕ). get_or (made_by (with_object made c o) l) (b.serial - 1) no_object) e
+          ap (λ (l : ℕ). get_or (made_by (with_born made c o) l) (b.serial - 1) no_object) e
           ∙ ap (λ (xs : List Object). get_or xs (b.serial - 1) no_object) (made_by-set_same made c.lane (set (made_by made c.lane) (c.serial - 1) o) h.lane)
           ∙ get_or-set_other (made_by made c.lane) (c.serial - 1) (b.serial - 1) o no_object apart
           ∙ ap (λ (l : ℕ). get_or (made_by made l) (b.serial - 1) no_object) (sym e)

@@ -2,7 +2,8 @@
 use Rattle.std.proofs.Common.{◌≡◌, ℕ, ◌*◌, ◌%◌, ◌^◌, ◌<◌, List, [], length, get_or, replicate, zero, suc, refl, sym, ap, ◌∙◌, inl, inr, arith}
 use Rattle.std.proofs.lemmas.Bool.{cases_lt}
 use Rattle.std.proofs.lemmas.List.{get_or-replicate, get_or_past, length-replicate, length-map, get_or-map, length_push}
-use Rattle.bc_model.specs.Consistent.{IsState, HasSizes, HasSerials}
+use Rattle.bc_model.specs.Consistent.{IsState}
+use Rattle.bc_model.specs.StateSizes.{HasSizes, HasSerials}
 use Rattle.bc_model.specs.Run.{opening}
 use Rattle.bc_model.specs.State.{Object, made_by, numbers_below}
 use Rattle.bc_model.specs.WellFormed.{IsSetup}

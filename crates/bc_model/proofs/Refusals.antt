@@ -2,7 +2,8 @@
 use Rattle.std.proofs.Common.{◌≡◌, ℕ, Bool, true, false, nat_lt, if◌then◌else◌, length, refl, sym, subst, inl, inr}
 use Rattle.std.specs.List.{list_all}
 use Rattle.bc_model.specs.State.{State, object_of, slot_of, field_of, holds}
-use Rattle.bc_model.specs.Step.{step, act, domains_of, on_object, on_field, loaded, IsRefusal}
+use Rattle.bc_model.specs.Step.{step, act, domains_of, on_object, on_field, loaded}
+use Rattle.bc_model.specs.Refusals.{IsRefusal}
 use Rattle.bc_model.specs.declared.operations.Op.{Op}
 use Rattle.bc_model.specs.declared.operations.Op.TheVariants as op
 use Rattle.bc_model.specs.declared.operations.Reply.{Reply}

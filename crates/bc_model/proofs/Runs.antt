@@ -3,7 +3,7 @@ use Rattle.std.proofs.Common.{append_assoc, Vec, Global, ◌≡◌, ℕ, ◌+◌
 use Rattle.std.specs.List.{AllByRecursion}
 use Rattle.std.proofs.lemmas.List.{drop_more, drop_all, get_or-map}
 use Rattle.std.proofs.lemmas.List.Elements.{All-from_recursion, All-get_or}
-use Rattle.bc_model.specs.Lists.{lists_of}
+use Rattle.bc_model.specs.Rows.{lists_of}
 use Rattle.bc_model.specs.Run.{after_ops, replies_to, after_lanes, replies_to_lanes, after_gives}
 use Rattle.bc_model.specs.State.{State, given}
 use Rattle.bc_model.specs.Step.{step}

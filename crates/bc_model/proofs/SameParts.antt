@@ -1,6 +1,7 @@
 -- States of which every lane's part is the same are the same.
 use Rattle.std.proofs.Common.{◌≡◌, ℕ, ◌+◌, ◌-◌, ◌*◌, ◌/◌, ◌%◌, ◌<◌, true, ◌==◌, List, [], length, get_or, slice_index_or, refl, sym, ap, subst, ◌∙◌, inl, inr, arith, ext_get_or, eq-eqb, mul_comm, eq-zero-or-pos, div-lt_iff_lt-mul}
-use Rattle.bc_model.specs.Consistent.{IsState, sizes_of}
+use Rattle.bc_model.specs.Consistent.{IsState}
+use Rattle.bc_model.specs.StateSizes.{sizes_of}
 use Rattle.bc_model.specs.State.{State, Object, IsBorn, made_by, object_of, no_object, slot_of, holds}
 use Rattle.bc_model.specs.WellFormed.{IsSlot}
 use Rattle.bc_model.specs.declared.values.Birth.{Birth}

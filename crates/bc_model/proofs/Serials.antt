@@ -4,9 +4,11 @@ use Rattle.std.specs.Prelude.{sum_by}
 use Rattle.std.specs.List.{AllByRecursion}
 use Rattle.std.proofs.lemmas.List.{length-take}
 use Rattle.std.proofs.lemmas.List.Sums.{sum_by-cons}
-use Rattle.bc_model.specs.Consistent.{IsState, HasSerials, sizes_of}
+use Rattle.bc_model.specs.Consistent.{IsState}
+use Rattle.bc_model.specs.StateSizes.{HasSerials, sizes_of}
 use Rattle.bc_model.specs.Lists.{PhaseLists, TraceLists}
-use Rattle.bc_model.specs.Run.{opening, after_ops, after_lanes, after_gives, after_phase, after_phases, cut_lanes, no_phase, phase_at, before, after_cut, ops_of, all_ops_of}
+use Rattle.bc_model.specs.Run.{opening, after_ops, after_lanes, after_gives, after_phase, after_phases, cut_lanes, no_phase, phase_at, before, after_cut}
+use Rattle.bc_model.specs.RunLengths.{ops_of, all_ops_of}
 use Rattle.bc_model.specs.State.{State, given}
 use Rattle.bc_model.specs.Step.{step}
 use Rattle.bc_model.specs.WellFormed.{IsOp, IsPhase, IsTrace}

@@ -3,7 +3,7 @@ use Rattle.std.proofs.Common.{◌≡◌, ℕ, ◌-◌, ◌*◌, ◌<◌, ◌≤�
 use Rattle.std.proofs.lemmas.Bool.{cases_eq, cases_lt}
 use Rattle.std.proofs.lemmas.List.{set_past, get_or_past, get_or-replicate, length-replicate}
 use Rattle.bc_model.specs.Consistent.{IsValue, AreValues, IsMadeObject, IsState}
-use Rattle.bc_model.specs.State.{State, Object, IsBorn, made_by, object_of, with_object, with_value, with_made, next_birth, with_slot, with_field, given, place_of}
+use Rattle.bc_model.specs.State.{State, Object, IsBorn, made_by, object_of, with_born, with_value, with_made, next_birth, with_slot, with_born_field, given, place_of}
 use Rattle.bc_model.specs.Step.{with_new}
 use Rattle.bc_model.specs.declared.traces.Give.{Give}
 use Rattle.bc_model.specs.declared.values.Birth.{Birth}
@@ -53,10 +53,10 @@ IsState-with_slot s p v h hv = record {
 pub IsObject-kept : (old new : List (List Object)) → ((b : Birth) → IsBorn old b → IsBorn new b) → (domains : ℕ) (o : Object) → IsMadeObject old domains o → IsMadeObject new domains o
 IsObject-kept old new kept domains o h = record { domain = h.domain; fields = h.fields; values = AreValues-kept old new kept o.fields h.values }
 
-pub IsState-with_field : (s : State) (b : Birth) (i : ℕ) (v : Value) → IsState s → IsBorn s.made b → IsValue s.made v → IsState (with_field s b i v)
+pub IsState-with_field : (s : State) (b : Birth) (i : ℕ) (v : Value) → IsState s → IsBorn s.made b → IsValue s.made v → IsState (with_born_field s b i v)
 IsState-with_field s b i v h born hv =
     let o : Object = with_value (object_of s.made b) i v in
-    let new : List (List Object) = with_object s.made b o in
+    let new : List (List Object) = with_born s.made b o in
     let kept : (c : Birth) → IsBorn s.made c → IsBorn new c = λ c k. IsBorn-with_object s.made b o c born k in
     let whole : IsMadeObject new (length s.holders) o = record {
       domain = (h.objects b born).domain;

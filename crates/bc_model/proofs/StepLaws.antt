@@ -3,11 +3,12 @@ use Rattle.std.proofs.Common.{replicate, ◌≡◌, ◌≢◌, ℕ, ◌<◌, Boo
 use Rattle.std.specs.List.{list_all}
 use Rattle.std.proofs.lemmas.Bool.{and_from, cases_eq}
 use Rattle.std.proofs.lemmas.List.{length-replicate}
-use Rattle.bc_model.specs.Consistent.{IsState, IsValue, sizes_of}
+use Rattle.bc_model.specs.Consistent.{IsState, IsValue}
+use Rattle.bc_model.specs.StateSizes.{sizes_of}
 use Rattle.bc_model.specs.Grows.{Grows}
 use Rattle.bc_model.specs.Interleaving.{LaneOp, after_steps, FitSteps}
 use Rattle.bc_model.specs.Run.{cut_lanes}
-use Rattle.bc_model.specs.State.{State, Object, IsBorn, object_of, next_birth, with_value, with_slot, with_field, field_of, slot_of, place_of, holds, given}
+use Rattle.bc_model.specs.State.{State, Object, IsBorn, object_of, next_birth, with_value, with_slot, with_born_field, field_of, slot_of, place_of, holds, given}
 use Rattle.bc_model.specs.Step.{step, act, domains_of, on_object, on_field, told, loaded, is_same, with_new}
 use Rattle.bc_model.specs.WellFormed.{IsSlot, IsOp}
 use Rattle.bc_model.specs.declared.operations.Op.{Op}
@@ -104,7 +105,7 @@ refused s r = (s, r)
 
 -- what a write of a value does to an object that has the field
 abbrev set_field : State → Birth → ℕ → Value → State × Reply
-set_field s b i v = (with_field s b i v, reply.Done)
+set_field s b i v = (with_born_field s b i v, reply.Done)
 
 -- what it does to a slot's object: the step of a set is this with a number, that of a cut with nil
 abbrev written : State → ℕ → Slot → ℕ → Value → State × Reply
@@ -139,10 +140,10 @@ abbrev load_field : State → Birth → ℕ → Slot → State × Reply
 load_field t b i q = (with_slot t q (field_of t b i), loaded (field_of t b i))
 
 -- the load puts what was written into its slot
-loaded-write : (s : State) (j : ℕ) (p q : Slot) (i : ℕ) (v : Value) → IsState s → (d : DoneWrite s j p i) → holds s j q.domain ≡ true → step (written s j p i v).0 j (op.Load p i q) ≡ (with_slot (with_field s d.birth i v) q v, loaded v)
+loaded-write : (s : State) (j : ℕ) (p q : Slot) (i : ℕ) (v : Value) → IsState s → (d : DoneWrite s j p i) → holds s j q.domain ≡ true → step (written s j p i v).0 j (op.Load p i q) ≡ (with_slot (with_born_field s d.birth i v) q v, loaded v)
 loaded-write s j p q i v hs d held-q =
     let b = d.birth in
-    let t : State = with_field s b i v in
+    let t : State = with_born_field s b i v in
     let o : Object = with_value (object_of s.made b) i v in
     let born : IsBorn s.made b = subst (λ (x : Value). IsValue s.made x) d.slot (hs.values (place_of s.width p)) in
     let there : object_of t.made b ≡ o = object_of-with_object_same s.made b o born in
@@ -187,7 +188,7 @@ linked-write : (s : State) (j : ℕ) (p : Slot) (i : ℕ) (q : Slot) → holds s
 linked-write s j p i q held =
     ap (λ (b : Bool). choose (holds s j p.domain && (b && true)) (on_field s j (slot_of s p) i (λ c. set_field s c i (slot_of s q))) (refused s reply.Foreign)) held
 
-loaded-link : (s : State) (j : ℕ) (p q r : Slot) (i : ℕ) → IsState s → (step s j (op.Link p i q)).1 ≡ reply.Done → holds s j r.domain ≡ true → (b : Birth) × (step (step s j (op.Link p i q)).0 j (op.Load p i r) ≡ (with_slot (with_field s b i (slot_of s q)) r (slot_of s q), loaded (slot_of s q)))
+loaded-link : (s : State) (j : ℕ) (p q r : Slot) (i : ℕ) → IsState s → (step s j (op.Link p i q)).1 ≡ reply.Done → holds s j r.domain ≡ true → (b : Birth) × (step (step s j (op.Link p i q)).0 j (op.Load p i r) ≡ (with_slot (with_born_field s b i (slot_of s q)) r (slot_of s q), loaded (slot_of s q)))
 loaded-link s j p q r i hs done held-r =
     let v : Value = slot_of s q in
     let write = linked-write s j p i q (linked-held s j p i q done) in

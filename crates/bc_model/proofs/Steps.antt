@@ -3,9 +3,10 @@ use Rattle.std.proofs.Common.{◌≡◌, ◌≢◌, ℕ, ◌+◌, ◌<◌, ◌�
 use Rattle.std.specs.List.{AllByRecursion, list_all}
 use Rattle.std.proofs.lemmas.Bool.{cases_eq}
 use Rattle.std.proofs.lemmas.List.{length_push}
-use Rattle.bc_model.specs.Consistent.{IsState, sizes_of}
+use Rattle.bc_model.specs.Consistent.{IsState}
+use Rattle.bc_model.specs.StateSizes.{sizes_of}
 use Rattle.bc_model.specs.Grows.{Grows}
-use Rattle.bc_model.specs.State.{IsBorn, with_field, State, Object, made_by, object_of, with_object, with_made, with_value, holds}
+use Rattle.bc_model.specs.State.{IsBorn, with_born_field, State, Object, made_by, object_of, with_born, with_made, with_value, holds}
 use Rattle.bc_model.specs.Step.{step, act, domains_of}
 use Rattle.bc_model.specs.WellFormed.{IsOp}
 use Rattle.bc_model.specs.declared.operations.Op.{Op}
@@ -74,18 +75,18 @@ Grows-then a b c g h = record {
   fields = λ x k. h.fields x (g.born x k) ∙ g.fields x k;
 }
 
-pub Grows-after_write : (s : State) (b : Birth) (i : ℕ) (v : Value) → IsBorn s.made b → Grows s.made (with_field s b i v).made
+pub Grows-after_write : (s : State) (b : Birth) (i : ℕ) (v : Value) → IsBorn s.made b → Grows s.made (with_born_field s b i v).made
 Grows-after_write s b i v born =
     let o : Object = with_value (object_of s.made b) i v in
     record {
       lanes = length-set s.made b.lane _;
       born = λ c h. IsBorn-with_object s.made b o c born h;
       domain = λ c h. elim (cases_birth c b) [
-        | inl e ↦ ap (λ (x : Birth). (object_of (with_object s.made b o) x).domain) e ∙ ap (λ (x : Object). x.domain) (object_of-with_object_same s.made b o born) ∙ ap (λ (x : Birth). (object_of s.made x).domain) (sym e)
+        | inl e ↦ ap (λ (x : Birth). (object_of (with_born s.made b o) x).domain) e ∙ ap (λ (x : Object). x.domain) (object_of-with_object_same s.made b o born) ∙ ap (λ (x : Birth). (object_of s.made x).domain) (sym e)
         | inr ne ↦ ap (λ (x : Object). x.domain) (object_of-with_object_other s.made b o c born h ne)
       ];
       fields = λ c h. elim (cases_birth c b) [
-        | inl e ↦ ap (λ (x : Birth). length (object_of (with_object s.made b o) x).fields) e ∙ ap (λ (x : Object). length x.fields) (object_of-with_object_same s.made b o born) ∙ length-set (object_of s.made b).fields i v ∙ ap (λ (x : Birth). length (object_of s.made x).fields) (sym e)
+        | inl e ↦ ap (λ (x : Birth). length (object_of (with_born s.made b o) x).fields) e ∙ ap (λ (x : Object). length x.fields) (object_of-with_object_same s.made b o born) ∙ length-set (object_of s.made b).fields i v ∙ ap (λ (x : Birth). length (object_of s.made x).fields) (sym e)
         | inr ne ↦ ap (λ (x : Object). length x.fields) (object_of-with_object_other s.made b o c born h ne)
       ];
     }

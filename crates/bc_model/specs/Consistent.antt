@@ -1,8 +1,7 @@
 -- What is true of every state that a run comes to, and how large a state is.
-use Rattle.std.specs.Prelude.{◌≡◌, ℕ, ◌+◌, ◌*◌, ◌^◌, ◌<◌, ◌≤◌, List, length, slice_index, slice_index_or}
-use Rattle.bc_model.specs.State.{State, Object, IsBorn, object_of, made_by}
+use Rattle.std.specs.Prelude.{◌≡◌, ℕ, ◌*◌, ◌<◌, ◌≤◌, List, length, slice_index, slice_index_or}
+use Rattle.bc_model.specs.State.{State, Object, IsBorn, object_of}
 use Rattle.bc_model.specs.WellFormed.{IsNumber}
-use Rattle.bc_model.specs.declared.traces.Setup.{Setup}
 use Rattle.bc_model.specs.declared.values.Birth.{Birth}
 use Rattle.bc_model.specs.declared.values.Value.{Value}
 use Rattle.bc_model.specs.declared.values.Value.TheVariants.{Nil, Num, Obj}
@@ -32,26 +31,3 @@ pub record IsState (s : State) : Type 0 where
   pub values : AreValues s.made s.slots
   pub objects : (b : Birth) → IsBorn s.made b → IsMadeObject s.made (length s.holders) (object_of s.made b)
   pub holders : (d : ℕ) → d < length s.holders → slice_index s.holders d < length s.made
-
--- the setup of a state: its lanes, its domains and the root slots of each, which is what operations and phases have to
--- fit. A state tells no more of the setup that it began with.
-abbrev pub sizes_of : State → Setup
-sizes_of s = record {
-  lanes = length s.made;
-  domains = length s.holders;
-  slots = s.width;
-  superpages = 0;
-  nursery = 0;
-  buffer = 0;
-  frames = 0;
-}
-
--- the state has the lanes, the domains and the root slots of the setup
-pub record HasSizes (setup : Setup) (s : State) : Type 0 where
-  pub lanes : length s.made ≡ setup.lanes
-  pub domains : length s.holders ≡ setup.domains
-  pub slots : s.width ≡ setup.slots
-
--- every lane can make n objects more, all with serials below 2 ^ 32
-pub record HasSerials (n : ℕ) (s : State) : Type 0 where
-  pub below : (j : ℕ) → length (made_by s.made j) + n < 2 ^ 32

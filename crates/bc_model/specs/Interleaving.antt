@@ -1,7 +1,7 @@
 -- Steps of several lanes in any order.
 use Rattle.std.specs.Prelude.{◌≡◌, ℕ, ◌<◌, ◌==◌, if◌then◌else◌, List, [], ◌∷◌, length, map, filter, slice_index_or}
 use Rattle.std.specs.List.{AllByRecursion}
-use Rattle.bc_model.specs.Consistent.{sizes_of}
+use Rattle.bc_model.specs.StateSizes.{sizes_of}
 use Rattle.bc_model.specs.Run.{after_lanes, replies_to_lanes}
 use Rattle.bc_model.specs.State.{State}
 use Rattle.bc_model.specs.Step.{step}

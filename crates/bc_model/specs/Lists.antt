@@ -1,6 +1,5 @@
 -- Phases and traces as plain lists: what contracts see of them.
-use Rattle.std.specs.Prelude.{ℕ, List, Vec, map}
-use Rattle.std.specs.declared.alloc.Global.{Global}
+use Rattle.std.specs.Prelude.{ℕ, List}
 use Rattle.bc_model.specs.declared.operations.Op.{Op}
 use Rattle.bc_model.specs.declared.traces.Give.{Give}
 use Rattle.bc_model.specs.declared.traces.Setup.{Setup}
@@ -14,7 +13,3 @@ pub record PhaseLists : Type 0 where
 pub record TraceLists : Type 0 where
   pub setup : Setup
   pub phases : List PhaseLists
-
--- lists of lists
-abbrev pub lists_of : {X : Type 0} → List (Vec X Global) → List (List X)
-lists_of vs = map (λ v. v.items) vs

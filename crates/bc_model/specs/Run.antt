@@ -1,6 +1,6 @@
 -- A run of the one-thread heap: phase after phase, in each the operations of lane 0, then those of lane 1, and so on, and
 -- then the gives.
-use Rattle.std.specs.Prelude.{ℕ, ◌+◌, ◌*◌, ◌%◌, List, [], ◌∷◌, map, replicate, length, sum_by, take, slice_index_or}
+use Rattle.std.specs.Prelude.{ℕ, ◌+◌, ◌*◌, ◌%◌, List, [], ◌∷◌, map, replicate, take, slice_index_or}
 use Rattle.bc_model.specs.Lists.{PhaseLists, TraceLists}
 use Rattle.bc_model.specs.State.{State, given, numbers_below}
 use Rattle.bc_model.specs.Step.{step}
@@ -50,13 +50,6 @@ unfoldable pub after_phases : State → List PhaseLists → State
 after_phases s [] = s
 after_phases s (p ∷ phases) = after_phases (after_phase s p) phases
 
--- how many operations a phase has, and a whole trace
-abbrev pub ops_of : PhaseLists → ℕ
-ops_of p = sum_by length p.lanes
-
-abbrev pub all_ops_of : TraceLists → ℕ
-all_ops_of t = sum_by ops_of t.phases
-
 -- the replies of each phase
 unfoldable pub replies_of_phases : State → List PhaseLists → List (List (List Reply))
 replies_of_phases s [] = []
@@ -88,7 +81,3 @@ replies_of_cut t k cut = replies_to_lanes (before t k) 0 (cut_lanes cut (phase_a
 
 abbrev pub final_state : TraceLists → State
 final_state t = after_phases (opening t.setup) t.phases
-
--- what each lane is answered in each phase of a whole run
-abbrev pub replies_of : TraceLists → List (List (List Reply))
-replies_of t = replies_of_phases (opening t.setup) t.phases

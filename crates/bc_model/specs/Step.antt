@@ -1,9 +1,9 @@
 -- What an operation does, and what it is answered. The tests come in this order, and the first that holds gives the
 -- reply and leaves the state as it was: a domain that the operation names isn't the lane's; the slot holds no object; the
 -- object's domain isn't the lane's; the object has no such field.
-use Rattle.std.specs.Prelude.{◌≡◌, ◌⊎◌, ℕ, ◌==◌, ◌&&◌, nat_lt, Bool, true, false, if◌then◌else◌, List, [], ◌∷◌, length, replicate}
+use Rattle.std.specs.Prelude.{ℕ, ◌==◌, ◌&&◌, nat_lt, Bool, true, false, if◌then◌else◌, List, [], ◌∷◌, length, replicate}
 use Rattle.std.specs.List.{list_all}
-use Rattle.bc_model.specs.State.{State, object_of, with_made, next_birth, slot_of, with_slot, field_of, with_field, holds}
+use Rattle.bc_model.specs.State.{State, object_of, with_made, next_birth, slot_of, with_slot, field_of, with_born_field, holds}
 use Rattle.bc_model.specs.declared.operations.Op.{Op}
 use Rattle.bc_model.specs.declared.operations.Op.TheVariants as op
 use Rattle.bc_model.specs.declared.operations.Reply.{Reply}
@@ -65,9 +65,9 @@ abbrev pub act : State → ℕ → Op → State × Reply
 act s j (op.New p n) = (with_new s j p n, reply.Obj (next_birth s.made j))
 act s j (op.Who p) = (s, told s j (slot_of s p))
 act s j (op.Len p) = on_object s j (slot_of s p) (λ b. (s, reply.Len (length (object_of s.made b).fields)))
-act s j (op.Set p i v) = on_field s j (slot_of s p) i (λ b. (with_field s b i (Num v), reply.Done))
-act s j (op.Cut p i) = on_field s j (slot_of s p) i (λ b. (with_field s b i Nil, reply.Done))
-act s j (op.Link p i q) = on_field s j (slot_of s p) i (λ b. (with_field s b i (slot_of s q), reply.Done))
+act s j (op.Set p i v) = on_field s j (slot_of s p) i (λ b. (with_born_field s b i (Num v), reply.Done))
+act s j (op.Cut p i) = on_field s j (slot_of s p) i (λ b. (with_born_field s b i Nil, reply.Done))
+act s j (op.Link p i q) = on_field s j (slot_of s p) i (λ b. (with_born_field s b i (slot_of s q), reply.Done))
 act s j (op.Load p i q) =
     on_field s j (slot_of s p) i (λ b. (with_slot s q (field_of s b i), loaded (field_of s b i)))
 act s j (op.Copy p q) = (with_slot s q (slot_of s p), reply.Done)
@@ -76,7 +76,3 @@ act s j (op.Same p q) = (s, if is_same (slot_of s p) (slot_of s q) then reply.Ye
 
 abbrev pub step : State → ℕ → Op → State × Reply
 step s j o = if list_all (holds s j) (domains_of o) then act s j o else (s, reply.Foreign)
-
--- the reply says that the operation isn't done: no object, no such field, or a domain that isn't the lane's
-abbrev pub IsRefusal : Reply → Type 0
-IsRefusal r = (r ≡ reply.NotObj) ⊎ (r ≡ reply.Range) ⊎ (r ≡ reply.Foreign)

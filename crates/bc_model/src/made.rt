@@ -1,7 +1,7 @@
 //! All objects that were made, by their births.
 
 ghost use Rattle.std.specs.Prelude.{◌≡◌, ◌+◌, ◌^◌, ◌<◌, [], IfOk, OnErr, length, replicate, slice_index_or};
-ghost use Rattle.bc_model.specs.State.{IsBorn, made_by, next_birth, object_of, with_made, with_object, with_value};
+ghost use Rattle.bc_model.specs.State.{IsBorn, made_by, next_birth, object_of, with_made, with_born, with_value};
 
 use crate::item::Item;
 use crate::values::{Birth, Value};
@@ -70,7 +70,7 @@ impl Made {
     pub fn set_field(&mut self, birth: Birth, index: u32, value: Value)
         requires born { IsBorn self.old birth }
         requires index { index < length (object_of self.old birth).fields }
-        ensures { self.new ≡ with_object self.old birth (with_value (object_of self.old birth) index value) }
+        ensures { self.new ≡ with_born self.old birth (with_value (object_of self.old birth) index value) }
     {
         let objects = &mut self.lanes[birth.lane as usize];
         let item = &mut objects[birth.serial as usize - 1];

@@ -2,8 +2,9 @@
 
 ghost use Rattle.std.specs.Prelude.{◌≡◌, ℕ, ◌+◌, ◌*◌, ◌^◌, ◌<◌, ◌≤◌, IfOk, OnErr, MatchResult, length, ◌==◌, if◌then◌else◌};
 ghost use Rattle.std.specs.List.{list_all};
-ghost use Rattle.bc_model.specs.Consistent.{IsState, IsValue, sizes_of, HasSizes, HasSerials};
-ghost use Rattle.bc_model.specs.State.{State, IsBorn, made_by, given, holds, field_of, object_of, slot_of, with_field, with_slot};
+ghost use Rattle.bc_model.specs.Consistent.{IsState, IsValue};
+ghost use Rattle.bc_model.specs.StateSizes.{sizes_of, HasSizes, HasSerials};
+ghost use Rattle.bc_model.specs.State.{State, IsBorn, made_by, given, holds, field_of, object_of, slot_of, with_born_field, with_slot};
 ghost use Rattle.bc_model.specs.Making.{IsNew};
 ghost use Rattle.bc_model.specs.Step.{act, domains_of, is_same, loaded, on_field, on_object, step};
 ghost use Rattle.bc_model.specs.Run.{opening};
@@ -201,7 +202,7 @@ impl Flat {
         requires born { IsBorn self.old.made birth }
         requires index { index < length (object_of self.old.made birth).fields }
         requires value { IsValue self.old.made value }
-        ensures { self.new ≡ with_field self.old birth index value }
+        ensures { self.new ≡ with_born_field self.old birth index value }
     {
         self.made.set_field(birth, index, value);
     }

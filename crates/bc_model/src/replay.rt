@@ -2,9 +2,10 @@
 
 ghost use Rattle.std.specs.Prelude.{◌≡◌, ℕ, ◌+◌, ◌^◌, ◌<◌, ◌≤◌, IfOk, OnOk, length, sum_by};
 ghost use Rattle.std.specs.List.{AllByRecursion};
-ghost use Rattle.bc_model.specs.Consistent.{HasSerials, HasSizes, sizes_of};
-ghost use Rattle.bc_model.specs.Lists.{lists_of};
-ghost use Rattle.bc_model.specs.Run.{after_gives, after_lanes, after_ops, after_phase, ops_of, replies_to, replies_to_lanes};
+ghost use Rattle.bc_model.specs.StateSizes.{HasSerials, HasSizes, sizes_of};
+ghost use Rattle.bc_model.specs.Rows.{lists_of};
+ghost use Rattle.bc_model.specs.Run.{after_gives, after_lanes, after_ops, after_phase, replies_to, replies_to_lanes};
+ghost use Rattle.bc_model.specs.RunLengths.{ops_of};
 ghost use Rattle.bc_model.specs.State.{made_by};
 ghost use Rattle.bc_model.specs.WellFormed.{IsGive, IsOp, IsPhase};
 ghost use Rattle.bc_model.specs.declared.traces.Setup.{Setup};

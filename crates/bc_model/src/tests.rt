@@ -1,7 +1,7 @@
 //! Tests of the plain heap.
 
 ghost use Rattle.std.specs.Prelude.{◌<◌};
-ghost use Rattle.bc_model.specs.Consistent.{HasSerials, HasSizes};
+ghost use Rattle.bc_model.specs.StateSizes.{HasSerials, HasSizes};
 ghost use Rattle.bc_model.specs.WellFormed.{IsOp};
 ghost use Rattle.bc_model.specs.declared.tests.TheConstants.{SETUP};
 

@@ -14,11 +14,12 @@ use Rattle.bc_model.specs.declared.operations.Reply.TheVariants.{Done, Obj, Yes,
 use Rattle.bc_model.specs.declared.values.Slot.{Slot}
 use Rattle.bc_model.specs.declared.values.Value.TheVariants as value
 use Rattle.bc_nursery.specs.Entries.{Entries}
-use Rattle.bc_nursery.specs.Objects.{Nursery, end_of, left_of, with_object}
+use Rattle.bc_nursery.specs.Objects.{chunk_end, left_of, with_young_object}
+use Rattle.bc_nursery.specs.Nurseries.{Nursery}
 use Rattle.bc_superpages.specs.Layout.{Layout}
 use Rattle.bc_superpages.specs.RootWords.{RootWords}
 use Rattle.bc_whole_heap.specs.Heaps.{HeapView, no_chunk}
-use Rattle.bc_word.specs.Words.{FitsWord}
+use Rattle.bc_word.specs.WordBits.{FitsWord}
 use Rattle.bc_word.specs.declared.addresses.Address.{Address}
 use Rattle.bc_word.specs.declared.heads.Head.{Head}
 use Rattle.bc_word.specs.declared.words.Word.TheVariants.{Nil, Ref}
@@ -90,12 +91,12 @@ act-clear {hs = hs} {lane = lane} {op = op} {h = h} new serial p reply s e held 
 
 -- an object more
 pub act-new : {cells : Layout → Type 0} {slots : RootWords → Type 0} {chunk : Nursery} {buffer : Entries} {hs : List ℕ} {lane : ℕ} {op : Op} {h : HeapView} (new : RootWords → Type 0) (d : Nursery) (serial next n : ℕ) (p : Slot) (reply : Reply) → Serves cells slots chunk buffer hs lane op h → op ≡ New p n → list_all (λ x. get_or hs x 0 == lane) (domains_of op) ≡ true → lane < 16 → serial + 1 < 2 ^ 32
-    → reply ≡ Obj (record { lane = lane; serial = serial + 1 }) → next ≡ serial + 1 → d ≡ with_object chunk (record { lane = lane; serial = serial + 1; domain = p.domain; fields = n }) → class_of n ≤ left_of chunk
-    → new (with_root h.roots p (Ref (record { 0 = end_of chunk }))) → (k : HeapView) × IsPartOf cells new d buffer lane k × DidAct h k hs lane serial next op reply
+    → reply ≡ Obj (record { lane = lane; serial = serial + 1 }) → next ≡ serial + 1 → d ≡ with_young_object chunk (record { lane = lane; serial = serial + 1; domain = p.domain; fields = n }) → class_of n ≤ left_of chunk
+    → new (with_root h.roots p (Ref (record { 0 = chunk_end chunk }))) → (k : HeapView) × IsPartOf cells new d buffer lane k × DidAct h k hs lane serial next op reply
 act-new {chunk = chunk} {hs = hs} {lane = lane} {op = op} {h = h} new d serial next n p reply s e held lanes serials told count made room shown =
     let t = served-as (New p n) e s in
     let head : Head = record { lane = lane; serial = serial + 1; domain = p.domain; fields = n } in
-    let to : Address = record { 0 = end_of chunk } in
+    let to : Address = record { 0 = chunk_end chunk } in
     let one : list_all (λ x. get_or hs x 0 == lane) (domains_of (New p n)) ≡ true = subst (λ (x : Op). list_all (λ y. get_or hs y 0 == lane) (domains_of x) ≡ true) e held in
     let own = s.part.chunk_is in
     let k : HeapView = record h { roots = with_root h.roots p (Ref to); chunks = set h.chunks lane d } in (
@@ -106,8 +107,8 @@ act-new {chunk = chunk} {hs = hs} {lane = lane} {op = op} {h = h} new d serial n
           (subst (λ (x : ℕ). DidAct h k hs lane serial x (New p n) (Obj (record { lane = lane; serial = serial + 1 }))) (sym count)
           (done-new h (set h.chunks lane d) (with_root h.roots p (Ref to)) hs lane serial n p to s.ready t.fits.0.0 t.fits.0.1 t.fits.1 lanes serials (held-first hs lane p.domain [] one)
           (subst (λ (c : Nursery). class_of n ≤ left_of c) (sym own) room)
-          (ap (λ (c : Nursery). set h.chunks lane c) (made ∙ ap (λ (c : Nursery). with_object c head) (sym own)))
-          (ap end_of (sym own)) refl))),
+          (ap (λ (c : Nursery). set h.chunks lane c) (made ∙ ap (λ (c : Nursery). with_young_object c head) (sym own)))
+          (ap chunk_end (sym own)) refl))),
     )
 
 -- what is known of a result that is Ok, together

@@ -2,15 +2,17 @@
 use Rattle.std.proofs.Common.{◌≡◌, ◌≢◌, ℕ, ◌+◌, ◌<◌, true, List, length, get_or, Some, refl, sym, ap, subst, ◌∙◌, inl, inr, arith}
 use Rattle.std.proofs.lemmas.Bool.{cases_lt}
 use Rattle.bc_memory.specs.Memory.{Cell}
-use Rattle.bc_model.specs.Step.{IsRefusal}
+use Rattle.bc_model.specs.Refusals.{IsRefusal}
 use Rattle.bc_model.specs.declared.operations.Op.{Op}
 use Rattle.bc_model.specs.declared.operations.Op.TheVariants.{New, Who, Len, Set, Cut, Link, Load, Copy, Clear, Same}
 use Rattle.bc_model.specs.declared.operations.Reply.{Reply}
 use Rattle.bc_model.specs.declared.operations.Reply.TheVariants.{Done, Foreign}
 use Rattle.bc_model.specs.declared.values.Slot.{Slot}
-use Rattle.bc_nursery.specs.Objects.{ChunkObject, Nursery, IsChunk, has_object, the_object}
+use Rattle.bc_nursery.specs.Objects.{IsChunk, has_object, the_object}
+use Rattle.bc_nursery.specs.Nurseries.{ChunkObject, Nursery}
 use Rattle.bc_nursery.proofs.ObjectLemmas.{has-number, the_object-number}
-use Rattle.bc_superpages.specs.Layout.{content_at, word_at}
+use Rattle.bc_superpages.specs.Layout.{content_at}
+use Rattle.bc_superpages.specs.LayoutAt.{word_at}
 use Rattle.bc_superpages.specs.Memory as space
 use Rattle.bc_whole_heap.specs.Closed.{IsCellOrYoung}
 use Rattle.bc_whole_heap.specs.Heaps.{HeapView, end_of}

@@ -12,14 +12,16 @@ use Rattle.bc_classes.specs.Classes.{cells_a_page}
 use Rattle.bc_superpages.specs.Calls.{class_at, fields_at}
 use Rattle.bc_superpages.specs.Headers.{state_of_cell, unused_header}
 use Rattle.bc_superpages.specs.Kept.{AreSuperpages, IsLayout, IsSuperpage}
-use Rattle.bc_superpages.specs.Layout.{Layout, IsAllocated, content_at, header_of, states_of, superpages, with_state, with_word, word_at}
+use Rattle.bc_superpages.specs.Layout.{Layout, content_at, superpages}
+use Rattle.bc_superpages.specs.LayoutAt.{IsAllocated, header_of, states_of, with_state, with_word, word_at}
 use Rattle.bc_superpages.proofs.CellLemmas.{is_cell-address, is_cell-bit}
 use Rattle.bc_superpages.proofs.FieldLemmas.{content-long, field-offset, field-room}
 use Rattle.bc_superpages.proofs.HandLemmas.{allocated-is_class, allocated-page, allocated-superpage, field-page}
 use Rattle.bc_superpages.proofs.KeptLemmas.{AreSuperpages-field}
-use Rattle.bc_word.specs.Addresses.{cell_address, cell_number, offset_of, page_of, superpage_of}
+use Rattle.bc_word.specs.Addresses.{cell_number, offset_of, page_of, superpage_of}
+use Rattle.bc_word.specs.CellAddresses.{cell_address}
 use Rattle.bc_word.specs.Heads.{fields_of_bits}
-use Rattle.bc_word.specs.Words.{FitsWord, IsPacked, word_bits}
+use Rattle.bc_word.specs.WordBits.{FitsWord, IsPacked, word_bits}
 use Rattle.bc_word.specs.declared.words.Word.{Word}
 use Rattle.bc_word.specs.declared.words.Word.TheVariants.{Nil, Num, Ref}
 

@@ -2,22 +2,27 @@
 use Rattle.std.proofs.Common.{◌≡◌, ◌≢◌, ◌⊎◌, ℕ, ◌<◌, true, false, List, [], ◌∷◌, length, get_or, set, Option, Some, refl, sym, ap, subst, ◌∙◌, inl, inr, arith, get_or-set_same, get_or-set_other, length-set}
 use Rattle.std.proofs.lemmas.Bool.{cases_eq, cases_lt}
 use Rattle.std.proofs.lemmas.List.{get_or_append_left, get_or_push, length_push}
-use Rattle.bc_whole_heap.specs.Closed.{chunk_of, buffer_of, no_buffer, IsCellOrYoung, IsRecorded, IsEntry, IsClosedHeap}
-use Rattle.bc_whole_heap.specs.Heaps.{end_of, heap_memory, AreChunks, AreApart, view_of}
+use Rattle.bc_whole_heap.specs.Closed.{buffer_of, no_buffer, IsCellOrYoung, IsRecorded, IsEntry, IsClosedHeap}
+use Rattle.bc_whole_heap.specs.LaneChunks.{chunk_of}
+use Rattle.bc_whole_heap.specs.Heaps.{end_of, heap_memory}
+use Rattle.bc_whole_heap.specs.HeapFacts.{AreChunks, AreApart, view_of}
 use Rattle.bc_whole_heap.specs.Running.{IsRunning}
 use Rattle.bc_whole_heap.proofs.HeapLemmas.{memory-below, memory-above}
-use Rattle.bc_memory.specs.Memory.{Cell, Memory, with_cell, with_field}
+use Rattle.bc_memory.specs.Memory.{Cell, Memory}
+use Rattle.bc_memory.specs.MemoryChanges.{with_cell, with_field}
 use Rattle.bc_memory.proofs.MemoryLemmas.{with_cell-same, with_cell-other, with_cell-is}
 use Rattle.bc_model.specs.declared.values.Birth.{Birth}
 use Rattle.bc_nursery.specs.Entries.{Entries}
-use Rattle.bc_nursery.specs.Objects.{Nursery, has_object}
+use Rattle.bc_nursery.specs.Objects.{has_object}
+use Rattle.bc_nursery.specs.Nurseries.{Nursery}
 use Rattle.bc_nursery.specs.Survivors.{entry_at, no_entry}
 use Rattle.bc_standing.specs.Standing.{births}
 use Rattle.bc_standing.proofs.Writing.{births-with_cell}
 use Rattle.bc_superpages.specs.declared.headers.PageState.TheVariants.{Remembered}
 use Rattle.bc_superpages.specs.Headers.{is_gone}
 use Rattle.bc_superpages.specs.Kept.{IsLayout}
-use Rattle.bc_superpages.specs.Layout.{Layout, superpages, is_cell, state_at, IsAllocated}
+use Rattle.bc_superpages.specs.Layout.{Layout, superpages, is_cell}
+use Rattle.bc_superpages.specs.LayoutAt.{state_at, IsAllocated}
 use Rattle.bc_superpages.specs.Memory as space
 use Rattle.bc_superpages.specs.RootWords.{RootWords}
 use Rattle.bc_superpages.proofs.MemoryLemmas.{memory_of-cell}

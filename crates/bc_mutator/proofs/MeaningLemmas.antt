@@ -3,10 +3,12 @@ use Rattle.std.proofs.Common.{◌≡◌, ◌≢◌, ℕ, ◌+◌, ◌*◌, ◌<�
 use Rattle.std.proofs.Math.ListN.{get_or-map}
 use Rattle.std.proofs.lemmas.Bool.{ne_eqb, lt-ltb, le-ltb}
 use Rattle.bc_reach.specs.Reach.{begin, onward}
-use Rattle.bc_whole_heap.specs.Heaps.{HeapView, view_of}
+use Rattle.bc_whole_heap.specs.Heaps.{HeapView}
+use Rattle.bc_whole_heap.specs.HeapFacts.{view_of}
 use Rattle.bc_whole_heap.specs.Closed.{IsCellOrYoung}
 use Rattle.bc_whole_heap.specs.Heaps.{heap_memory, root_words}
-use Rattle.bc_whole_heap.specs.Running.{IsRunning, StandsAs}
+use Rattle.bc_whole_heap.specs.Running.{IsRunning}
+use Rattle.bc_whole_heap.specs.LaneStates.{StandsAs}
 use Rattle.bc_memory.specs.Memory.{Cell, Memory}
 use Rattle.bc_model.specs.Reached.{Reached}
 use Rattle.bc_model.specs.State.{State, object_of, place_of, slot_of, field_of, holds}
@@ -18,12 +20,13 @@ use Rattle.bc_model.specs.declared.values.Slot.{Slot}
 use Rattle.bc_model.specs.declared.values.Value.{Value}
 use Rattle.bc_model.specs.declared.values.Value.TheVariants as value
 use Rattle.bc_nursery.specs.Entries.{Entries}
-use Rattle.bc_nursery.specs.Objects.{Nursery}
+use Rattle.bc_nursery.specs.Nurseries.{Nursery}
 use Rattle.bc_standing.specs.Standing.{birth_of, births, read, IsHome, StandsFor}
 use Rattle.bc_standing.proofs.Homes.{births-there, home_in}
 use Rattle.bc_standing.proofs.Reading.{ReadAs-at}
 use Rattle.bc_superpages.specs.Layout.{Layout}
-use Rattle.bc_superpages.specs.RootWords.{RootWords, root_place}
+use Rattle.bc_superpages.specs.RootWords.{RootWords}
+use Rattle.bc_superpages.specs.RootSlots.{root_place}
 use Rattle.bc_word.proofs.WordLemmas.{word_of_bits-nil}
 use Rattle.bc_word.specs.Words.{word_of_bits}
 use Rattle.bc_word.specs.declared.addresses.Address.{Address}

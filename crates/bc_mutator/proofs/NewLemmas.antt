@@ -8,12 +8,16 @@ use Rattle.std.proofs.lemmas.List.{get_or_read, map-set, length_push, set-get_or
 use Rattle.std.specs.Option.{option_or}
 use Rattle.bc_classes.specs.Classes.{class_of}
 use Rattle.bc_whole_heap.specs.Heaps.{HeapView}
-use Rattle.bc_whole_heap.specs.Closed.{chunk_of, buffer_of, IsCellOrYoung, IsRecorded, IsClosedHeap}
-use Rattle.bc_whole_heap.specs.Heaps.{end_of, heap_memory, root_words, no_chunk, young, object_in, AreApart, view_of}
-use Rattle.bc_whole_heap.specs.Running.{IsRunning, StandsAs}
+use Rattle.bc_whole_heap.specs.Closed.{buffer_of, IsCellOrYoung, IsRecorded, IsClosedHeap}
+use Rattle.bc_whole_heap.specs.LaneChunks.{chunk_of}
+use Rattle.bc_whole_heap.specs.Heaps.{end_of, heap_memory, root_words, no_chunk, young, object_in}
+use Rattle.bc_whole_heap.specs.HeapFacts.{AreApart, view_of}
+use Rattle.bc_whole_heap.specs.Running.{IsRunning}
+use Rattle.bc_whole_heap.specs.LaneStates.{StandsAs}
 use Rattle.bc_whole_heap.proofs.ChunkLemmas.{object_in-at, object_in-none}
 use Rattle.bc_whole_heap.proofs.HeapLemmas.{memory-below, memory-above}
-use Rattle.bc_memory.specs.Memory.{Cell, Memory, with_cell}
+use Rattle.bc_memory.specs.Memory.{Cell, Memory}
+use Rattle.bc_memory.specs.MemoryChanges.{with_cell}
 use Rattle.bc_memory.proofs.MemoryLemmas.{with_cell-is}
 use Rattle.bc_model.specs.State.{State, Object, made_by, with_made, next_birth, place_of}
 use Rattle.bc_model.specs.Step.{with_new}
@@ -25,15 +29,17 @@ use Rattle.bc_model.specs.declared.values.Value.TheVariants as value
 use Rattle.bc_model.proofs.Objects.{same_birth, length-with_made}
 use Rattle.bc_model.proofs.States.{IsState-with_new}
 use Rattle.bc_nursery.specs.Entries.{Entries}
-use Rattle.bc_nursery.specs.Objects.{ChunkObject, Nursery, has_object, the_object, object_at, object_or, new_object, with_object, left_of}
+use Rattle.bc_nursery.specs.Objects.{has_object, the_object, object_or, new_object, with_young_object, left_of}
+use Rattle.bc_nursery.specs.Nurseries.{ChunkObject, Nursery, object_at}
 use Rattle.bc_nursery.specs.Objects as nursery
 use Rattle.bc_nursery.proofs.ObjectLemmas.{IsChunk-object, class_of-two, words-inside, none-has, object_at-end, object_at-new, object_at-others}
 use Rattle.bc_standing.specs.Standing.{birth_of, births, Stands, AllBorn}
 use Rattle.bc_standing.proofs.Making.{Stands-new, AllBorn-new, births-put_here, births-put_other}
 use Rattle.bc_standing.proofs.Reading.{replicate_default}
-use Rattle.bc_superpages.specs.Layout.{Layout, IsAllocated}
+use Rattle.bc_superpages.specs.Layout.{Layout}
+use Rattle.bc_superpages.specs.LayoutAt.{IsAllocated}
 use Rattle.bc_superpages.specs.RootWords.{RootWords}
-use Rattle.bc_word.specs.Heads.{FitsHead}
+use Rattle.bc_word.specs.HeadBits.{FitsHead}
 use Rattle.bc_word.specs.declared.addresses.Address.{Address}
 use Rattle.bc_word.specs.declared.heads.Head.{Head}
 use Rattle.bc_word.specs.declared.words.Word.{Word}
@@ -54,7 +60,7 @@ pub record MakesYoung (s : Layout) (r : RootWords) (cs ds : List Nursery) (bs : 
   pub room : class_of head.fields ≤ left_of (chunk_of cs lane)
   pub within : head.domain < length hs
   pub held : get_or hs head.domain 0 ≡ lane
-  pub chunks : ds ≡ set cs lane (with_object (chunk_of cs lane) head)
+  pub chunks : ds ≡ set cs lane (with_young_object (chunk_of cs lane) head)
 
 -- at another address the chunks hold what they held
 object_in-replaced : (cs : List Nursery) (n a : ℕ) (d : Nursery) → object_at d a ≡ object_at (get_or cs n no_chunk) a → object_in (set cs n d) a ≡ object_in cs a
@@ -65,10 +71,10 @@ object_in-replaced (c ∷ cs) (suc n) a d e = ap (option_or (object_at c a)) (ob
 module _ (s : Layout) (r : RootWords) (cs ds : List Nursery) (bs : List Entries) (hs : List ℕ) (lane : ℕ) (head : Head) (w : MakesYoung s r cs ds bs hs lane head) where
   -- where the object lies
   abbrev pub made_at : ℕ
-  made_at = nursery.end_of (chunk_of cs lane)
+  made_at = nursery.chunk_end (chunk_of cs lane)
 
-  chunk-is : chunk_of ds lane ≡ with_object (chunk_of cs lane) head
-  chunk-is = chunk-own cs ds lane (with_object (chunk_of cs lane) head) w.lane_within w.chunks
+  chunk-is : chunk_of ds lane ≡ with_young_object (chunk_of cs lane) head
+  chunk-is = chunk-own cs ds lane (with_young_object (chunk_of cs lane) head) w.lane_within w.chunks
 
   object-new : object_at (chunk_of ds lane) made_at ≡ Some (new_object made_at head)
   object-new = ap (λ (c : Nursery). object_at c made_at) chunk-is ∙ object_at-new (chunk_of cs lane) (w.whole lane w.lane_within) head
@@ -77,7 +83,7 @@ module _ (s : Layout) (r : RootWords) (cs ds : List Nursery) (bs : List Entries)
   object-there a ne = ap (λ (c : Nursery). object_at c a) chunk-is ∙ object_at-others (chunk_of cs lane) head a ne
 
   object-other : (l a : ℕ) → l ≢ lane → object_at (chunk_of ds l) a ≡ object_at (chunk_of cs l) a
-  object-other l a ne = ap (λ (c : Nursery). object_at c a) (chunk-other cs ds lane l (with_object (chunk_of cs lane) head) w.chunks ne)
+  object-other l a ne = ap (λ (c : Nursery). object_at c a) (chunk-other cs ds lane l (with_young_object (chunk_of cs lane) head) w.chunks ne)
 
   -- what a chunk had it has
   pub has-new : has_object (chunk_of ds lane) made_at ≡ true
@@ -140,7 +146,7 @@ module _ (s : Layout) (r : RootWords) (cs ds : List Nursery) (bs : List Entries)
 
   made-closed : IsClosedHeap (view_of s r ds bs) hs
   made-closed =
-      let long = length-chunks cs ds lane (with_object (chunk_of cs lane) head) w.chunks in
+      let long = length-chunks cs ds lane (with_young_object (chunk_of cs lane) head) w.chunks in
       let closed = w.run.closed in
       record {
         lanes = closed.lanes ∙ sym long;
@@ -187,7 +193,7 @@ module _ (s : Layout) (r : RootWords) (cs ds : List Nursery) (bs : List Entries)
   -- the heap as a memory
   pub made-memory : heap_memory s ds ≡ with_cell (heap_memory s cs) made_at (Some (young (new_object made_at head)))
   made-memory =
-      let long = length-chunks cs ds lane (with_object (chunk_of cs lane) head) w.chunks in
+      let long = length-chunks cs ds lane (with_young_object (chunk_of cs lane) head) w.chunks in
       let is : object_in ds made_at ≡ Some (new_object made_at head) =
       object_in-at ds made_at lane (let lt = w.lane_within in omega arith) has-new
       (λ k lt. ap is_some (object-other k made_at (omega arith)) ∙ none-there k (let less = w.lane_within in omega arith)) ∙ object-new in
@@ -198,7 +204,7 @@ module _ (s : Layout) (r : RootWords) (cs ds : List Nursery) (bs : List Entries)
         | inr out ↦
             memory-above s ds x out
             ∙ ap (λ (xs : List Nursery). option_map young (object_in xs x)) w.chunks
-            ∙ ap (option_map young) (object_in-replaced cs lane x (with_object (chunk_of cs lane) head) (object_at-others (chunk_of cs lane) head x ne))
+            ∙ ap (option_map young) (object_in-replaced cs lane x (with_young_object (chunk_of cs lane) head) (object_at-others (chunk_of cs lane) head x ne))
             ∙ sym (memory-above s cs x out)
       ])
 
@@ -236,7 +242,7 @@ module _ (s : Layout) (r : RootWords) (cs ds : List Nursery) (bs : List Entries)
   made-running n by next none = record {
     none_gone = w.run.none_gone;
     none_promised = w.run.none_promised;
-    laid = (w.run.laid.0, laid-kept (end_of s) w.run.laid.0 cs ds lane (with_object (chunk_of cs lane) head) w.lane_within w.chunks refl refl w.run.laid.1);
+    laid = (w.run.laid.0, laid-kept (end_of s) w.run.laid.0 cs ds lane (with_young_object (chunk_of cs lane) head) w.lane_within w.chunks refl refl w.run.laid.1);
     once = made-once n by next none;
     closed = made-closed;
   }
@@ -285,7 +291,7 @@ module _ (s : Layout) (r : RootWords) (cs ds : List Nursery) (bs : List Entries)
             ∙ ap₂ (λ (xs : List ℕ) (n : ℕ). set xs lane n) h.births (length_push (made_by made lane) o ∙ ap (λ (n : ℕ). n + 1) (sym count));
         domains = h.domains;
         slots = h.slots;
-        lanes = length-chunks cs ds lane (with_object (chunk_of cs lane) head) w.chunks ∙ h.lanes ∙ sym (length-with_made made lane o);
+        lanes = length-chunks cs ds lane (with_young_object (chunk_of cs lane) head) w.chunks ∙ h.lanes ∙ sym (length-with_made made lane o);
       }
 
 -- how many births a lane has had
@@ -301,7 +307,7 @@ none-later h hs serials state st lane a b e same =
     omega arith
 
 -- so a new object is done
-pub done-new : (h : HeapView) (chunks : List Nursery) (roots : RootWords) (hs : List ℕ) (lane serial n : ℕ) (p : Slot) (object : Address) → MayOperate h hs lane → p.domain < h.roots.domains → p.slot < h.roots.slots → n ≤ 127 → lane < 16 → serial + 1 < 2 ^ 32 → get_or hs p.domain 0 ≡ lane → class_of n ≤ left_of (own_chunk h lane) → chunks ≡ set h.chunks lane (with_object (own_chunk h lane) (record { lane = lane; serial = serial + 1; domain = p.domain; fields = n })) → object.0 ≡ nursery.end_of (own_chunk h lane) → roots ≡ with_root h.roots p (Ref object) → DidAct h (record h { roots = roots; chunks = chunks }) hs lane serial (serial + 1) (New p n) (reply.Obj (record { lane = lane; serial = serial + 1 }))
+pub done-new : (h : HeapView) (chunks : List Nursery) (roots : RootWords) (hs : List ℕ) (lane serial n : ℕ) (p : Slot) (object : Address) → MayOperate h hs lane → p.domain < h.roots.domains → p.slot < h.roots.slots → n ≤ 127 → lane < 16 → serial + 1 < 2 ^ 32 → get_or hs p.domain 0 ≡ lane → class_of n ≤ left_of (own_chunk h lane) → chunks ≡ set h.chunks lane (with_young_object (own_chunk h lane) (record { lane = lane; serial = serial + 1; domain = p.domain; fields = n })) → object.0 ≡ nursery.chunk_end (own_chunk h lane) → roots ≡ with_root h.roots p (Ref object) → DidAct h (record h { roots = roots; chunks = chunks }) hs lane serial (serial + 1) (New p n) (reply.Obj (record { lane = lane; serial = serial + 1 }))
 done-new h chunks roots hs lane serial n p object ready domain slot few lanes serials held room is at written =
     subst (λ (r : RootWords). DidAct h (record h { roots = r; chunks = chunks }) hs lane serial (serial + 1) (New p n) (reply.Obj (record { lane = lane; serial = serial + 1 }))) (sym root_is) (record {
       step = λ serials state means e. (
@@ -315,7 +321,7 @@ done-new h chunks roots hs lane serial n p object ready domain slot few lanes se
       later = λ none. made-later h.space h.roots h.chunks chunks h.buffers hs lane head makes serial refl none;
       others_later = λ l k ne none. made-others_later h.space h.roots h.chunks chunks h.buffers hs lane head makes l k refl ne none;
       layout = ready.layout;
-      whole = chunks-whole h.chunks chunks lane (with_object (own_chunk h lane) head) ready.lane_within is
+      whole = chunks-whole h.chunks chunks lane (with_young_object (own_chunk h lane) head) ready.lane_within is
           (IsChunk-object (own_chunk h lane) head fits room (ready.whole lane ready.lane_within)) ready.whole;
       leaves = record {
         chunks = is ∙ ap (λ (c : Nursery). set h.chunks lane c) (sym chunk_is);
@@ -344,7 +350,7 @@ done-new h chunks roots hs lane serial n p object ready domain slot few lanes se
     fits = record { lane = lanes; serial = serials; domain = (let few_domains = ready.few_domains in omega arith); fields = omega arith }
 
     to : Address
-    to = record { 0 = nursery.end_of (own_chunk h lane) }
+    to = record { 0 = nursery.chunk_end (own_chunk h lane) }
 
     root : RootWords
     root = with_root h.roots p (Ref to)
@@ -352,8 +358,8 @@ done-new h chunks roots hs lane serial n p object ready domain slot few lanes se
     root_is : roots ≡ root
     root_is = written ∙ ap (λ (k : ℕ). let a : Address = record { 0 = k } in with_root h.roots p (Ref a)) at
 
-    chunk_is : chunk_of chunks lane ≡ with_object (own_chunk h lane) head
-    chunk_is = chunk-own h.chunks chunks lane (with_object (own_chunk h lane) head) ready.lane_within is
+    chunk_is : chunk_of chunks lane ≡ with_young_object (own_chunk h lane) head
+    chunk_is = chunk-own h.chunks chunks lane (with_young_object (own_chunk h lane) head) ready.lane_within is
 
     makes : MakesYoung h.space h.roots h.chunks chunks h.buffers hs lane head
     makes = record {

@@ -2,17 +2,21 @@
 use Rattle.std.proofs.Common.{◌≡◌, ℕ, ◌+◌, ◌<◌, ◌≤◌, true, inl, inr, List, length, get_or, Some, option_map, refl, sym, ap, subst, ◌∙◌, arith}
 use Rattle.std.proofs.lemmas.Bool.{cases_lt, lt-ltb, le-ltb}
 use Rattle.std.proofs.lemmas.List.{get_or_read}
-use Rattle.bc_whole_heap.specs.Closed.{chunk_of, IsCellOrYoung, IsClosedHeap}
-use Rattle.bc_whole_heap.specs.Heaps.{end_of, heap_memory, young, no_chunk, AreChunks, AreApart, NoneGone, view_of}
+use Rattle.bc_whole_heap.specs.Closed.{IsCellOrYoung, IsClosedHeap}
+use Rattle.bc_whole_heap.specs.LaneChunks.{chunk_of}
+use Rattle.bc_whole_heap.specs.Heaps.{end_of, heap_memory, young, no_chunk}
+use Rattle.bc_whole_heap.specs.HeapFacts.{AreChunks, AreApart, NoneGone, view_of}
 use Rattle.bc_whole_heap.proofs.ChunkLemmas.{has-some, object_in-at}
 use Rattle.bc_whole_heap.proofs.HeapLemmas.{memory-below, memory-above, allocated-at_hand}
 use Rattle.bc_memory.specs.Memory.{Cell}
 use Rattle.bc_nursery.specs.Entries.{Entries}
-use Rattle.bc_nursery.specs.Objects.{Nursery, IsChunk, has_object, the_object}
+use Rattle.bc_nursery.specs.Objects.{IsChunk, has_object, the_object}
+use Rattle.bc_nursery.specs.Nurseries.{Nursery}
 use Rattle.bc_nursery.proofs.ObjectLemmas.{words-inside}
 use Rattle.bc_superpages.specs.Calls.{IsAtHand}
 use Rattle.bc_superpages.specs.Kept.{IsLayout}
-use Rattle.bc_superpages.specs.Layout.{Layout, IsAllocated, content_at, word_at}
+use Rattle.bc_superpages.specs.Layout.{Layout, content_at}
+use Rattle.bc_superpages.specs.LayoutAt.{IsAllocated, word_at}
 use Rattle.bc_superpages.specs.Memory as space
 use Rattle.bc_superpages.specs.RootWords.{RootWords}
 use Rattle.bc_word.proofs.WordsLemmas.{length-words_from}

@@ -4,12 +4,14 @@ use Rattle.bc_model.specs.WellFormed.{IsSlot}
 use Rattle.bc_model.specs.declared.operations.Op.{Op}
 use Rattle.bc_model.specs.declared.values.Slot.{Slot}
 use Rattle.bc_nursery.specs.Entries.{Entries}
-use Rattle.bc_nursery.specs.Objects.{Nursery, changed, head_at, has_object}
+use Rattle.bc_nursery.specs.Objects.{changed, head_at, has_object}
+use Rattle.bc_nursery.specs.Nurseries.{Nursery}
 use Rattle.bc_nursery.specs.Objects as nursery
 use Rattle.bc_superpages.specs.declared.headers.PageState.TheVariants.{Remembered}
 use Rattle.bc_superpages.specs.Calls.{fields_at}
 use Rattle.bc_superpages.specs.Kept.{IsLayout}
-use Rattle.bc_superpages.specs.Layout.{Layout, IsAllocated, state_at, with_state, with_word, word_at}
+use Rattle.bc_superpages.specs.Layout.{Layout}
+use Rattle.bc_superpages.specs.LayoutAt.{IsAllocated, state_at, with_state, with_word, word_at}
 use Rattle.bc_superpages.specs.Memory as space
 use Rattle.bc_superpages.specs.RootWords.{RootWords}
 use Rattle.bc_superpages.proofs.FieldLemmas.{field-memory}
@@ -19,7 +21,7 @@ use Rattle.bc_whole_heap.specs.Heaps.{HeapView, end_of, no_chunk}
 use Rattle.bc_memory.specs.Memory.{Cell}
 use Rattle.bc_word.specs.Addresses.{page_of}
 use Rattle.bc_word.specs.Heads.{head_of_bits}
-use Rattle.bc_word.specs.Words.{word_bits}
+use Rattle.bc_word.specs.WordBits.{word_bits}
 use Rattle.bc_word.specs.declared.addresses.Address.{Address}
 use Rattle.bc_word.specs.declared.heads.Head.{Head}
 use Rattle.bc_word.specs.declared.words.Word.{Word}
@@ -149,7 +151,7 @@ part-wrote old new slots c d b e lane h t at index word part chunk_in buffer_in 
   },
   inr (record {
     behind = w.behind;
-    chunks = ap (λ (x : Nursery). set h.chunks lane x) (w.chunk ∙ sym (ap (λ (x : Nursery). changed x at.0 (nursery.with_field index word)) part.chunk_is));
+    chunks = ap (λ (x : Nursery). set h.chunks lane x) (w.chunk ∙ sym (ap (λ (x : Nursery). changed x at.0 (nursery.with_young_field index word)) part.chunk_is));
     rest = refl;
   }),
 )

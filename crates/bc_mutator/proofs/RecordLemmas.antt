@@ -12,7 +12,8 @@ use Rattle.bc_model.specs.declared.operations.Reply.{Reply}
 use Rattle.bc_model.specs.declared.operations.Reply.TheVariants.{Done}
 use Rattle.bc_model.specs.declared.values.Slot.{Slot}
 use Rattle.bc_superpages.proofs.MemoryLemmas.{memory_of-cell}
-use Rattle.bc_superpages.specs.Layout.{content_at, word_at}
+use Rattle.bc_superpages.specs.Layout.{content_at}
+use Rattle.bc_superpages.specs.LayoutAt.{word_at}
 use Rattle.bc_superpages.specs.Memory as space
 use Rattle.bc_word.proofs.WordsLemmas.{length-words_from}
 use Rattle.bc_word.specs.Addresses.{page_of, offset_of}

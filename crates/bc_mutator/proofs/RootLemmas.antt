@@ -3,9 +3,12 @@ use Rattle.std.proofs.Common.{◌≡◌, ◌≢◌, ◌⊎◌, true, ℕ, ◌<�
 use Rattle.std.proofs.lemmas.Bool.{cases_eq, cases_lt}
 use Rattle.std.proofs.lemmas.List.{set-get_or, set_past, map-set}
 use Rattle.std.proofs.lemmas.Nat.{same_from_place}
-use Rattle.bc_whole_heap.specs.Closed.{chunk_of, buffer_of, no_buffer, IsCellOrYoung, IsRecorded}
-use Rattle.bc_whole_heap.specs.Heaps.{HeapView, end_of, heap_memory, no_chunk, root_words, view_of}
-use Rattle.bc_whole_heap.specs.Running.{IsRunning, StandsAs}
+use Rattle.bc_whole_heap.specs.Closed.{buffer_of, no_buffer, IsCellOrYoung, IsRecorded}
+use Rattle.bc_whole_heap.specs.LaneChunks.{chunk_of}
+use Rattle.bc_whole_heap.specs.Heaps.{HeapView, end_of, heap_memory, no_chunk, root_words}
+use Rattle.bc_whole_heap.specs.HeapFacts.{view_of}
+use Rattle.bc_whole_heap.specs.Running.{IsRunning}
+use Rattle.bc_whole_heap.specs.LaneStates.{StandsAs}
 use Rattle.bc_memory.specs.Memory.{Cell, Memory}
 use Rattle.bc_model.specs.Consistent.{IsValue}
 use Rattle.bc_model.specs.State.{State, place_of, slot_of, field_of, with_slot}
@@ -19,19 +22,23 @@ use Rattle.bc_model.specs.declared.values.Value.{Value}
 use Rattle.bc_model.specs.declared.values.Value.TheVariants as value
 use Rattle.bc_model.proofs.States.{IsState-with_slot}
 use Rattle.bc_nursery.specs.Entries.{Entries}
-use Rattle.bc_nursery.specs.Objects.{Nursery, has_object}
+use Rattle.bc_nursery.specs.Objects.{has_object}
+use Rattle.bc_nursery.specs.Nurseries.{Nursery}
 use Rattle.bc_reach.specs.Distinct.{Has}
 use Rattle.bc_standing.specs.Standing.{birth_of, births, Stands, StandsFor, AllBorn}
 use Rattle.bc_standing.proofs.Keeping.{AllBorn-reached}
 use Rattle.bc_standing.proofs.Reading.{read_birth}
 use Rattle.bc_standing.proofs.Writing.{Stands-slot}
-use Rattle.bc_superpages.specs.Layout.{Layout, IsAllocated}
+use Rattle.bc_superpages.specs.Layout.{Layout}
+use Rattle.bc_superpages.specs.LayoutAt.{IsAllocated}
 use Rattle.bc_superpages.specs.Memory as space
-use Rattle.bc_superpages.specs.RootWords.{RootWords, root_place, with_note}
+use Rattle.bc_superpages.specs.RootWords.{RootWords}
+use Rattle.bc_superpages.specs.RootSlots.{root_place, with_note}
 use Rattle.bc_superpages.proofs.MemoryLemmas.{memory_of-cell}
 use Rattle.bc_superpages.proofs.NoteLemmas.{Has-noted, Has-with_note}
 use Rattle.bc_word.proofs.WordLemmas.{word_of_bits-word_bits}
-use Rattle.bc_word.specs.Words.{word_bits, word_of_bits, FitsWord}
+use Rattle.bc_word.specs.Words.{word_of_bits}
+use Rattle.bc_word.specs.WordBits.{word_bits, FitsWord}
 use Rattle.bc_word.specs.declared.addresses.Address.{Address}
 use Rattle.bc_word.specs.declared.words.Word.{Word}
 use Rattle.bc_word.specs.declared.words.Word.TheVariants as word

@@ -4,7 +4,8 @@ use Rattle.std.specs.List.{list_all}
 use Rattle.std.specs.Result.{IfOk, OnErr}
 use Rattle.bc_superpages.specs.RootWords.{RootWords}
 use Rattle.bc_whole_heap.specs.Heaps.{HeapView}
-use Rattle.bc_whole_heap.specs.Running.{IsRunning, StandsAs}
+use Rattle.bc_whole_heap.specs.Running.{IsRunning}
+use Rattle.bc_whole_heap.specs.LaneStates.{StandsAs}
 use Rattle.bc_whole_heap.proofs.ChunkLemmas.{AreApart-laid}
 use Rattle.bc_model.specs.State.{State}
 use Rattle.bc_model.specs.Step.{step, act, domains_of}

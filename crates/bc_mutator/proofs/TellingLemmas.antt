@@ -2,7 +2,8 @@
 use Rattle.std.proofs.Common.{◌≡◌, ◌≢◌, ℕ, Bool, true, false, if◌then◌else◌, List, length, Some, refl, sym, ap, subst, ◌∙◌, inl, inr, eq-eqb, eqb-true}
 use Rattle.std.proofs.lemmas.Bool.{cases_Bool, and_parts}
 use Rattle.bc_whole_heap.specs.Heaps.{HeapView}
-use Rattle.bc_whole_heap.specs.Running.{IsRunning, StandsAs}
+use Rattle.bc_whole_heap.specs.Running.{IsRunning}
+use Rattle.bc_whole_heap.specs.LaneStates.{StandsAs}
 use Rattle.bc_whole_heap.specs.Heaps.{root_words}
 use Rattle.bc_memory.specs.Memory.{Memory}
 use Rattle.bc_model.specs.State.{State, object_of, slot_of, holds}

@@ -3,14 +3,17 @@ use Rattle.std.proofs.Common.{◌≡◌, ◌≢◌, ℕ, ◌+◌, ◌-◌, ◌/�
 use Rattle.std.proofs.Math.Seq.{map-set_same}
 use Rattle.std.proofs.lemmas.List.{get_or_read, set-get_or}
 use Rattle.std.specs.List.{find}
-use Rattle.bc_whole_heap.specs.Heaps.{HeapView, view_of}
+use Rattle.bc_whole_heap.specs.Heaps.{HeapView}
+use Rattle.bc_whole_heap.specs.HeapFacts.{view_of}
 use Rattle.bc_whole_heap.specs.Closed.{no_buffer, buffer_of}
 use Rattle.bc_whole_heap.specs.Heaps.{end_of, heap_memory, root_words}
-use Rattle.bc_whole_heap.specs.Running.{IsRunning, StandsAs}
-use Rattle.bc_memory.specs.Memory.{Cell, Memory, with_cell}
-use Rattle.bc_memory.specs.Memory as memory
+use Rattle.bc_whole_heap.specs.Running.{IsRunning}
+use Rattle.bc_whole_heap.specs.LaneStates.{StandsAs}
+use Rattle.bc_memory.specs.Memory.{Cell, Memory}
+use Rattle.bc_memory.specs.MemoryChanges.{with_cell}
+use Rattle.bc_memory.specs.MemoryChanges as memory
 use Rattle.bc_model.specs.Reached.{Reached}
-use Rattle.bc_model.specs.State.{State, Object, object_of, slot_of, with_object, with_value, with_field, made_by}
+use Rattle.bc_model.specs.State.{State, Object, object_of, slot_of, with_born, with_value, with_born_field, made_by}
 use Rattle.bc_model.specs.Step.{act}
 use Rattle.bc_model.specs.declared.operations.Op.{Op}
 use Rattle.bc_model.specs.declared.operations.Reply.{Reply}
@@ -20,7 +23,8 @@ use Rattle.bc_model.specs.declared.values.Slot.{Slot}
 use Rattle.bc_model.specs.declared.values.Value.{Value}
 use Rattle.bc_model.proofs.States.{IsState-with_field}
 use Rattle.bc_nursery.specs.Entries.{Entries}
-use Rattle.bc_nursery.specs.Objects.{ChunkObject, Nursery, has_object, changed}
+use Rattle.bc_nursery.specs.Objects.{has_object, changed}
+use Rattle.bc_nursery.specs.Nurseries.{ChunkObject, Nursery}
 use Rattle.bc_nursery.specs.Objects as nursery
 use Rattle.bc_standing.specs.Standing.{birth_of, births, Stands, AllBorn}
 use Rattle.bc_standing.proofs.Homes.{births-there}
@@ -30,14 +34,15 @@ use Rattle.bc_nursery.proofs.ObjectLemmas.{IsChunk-changed, IsWhole-field}
 use Rattle.bc_superpages.specs.declared.headers.PageState.{PageState}
 use Rattle.bc_superpages.specs.Calls.{fields_at}
 use Rattle.bc_superpages.specs.Kept.{IsLayout}
-use Rattle.bc_superpages.specs.Layout.{Layout, IsAllocated, word_at, content_at, state_at, with_word}
+use Rattle.bc_superpages.specs.Layout.{Layout, content_at}
+use Rattle.bc_superpages.specs.LayoutAt.{IsAllocated, word_at, state_at, with_word}
 use Rattle.bc_superpages.proofs.HandLemmas.{allocated-object, field-page}
 use Rattle.bc_superpages.specs.Memory as space
 use Rattle.bc_superpages.specs.RootWords.{RootWords}
 use Rattle.bc_word.proofs.WordsLemmas.{length-words_from}
 use Rattle.bc_word.specs.Addresses.{page_of, offset_of, superpage_of}
 use Rattle.bc_word.specs.Heads.{fields_of_bits}
-use Rattle.bc_word.specs.Words.{FitsWord, word_bits}
+use Rattle.bc_word.specs.WordBits.{FitsWord, word_bits}
 use Rattle.bc_word.specs.declared.addresses.Address.{Address}
 use Rattle.bc_word.specs.declared.words.Word.{Word}
 use Rattle.bc_mutator.specs.Effects.{HasRecorded, RefersBehind, Records, WroteCell, WroteMature, WroteYoung, Wrote, Writes, HasChanged, Leaves, Answers, DidAct}
@@ -190,8 +195,8 @@ written-layout h k hs lane target at index word can fits (inr wrote) = subst (λ
 pub written-whole : (h k : HeapView) (hs : List ℕ) (lane : ℕ) (target : Word) (at : Address) (index : ℕ) (word : Word) → CanWrite h hs lane target at index word → FitsWord word → Wrote h k lane at index word → AreWhole k.chunks
 written-whole h k hs lane target at index word can fits (inl wrote) = subst (λ (x : HeapView). AreWhole x.chunks) (sym wrote.rest) can.ready.whole
 written-whole h k hs lane target at index word can fits (inr wrote) =
-    chunks-whole h.chunks k.chunks lane (changed (own_chunk h lane) at.0 (nursery.with_field index word)) can.ready.lane_within wrote.chunks
-    (IsChunk-changed (own_chunk h lane) (nursery.with_field index word) at.0 (λ o. refl) (λ o. refl) (λ o whole. IsWhole-field o index word fits whole) (can.ready.whole lane can.ready.lane_within)) can.ready.whole
+    chunks-whole h.chunks k.chunks lane (changed (own_chunk h lane) at.0 (nursery.with_young_field index word)) can.ready.lane_within wrote.chunks
+    (IsChunk-changed (own_chunk h lane) (nursery.with_young_field index word) at.0 (λ o. refl) (λ o. refl) (λ o whole. IsWhole-field o index word fits whole) (can.ready.whole lane can.ready.lane_within)) can.ready.whole
 
 pub written-leaves : (h k : HeapView) (hs : List ℕ) (lane : ℕ) (target : Word) (at : Address) (index : ℕ) (word : Word) → CanWrite h hs lane target at index word → Wrote h k lane at index word → Leaves hs lane h k
 written-leaves h k hs lane target at index word can (inl wrote) = subst (λ (x : HeapView). Leaves hs lane h x) (sym wrote.rest) (record {
@@ -211,7 +216,7 @@ written-leaves h k hs lane target at index word can (inl wrote) = subst (λ (x :
   unrecorded = λ none. mature-unrecorded h k hs lane at index word can.ready can.own wrote.buffers none wrote.cell.entry;
 })
 written-leaves h k hs lane target at index word can (inr wrote) = subst (λ (x : HeapView). Leaves hs lane h x) (sym wrote.rest)
-    (let d = changed (own_chunk h lane) at.0 (nursery.with_field index word) in
+    (let d = changed (own_chunk h lane) at.0 (nursery.with_young_field index word) in
     let is = chunk-own h.chunks k.chunks lane d can.ready.lane_within wrote.chunks in
     record {
       chunks = wrote.chunks ∙ ap (λ (x : Nursery). set h.chunks lane x) (sym is);
@@ -226,20 +231,20 @@ written-leaves h k hs lane target at index word can (inr wrote) = subst (λ (x :
     })
 
 -- the heap stands for the state with the value in the object's field
-births-same : (made : List (List Object)) (b : Birth) (o : Object) → map length (with_object made b o) ≡ map length made
+births-same : (made : List (List Object)) (b : Birth) (o : Object) → map length (with_born made b o) ≡ map length made
 births-same made b o =
     map-set_same length made b.lane (set (made_by made b.lane) (b.serial - 1) o) [] (length-set (made_by made b.lane) (b.serial - 1) o)
 
-pub stands-field : {bs es : List Entries} (s t : Layout) (r : RootWords) (cs ds : List Nursery) (hs serials : List ℕ) (state : State) (a i : ℕ) (c : Cell) (w : Word) (v : Value) → StandsAs (view_of s r cs bs) hs serials state → heap_memory t ds ≡ with_cell (heap_memory s cs) a (Some (memory.with_field c i w)) → heap_memory s cs a ≡ Some c → length ds ≡ length cs → Reached state.slots state.made (birth_of c.head) → FitsWord w → IsRead (heap_memory s cs) state w v → StandsAs (view_of t r ds es) hs serials (with_field state (birth_of c.head) i v)
+pub stands-field : {bs es : List Entries} (s t : Layout) (r : RootWords) (cs ds : List Nursery) (hs serials : List ℕ) (state : State) (a i : ℕ) (c : Cell) (w : Word) (v : Value) → StandsAs (view_of s r cs bs) hs serials state → heap_memory t ds ≡ with_cell (heap_memory s cs) a (Some (memory.with_field c i w)) → heap_memory s cs a ≡ Some c → length ds ≡ length cs → Reached state.slots state.made (birth_of c.head) → FitsWord w → IsRead (heap_memory s cs) state w v → StandsAs (view_of t r ds es) hs serials (with_born_field state (birth_of c.head) i v)
 stands-field s t r cs ds hs serials state a i c w v h is there long reached fits read =
     let b = birth_of c.head in
     let m = heap_memory s cs in
     let o : Object = with_value (object_of state.made b) i v in
     record {
       consistent = IsState-with_field state b i v h.consistent (h.born a b (births-there m a c there)) (value-held m (root_words r) state w v h.stands h.born fits read);
-      stands = subst (λ (n : Memory). Stands n (root_words r) state.slots (with_object state.made b o)) (sym is)
+      stands = subst (λ (n : Memory). Stands n (root_words r) state.slots (with_born state.made b o)) (sym is)
           (Stands-set m (root_words r) state.slots state.made a i c w v h.stands h.born reached there read.value read.reached);
-      born = subst (λ (n : Memory). AllBorn n (with_object state.made b o)) (sym is) (AllBorn-set m state.made a i c w o there h.born);
+      born = subst (λ (n : Memory). AllBorn n (with_born state.made b o)) (sym is) (AllBorn-set m state.made a i c w o there h.born);
       held = h.held;
       births = births-same state.made b o ∙ h.births;
       domains = h.domains;
@@ -252,7 +257,7 @@ written-roots h k lane at index word (inl wrote) = ap (λ (x : HeapView). x.root
 written-roots h k lane at index word (inr wrote) = ap (λ (x : HeapView). x.roots) wrote.rest
 
 -- so an operation that writes a field is done
-pub done-field : (h k : HeapView) (hs : List ℕ) (lane serial : ℕ) (target : Word) (at : Address) (index : ℕ) (word : Word) (op : Op) (reply : Reply) → CanWrite h hs lane target at index word → Wrote h k lane at index word → FitsWord word → ((serials : List ℕ) → (state : State) → StandsAs h hs serials state → (v : Value) × IsRead (whole_memory h) state word v × Reached state.slots state.made (birth_of (cell_of h.space (own_chunk h lane) at.0).head) × (act state lane op ≡ (with_field state (birth_of (cell_of h.space (own_chunk h lane) at.0).head) index v, reply))) → HasRecorded h k hs lane op reply → HasChanged h k hs lane serial op reply → DidAct h k hs lane serial serial op reply
+pub done-field : (h k : HeapView) (hs : List ℕ) (lane serial : ℕ) (target : Word) (at : Address) (index : ℕ) (word : Word) (op : Op) (reply : Reply) → CanWrite h hs lane target at index word → Wrote h k lane at index word → FitsWord word → ((serials : List ℕ) → (state : State) → StandsAs h hs serials state → (v : Value) × IsRead (whole_memory h) state word v × Reached state.slots state.made (birth_of (cell_of h.space (own_chunk h lane) at.0).head) × (act state lane op ≡ (with_born_field state (birth_of (cell_of h.space (own_chunk h lane) at.0).head) index v, reply))) → HasRecorded h k hs lane op reply → HasChanged h k hs lane serial op reply → DidAct h k hs lane serial serial op reply
 done-field h k hs lane serial target at index word op reply can wrote fits effect recorded changed =
     let leaves = written-leaves h k hs lane target at index word can wrote in
     let there = memory-there h.space h.chunks lane at.0 can.ready.layout can.ready.apart can.ready.lane_within can.of.there in
@@ -264,7 +269,7 @@ done-field h k hs lane serial target at index word op reply can wrote fits effec
             ap (λ (x : State × Reply). x.1) f.3,
             subst (λ (xs : List ℕ). StandsAs k hs xs (act state lane op).0) (sym (same_serials serials lane serial e))
                 (subst (λ (x : State). StandsAs k hs serials x) (sym (ap (λ (x : State × Reply). x.0) f.3))
-                (subst (λ (r : RootWords). StandsAs (view_of k.space r k.chunks k.buffers) hs serials (with_field state (birth_of (cell_of h.space (own_chunk h lane) at.0).head) index f.0)) (sym (written-roots h k lane at index word wrote))
+                (subst (λ (r : RootWords). StandsAs (view_of k.space r k.chunks k.buffers) hs serials (with_born_field state (birth_of (cell_of h.space (own_chunk h lane) at.0).head) index f.0)) (sym (written-roots h k lane at index word wrote))
                 (stands-field h.space k.space h.roots h.chunks k.chunks hs serials state at.0 index (cell_of h.space (own_chunk h lane) at.0) word f.0 means is there (ap length leaves.chunks ∙ length-set h.chunks lane (own_chunk k lane)) f.2 fits f.1))),
           );
       running = λ none. written-runs h k hs lane target at index word can wrote;
@@ -278,7 +283,7 @@ done-field h k hs lane serial target at index word op reply can wrote fits effec
     }
 
 -- the object of a slot is written, or the operation changes nothing
-pub write-effect : (h : HeapView) (hs serials : List ℕ) (lane i : ℕ) (p : Slot) (target word : Word) (a : Address) (op : Op) (state : State) → MayOperate h hs lane → target ≡ slot_word h.roots p → IsOfLane h hs lane target a → ActsOnField h hs lane target i a → Writes h hs lane p i word op → StandsAs h hs serials state → (v : Value) × IsRead (whole_memory h) state word v × Reached state.slots state.made (birth_of (cell_of h.space (own_chunk h lane) a.0).head) × (act state lane op ≡ (with_field state (birth_of (cell_of h.space (own_chunk h lane) a.0).head) i v, Done))
+pub write-effect : (h : HeapView) (hs serials : List ℕ) (lane i : ℕ) (p : Slot) (target word : Word) (a : Address) (op : Op) (state : State) → MayOperate h hs lane → target ≡ slot_word h.roots p → IsOfLane h hs lane target a → ActsOnField h hs lane target i a → Writes h hs lane p i word op → StandsAs h hs serials state → (v : Value) × IsRead (whole_memory h) state word v × Reached state.slots state.made (birth_of (cell_of h.space (own_chunk h lane) a.0).head) × (act state lane op ≡ (with_born_field state (birth_of (cell_of h.space (own_chunk h lane) a.0).head) i v, Done))
 write-effect h hs serials lane i p target word a op state ready e of acts writes means =
     let c = cell_of h.space (own_chunk h lane) a.0 in
     let k = writes serials state means in
@@ -287,10 +292,10 @@ write-effect h hs serials lane i p target word a op state ready e of acts writes
       k.0,
       k.1,
       read.reached (birth_of c.head) (read-ref (whole_memory h) state target (slot_of state p) a c of.refers at read),
-      k.2 ∙ acts serials state (slot_of state p) means read (λ b. (with_field state b i k.0, Done)),
+      k.2 ∙ acts serials state (slot_of state p) means read (λ b. (with_born_field state b i k.0, Done)),
     )
 
 pub write-refuses : (h : HeapView) (hs : List ℕ) (lane i : ℕ) (p : Slot) (target word : Word) (op : Op) (r : Reply) → target ≡ slot_word h.roots p → RefusesField h hs lane target i r → Writes h hs lane p i word op → Answers h hs lane op r
 write-refuses h hs lane i p target word op r e refuses writes = λ serials state means.
     let k = writes serials state means in
-    k.2 ∙ refuses serials state (slot_of state p) means (word-read h hs serials state p target e means) (λ b. (with_field state b i k.0, Done))
+    k.2 ∙ refuses serials state (slot_of state p) means (word-read h hs serials state p target e means) (λ b. (with_born_field state b i k.0, Done))

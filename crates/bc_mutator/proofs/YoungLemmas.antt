@@ -2,22 +2,27 @@
 use Rattle.std.proofs.Common.{◌≡◌, ◌≢◌, ◌⊎◌, ℕ, ◌<◌, ◌≤◌, true, List, length, get_or, set, Option, Some, None, is_some, option_map, refl, sym, ap, subst, ◌∙◌, inl, inr, arith, get_or-set_same, get_or-set_other, length-set}
 use Rattle.std.proofs.lemmas.Bool.{cases_eq, cases_lt}
 use Rattle.std.proofs.lemmas.List.{set_past}
-use Rattle.bc_whole_heap.specs.Closed.{chunk_of, buffer_of, IsCellOrYoung, IsRecorded, IsClosedHeap}
-use Rattle.bc_whole_heap.specs.Heaps.{end_of, heap_memory, no_chunk, young, object_in, AreChunks, AreApart, view_of}
+use Rattle.bc_whole_heap.specs.Closed.{buffer_of, IsCellOrYoung, IsRecorded, IsClosedHeap}
+use Rattle.bc_whole_heap.specs.LaneChunks.{chunk_of}
+use Rattle.bc_whole_heap.specs.Heaps.{end_of, heap_memory, no_chunk, young, object_in}
+use Rattle.bc_whole_heap.specs.HeapFacts.{AreChunks, AreApart, view_of}
 use Rattle.bc_whole_heap.specs.Running.{IsRunning}
 use Rattle.bc_whole_heap.proofs.ChunkLemmas.{has-some, object_in-at, object_in-set, object_in-set_other}
 use Rattle.bc_whole_heap.proofs.HeapLemmas.{memory-below, memory-above}
-use Rattle.bc_memory.specs.Memory.{Cell, with_cell}
-use Rattle.bc_memory.specs.Memory as memory
+use Rattle.bc_memory.specs.Memory.{Cell}
+use Rattle.bc_memory.specs.MemoryChanges.{with_cell}
+use Rattle.bc_memory.specs.MemoryChanges as memory
 use Rattle.bc_memory.proofs.MemoryLemmas.{with_cell-is}
 use Rattle.bc_model.specs.declared.values.Birth.{Birth}
 use Rattle.bc_nursery.specs.Entries.{Entries}
-use Rattle.bc_nursery.specs.Objects.{ChunkObject, Nursery, IsChunk, has_object, the_object, object_at, object_or, changed, with_field}
+use Rattle.bc_nursery.specs.Objects.{IsChunk, has_object, the_object, object_or, changed, with_young_field}
+use Rattle.bc_nursery.specs.Nurseries.{ChunkObject, Nursery, object_at}
 use Rattle.bc_nursery.proofs.ObjectLemmas.{find-changed, find-kept}
 use Rattle.bc_standing.specs.Standing.{births}
 use Rattle.bc_standing.proofs.Writing.{births-with_cell}
 use Rattle.bc_superpages.specs.Kept.{IsLayout}
-use Rattle.bc_superpages.specs.Layout.{Layout, IsAllocated}
+use Rattle.bc_superpages.specs.Layout.{Layout}
+use Rattle.bc_superpages.specs.LayoutAt.{IsAllocated}
 use Rattle.bc_superpages.specs.RootWords.{RootWords}
 use Rattle.bc_word.specs.declared.addresses.Address.{Address}
 use Rattle.bc_word.specs.declared.heads.Head.{Head}
@@ -67,7 +72,7 @@ pub record YoungWrite (s : Layout) (r : RootWords) (cs ds : List Nursery) (bs : 
   pub behind : end_of s ≤ at
   pub on : has_object (chunk_of cs lane) at ≡ true
   pub own : IsOwn s (chunk_of cs lane) word
-  pub chunks : ds ≡ set cs lane (changed (chunk_of cs lane) at (with_field index word))
+  pub chunks : ds ≡ set cs lane (changed (chunk_of cs lane) at (with_young_field index word))
 
 some_mapped : (f : ChunkObject → ChunkObject) (p : Option ChunkObject) → is_some (option_map f p) ≡ is_some p
 some_mapped f None = refl
@@ -79,17 +84,17 @@ some_or f (Some o) e = refl
 
 module _ (s : Layout) (r : RootWords) (cs ds : List Nursery) (bs : List Entries) (hs : List ℕ) (lane at index : ℕ) (word : Word) (w : YoungWrite s r cs ds bs hs lane at index word) where
   -- the chunk as it was, and as it is
-  chunk-is : chunk_of ds lane ≡ changed (chunk_of cs lane) at (with_field index word)
-  chunk-is = chunk-own cs ds lane (changed (chunk_of cs lane) at (with_field index word)) w.lane_within w.chunks
+  chunk-is : chunk_of ds lane ≡ changed (chunk_of cs lane) at (with_young_field index word)
+  chunk-is = chunk-own cs ds lane (changed (chunk_of cs lane) at (with_young_field index word)) w.lane_within w.chunks
 
-  object-here : object_at (chunk_of ds lane) at ≡ option_map (with_field index word) (object_at (chunk_of cs lane) at)
-  object-here = ap (λ (c : Nursery). object_at c at) chunk-is ∙ find-changed (with_field index word) (λ o. refl) at (chunk_of cs lane).objects
+  object-here : object_at (chunk_of ds lane) at ≡ option_map (with_young_field index word) (object_at (chunk_of cs lane) at)
+  object-here = ap (λ (c : Nursery). object_at c at) chunk-is ∙ find-changed (with_young_field index word) (λ o. refl) at (chunk_of cs lane).objects
 
   object-there : (a : ℕ) → a ≢ at → object_at (chunk_of ds lane) a ≡ object_at (chunk_of cs lane) a
-  object-there a ne = ap (λ (c : Nursery). object_at c a) chunk-is ∙ find-kept (with_field index word) (λ o. refl) at a ne (chunk_of cs lane).objects
+  object-there a ne = ap (λ (c : Nursery). object_at c a) chunk-is ∙ find-kept (with_young_field index word) (λ o. refl) at a ne (chunk_of cs lane).objects
 
   object-other : (l a : ℕ) → l ≢ lane → object_at (chunk_of ds l) a ≡ object_at (chunk_of cs l) a
-  object-other l a ne = ap (λ (c : Nursery). object_at c a) (chunk-other cs ds lane l (changed (chunk_of cs lane) at (with_field index word)) w.chunks ne)
+  object-other l a ne = ap (λ (c : Nursery). object_at c a) (chunk-other cs ds lane l (changed (chunk_of cs lane) at (with_young_field index word)) w.chunks ne)
 
   -- every chunk has objects where it had them, with the same heads
   has-same : (l a : ℕ) → has_object (chunk_of ds l) a ≡ has_object (chunk_of cs l) a
@@ -97,14 +102,14 @@ module _ (s : Layout) (r : RootWords) (cs ds : List Nursery) (bs : List Entries)
     | inl here ↦ subst (λ (x : ℕ). has_object (chunk_of ds x) a ≡ has_object (chunk_of cs x) a) (sym here)
         (elim (cases_eq a at) [
           | inl same ↦ subst (λ (x : ℕ). has_object (chunk_of ds lane) x ≡ has_object (chunk_of cs lane) x) (sym same)
-              (ap is_some object-here ∙ some_mapped (with_field index word) (object_at (chunk_of cs lane) at))
+              (ap is_some object-here ∙ some_mapped (with_young_field index word) (object_at (chunk_of cs lane) at))
           | inr away ↦ ap is_some (object-there a away)
         ])
     | inr ne ↦ ap is_some (object-other l a ne)
   ]
 
-  the-here : the_object (chunk_of ds lane) at ≡ with_field index word (the_object (chunk_of cs lane) at)
-  the-here = ap object_or object-here ∙ some_or (with_field index word) (object_at (chunk_of cs lane) at) w.on
+  the-here : the_object (chunk_of ds lane) at ≡ with_young_field index word (the_object (chunk_of cs lane) at)
+  the-here = ap object_or object-here ∙ some_or (with_young_field index word) (object_at (chunk_of cs lane) at) w.on
 
   head-same : (l a : ℕ) → (the_object (chunk_of ds l) a).head ≡ (the_object (chunk_of cs l) a).head
   head-same l a = elim (cases_eq l lane) [
@@ -152,7 +157,7 @@ module _ (s : Layout) (r : RootWords) (cs ds : List Nursery) (bs : List Entries)
   named-kept l a k b (inr on) = inr (has-same l b.0 ∙ on.0, on.1)
 
   length-same : length ds ≡ length cs
-  length-same = length-chunks cs ds lane (changed (chunk_of cs lane) at (with_field index word)) w.chunks
+  length-same = length-chunks cs ds lane (changed (chunk_of cs lane) at (with_young_field index word)) w.chunks
 
   young-closed : IsClosedHeap (view_of s r ds bs) hs
   young-closed =
@@ -176,20 +181,20 @@ module _ (s : Layout) (r : RootWords) (cs ds : List Nursery) (bs : List Entries)
   -- the heap as a memory
   pub young-memory : heap_memory s ds ≡ with_cell (heap_memory s cs) at (Some (memory.with_field (cell_of s (chunk_of cs lane) at) index word))
   young-memory =
-      let is : object_in ds at ≡ option_map (with_field index word) (object_in cs at) =
+      let is : object_in ds at ≡ option_map (with_young_field index word) (object_in cs at) =
       ap (λ (xs : List Nursery). object_in xs at) w.chunks
-      ∙ object_in-set cs at lane (with_field index word) (λ o. refl) w.lane_within w.on (λ k lt. w.apart.first k lane at lt w.lane_within w.on) in
+      ∙ object_in-set cs at lane (with_young_field index word) (λ o. refl) w.lane_within w.on (λ k lt. w.apart.first k lane at lt w.lane_within w.on) in
       let was : object_in cs at ≡ Some (the_object (chunk_of cs lane) at) =
       object_in-at cs at lane w.lane_within w.on (λ k lt. w.apart.first k lane at lt w.lane_within w.on) ∙ has-some (chunk_of cs lane) at w.on in
       with_cell-is (heap_memory s cs) (heap_memory s ds) at (Some (memory.with_field (cell_of s (chunk_of cs lane) at) index word))
-      (memory-above s ds at w.behind ∙ ap (option_map young) (is ∙ ap (option_map (with_field index word)) was)
+      (memory-above s ds at w.behind ∙ ap (option_map young) (is ∙ ap (option_map (with_young_field index word)) was)
       ∙ ap (λ (x : Cell). Some (memory.with_field x index word)) (sym (cell_of-above s (chunk_of cs lane) at w.behind)))
       (λ x ne. elim (cases_lt x (end_of s)) [
         | inl lt ↦ memory-below s ds x lt ∙ sym (memory-below s cs x lt)
         | inr out ↦
             memory-above s ds x out
             ∙ ap (λ (xs : List Nursery). option_map young (object_in xs x)) w.chunks
-            ∙ ap (option_map young) (object_in-set_other cs at x lane (with_field index word) (λ o. refl) w.lane_within ne)
+            ∙ ap (option_map young) (object_in-set_other cs at x lane (with_young_field index word) (λ o. refl) w.lane_within ne)
             ∙ sym (memory-above s cs x out)
       ])
 
@@ -207,7 +212,7 @@ module _ (s : Layout) (r : RootWords) (cs ds : List Nursery) (bs : List Entries)
         none_promised = w.run.none_promised;
         laid = (
           w.run.laid.0,
-          laid-kept (end_of s) w.run.laid.0 cs ds lane (changed (chunk_of cs lane) at (with_field index word)) w.lane_within w.chunks refl refl w.run.laid.1,
+          laid-kept (end_of s) w.run.laid.0 cs ds lane (changed (chunk_of cs lane) at (with_young_field index word)) w.lane_within w.chunks refl refl w.run.laid.1,
         );
         once = λ a x b e f. w.run.once a x b (sym (ap (λ (g : ℕ → Option Birth). g a) same) ∙ e) (sym (ap (λ (g : ℕ → Option Birth). g x) same) ∙ f);
         closed = young-closed;

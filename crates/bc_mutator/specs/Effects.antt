@@ -2,10 +2,12 @@
 use Rattle.std.specs.Prelude.{◌≡◌, ◌≢◌, ◌⊎◌, ℕ, ◌+◌, ◌/◌, ◌<◌, ◌≤◌, List, [], ◌∷◌, ◌++◌, length, replicate, slice_index, slice_set, Some, None}
 use Rattle.bc_whole_heap.specs.Closed.{buffer_of}
 use Rattle.bc_whole_heap.specs.Heaps.{HeapView, end_of}
-use Rattle.bc_whole_heap.specs.Running.{IsRunning, StandsAs}
-use Rattle.bc_memory.specs.Memory.{Cell, Memory, with_cell, with_field}
+use Rattle.bc_whole_heap.specs.Running.{IsRunning}
+use Rattle.bc_whole_heap.specs.LaneStates.{StandsAs}
+use Rattle.bc_memory.specs.Memory.{Cell, Memory}
+use Rattle.bc_memory.specs.MemoryChanges.{with_cell, with_field}
 use Rattle.bc_model.specs.State.{State, slot_of}
-use Rattle.bc_model.specs.State.{with_field as value_in_field}
+use Rattle.bc_model.specs.State.{with_born_field as value_in_field}
 use Rattle.bc_model.specs.Step.{act, step, on_field}
 use Rattle.bc_model.specs.declared.operations.Op.{Op}
 use Rattle.bc_model.specs.declared.operations.Op.TheVariants.{New, Who, Len, Set, Cut, Link, Load, Copy, Clear, Same}
@@ -14,16 +16,18 @@ use Rattle.bc_model.specs.declared.operations.Reply.TheVariants.{Done, Foreign, 
 use Rattle.bc_model.specs.declared.values.Slot.{Slot}
 use Rattle.bc_model.specs.declared.values.Value.{Value}
 use Rattle.bc_nursery.specs.Entries.{Entries}
-use Rattle.bc_nursery.specs.Objects.{Nursery}
+use Rattle.bc_nursery.specs.Nurseries.{Nursery}
 use Rattle.bc_nursery.specs.Objects as nursery
 use Rattle.bc_superpages.specs.declared.headers.PageState.{PageState}
 use Rattle.bc_superpages.specs.declared.headers.PageState.TheVariants.{Remembered}
 use Rattle.bc_superpages.specs.Kept.{IsLayout}
-use Rattle.bc_superpages.specs.Layout.{Layout, content_at, state_at, with_state, with_word}
+use Rattle.bc_superpages.specs.Layout.{Layout, content_at}
+use Rattle.bc_superpages.specs.LayoutAt.{state_at, with_state, with_word}
 use Rattle.bc_superpages.specs.Memory as cells
-use Rattle.bc_superpages.specs.RootWords.{RootWords, root_place, with_note}
+use Rattle.bc_superpages.specs.RootWords.{RootWords}
+use Rattle.bc_superpages.specs.RootSlots.{root_place, with_note}
 use Rattle.bc_word.specs.Addresses.{page_of}
-use Rattle.bc_word.specs.Words.{word_bits}
+use Rattle.bc_word.specs.WordBits.{word_bits}
 use Rattle.bc_word.specs.declared.addresses.Address.{Address}
 use Rattle.bc_word.specs.declared.words.Word.{Word}
 use Rattle.bc_word.specs.declared.heads.Head.{Head}
@@ -197,7 +201,7 @@ pub record WritesCell (s t : Layout) (c d : Nursery) (b e : Entries) (at : Addre
 
 pub record WritesYoung (s t : Layout) (c d : Nursery) (b e : Entries) (at : Address) (index : ℕ) (word : Word) : Type 0 where
   pub behind : end_of s ≤ at.0
-  pub chunk : d ≡ nursery.changed c at.0 (nursery.with_field index word)
+  pub chunk : d ≡ nursery.changed c at.0 (nursery.with_young_field index word)
   pub space : t ≡ s
   pub buffer : e ≡ b
 
@@ -213,7 +217,7 @@ pub record WroteMature (old new : HeapView) (lane : ℕ) (at : Address) (index :
 
 pub record WroteYoung (old new : HeapView) (lane : ℕ) (at : Address) (index : ℕ) (word : Word) : Type 0 where
   pub behind : end_of old.space ≤ at.0
-  pub chunks : new.chunks ≡ slice_set old.chunks lane (nursery.changed (own_chunk old lane) at.0 (nursery.with_field index word))
+  pub chunks : new.chunks ≡ slice_set old.chunks lane (nursery.changed (own_chunk old lane) at.0 (nursery.with_young_field index word))
   pub rest : new ≡ record old { chunks = new.chunks }
 
 abbrev pub Wrote : HeapView → HeapView → ℕ → Address → ℕ → Word → Type 0

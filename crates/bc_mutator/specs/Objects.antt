@@ -1,8 +1,11 @@
 -- The objects that an operation of a lane may look at: allocated cells, and objects of the lane's own chunk.
 use Rattle.std.specs.Prelude.{◌≡◌, ℕ, ◌<◌, ◌≤◌, nat_lt, if◌then◌else◌, true, List, length, slice_index, Some}
-use Rattle.bc_whole_heap.specs.Closed.{chunk_of, IsCellOrYoung}
-use Rattle.bc_whole_heap.specs.Heaps.{HeapView, end_of, heap_memory, young, AreApart}
-use Rattle.bc_whole_heap.specs.Running.{IsRunning, StandsAs}
+use Rattle.bc_whole_heap.specs.Closed.{IsCellOrYoung}
+use Rattle.bc_whole_heap.specs.LaneChunks.{chunk_of}
+use Rattle.bc_whole_heap.specs.Heaps.{HeapView, end_of, heap_memory, young}
+use Rattle.bc_whole_heap.specs.HeapFacts.{AreApart}
+use Rattle.bc_whole_heap.specs.Running.{IsRunning}
+use Rattle.bc_whole_heap.specs.LaneStates.{StandsAs}
 use Rattle.bc_memory.specs.Memory.{Cell, Memory}
 use Rattle.bc_model.specs.Reached.{Reached}
 use Rattle.bc_model.specs.State.{State}
@@ -13,12 +16,14 @@ use Rattle.bc_model.specs.declared.values.Birth.{Birth}
 use Rattle.bc_model.specs.declared.values.Slot.{Slot}
 use Rattle.bc_model.specs.declared.values.Value.{Value}
 use Rattle.bc_model.specs.declared.values.Value.TheVariants.{Obj}
-use Rattle.bc_nursery.specs.Objects.{Nursery, IsChunk, has_object, the_object}
+use Rattle.bc_nursery.specs.Objects.{IsChunk, has_object, the_object}
+use Rattle.bc_nursery.specs.Nurseries.{Nursery}
 use Rattle.bc_standing.specs.Standing.{birth_of, births, read}
 use Rattle.bc_superpages.specs.Kept.{IsLayout}
 use Rattle.bc_superpages.specs.Layout.{Layout}
 use Rattle.bc_superpages.specs.Memory as space
-use Rattle.bc_superpages.specs.RootWords.{RootWords, root_at}
+use Rattle.bc_superpages.specs.RootWords.{RootWords}
+use Rattle.bc_superpages.specs.RootSlots.{root_at}
 use Rattle.bc_word.specs.declared.addresses.Address.{Address}
 use Rattle.bc_word.specs.declared.words.Word.{Word}
 use Rattle.bc_word.specs.declared.words.Word.TheVariants.{Nil, Num, Ref}

@@ -10,11 +10,14 @@ use Rattle.bc_model.specs.declared.traces.Setup.{Setup}
 use Rattle.bc_model.specs.declared.values.Birth.{Birth}
 use Rattle.bc_model.specs.declared.values.Slot.{Slot}
 use Rattle.bc_nursery.specs.Entries.{Entries}
-use Rattle.bc_nursery.specs.Objects.{Nursery, has_object}
+use Rattle.bc_nursery.specs.Objects.{has_object}
+use Rattle.bc_nursery.specs.Nurseries.{Nursery}
 use Rattle.bc_standing.specs.Standing.{births}
-use Rattle.bc_superpages.specs.Layout.{Layout, IsAllocated}
+use Rattle.bc_superpages.specs.Layout.{Layout}
+use Rattle.bc_superpages.specs.LayoutAt.{IsAllocated}
 use Rattle.bc_superpages.specs.Memory as cells
-use Rattle.bc_superpages.specs.RootWords.{RootWords, root_at}
+use Rattle.bc_superpages.specs.RootWords.{RootWords}
+use Rattle.bc_superpages.specs.RootSlots.{root_at}
 use Rattle.bc_word.specs.declared.addresses.Address.{Address}
 use Rattle.bc_word.specs.declared.words.Word.TheVariants.{Ref}
 use Rattle.bc_word.specs.Words.{word_of_bits}

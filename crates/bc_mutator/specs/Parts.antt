@@ -6,11 +6,12 @@ use Rattle.bc_model.specs.declared.operations.Op.{Op}
 use Rattle.bc_model.specs.declared.operations.Op.TheVariants.{New, Who, Len, Set, Cut, Link, Load, Copy, Clear, Same}
 use Rattle.bc_model.specs.declared.values.Slot.{Slot}
 use Rattle.bc_nursery.specs.Entries.{Entries}
-use Rattle.bc_nursery.specs.Objects.{Nursery}
+use Rattle.bc_nursery.specs.Nurseries.{Nursery}
 use Rattle.bc_superpages.specs.declared.headers.PageState.TheVariants.{Remembered}
 use Rattle.bc_superpages.specs.Calls.{fields_at}
 use Rattle.bc_superpages.specs.Kept.{IsLayout}
-use Rattle.bc_superpages.specs.Layout.{Layout, IsAllocated, state_at}
+use Rattle.bc_superpages.specs.Layout.{Layout}
+use Rattle.bc_superpages.specs.LayoutAt.{IsAllocated, state_at}
 use Rattle.bc_superpages.specs.RootWords.{RootWords}
 use Rattle.bc_whole_heap.specs.Closed.{buffer_of, IsCellOrYoung}
 use Rattle.bc_whole_heap.specs.Heaps.{HeapView, end_of}

@@ -4,7 +4,7 @@ ghost use Rattle.std.specs.Prelude.{◌≡◌, ℕ, slice_index, IfOk, IfErr, On
 ghost use Rattle.bc_model.specs.declared.operations.Op.{Op};
 ghost use Rattle.bc_model.specs.declared.operations.Op.TheVariants.{Set, Cut, Link};
 ghost use Rattle.bc_whole_heap.specs.Heaps.{HeapView};
-ghost use Rattle.bc_word.specs.Words.{FitsWord};
+ghost use Rattle.bc_word.specs.WordBits.{FitsWord};
 ghost use Rattle.bc_mutator.specs.Effects.{DidAct, IsWrite, StopsAt};
 ghost use Rattle.bc_mutator.specs.Operations.{NeedsEntry};
 ghost use Rattle.bc_mutator.specs.Parts.{IsPartOf, Serves, ServesField, SlotLeadsToHand};

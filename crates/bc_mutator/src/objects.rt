@@ -1,7 +1,7 @@
 //! The object that a word of the lane's refers to, or the reply that says what is wrong.
 
 ghost use Rattle.std.specs.Prelude.{◌<◌, IfOk, IfErr, OnErr};
-ghost use Rattle.bc_model.specs.Step.{IsRefusal};
+ghost use Rattle.bc_model.specs.Refusals.{IsRefusal};
 ghost use Rattle.bc_whole_heap.specs.Heaps.{HeapView};
 ghost use Rattle.bc_mutator.specs.Objects.{IsOfLane, ActsOn, Refuses, ActsOnField, RefusesField, cell_of};
 ghost use Rattle.bc_mutator.specs.Parts.{HasWord, IsInHand, LeadsToHand};

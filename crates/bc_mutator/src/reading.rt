@@ -4,7 +4,7 @@ ghost use Rattle.std.specs.Prelude.{◌≡◌, ◌<◌, ◌≤◌, slice_index_o
 ghost use Rattle.bc_superpages.specs.Layout.{Layout};
 ghost use Rattle.bc_whole_heap.specs.Closed.{IsCellOrYoung};
 ghost use Rattle.bc_whole_heap.specs.Heaps.{end_of};
-ghost use Rattle.bc_word.specs.Words.{FitsWord};
+ghost use Rattle.bc_word.specs.WordBits.{FitsWord};
 ghost use Rattle.bc_word.specs.declared.words.Word.TheVariants.{Nil};
 ghost use Rattle.bc_mutator.specs.Objects.{cell_of};
 ghost use Rattle.bc_mutator.specs.Parts.{IsInHand, IsSpaceOf};

@@ -3,7 +3,7 @@
 ghost use Rattle.std.specs.Prelude.{◌≡◌, ℕ};
 ghost use Rattle.bc_model.specs.WellFormed.{IsSlot};
 ghost use Rattle.bc_superpages.specs.RootWords.{RootWords};
-ghost use Rattle.bc_word.specs.Words.{FitsWord};
+ghost use Rattle.bc_word.specs.WordBits.{FitsWord};
 ghost use Rattle.bc_mutator.specs.Effects.{with_root};
 ghost use Rattle.bc_mutator.specs.Objects.{slot_word};
 ghost use Rattle.bc_mutator.specs.Operations.{setup_of};

@@ -5,7 +5,7 @@ ghost use Rattle.bc_model.specs.WellFormed.{IsSlot};
 ghost use Rattle.bc_model.specs.declared.operations.Op.TheVariants.{Copy, Clear, Load};
 ghost use Rattle.bc_superpages.specs.RootWords.{RootWords};
 ghost use Rattle.bc_whole_heap.specs.Heaps.{HeapView};
-ghost use Rattle.bc_word.specs.Words.{FitsWord};
+ghost use Rattle.bc_word.specs.WordBits.{FitsWord};
 ghost use Rattle.bc_word.specs.declared.words.Word.TheVariants.{Nil};
 ghost use Rattle.bc_mutator.specs.Effects.{DidAct, with_root};
 ghost use Rattle.bc_mutator.specs.Objects.{loaded_as, slot_word};

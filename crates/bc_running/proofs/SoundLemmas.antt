@@ -6,13 +6,15 @@ use Rattle.bc_cycle.specs.Causes.{IfOutOfHeap}
 use Rattle.bc_cycle.specs.Emptying.{IsEmptied, IsAsBefore}
 use Rattle.bc_cycle.specs.declared.emptying.CycleNo.{CycleNo}
 use Rattle.bc_cycle.specs.declared.emptying.CycleNo.TheVariants.{OutOfHeap, NoMemory}
-use Rattle.bc_whole_heap.specs.Heaps.{HasFrames, HeapView, Fixed}
+use Rattle.bc_whole_heap.specs.Heaps.{HeapView}
+use Rattle.bc_whole_heap.specs.HeapFacts.{HasFrames, Fixed}
 use Rattle.bc_whole_heap.specs.Running.{IsRunning}
 use Rattle.bc_memory.specs.Memory.{Memory}
 use Rattle.bc_mutator.specs.Operations.{NoneLater}
 use Rattle.bc_nursery.specs.Objects.{emptied}
 use Rattle.bc_standing.specs.Standing.{births}
-use Rattle.bc_running.specs.Running.{IsSound, Collects, RunningView, running_of}
+use Rattle.bc_running.specs.Running.{RunningView}
+use Rattle.bc_running.specs.RunningFacts.{IsSound, Collects, running_of}
 
 -- after a collection
 pub sound-collected : (r : RunningView) (k : HeapView) → IsSound r → Collects r.heap k r.holders → IsSound (running_of k r.holders r.serials)

@@ -11,12 +11,15 @@ use Rattle.bc_model.specs.declared.operations.Op.TheVariants.{New, Who, Len, Set
 use Rattle.bc_model.specs.declared.operations.Reply.{Reply}
 use Rattle.bc_model.specs.declared.values.Slot.{Slot}
 use Rattle.bc_nursery.specs.Entries.{Entries}
-use Rattle.bc_nursery.specs.Objects.{Nursery}
+use Rattle.bc_nursery.specs.Nurseries.{Nursery}
 use Rattle.bc_superpages.specs.Headers.{is_resident}
-use Rattle.bc_superpages.specs.Layout.{Layout, state_at}
+use Rattle.bc_superpages.specs.Layout.{Layout}
+use Rattle.bc_superpages.specs.LayoutAt.{state_at}
 use Rattle.bc_superpages.specs.RootWords.{RootWords}
-use Rattle.bc_whole_heap.specs.Closed.{buffer_of, chunk_of, no_buffer}
-use Rattle.bc_whole_heap.specs.Heaps.{HeapView, end_of, no_chunk, view_of}
+use Rattle.bc_whole_heap.specs.Closed.{buffer_of, no_buffer}
+use Rattle.bc_whole_heap.specs.LaneChunks.{chunk_of}
+use Rattle.bc_whole_heap.specs.Heaps.{HeapView, end_of, no_chunk}
+use Rattle.bc_whole_heap.specs.HeapFacts.{view_of}
 use Rattle.bc_word.specs.Addresses.{page_of}
 use Rattle.bc_word.specs.declared.addresses.Address.{Address}
 use Rattle.bc_word.specs.declared.words.Word.TheVariants.{Ref}

@@ -7,10 +7,11 @@ ghost use Rattle.bc_model.specs.Step.{step};
 ghost use Rattle.bc_mutator.specs.Effects.{IsChangedBy, IsRecordedBy};
 ghost use Rattle.bc_mutator.specs.Operations.{IsOpOf, NeedsEntry, WantsMore};
 ghost use Rattle.bc_nursery.specs.Objects.{left_of};
-ghost use Rattle.bc_whole_heap.specs.Closed.{buffer_of, chunk_of};
+ghost use Rattle.bc_whole_heap.specs.Closed.{buffer_of};
+ghost use Rattle.bc_whole_heap.specs.LaneChunks.{chunk_of};
 ghost use Rattle.bc_whole_heap.specs.Heaps.{heap_memory};
-ghost use Rattle.bc_whole_heap.specs.Running.{StandsAs};
-ghost use Rattle.bc_running.specs.Running.{IsSound, StaysBut, running_of};
+ghost use Rattle.bc_whole_heap.specs.LaneStates.{StandsAs};
+ghost use Rattle.bc_running.specs.RunningFacts.{IsSound, StaysBut, running_of};
 
 use crate::whole::operate;
 use bc_cycle::Heap;

@@ -2,7 +2,7 @@
 use Rattle.std.proofs.Common.{◌≡◌, ℕ, ◌+◌, ◌≤◌, List, length, Result, Ok, Err, refl, ap, subst, ◌∙◌, inl, inr}
 use Rattle.std.specs.Prelude.{◌⊎◌, IfOk, IfErr, IsErrAnd, MatchResult}
 use Rattle.bc_model.specs.Lists.{TraceLists}
-use Rattle.bc_model.specs.Run.{all_ops_of}
+use Rattle.bc_model.specs.RunLengths.{all_ops_of}
 use Rattle.bc_trace.specs.declared.fault.Cause.{Cause}
 use Rattle.bc_trace.specs.declared.fault.ReadTrace.{ReadTrace}
 use Rattle.bc_trace.specs.declared.fault.ReadTrace.TheVariants as answers

@@ -17,7 +17,8 @@ use Rattle.bc_trace.specs.declared.words.Verb.TheVariants as verbs
 use Rattle.bc_trace.specs.declared.words.Keyword.{Keyword}
 use Rattle.bc_trace.specs.declared.words.Keyword.TheVariants as words
 use Rattle.bc_trace.specs.Lines.{Line, version, setting, phase, turn, lane, op, give, end, done, word_of_line, verb_of_op}
-use Rattle.bc_trace.specs.Grammar.{start, may_stand, same_setting, arity, MayStand, Passes, after, after_all, Follow, Begins, GoesOnWith}
+use Rattle.bc_trace.specs.Grammar.{start, may_stand, same_setting, arity, MayStand, Passes, after, after_all, Follow}
+use Rattle.bc_trace.specs.Fronts.{Begins, GoesOnWith}
 use Rattle.bc_trace.specs.Drafts.{DraftLists, empty_draft}
 use Rattle.bc_trace.specs.Reading.{trace_of_draft}
 use Rattle.bc_trace.proofs.ReadOfFault.{put_all, put_all-state}

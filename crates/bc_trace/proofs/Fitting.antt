@@ -4,9 +4,11 @@ use Rattle.std.proofs.Common.{ℕ, zero, suc, ◌+◌, ◌^◌, ◌<◌, ◌≤�
 use Rattle.std.specs.Prelude.{if◌then◌else◌, sum_by}
 use Rattle.std.specs.List.{AllByRecursion, list_all}
 use Rattle.std.proofs.lemmas.List.Sums.{sum_by-cons}
-use Rattle.bc_model.specs.Consistent.{IsState, IsValue, HasSerials, sizes_of}
+use Rattle.bc_model.specs.Consistent.{IsState, IsValue}
+use Rattle.bc_model.specs.StateSizes.{HasSerials, sizes_of}
 use Rattle.bc_model.specs.Lists.{PhaseLists, TraceLists}
-use Rattle.bc_model.specs.Run.{opening, after_ops, after_phase, replies_to, replies_to_lanes, replies_of_phases, replies_of, replies_of_cut, ops_of, all_ops_of}
+use Rattle.bc_model.specs.Run.{opening, after_ops, after_phase, replies_to, replies_to_lanes, replies_of_phases, replies_of_cut}
+use Rattle.bc_model.specs.RunLengths.{replies_of, ops_of, all_ops_of}
 use Rattle.bc_model.specs.State.{State, IsBorn, object_of, slot_of, field_of, holds}
 use Rattle.bc_model.specs.Step.{act, domains_of, on_object, on_field, step, told, loaded, is_same}
 use Rattle.bc_model.specs.WellFormed.{IsOp, IsPhase, IsTrace}
@@ -25,7 +27,7 @@ use Rattle.bc_model.proofs.Openings.{IsState-opening, HasSizes-opening, HasSeria
 use Rattle.bc_model.proofs.RunStates.{OfSetup, OfSetup-after_phase}
 use Rattle.bc_model.proofs.Serials.{HasSerials-less, HasSerials-step, HasSerials-after_ops, HasSerials-after_phase}
 use Rattle.bc_model.proofs.Steps.{SameSizes-step, IsState-step, IsOps-same}
-use Rattle.bc_trace.specs.Replies.{FitsReply, FitsPhase}
+use Rattle.bc_trace.specs.ReplyRanges.{FitsReply, FitsPhase}
 
 -- the numbers that a reply tells have few digits
 abbrev pub IsShort : Reply → Type 0

@@ -5,7 +5,7 @@ use Rattle.std.specs.Prelude.{sum_by}
 use Rattle.std.proofs.lemmas.List.{length-append, length-map}
 use Rattle.std.proofs.lemmas.List.Sums.{sum_by-cons}
 use Rattle.bc_model.specs.Lists.{PhaseLists, TraceLists}
-use Rattle.bc_model.specs.Run.{ops_of, all_ops_of}
+use Rattle.bc_model.specs.RunLengths.{ops_of, all_ops_of}
 use Rattle.bc_model.specs.declared.operations.Op.{Op}
 use Rattle.bc_trace.specs.Lines.{Line, turn, op, give, end, done, word_of_line, operands, lane_lines, phase_lines, trace_lines, trace_text, spelling, line_text, Spells}
 

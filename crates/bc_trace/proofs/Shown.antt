@@ -14,7 +14,8 @@ use Rattle.bc_model.specs.declared.operations.Reply.{Reply}
 use Rattle.bc_model.specs.declared.operations.Reply.TheVariants as replies
 use Rattle.bc_model.specs.declared.values.Birth.{Birth}
 use Rattle.bc_trace.specs.Reading.{read_on}
-use Rattle.bc_trace.specs.Replies.{reply_word, reply_text, lane_text, lanes_text, phase_text, phases_text, done_text, out_of_heap_text, FitsReply, FitsPhase, IsLastLine}
+use Rattle.bc_trace.specs.Replies.{reply_word, reply_text, lane_text, lanes_text, phase_text, phases_text, done_text, out_of_heap_text}
+use Rattle.bc_trace.specs.ReplyRanges.{FitsReply, FitsPhase, IsLastLine}
 use Rattle.bc_trace.proofs.Meaning.{own}
 
 -- ---- digits

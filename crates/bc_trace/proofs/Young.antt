@@ -4,7 +4,7 @@ use Rattle.std.proofs.Common.{◌≡◌, ◌≢◌, ℕ, ◌+◌, ◌-◌, ◌<�
 use Rattle.std.specs.List.{list_all}
 use Rattle.std.proofs.lemmas.Bool.{and_parts, cases_eq, cases_lt}
 use Rattle.std.proofs.lemmas.List.{get_or_append_left, get_or_push, get_or_past, length_push, get_or-replicate, length-replicate}
-use Rattle.bc_model.specs.State.{State, Object, made_by, object_of, no_object, next_birth, place_of, slot_of, field_of, with_slot, with_value, with_field, with_made, holds}
+use Rattle.bc_model.specs.State.{State, Object, made_by, object_of, no_object, next_birth, place_of, slot_of, field_of, with_slot, with_value, with_born_field, with_made, holds}
 use Rattle.bc_model.specs.Step.{step, act, domains_of, on_object, on_field}
 use Rattle.bc_model.specs.WellFormed.{IsSlot, IsOp}
 use Rattle.bc_model.specs.declared.operations.Op.{Op}
@@ -74,7 +74,7 @@ clean-put old readable s p v c young = record {
 }
 
 -- a field
-clean-write : (old : List (List Object)) (readable : Slot → Type 0) (s : State) (b : Birth) (i : ℕ) (v : Value) → Clean old readable s → Young old b → Refers (Young old) v → Clean old readable (with_field s b i v)
+clean-write : (old : List (List Object)) (readable : Slot → Type 0) (s : State) (b : Birth) (i : ℕ) (v : Value) → Clean old readable s → Young old b → Refers (Young old) v → Clean old readable (with_born_field s b i v)
 clean-write old readable s b i v c own young =
     let o : Object = with_value (object_of s.made b) i v in
     let xs : List Object = set (made_by s.made b.lane) (b.serial - 1) o in
@@ -198,7 +198,7 @@ pub record Makes (j most : ℕ) (s t : State) : Type 0 where
 makes-none : (j most : ℕ) (s t : State) → ((l : ℕ) → length (made_by t.made l) ≡ length (made_by s.made l)) → Makes j most s t
 makes-none j most s t h = record { own = λ l. omega (arith, h l); others = λ l ne. h l }
 
-written-length : (s : State) (b : Birth) (i : ℕ) (v : Value) (l : ℕ) → length (made_by (with_field s b i v).made l) ≡ length (made_by s.made l)
+written-length : (s : State) (b : Birth) (i : ℕ) (v : Value) (l : ℕ) → length (made_by (with_born_field s b i v).made l) ≡ length (made_by s.made l)
 written-length s b i v l =
     let o : Object = with_value (object_of s.made b) i v in
     set-either (λ ys. length ys ≡ length (made_by s.made l)) s.made b.lane (set (made_by s.made b.lane) (b.serial - 1) o) l []
@@ -210,8 +210,8 @@ makes-step s j o = step-keeps (Makes j (new_of o) s) s j o (makes-none j (new_of
     same : (o : Op) → Makes j (new_of o) s s
     same o = makes-none j (new_of o) s s (λ l. refl)
 
-    written : (o : Op) (b : Birth) (i : ℕ) (v : Value) → Makes j (new_of o) s (with_field s b i v)
-    written o b i v = makes-none j (new_of o) s (with_field s b i v) (written-length s b i v)
+    written : (o : Op) (b : Birth) (i : ℕ) (v : Value) → Makes j (new_of o) s (with_born_field s b i v)
+    written o b i v = makes-none j (new_of o) s (with_born_field s b i v) (written-length s b i v)
 
     go : (o : Op) → Makes j (new_of o) s (act s j o).0
     go (op.New p n) =
@@ -231,7 +231,7 @@ makes-step s j o = step-keeps (Makes j (new_of o) s) s j o (makes-none j (new_of
     go (op.Clear p) = makes-none j 0 s (with_slot s p Nil) (λ l. refl)
     go (op.Same p q) = same (op.Same p q)
 
-written-small : (s : State) (b : Birth) (i : ℕ) (v : Value) → AreSmall s → AreSmall (with_field s b i v)
+written-small : (s : State) (b : Birth) (i : ℕ) (v : Value) → AreSmall s → AreSmall (with_born_field s b i v)
 written-small s b i v h d =
     let o : Object = with_value (object_of s.made b) i v in
     set-either (λ ys. length (get_or ys (d.serial - 1) no_object).fields < 8) s.made b.lane (set (made_by s.made b.lane) (b.serial - 1) o) d.lane []

@@ -1,8 +1,7 @@
 -- Which lines may stand where, and what they may say.
-use Rattle.std.specs.Prelude.{◌≡◌, ℕ, ◌+◌, ◌*◌, ◌^◌, ◌<◌, ◌≤◌, ◌==◌, Bool, true, false, not, ⊤, List, [], ◌∷◌, length, ◌++◌}
+use Rattle.std.specs.Prelude.{◌≡◌, ℕ, ◌+◌, ◌*◌, ◌^◌, ◌<◌, ◌≤◌, ◌==◌, Bool, true, false, not, ⊤, List, [], ◌∷◌, length}
 use Rattle.std.specs.List.{AllByRecursion}
-use Rattle.bc_model.specs.Lists.{TraceLists}
-use Rattle.bc_model.specs.WellFormed.{IsWithin, IsNumber, IsOp, IsGive, IsTrace}
+use Rattle.bc_model.specs.WellFormed.{IsWithin, IsNumber, IsOp, IsGive}
 use Rattle.bc_model.specs.declared.traces.Setup.{Setup}
 use Rattle.bc_trace.specs.declared.grammar.Stage.{Stage}
 use Rattle.bc_trace.specs.declared.grammar.Stage.TheVariants as stages
@@ -12,7 +11,7 @@ use Rattle.bc_trace.specs.declared.words.Setting.TheVariants as settings
 use Rattle.bc_trace.specs.declared.words.Verb.TheVariants as verbs
 use Rattle.bc_trace.specs.declared.words.Keyword.{Keyword}
 use Rattle.bc_trace.specs.declared.words.Keyword.TheVariants as words
-use Rattle.bc_trace.specs.Lines.{Line, version, setting, phase, turn, lane, op, give, end, done, word_of_line, operands, trace_lines}
+use Rattle.bc_trace.specs.Lines.{Line, version, setting, phase, turn, lane, op, give, end, done, word_of_line, operands}
 
 -- before the first line
 abbrev pub start : Progress
@@ -144,16 +143,3 @@ after_all s (l ∷ ls) = after_all (after l s) ls
 abbrev pub Follow : Progress → List Line → Type 0
 Follow s [] = ⊤
 Follow s (l ∷ ls) = Passes s l × Follow (after l s) ls
-
--- these are the first lines of some well-formed trace
-pub record Begins (ls : List Line) : Type 0 where
-  pub trace : TraceLists
-  pub formed : IsTrace trace
-  pub rest : List Line
-  pub lines : trace_lines trace ≡ ls ++ rest
-
--- some well-formed trace goes on behind these lines with a line of the word
-pub record GoesOnWith (before : List Line) (w : Keyword) : Type 0 where
-  pub line : Line
-  pub word : word_of_line line ≡ w
-  pub begins : Begins (before ++ line ∷ [])

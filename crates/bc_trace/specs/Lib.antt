@@ -4,10 +4,14 @@ pub mod Words
 pub mod Lines
 -- Which lines may stand where, and what they may say.
 pub mod Grammar
+-- Lines that may begin a trace
+pub mod Fronts
 -- The first fault of a text.
 pub mod Faults
 -- The texts that a replay prints.
 pub mod Replies
+-- Which replies have a line
+pub mod ReplyRanges
 -- What the reader answers.
 pub mod Answers
 -- How the causes of faults are written.

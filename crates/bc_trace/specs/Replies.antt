@@ -1,6 +1,6 @@
 -- The texts that a replay prints.
-use Rattle.std.specs.Prelude.{◌≡◌, ◌⊎◌, ℕ, suc, ◌^◌, ◌<◌, List, [], ◌∷◌, ◌++◌, codes}
-use Rattle.std.specs.List.{AllByRecursion, flat_map}
+use Rattle.std.specs.Prelude.{ℕ, suc, List, [], ◌∷◌, ◌++◌, codes}
+use Rattle.std.specs.List.{flat_map}
 use Rattle.std.specs.Fmt.{decimal}
 use Rattle.bc_model.specs.declared.operations.Reply.{Reply}
 use Rattle.bc_model.specs.declared.operations.Reply.TheVariants as replies
@@ -48,18 +48,3 @@ done_text = codes "done" ++ 10 ∷ []
 -- the last line of a run that ends for want of superpages, of which it would need n
 unfoldable pub out_of_heap_text : ℕ → List ℕ
 out_of_heap_text n = codes "out of heap " ++ decimal n ++ 10 ∷ []
-
--- the numbers that a reply tells fit a `u64`
-abbrev pub FitsReply : Reply → Type 0
-FitsReply (replies.Obj b) = (b.lane < 2 ^ 64) × (b.serial < 2 ^ 64)
-FitsReply (replies.Num v) = v < 2 ^ 64
-FitsReply (replies.Len n) = n < 2 ^ 64
-FitsReply _ = Unit {0}
-
--- so do those of each reply of each lane of a phase
-abbrev pub FitsPhase : List (List Reply) → Type 0
-FitsPhase lanes = AllByRecursion (AllByRecursion FitsReply) lanes
-
--- what may stand behind the texts of phases: nothing, or one of the two last lines
-abbrev pub IsLastLine : List ℕ → Type 0
-IsLastLine text = (text ≡ []) ⊎ (text ≡ done_text) ⊎ ((n : ℕ) × (text ≡ out_of_heap_text n))

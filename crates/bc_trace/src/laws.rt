@@ -2,15 +2,18 @@
 ghost use Rattle.std.specs.List.{AllByRecursion};
 ghost use Rattle.std.specs.Prelude.{◌≡◌, ◌⊎◌, ◌↔◌, ◌++◌, ◌<◌, ◌^◌, ℕ, List};
 ghost use Rattle.bc_model.specs.Lists.{TraceLists};
-ghost use Rattle.bc_model.specs.Run.{all_ops_of, replies_of, replies_of_cut};
+ghost use Rattle.bc_model.specs.Run.{replies_of_cut};
+ghost use Rattle.bc_model.specs.RunLengths.{all_ops_of, replies_of};
 ghost use Rattle.bc_model.specs.WellFormed.{IsTrace};
 ghost use Rattle.bc_model.specs.declared.operations.Reply.{Reply};
 ghost use Rattle.bc_trace.specs.declared.fault.Cause.{Cause};
 ghost use Rattle.bc_trace.specs.declared.words.Keyword.{Keyword};
 ghost use Rattle.bc_trace.specs.Lines.{Line, trace_text, Spells};
-ghost use Rattle.bc_trace.specs.Grammar.{start, MayStand, after_all, Follow, Begins, GoesOnWith};
+ghost use Rattle.bc_trace.specs.Grammar.{start, MayStand, after_all, Follow};
+ghost use Rattle.bc_trace.specs.Fronts.{Begins, GoesOnWith};
 ghost use Rattle.bc_trace.specs.Faults.{Fault};
-ghost use Rattle.bc_trace.specs.Replies.{reply_text, phase_text, phases_text, out_of_heap_text, FitsReply, FitsPhase, IsLastLine};
+ghost use Rattle.bc_trace.specs.Replies.{reply_text, phase_text, phases_text, out_of_heap_text};
+ghost use Rattle.bc_trace.specs.ReplyRanges.{FitsReply, FitsPhase, IsLastLine};
 
 /// A text spells at most one trace.
 pub fn law_one_trace()

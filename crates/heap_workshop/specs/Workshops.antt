@@ -8,7 +8,8 @@ use Rattle.bc_model.specs.declared.operations.Op.{Op}
 use Rattle.bc_model.specs.declared.traces.Setup.{Setup}
 use Rattle.bc_mutator.specs.Operations.{IsOpOf}
 use Rattle.bc_superpages.specs.Layout.{Layout, superpages, set_of}
-use Rattle.bc_running.specs.Running.{RunningView, new_running}
+use Rattle.bc_running.specs.Running.{RunningView}
+use Rattle.bc_running.specs.RunningFacts.{new_running}
 use Rattle.heap_workshop.specs.declared.workshops.Sizes.{Sizes}
 
 -- there is such a lane, and a heap of these root slots has the slots, fields and numbers that the operation names

@@ -1,6 +1,7 @@
 use Rattle.std.proofs.Common.{◌≡◌, length}
-use Rattle.bc_io.specs.Told.{HeldGrows, RoomFalls}
-use Rattle.bc_cli.specs.Endings.{HasRun}
+use Rattle.bc_io.specs.Told.{HeldGrows}
+use Rattle.bc_io.specs.Pieces.{RoomFalls}
+use Rattle.bc_cli.specs.BetweenPhases.{HasRun}
 use Rattle.bc_cli.specs.Output.{texts_before}
 use Rattle.bc_cli.proofs.phases.write_phases.Given as goal
 

@@ -1,6 +1,6 @@
 use Rattle.std.proofs.Common.{◌≡◌, ◌<◌, length, get_or, refl, sym, ap, subst, inl, inr, ◌∙◌, arith, ◌++◌, ◌∷◌, [], Vec, Global, vec_capacity, vec_len, Err}
 use Rattle.std.proofs.lemmas.List.{length-map}
-use Rattle.bc_model.specs.Lists.{lists_of}
+use Rattle.bc_model.specs.Rows.{lists_of}
 use Rattle.bc_model.specs.declared.operations.Op.{Op}
 use Rattle.bc_model.specs.declared.operations.Reply.{Reply}
 use Rattle.bc_engine.specs.Lanes.{of_lane, Does, Stops}

@@ -1,5 +1,5 @@
 use Rattle.std.proofs.Common.{◌-◌, length}
-use Rattle.bc_model.specs.Lists.{lists_of}
+use Rattle.bc_model.specs.Rows.{lists_of}
 use Rattle.bc_engine.specs.Lanes.{of_lane, LeavesOthers, LanesRan}
 use Rattle.bc_engine.proofs.lanes.run_lane.Given as goal
 

@@ -1,5 +1,5 @@
 use Rattle.std.proofs.Common.{refl, arith}
-use Rattle.bc_model.specs.Lists.{lists_of}
+use Rattle.bc_model.specs.Rows.{lists_of}
 use Rattle.bc_engine.proofs.RunLemmas.{runs-same, runs-then, stopped-more}
 use Rattle.bc_engine.proofs.lanes.run_lanes.Goals as goal
 

@@ -1,6 +1,6 @@
 use Rattle.std.proofs.Common.{refl, ◌≢◌, ◌∙◌, ap, arith}
-use Rattle.bc_model.specs.Lists.{lists_of}
-use Rattle.bc_nursery.specs.Objects.{Nursery}
+use Rattle.bc_model.specs.Rows.{lists_of}
+use Rattle.bc_nursery.specs.Nurseries.{Nursery}
 use Rattle.bc_engine.proofs.RunLemmas.{runs-same, runs-then, each-further}
 use Rattle.bc_engine.proofs.lanes.step_lanes.Goals as goal
 

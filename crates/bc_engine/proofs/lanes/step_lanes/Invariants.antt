@@ -1,7 +1,7 @@
 use Rattle.std.proofs.Common.{◌≡◌, ℕ, ◌≤◌, []}
-use Rattle.bc_whole_heap.specs.Closed.{chunk_of}
-use Rattle.bc_model.specs.Lists.{lists_of}
-use Rattle.bc_engine.specs.Engines.{IsUnrecorded}
+use Rattle.bc_whole_heap.specs.LaneChunks.{chunk_of}
+use Rattle.bc_model.specs.Rows.{lists_of}
+use Rattle.bc_engine.specs.EngineFacts.{IsUnrecorded}
 use Rattle.bc_engine.specs.Lanes.{EachFurther, LanesRan}
 use Rattle.bc_engine.proofs.lanes.step_lanes.Given as goal
 

@@ -1,5 +1,5 @@
 use Rattle.std.proofs.Common.{◌≡◌, length}
-use Rattle.bc_model.specs.Lists.{lists_of}
+use Rattle.bc_model.specs.Rows.{lists_of}
 use Rattle.bc_engine.specs.Rounds.{IsRoomFor}
 use Rattle.bc_engine.proofs.phases.room_for.Given as goal
 

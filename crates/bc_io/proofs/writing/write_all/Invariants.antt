@@ -1,5 +1,6 @@
 use Rattle.std.proofs.Common.{◌≡◌, [], length, ◌-◌, ◌≤◌, take}
-use Rattle.bc_io.specs.Told.{HeldGrows, RoomFalls}
+use Rattle.bc_io.specs.Told.{HeldGrows}
+use Rattle.bc_io.specs.Pieces.{RoomFalls}
 use Rattle.bc_io.proofs.writing.write_all.Given as goal
 
 abbrev pub invariant-loop-done : goal.invariant-loop-done

@@ -2,7 +2,7 @@ use Rattle.std.proofs.Common.{◌<◌, sym, subst, arith}
 use Rattle.std.proofs.lemmas.Result.{err_from_is_err_and}
 use Rattle.bc_model.specs.declared.operations.Reply.TheVariants.{Done}
 use Rattle.bc_nursery.specs.Entries.{Entries}
-use Rattle.bc_nursery.specs.Objects.{Nursery}
+use Rattle.bc_nursery.specs.Nurseries.{Nursery}
 use Rattle.bc_mutator.specs.Effects.{FindsFull}
 use Rattle.bc_mutator.specs.Objects.{cell_of}
 use Rattle.bc_mutator.proofs.ChangeLemmas.{written-changes, refused-changes}

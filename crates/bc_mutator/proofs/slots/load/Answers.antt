@@ -1,6 +1,6 @@
 use Rattle.std.proofs.Common.{refl, ap, subst, get_or, ◌∙◌}
 use Rattle.bc_model.specs.declared.operations.Op.TheVariants.{Load}
-use Rattle.bc_word.specs.Words.{FitsWord}
+use Rattle.bc_word.specs.WordBits.{FitsWord}
 use Rattle.bc_word.specs.declared.words.Word.{Word}
 use Rattle.bc_word.specs.declared.words.Word.TheVariants.{Nil}
 use Rattle.bc_mutator.specs.Effects.{with_root}

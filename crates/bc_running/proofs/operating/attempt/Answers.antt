@@ -2,7 +2,7 @@ use Rattle.std.proofs.Common.{refl, ap, sym, set}
 use Rattle.std.proofs.lemmas.List.{get_or-set_same}
 use Rattle.std.proofs.lemmas.Result.{IfOk-weaker}
 use Rattle.bc_cycle.specs.Emptying.{heap_view}
-use Rattle.bc_running.specs.Running.{running_of}
+use Rattle.bc_running.specs.RunningFacts.{running_of}
 use Rattle.bc_running.proofs.SoundLemmas.{sound-operated}
 use Rattle.bc_running.proofs.operating.attempt.Goals as goal
 

@@ -1,7 +1,7 @@
 use Rattle.std.proofs.Common.{List, subst}
 use Rattle.bc_whole_heap.proofs.ChunkLemmas.{AreApart-laid}
 use Rattle.bc_cycle.specs.Emptying.{heap_view}
-use Rattle.bc_nursery.specs.Objects.{Nursery}
+use Rattle.bc_nursery.specs.Nurseries.{Nursery}
 use Rattle.bc_mutator.specs.Objects.{AreWhole}
 use Rattle.bc_mutator.proofs.ObjectLemmas.{LieBehind-laid}
 use Rattle.bc_running.proofs.whole.lane_facts.Goals as goal

@@ -4,7 +4,8 @@ use Rattle.bc_model.specs.State.{State, given}
 use Rattle.bc_model.specs.WellFormed.{IsGive}
 use Rattle.bc_model.specs.declared.traces.Give.{Give}
 use Rattle.bc_model.proofs.Runs.{after_gives-more, after_gives-end, at-index}
-use Rattle.bc_engine.specs.Engines.{EngineView, EngineStands, HasEmptyChunks, IsUnrecorded}
+use Rattle.bc_engine.specs.Engines.{EngineView, EngineStands, HasEmptyChunks}
+use Rattle.bc_engine.specs.EngineFacts.{IsUnrecorded}
 use Rattle.bc_engine.specs.declared.engines.Ended.TheVariants.{NoMemory}
 use Rattle.bc_engine.proofs.PhaseLemmas.{holders-then}
 use Rattle.bc_engine.proofs.engines.Engine.give_all.Goals as goal

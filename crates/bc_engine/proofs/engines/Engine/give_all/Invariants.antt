@@ -1,7 +1,8 @@
 use Rattle.std.proofs.Common.{◌≡◌, drop}
 use Rattle.bc_model.specs.Run.{after_gives}
 use Rattle.bc_model.specs.State.{State}
-use Rattle.bc_engine.specs.Engines.{EngineStands, with_holders}
+use Rattle.bc_engine.specs.Engines.{EngineStands}
+use Rattle.bc_engine.specs.EngineFacts.{with_holders}
 use Rattle.bc_engine.proofs.engines.Engine.give_all.Given as goal
 
 abbrev pub invariant-loop-give : goal.invariant-loop-give

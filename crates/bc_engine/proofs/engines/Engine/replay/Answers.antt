@@ -1,6 +1,7 @@
 use Rattle.std.proofs.Common.{get_or, length, ap, subst, ◌∙◌, arith}
 use Rattle.std.proofs.lemmas.List.{take_at}
-use Rattle.bc_model.specs.Lists.{PhaseLists, lists_of}
+use Rattle.bc_model.specs.Lists.{PhaseLists}
+use Rattle.bc_model.specs.Rows.{lists_of}
 use Rattle.bc_model.specs.Run.{after_gives}
 use Rattle.bc_engine.specs.Engines.{EngineView, EngineStands}
 use Rattle.bc_engine.specs.Rounds.{IsTooSmall}

@@ -1,6 +1,6 @@
 use Rattle.std.proofs.Common.{Bool, refl, ◌∙◌, arith}
 use Rattle.std.proofs.lemmas.Result.{err_from_is_err_and}
-use Rattle.bc_model.specs.Lists.{lists_of}
+use Rattle.bc_model.specs.Rows.{lists_of}
 use Rattle.bc_engine.proofs.RoundLemmas.{on-begun, on-then, small-then, underway-then}
 use Rattle.bc_engine.proofs.engines.Engine.rounds.Goals as goal
 

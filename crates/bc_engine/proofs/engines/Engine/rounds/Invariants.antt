@@ -1,5 +1,5 @@
 use Rattle.std.proofs.Common.{◌≡◌}
-use Rattle.bc_model.specs.Lists.{lists_of}
+use Rattle.bc_model.specs.Rows.{lists_of}
 use Rattle.bc_engine.specs.Lanes.{BirthsWithin, left}
 use Rattle.bc_engine.specs.Rounds.{RoundsWentOn, IsUnderwayOn}
 use Rattle.bc_engine.proofs.engines.Engine.rounds.Given as goal

@@ -1,5 +1,5 @@
 use Rattle.std.proofs.Common.{◌≡◌, drop}
-use Rattle.bc_model.specs.Consistent.{sizes_of}
+use Rattle.bc_model.specs.StateSizes.{sizes_of}
 use Rattle.bc_model.specs.Run.{after_gives}
 use Rattle.bc_model.proofs.plain_heap.Flat.give_all.Given as goal
 

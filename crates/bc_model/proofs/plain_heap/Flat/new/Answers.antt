@@ -1,5 +1,6 @@
 use Rattle.std.proofs.Common.{sym, subst, refl}
-use Rattle.bc_model.specs.Consistent.{IsState, HasSizes, HasSerials}
+use Rattle.bc_model.specs.Consistent.{IsState}
+use Rattle.bc_model.specs.StateSizes.{HasSizes, HasSerials}
 use Rattle.bc_model.specs.Run.{opening}
 use Rattle.bc_model.specs.State.{State}
 use Rattle.bc_model.proofs.Openings.{IsState-opening, HasSizes-opening, HasSerials-opening}

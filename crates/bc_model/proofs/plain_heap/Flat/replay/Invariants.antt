@@ -1,5 +1,5 @@
 use Rattle.std.proofs.Common.{◌≡◌, ℕ, ◌+◌, ◌≤◌, ◌++◌, length, drop}
-use Rattle.bc_model.specs.Consistent.{sizes_of}
+use Rattle.bc_model.specs.StateSizes.{sizes_of}
 use Rattle.bc_model.specs.Run.{after_ops, replies_to}
 use Rattle.bc_model.specs.State.{made_by}
 use Rattle.bc_model.proofs.plain_heap.Flat.replay.Given as goal

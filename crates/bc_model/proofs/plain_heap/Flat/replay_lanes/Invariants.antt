@@ -1,7 +1,7 @@
 use Rattle.std.proofs.Common.{◌≡◌, ℕ, ◌+◌, ◌≤◌, ◌++◌, length, take, drop}
 use Rattle.std.specs.List.{sum_by}
-use Rattle.bc_model.specs.Consistent.{sizes_of}
-use Rattle.bc_model.specs.Lists.{lists_of}
+use Rattle.bc_model.specs.StateSizes.{sizes_of}
+use Rattle.bc_model.specs.Rows.{lists_of}
 use Rattle.bc_model.specs.Run.{after_lanes, replies_to_lanes}
 use Rattle.bc_model.specs.State.{made_by}
 use Rattle.bc_model.proofs.plain_heap.Flat.replay_lanes.Given as goal

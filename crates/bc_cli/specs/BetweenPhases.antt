@@ -1,0 +1,38 @@
+-- A replay between its phases.
+use Rattle.std.specs.Prelude.{◌≡◌, ℕ, ◌<◌, List, length, drop, sum_by, Option, None, Some}
+use Rattle.bc_engine.specs.Engines.{EngineView, EngineStands, HasEmptyChunks}
+use Rattle.bc_engine.specs.EngineFacts.{HasRoomForBirths}
+use Rattle.bc_engine.specs.Phases.{DidPhase, CutPhase}
+use Rattle.bc_io.specs.Told.{HeldGrows, HasRoom, IsPrefix}
+use Rattle.bc_model.specs.Lists.{PhaseLists, TraceLists}
+use Rattle.bc_model.specs.Run.{before}
+use Rattle.bc_model.specs.RunLengths.{ops_of}
+use Rattle.bc_model.specs.declared.operations.Reply.{Reply}
+use Rattle.bc_cli.specs.Output.{text_at, need_text}
+use Rattle.bc_cli.specs.Endings.{NeedsFit, NeedsMore}
+
+-- A front of these bytes is written, and not all of them.
+pub record WritesFront (held held' : Option (List ℕ)) (whole : List ℕ) : Type 0 where
+  pub front : List ℕ
+  pub is_front : IsPrefix front whole
+  pub not_all : length front < length whole
+  pub written : HeldGrows held held' front
+
+-- A phase was run on the engine: it is done, or it ended at a cut for want of heap, by this need.
+abbrev pub PhaseEnded : EngineView → PhaseLists → EngineView → List (List Reply) → Option ℕ → Type 0
+PhaseEnded e p f replies None = DidPhase e p f replies
+PhaseEnded e p f replies (Some need) = CutPhase e p f replies need
+
+-- The engine has run the first k phases of the trace, and can run the others.
+pub record HasRun (t : TraceLists) (k : ℕ) (engine : EngineView) : Type 0 where
+  pub setup : engine.setup ≡ t.setup
+  pub going : engine.ended ≡ None
+  pub empty : HasEmptyChunks engine.running.heap
+  pub stands : EngineStands engine (before t k)
+  pub births : HasRoomForBirths engine (sum_by ops_of (drop k t.phases))
+  pub fits : NeedsFit t k
+
+-- What phase k may write fits the room.
+pub record HasPhaseRoom (room : Option ℕ) (t : TraceLists) (k : ℕ) : Type 0 where
+  pub whole : HasRoom room (length (text_at t k))
+  pub cut_short : (cut : List ℕ) → (need : ℕ) → NeedsMore t k cut need → HasRoom room (length (need_text t k cut need))
