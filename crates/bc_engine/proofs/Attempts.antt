@@ -39,6 +39,7 @@ ready-sound {setup} {r} ready = record {
   running = ready.order;
   later = λ l lt. none-later r.heap r.holders r.serials ready.meant.0 ready.meant.1 l;
   frames = omega (arith, ready.fits.nursery, ready.fits.frames, ready.fits.supers);
+  two = omega (arith, ready.fits.nursery, ready.fits.frames, ready.range.superpages.0);
   lanes = ready.fits.lanes ∙ sym ready.lanes;
   few = omega (arith, ready.lanes, ready.range.lanes.1);
 }

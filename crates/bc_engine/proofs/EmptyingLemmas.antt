@@ -3,13 +3,12 @@ use Rattle.std.proofs.Common.{Vec, Global, ◌≡◌, ℕ, List, slice_index, le
 use Rattle.std.proofs.Math.ListN.{get_or-map}
 use Rattle.std.proofs.lemmas.List.{length-map}
 use Rattle.bc_bits.specs.Bits.{has}
-use Rattle.bc_cycle.specs.Emptying.{IsEmptied, IsAsBefore}
+use Rattle.bc_cycle.specs.Emptying.{IsUnbookmarked, IsEmptied, IsAsBefore}
 use Rattle.bc_cycle.proofs.ChunkLists.{chunk-emptied}
 use Rattle.bc_failsafe.specs.Packing.{NeedOfHeap}
 use Rattle.bc_whole_heap.specs.Closed.{buffer_of, no_buffer}
 use Rattle.bc_whole_heap.specs.LaneChunks.{chunk_of}
 use Rattle.bc_whole_heap.specs.Heaps.{heap_memory, root_words, no_chunk, HeapView}
-use Rattle.bc_whole_heap.specs.HeapFacts.{Fixed}
 use Rattle.bc_whole_heap.proofs.ChunkLemmas.{length-alike}
 use Rattle.bc_whole_heap.specs.LaneStates.{StandsAs}
 use Rattle.bc_memory.specs.Memory.{Memory}
@@ -30,7 +29,7 @@ use Rattle.bc_running.specs.RunningFacts.{running_of}
 use Rattle.bc_engine.specs.Lanes.{LanesRan}
 use Rattle.bc_engine.proofs.RunLemmas.{runs-none}
 use Rattle.bc_engine.specs.Engines.{HasEmptyChunks}
-use Rattle.bc_engine.specs.EngineFacts.{HasSetup, CanRunLanes, IsUnbookmarked, IsUnrecorded}
+use Rattle.bc_engine.specs.EngineFacts.{HasSetup, CanRunLanes, IsUnrecorded}
 
 -- what is true of a heap with the holders and births that there were is true with those that there are, which are the same
 through : (r q : RunningView) (P : RunningView → Type 0) → q.holders ≡ r.holders → q.serials ≡ r.serials → P (running_of q.heap r.holders r.serials) → P q
@@ -86,10 +85,10 @@ fits-emptied setup {h} {k} is fits = record {
   lanes = ap length is.cleared ∙ length-map h.chunks emptied ∙ fits.lanes;
   words = λ l lt. ap (λ (cs : List Nursery). (chunk_of cs l).words) is.cleared ∙ ap (λ (c : Nursery). c.words) (chunk-emptied h.chunks l) ∙ fits.words l lt;
   entries = λ l lt. ap (λ (bs : List Entries). (buffer_of bs l).capacity) is.unrecorded ∙ ap (λ (b : Entries). b.capacity) (buffer-emptied h.buffers l) ∙ fits.entries l lt;
-  nursery = ap (λ (x : Fixed). x.nursery) is.sizes.fixed ∙ fits.nursery;
-  frames = ap (λ (x : Fixed). x.frames) is.sizes.fixed ∙ fits.frames;
+  nursery = is.sizes.nursery ∙ fits.nursery;
+  frames = is.sizes.frames ∙ fits.frames;
   used = used-kept setup h k fits.domains is.domains fits.used;
-  unbookmarked = unbookmarked-kept h.space k.space (ap (λ (x : Fixed). x.bookmarks) is.sizes.fixed) (ap (λ (x : Fixed). x.incoming) is.sizes.fixed) fits.unbookmarked;
+  unbookmarked = is.unbookmarked fits.unbookmarked;
 }
 
 ready-emptied : {hs serials : List ℕ} {h k : HeapView} (setup : Setup) → IsEmptied h k → CanRunLanes setup (running_of h hs serials) → CanRunLanes setup (running_of k hs serials)
@@ -132,10 +131,10 @@ ready-before {hs} {serials} {h} {k} setup is ready = record {
     lanes = length-alike bare_nursery h.chunks k.chunks is.chunks ∙ ready.fits.lanes;
     words = λ l lt. words-alike h.chunks k.chunks l is.chunks ∙ ready.fits.words l lt;
     entries = λ l lt. ap (λ (bs : List Entries). (buffer_of bs l).capacity) is.entries ∙ ready.fits.entries l lt;
-    nursery = ap (λ (x : Fixed). x.nursery) is.sizes.fixed ∙ ready.fits.nursery;
-    frames = ap (λ (x : Fixed). x.frames) is.sizes.fixed ∙ ready.fits.frames;
+    nursery = is.sizes.nursery ∙ ready.fits.nursery;
+    frames = is.sizes.frames ∙ ready.fits.frames;
     used = used-kept setup h k ready.fits.domains is.domains ready.fits.used;
-    unbookmarked = unbookmarked-kept h.space k.space (ap (λ (x : Fixed). x.bookmarks) is.sizes.fixed) (ap (λ (x : Fixed). x.incoming) is.sizes.fixed) ready.fits.unbookmarked;
+    unbookmarked = unbookmarked-kept h.space k.space (ap (λ (s : Layout). s.bookmarks) is.only) (ap (λ (s : Layout). s.incoming) is.only) ready.fits.unbookmarked;
   };
   lanes = ready.lanes;
   meant = (ready.meant.0, stands-before ready.meant.0 is ready.meant.1);

@@ -3,6 +3,7 @@ use Rattle.std.proofs.Common.{◌≡◌, ℕ, ◌+◌, ◌*◌, ◌/◌, ◌%◌
 use Prim.Native.Nat.{zero, suc}
 use Rattle.std.proofs.lemmas.Bool.{cases_lt}
 use Rattle.std.proofs.lemmas.List.{get_or-map, get_or_past, get_or-replicate, length-map, length-replicate}
+use Rattle.bc_cycle.specs.Emptying.{IsUnbookmarked}
 use Rattle.bc_bits.specs.Bits.{has}
 use Rattle.bc_bits.proofs.BitLemmas.{has-zeros, has-beyond}
 use Rattle.bc_cycle.specs.Openings.{new_heap}
@@ -39,7 +40,7 @@ use Rattle.bc_word.proofs.WordLemmas.{word_of_bits-nil}
 use Rattle.bc_running.specs.Running.{RunningView, RunningStands}
 use Rattle.bc_running.specs.RunningFacts.{new_running}
 use Rattle.bc_engine.specs.Engines.{HasEmptyChunks}
-use Rattle.bc_engine.specs.EngineFacts.{CanRunLanes, IsUnbookmarked, IsUnrecorded}
+use Rattle.bc_engine.specs.EngineFacts.{CanRunLanes, IsUnrecorded}
 
 nil-words : (n : ℕ) → map word_of_bits (replicate n 0) ≡ replicate n Nil
 nil-words zero = refl

@@ -3,6 +3,7 @@ use Rattle.std.proofs.Common.{◌≡◌, ℕ, Bool, true, false, ◌==◌, List,
 use Rattle.std.proofs.lemmas.Bool.{cases_eq}
 use Rattle.std.specs.List.{find}
 use Rattle.std.specs.Option.{is_some}
+use Rattle.bc_cycle.specs.Emptying.{IsUnbookmarked}
 use Rattle.bc_whole_heap.specs.Closed.{buffer_of}
 use Rattle.bc_whole_heap.specs.LaneChunks.{chunk_of}
 use Rattle.bc_whole_heap.specs.Heaps.{object_in, HeapView}
@@ -22,7 +23,7 @@ use Rattle.bc_superpages.specs.Layout.{Layout, superpages}
 use Rattle.bc_superpages.specs.RootWords.{RootWords}
 use Rattle.bc_running.specs.Running.{RunningView}
 use Rattle.bc_running.specs.RunningFacts.{StaysBut}
-use Rattle.bc_engine.specs.EngineFacts.{HasSetup, IsUnbookmarked}
+use Rattle.bc_engine.specs.EngineFacts.{HasSetup}
 
 -- an operation fits whatever has as many domains and slots
 made_up : ℕ → ℕ → Setup

@@ -1,6 +1,6 @@
 -- What is true of an engine between calls.
-use Rattle.std.specs.Prelude.{◌≡◌, ◌≢◌, ℕ, ◌+◌, ◌*◌, ◌^◌, ◌<◌, ◌≤◌, false, List, [], length, Some, None, slice_index}
-use Rattle.bc_bits.specs.Bits.{has}
+use Rattle.std.specs.Prelude.{◌≡◌, ◌≢◌, ℕ, ◌+◌, ◌*◌, ◌^◌, ◌<◌, ◌≤◌, List, [], length, Some, None, slice_index}
+use Rattle.bc_cycle.specs.Emptying.{IsUnbookmarked}
 use Rattle.bc_whole_heap.specs.Closed.{buffer_of}
 use Rattle.bc_whole_heap.specs.LaneChunks.{chunk_of}
 use Rattle.bc_whole_heap.specs.Heaps.{HeapView}
@@ -10,7 +10,7 @@ use Rattle.bc_model.specs.State.{State}
 use Rattle.bc_model.specs.WellFormed.{IsSetup}
 use Rattle.bc_model.specs.declared.traces.Setup.{Setup}
 use Rattle.bc_promotion.specs.Promises.{HasDomainsBelow}
-use Rattle.bc_superpages.specs.Layout.{Layout, superpages, set_of}
+use Rattle.bc_superpages.specs.Layout.{superpages}
 use Rattle.bc_engine.specs.declared.engines.Ended.TheVariants.{NoMemory}
 use Rattle.bc_running.specs.Running.{RunningView, RunningStands}
 use Rattle.bc_engine.specs.Engines.{EngineView}
@@ -18,11 +18,6 @@ use Rattle.bc_engine.specs.Engines.{EngineView}
 -- the engine with these holders of the domains
 abbrev pub with_holders : EngineView → List ℕ → EngineView
 with_holders e holders = record e { running = record (e.running) { holders = holders } }
-
--- no object is bookmarked, and no superpage is referred to from an evicted page
-pub record IsUnbookmarked (s : Layout) : Type 0 where
-  pub bookmarks : (q b : ℕ) → has (set_of s.bookmarks q) b ≡ false
-  pub incoming : (q : ℕ) → slice_index s.incoming q ≡ 0
 
 -- the heap has the setup's superpages, root slots, chunks, buffers and frames: a frame for every page. Superpages are in use for the
 -- setup's domains. No page was ever evicted, so nothing is bookmarked

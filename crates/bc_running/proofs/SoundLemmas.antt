@@ -7,7 +7,7 @@ use Rattle.bc_cycle.specs.Emptying.{IsEmptied, IsAsBefore}
 use Rattle.bc_cycle.specs.declared.emptying.CycleNo.{CycleNo}
 use Rattle.bc_cycle.specs.declared.emptying.CycleNo.TheVariants.{OutOfHeap, NoMemory}
 use Rattle.bc_whole_heap.specs.Heaps.{HeapView}
-use Rattle.bc_whole_heap.specs.HeapFacts.{HasFrames, Fixed}
+use Rattle.bc_whole_heap.specs.HeapFacts.{HasFrames, HasTwoFrames}
 use Rattle.bc_whole_heap.specs.Running.{IsRunning}
 use Rattle.bc_memory.specs.Memory.{Memory}
 use Rattle.bc_mutator.specs.Operations.{NoneLater}
@@ -22,6 +22,7 @@ sound-collected r k h c = record {
   running = c.running;
   later = λ l lt a b there lane. let from = c.born a b there in h.later l lt from.0 b from.1 lane;
   frames = c.frames h.frames;
+  two = c.two h.two;
   lanes = c.lanes ∙ h.lanes;
   few = h.few;
 }
@@ -39,6 +40,7 @@ sound-operated r lane k n within h o = record {
   running = o.running (h.later lane within);
   later = later;
   frames = subst HasFrames (sym o.space) h.frames;
+  two = subst HasTwoFrames (sym o.space) h.two;
   lanes = o.long ∙ h.lanes ∙ sym (length-set r.serials lane n);
   few = let same = length-set r.serials lane n in let few = h.few in omega arith;
 }
@@ -58,7 +60,8 @@ emptied-collects : (h k : HeapView) (hs : List ℕ) → IsRunning h hs → IsEmp
 emptied-collects h k hs order is = record {
   running = is.order hs order;
   born = is.born;
-  frames = λ f. let supers = is.sizes.supers in let frames = ap (λ (x : Fixed). x.frames) is.sizes.fixed in let nursery = ap (λ (x : Fixed). x.nursery) is.sizes.fixed in omega arith;
+  frames = λ f. let supers = is.sizes.supers in let frames = is.sizes.frames in let nursery = is.sizes.nursery in omega arith;
+  two = λ f. let frames = is.sizes.frames in let nursery = is.sizes.nursery in omega arith;
   lanes = ap length is.cleared ∙ length-map h.chunks emptied;
 }
 
@@ -66,7 +69,8 @@ before-collects : (h k : HeapView) (hs : List ℕ) → IsRunning h hs → IsAsBe
 before-collects h k hs order is = record {
   running = is.order hs order;
   born = λ x b e. (x, ap (λ (m : Memory). births m x) (sym is.memory) ∙ e);
-  frames = λ f. let supers = is.sizes.supers in let frames = ap (λ (x : Fixed). x.frames) is.sizes.fixed in let nursery = ap (λ (x : Fixed). x.nursery) is.sizes.fixed in omega arith;
+  frames = λ f. let supers = is.sizes.supers in let frames = is.sizes.frames in let nursery = is.sizes.nursery in omega arith;
+  two = λ f. let frames = is.sizes.frames in let nursery = is.sizes.nursery in omega arith;
   lanes = sym (is.order hs order).closed.lanes ∙ ap length is.entries ∙ order.closed.lanes;
 }
 

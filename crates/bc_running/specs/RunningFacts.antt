@@ -5,7 +5,7 @@ use Rattle.bc_cycle.specs.Openings.{new_heap}
 use Rattle.bc_whole_heap.specs.Closed.{buffer_of}
 use Rattle.bc_whole_heap.specs.LaneChunks.{chunk_of}
 use Rattle.bc_whole_heap.specs.Heaps.{HeapView}
-use Rattle.bc_whole_heap.specs.HeapFacts.{HasFrames}
+use Rattle.bc_whole_heap.specs.HeapFacts.{HasFrames, HasTwoFrames}
 use Rattle.bc_whole_heap.specs.Running.{IsRunning}
 use Rattle.bc_model.specs.State.{numbers_below}
 use Rattle.bc_model.specs.declared.traces.Setup.{Setup}
@@ -16,11 +16,12 @@ abbrev pub running_of : HeapView → List ℕ → List ℕ → RunningView
 running_of heap holders serials = record { heap = heap; holders = holders; serials = serials }
 
 -- what is true between operations and collections: the heap is running, no object of it has a later birth of a lane than the
--- lane's last one, and there is a frame for every page
+-- lane's last one, and there is a frame for every page, and two of them in any case
 pub record IsSound (r : RunningView) : Type 0 where
   pub running : IsRunning r.heap r.holders
   pub later : (l : ℕ) → l < length r.serials → NoneLater r.heap.space r.heap.chunks l (slice_index r.serials l)
   pub frames : HasFrames r.heap.space
+  pub two : HasTwoFrames r.heap.space
   pub lanes : length r.heap.chunks ≡ length r.serials
   pub few : length r.serials ≤ 16
 
@@ -46,4 +47,5 @@ pub record Collects (h k : HeapView) (holders : List ℕ) : Type 0 where
   pub running : IsRunning k holders
   pub born : BringsNoBirth h k
   pub frames : HasFrames h.space → HasFrames k.space
+  pub two : HasTwoFrames h.space → HasTwoFrames k.space
   pub lanes : length k.chunks ≡ length h.chunks
