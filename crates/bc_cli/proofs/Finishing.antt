@@ -15,8 +15,8 @@ use Rattle.bc_model.specs.WellFormed.{IsSetup, IsTrace}
 use Rattle.bc_model.specs.declared.traces.Setup.{Setup}
 use Rattle.bc_model.proofs.Openings.{made_by-opening}
 use Rattle.bc_trace.specs.Replies.{done_text, out_of_heap_text}
-use Rattle.bc_cli.specs.Endings.{FitsThroughout, HasRunRoom, EndsDone, EndsOutOfHeap, FailsAtDone}
-use Rattle.bc_cli.specs.BetweenPhases.{WritesFront, HasRun, HasPhaseRoom}
+use Rattle.bc_cli.specs.Endings.{WritesFront, FitsThroughout, HasRunRoom, EndsDone, EndsOutOfHeap, FailsAtDone}
+use Rattle.bc_cli.specs.BetweenPhases.{HasRun, HasPhaseRoom}
 use Rattle.bc_cli.specs.Outcomes.{IfStatusOutOfHeap, IsOrNoMemory}
 use Rattle.bc_cli.specs.PartEndings.{IsEnding}
 use Rattle.bc_cli.specs.Output.{texts_from, texts_before, all_texts, whole_text, text_at, need_text, cut_text}
@@ -59,7 +59,7 @@ setup-fits t setup is h = subst IsSetup (sym is) h.setup
 pub texts_before-all : (t : TraceLists) (k : ℕ) → length t.phases ≤ k → texts_before t k ≡ all_texts t
 texts_before-all t k past = ap (texts_from (opening t.setup)) (take_all k t.phases past)
 
-final-before : (t : TraceLists) → before t (length t.phases) ≡ final_state t
+pub final-before : (t : TraceLists) → before t (length t.phases) ≡ final_state t
 final-before t = ap (after_phases (opening t.setup)) (take_all (length t.phases) t.phases (omega arith))
 
 pub ends-done : (t : TraceLists) (e : EngineView) (a b c : Option (List ℕ)) → HasRun t (length t.phases) e → HeldGrows a b (all_texts t) → HeldGrows b c done_text → EndsDone t a c (Some e)

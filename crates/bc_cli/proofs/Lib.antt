@@ -18,3 +18,7 @@ pub mod NeedRoom
 pub mod CutRoom
 -- The first and the last step of a replay, and what its ending says of a run.
 pub mod Finishing
+-- A phase of a trace that was run and whose replies are counted, and a workload that was drawn and run to its end.
+pub mod Counted
+-- The command that was found, and the one that the words are.
+pub mod Asking

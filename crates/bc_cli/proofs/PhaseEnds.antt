@@ -10,8 +10,8 @@ use Rattle.bc_model.specs.Lists.{PhaseLists, TraceLists}
 use Rattle.bc_model.specs.Run.{phase_at}
 use Rattle.bc_model.specs.declared.operations.Reply.{Reply}
 use Rattle.bc_trace.specs.Replies.{phase_text, out_of_heap_text}
-use Rattle.bc_cli.specs.Endings.{EndsInFault, EndsOutOfHeap}
-use Rattle.bc_cli.specs.BetweenPhases.{WritesFront, HasPhaseRoom, HasRun, PhaseEnded}
+use Rattle.bc_cli.specs.Endings.{WritesFront, EndsInFault, EndsOutOfHeap}
+use Rattle.bc_cli.specs.BetweenPhases.{HasPhaseRoom, HasRun, PhaseEnded}
 use Rattle.bc_cli.specs.Output.{texts_before, text_at}
 use Rattle.bc_cli.specs.NeedLine.{need_line}
 use Rattle.bc_cli.proofs.Running.{HasRun-next, did-text, did-room, held-next, room-next, fails-in_phase, CutAt, cut-at, cut-room, ends-out_of_heap, fails-at_need}
@@ -56,10 +56,10 @@ whole-cut k replies need n xs ys some h =
     let line : need_line need ≡ need_line (Some n) = cc in
     cc
 
-did : (t : TraceLists) (k : ℕ) (e f : EngineView) (replies : List (List Reply)) (need : Option ℕ) → need ≡ None → Ran t k e f replies need → DidPhase e (phase_at t k) f replies
+pub did : (t : TraceLists) (k : ℕ) (e f : EngineView) (replies : List (List Reply)) (need : Option ℕ) → need ≡ None → Ran t k e f replies need → DidPhase e (phase_at t k) f replies
 did t k e f replies need none h = subst (PhaseEnded e (phase_at t k) f replies) none h.ended
 
-cut : (t : TraceLists) (k : ℕ) (e f : EngineView) (replies : List (List Reply)) (need : Option ℕ) (n : ℕ) → need ≡ Some n → Ran t k e f replies need → CutAt t k f replies n
+pub cut : (t : TraceLists) (k : ℕ) (e f : EngineView) (replies : List (List Reply)) (need : Option ℕ) (n : ℕ) → need ≡ Some n → Ran t k e f replies need → CutAt t k f replies n
 cut t k e f replies need n some h = cut-at t k e f replies n h.within h.before (subst (PhaseEnded e (phase_at t k) f replies) some h.ended) h.setup
 
 -- there is room for the texts

@@ -5,8 +5,7 @@ use Rattle.bc_io.specs.Faults.{Rose}
 use Rattle.bc_io.specs.Told.{HasRoom, HeldGrows, IsPrefix}
 use Rattle.bc_io.specs.Pieces.{RoomFalls, TakesFront}
 use Rattle.bc_io.proofs.Telling.{HasRoom-less, HasRoom-rest, HeldGrows-more}
-use Rattle.bc_cli.specs.Endings.{WritesFrontAfter}
-use Rattle.bc_cli.specs.BetweenPhases.{WritesFront}
+use Rattle.bc_cli.specs.Endings.{WritesFront, WritesFrontAfter}
 use Rattle.bc_model.specs.Lists.{PhaseLists}
 use Rattle.bc_model.specs.Run.{after_phase, after_phases, replies_of_phases, replies_to_lanes}
 use Rattle.bc_model.specs.State.{State}

@@ -21,8 +21,8 @@ use Rattle.bc_model.specs.declared.operations.Reply.{Reply}
 use Rattle.bc_model.specs.declared.traces.Setup.{Setup}
 use Rattle.bc_model.proofs.Runs.{at-index}
 use Rattle.bc_trace.specs.Replies.{phase_text, out_of_heap_text}
-use Rattle.bc_cli.specs.Endings.{NeedsMore, HandsBack, NeedFits, EndsOutOfHeap, FailsInPhase, FailsAtNeed}
-use Rattle.bc_cli.specs.BetweenPhases.{WritesFront, HasRun, HasPhaseRoom}
+use Rattle.bc_cli.specs.Endings.{WritesFront, NeedsMore, HandsBack, NeedFits, EndsOutOfHeap, FailsInPhase, FailsAtNeed}
+use Rattle.bc_cli.specs.BetweenPhases.{HasRun, HasPhaseRoom}
 use Rattle.bc_cli.specs.Output.{texts_before, text_at, need_text}
 use Rattle.bc_cli.proofs.Pieces.{texts-step, state-step, front-behind}
 

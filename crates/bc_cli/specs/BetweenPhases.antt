@@ -1,22 +1,15 @@
 -- A replay between its phases.
-use Rattle.std.specs.Prelude.{◌≡◌, ℕ, ◌<◌, List, length, drop, sum_by, Option, None, Some}
+use Rattle.std.specs.Prelude.{◌≡◌, ℕ, List, length, drop, sum_by, Option, None, Some}
 use Rattle.bc_engine.specs.Engines.{EngineView, EngineStands, HasEmptyChunks}
 use Rattle.bc_engine.specs.EngineFacts.{HasRoomForBirths}
 use Rattle.bc_engine.specs.Phases.{DidPhase, CutPhase}
-use Rattle.bc_io.specs.Told.{HeldGrows, HasRoom, IsPrefix}
+use Rattle.bc_io.specs.Told.{HasRoom}
 use Rattle.bc_model.specs.Lists.{PhaseLists, TraceLists}
 use Rattle.bc_model.specs.Run.{before}
 use Rattle.bc_model.specs.RunLengths.{ops_of}
 use Rattle.bc_model.specs.declared.operations.Reply.{Reply}
 use Rattle.bc_cli.specs.Output.{text_at, need_text}
 use Rattle.bc_cli.specs.Endings.{NeedsFit, NeedsMore}
-
--- A front of these bytes is written, and not all of them.
-pub record WritesFront (held held' : Option (List ℕ)) (whole : List ℕ) : Type 0 where
-  pub front : List ℕ
-  pub is_front : IsPrefix front whole
-  pub not_all : length front < length whole
-  pub written : HeldGrows held held' front
 
 -- A phase was run on the engine: it is done, or it ended at a cut for want of heap, by this need.
 abbrev pub PhaseEnded : EngineView → PhaseLists → EngineView → List (List Reply) → Option ℕ → Type 0

@@ -40,6 +40,13 @@ pub record NeedsMore (t : TraceLists) (k : ℕ) (cut : List ℕ) (need : ℕ) : 
   pub counted : IsNeed (after_cut t k cut) need
   pub above : t.setup.superpages < need
 
+-- A front of these bytes is written, and not all of them.
+pub record WritesFront (held held' : Option (List ℕ)) (whole : List ℕ) : Type 0 where
+  pub front : List ℕ
+  pub is_front : IsPrefix front whole
+  pub not_all : length front < length whole
+  pub written : HeldGrows held held' front
+
 -- Bytes are written, and behind them a front of the next ones, and not all of these.
 pub record WritesFrontAfter (held held' : Option (List ℕ)) (first next : List ℕ) : Type 0 where
   pub front : List ℕ

@@ -1,5 +1,3 @@
--- The command words.
-pub mod Words
 -- Statuses
 pub mod Statuses
 -- What a run writes.
@@ -10,6 +8,8 @@ pub mod NeedLine
 pub mod Endings
 -- A replay between its phases
 pub mod BetweenPhases
+-- How the replay of a workload that was drawn ends.
+pub mod Churns
 -- What each status says of the source, from its left bytes before and after, and of the sink, from its held bytes before and after.
 pub mod Outcomes
 -- With which statuses the parts of a run end

@@ -8,9 +8,11 @@ use Rattle.bc_model.specs.Lists.{TraceLists}
 use Rattle.bc_trace.specs.Faults.{Fault}
 use Rattle.bc_trace.specs.Lines.{Spells}
 use Rattle.bc_trace.specs.declared.fault.Cause.{Cause}
+use Rattle.bc_words.specs.declared.command.Command.{Command}
+use Rattle.bc_words.specs.declared.command.Command.TheVariants.{Run, Churn}
 use Rattle.bc_cli.specs.Endings.{EndsDone, EndsOutOfHeap, EndsInFault, StopsBefore, HasRunRoom}
 use Rattle.bc_cli.specs.declared.status.Status.{Status}
-use Rattle.bc_cli.specs.declared.status.Status.TheVariants.{BadWords, BadTrace, TooLong, ReadFault, OutOfHeap, NoMemory}
+use Rattle.bc_cli.specs.declared.status.Status.TheVariants.{Done, BadWords, BadTrace, TooLong, ReadFault, WriteFault, OutOfHeap, NoMemory}
 
 abbrev pub longest_trace : ℕ
 longest_trace = 16777216
@@ -73,6 +75,18 @@ IfHeapless TooLong P = P
 IfHeapless ReadFault P = P
 IfHeapless NoMemory P = P
 IfHeapless _ P = Unit {0}
+
+-- how a run of a workload that was drawn can end
+abbrev pub IsChurnEnding : Status → Type 0
+IsChurnEnding Done = Unit {0}
+IsChurnEnding WriteFault = Unit {0}
+IsChurnEnding NoMemory = Unit {0}
+IsChurnEnding _ = ⊥
+
+-- how many threads may mark, by the command
+abbrev pub workers_of : Command → ℕ
+workers_of (Run workers) = workers
+workers_of (Churn start ops workers) = workers
 
 -- This status, unless memory ran out.
 abbrev pub IsOrNoMemory : Status → Status → Type 0

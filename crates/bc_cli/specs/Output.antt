@@ -1,8 +1,10 @@
 -- What a run writes.
 use Rattle.std.specs.Prelude.{ℕ, ◌+◌, List, ◌++◌, take}
 use Rattle.bc_model.specs.Lists.{PhaseLists, TraceLists}
-use Rattle.bc_model.specs.Run.{opening, replies_of_phases, replies_to_lanes, before, phase_at, replies_of_cut}
+use Rattle.bc_model.specs.Run.{opening, replies_of, replies_of_phases, replies_to_lanes, before, phase_at, replies_of_cut}
 use Rattle.bc_model.specs.State.{State}
+use Rattle.bc_trace.specs.Churn.{churn_trace}
+use Rattle.bc_trace.specs.Counts.{churn_text, run_counts}
 use Rattle.bc_trace.specs.Replies.{phase_text, phases_text, done_text, out_of_heap_text}
 
 -- the texts of phases that are run from this state, the first of them being phase 1
@@ -32,3 +34,7 @@ need_text t k cut need = phase_text (k + 1) (replies_of_cut t k cut) ++ out_of_h
 -- the texts of the phases before phase k, and then that of phase k up to a cut
 abbrev pub cut_text : TraceLists → ℕ → List ℕ → List ℕ
 cut_text t k cut = texts_before t k ++ phase_text (k + 1) (replies_of_cut t k cut)
+
+-- the whole output of `churn`: its line, how many replies of each kind the plain heap gives to its trace, and the last line
+abbrev pub summary : ℕ → ℕ → List ℕ
+summary start ops = churn_text start ops (run_counts (replies_of (churn_trace start ops)))

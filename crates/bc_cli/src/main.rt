@@ -1,16 +1,18 @@
 // bc: replays an allocation trace on the collector's heap, and prints each lane's replies.
 //
-// `top` does all that the program does: it reads the words, reads a trace from a source, replays it,
-// and writes the replies to a sink. Its contract is the theorem of this repository: whatever
+// `top` does all that the program does: it reads the words, reads a trace from a source or draws one, replays it,
+// and writes the replies, or how many there were of each kind, to a sink. Its contract is the theorem of this repository: whatever
 // the heap below does, the replies printed for each lane are those of a heap that never frees, moves or
 // pages, all of them where the run is done, and else a front of them, with the exact cause of the
-// refusal. The definitions that the contract cites are in `specs/`: `Output` has the texts, `Endings` how a
-// replay ends and what its heap stands for then, `Outcomes` what each status says, `Words` the command line.
+// refusal. The definitions that the contract cites are in `specs/`: `Output` has the texts, `Endings` how the replay of a trace
+// that was read ends and what its heap stands for then, `Churns` the same of one that was drawn, `Outcomes` what each status says.
+// Which words are a command is said by `bc_words`.
 //
 // `main` only makes the real source and sink, calls `top`, prints the fault of its outcome and ends with
 // the outcome's exit status. What it does is shown by `.ci/examples` and `.ci/statuses` on the built program.
 //
 //     words -> command_of -> read_trace -> run_trace:  for each phase, run_phase -> texts_of -> write_texts
+//                         -> churn: generate -> for each phase, run_phase -> counts; then churn_text -> write_all
 //
 // The replay keeps `HasRun`: after k phases the engine stands for the state that the plain heap has then, and the texts of
 // k phases are written. Each is written as soon as the phase has run, so memory for replies is that of a phase and not of
@@ -20,28 +22,30 @@
 
 ghost use Rattle.std.specs.Prelude.{◌≡◌, ◌≢◌, IfErr, IfOk, map, string_bytes, None};
 ghost use Rattle.bc_cli.specs.Outcomes.{Faulty, IfBadTrace, IfStatusOutOfHeap, IsOrNoMemory, RanOutOfHeap};
-ghost use Rattle.bc_cli.specs.Words.{IsCommand};
+ghost use Rattle.bc_words.specs.Commands.{IsCommandOf};
+ghost use Rattle.bc_words.specs.declared.command.Command.{Command};
 
-mod command;
+mod churn;
 mod input;
 mod laws;
 mod outcome;
 mod phases;
-mod replay;
+mod run;
 mod status;
 mod texts;
+mod top;
 
 use bc_io::{StdSink, StdSource};
 pub use bc_pins::{Gate, OpenGate};
 pub use laws::law_output;
 pub use outcome::Outcome;
-pub use replay::top;
 pub use status::{Fault, Status};
 use std::alloc::{AllocError, Global};
 use std::env;
 use std::io::{ErrorKind, Read, Write};
 use std::process::ExitCode;
 use std::thread::Threads;
+pub use top::top;
 
 /// The words after the program's name.
 fn words_of(rt: &HostRuntime) -> Result<Vec<String>, Status>
@@ -84,8 +88,10 @@ where
     R: AllocGlobal + Threads + Sync,
     I: Read + Drop,
     O: Write + Drop,
-    ensures bad_words { result.status ≡ Status.BadWords → ¬ IsCommand (map (λ w. string_bytes w) words.now) }
-    ensures refused { ¬ IsCommand (map (λ w. string_bytes w) words.now) → IsOrNoMemory result.status Status.BadWords }
+    ensures bad_words { result.status ≡ Status.BadWords →
+        (command : Command) → ¬ IsCommandOf (map (λ w. string_bytes w) words.now) command }
+    ensures refused { ((command : Command) → ¬ IsCommandOf (map (λ w. string_bytes w) words.now) command) →
+        IsOrNoMemory result.status Status.BadWords }
     ensures bad_trace { IfBadTrace result.status (λ line cause. Faulty None None line cause) }
     ensures out_of_heap { IfStatusOutOfHeap result.status (λ need. RanOutOfHeap None None None None result.heap need) }
 {

@@ -23,9 +23,9 @@ use std::thread::Threads;
 
 /// How a phase ended: its replies, and the need where it ended for want of heap.
 #[derive(Drop)]
-struct PhaseEnd {
-    replies: Replies,
-    need: Option<u64>,
+pub(crate) struct PhaseEnd {
+    pub(crate) replies: Replies,
+    pub(crate) need: Option<u64>,
 }
 
 /// Runs the phases, and writes the text of each as soon as it has run.
@@ -56,6 +56,7 @@ where
     ensures no_memory { IsErrOf result Ending.NoMemory →
         StopsBefore trace.now (K.held sink.old) (K.held sink.new) }
     ensures firm { ¬ IsErrOf result Ending.WriteFault → K.faults sink.new ≡ K.faults sink.old }
+    ensures workers { engine.new.workers ≡ engine.old.workers }
 {
     for index in 0..trace.phases.len() {
         write_phase(rt, alloc, engine, trace, index, sink, gate)?;
@@ -98,6 +99,7 @@ where
         EndsOutOfHeap trace.now start (K.held sink.new) (Some engine.new) need }
     ensures no_memory { IsErrOf result Ending.NoMemory → sink.new ≡ sink.old }
     ensures firm { ¬ IsErrOf result Ending.WriteFault → K.faults sink.new ≡ K.faults sink.old }
+    ensures workers { engine.new.workers ≡ engine.old.workers }
 {
     let end = run_phase(rt, alloc, engine, &trace.phases[index], gate)?;
     let texts = texts_of(alloc, index as u32 + 1, &end.replies, end.need)?;
@@ -109,7 +111,7 @@ where
 }
 
 /// Runs a phase. Where it answers no end the engine has run out of memory itself.
-fn run_phase<R, G>(
+pub(crate) fn run_phase<R, G>(
     rt: &R,
     alloc: Global,
     engine: &mut Engine,
@@ -124,6 +126,7 @@ where
     requires births { HasRoomForOps engine.old phase.now.lanes 0 }
     ensures ended { IfOk result (λ end. PhaseEnded engine.old phase.now engine.new end.replies end.need) }
     ensures setup { engine.new.setup ≡ engine.old.setup }
+    ensures workers { engine.new.workers ≡ engine.old.workers }
     ensures births { (n : ℕ) → HasRoomForOps engine.old phase.now.lanes n → HasRoomForBirths engine.new n }
     ensures no_memory { IsErr result → engine.new.ended ≡ Some Ended.NoMemory }
 {

@@ -5,7 +5,7 @@ ghost use Rattle.bc_io.specs.Faults.{Rose};
 ghost use Rattle.bc_io.specs.Told.{HeldGrows, HasRoom};
 ghost use Rattle.bc_io.specs.Pieces.{RoomFalls};
 ghost use Rattle.bc_trace.specs.Replies.{phase_text, out_of_heap_text};
-ghost use Rattle.bc_cli.specs.BetweenPhases.{WritesFront};
+ghost use Rattle.bc_cli.specs.Endings.{WritesFront};
 ghost use Rattle.bc_cli.specs.NeedLine.{need_line};
 
 use bc_io::{Sink, WriteFault, write_all};

@@ -7,8 +7,7 @@ use Rattle.std.proofs.lemmas.List.{get_or_past}
 use Rattle.bc_model.specs.Consistent.{IsState}
 use Rattle.bc_model.specs.StateSizes.{sizes_of}
 use Rattle.bc_model.specs.Lists.{PhaseLists, TraceLists}
-use Rattle.bc_model.specs.Run.{opening, after_ops, replies_to, replies_to_lanes, after_phase, after_phases, replies_of_phases, replies_of_cut, cut_lanes, no_phase, phase_at, before}
-use Rattle.bc_model.specs.RunLengths.{replies_of}
+use Rattle.bc_model.specs.Run.{opening, after_ops, replies_to, replies_to_lanes, after_phase, after_phases, replies_of_phases, replies_of, replies_of_cut, cut_lanes, no_phase, phase_at, before}
 use Rattle.bc_model.specs.State.{State}
 use Rattle.bc_model.specs.Step.{step}
 use Rattle.bc_model.specs.WellFormed.{IsOp, IsTrace}

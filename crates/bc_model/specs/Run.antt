@@ -81,3 +81,7 @@ replies_of_cut t k cut = replies_to_lanes (before t k) 0 (cut_lanes cut (phase_a
 
 abbrev pub final_state : TraceLists → State
 final_state t = after_phases (opening t.setup) t.phases
+
+-- what each lane is answered in each phase of a whole run
+abbrev pub replies_of : TraceLists → List (List (List Reply))
+replies_of t = replies_of_phases (opening t.setup) t.phases

@@ -4,8 +4,8 @@ use Rattle.std.specs.List.{sum_by, sum}
 use Rattle.std.proofs.lemmas.List.{length-map, map-append}
 use Rattle.std.proofs.lemmas.List.Sums.{sum_by-cons, sum_by-append}
 use Rattle.bc_model.specs.Lists.{PhaseLists, TraceLists}
-use Rattle.bc_model.specs.Run.{opening, after_ops, after_phase, replies_to, replies_to_lanes, replies_of_phases}
-use Rattle.bc_model.specs.RunLengths.{ops_of, all_ops_of, replies_of}
+use Rattle.bc_model.specs.Run.{opening, after_ops, after_phase, replies_to, replies_to_lanes, replies_of_phases, replies_of}
+use Rattle.bc_model.specs.RunLengths.{ops_of, all_ops_of}
 use Rattle.bc_model.specs.State.{State, numbers_below}
 use Rattle.bc_model.specs.Step.{step}
 use Rattle.bc_model.specs.declared.operations.Op.{Op}

@@ -7,8 +7,8 @@ use Rattle.std.proofs.lemmas.List.Sums.{sum_by-cons}
 use Rattle.bc_model.specs.Consistent.{IsState, IsValue}
 use Rattle.bc_model.specs.StateSizes.{HasSerials, sizes_of}
 use Rattle.bc_model.specs.Lists.{PhaseLists, TraceLists}
-use Rattle.bc_model.specs.Run.{opening, after_ops, after_phase, replies_to, replies_to_lanes, replies_of_phases, replies_of_cut}
-use Rattle.bc_model.specs.RunLengths.{replies_of, ops_of, all_ops_of}
+use Rattle.bc_model.specs.Run.{opening, after_ops, after_phase, replies_to, replies_to_lanes, replies_of_phases, replies_of, replies_of_cut}
+use Rattle.bc_model.specs.RunLengths.{ops_of, all_ops_of}
 use Rattle.bc_model.specs.State.{State, IsBorn, object_of, slot_of, field_of, holds}
 use Rattle.bc_model.specs.Step.{act, domains_of, on_object, on_field, step, told, loaded, is_same}
 use Rattle.bc_model.specs.WellFormed.{IsOp, IsPhase, IsTrace}

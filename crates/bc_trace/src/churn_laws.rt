@@ -2,8 +2,8 @@
 ghost use Rattle.std.specs.Prelude.{◌≡◌, ◌↔◌, ◌+◌, ◌*◌, ◌<◌, ◌≤◌, ℕ, List, [], length, slice_index_or, sum};
 ghost use Rattle.bc_model.specs.Need.{IsNeed};
 ghost use Rattle.bc_model.specs.Lists.{TraceLists};
-ghost use Rattle.bc_model.specs.Run.{after_cut, before, final_state, phase_at};
-ghost use Rattle.bc_model.specs.RunLengths.{all_ops_of, ops_of, replies_of};
+ghost use Rattle.bc_model.specs.Run.{after_cut, before, final_state, phase_at, replies_of};
+ghost use Rattle.bc_model.specs.RunLengths.{all_ops_of, ops_of};
 ghost use Rattle.bc_model.specs.WellFormed.{IsTrace, IsWithin};
 ghost use Rattle.bc_model.specs.declared.operations.Op.{Op};
 ghost use Rattle.bc_model.specs.declared.operations.Reply.{Reply};

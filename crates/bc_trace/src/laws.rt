@@ -2,8 +2,8 @@
 ghost use Rattle.std.specs.List.{AllByRecursion};
 ghost use Rattle.std.specs.Prelude.{◌≡◌, ◌⊎◌, ◌↔◌, ◌++◌, ◌<◌, ◌^◌, ℕ, List};
 ghost use Rattle.bc_model.specs.Lists.{TraceLists};
-ghost use Rattle.bc_model.specs.Run.{replies_of_cut};
-ghost use Rattle.bc_model.specs.RunLengths.{all_ops_of, replies_of};
+ghost use Rattle.bc_model.specs.Run.{replies_of, replies_of_cut};
+ghost use Rattle.bc_model.specs.RunLengths.{all_ops_of};
 ghost use Rattle.bc_model.specs.WellFormed.{IsTrace};
 ghost use Rattle.bc_model.specs.declared.operations.Reply.{Reply};
 ghost use Rattle.bc_trace.specs.declared.fault.Cause.{Cause};

@@ -14,6 +14,7 @@ loop-index-init g c = record {
   held = rw texts-none (HeldGrows-nil _);
   room = rw texts-none (RoomFalls-none _);
   firm = refl;
+  workers = refl;
 }
 
 pub loop-index-preserved : goal.loop-index-preserved
@@ -24,6 +25,7 @@ loop-index-preserved g c =
       held = e.written _ c.loop-index.invariant.held;
       room = e.filled _ c.loop-index.invariant.room;
       firm = e.firm (λ n. cc) ∙ c.loop-index.invariant.firm;
+      workers = e.workers ∙ c.loop-index.invariant.workers;
     }
 
 pub returns-in_err-write_phase-clause-write_fault : goal.returns-in_err-write_phase-clause-write_fault
@@ -56,3 +58,6 @@ returns-in_err-write_phase-clause-no_memory g c =
       within = lt;
       written = subst (λ z. HeldGrows (g.K.Sink.held c.args.sink.now) (g.K.Sink.held z) (texts_before c.args.trace.now c.loop-index.index)) (sym (c.in_err-write_phase.ensures.no_memory e)) c.loop-index.invariant.held;
     })
+
+pub returns-in_err-write_phase-clause-workers : goal.returns-in_err-write_phase-clause-workers
+returns-in_err-write_phase-clause-workers g c = c.in_err-write_phase.ensures.workers ∙ c.loop-index.invariant.workers

@@ -11,4 +11,5 @@ invariant-loop-index g l = record {
   held : HeldGrows (g.K.Sink.held l.fn.sink) (g.K.Sink.held l.sink) (texts_before l.trace l.index);
   room : RoomFalls (g.K.Sink.room l.fn.sink) (g.K.Sink.room l.sink) (length (texts_before l.trace l.index));
   firm : g.K.Sink.faults l.sink ≡ g.K.Sink.faults l.fn.sink;
+  workers : l.engine.workers ≡ l.fn.engine.workers;
 }

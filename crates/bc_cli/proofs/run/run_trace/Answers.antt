@@ -6,7 +6,7 @@ use Rattle.bc_cli.specs.Endings.{EndsDone, EndsInFault}
 use Rattle.bc_cli.specs.Output.{all_texts}
 use Rattle.bc_cli.proofs.Finishing.{HasRun-opened, ends-done, fails-at_done}
 use Rattle.bc_cli.proofs.Pieces.{Rose-since, room-for-next, front-taken}
-use Rattle.bc_cli.proofs.replay.run_trace.Goals as goal
+use Rattle.bc_cli.proofs.run.run_trace.Goals as goal
 
 pub write_phases-requires-clause-opened : goal.write_phases-requires-clause-opened
 write_phases-requires-clause-opened g c κs within =

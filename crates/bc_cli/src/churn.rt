@@ -1,0 +1,151 @@
+//! The replay of a workload that is drawn: its replies are counted, and the counts are written at the end.
+
+ghost use Rattle.std.specs.Prelude.{◌≡◌, ◌≢◌, ◌+◌, ◌^◌, ◌<◌, ◌≤◌, None, Some, IfOk, IfSome, OnOk, length};
+ghost use Rattle.bc_io.specs.Faults.{Rose};
+ghost use Rattle.bc_io.specs.Told.{HasRoom};
+ghost use Rattle.bc_model.specs.Run.{replies_of};
+ghost use Rattle.bc_model.specs.RunLengths.{all_ops_of};
+ghost use Rattle.bc_model.specs.WellFormed.{IsTrace};
+ghost use Rattle.bc_trace.specs.Counts.{run_counts};
+ghost use Rattle.bc_cli.specs.Churns.{ChurnsDone, ChurnsInFault, HasChurned};
+ghost use Rattle.bc_cli.specs.Endings.{FitsThroughout};
+ghost use Rattle.bc_cli.specs.BetweenPhases.{HasRun};
+ghost use Rattle.bc_cli.specs.Outcomes.{IsChurnEnding};
+ghost use Rattle.bc_cli.specs.Output.{summary};
+ghost use Rattle.bc_cli.specs.NeedLine.{replies_before};
+
+use crate::outcome::Outcome;
+use crate::phases::run_phase;
+use crate::status::Status;
+use bc_engine::Engine;
+use bc_io::{Sink, write_all};
+use bc_model::Trace;
+use bc_pins::Gate;
+use bc_trace::{Counts, churn_text, generate};
+use std::alloc::{AllocError, Global};
+use std::thread::Threads;
+
+/// A workload that was replayed to its end: the heap as it stands then, and the text that tells the counts.
+#[derive(Drop)]
+struct Churned {
+    engine: Engine,
+    text: Vec<u8>,
+}
+
+/// Replays the workload of a starting number and so many drawn operations for each lane, and writes how many replies of each
+/// kind there were. The whole text is made before any of it is written.
+pub(crate) fn churn<R, K, G>(
+    rt: &R,
+    alloc: Global,
+    start: u64,
+    ops: u32,
+    workers: u32,
+    sink: &mut K,
+    gate: &G,
+) -> Outcome
+where
+    R: Threads + Sync,
+    K: Sink,
+    G: Gate + Sync,
+    requires ops { ops ≤ 100000 }
+    requires workers { (1 ≤ workers) × (workers ≤ 16) }
+    requires room { HasRoom (K.room sink.old) (length (summary start ops)) }
+    ensures ending { IsChurnEnding result.status }
+    ensures done { result.status ≡ Status.Done →
+        ChurnsDone start ops (K.held sink.old) (K.held sink.new) result.heap }
+    ensures write_fault { result.status ≡ Status.WriteFault → Rose (K.faults sink.old) (K.faults sink.new)
+        × ChurnsInFault start ops (K.held sink.old) (K.held sink.new) result.heap }
+    ensures firm { result.status ≢ Status.WriteFault → K.faults sink.new ≡ K.faults sink.old }
+    ensures no_memory { result.status ≡ Status.NoMemory → (sink.new ≡ sink.old) × (result.heap ≡ None) }
+    ensures workers { IfSome result.heap (λ engine. engine.workers ≡ workers) }
+{
+    let Ok(churned) = replay(rt, alloc, start, ops, workers, gate) else {
+        return Outcome::without_heap(Status::NoMemory);
+    };
+    match write_all(sink, &churned.text) {
+        Ok(()) => Outcome::with_heap(Status::Done, churned.engine),
+        Err(_) => Outcome::with_heap(Status::WriteFault, churned.engine),
+    }
+}
+
+/// Draws the trace of the workload, replays it on a new heap, and makes the text of its counts. The error is want of memory.
+fn replay<R, G>(
+    rt: &R,
+    alloc: Global,
+    start: u64,
+    ops: u32,
+    workers: u32,
+    gate: &G,
+) -> Result<Churned, AllocError>
+where
+    R: Threads + Sync,
+    G: Gate + Sync,
+    requires ops { ops ≤ 100000 }
+    requires workers { (1 ≤ workers) × (workers ≤ 16) }
+    ensures text { IfOk result (λ churned. churned.text.items ≡ summary start ops) }
+    ensures heap { IfOk result (λ churned. HasChurned start ops (Some churned.engine)) }
+    ensures workers { IfOk result (λ churned. churned.engine.workers ≡ workers) }
+{
+    let trace = generate(alloc, start, ops)?;
+    let mut engine = Engine::open(alloc, &trace.setup, workers)?;
+    let counts = count_phases(rt, alloc, &mut engine, &trace, gate)?;
+    let text = churn_text(alloc, start, ops, &counts)?;
+    Ok(Churned { engine, text })
+}
+
+/// Runs the phases of a trace whose states all fit, and counts the replies.
+fn count_phases<R, G>(
+    rt: &R,
+    alloc: Global,
+    engine: &mut Engine,
+    trace: &Trace,
+    gate: &G,
+) -> Result<Counts, AllocError>
+where
+    R: Threads + Sync,
+    G: Gate + Sync,
+    requires trace { IsTrace trace.now }
+    requires few { all_ops_of trace.now < 2 ^ 32 }
+    requires fits { FitsThroughout trace.now }
+    requires opened { HasRun trace.now 0 engine.old }
+    ensures run { OnOk result (HasRun trace.now (length trace.now.phases) engine.new) }
+    ensures counted { IfOk result (λ counts. counts ≡ run_counts (replies_of trace.now)) }
+    ensures workers { engine.new.workers ≡ engine.old.workers }
+{
+    let mut counts = Counts::new();
+    for index in 0..trace.phases.len() {
+        count_phase(rt, alloc, engine, trace, index, &mut counts, gate)?;
+    }
+    Ok(counts)
+}
+
+/// Runs the phase of this index, and counts its replies too.
+fn count_phase<R, G>(
+    rt: &R,
+    alloc: Global,
+    engine: &mut Engine,
+    trace: &Trace,
+    index: usize,
+    counts: &mut Counts,
+    gate: &G,
+) -> Result<(), AllocError>
+where
+    R: Threads + Sync,
+    G: Gate + Sync,
+    requires trace { IsTrace trace.now }
+    requires few { all_ops_of trace.now < 2 ^ 32 }
+    requires fits { FitsThroughout trace.now }
+    requires index { index < length trace.now.phases }
+    requires opened { HasRun trace.now index engine.old }
+    requires counted { counts.old ≡ run_counts (replies_before trace.now index) }
+    ensures run { OnOk result (HasRun trace.now (index + 1) engine.new) }
+    ensures counted { OnOk result (counts.new ≡ run_counts (replies_before trace.now (index + 1))) }
+    ensures workers { engine.new.workers ≡ engine.old.workers }
+{
+    let end = run_phase(rt, alloc, engine, &trace.phases[index], gate)?;
+    match end.need {
+        Some(_) => unreachable!(),
+        None => counts.add(&end.replies),
+    }
+    Ok(())
+}

@@ -1,0 +1,67 @@
+//! The replay of a trace that was read: each phase's text is written as soon as the phase has run.
+
+ghost use Rattle.std.specs.Prelude.{◌≡◌, ◌≢◌, ◌^◌, ◌<◌, ◌≤◌, ◌⊎◌, None, IfSome, length};
+ghost use Rattle.bc_io.specs.Faults.{Rose};
+ghost use Rattle.bc_model.specs.RunLengths.{all_ops_of};
+ghost use Rattle.bc_model.specs.WellFormed.{IsTrace};
+ghost use Rattle.bc_cli.specs.Endings.{EndsDone, EndsOutOfHeap, EndsInFault, StopsBefore, HasRunRoom};
+ghost use Rattle.bc_cli.specs.Outcomes.{IfStatusOutOfHeap, IfHeapless};
+ghost use Rattle.bc_cli.specs.PartEndings.{IsEnding};
+
+use crate::outcome::Outcome;
+use crate::phases::write_phases;
+use crate::status::{Ending, Status};
+use bc_engine::Engine;
+use bc_io::{Sink, write_all};
+use bc_model::Trace;
+use bc_pins::Gate;
+use std::alloc::Global;
+use std::thread::Threads;
+
+/// The last line of a run that is done.
+const DONE: &[u8] = b"done\n";
+
+/// Replays a trace on a new heap: writes the text of each phase as soon as it has run, and then the last line.
+pub(crate) fn run_trace<R, K, G>(
+    rt: &R,
+    alloc: Global,
+    trace: &Trace,
+    workers: u32,
+    sink: &mut K,
+    gate: &G,
+) -> Outcome
+where
+    R: Threads + Sync,
+    K: Sink,
+    G: Gate + Sync,
+    requires trace { IsTrace trace.now }
+    requires phases { length trace.now.phases < 2 ^ 32 }
+    requires ops { all_ops_of trace.now < 2 ^ 32 }
+    requires workers { (1 ≤ workers) × (workers ≤ 16) }
+    requires room { HasRunRoom (K.room sink.old) trace.now }
+    ensures ending { IsEnding result.status }
+    ensures done { result.status ≡ Status.Done →
+        EndsDone trace.now (K.held sink.old) (K.held sink.new) result.heap }
+    ensures out_of_heap { IfStatusOutOfHeap result.status (λ need.
+        EndsOutOfHeap trace.now (K.held sink.old) (K.held sink.new) result.heap need) }
+    ensures write_fault { result.status ≡ Status.WriteFault → Rose (K.faults sink.old) (K.faults sink.new)
+        × EndsInFault trace.now (K.held sink.old) (K.held sink.new) result.heap }
+    ensures firm { result.status ≢ Status.WriteFault → K.faults sink.new ≡ K.faults sink.old }
+    ensures no_memory { result.status ≡ Status.NoMemory → (sink.new ≡ sink.old)
+        ⊎ StopsBefore trace.now (K.held sink.old) (K.held sink.new) }
+    ensures none { IfHeapless result.status (result.heap ≡ None) }
+    ensures workers { IfSome result.heap (λ engine. engine.workers ≡ workers) }
+{
+    let Ok(mut engine) = Engine::open(alloc, &trace.setup, workers) else {
+        return Outcome::without_heap(Status::NoMemory);
+    };
+    match write_phases(rt, alloc, &mut engine, trace, sink, gate) {
+        Ok(()) => match write_all(sink, DONE) {
+            Ok(()) => Outcome::with_heap(Status::Done, engine),
+            Err(_) => Outcome::with_heap(Status::WriteFault, engine),
+        },
+        Err(Ending::WriteFault) => Outcome::with_heap(Status::WriteFault, engine),
+        Err(Ending::OutOfHeap { need }) => Outcome::with_heap(Status::OutOfHeap { need }, engine),
+        Err(Ending::NoMemory) => Outcome::without_heap(Status::NoMemory),
+    }
+}
