@@ -11,8 +11,10 @@ use Rattle.bc_model.specs.declared.operations.Reply.TheVariants as replies
 use Rattle.bc_model.specs.declared.values.Slot.{Slot}
 use Rattle.bc_trace.specs.declared.words.Verb.{Verb}
 use Rattle.bc_trace.specs.declared.words.Verb.TheVariants as verbs
-use Rattle.bc_trace.specs.Counts.{IsNamed, kind_names, kind_of_reply}
-use Rattle.bc_trace.specs.Draws.{draw, draws, drawn_op, drawn_verb, drawn_with, first_kind, IsDrawn, last_kind, limits_of, next_number, number_after, number_after_op, verb_of_kind}
+use Rattle.bc_trace.specs.Counts.{kind_names, kind_of_reply}
+use Rattle.bc_trace.specs.KindNames.{IsNamed}
+use Rattle.bc_trace.specs.Draws.{draw, draws, drawn_op, drawn_verb, drawn_with, limits_of, next_number, number_after, number_after_op, verb_of_kind}
+use Rattle.bc_trace.specs.DrawnKinds.{first_kind, IsDrawn, last_kind}
 use Rattle.bc_trace.specs.Lines.{verb_of_op, operands_of_op}
 use Rattle.bc_trace.specs.Replies.{reply_word}
 use Rattle.bc_trace.proofs.Formed.{draw-below}

@@ -1,5 +1,5 @@
 -- The counts of the replies of a run by their kinds, and the output of `churn`.
-use Rattle.std.specs.Prelude.{◌≡◌, ◌⊎◌, ℕ, ◌==◌, List, [], ◌∷◌, ◌++◌, codes, map, slice_index, suc}
+use Rattle.std.specs.Prelude.{ℕ, ◌==◌, List, [], ◌∷◌, ◌++◌, codes, map, slice_index, suc}
 use Rattle.std.specs.List.{count_by, flat_map}
 use Rattle.std.specs.Fmt.{decimal}
 use Rattle.bc_model.specs.State.{numbers_below}
@@ -24,10 +24,6 @@ kind_of_reply replies.Foreign = 10
 -- how the kinds are written, each at its place
 abbrev pub kind_names : List (List ℕ)
 kind_names = codes "obj" ∷ codes "ok" ∷ codes "nil" ∷ codes "num" ∷ codes "ref" ∷ codes "len" ∷ codes "yes" ∷ codes "no" ∷ codes "notobj" ∷ codes "range" ∷ codes "foreign" ∷ []
-
--- the word is the name, or begins with the name and a space
-abbrev pub IsNamed : List ℕ → List ℕ → Type 0
-IsNamed word name = (word ≡ name) ⊎ ((rest : List ℕ) × (word ≡ name ++ 32 ∷ rest))
 
 -- how many of the replies are of the kind
 abbrev pub count_of_kind : ℕ → List Reply → ℕ

@@ -1,12 +1,10 @@
 -- What the generator of `churn` draws: numbers, and operations by the table of kinds.
-use Rattle.std.specs.Prelude.{◌≡◌, ℕ, ◌+◌, ◌*◌, ◌/◌, ◌%◌, ◌^◌, nat_lt, if◌then◌else◌, List, [], ◌∷◌, length, zero, suc}
-use Rattle.bc_model.specs.WellFormed.{IsWithin}
+use Rattle.std.specs.Prelude.{ℕ, ◌+◌, ◌*◌, ◌/◌, ◌%◌, ◌^◌, nat_lt, if◌then◌else◌, List, [], ◌∷◌, length, zero, suc}
 use Rattle.bc_model.specs.declared.operations.Op.{Op}
 use Rattle.bc_model.specs.declared.operations.Op.TheVariants as ops
 use Rattle.bc_model.specs.declared.values.Slot.{Slot}
 use Rattle.bc_trace.specs.declared.words.Verb.{Verb}
 use Rattle.bc_trace.specs.declared.words.Verb.TheVariants as verbs
-use Rattle.bc_trace.specs.Lines.{verb_of_op, operands_of_op}
 
 -- the generator's number after a draw
 unfoldable pub next_number : ℕ → ℕ
@@ -40,32 +38,6 @@ verb_of_kind k =
     if nat_lt k 17 then verbs.Load else
     if nat_lt k 18 then verbs.Copy else
     if nat_lt k 19 then verbs.Clear else verbs.Same
-
--- the first of an operation's kinds
-abbrev pub first_kind : Verb → ℕ
-first_kind verbs.New = 0
-first_kind verbs.Who = 6
-first_kind verbs.Len = 7
-first_kind verbs.Set = 8
-first_kind verbs.Cut = 10
-first_kind verbs.Link = 11
-first_kind verbs.Load = 14
-first_kind verbs.Copy = 17
-first_kind verbs.Clear = 18
-first_kind verbs.Same = 19
-
--- and the last one
-abbrev pub last_kind : Verb → ℕ
-last_kind verbs.New = 5
-last_kind verbs.Who = 6
-last_kind verbs.Len = 7
-last_kind verbs.Set = 9
-last_kind verbs.Cut = 10
-last_kind verbs.Link = 13
-last_kind verbs.Load = 16
-last_kind verbs.Copy = 17
-last_kind verbs.Clear = 18
-last_kind verbs.Same = 19
 
 -- what each operand of an operation is drawn below, from left to right
 unfoldable pub limits_of : Verb → List ℕ
@@ -115,12 +87,3 @@ number_after_op x = number_after (length (limits_of (drawn_verb x))) (next_numbe
 abbrev pub number_after_ops : ℕ → ℕ → ℕ
 number_after_ops zero x = x
 number_after_ops (suc n) x = number_after_op (number_after_ops n x)
-
--- ---- the same in one sentence
-
--- from the number x the operation is drawn, and y is the number behind it: the first draw is of its kind, and then come its
--- operands, from left to right, each below its limit
-pub record IsDrawn (x : ℕ) (o : Op) (y : ℕ) : Type 0 where
-  pub kind : IsWithin (first_kind (verb_of_op o)) (last_kind (verb_of_op o)) (draw x 20)
-  pub operands : operands_of_op o ≡ draws (next_number x) (limits_of (verb_of_op o))
-  pub after : y ≡ number_after (1 + length (operands_of_op o)) x

@@ -9,8 +9,10 @@ ghost use Rattle.bc_model.specs.declared.operations.Op.{Op};
 ghost use Rattle.bc_model.specs.declared.operations.Reply.{Reply};
 ghost use Rattle.bc_trace.specs.declared.words.Verb.{Verb};
 ghost use Rattle.bc_trace.specs.Churn.{churn_phase, churn_setup, churn_trace, holders_before, ops_in, phases_of};
-ghost use Rattle.bc_trace.specs.Counts.{all_replies, IsNamed, kind_names, kind_of_reply, run_counts};
-ghost use Rattle.bc_trace.specs.Draws.{draw, drawn_op, first_kind, IsDrawn, last_kind, number_after_op, verb_of_kind};
+ghost use Rattle.bc_trace.specs.Counts.{all_replies, kind_names, kind_of_reply, run_counts};
+ghost use Rattle.bc_trace.specs.KindNames.{IsNamed};
+ghost use Rattle.bc_trace.specs.Draws.{draw, drawn_op, number_after_op, verb_of_kind};
+ghost use Rattle.bc_trace.specs.DrawnKinds.{first_kind, IsDrawn, last_kind};
 ghost use Rattle.bc_trace.specs.Replies.{reply_word};
 
 /// Law: each of the twenty kinds is one operation, and an operation is drawn by its kind and then its operands from left to

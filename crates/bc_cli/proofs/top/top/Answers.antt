@@ -56,9 +56,11 @@ returns-in-Ok-Some-Churn-clause-churn_done g c = λ start ops workers is e.
 pub returns-in-Ok-Some-Churn-clause-churn_write_fault : goal.returns-in-Ok-Some-Churn-clause-churn_write_fault
 returns-in-Ok-Some-Churn-clause-churn_write_fault g c = λ start ops workers is e.
     let found = c.in-Ok-Some-Churn in
-    let fault = c.churn.ensures.write_fault e in
-    (fault.0, same-churn (λ start ops. ChurnsInFault start ops (g.K.Sink.held c.args.sink.now) (g.K.Sink.held c.churn.new.sink) c.churn.result.heap) found.field-0 found.start found.ops found.workers start ops workers (cc (found.field-0-is, found.field-0-0-is))
-    (found.ensures.the_one (Churn start ops workers) is) fault.1)
+    let fault = c.churn.ensures.write_fault e in (
+      fault.0,
+      same-churn (λ start ops. ChurnsInFault start ops (g.K.Sink.held c.args.sink.now) (g.K.Sink.held c.churn.new.sink) c.churn.result.heap) found.field-0 found.start found.ops found.workers start ops workers (cc (found.field-0-is, found.field-0-0-is))
+          (found.ensures.the_one (Churn start ops workers) is) fault.1,
+    )
 
 pub returns-in-Ok-Some-Churn-clause-workers : goal.returns-in-Ok-Some-Churn-clause-workers
 returns-in-Ok-Some-Churn-clause-workers g c = λ command is.
