@@ -22,3 +22,5 @@ pub mod Finishing
 pub mod Counted
 -- The command that was found, and the one that the words are.
 pub mod Asking
+-- The output of `churn` is short.
+pub mod ChurnRoom

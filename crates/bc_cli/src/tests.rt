@@ -5,6 +5,7 @@ mod engines;
 mod heaps;
 mod rows;
 mod sink;
+mod words;
 
 use crate::{OpenGate, Status, top};
 use bc_io::MemSource;

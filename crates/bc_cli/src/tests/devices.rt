@@ -25,6 +25,10 @@ const CUT_SHORT: &[u8; 277] =
 const CUT_OUTPUT: &[u8; 158] =
     b"phase 1\nlane 0\nobj 0.1\nlane 1\nobj 1.1\nphase 2\nlane 0\nobj 0.1\nlane 1\nlen 1\nphase 3\nlane 0\nobj 0.2\nlane 1\nobj 1.1\nobj 1.2\nobj 1.3\nobj 1.4\nobj 1.5\nout of heap 3\n";
 
+/// What `churn 7 0` prints.
+const NOTHING_DRAWN: &[u8; 88] =
+    b"churn 7 0\nobj 0\nok 0\nnil 0\nnum 0\nref 0\nlen 0\nyes 0\nno 0\nnotobj 0\nrange 0\nforeign 0\ndone\n";
+
 /// What a run over these devices ended with, whether it handed back a heap, and what the sink holds.
 #[derive(Drop)]
 struct Left {
@@ -33,16 +37,18 @@ struct Left {
     held: Vec<u8>,
 }
 
-/// A run over these devices. The sink has room for all that it may write.
+/// What the words do over these devices. The sink has room for all that they may write.
 fn run_between<R: Threads + Sync>(
     rt: &R,
     alloc: Global,
+    words: &[&str],
     mut source: MemSource,
     mut sink: MemSink,
 ) -> Result<Left, AllocError>
-    requires room { 4 * length source.left + 40 ≤ sink.room }
+    requires run { 4 * length source.left + 40 ≤ sink.room }
+    requires churn { 200 ≤ sink.room }
 {
-    let outcome = top(rt, alloc, &["run"], &mut source, &mut sink, &OpenGate);
+    let outcome = top(rt, alloc, words, &mut source, &mut sink, &OpenGate);
     Ok(Left {
         status: outcome.status,
         has_heap: outcome.heap.is_some(),
@@ -65,7 +71,7 @@ fn run_over<R: Threads + Sync>(
     let source = MemSource::new(trace.to_vec(alloc)?, reads.0, vec![in alloc; reads.1]?);
     let failing = vec![in alloc; writes.1]?;
     let sink = MemSink::new(alloc, 1148, writes.0, failing)?;
-    run_between(rt, alloc, source, sink)
+    run_between(rt, alloc, &["run"], source, sink)
 }
 
 /// Shows that the run stops at the write of this number, of so many bytes at most, and leaves this front of the output.
@@ -167,6 +173,59 @@ fn each_text_and_each_last_line_is_one_write(rt: HostRuntime) -> Result<(), Fail
     let left = run_over(&rt, alloc, CUT_SHORT, (4096, 0), (1000, 5))?;
     assert_eq!(rt; left.status, Status::OutOfHeap { need: 3 });
     let left = run_over(&rt, alloc, FIRST_PATH, (4096, 0), (1000, 3))?;
+    assert_eq!(rt; left.status, Status::Done);
+    Ok(())
+}
+
+/// The words `churn 7 0` over a source of which every read fails. The one write of this number, of so many bytes at most, fails.
+fn churn_over<R: Threads + Sync>(
+    rt: &R,
+    alloc: Global,
+    write: (usize, u64),
+) -> Result<Left, AllocError>
+    requires write { 0 < write.0 }
+{
+    let source = MemSource::new(FIRST_PATH.to_vec(alloc)?, 4096, vec![in alloc; 1]?);
+    let sink = MemSink::new(alloc, 1148, write.0, vec![in alloc; write.1]?)?;
+    run_between(rt, alloc, &["churn", "7", "0"], source, sink)
+}
+
+#[test]
+fn churn_reads_nothing_and_tells_its_counts_in_88_bytes(rt: HostRuntime) -> Result<(), Fail> {
+    let left = churn_over(&rt, rt.alloc(), (1000, 0))?;
+    assert_eq!(rt; left.status, Status::Done);
+    assert!(rt; left.has_heap);
+    assert_eq!(rt; left.held.as_slice(), NOTHING_DRAWN.as_slice());
+    Ok(())
+}
+
+#[test]
+fn the_output_of_churn_is_one_write(rt: HostRuntime) -> Result<(), Fail> {
+    let left = churn_over(&rt, rt.alloc(), (1000, 1))?;
+    assert_eq!(rt; left.status, Status::WriteFault);
+    assert!(rt; left.has_heap);
+    assert!(rt; left.held.is_empty());
+    let left = churn_over(&rt, rt.alloc(), (1000, 2))?;
+    assert_eq!(rt; left.status, Status::Done);
+    Ok(())
+}
+
+#[test]
+fn a_write_that_fails_in_the_output_of_churn_leaves_a_front_of_it(
+    rt: HostRuntime,
+) -> Result<(), Fail> {
+    for number in 1..=9 {
+        let left = churn_over(&rt, rt.alloc(), (10, number))?;
+        let taken = number as usize * 10 - 10;
+        assert_eq!(rt; left.status, Status::WriteFault, "at write {number}");
+        assert!(rt; left.has_heap);
+        assert_eq!(rt;
+            left.held.as_slice(),
+            &NOTHING_DRAWN[..taken],
+            "at write {number}"
+        );
+    }
+    let left = churn_over(&rt, rt.alloc(), (10, 10))?;
     assert_eq!(rt; left.status, Status::Done);
     Ok(())
 }

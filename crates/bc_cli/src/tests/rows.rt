@@ -191,23 +191,3 @@ fn an_input_of_a_byte_more_than_16_mib_is_too_long(rt: HostRuntime) -> Result<()
     assert!(rt; ran.written.is_empty());
     Ok(())
 }
-
-#[test]
-fn other_words_than_run_are_no_command(rt: HostRuntime) -> Result<(), Fail> {
-    let text = one_phase(rt.alloc(), SMALL, "")?;
-    let input = text.as_bytes();
-    let walk = run_over(&rt, rt.alloc(), &["walk"], input.to_vec(rt.alloc())?);
-    assert_eq!(rt; walk.status, Status::BadWords);
-    assert!(rt; !walk.has_heap);
-    assert!(rt; walk.written.is_empty());
-    let workers = run_over(
-        &rt,
-        rt.alloc(),
-        &["run", "--workers", "0"],
-        input.to_vec(rt.alloc())?,
-    );
-    assert_eq!(rt; workers.status, Status::BadWords);
-    let none = run_over(&rt, rt.alloc(), &[], input.to_vec(rt.alloc())?);
-    assert_eq!(rt; none.status, Status::BadWords);
-    Ok(())
-}
