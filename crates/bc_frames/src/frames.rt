@@ -107,6 +107,13 @@ impl FramePool {
         (number as usize) < self.flags.len() && self.flags[number as usize]
     }
 
+    /// How many frames there are, free or not.
+    pub fn frames(&self) -> u32
+        ensures count { result ≡ length self.now }
+    {
+        self.flags.len() as u32
+    }
+
     /// How many frames are free.
     pub fn free(&self) -> u32
         ensures count { result ≡ free_count self.now }

@@ -1,30 +1,53 @@
-// Gates: places inside the threads of a turn where a test may look on or hold a thread up.
+// The table of a turn: the pages of a heap while workers run beside each other.
 //
-// A worker (a lane, a marker or a pager) passes its gate at the points that docs/ARCHITECTURE.md
-// lists. A gate gets the worker's number and the point's, and returns: no contract sees what it
-// does, so nothing that is proved depends on one. The program runs with `OpenGate`, whose call
-// does nothing. Tests bring gates of their own, which count the passes or keep one thread at a
-// point until another has passed elsewhere.
+// In a turn a space is taken apart. Each page has a word, which changes in single atomic steps and tells where the page is, and
+// two slots: one for its frame, where the box lies while the page is Home, and one for its place in the store, where it lies
+// shut while the page is Gone or Absent. Whoever makes the word Held has the page: both slots are out with that seat, and the box
+// is in its hands (`Held`). `take` does this and `put` undoes it; `look` reads a word. Nobody waits, and only `open` takes memory.
 //
-// No gate point is passed before the lanes run as threads. The table of a turn, which this crate
-// is for, comes then too.
+// A worker steps with a seat, which has a role: a lane, a marker or a pager. A lane may change pages of the domains that it
+// holds; everybody else puts back what it took. What a seat has done and read is its view, which exists in proofs alone. The
+// record of a page is the content that its lane put back last, or else the opening's.
+//
+// The rule (`specs/Rule.antt`, made of the turn facts of `specs/Facts.antt`) holds between any two steps, whatever order the
+// threads' steps take: a page's box lies where its word says, with the record as its content; a page is in one view's hands at
+// most; a page whose record refers to a nursery is remembered; what was read as Remembered stays so, and an own page that was
+// read as Gone is Gone until it is taken; each role is in one view; each frame is in one place. `proofs/PageSteps.antt` has the
+// one lemma by which every step on a page's word keeps it.
+//
+// `open` makes words and slots out of a space's headers and lists, and deals a seat for each role. `close` joins all seats into
+// one, puts the boxes back and makes states of the words: the space is as it was opened, but that each page has its record.
+// Words for counters, bookmarks, frames, notices and, in a mark turn, marks, finished cells and queues have their places too
+// (`specs/Key.antt`); the steps on them come later.
+//
+// Where things are: `pins` the table and a seat, `key` what a table is told, `views` slots and views, `rule` the rule and what
+// steps tell, `taking` the calls on pages, `holding` a page in hand, `reading` what everybody may read; `opening` with `room`,
+// `filling`, `lodging` and `rest`; `closing` with `gathering`; `gate` places where a test may look on.
 #![tactic(auto)]
 
-/// A place where a test may look on. A call returns and changes nothing that a clause sees.
-pub trait Gate {
-    /// Worker `who` passes point `point`.
-    ///
-    /// `who` is j for lane j, 100 + m for marker m, and 200 + q for pager q, each counted from 0.
-    fn at(&self, who: u32, point: u32);
-}
+mod closing;
+mod filling;
+mod gate;
+mod gathering;
+mod holding;
+mod key;
+mod lodging;
+mod opening;
+mod pins;
+mod reading;
+mod rest;
+mod room;
+mod rule;
+mod taking;
+mod views;
 
-/// The gate of the program: it lets everyone pass.
-#[derive(Clone, Copy, Debug, PartialEq, Eq)]
-pub struct OpenGate;
-
-impl Gate for OpenGate {
-    fn at(&self, _who: u32, _point: u32) {}
-}
+pub use gate::{Gate, OpenGate};
+pub use holding::Held;
+pub use key::{About, Role, Turn};
+pub use pins::{Pins, Seat};
+pub use rest::Rest;
+pub use taking::{TakeNo, Want};
+pub use views::{Hand, Lodged, View};
 
 #[cfg(test)]
 mod tests;

@@ -1,0 +1,164 @@
+-- What a table leaves when it is closed by a seat into which all others were joined.
+use Rattle.std.proofs.Common.{◌≡◌, ℕ, ◌+◌, ◌-◌, ◌<◌, ◌≢◌, ◌==◌, List, [], ◌∷◌, length, map, None, inl, inr, refl, ap, sym, subst, ◌∙◌, arith}
+use Prim.Native.Nat.{zero, suc}
+use mathlib.Core.Option.{some, some-injective, some-ne-none}
+use mathlib.Core.Option as maybe
+use lib.ListN.{get_elem?}
+use Rattle.std.proofs.lemmas.Bool.{cases_lt}
+use Rattle.atomic_table.specs.Table.{Final, Seen}
+use Rattle.bc_bits.specs.Counting.{one_if}
+use Rattle.bc_pins.specs.declared.views.Lodged.{Lodged}
+use Rattle.bc_pins.specs.declared.views.Lodged.TheVariants.{Nothing, Home, Away}
+use Rattle.bc_pins.specs.declared.views.View.{View}
+use Rattle.bc_pins.specs.Key.{Key, pages_of, owner}
+use Rattle.bc_pins.specs.Totals.{total, times}
+use Rattle.bc_pins.specs.Contents.{IsContent, RefersYoung}
+use Rattle.bc_pins.specs.Views.{grips, grips_remembered, frame_in_hand, has_role, opened_content, record_of}
+use Rattle.bc_pins.specs.Facts.{Table, Slot, word, Lies, Frames, frame_lodged, IsIdle}
+use Rattle.bc_pins.specs.Rule.{Rule}
+use Rattle.bc_pins.specs.Opening.{ClosesPage, HasClosed}
+use Rattle.bc_pins.proofs.TotalLemmas.{total_two, one_same}
+use Rattle.bc_pins.proofs.ReadLemmas.{remembered_word}
+use Rattle.bc_pins.proofs.JoinLemmas.{look_none}
+
+total_only : {A : Type 0} (f : A → ℕ) (vs : List A) (j : ℕ) (v : A) → get_elem? vs j ≡ some v → ((i : ℕ) (u : A) → i ≢ j → get_elem? vs i ≡ some u → f u ≡ 0) → total f vs ≡ f v
+total_only f [] j v e others = absurd (some-ne-none v (sym e))
+total_only f (x ∷ xs) zero v e others =
+    let is : f x ≡ f v = ap f (some-injective x v e) in
+    let rest = all_none xs (λ i u at. others (suc i) u (λ z. omega arith) at) in
+    omega arith
+  where
+    all_none : (xs : List _) → ((i : ℕ) (u : _) → get_elem? xs i ≡ some u → f u ≡ 0) → total f xs ≡ 0
+    all_none [] each = refl
+    all_none (x ∷ xs) each = let here = each 0 x refl in let t = all_none xs (λ i. each (suc i)) in omega arith
+total_only f (x ∷ xs) (suc j) v e others =
+    let here = others 0 x (λ z. omega arith) refl in
+    let t = total_only f xs j v e (λ i u ne at. others (suc i) u (λ z. ne (omega arith)) at) in
+    omega arith
+
+none_times : (l : List ℕ) → ((r : ℕ) → times r l ≡ 0) → l ≡ []
+none_times [] each = refl
+none_times (x ∷ xs) each = let a = each x in let b = one_same x in absurd (omega arith)
+
+-- a page that isn't Held has both of its slots at home
+lies_home : (n : ℕ) (a b : Slot) (c : List ℕ) → n ≢ 3 → Lies n a b c → ((y : Lodged) × (a ≡ some (some y))) × ((z : Lodged) × (b ≡ some (some z)))
+lies_home zero a b c ne l = ((Nothing, l.0), (Away c, l.1))
+lies_home (suc zero) a b c ne l = ((Home l.0, l.1), (Nothing, l.2))
+lies_home (suc (suc zero)) a b c ne l = ((Home l.0, l.1), (Nothing, l.2))
+lies_home (suc (suc (suc zero))) a b c ne l = absurd (ne (omega arith))
+lies_home (suc (suc (suc (suc zero)))) a b c ne l = ((Nothing, l.0), (Away c, l.1))
+lies_home (suc (suc (suc (suc (suc n))))) a b c ne l = absurd l
+
+-- slots that are all at home are the values that come out
+all_home : (hs : List (maybe.Option Lodged)) (xs : List Lodged) → length hs ≡ length xs → ((i : ℕ) → i < length hs → (y : Lodged) × (get_elem? hs i ≡ some (some y)))
+    → ((i : ℕ) (y : Lodged) → get_elem? hs i ≡ some (some y) → get_elem? xs i ≡ some y) → hs ≡ map some xs
+all_home [] [] size home out = refl
+all_home [] (x ∷ xs) size home out = absurd (omega arith)
+all_home (h ∷ hs) [] size home out = absurd (omega arith)
+all_home (h ∷ hs) (x ∷ xs) size home out =
+    let first = home 0 (omega arith) in
+    let is : h ≡ some first.0 = some-injective h (some first.0) first.1 in
+    let same : x ≡ first.0 = some-injective x first.0 (out 0 first.0 first.1) in
+    let rest = all_home hs xs (omega arith) (λ i lt. home (suc i) (omega arith)) (λ i. out (suc i)) in
+    both_same h (some x) hs (map some xs) (is ∙ ap some (sym same)) rest
+  where
+    both_same : (a b : maybe.Option Lodged) (l m : List (maybe.Option Lodged)) → a ≡ b → l ≡ m → a ∷ l ≡ b ∷ m
+    both_same a b l m e f = cc
+
+module _ (k : Key) (s : Table) (r : Rule k s) (id : ℕ) (v : View) (at : get_elem? s.views id ≡ some v) (about : v.about ≡ k) (nothing : v.hand ≡ None) (all_roles : (n : ℕ) → times n v.roles ≡ times n k.roles)
+    (xs : List Lodged) (size : length s.homes ≡ length xs) (out : (i : ℕ) (y : Lodged) → get_elem? s.homes i ≡ some (some y) → get_elem? xs i ≡ some y) where
+  idle_else : (j : ℕ) (u : View) → j ≢ id → get_elem? s.views j ≡ some u → IsIdle u
+  idle_else j u ne is = (r.seats j u is).seated.idle (none_times u.roles (λ n.
+      let two = total_two (λ (z : View). times n z.roles) s.views j id u v ne is at in
+      let each = r.roles.each n in
+      let all = all_roles n in
+      omega arith))
+
+  only : (f : View → ℕ) → ((u : View) → IsIdle u → f u ≡ 0) → total f s.views ≡ f v
+  only f z = total_only f s.views id v at (λ j u ne is. z u (idle_else j u ne is))
+
+  not_held : (p : ℕ) → p < pages_of k → word s p ≢ 3
+  not_held p lt e =
+      let held = (r.place p lt).held in
+      let sum = only (λ u. grips p u.hand) (λ u i. ap (grips p) i.hand) in
+      let mine : grips p v.hand ≡ 0 = ap (grips p) nothing in
+      let is : one_if (word s p == 3) ≡ 1 = ap (λ (n : ℕ). one_if (n == 3)) e in
+      omega arith
+
+  record_is : (p : ℕ) → r.rec p ≡ record_of v p
+  record_is p =
+      let facts = (r.seats id v at).records in
+      elim (cases_lt 0 (has_role v (owner k p))) [
+        | inl has ↦ facts.mine p has
+        | inr le ↦
+            let none_has : has_role v (owner k p) ≡ 0 = omega arith in
+            r.unowned p (sym (all_roles (owner k p)) ∙ none_has)
+            ∙ ap (λ (a : Key). opened_content a p) (sym about)
+            ∙ sym (look_none p v.changed (opened_content v.about p) (facts.others p none_has))
+      ]
+
+  home_each : (i : ℕ) → i < length s.homes → (y : Lodged) × (get_elem? s.homes i ≡ some (some y))
+  home_each i lt =
+      let long = r.slots in
+      elim (cases_lt i (pages_of k)) [
+        | inl near ↦ (lies_home (word s i) _ _ _ (not_held i near) (r.place i near).lies).0
+        | inr far ↦
+            let p : ℕ = i - pages_of k in
+            let near : p < pages_of k = omega arith in
+            let is : pages_of k + p ≡ i = omega arith in
+            subst (λ (n : ℕ). (y : Lodged) × (get_elem? s.homes n ≡ some (some y))) is (lies_home (word s p) _ _ _ (not_held p near) (r.place p near).lies).1
+      ]
+
+  homes_are : s.homes ≡ map some xs
+  homes_are = all_home s.homes xs size home_each out
+
+  abbrev last : Table
+  last = record { words = s.words; homes = map some xs; views = v ∷ [] }
+
+  page_closed : (p : ℕ) → p < pages_of k → ClosesPage k v s.words xs p
+  page_closed p lt =
+      let content = r.content p lt in
+      let old = r.standing p lt in
+      let same = record_is p in
+      let grips_now = only (λ u. grips_remembered p u.hand) (λ u i. ap (grips_remembered p) i.hand) in
+      let recorded = only (λ u. times p u.recorded) (λ u i. ap (times p) i.recorded) in
+      let fetched = only (λ u. times p u.fetched) (λ u i. ap (times p) i.fetched) in
+      let left = only (λ u. times p u.left) (λ u i. ap (times p) i.left) in
+      let emptied = only (λ u. times p u.emptied) (λ u i. ap (times p) i.emptied) in
+      let gone = old.gone in
+      let absent = old.absent in
+      record {
+        not_held = not_held p lt;
+        lies = subst (λ (c : List ℕ). Lies (word s p) (get_elem? (map some xs) p) (get_elem? (map some xs) (pages_of k + p)) c) same
+            (subst (λ (hs : List (maybe.Option Lodged)). Lies (word s p) (get_elem? hs p) (get_elem? hs (pages_of k + p)) (r.rec p)) homes_are (r.place p lt).lies);
+        fixed = subst (IsContent k.opening p) same content.fixed;
+        young = λ y. remembered_word k s r p lt (not_held p lt) (content.young (subst (RefersYoung k.opening p) (sym same) y));
+        bare = content.bare;
+        standing = record {
+          remembered = λ lt. let a = old.remembered (omega arith) in omega arith;
+          recorded = λ lt. let a = old.recorded (omega arith) in omega arith;
+          gone = omega arith;
+          absent = omega arith;
+        };
+      }
+
+  frames_closed : (f : ℕ) → Frames k last f
+  frames_closed f =
+      let old = r.frames f in
+      let views = only (λ u. frame_in_hand f u.hand + times f u.rights) (λ u i. let a : frame_in_hand f u.hand ≡ 0 = ap (frame_in_hand f) i.hand in let b : times f u.rights ≡ 0 = ap (times f) i.rights in omega arith) in
+      let homes : total (frame_lodged f) s.homes ≡ total (frame_lodged f) (map some xs) = ap (total (frame_lodged f)) homes_are in
+      omega arith
+
+  pub closed : HasClosed k v s.words xs
+  closed = record {
+    words_long = r.words;
+    slots_long = sym size ∙ r.slots;
+    pages = page_closed;
+    frames = frames_closed;
+    still = record { counters = r.still.counters; bookmarks = r.still.bookmarks; marks = r.still.marks; finished = r.still.finished };
+  }
+
+pub ends : (k : Key) (id : ℕ) (v : View) (ws : List ℕ) (xs : List Lodged) → v.about ≡ k → v.hand ≡ None → ((n : ℕ) → times n v.roles ≡ times n k.roles)
+    → Final (Seen (Rule k) id v) ws xs → HasClosed k v ws xs
+ends k id v ws xs about nothing all_roles f =
+    subst (λ (w : List ℕ). HasClosed k v w xs) f.2 (closed k f.0 f.1.0 id v f.1.1 about nothing all_roles xs f.3 f.4)

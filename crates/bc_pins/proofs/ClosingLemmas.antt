@@ -1,0 +1,193 @@
+-- What closing a table gives.
+use Rattle.std.proofs.Common.{◌≡◌, ℕ, ◌+◌, ◌-◌, ◌*◌, ◌^◌, ◌<◌, ◌≤◌, ◌==◌, List, [], length, map, get_or, min, Option, None, refl, ap, sym, subst, ◌∙◌, arith}
+use Rattle.std.proofs.lemmas.List.{length-map}
+use Rattle.atomic_table.specs.Table.{Final, Seen}
+use Rattle.atomic_table.specs.declared.shared.Seat.{Seat as Worker}
+use Rattle.atomic_table.specs.Seated.{TableId}
+use Rattle.bc_bits.specs.Counting.{one_if}
+use Rattle.bc_frames.specs.Places.{StoreView}
+use Rattle.bc_superpages.specs.declared.headers.Header.{Header}
+use Rattle.bc_superpages.specs.declared.headers.PageState.{PageState}
+use Rattle.bc_superpages.specs.declared.headers.PageState.TheVariants as state
+use Rattle.bc_superpages.specs.declared.spaces.Homed.{Homed}
+use Rattle.bc_superpages.specs.declared.parts.SpaceParts.{SpaceParts}
+use Rattle.bc_superpages.specs.Layout.{Layout, superpages, content_at}
+use Rattle.bc_superpages.specs.LayoutAt.{state_at}
+use Rattle.bc_superpages.specs.Contents.{contents}
+use Rattle.bc_superpages.specs.Parts.{state_in, AreParts, parts_layout}
+use Rattle.bc_superpages.proofs.HandLemmas.{state-header}
+use Rattle.bc_pins.specs.declared.views.Lodged.{Lodged}
+use Rattle.bc_pins.specs.declared.views.Lodged.TheVariants.{Nothing}
+use Rattle.bc_pins.specs.declared.views.View.{View}
+use Rattle.bc_pins.specs.declared.pins.Seat.{Seat}
+use Rattle.bc_pins.specs.Key.{Key, pages_of, owner}
+use Rattle.bc_pins.specs.Contents.{IsContent, RefersYoung}
+use Rattle.bc_pins.specs.Views.{grips_remembered, state_word, opened_state, opened_content, record_of}
+use Rattle.bc_pins.specs.Rule.{Rule}
+use Rattle.bc_pins.specs.Lodging.{Replaced, box_of, place_of}
+use Rattle.bc_pins.specs.Opening.{HasClosed, IsRest}
+use Rattle.bc_pins.specs.Resting.{RestView}
+use Rattle.bc_pins.specs.Closing.{Gathered, StatesSet, opens_of, ClosedState, Closed}
+use Rattle.bc_pins.proofs.TotalLemmas.{one_is}
+use Rattle.bc_pins.proofs.ReadLemmas.{lies_few}
+use Rattle.bc_pins.proofs.JoinLemmas.{look_none}
+use Rattle.bc_pins.proofs.CloseLemmas.{ends}
+use Rattle.bc_pins.proofs.GatherLemmas.{entries_none}
+use Rattle.bc_pins.proofs.SpaceLemmas.{content_near, content_far, closed_kept, closed_ends, closed_layout}
+
+word_remembered : (st : PageState) → state_word st ≡ 2 → st ≡ state.Remembered
+word_remembered state.Remembered e = refl
+word_remembered state.Absent e = absurd (omega arith)
+word_remembered state.Home e = absurd (omega arith)
+word_remembered state.Held e = absurd (omega arith)
+word_remembered state.Gone e = absurd (omega arith)
+
+-- what a table leaves, where all its seats were joined into one
+pub gathered_ends : (id : TableId) (k : Key) (all : List Seat) (root : Worker Lodged View) (ws : List ℕ) (xs : List Lodged) → Gathered id k all [] root → Final (Seen (Rule k) root.id root.me.0) ws xs → HasClosed k root.me.0 ws xs
+gathered_ends id k all root ws xs g f = ends k root.id root.me.0 ws xs g.about g.hand (λ r. let a = g.roles r in omega arith) f
+
+pub words_few : (k : Key) (v : View) (ws : List ℕ) (xs : List Lodged) → HasClosed k v ws xs → (p : ℕ) → p < pages_of k → get_or ws p 0 ≤ 4
+words_few k v ws xs c p lt = lies_few _ _ _ _ (c.pages p lt).lies
+
+-- everything that is known when the space is put together
+pub record Ended (id : TableId) (k : Key) (all : List Seat) (root : Worker Lodged View) (whole parts : SpaceParts) (words : List ℕ) (slots : List Lodged) (headers : List Header) (boxes : List (Option Homed)) (places : List (Option (List ℕ))) : Type 0 where
+  pub rest : IsRest whole parts (pages_of k)
+  pub layout : parts_layout whole ≡ k.opening
+  pub pool : whole.pool ≡ k.pool
+  pub nursery : whole.nursery.items ≡ k.nursery
+  pub frames : k.frames ≡ length k.pool
+  pub gathered : Gathered id k all [] root
+  pub closed : HasClosed k root.me.0 words slots
+  pub states_are : StatesSet whole.headers.items headers (pages_of k) words
+  pub box : Replaced None parts.boxes.items boxes (pages_of k) (λ p. box_of (get_or slots p Nothing))
+  pub place : Replaced None parts.store.places places (pages_of k) (λ p. place_of (get_or slots (pages_of k + p) Nothing))
+
+-- the parts of which the space is put together
+pub record Together (whole : SpaceParts) (headers : List Header) (boxes : List (Option Homed)) (places : List (Option (List ℕ))) (reads : ℕ) (f : SpaceParts) : Type 0 where
+  pub headers_are : f.headers.items ≡ headers
+  pub boxes_are : f.boxes.items ≡ boxes
+  pub places_are : f.store.places ≡ places
+  pub reads_are : f.store.reads ≡ reads
+  pub pool : f.pool ≡ whole.pool
+  pub nursery : f.nursery.items ≡ whole.nursery.items
+  pub end : f.end ≡ whole.end
+
+module _ (id : TableId) (k : Key) (all : List Seat) (root : Worker Lodged View) (whole parts : SpaceParts) (words : List ℕ) (slots : List Lodged) (headers : List Header) (boxes : List (Option Homed)) (places : List (Option (List ℕ)))
+    (e : Ended id k all root whole parts words slots headers boxes places) where
+  abbrev v : View
+  v = root.me.0
+
+  pub ended_parts : (reads : ℕ) (f : SpaceParts) → Together whole headers boxes places reads f → AreParts f
+  ended_parts reads f t = record {
+    kept = rw (t.headers_are, t.boxes_are, t.pool, t.nursery, t.places_are) (closed_kept k whole parts e.rest e.layout e.pool e.nursery e.frames v e.gathered.hand e.gathered.rights words slots e.closed headers e.states_are boxes e.box places e.place);
+    ends = rw (t.headers_are, t.end) (closed_ends k whole parts e.rest e.layout e.pool e.nursery e.frames v e.gathered.hand e.gathered.rights words slots e.closed headers e.states_are boxes e.box places e.place);
+  }
+
+  abbrev made : ℕ → Layout
+  made reads = record k.opening { states = map (λ (h : Header). h.pages) headers; pages = contents boxes places; reads = reads }
+
+  pub ended_layout : (reads : ℕ) (f : SpaceParts) → Together whole headers boxes places reads f → parts_layout f ≡ made reads
+  ended_layout reads f t =
+      rw (t.headers_are, t.boxes_are, t.places_are, t.reads_are, t.pool, t.nursery)
+      (closed_layout k whole parts e.rest e.layout e.pool e.nursery e.frames v e.gathered.hand e.gathered.rights words slots e.closed headers e.states_are boxes e.box places e.place reads)
+
+  supers_are : superpages k.opening ≡ length whole.headers.items
+  supers_are = ap superpages (sym e.layout) ∙ length-map whole.headers.items (λ (h : Header). h.used)
+
+  near : (p : ℕ) → p < pages_of k → content_at (contents boxes places) p ≡ record_of v p
+  near = content_near k whole parts e.rest e.layout e.pool e.nursery e.frames v e.gathered.hand e.gathered.rights words slots e.closed headers e.states_are boxes e.box places e.place
+
+  long : length boxes ≡ 4 * length whole.headers.items
+  long = e.box.long ∙ e.rest.emptied.boxes.long ∙ e.rest.kept.kept.boxes_long
+
+  state_new : (p : ℕ) → p < 4 * length whole.headers.items → state_at (map (λ (h : Header). h.pages) headers) p ≡ state_in headers p
+  state_new p lt = let a = e.states_are.long in state-header headers p (omega arith)
+
+  state_old : (p : ℕ) → p < 4 * length whole.headers.items → opened_state k p ≡ state_in whole.headers.items p
+  state_old p lt = ap (λ (s : Layout). state_at s.states p) (sym e.layout) ∙ state-header whole.headers.items p lt
+
+  word_is : (p : ℕ) → p < pages_of k → state_word (state_at (map (λ (h : Header). h.pages) headers) p) ≡ get_or words p 0
+  word_is p lt = let a = e.rest.within in ap state_word (state_new p (omega arith)) ∙ e.states_are.near p lt
+
+  states_closed : (p : ℕ) → p < pages_of k → ClosedState k all (state_at (map (λ (h : Header). h.pages) headers) p) p
+  states_closed p lt =
+      let page = (e.closed.pages p lt).standing in
+      let g = e.gathered in
+      let word = word_is p lt in
+      let r = g.recorded p in
+      let f = g.fetched p in
+      let l = g.left p in
+      let m = g.emptied p in
+      let held = (e.closed.pages p lt).not_held in
+      let gone = page.gone in
+      let absent = page.absent in
+      let four : one_if (state_word (state_at (map (λ (h : Header). h.pages) headers) p) == 4) ≡ one_if (get_or words p 0 == 4) = ap (λ (n : ℕ). one_if (n == 4)) word in
+      let zeros : one_if (state_word (state_at (map (λ (h : Header). h.pages) headers) p) == 0) ≡ one_if (get_or words p 0 == 0) = ap (λ (n : ℕ). one_if (n == 0)) word in
+      let hand : grips_remembered p v.hand ≡ 0 = ap (grips_remembered p) g.hand in
+      record {
+        remembered = λ lt. let a = page.remembered (omega arith) in word_remembered _ (word ∙ one_is (get_or words p 0) 2 (omega arith));
+        recorded = λ is.
+            let two : one_if (get_or words p 0 == 2) ≡ 1 = ap (λ (n : ℕ). one_if (n == 2)) (sym word ∙ ap state_word is) in
+            let a = page.recorded (omega arith) in
+            omega arith;
+        gone = omega arith;
+        absent = omega arith;
+      }
+
+  pub ended_closed : (reads : ℕ) → reads ≡ min (k.opening.reads + opens_of all) (2 ^ 64 - 1) → Closed k all (made reads)
+  ended_closed reads is = record {
+    same = refl;
+    reads = is;
+    mine = λ j lt d p less has. near p less ∙ (e.gathered.mine j (omega arith) lt d p has).1;
+    unowned = λ p lt z.
+        let all_roles = e.gathered.roles (owner k p) in
+        near p lt ∙ look_none p v.changed (opened_content v.about p) (entries_none k v p e.gathered.tidy e.gathered.about (omega arith)) ∙ ap (λ (a : Key). opened_content a p) e.gathered.about;
+    behind = λ p le lt.
+        let many = supers_are in
+        let size = long in (
+          state_new p (omega arith) ∙ e.states_are.far p le ∙ sym (state_old p (omega arith)),
+          content_far k whole parts e.rest e.layout e.pool e.nursery e.frames v e.gathered.hand e.gathered.rights words slots e.closed headers e.states_are boxes e.box places e.place p le (omega arith),
+        );
+    states_are = states_closed;
+    fixed = λ p lt. subst (IsContent k.opening p) (sym (near p lt)) (e.closed.pages p lt).fixed;
+    young = λ p lt y. word_remembered _ (word_is p lt ∙ (e.closed.pages p lt).young (subst (RefersYoung k.opening p) (near p lt) y));
+  }
+
+-- it is known from what each step of a closing tells
+pub ended_from : (id : TableId) (k : Key) (all : List Seat) (root : Worker Lodged View) (r : RestView) (whole parts : SpaceParts) (n : ℕ) (ws told : List ℕ) (xs out : List Lodged) (headers : List Header) (st : StoreView) (boxes : List (Option Homed)) (places : List (Option (List ℕ)))
+    → whole ≡ r.whole → n ≡ r.pages → IsRest whole parts n → r.pages ≡ pages_of k → parts_layout r.whole ≡ k.opening → r.whole.pool ≡ k.pool → r.whole.nursery.items ≡ k.nursery → k.frames ≡ length k.pool
+    → Gathered id k all [] root → Final (Seen (Rule k) root.id root.me.0) ws xs → told ≡ ws → out ≡ xs → StatesSet parts.headers.items headers n told → st.places ≡ parts.store.places
+    → Replaced None parts.boxes.items boxes n (λ p. box_of (get_or out p Nothing)) → Replaced None st.places places n (λ p. place_of (get_or out (n + p) Nothing))
+    → Ended id k all root whole parts ws xs headers boxes places
+ended_from id k all root r whole parts n ws told xs out headers st boxes places is count rest paged layout pool nursery frames gathered final words slots set stored box place =
+    let size : n ≡ pages_of k = count ∙ paged in
+    let rest_now : IsRest whole parts (pages_of k) = subst (IsRest whole parts) size rest in
+    record {
+      rest = rest_now;
+      layout = ap parts_layout is ∙ layout;
+      pool = ap (λ (p : SpaceParts). p.pool) is ∙ pool;
+      nursery = ap (λ (p : SpaceParts). p.nursery.items) is ∙ nursery;
+      frames = frames;
+      gathered = gathered;
+      closed = gathered_ends id k all root ws xs gathered final;
+      states_are = subst (λ (hs : List Header). StatesSet hs headers (pages_of k) ws) rest_now.emptied.headers
+          (subst (λ (m : ℕ). StatesSet parts.headers.items headers m ws) size (subst (StatesSet parts.headers.items headers n) words set));
+      box = subst (λ (m : ℕ). Replaced None parts.boxes.items boxes m (λ p. box_of (get_or xs p Nothing))) size
+          (subst (λ (l : List Lodged). Replaced None parts.boxes.items boxes n (λ p. box_of (get_or l p Nothing))) slots box);
+      place = subst (λ (m : ℕ). Replaced None parts.store.places places m (λ p. place_of (get_or xs (m + p) Nothing))) size
+          (subst (λ (l : List Lodged). Replaced None parts.store.places places n (λ p. place_of (get_or l (n + p) Nothing))) slots
+          (subst (λ (o : List (Option (List ℕ))). Replaced None o places n (λ p. place_of (get_or out (n + p) Nothing))) stored place));
+    }
+
+-- the space that is put together of the parts
+pub ended_space : (id : TableId) (k : Key) (all : List Seat) (root : Worker Lodged View) (whole parts : SpaceParts) (words : List ℕ) (slots : List Lodged) (headers : List Header) (boxes : List (Option Homed)) (places : List (Option (List ℕ)))
+    → Ended id k all root whole parts words slots headers boxes places → (united stored : StoreView) (f : SpaceParts) (s : Layout)
+    → united ≡ record parts.store { reads = min (parts.store.reads + opens_of all) (2 ^ 64 - 1) } → stored ≡ record united { places = places }
+    → Together whole headers boxes places stored.reads f → s ≡ parts_layout f → Closed k all s
+ended_space id k all root whole parts words slots headers boxes places e united stored f s counted put together is =
+    let reads_put : stored.reads ≡ united.reads = ap (λ (x : StoreView). x.reads) put in
+    let reads_counted : united.reads ≡ min (parts.store.reads + opens_of all) (2 ^ 64 - 1) = ap (λ (x : StoreView). x.reads) counted in
+    let reads_left : parts.store.reads ≡ whole.store.reads = e.rest.emptied.reads in
+    let reads_whole : whole.store.reads ≡ k.opening.reads = ap (λ (x : Layout). x.reads) e.layout in
+    subst (Closed k all) (sym (is ∙ ended_layout id k all root whole parts words slots headers boxes places e stored.reads f together))
+    (ended_closed id k all root whole parts words slots headers boxes places e stored.reads (omega arith))

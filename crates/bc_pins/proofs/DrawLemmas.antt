@@ -1,0 +1,79 @@
+-- A table that is drawn from a space's parts meets the rule, and is what it is said to be.
+use Rattle.std.proofs.Common.{◌≡◌, ℕ, ◌*◌, ◌<◌, ◌≤◌, List, [], ◌∷◌, length, map, refl, ap, sym, subst, ◌∙◌, arith}
+use Rattle.std.proofs.lemmas.List.{length-map}
+use Rattle.bc_superpages.specs.declared.headers.Header.{Header}
+use Rattle.bc_superpages.specs.declared.parts.SpaceParts.{SpaceParts}
+use Rattle.bc_superpages.specs.Layout.{Layout, superpages}
+use Rattle.bc_pins.specs.declared.key.Turn.{Turn}
+use Rattle.bc_pins.specs.declared.key.Role.{Role}
+use Rattle.bc_pins.specs.declared.key.Role.TheVariants.{Lane, Marker, Pager}
+use Rattle.bc_pins.specs.declared.pins.Pins.{Pins}
+use Rattle.bc_pins.specs.declared.pins.Seat.{Seat}
+use Rattle.bc_pins.specs.declared.views.Lodged.{Lodged}
+use Rattle.bc_pins.specs.Key.{Key, pages_of, role_number}
+use Rattle.bc_pins.specs.Totals.{times}
+use Rattle.bc_pins.specs.Rule.{Rule}
+use Rattle.bc_pins.specs.Filling.{IsSized, IsFilled}
+use Rattle.bc_pins.specs.Opening.{opened, AreLodged}
+use Rattle.bc_pins.specs.Seating.{AreDealt}
+use Rattle.bc_pins.specs.Opened.{IsDrawn, Opened}
+use Rattle.bc_pins.proofs.TotalLemmas.{one_other}
+use Rattle.bc_pins.proofs.OpenLemmas.{starts}
+use Rattle.bc_pins.proofs.MayOpenLemmas.{may_open}
+
+number_some : (r : Role) → 0 < role_number r
+number_some (Lane l) = omega arith
+number_some (Marker m) = omega arith
+number_some (Pager p) = omega arith
+
+pub nobody_has : (roles : List Role) → times 0 (map role_number roles) ≡ 0
+nobody_has [] = refl
+nobody_has (r ∷ rs) =
+    let a = nobody_has rs in
+    let b = number_some r in
+    let c = one_other (role_number r) 0 (λ e. omega arith) in
+    omega arith
+
+module _ (k : Key) (parts : SpaceParts) (supers : ℕ) (turn : Turn) (holders : List ℕ) (roles : List Role) (drawn : IsDrawn parts supers turn holders roles k) where
+  supers_is : k.supers ≡ supers
+  supers_is = ap (λ (a : Key). a.supers) drawn.key
+
+  pool_is : k.pool ≡ parts.pool
+  pool_is = ap (λ (a : Key). a.pool) drawn.key
+
+  frames_are : k.frames ≡ length parts.pool
+  frames_are = ap (λ (a : Key). a.frames) drawn.key
+
+  roles_are : k.roles ≡ map role_number roles
+  roles_are = ap (λ (a : Key). a.roles) drawn.key
+
+  pub sized : IsSized k supers (length parts.pool) turn
+  sized = record { supers = supers_is; all = frames_are; lanes = ap (λ (a : Key). a.lanes) drawn.key }
+
+  pub drawn_rule : (words : List ℕ) (slots : List Lodged) → IsFilled k parts.headers.items words → AreLodged parts (4 * supers) slots → Rule k (opened k words slots)
+  drawn_rule words slots filled lodged =
+      let size = supers_is in
+      let within = drawn.within in
+      let l : AreLodged parts (pages_of k) slots = subst (λ (n : ℕ). AreLodged parts (4 * n) slots) (sym supers_is) lodged in
+      starts k words slots (may_open k parts drawn.kept drawn.layout (sym pool_is) (sym (ap (λ (a : Key). a.nursery) drawn.key)) (frames_are ∙ ap length (sym pool_is))
+      (omega arith) (λ p le. drawn.behind p (omega arith)) drawn.ready
+      (λ r. subst (λ (rs : List ℕ). times r rs ≤ 1) (sym roles_are) (drawn.apart r))
+      (ap (times 0) roles_are ∙ nobody_has roles)
+      words filled l.first slots l.homes l.aways)
+
+  pub drawn_opened : (pins : Pins) (seats : List Seat) → pins.table.shared.key ≡ k → AreDealt pins.table.shared.table_id pins.table.shared.key roles (length roles) seats → Opened k.opening turn holders roles pins seats
+  drawn_opened pins seats e dealt =
+      let size = supers_is in
+      let within = drawn.within in
+      let same : pins.table.shared.key.supers ≡ k.supers = ap (λ (a : Key). a.supers) e in
+      let many : superpages k.opening ≡ length parts.headers.items = ap superpages (sym drawn.layout) ∙ length-map parts.headers.items (λ (h : Header). h.used) in
+      record {
+        opening = ap (λ (a : Key). a.opening) e;
+        frames = ap (λ (a : Key). a.frames) e ∙ frames_are ∙ ap (λ (s : Layout). s.frames) drawn.layout;
+        lanes = ap (λ (a : Key). a.lanes) (e ∙ drawn.key);
+        owners = ap (λ (a : Key). a.owners) (e ∙ drawn.key);
+        roles_are = ap (λ (a : Key). a.roles) e ∙ roles_are;
+        within = omega arith;
+        behind = λ p le. drawn.absent p (omega arith);
+        seats_are = dealt;
+      }

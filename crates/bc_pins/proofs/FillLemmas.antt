@@ -1,0 +1,38 @@
+-- Words that are added one by one.
+use Rattle.std.proofs.Common.{◌≡◌, ℕ, ◌+◌, ◌*◌, ◌/◌, ◌<◌, ◌≤◌, List, [], ◌∷◌, ◌++◌, length, get_or, inl, inr, refl, ap, sym, ◌∙◌, arith, length-append}
+use Prim.Native.Nat.{zero, suc}
+use Rattle.std.proofs.lemmas.Bool.{cases_eq}
+use Rattle.bc_pins.specs.declared.key.Turn.{Turn}
+use Rattle.bc_pins.specs.declared.key.Turn.TheVariants.{Lanes, Mark}
+use Rattle.bc_pins.specs.Key.{table_words}
+use Rattle.bc_pins.specs.Filling.{Extends}
+
+pub front_same : (xs : List ℕ) (y i : ℕ) → i < length xs → get_or (xs ++ y ∷ []) i 0 ≡ get_or xs i 0
+front_same [] y i lt = absurd (omega arith)
+front_same (x ∷ xs) y zero lt = refl
+front_same (x ∷ xs) y (suc i) lt = front_same xs y i (omega arith)
+
+pub end_is : (xs : List ℕ) (y i : ℕ) → i ≡ length xs → get_or (xs ++ y ∷ []) i 0 ≡ y
+end_is [] y zero e = refl
+end_is [] y (suc i) e = absurd (omega arith)
+end_is (x ∷ xs) y zero e = absurd (omega arith)
+end_is (x ∷ xs) y (suc i) e = end_is xs y i (omega arith)
+
+pub extends_none : (o : List ℕ) (f : ℕ → ℕ) → Extends o o 0 f
+extends_none o f = record { long = omega arith; kept = λ i _. refl; added = λ i lt. absurd (omega arith) }
+
+pub extends_more : (o n : List ℕ) (k v : ℕ) (f : ℕ → ℕ) → Extends o n k f → v ≡ f k → Extends o (n ++ v ∷ []) (k + 1) f
+extends_more o n k v f e is =
+    let size = e.long in
+    record {
+      long = length-append n (v ∷ []) ∙ omega arith;
+      kept = λ i lt. front_same n v i (omega arith) ∙ e.kept i lt;
+      added = λ i lt. elim (cases_eq i k) [
+        | inl same ↦ end_is n v (length o + i) (omega arith) ∙ is ∙ ap f (sym same)
+        | inr ne ↦ front_same n v (length o + i) (omega arith) ∙ e.added i (omega arith)
+      ];
+    }
+
+pub words_at_least : (s f : ℕ) (t : Turn) → 21 * s + (f + 63) / 64 + 1 ≤ table_words s f t
+words_at_least s f Lanes = omega arith
+words_at_least s f Mark = omega arith

@@ -1,0 +1,137 @@
+-- Seats that are joined one by one.
+use Rattle.std.proofs.Common.{◌≡◌, ℕ, ◌+◌, ◌-◌, ◌^◌, ◌<◌, ◌≤◌, List, [], ◌∷◌, ◌++◌, length, get_or, min, inl, inr, refl, ap, sym, subst, ◌∙◌, arith, length-append}
+use Rattle.std.proofs.lemmas.Bool.{cases_eq}
+use Rattle.atomic_table.specs.declared.shared.Seat.{Seat as Worker}
+use Rattle.atomic_table.specs.Seated.{TableId}
+use Rattle.bc_frames.specs.Places.{StoreView}
+use Rattle.bc_pins.specs.declared.views.Lodged.{Lodged}
+use Rattle.bc_pins.specs.declared.views.View.{View}
+use Rattle.bc_pins.specs.declared.pins.Seat.{Seat}
+use Rattle.bc_pins.specs.Key.{Key, owner}
+use Rattle.bc_pins.specs.Totals.{total, times}
+use Rattle.bc_pins.specs.Tidy.{IsTidy}
+use Rattle.bc_pins.specs.Views.{has_role, entries, look_up, opened_content, record_of}
+use Rattle.bc_pins.specs.Steps.{Mine, united}
+use Rattle.bc_pins.specs.Closing.{seen_by, IsBack, AreBack, Gathered, opens_of}
+use Rattle.bc_pins.proofs.TotalLemmas.{total_append, times_append}
+use Rattle.bc_pins.proofs.JoinLemmas.{entries_append, look_skips, look_first}
+use Rattle.bc_pins.proofs.DealLemmas.{front_of, end_of}
+
+-- what moves from a seat to the root
+moved : (f : View → List ℕ) (v : View) (front : List Seat) (seat : Seat) (p n : ℕ)
+    → times p (f v) + total (λ (s : Seat). times p (f (seen_by s))) (front ++ seat ∷ []) ≡ n
+    → times p (f v ++ f (seen_by seat)) + total (λ (s : Seat). times p (f (seen_by s))) front ≡ n
+moved f v front seat p n e =
+    let a = times_append p (f v) (f (seen_by seat)) in
+    let b = total_append (λ (s : Seat). times p (f (seen_by s))) front (seat ∷ []) in
+    omega arith
+
+first_moved : (f : View → List ℕ) (front : List Seat) (seat : Seat) (p : ℕ)
+    → times p (f (seen_by seat)) + total (λ (s : Seat). times p (f (seen_by s))) front ≡ total (λ (s : Seat). times p (f (seen_by s))) (front ++ seat ∷ [])
+first_moved f front seat p = let b = total_append (λ (s : Seat). times p (f (seen_by s))) front (seat ∷ []) in omega arith
+
+pub entries_none : (k : Key) (v : View) (p : ℕ) → IsTidy v → v.about ≡ k → has_role v (owner k p) ≡ 0 → entries p v.changed ≡ 0
+entries_none k v p tidy about z = tidy p (subst (λ (a : Key). has_role v (owner a p) ≡ 0) (sym about) z)
+
+tidy_united : (k : Key) (v w : View) → IsTidy v → IsTidy w → v.about ≡ k → w.about ≡ k → IsTidy (united v w)
+tidy_united k v w a b e f p z =
+    let both = times_append (owner v.about p) v.roles w.roles in
+    let one = a p (omega arith) in
+    let none_w : has_role w (owner v.about p) ≡ 0 = omega arith in
+    let two = b p (subst (λ (x : Key). has_role w (owner x p) ≡ 0) (e ∙ sym f) none_w) in
+    let c = entries_append p v.changed w.changed in
+    omega arith
+
+module _ (id : TableId) (k : Key) (apart : (r : ℕ) → times r k.roles ≤ 1) (all front : List Seat) (seat : Seat) (back : AreBack id k all) where
+  pub gathered_first : (root : Worker Lodged View) → all ≡ front ++ seat ∷ [] → root ≡ seat.inner → Gathered id k all front root
+  gathered_first root is same =
+      let size : length all ≡ length front + 1 = ap length is ∙ length-append front (seat ∷ []) in
+      let here : (d : Seat) → get_or all (length front) d ≡ seat = λ d. ap (λ (l : List Seat). get_or l (length front) d) is ∙ end_of d front seat (length front) refl in
+      let b : IsBack id k seat = subst (IsBack id k) (here seat) (back.each (length front) (omega arith) seat) in
+      subst (Gathered id k all front) (sym same) record {
+        table = b.table;
+        about = b.about;
+        hand = b.hand;
+        slots = b.slots;
+        rights = b.rights;
+        tidy = b.tidy;
+        fewer = omega arith;
+        same = λ j lt d. sym (ap (λ (l : List Seat). get_or l j d) is ∙ front_of d front seat j lt);
+        roles = λ r. first_moved (λ v. v.roles) front seat r ∙ ap (total (λ (s : Seat). has_role (seen_by s) r)) (sym is) ∙ back.roles r;
+        recorded = λ p. first_moved (λ v. v.recorded) front seat p ∙ ap (total (λ (s : Seat). times p (seen_by s).recorded)) (sym is);
+        left = λ p. first_moved (λ v. v.left) front seat p ∙ ap (total (λ (s : Seat). times p (seen_by s).left)) (sym is);
+        emptied = λ p. first_moved (λ v. v.emptied) front seat p ∙ ap (total (λ (s : Seat). times p (seen_by s).emptied)) (sym is);
+        fetched = λ p. first_moved (λ v. v.fetched) front seat p ∙ ap (total (λ (s : Seat). times p (seen_by s).fetched)) (sym is);
+        mine = λ j le lt d p has.
+            let e : get_or all j d ≡ seat = (let z : j ≡ length front = omega arith in ap (λ (i : ℕ). get_or all i d) z ∙ here d) in
+            (subst (λ (s : Seat). 0 < has_role (seen_by s) (owner k p)) e has, sym (ap (λ (s : Seat). record_of (seen_by s) p) e));
+      }
+
+  seat_back : (root : Worker Lodged View) → Gathered id k all (front ++ seat ∷ []) root → ((d : Seat) → get_or all (length front) d ≡ seat) × IsBack id k seat
+  seat_back root g =
+      let size = length-append front (seat ∷ []) in
+      let few = g.fewer in
+      let here : (d : Seat) → get_or all (length front) d ≡ seat = λ d. sym (g.same (length front) (omega arith) d) ∙ end_of d front seat (length front) refl in
+      (here, subst (IsBack id k) (here seat) (back.each (length front) (omega arith) seat))
+
+  pub gathered_more : (root new : Worker Lodged View) → Gathered id k all (front ++ seat ∷ []) root → new.table_id ≡ root.table_id → new.me ≡ (united root.me.0 seat.inner.me.0, root.me.1)
+      → Gathered id k all front new
+  gathered_more root new g table me =
+      let size = length-append front (seat ∷ []) in
+      let few = g.fewer in
+      let both = seat_back root g in
+      let here = both.0 in
+      let b = both.1 in
+      let v : View = root.me.0 in
+      let w : View = seen_by seat in
+      let view : new.me.0 ≡ united v w = ap (λ (m : Mine). m.0) me in
+      let one_has : (r : ℕ) → has_role v r + has_role w r ≤ 1 = λ r.
+      (let a = g.roles r in let c = total_append (λ (s : Seat). has_role (seen_by s) r) front (seat ∷ []) in let d = apart r in omega arith) in
+      record {
+        table = table ∙ g.table;
+        about = ap (λ (u : View). u.about) view ∙ g.about;
+        hand = ap (λ (u : View). u.hand) view ∙ g.hand;
+        slots = ap (λ (m : Mine). m.1) me ∙ g.slots;
+        rights = ap (λ (u : View). u.rights) view ∙ ap (λ (l : List ℕ). l ++ w.rights) g.rights ∙ b.rights;
+        tidy = subst IsTidy (sym view) (tidy_united k v w g.tidy b.tidy g.about b.about);
+        fewer = omega arith;
+        same = λ j lt d. sym (front_of d front seat j lt) ∙ g.same j (omega arith) d;
+        roles = λ r. ap (λ (u : View). times r u.roles + total (λ (s : Seat). has_role (seen_by s) r) front) view ∙ moved (λ u. u.roles) v front seat r _ (g.roles r);
+        recorded = λ p. ap (λ (u : View). times p u.recorded + total (λ (s : Seat). times p (seen_by s).recorded) front) view ∙ moved (λ u. u.recorded) v front seat p _ (g.recorded p);
+        left = λ p. ap (λ (u : View). times p u.left + total (λ (s : Seat). times p (seen_by s).left) front) view ∙ moved (λ u. u.left) v front seat p _ (g.left p);
+        emptied = λ p. ap (λ (u : View). times p u.emptied + total (λ (s : Seat). times p (seen_by s).emptied) front) view ∙ moved (λ u. u.emptied) v front seat p _ (g.emptied p);
+        fetched = λ p. ap (λ (u : View). times p u.fetched + total (λ (s : Seat). times p (seen_by s).fetched) front) view ∙ moved (λ u. u.fetched) v front seat p _ (g.fetched p);
+        mine = λ j le lt d p has.
+            let sum = times_append (owner k p) v.roles w.roles in
+            let one = one_has (owner k p) in
+            let united_has : has_role new.me.0 (owner k p) ≡ has_role v (owner k p) + has_role w (owner k p) = ap (λ (u : View). has_role u (owner k p)) view ∙ sum in
+            let record_is : record_of new.me.0 p ≡ record_of (united v w) p = ap (λ (u : View). record_of u p) view in
+            elim (cases_eq j (length front)) [
+              | inl e ↦
+                  let is : get_or all j d ≡ seat = ap (λ (i : ℕ). get_or all i d) e ∙ here d in
+                  let w_has : 0 < has_role w (owner k p) = subst (λ (s : Seat). 0 < has_role (seen_by s) (owner k p)) is has in (
+                    omega arith,
+                    record_is ∙ look_skips p v.changed w.changed (opened_content v.about p) (entries_none k v p g.tidy g.about (omega arith))
+                        ∙ ap (λ (a : Key). look_up p w.changed (opened_content a p)) (g.about ∙ sym b.about)
+                        ∙ sym (ap (λ (s : Seat). record_of (seen_by s) p) is),
+                  )
+              | inr ne ↦
+                  let old = g.mine j (omega arith) lt d p has in
+                  let v_has = old.0 in
+                  (omega arith, record_is ∙ look_first p v.changed w.changed (opened_content v.about p) (entries_none k w p b.tidy b.about (omega arith)) ∙ old.1)
+            ];
+      }
+
+  pub seat_is_back : (root : Worker Lodged View) → Gathered id k all (front ++ seat ∷ []) root → IsBack id k seat
+  seat_is_back root g = (seat_back root g).1
+
+-- reads, as they are counted
+pub reads_first : (front : List Seat) (seat : Seat) (all : List Seat) (old new : ℕ) → all ≡ front ++ seat ∷ [] → new ≡ min (old + seat.opens) (2 ^ 64 - 1)
+    → min (new + opens_of front) (2 ^ 64 - 1) ≡ min (old + opens_of all) (2 ^ 64 - 1)
+reads_first front seat all old new is e =
+    let a : opens_of all ≡ opens_of (front ++ seat ∷ []) = ap opens_of is in
+    let b = total_append (λ (s : Seat). s.opens) front (seat ∷ []) in
+    omega arith
+
+pub store_is : (old new : StoreView) (n : ℕ) → new ≡ record old { reads = n } → new ≡ record old { reads = new.reads }
+store_is old new n e = e ∙ ap (λ (m : ℕ). record old { reads = m }) (sym (ap (λ (s : StoreView). s.reads) e))

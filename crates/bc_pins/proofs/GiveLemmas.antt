@@ -1,0 +1,299 @@
+-- Putting a page back, as Home or as Home and remembered.
+use Rattle.std.proofs.Common.{◌≡◌, ℕ, ◌+◌, ◌<◌, ◌≤◌, ◌≢◌, ◌==◌, Bool, true, false, List, [], ◌∷◌, length, set, Some, None, if◌then◌else◌, inl, inr, refl, ap, sym, subst, ◌∙◌, arith}
+use mathlib.Core.Option.{some}
+use mathlib.Core.Option as maybe
+use lib.ListN.{get_elem?}
+use Rattle.std.proofs.lemmas.Bool.{cases_eq, cases_Bool, eq-eqb, ne_eqb, ltb-true, lt-ltb}
+use Rattle.std.proofs.lemmas.List.{length-set}
+use Rattle.atomic_table.specs.Table.{Allows, step, gives, chain}
+use Rattle.atomic_table.proofs.Lists.{set_here, set_else}
+use Rattle.bc_bits.specs.Counting.{one_if}
+use Rattle.bc_superpages.specs.declared.spaces.Homed.{Homed}
+use Rattle.bc_pins.specs.declared.views.Lodged.{Lodged}
+use Rattle.bc_pins.specs.declared.views.Lodged.TheVariants.{Nothing, Home}
+use Rattle.bc_pins.specs.declared.views.Hand.{Hand}
+use Rattle.bc_pins.specs.declared.views.View.{View}
+use Rattle.bc_pins.specs.Key.{Key, pages_of, owner}
+use Rattle.bc_pins.specs.Totals.{total, times}
+use Rattle.bc_pins.specs.Contents.{IsContent, RefersYoung}
+use Rattle.bc_pins.specs.Views.{grips, grips_remembered, frame_in_hand, has_role, entries, look_up, opened_content}
+use Rattle.bc_pins.specs.Facts.{Table, word, slot, IsHomed, Lies, Records, frame_lodged}
+use Rattle.bc_pins.specs.Tidy.{IsTidy}
+use Rattle.bc_pins.specs.Rule.{Rule}
+use Rattle.bc_pins.specs.Steps.{Mine, owns, both_slots, released, Gave}
+use Rattle.bc_pins.proofs.TotalLemmas.{total_set, total_at, one_same, one_other, one_is}
+use Rattle.bc_pins.proofs.PageSteps.{after, PageStep, page_step}
+use Rattle.bc_pins.proofs.ReadLemmas.{saw_kept}
+use Rattle.bc_pins.proofs.TakeLemmas.{Slots, flag_is, flag_other}
+
+no_hand : (z : Hand) → None ≡ Some z → ⊥
+no_hand z e = cc
+
+lies_homed : (n : ℕ) (a b : maybe.Option (maybe.Option Lodged)) (c : List ℕ) → 1 ≤ n → n ≤ 2 → IsHomed a b c → Lies n a b c
+lies_homed n a b c lo hi l = elim (cases_eq n 1) [
+  | inl one ↦ subst (λ (j : ℕ). Lies j a b c) (sym one) l
+  | inr ne ↦ let two : n ≡ 2 = omega arith in subst (λ (j : ℕ). Lies j a b c) (sym two) l
+]
+
+pub recorded_times : (b : Bool) (q p : ℕ) (l : List ℕ) → times q (if b then p ∷ l else l) ≡ (if b then one_if (p == q) else 0) + times q l
+recorded_times true q p l = refl
+recorded_times false q p l = omega arith
+
+changed_entries : (b : Bool) (q p : ℕ) (c : List ℕ) (l : List (ℕ × List ℕ)) → entries q (if b then (p, c) ∷ l else l) ≡ (if b then one_if (p == q) else 0) + entries q l
+changed_entries true q p c l = refl
+changed_entries false q p c l = omega arith
+
+look_other : (b : Bool) (q p : ℕ) (c d : List ℕ) (l : List (ℕ × List ℕ)) → p ≢ q → look_up q (if b then (p, c) ∷ l else l) d ≡ look_up q l d
+look_other true q p c d l ne = ap (λ (b : Bool). if b then c else look_up q l d) (ne_eqb p q ne)
+look_other false q p c d l ne = refl
+
+look_here : (b : Bool) (p : ℕ) (c d : List ℕ) (l : List (ℕ × List ℕ)) → b ≡ true → look_up p (if b then (p, c) ∷ l else l) d ≡ c
+look_here true p c d l e = ap (λ (b : Bool). if b then c else look_up p l d) (eq-eqb p p refl)
+look_here false p c d l e = absurd (cc)
+
+here_is : (a p : ℕ) (b c : List ℕ) → a ≡ p → (if a == p then b else c) ≡ b
+here_is a p b c e = ap (λ (t : Bool). if t then b else c) (eq-eqb a p e)
+
+there_is : (a p : ℕ) (b c : List ℕ) → a ≢ p → (if a == p then b else c) ≡ c
+there_is a p b c e = ap (λ (t : Bool). if t then b else c) (ne_eqb a p e)
+
+-- a frame that moves from a hand into its slot
+given_frame : (f : ℕ) (hs : Slots) (p q : ℕ) (h : Homed) → p ≢ q → get_elem? hs p ≡ some maybe.none → get_elem? hs q ≡ some maybe.none
+    → total (frame_lodged f) (set (set hs p (some (Home h))) q (some Nothing)) ≡ total (frame_lodged f) hs + one_if (h.frame == f)
+given_frame f hs p q h ne one two =
+    let a = total_set (frame_lodged f) hs p maybe.none (some (Home h)) one in
+    let b = total_set (frame_lodged f) (set hs p (some (Home h))) q maybe.none (some Nothing) (set_else hs p q (some (Home h)) (λ e. ne (sym e)) ∙ two) in
+    omega arith
+
+module _ (k : Key) (s : Table) (r : Rule k s) (id x role : ℕ) (v : View) (g : Hand) (h : Homed) (at : get_elem? s.views id ≡ some v) (lo : 1 ≤ x) (hi : x ≤ 2)
+    (about : v.about ≡ k) (has : v.hand ≡ Some g) (some_role : 0 < has_role v role) (frame : h.frame ≡ g.frame)
+    (fixed : IsContent k.opening g.page h.page) (young : RefersYoung k.opening g.page h.page → x ≡ 2) (flag : g.remembered ≡ true → x ≡ 2)
+    (others : has_role v (owner k g.page) ≡ 0 → h.page ≡ g.content) where
+  abbrev p : ℕ
+  p = g.page
+
+  abbrev w : View
+  w = released v p (x == 2) h.page
+
+  abbrev homes : Slots
+  homes = set (set s.homes p (some (Home h))) (pages_of k + p) (some Nothing)
+
+  abbrev rec' : ℕ → List ℕ
+  rec' q = if q == p then h.page else r.rec q
+
+  near : p < pages_of k
+  near = ((r.seats id v at).records.in_hand g has).0
+
+  wide : p < length s.words
+  wide = let long = r.words in let n = near in omega arith
+
+  grip_is : (q : ℕ) → grips q v.hand ≡ one_if (p == q)
+  grip_is q = ap (grips q) has
+
+  flag_was : (q : ℕ) → grips_remembered q v.hand ≡ (if g.remembered then one_if (p == q) else 0)
+  flag_was q = ap (grips_remembered q) has
+
+  was_held : word s p ≡ 3
+  was_held =
+      let held = (r.place p near).held in
+      let mine = total_at (λ (u : View). grips p u.hand) s.views id v at in
+      let is = grip_is p in
+      let one = one_same p in
+      one_is (word s p) 3 (omega arith)
+
+  word_is : (n : ℕ) → n ≢ 3 → one_if (word s p == n) ≡ 0
+  word_is n ne = one_other (word s p) n (λ e. ne (sym e ∙ was_held))
+
+  three_is : one_if (word s p == 3) ≡ 1
+  three_is = ap (λ (n : ℕ). one_if (n == 3)) was_held
+
+  now_is : (n : ℕ) → n ≢ 1 → n ≢ 2 → one_if (x == n) ≡ 0
+  now_is n a b = one_other x n (λ e. elim (cases_eq x 1) [ inl one ↦ a (sym e ∙ one) | inr ne ↦ let two : x ≡ 2 = omega arith in b (sym e ∙ two) ])
+
+  two_if : x ≡ 2 → one_if (x == 2) ≡ 1
+  two_if e = ap one_if (eq-eqb x 2 e)
+
+  flag_now : grips_remembered p v.hand ≤ one_if (x == 2)
+  flag_now = elim (cases_Bool g.remembered) [
+    | inl on ↦
+        let a = flag_was p in
+        let b : (if g.remembered then one_if (p == p) else 0) ≡ one_if g.remembered = flag_is g.remembered p in
+        let c : one_if g.remembered ≡ 1 = ap one_if on in
+        let d = two_if (flag on) in
+        omega arith
+    | inr off ↦
+        let a = flag_was p in
+        let b : (if g.remembered then one_if (p == p) else 0) ≡ one_if g.remembered = flag_is g.remembered p in
+        let c : one_if g.remembered ≡ 0 = ap one_if off in
+        omega arith
+  ]
+
+  fewer : one_if (word s p == 2) + grips_remembered p v.hand ≤ one_if (x == 2) + grips_remembered p w.hand
+  fewer = let a = word_is 2 (λ e. omega arith) in let b = flag_now in omega arith
+
+  else_flag : (q : ℕ) → q ≢ p → grips_remembered q w.hand ≡ grips_remembered q v.hand
+  else_flag q ne = sym (flag_was q ∙ flag_other g.remembered p q (λ e. ne (sym e)))
+
+  not_four : word s p ≡ 4 → ⊥
+  not_four e = let a = was_held in omega arith
+
+  old_record : g.content ≡ r.rec p
+  old_record = ((r.seats id v at).records.in_hand g has).1
+
+  same_here : rec' p ≡ h.page
+  same_here = here_is p p h.page (r.rec p) refl
+
+  lane_kept : has_role v (owner k p) ≡ 0 → rec' p ≡ r.rec p
+  lane_kept none_has = same_here ∙ others none_has ∙ old_record
+
+  owning : 0 < has_role v (owner k p) → owns v p ≡ true
+  owning lt = lt-ltb 0 _ (subst (λ (a : Key). 0 < has_role v (owner a p)) (sym about) lt)
+
+  not_owning : (q : ℕ) → q ≡ p → has_role v (owner k q) ≡ 0 → owns v p ≡ true → ⊥
+  not_owning q e none_has on =
+      let a : 0 < has_role v (owner v.about p) = ltb-true 0 _ on in
+      let b : 0 < has_role v (owner k p) = subst (λ (y : Key). 0 < has_role v (owner y p)) about a in
+      let c : has_role v (owner k p) ≡ 0 = subst (λ (n : ℕ). has_role v (owner k n) ≡ 0) e none_has in
+      omega arith
+
+  records_kept : Records k rec' w
+  records_kept =
+      let facts = (r.seats id v at).records in
+      record {
+        mine = λ q lt. elim (cases_eq q p) [
+          | inl e ↦
+              let mine : 0 < has_role v (owner k p) = subst (λ (n : ℕ). 0 < has_role v (owner k n)) e lt in
+              here_is q p h.page (r.rec q) e ∙ sym (ap (λ (n : ℕ). look_up n w.changed (opened_content v.about n)) e ∙ look_here (owns v p) p h.page (opened_content v.about p) v.changed (owning mine))
+          | inr ne ↦ there_is q p h.page (r.rec q) ne ∙ facts.mine q lt ∙ sym (look_other (owns v p) q p h.page (opened_content v.about q) v.changed (λ e. ne (sym e)))
+        ];
+        others = λ q none_has. elim (cases_eq q p) [
+          | inl e ↦ elim (cases_Bool (owns v p)) [
+            | inl on ↦ absurd (not_owning q e none_has on)
+            | inr off ↦ changed_entries (owns v p) q p h.page v.changed ∙ (let a : (if owns v p then one_if (p == q) else 0) ≡ 0 = ap (λ (b : Bool). if b then one_if (p == q) else 0) off in let b = facts.others q none_has in omega arith)
+          ]
+          | inr ne ↦ changed_entries (owns v p) q p h.page v.changed ∙ (let a = flag_other (owns v p) p q (λ e. ne (sym e)) in let b = facts.others q none_has in omega arith)
+        ];
+        in_hand = λ z e. absurd (no_hand z e);
+      }
+
+  give_step : PageStep k s r.rec rec' p x homes id v w
+  give_step =
+      let slots = r.slots in
+      let place = r.place p near in
+      let inside = near in
+      let facts = r.seats id v at in
+      let out = subst (λ (n : ℕ). Lies n (slot s p) (slot s (pages_of k + p)) (r.rec p)) was_held place.lies in
+      let c = grip_is p in
+      let one = one_same p in
+      let three = three_is in
+      let x3 = now_is 3 (λ e. omega arith) (λ e. omega arith) in
+      let x4 = now_is 4 (λ e. omega arith) (λ e. omega arith) in
+      let x0 = now_is 0 (λ e. omega arith) (λ e. omega arith) in
+      let w4 = word_is 4 (λ e. omega arith) in
+      let w0 = word_is 0 (λ e. omega arith) in
+      let rt = recorded_times (x == 2) p p v.recorded in
+      let rf = flag_is (x == 2) p in
+      let long : length (set s.homes p (some (Home h))) ≡ length s.homes = length-set s.homes p (some (Home h)) in
+      record {
+        near = near;
+        long = length-set (set s.homes p (some (Home h))) (pages_of k + p) (some Nothing) ∙ long;
+        else_home = λ i a b. set_else (set s.homes p (some (Home h))) (pages_of k + p) i (some Nothing) b ∙ set_else s.homes p i (some (Home h)) a;
+        lies = lies_homed x _ _ _ lo hi (
+          h,
+          set_else (set s.homes p (some (Home h))) (pages_of k + p) p (some Nothing) (λ e. omega arith) ∙ set_here s.homes p (some (Home h)) (omega arith),
+          set_here (set s.homes p (some (Home h))) (pages_of k + p) (some Nothing) (omega arith),
+          sym same_here,
+        );
+        frame = λ f.
+            let a = given_frame f s.homes p (pages_of k + p) h (λ e. omega arith) out.0 out.1 in
+            let b : frame_in_hand f v.hand ≡ one_if (g.frame == f) = ap (frame_in_hand f) has in
+            let d : one_if (h.frame == f) ≡ one_if (g.frame == f) = ap (λ (n : ℕ). one_if (n == f)) frame in
+            omega arith;
+        grip = omega arith;
+        else_grip = λ q ne. sym (grip_is q ∙ one_other p q (λ e. ne (sym e)));
+        else_rec = λ q ne. there_is q p h.page (r.rec q) ne;
+        lane = lane_kept;
+        hands = λ z. absurd (omega arith);
+        fixed = subst (IsContent k.opening p) (sym same_here) fixed;
+        young = λ y. inr (let e = two_if (young (subst (RefersYoung k.opening p) same_here y)) in omega arith);
+        bare = λ z. absurd (omega arith);
+        not_fewer = fewer;
+        else_remembered = else_flag;
+        put_back = omega arith;
+        noted = λ lt. inr (omega arith);
+        kept = λ lt. omega arith;
+        else_recorded = λ q ne. recorded_times (x == 2) q p v.recorded ∙ (let z = flag_other (x == 2) p q (λ e. ne (sym e)) in omega arith);
+        went = omega arith;
+        emptied = omega arith;
+        else_fetched = λ q ne. refl;
+        else_left = λ q ne. refl;
+        else_emptied = λ q ne. refl;
+        stays = λ e _. absurd (not_four e);
+        roles = refl;
+        seated = record {
+          about = facts.seated.about;
+          idle = λ e. let z : has_role v role ≡ 0 = ap (times role) e in absurd (omega arith);
+        };
+        records = records_kept;
+        saw = saw_kept k s p x homes id v w at wide fewer else_flag refl refl refl (λ e. absurd (not_four e)) facts.saw;
+      }
+
+  pub give_rule : Rule k (after s p x homes id w)
+  give_rule = page_step k s r rec' p x homes id v w at give_step
+
+abbrev second : List (ℕ × Lodged) → Lodged
+second [] = Nothing
+second (y ∷ ys) = y.1
+
+home_is : (a b : Homed) → Home a ≡ Home b → a ≡ b
+home_is a b e = cc
+
+pub first_homed : (p : ℕ) (a b : Homed) (l m : List (ℕ × Lodged)) → (p, Home a) ∷ l ≡ (p, Home b) ∷ m → a ≡ b
+first_homed p a b l m e = home_is a b (ap second e)
+
+-- whatever the table is, putting a page back keeps the rule
+pub gave : (k : Key) (slots id x role : ℕ) (v : View) (g : Hand) (h : Homed) → 1 ≤ x → x ≤ 2 → v.about ≡ k → v.hand ≡ Some g → 0 < has_role v role → h.frame ≡ g.frame
+    → IsContent k.opening g.page h.page → (RefersYoung k.opening g.page h.page → x ≡ 2) → (g.remembered ≡ true → x ≡ 2)
+    → (has_role v (owner k g.page) ≡ 0 → h.page ≡ g.content)
+    → Allows (Rule k) slots id (v, both_slots k g.page (Home h) Nothing) g.page (λ _. x)
+    (λ _. Gave (step slots g.page x 0 maybe.none) (v, both_slots k g.page (Home h) Nothing))
+gave k slots id x role v g h lo hi about has some_role frame fixed young flag others s r size at fits = (
+  released v g.page (x == 2) h.page,
+  chain gives gives,
+  (tt, tt),
+  give_rule k s r id x role v g h at lo hi about has some_role frame fixed young flag others,
+  record {
+    slots = refl;
+    view = λ z e. ap (λ (y : Homed). released v g.page (x == 2) y.page) (first_homed g.page h z _ _ e);
+  },
+)
+
+pub gives_from : (k : Key) (slots id x role : ℕ) (me : Mine) (v : View) (g : Hand) (h : Homed) (p : ℕ) → me ≡ (v, both_slots k p (Home h) Nothing) → g.page ≡ p → 1 ≤ x → x ≤ 2
+    → v.about ≡ k → v.hand ≡ Some g → 0 < has_role v role → h.frame ≡ g.frame
+    → IsContent v.about.opening p h.page → (RefersYoung v.about.opening p h.page → x ≡ 2) → (g.remembered ≡ true → x ≡ 2)
+    → (has_role v (owner v.about p) ≡ 0 → h.page ≡ g.content)
+    → Allows (Rule k) slots id me p (λ _. x) (λ _. Gave (step slots p x 0 maybe.none) me)
+gives_from k slots id x role me v g h p is page lo hi about has some_role frame fixed young flag others =
+    subst (λ (m : Mine). Allows (Rule k) slots id m p (λ _. x) (λ _. Gave (step slots p x 0 maybe.none) m)) (sym is)
+    (subst (λ (q : ℕ). Allows (Rule k) slots id (v, both_slots k q (Home h) Nothing) q (λ _. x) (λ _. Gave (step slots q x 0 maybe.none) (v, both_slots k q (Home h) Nothing))) page
+    (gave k slots id x role v g h lo hi about has some_role frame
+    (subst (λ (q : ℕ). IsContent k.opening q h.page) (sym page) (subst (λ (a : Key). IsContent a.opening p h.page) about fixed))
+    (λ y. young (subst (λ (a : Key). RefersYoung a.opening p h.page) (sym about) (subst (λ (q : ℕ). RefersYoung k.opening q h.page) page y)))
+    flag
+    (λ z. others (subst (λ (a : Key). has_role v (owner a p) ≡ 0) (sym about) (subst (λ (q : ℕ). has_role v (owner k q) ≡ 0) page z)))))
+
+-- a view that is tidy stays so when a page was put back
+pub tidy_released : (v : View) (p : ℕ) (b : Bool) (c : List ℕ) → IsTidy v → IsTidy (released v p b c)
+tidy_released v p b c old q none_has =
+    let was = old q none_has in
+    let now = changed_entries (owns v p) q p c v.changed in
+    elim (cases_eq q p) [
+      | inl e ↦ elim (cases_Bool (owns v p)) [
+        | inl on ↦
+            let a : 0 < has_role v (owner v.about p) = ltb-true 0 _ on in
+            let z : has_role v (owner v.about p) ≡ 0 = subst (λ (n : ℕ). has_role v (owner v.about n) ≡ 0) e none_has in
+            absurd (omega arith)
+        | inr off ↦ let a : (if owns v p then one_if (p == q) else 0) ≡ 0 = ap (λ (b : Bool). if b then one_if (p == q) else 0) off in omega arith
+      ]
+      | inr ne ↦ let a = flag_other (owns v p) p q (λ e. ne (sym e)) in omega arith
+    ]

@@ -1,0 +1,179 @@
+-- A seat is joined into another, which takes over all that it kept.
+use Rattle.std.proofs.Common.{◌≡◌, ℕ, ◌+◌, ◌<◌, ◌≤◌, ◌==◌, Bool, true, false, List, [], ◌∷◌, ◌++◌, set, None, if◌then◌else◌, inl, inr, refl, ap, sym, subst, ◌∙◌, arith}
+use mathlib.Core.Option.{some}
+use lib.ListN.{get_elem?}
+use Rattle.std.proofs.lemmas.Bool.{cases_lt, cases_Bool}
+use Rattle.atomic_table.specs.Table.{Joins}
+use Rattle.atomic_table.proofs.Lists.{at_set, set_else}
+use Rattle.bc_bits.specs.Counting.{one_if}
+use Rattle.bc_pins.specs.declared.views.View.{View}
+use Rattle.bc_pins.specs.Key.{Key, owner}
+use Rattle.bc_pins.specs.Totals.{total, times}
+use Rattle.bc_pins.specs.Views.{grips, grips_remembered, frame_in_hand, has_role, entries, look_up, opened_content, record_of}
+use Rattle.bc_pins.specs.Facts.{Table}
+use Rattle.bc_pins.specs.Rule.{SeatFacts, Rule}
+use Rattle.bc_pins.specs.Steps.{united, nobody}
+use Rattle.bc_pins.proofs.TotalLemmas.{total_set, total_two, times_append}
+use Rattle.bc_pins.proofs.SeatLemmas.{with_views, SameSums, now_same, views_step, seat_kept, no_hand}
+
+-- a seat is joined into another
+join_sum : (f : View → ℕ) (vs : List View) (id other : ℕ) (v w a b : View) → get_elem? vs id ≡ some v → get_elem? (set vs id a) other ≡ some w → f b ≡ 0 → f a ≡ f v + f w → total f (set (set vs id a) other b) ≡ total f vs
+join_sum f vs id other v w a b at there z e =
+    let one = total_set f vs id v a at in
+    let two = total_set f (set vs id a) other w b there in
+    omega arith
+
+pub entries_append : (p : ℕ) (l m : List (ℕ × List ℕ)) → entries p (l ++ m) ≡ entries p l + entries p m
+entries_append p [] m = omega arith
+entries_append p (e ∷ l) m = let a = entries_append p l m in omega arith
+
+pub look_skips : (p : ℕ) (l m : List (ℕ × List ℕ)) (d : List ℕ) → entries p l ≡ 0 → look_up p (l ++ m) d ≡ look_up p m d
+look_skips p [] m d e = refl
+look_skips p (x ∷ l) m d e = elim (cases_Bool (x.0 == p)) [
+  | inl on ↦ let a : one_if (x.0 == p) ≡ 1 = ap one_if on in absurd (omega arith)
+  | inr off ↦ ap (λ (b : Bool). if b then x.1 else look_up p (l ++ m) d) off ∙ look_skips p l m d (omega arith)
+]
+
+pub look_none : (p : ℕ) (m : List (ℕ × List ℕ)) (d : List ℕ) → entries p m ≡ 0 → look_up p m d ≡ d
+look_none p [] d e = refl
+look_none p (x ∷ m) d e = elim (cases_Bool (x.0 == p)) [
+  | inl on ↦ let a : one_if (x.0 == p) ≡ 1 = ap one_if on in absurd (omega arith)
+  | inr off ↦ ap (λ (b : Bool). if b then x.1 else look_up p m d) off ∙ look_none p m d (omega arith)
+]
+
+pub look_first : (p : ℕ) (l m : List (ℕ × List ℕ)) (d : List ℕ) → entries p m ≡ 0 → look_up p (l ++ m) d ≡ look_up p l d
+look_first p [] m d e = look_none p m d e
+look_first p (x ∷ l) m d e = ap (λ (r : List ℕ). if x.0 == p then x.1 else r) (look_first p l m d e)
+
+clash : (x : ℕ) (l : List ℕ) → x ∷ l ≡ [] → ⊥
+clash x l e = cc
+
+not_alive : false ≡ true → ⊥
+not_alive e = cc
+
+none_of : (l m : List ℕ) → l ≡ [] → m ≡ [] → l ++ m ≡ []
+none_of l m e f = ap (λ (x : List ℕ). x ++ m) e ∙ f
+
+pub no_more : (l m : List ℕ) → l ++ m ≡ [] → (l ≡ []) × (m ≡ [])
+no_more [] m e = (refl, e)
+no_more (x ∷ l) m e = absurd (clash x (l ++ m) e)
+
+module _ (k : Key) (s : Table) (r : Rule k s) (id other : ℕ) (v w : View) (at : get_elem? s.views id ≡ some v) (ne : other ≡ id → ⊥) (there : get_elem? (set s.views id (united v w)) other ≡ some w)
+    (about : v.about ≡ k) (same_about : w.about ≡ k) (nothing : w.hand ≡ None) where
+  abbrev views : List View
+  views = set (set s.views id (united v w)) other nobody
+
+  there_was : get_elem? s.views other ≡ some w
+  there_was = sym (set_else s.views id other (united v w) ne) ∙ there
+
+  mine : SeatFacts k s r.rec v
+  mine = r.seats id v at
+
+  theirs : SeatFacts k s r.rec w
+  theirs = r.seats other w there_was
+
+  sum_of : (f : View → ℕ) → f nobody ≡ 0 → f (united v w) ≡ f v + f w → total f views ≡ total f s.views
+  sum_of f z e = join_sum f s.views id other v w (united v w) nobody at there z e
+
+  sums : SameSums s.views views
+  sums = record {
+    grip = λ p. sum_of (λ u. grips p u.hand) refl (let a : grips p w.hand ≡ 0 = ap (grips p) nothing in omega arith);
+    flag = λ p. sum_of (λ u. grips_remembered p u.hand) refl (let a : grips_remembered p w.hand ≡ 0 = ap (grips_remembered p) nothing in omega arith);
+    recorded = λ p. sum_of (λ u. times p u.recorded) refl (times_append p v.recorded w.recorded);
+    fetched = λ p. sum_of (λ u. times p u.fetched) refl (times_append p v.fetched w.fetched);
+    left = λ p. sum_of (λ u. times p u.left) refl (times_append p v.left w.left);
+    emptied = λ p. sum_of (λ u. times p u.emptied) refl (times_append p v.emptied w.emptied);
+    roles = λ p. sum_of (λ u. times p u.roles) refl (times_append p v.roles w.roles);
+    frame = λ p. sum_of (λ u. frame_in_hand p u.hand + times p u.rights) refl
+        (let a : frame_in_hand p w.hand ≡ 0 = ap (frame_in_hand p) nothing in let b = times_append p v.rights w.rights in omega arith);
+  }
+
+  -- of two views with one role between them, one has it
+  one_has : (n : ℕ) → has_role v n + has_role w n ≤ 1
+  one_has n =
+      let two = total_two (λ (z : View). times n z.roles) s.views other id w v ne there_was at in
+      let each = r.roles.each n in
+      let apart = r.roles.apart n in
+      omega arith
+
+  record_united : (p : ℕ) → 0 < has_role (united v w) (owner k p) → r.rec p ≡ record_of (united v w) p
+  record_united p lt =
+      let both = times_append (owner k p) v.roles w.roles in
+      let one = one_has (owner k p) in
+      elim (cases_lt 0 (has_role v (owner k p))) [
+        | inl has ↦
+            let none_w : has_role w (owner k p) ≡ 0 = omega arith in
+            mine.records.mine p has ∙ sym (look_first p v.changed w.changed (opened_content v.about p) (theirs.records.others p none_w))
+        | inr le ↦
+            let none_v : has_role v (owner k p) ≡ 0 = omega arith in
+            theirs.records.mine p (omega arith)
+            ∙ ap (λ (a : Key). look_up p w.changed (opened_content a p)) (same_about ∙ sym about)
+            ∙ sym (look_skips p v.changed w.changed (opened_content v.about p) (mine.records.others p none_v))
+      ]
+
+  seat_united : SeatFacts k (with_views s views) r.rec (united v w)
+  seat_united = record {
+    seated = record {
+      about = mine.seated.about;
+      idle = λ e.
+          let both = no_more v.roles w.roles e in
+          let a = mine.seated.idle both.0 in
+          let b = theirs.seated.idle both.1 in
+          record {
+            hand = a.hand;
+            rights = none_of v.rights w.rights a.rights b.rights;
+            recorded = none_of v.recorded w.recorded a.recorded b.recorded;
+            left = none_of v.left w.left a.left b.left;
+            emptied = none_of v.emptied w.emptied a.emptied b.emptied;
+            fetched = none_of v.fetched w.fetched a.fetched b.fetched;
+          };
+    };
+    records = record {
+      mine = record_united;
+      others = λ p z.
+          let both = times_append (owner k p) v.roles w.roles in
+          let a = mine.records.others p (omega arith) in
+          let b = theirs.records.others p (omega arith) in
+          let c = entries_append p v.changed w.changed in
+          omega arith;
+      in_hand = mine.records.in_hand;
+    };
+    saw = record {
+      seen = λ p lt.
+          let c = times_append p v.seen w.seen in
+          let now = now_same s views sums p in
+          elim (cases_lt 0 (times p v.seen)) [
+            | inl has ↦ let a = mine.saw.seen p has in omega arith
+            | inr le ↦ let a = theirs.saw.seen p (omega arith) in omega arith
+          ];
+      gone = λ p lt.
+          let c = times_append p v.gone w.gone in
+          let both = times_append (owner k p) v.roles w.roles in
+          elim (cases_lt 0 (times p v.gone)) [
+            | inl has ↦ let a = mine.saw.gone p has in let b = a.1 in (a.0, omega arith, a.2)
+            | inr le ↦ let a = theirs.saw.gone p (omega arith) in let b = a.1 in (a.0, omega arith, a.2)
+          ];
+    };
+  }
+
+  spent : SeatFacts k (with_views s views) r.rec nobody
+  spent = record {
+    seated = record { about = λ e. absurd (not_alive e); idle = λ _. record { hand = refl; rights = refl; recorded = refl; left = refl; emptied = refl; fetched = refl } };
+    records = record { mine = λ p lt. absurd (omega arith); others = λ p _. refl; in_hand = λ h e. absurd (no_hand h e) };
+    saw = record { seen = λ p lt. absurd (omega arith); gone = λ p lt. absurd (omega arith) };
+  }
+
+  seat_each : (j : ℕ) (u : View) → get_elem? views j ≡ some u → SeatFacts k (with_views s views) r.rec u
+  seat_each j u is = elim (at_set (set s.views id (united v w)) other j nobody u is) [
+    | inl e ↦ subst (SeatFacts k (with_views s views) r.rec) e.1 spent
+    | inr o ↦ elim (at_set s.views id j (united v w) u o.1) [
+      | inl e ↦ subst (SeatFacts k (with_views s views) r.rec) e.1 seat_united
+      | inr x ↦ seat_kept k s r.rec views sums u (r.seats j u x.1)
+    ]
+  ]
+
+  pub join_rule : Rule k (with_views s views)
+  join_rule = views_step k s r views sums seat_each
+
+pub unites : (k : Key) (id other : ℕ) (v w : View) → v.about ≡ k → w.about ≡ k → w.hand ≡ None → Joins (Rule k) id v other w (united v w) nobody
+unites k id other v w about same_about nothing s r at ne there = join_rule k s r id other v w at ne there about same_about nothing

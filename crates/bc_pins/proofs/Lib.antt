@@ -1,0 +1,50 @@
+-- Sums over lists, when one item changes.
+pub mod TotalLemmas
+-- What a step on a page word owes, and that the rule then holds after it.
+pub mod PageSteps
+-- What was read stays so, through a step on a page word, and a word that is read alone.
+pub mod ReadLemmas
+-- Taking a page, from Home or from Home and remembered.
+pub mod TakeLemmas
+-- Putting a page back.
+pub mod GiveLemmas
+-- Only views change
+pub mod SeatLemmas
+-- A seat is joined into another.
+pub mod JoinLemmas
+-- What a seat has once its slots were exchanged.
+pub mod CallLemmas
+-- A field of a page that is written
+pub mod HeldLemmas
+-- A table as it is opened meets the rule.
+pub mod OpenLemmas
+-- What a table leaves when it is closed.
+pub mod CloseLemmas
+-- Words that are added one by one
+pub mod FillLemmas
+-- Items that are replaced or added one by one
+pub mod LodgeLemmas
+-- Seats that are dealt one by one
+pub mod DealLemmas
+-- From the parts of a space to the words and slots of a table
+pub mod PartsLemmas
+-- Sums over places
+pub mod SumLemmas
+-- A table may be opened with the words and slots that a space's parts give.
+pub mod MayOpenLemmas
+-- Boxes that went into slots, and came back.
+pub mod RestLemmas
+-- A table that is drawn from a space's parts
+pub mod DrawLemmas
+-- Seats that are joined one by one
+pub mod GatherLemmas
+-- Slots that are taken out one by one, and states that are written one by one.
+pub mod DrainLemmas
+-- Boxes that come out of slots
+pub mod BoxLemmas
+-- The space that a closed table's words and boxes make.
+pub mod SpaceLemmas
+-- What closing a table gives
+pub mod ClosingLemmas
+-- What a caller needs to open a table and to close it: seats that were dealt come back, a space without cells is ready.
+pub mod CallerLemmas

@@ -1,0 +1,160 @@
+-- A table may be opened with the words and slots that a space's parts give.
+use Rattle.std.proofs.Common.{◌≡◌, ℕ, ◌+◌, ◌-◌, ◌*◌, ◌/◌, ◌%◌, ◌<◌, ◌≤◌, ◌≢◌, Bool, false, List, [], length, map, get_or, slice_index, Option, Some, None, count_by, nat_lt, refl, ap, sym, subst, ◌∙◌, arith}
+use mathlib.Core.Option.{some}
+use lib.ListN.{get_elem?}
+use Rattle.std.proofs.lemmas.List.{length-map}
+use Rattle.bc_bits.specs.Counting.{one_if}
+use Rattle.bc_frames.specs.Pool.{is_free, free_count}
+use Rattle.bc_superpages.specs.declared.headers.Header.{Header}
+use Rattle.bc_superpages.specs.declared.headers.PageState.{PageState}
+use Rattle.bc_superpages.specs.declared.headers.PageState.TheVariants as state
+use Rattle.bc_superpages.specs.declared.spaces.Homed.{Homed}
+use Rattle.bc_superpages.specs.declared.parts.SpaceParts.{SpaceParts}
+use Rattle.bc_superpages.specs.Headers.{unused_header, is_resident}
+use Rattle.bc_superpages.specs.Layout.{Layout, superpages, content_at}
+use Rattle.bc_superpages.specs.LayoutAt.{state_at, header_of}
+use Rattle.bc_superpages.specs.Contents.{contents, content_of, uses_frame, LiesIn}
+use Rattle.bc_superpages.specs.Kept.{IsLayout}
+use Rattle.bc_superpages.specs.Parts.{state_in, AreParts, parts_layout}
+use Rattle.bc_superpages.proofs.LayoutLemmas.{header_of-layout}
+use Rattle.bc_superpages.proofs.KeptLemmas.{get_or-contents, IsLayout-kept}
+use Rattle.bc_superpages.proofs.HandLemmas.{state-header}
+use Rattle.bc_superpages.proofs.BringLemmas.{allocated-not_absent}
+use Rattle.bc_pins.specs.declared.views.Lodged.{Lodged}
+use Rattle.bc_pins.specs.declared.views.Lodged.TheVariants.{Nothing}
+use Rattle.bc_pins.specs.Key.{Key, pages_of}
+use Rattle.bc_pins.specs.Totals.{total, times}
+use Rattle.bc_pins.specs.Views.{state_word, opened_content}
+use Rattle.bc_pins.specs.Facts.{frame_of, frame_lodged}
+use Rattle.bc_pins.specs.Lodging.{Lodges, home_of, away_of}
+use Rattle.bc_pins.specs.Opening.{IsReady}
+use Rattle.bc_pins.specs.Facts.{Frames, Still}
+use Rattle.bc_pins.specs.Filling.{IsFilled}
+use Rattle.bc_pins.specs.Opening.{opened, OpensPage, MayOpen}
+use Rattle.bc_pins.proofs.SumLemmas.{sum_same, sum_none, sum_cut, total_sum, count_total, times_count, total_map}
+use Rattle.bc_pins.proofs.PartsLemmas.{content_fixed, slots_lie, slot_there, word_states, word_absent}
+
+frame_home : (b : Option Homed) (f : ℕ) → frame_of (home_of b) f ≡ one_if (uses_frame f b)
+frame_home None f = refl
+frame_home (Some h) f = refl
+
+frame_away : (c : Option (List ℕ)) (f : ℕ) → frame_of (away_of c) f ≡ 0
+frame_away None f = refl
+frame_away (Some c) f = refl
+
+none_there : (b : Option Homed) (c : Option (List ℕ)) → LiesIn false b c → b ≡ None
+none_there None c l = refl
+none_there (Some h) c l = absurd l
+
+pub no_box : (st : PageState) (b : Option Homed) (c : Option (List ℕ)) → st ≡ state.Absent → LiesIn (is_resident st) b c → b ≡ None
+no_box st b c e l = none_there b c (subst (λ (x : PageState). LiesIn (is_resident x) b c) e l)
+
+first_at : (first : List Lodged) (n : ℕ) (f : ℕ → Lodged) → Lodges [] first n f → (i : ℕ) → i < n → get_or first i Nothing ≡ f i
+first_at first n f one i lt = let z : i ≡ 0 + i = omega arith in ap (λ (j : ℕ). get_or first j Nothing) z ∙ one.added i lt
+
+-- the frames that slots use are those that boxes use
+pub frames_same : (bs : List (Option Homed)) (ps : List (Option (List ℕ))) (first slots : List Lodged) (n f : ℕ) → n ≤ length bs
+    → ((i : ℕ) → n ≤ i → i < length bs → get_or bs i None ≡ None)
+    → Lodges [] first n (λ p. home_of (get_or bs p None)) → Lodges first slots n (λ p. away_of (get_or ps p None))
+    → total (frame_lodged f) (map some slots) ≡ count_by (uses_frame f) bs
+frames_same bs ps first slots n f le past one two =
+    let long = one.long in
+    let all = two.long in
+    let g : ℕ → ℕ = λ i. frame_of (get_or slots i Nothing) f in
+    let h : ℕ → ℕ = λ i. one_if (uses_frame f (get_or bs i None)) in
+    let as_sum = total_map some (frame_lodged f) slots ∙ total_sum (λ x. frame_of x f) slots Nothing in
+    let cut = sum_cut g n n (length slots) (omega arith) in
+    let front = sum_same g h n (λ i lt. ap (λ (x : Lodged). frame_of x f) (two.kept i (omega arith) ∙ first_at first n _ one i lt) ∙ frame_home (get_or bs i None) f) in
+    let size : length first ≡ n = omega arith in
+    let back = sum_none (λ i. g (n + i)) n (λ i lt. ap (λ (j : ℕ). frame_of (get_or slots (j + i) Nothing) f) (sym size) ∙ ap (λ (x : Lodged). frame_of x f) (two.added i lt) ∙ frame_away (get_or ps i None) f) in
+    let boxes = count_total (uses_frame f) bs None ∙ total_sum (λ x. one_if (uses_frame f x)) bs None in
+    let rest : ℕ = length bs - n in
+    let cut_boxes = sum_cut h n rest (length bs) (omega arith) in
+    let none_past = sum_none (λ i. h (n + i)) rest (λ i lt. ap (λ (b : Option Homed). one_if (uses_frame f b)) (past (n + i) (omega arith) (omega arith))) in
+    omega arith
+
+module _ (k : Key) (whole : SpaceParts) (kept : AreParts whole) (layout : parts_layout whole ≡ k.opening) (pool : whole.pool ≡ k.pool) (nursery : whole.nursery.items ≡ k.nursery) (frames : k.frames ≡ length k.pool)
+    (within : pages_of k ≤ 4 * length whole.headers.items) (behind : (p : ℕ) → pages_of k ≤ p → state_in whole.headers.items p ≡ state.Absent) (ready : IsReady k.opening)
+    (apart : (r : ℕ) → times r k.roles ≤ 1) (nobody : times 0 k.roles ≡ 0)
+    (words : List ℕ) (filled : IsFilled k whole.headers.items words) (first slots : List Lodged)
+    (one : Lodges [] first (pages_of k) (λ p. home_of (get_or whole.boxes.items p None))) (two : Lodges first slots (pages_of k) (λ p. away_of (get_or whole.store.places p None))) where
+  long_boxes : length whole.boxes.items ≡ 4 * length whole.headers.items
+  long_boxes = kept.kept.boxes_long
+
+  whole_layout : IsLayout k.opening
+  whole_layout = subst IsLayout layout (IsLayout-kept whole.headers.items whole.boxes.items whole.pool whole.nursery.items whole.store.places _ _ _ _ kept.kept)
+
+  supers_are : superpages k.opening ≡ length whole.headers.items
+  supers_are = ap superpages (sym layout) ∙ length-map whole.headers.items (λ (h : Header). h.used)
+
+  state_is : (p : ℕ) → p < pages_of k → state_at k.opening.states p ≡ state_in whole.headers.items p
+  state_is p lt = ap (λ (s : Layout). state_at s.states p) (sym layout) ∙ state-header whole.headers.items p (omega arith)
+
+  content_is : (p : ℕ) → p < pages_of k → opened_content k p ≡ content_of (get_or whole.boxes.items p None) (get_or whole.store.places p None)
+  content_is p lt =
+      let a = kept.kept.boxes_long in
+      let b = kept.kept.places_long in
+      ap (λ (s : Layout). content_at s.pages p) (sym layout) ∙ get_or-contents whole.boxes.items whole.store.places p (omega arith) (omega arith)
+
+  lies_in : (p : ℕ) → p < length whole.boxes.items → LiesIn (is_resident (state_in whole.headers.items p)) (get_or whole.boxes.items p None) (get_or whole.store.places p None)
+  lies_in = kept.kept.lies
+
+  not_held : (p : ℕ) → p < pages_of k → state_in whole.headers.items p ≢ state.Held
+  not_held p lt = (kept.kept.whole (p / 4) (omega arith)).not_held (p % 4)
+
+  opens_page : (p : ℕ) → p < pages_of k → OpensPage k words slots p
+  opens_page p lt =
+      let st = state_is p lt in
+      let long = one.long in
+      let all = two.long in
+      let boxes = long_boxes in
+      let supers = supers_are in
+      let size : length first ≡ pages_of k = omega arith in
+      let left : get_or slots p Nothing ≡ home_of (get_or whole.boxes.items p None) = two.kept p (omega arith) ∙ first_at first (pages_of k) _ one p lt in
+      let right : get_or slots (pages_of k + p) Nothing ≡ away_of (get_or whole.store.places p None) = ap (λ (j : ℕ). get_or slots (j + p) Nothing) (sym size) ∙ two.added p lt in
+      let held = not_held p lt in
+      let lies = slots_lie (state_in whole.headers.items p) (get_or whole.boxes.items p None) (get_or whole.store.places p None) (get_elem? (map some slots) p) (get_elem? (map some slots) (pages_of k + p)) held (lies_in p (omega arith))
+      (slot_there slots p (omega arith) ∙ ap (λ (x : Lodged). some (some x)) left)
+      (slot_there slots (pages_of k + p) (omega arith) ∙ ap (λ (x : Lodged). some (some x)) right) in
+      record {
+        word = filled.states p lt ∙ sym (ap state_word st);
+        not_held = λ e. held (sym st ∙ word_states (state_at k.opening.states p) e);
+        lies = rw (ap state_word st, content_is p lt) lies;
+        fixed = content_fixed k.opening p whole_layout ready (omega arith);
+        young = λ y. ap state_word (ready.young p y);
+        bare = λ z a there on. allocated-not_absent k.opening a whole_layout there (ap (state_at k.opening.states) on ∙ word_absent (state_at k.opening.states p) z);
+      }
+
+  frames_open : (f : ℕ) → Frames k (opened k words slots) f
+  frames_open f =
+      let account = kept.kept.account.each f in
+      let same = frames_same whole.boxes.items whole.store.places first slots (pages_of k) f (let a = long_boxes in omega arith)
+      (λ i le lt. no_box (state_in whole.headers.items i) _ _ (behind i le) (lies_in i lt)) one two in
+      let young = times_count f whole.nursery.items in
+      let nursery_same : times f whole.nursery.items ≡ times f k.nursery = ap (times f) nursery in
+      let free_same : one_if (is_free whole.pool f) ≡ one_if (is_free k.pool f) = ap (λ (l : List Bool). one_if (is_free l f)) pool in
+      let all_same : one_if (nat_lt f (length whole.pool)) ≡ one_if (nat_lt f k.frames) = ap (λ (n : ℕ). one_if (nat_lt f n)) (ap length pool ∙ sym frames) in
+      omega arith
+
+  header_is : (q : ℕ) → q < length whole.headers.items → header_of k.opening q ≡ get_or whole.headers.items q unused_header
+  header_is q lt = ap (λ (s : Layout). header_of s q) (sym layout) ∙ header_of-layout whole.headers.items (contents whole.boxes.items whole.store.places) (length whole.pool) (length whole.nursery.items) (free_count whole.pool) whole.store.reads q lt
+
+  still_open : Still k (opened k words slots)
+  still_open = record {
+    counters = λ q lt. filled.counters q lt ∙ sym (ap (λ (h : Header). h.incoming) (header_is q (omega arith)));
+    bookmarks = λ w lt. filled.bookmarks w lt ∙ sym (ap (λ (h : Header). slice_index h.bookmarks (w % 16)) (header_is (w / 16) (omega arith)));
+    marks = λ w turn lt. filled.marks w turn lt ∙ sym (ap (λ (h : Header). slice_index h.marks (w % 16)) (header_is (w / 16) (omega arith)));
+    finished = λ w turn lt. filled.finished w turn lt ∙ sym (ap (λ (h : Header). slice_index h.finished (w % 16)) (header_is (w / 16) (omega arith)));
+  }
+
+  pub may_open : MayOpen k words slots
+  may_open = record {
+    words_long = filled.long;
+    slots_long = two.long ∙ ap (λ (n : ℕ). n + pages_of k) (one.long ∙ omega arith);
+    few = (let a = kept.kept.few in omega arith);
+    pages = opens_page;
+    apart = apart;
+    nobody = nobody;
+    frames = frames_open;
+    still = still_open;
+  }

@@ -1,0 +1,303 @@
+-- What a step on a page word owes, and that the rule then holds after it: the frame lemma of the page words.
+use Rattle.std.proofs.Common.{◌≡◌, ℕ, ◌+◌, ◌<◌, ◌≤◌, ◌≢◌, ◌==◌, ◌⊎◌, List, length, set, Some, inl, inr, ap, sym, subst, ◌∙◌, arith, get_or-set_same, get_or-set_other}
+use mathlib.Core.Option.{some}
+use mathlib.Core.Option as maybe
+use lib.ListN.{get_elem?}
+use Rattle.std.proofs.lemmas.Bool.{cases_eq, cases_lt, eq-eqb}
+use Rattle.std.proofs.lemmas.List.{length-set}
+use Rattle.atomic_table.proofs.Lists.{at_set}
+use Rattle.bc_bits.specs.Counting.{one_if}
+use Rattle.bc_pins.specs.declared.views.Lodged.{Lodged}
+use Rattle.bc_pins.specs.declared.views.Hand.{Hand}
+use Rattle.bc_pins.specs.declared.views.View.{View}
+use Rattle.bc_pins.specs.Key.{Key, pages_of, owner, counter_at, bookmark_at, mark_at, finished_at}
+use Rattle.bc_pins.specs.Totals.{total, times}
+use Rattle.bc_pins.specs.Contents.{IsContent, RefersYoung, IsBare}
+use Rattle.bc_pins.specs.Views.{grips, grips_remembered, frame_in_hand, has_role, opened_content}
+use Rattle.bc_pins.specs.Facts.{Table, word, Lies, Place, remembered_now, Content, Standing, Records, Saw, Seated, Roles, frame_lodged, Frames, Still}
+use Rattle.bc_pins.specs.Rule.{SeatFacts, Rule}
+use Rattle.bc_pins.proofs.TotalLemmas.{total_set, total_at, total_two, one_few}
+
+-- the table after a step of seat id on the word of page p
+abbrev pub after : Table → ℕ → ℕ → List (maybe.Option Lodged) → ℕ → View → Table
+after s p x homes id w = record { words = set s.words p x; homes = homes; views = set s.views id w }
+
+-- what such a step owes: p's word becomes x, and the seat's view v becomes w
+pub record PageStep (k : Key) (s : Table) (rec rec' : ℕ → List ℕ) (p x : ℕ) (homes : List (maybe.Option Lodged)) (id : ℕ) (v w : View) : Type 0 where
+  pub near : p < pages_of k
+  -- slots
+  pub long : length homes ≡ length s.homes
+  pub else_home : (i : ℕ) → i ≢ p → i ≢ pages_of k + p → get_elem? homes i ≡ get_elem? s.homes i
+  pub lies : Lies x (get_elem? homes p) (get_elem? homes (pages_of k + p)) (rec' p)
+  pub frame : (f : ℕ) → total (frame_lodged f) homes + (frame_in_hand f w.hand + times f w.rights) ≡ total (frame_lodged f) s.homes + (frame_in_hand f v.hand + times f v.rights)
+  -- what is in hand
+  pub grip : grips p w.hand + one_if (word s p == 3) ≡ grips p v.hand + one_if (x == 3)
+  pub else_grip : (q : ℕ) → q ≢ p → grips q w.hand ≡ grips q v.hand
+  -- records
+  pub else_rec : (q : ℕ) → q ≢ p → rec' q ≡ rec q
+  pub lane : has_role v (owner k p) ≡ 0 → rec' p ≡ rec p
+  pub hands : grips p v.hand ≡ 0 → rec' p ≡ rec p
+  pub fixed : IsContent k.opening p (rec' p)
+  pub young : RefersYoung k.opening p (rec' p) → RefersYoung k.opening p (rec p) ⊎ (0 < one_if (x == 2) + grips_remembered p w.hand)
+  pub bare : x ≡ 0 → IsBare k.opening p
+  -- remembered
+  pub not_fewer : one_if (word s p == 2) + grips_remembered p v.hand ≤ one_if (x == 2) + grips_remembered p w.hand
+  pub else_remembered : (q : ℕ) → q ≢ p → grips_remembered q w.hand ≡ grips_remembered q v.hand
+  pub put_back : times p v.recorded ≤ times p w.recorded
+  pub noted : 0 < one_if (x == 2) + grips_remembered p w.hand → (0 < one_if (word s p == 2) + grips_remembered p v.hand) ⊎ (0 < times p w.recorded)
+  pub kept : times p v.recorded < times p w.recorded → 0 < one_if (x == 2) + grips_remembered p w.hand
+  pub else_recorded : (q : ℕ) → q ≢ p → times q w.recorded ≡ times q v.recorded
+  -- gone and absent
+  pub went : one_if (x == 4) + times p w.fetched + times p v.left ≡ one_if (word s p == 4) + times p v.fetched + times p w.left
+  pub emptied : one_if (x == 0) + times p v.emptied ≡ one_if (word s p == 0) + times p w.emptied
+  pub else_fetched : (q : ℕ) → q ≢ p → times q w.fetched ≡ times q v.fetched
+  pub else_left : (q : ℕ) → q ≢ p → times q w.left ≡ times q v.left
+  pub else_emptied : (q : ℕ) → q ≢ p → times q w.emptied ≡ times q v.emptied
+  pub stays : word s p ≡ 4 → has_role v (owner k p) ≡ 0 → x ≡ 4
+  -- the seat
+  pub roles : w.roles ≡ v.roles
+  pub seated : Seated k w
+  pub records : Records k rec' w
+  pub saw : Saw k (after s p x homes id w) w
+
+module _ (k : Key) (s : Table) (r : Rule k s) (rec' : ℕ → List ℕ) (p x : ℕ) (homes : List (maybe.Option Lodged)) (id : ℕ) (v w : View) (at : get_elem? s.views id ≡ some v) (d : PageStep k s r.rec rec' p x homes id v w) where
+  abbrev t : Table
+  t = after s p x homes id w
+
+  sum : (f : View → ℕ) → total f t.views + f v ≡ total f s.views + f w
+  sum f = total_set f s.views id v w at
+
+  here : word t p ≡ x
+  here = let long = r.words in let near = d.near in get_or-set_same s.words p x 0 (omega arith)
+
+  there : (i : ℕ) → i ≢ p → word t i ≡ word s i
+  there i ne = get_or-set_other s.words p i x 0 ne
+
+  at_page : (F : ℕ → Type 0) → F p → ((q : ℕ) → q ≢ p → F q) → (q : ℕ) → F q
+  at_page F a b q = elim (cases_eq q p) [ inl e ↦ subst F (sym e) a | inr ne ↦ b q ne ]
+
+  same_sum : (f : View → ℕ) → f w ≡ f v → total f t.views ≡ total f s.views
+  same_sum f e = let c = sum f in omega arith
+
+  else_now : (q : ℕ) → q ≢ p → remembered_now t q ≡ remembered_now s q
+  else_now q ne =
+      let a : one_if (word t q == 2) ≡ one_if (word s q == 2) = ap (λ (n : ℕ). one_if (n == 2)) (there q ne) in
+      let b = same_sum (λ u. grips_remembered q u.hand) (d.else_remembered q ne) in
+      omega arith
+
+  here_now : remembered_now t p + grips_remembered p v.hand ≡ one_if (x == 2) + (total (λ (u : View). grips_remembered p u.hand) s.views + grips_remembered p w.hand)
+  here_now =
+      let a : one_if (word t p == 2) ≡ one_if (x == 2) = ap (λ (n : ℕ). one_if (n == 2)) here in
+      let b = sum (λ u. grips_remembered p u.hand) in
+      omega arith
+
+  grown : (q : ℕ) → remembered_now s q ≤ remembered_now t q
+  grown = at_page (λ q. remembered_now s q ≤ remembered_now t q)
+      (let a = here_now in let b = d.not_fewer in omega arith)
+      (λ q ne. let a = else_now q ne in omega arith)
+
+  held_by : 0 < one_if (x == 2) + grips_remembered p w.hand → 0 < remembered_now t p
+  held_by lt =
+      let a = here_now in
+      let b = total_at (λ (u : View). grips_remembered p u.hand) s.views id v at in
+      omega arith
+
+  place_there : (q : ℕ) → q ≢ p → q < pages_of k → Place k t rec' q
+  place_there q ne lt =
+      let old = r.place q lt in
+      let near = d.near in
+      let first : get_elem? homes q ≡ get_elem? s.homes q = d.else_home q ne (λ e. omega arith) in
+      let second : get_elem? homes (pages_of k + q) ≡ get_elem? s.homes (pages_of k + q) = d.else_home (pages_of k + q) (λ e. omega arith) (λ e. ne (omega arith)) in
+      let lies : Lies (word t q) (get_elem? homes q) (get_elem? homes (pages_of k + q)) (rec' q) = rw (there q ne, first, second, d.else_rec q ne) old.lies in
+      let a : one_if (word t q == 3) ≡ one_if (word s q == 3) = ap (λ (n : ℕ). one_if (n == 3)) (there q ne) in
+      let b = same_sum (λ u. grips q u.hand) (d.else_grip q ne) in
+      let held = old.held in
+      record { lies = lies; held = omega arith }
+
+  place_here : p < pages_of k → Place k t rec' p
+  place_here lt =
+      let old = r.place p lt in
+      let a : one_if (word t p == 3) ≡ one_if (x == 3) = ap (λ (n : ℕ). one_if (n == 3)) here in
+      let b = sum (λ u. grips p u.hand) in
+      let c = d.grip in
+      let held = old.held in
+      record { lies = rw here d.lies; held = omega arith }
+
+  content_there : (q : ℕ) → q ≢ p → q < pages_of k → Content k t rec' q
+  content_there q ne lt =
+      let old = r.content q lt in
+      let same = d.else_rec q ne in
+      let more = grown q in
+      record {
+        fixed = rw same old.fixed;
+        young = λ y. let was = old.young (subst (λ c. RefersYoung k.opening q c) same y) in omega arith;
+        bare = λ z. old.bare (sym (there q ne) ∙ z);
+      }
+
+  content_here : p < pages_of k → Content k t rec' p
+  content_here lt = record {
+    fixed = d.fixed;
+    young = λ y. elim (d.young y) [ inl was ↦ let a = (r.content p lt).young was in let b = grown p in omega arith | inr now ↦ held_by now ];
+    bare = λ z. d.bare (sym here ∙ z);
+  }
+
+  standing_there : (q : ℕ) → q ≢ p → q < pages_of k → Standing k t q
+  standing_there q ne lt =
+      let old = r.standing q lt in
+      let now = else_now q ne in
+      let ever = same_sum (λ u. times q u.recorded) (d.else_recorded q ne) in
+      let f = same_sum (λ u. times q u.fetched) (d.else_fetched q ne) in
+      let l = same_sum (λ u. times q u.left) (d.else_left q ne) in
+      let e = same_sum (λ u. times q u.emptied) (d.else_emptied q ne) in
+      let four : one_if (word t q == 4) ≡ one_if (word s q == 4) = ap (λ (n : ℕ). one_if (n == 4)) (there q ne) in
+      let zeros : one_if (word t q == 0) ≡ one_if (word s q == 0) = ap (λ (n : ℕ). one_if (n == 0)) (there q ne) in
+      let gone = old.gone in
+      let absent = old.absent in
+      record {
+        remembered = λ lt. let a = old.remembered (omega arith) in omega arith;
+        recorded = λ lt. let a = old.recorded (omega arith) in omega arith;
+        gone = omega arith;
+        absent = omega arith;
+      }
+
+  standing_here : p < pages_of k → Standing k t p
+  standing_here lt =
+      let old = r.standing p lt in
+      let now = here_now in
+      let more = grown p in
+      let ever = sum (λ u. times p u.recorded) in
+      let back = d.put_back in
+      let f = sum (λ u. times p u.fetched) in
+      let l = sum (λ u. times p u.left) in
+      let e = sum (λ u. times p u.emptied) in
+      let four : one_if (word t p == 4) ≡ one_if (x == 4) = ap (λ (n : ℕ). one_if (n == 4)) here in
+      let zeros : one_if (word t p == 0) ≡ one_if (x == 0) = ap (λ (n : ℕ). one_if (n == 0)) here in
+      let went = d.went in
+      let emptied = d.emptied in
+      let gone = old.gone in
+      let absent = old.absent in
+      let own = total_at (λ (u : View). times p u.recorded) s.views id v at in
+      let grip = total_at (λ (u : View). grips_remembered p u.hand) s.views id v at in
+      record {
+        remembered = λ lt. elim (cases_lt (times p v.recorded) (times p w.recorded)) [
+          | inl newly ↦ held_by (d.kept newly)
+          | inr before ↦ let a = old.remembered (omega arith) in omega arith
+        ];
+        recorded = λ lt. elim (cases_lt 0 (remembered_now s p)) [
+          | inl was ↦ let a = old.recorded was in omega arith
+          | inr none_was ↦ elim (d.noted (omega arith)) [
+            | inl a ↦ omega arith
+            | inr b ↦ omega arith
+          ]
+        ];
+        gone = omega arith;
+        absent = omega arith;
+      }
+
+  -- another view
+  lane_else : (j : ℕ) (u : View) → j ≢ id → get_elem? s.views j ≡ some u → (q : ℕ) → 0 < has_role u (owner k q) → rec' q ≡ r.rec q
+  lane_else j u ne is q mine = elim (cases_eq q p) [
+    | inl e ↦
+        let two = total_two (λ (z : View). times (owner k q) z.roles) s.views j id u v ne is at in
+        let each = r.roles.each (owner k q) in
+        let apart = r.roles.apart (owner k q) in
+        let nothing : has_role v (owner k q) ≡ 0 = omega arith in
+        subst (λ (n : ℕ). rec' n ≡ r.rec n) (sym e) (d.lane (subst (λ (n : ℕ). has_role v (owner k n) ≡ 0) e nothing))
+    | inr other ↦ d.else_rec q other
+  ]
+
+  hand_else : (j : ℕ) (u : View) → j ≢ id → get_elem? s.views j ≡ some u → (h : Hand) → u.hand ≡ Some h → h.page < pages_of k → rec' h.page ≡ r.rec h.page
+  hand_else j u ne is h has lt = elim (cases_eq h.page p) [
+    | inl e ↦
+        let two = total_two (λ (z : View). grips p z.hand) s.views j id u v ne is at in
+        let held = (r.place p d.near).held in
+        let mine : grips p u.hand ≡ 1 = ap (grips p) has ∙ ap one_if (eq-eqb h.page p e) in
+        let few = one_few (word s p == 3) in
+        subst (λ (n : ℕ). rec' n ≡ r.rec n) (sym e) (d.hands (omega arith))
+    | inr other ↦ d.else_rec h.page other
+  ]
+
+  word_four : (u : View) (j : ℕ) → j ≢ id → get_elem? s.views j ≡ some u → (q : ℕ) → q < pages_of k → 0 < has_role u (owner k q) → word s q ≡ 4 → word t q ≡ 4
+  word_four u j ne is q lt mine four = elim (cases_eq q p) [
+    | inl e ↦
+        let two = total_two (λ (z : View). times (owner k q) z.roles) s.views j id u v ne is at in
+        let each = r.roles.each (owner k q) in
+        let apart = r.roles.apart (owner k q) in
+        let nothing : has_role v (owner k q) ≡ 0 = omega arith in
+        ap (word t) e ∙ here ∙ d.stays (ap (word s) (sym e) ∙ four) (subst (λ (n : ℕ). has_role v (owner k n) ≡ 0) e nothing)
+    | inr other ↦ there q other ∙ four
+  ]
+
+  seat_else : (j : ℕ) (u : View) → j ≢ id → get_elem? s.views j ≡ some u → SeatFacts k t rec' u
+  seat_else j u ne is =
+      let old = r.seats j u is in
+      record {
+        seated = old.seated;
+        records = record {
+          mine = λ q mine. lane_else j u ne is q mine ∙ old.records.mine q mine;
+          others = old.records.others;
+          in_hand = λ h has. let was = old.records.in_hand h has in (was.0, was.1 ∙ sym (hand_else j u ne is h has was.0));
+        };
+        saw = record {
+          seen = λ q lt. let was = old.saw.seen q lt in let more = grown q in omega arith;
+          gone = λ q lt. let was = old.saw.gone q lt in (was.0, was.1, word_four u j ne is q was.0 was.1 was.2);
+        };
+      }
+
+  seat_each : (j : ℕ) (u : View) → get_elem? t.views j ≡ some u → SeatFacts k t rec' u
+  seat_each j u is = elim (at_set s.views id j w u is) [
+    | inl e ↦ subst (SeatFacts k t rec') e.1 (record { seated = d.seated; records = d.records; saw = d.saw })
+    | inr o ↦ seat_else j u o.0 o.1
+  ]
+
+  roles_kept : Roles k t
+  roles_kept = record {
+    each = λ n. same_sum (λ u. times n u.roles) (ap (times n) d.roles) ∙ r.roles.each n;
+    apart = r.roles.apart;
+    nobody = r.roles.nobody;
+  }
+
+  unowned_kept : (q : ℕ) → times (owner k q) k.roles ≡ 0 → rec' q ≡ opened_content k q
+  unowned_kept q none_has = elim (cases_eq q p) [
+    | inl e ↦
+        let mine = total_at (λ (z : View). times (owner k q) z.roles) s.views id v at in
+        let each = r.roles.each (owner k q) in
+        let nothing : has_role v (owner k q) ≡ 0 = omega arith in
+        let same : rec' q ≡ r.rec q = subst (λ (n : ℕ). rec' n ≡ r.rec n) (sym e) (d.lane (subst (λ (n : ℕ). has_role v (owner k n) ≡ 0) e nothing)) in
+        same ∙ r.unowned q none_has
+    | inr other ↦ d.else_rec q other ∙ r.unowned q none_has
+  ]
+
+  far : (i : ℕ) → pages_of k ≤ i → word t i ≡ word s i
+  far i le = let near = d.near in there i (λ e. omega arith)
+
+  frame_kept : (f : ℕ) → Frames k t f
+  frame_kept f =
+      let old = r.frames f in
+      let views = sum (λ u. frame_in_hand f u.hand + times f u.rights) in
+      let home = d.frame f in
+      omega arith
+
+  still_kept : Still k t
+  still_kept = record {
+    counters = λ q lt. far (counter_at k q) (omega arith) ∙ r.still.counters q lt;
+    bookmarks = λ i lt. far (bookmark_at k i) (omega arith) ∙ r.still.bookmarks i lt;
+    marks = λ i turn lt. far (mark_at k i) (omega arith) ∙ r.still.marks i turn lt;
+    finished = λ i turn lt. far (finished_at k i) (omega arith) ∙ r.still.finished i turn lt;
+  }
+
+  pub page_step : Rule k t
+  page_step = record {
+    rec = rec';
+    words = length-set s.words p x ∙ r.words;
+    slots = d.long ∙ r.slots;
+    few = r.few;
+    place = at_page (λ q. q < pages_of k → Place k t rec' q) place_here place_there;
+    content = at_page (λ q. q < pages_of k → Content k t rec' q) content_here content_there;
+    standing = at_page (λ q. q < pages_of k → Standing k t q) standing_here standing_there;
+    seats = seat_each;
+    roles = roles_kept;
+    unowned = unowned_kept;
+    frames = frame_kept;
+    still = still_kept;
+  }

@@ -1,0 +1,194 @@
+-- What was read stays so, through a step on a page word, and a word that is read alone.
+use Rattle.std.proofs.Common.{◌≡◌, ℕ, ◌+◌, ◌-◌, ◌<◌, ◌≤◌, ◌≢◌, ◌==◌, ◌&&◌, ◌⊎◌, Bool, true, false, List, ◌∷◌, length, Option, Some, None, if◌then◌else◌, inl, inr, refl, ap, sym, subst, ◌∙◌, arith, get_or-set_same, get_or-set_other}
+use Prim.Native.Nat.{suc}
+use mathlib.Core.Option.{some}
+use mathlib.Core.Option as maybe
+use lib.ListN.{get_elem?}
+use Rattle.std.proofs.lemmas.Bool.{cases_eq, cases_lt, cases_Bool, eqb-true, ltb-true, and_parts}
+use Rattle.atomic_table.specs.Table.{Allows, step, keeps}
+use Rattle.bc_bits.specs.Counting.{one_if}
+use Rattle.bc_pins.specs.declared.views.Lodged.{Lodged}
+use Rattle.bc_pins.specs.declared.views.Hand.{Hand}
+use Rattle.bc_pins.specs.declared.views.View.{View}
+use Rattle.bc_pins.specs.Key.{Key, pages_of, owner}
+use Rattle.bc_pins.specs.Totals.{times}
+use Rattle.bc_pins.specs.Views.{grips, grips_remembered, has_role}
+use Rattle.bc_pins.specs.Facts.{Table, word, Lies, remembered_now, Saw}
+use Rattle.bc_pins.specs.Rule.{Rule}
+use Rattle.bc_pins.specs.Steps.{Mine, owns, having_read, Reads, Looked}
+use Rattle.bc_pins.proofs.TotalLemmas.{total_set, one_other, one_is, total_less}
+use Rattle.bc_pins.proofs.PageSteps.{after, page_step}
+
+none_past : (n : ℕ) (a b : maybe.Option (maybe.Option Lodged)) (c : List ℕ) → 4 < n → Lies n a b c → ⊥
+none_past n a b c more l =
+    let m : ℕ = n - 5 in
+    let is : n ≡ suc (suc (suc (suc (suc m)))) = omega arith in
+    subst (λ (j : ℕ). Lies j a b c) is l
+
+-- a word of a page is one of five
+pub lies_few : (n : ℕ) (a b : maybe.Option (maybe.Option Lodged)) (c : List ℕ) → Lies n a b c → n ≤ 4
+lies_few n a b c l = elim (cases_lt 4 n) [
+  | inl more ↦ absurd (none_past n a b c more l)
+  | inr le ↦ le
+]
+
+module _ (k : Key) (s : Table) (p x : ℕ) (homes : List (maybe.Option Lodged)) (id : ℕ) (v w : View) (at : get_elem? s.views id ≡ some v) (near : p < length s.words)
+    (not_fewer : one_if (word s p == 2) + grips_remembered p v.hand ≤ one_if (x == 2) + grips_remembered p w.hand)
+    (else_remembered : (q : ℕ) → q ≢ p → grips_remembered q w.hand ≡ grips_remembered q v.hand) where
+  abbrev t : Table
+  t = after s p x homes id w
+
+  word_here : word t p ≡ x
+  word_here = get_or-set_same s.words p x 0 near
+
+  word_there : (q : ℕ) → q ≢ p → word t q ≡ word s q
+  word_there q ne = get_or-set_other s.words p q x 0 ne
+
+  grows_here : remembered_now s p ≤ remembered_now t p
+  grows_here =
+      let a : one_if (word t p == 2) ≡ one_if (x == 2) = ap (λ (n : ℕ). one_if (n == 2)) word_here in
+      let b = total_set (λ (u : View). grips_remembered p u.hand) s.views id v w at in
+      omega arith
+
+  pub now_grows : (q : ℕ) → remembered_now s q ≤ remembered_now t q
+  now_grows q = elim (cases_eq q p) [
+    | inl e ↦ subst (λ (n : ℕ). remembered_now s n ≤ remembered_now t n) (sym e) grows_here
+    | inr ne ↦
+        let a : one_if (word t q == 2) ≡ one_if (word s q == 2) = ap (λ (n : ℕ). one_if (n == 2)) (word_there q ne) in
+        let b = total_set (λ (u : View). grips_remembered q u.hand) s.views id v w at in
+        let c = else_remembered q ne in
+        omega arith
+  ]
+
+  -- a seat that read nothing more
+  pub saw_kept : w.seen ≡ v.seen → w.gone ≡ v.gone → w.roles ≡ v.roles → (word s p ≡ 4 → x ≡ 4) → Saw k s v → Saw k t w
+  saw_kept seen gone roles stays old = record {
+    seen = λ q lt. let was = old.seen q (subst (λ l. 0 < times q l) seen lt) in let more = now_grows q in omega arith;
+    gone = λ q lt.
+        let was = old.gone q (subst (λ l. 0 < times q l) gone lt) in (
+          was.0,
+          subst (λ l. 0 < times (owner k q) l) (sym roles) was.1,
+          elim (cases_eq q p) [
+            | inl e ↦ ap (word t) e ∙ word_here ∙ stays (ap (word s) (sym e) ∙ was.2)
+            | inr ne ↦ word_there q ne ∙ was.2
+          ],
+        );
+  }
+
+pub choice_less : (b : Bool) (n : ℕ) → (if b then n else 0) ≤ n
+choice_less true n = omega arith
+choice_less false n = omega arith
+
+flag_less : (p : ℕ) (h : Option Hand) → grips_remembered p h ≤ grips p h
+flag_less p None = omega arith
+flag_less p (Some h) = choice_less h.remembered (one_if (h.page == p))
+
+-- a page that is Remembered now, where nobody has it in hand, is so by its word
+pub remembered_word : (k : Key) (s : Table) (r : Rule k s) (p : ℕ) → p < pages_of k → word s p ≢ 3 → 0 < remembered_now s p → word s p ≡ 2
+remembered_word k s r p near ne lt =
+    let held = (r.place p near).held in
+    let nobody_has : one_if (word s p == 3) ≡ 0 = one_other (word s p) 3 ne in
+    let less = total_less (λ (u : View). grips_remembered p u.hand) (λ (u : View). grips p u.hand) s.views (λ u. flag_less p u.hand) in
+    one_is (word s p) 2 (omega arith)
+
+-- what a word tells
+pub reads : (k : Key) (s : Table) (r : Rule k s) (p id : ℕ) (v : View) → p < pages_of k → get_elem? s.views id ≡ some v → Reads v p (word s p)
+reads k s r p id v near at =
+    let facts = (r.seats id v at).saw in
+    let place = r.place p near in
+    record {
+      word = lies_few _ _ _ _ place.lies;
+      seen = λ lt ne. elim (cases_eq (word s p) 3) [
+        | inl e ↦ e
+        | inr other ↦ absurd (ne (remembered_word k s r p near other (facts.seen p lt)))
+      ];
+      gone = λ lt. (facts.gone p lt).2;
+    }
+
+-- a word that is read and stays
+seen_more : (n q p : ℕ) (l : List ℕ) → 0 < times q (if n == 2 then p ∷ l else l) → (0 < times q l) ⊎ ((q ≡ p) × (n ≡ 2))
+seen_more n q p l lt = elim (cases_Bool (n == 2)) [
+  | inl on ↦ elim (cases_eq q p) [
+    | inl e ↦ inr (e, eqb-true n 2 on)
+    | inr ne ↦ inl (let was = subst (λ (b : Bool). 0 < times q (if b then p ∷ l else l)) on lt in let z = one_other p q (λ e. ne (sym e)) in omega arith)
+  ]
+  | inr off ↦ inl (subst (λ (b : Bool). 0 < times q (if b then p ∷ l else l)) off lt)
+]
+
+gone_more : (b : Bool) (q p : ℕ) (l : List ℕ) → 0 < times q (if b then p ∷ l else l) → (0 < times q l) ⊎ ((q ≡ p) × (b ≡ true))
+gone_more true q p l lt = elim (cases_eq q p) [
+  | inl e ↦ inr (e, refl)
+  | inr ne ↦ inl (let z = one_other p q (λ e. ne (sym e)) in omega arith)
+]
+gone_more false q p l lt = inl lt
+
+pub looked_saw : (k : Key) (s : Table) (p id : ℕ) (v : View) → get_elem? s.views id ≡ some v → p < length s.words → p < pages_of k → v.about ≡ k → Saw k s v
+    → Saw k (after s p (word s p) s.homes id (having_read v p (word s p))) (having_read v p (word s p))
+looked_saw k s p id v at long near about old =
+    let w : View = having_read v p (word s p) in
+    let grows = now_grows k s p (word s p) s.homes id v w at long (omega arith) (λ q ne. refl) in
+    let same : (q : ℕ) → word (after s p (word s p) s.homes id w) q ≡ word s q =
+    λ q. elim (cases_eq q p) [ inl e ↦ ap (word (after s p (word s p) s.homes id w)) e ∙ get_or-set_same s.words p (word s p) 0 long ∙ ap (word s) (sym e) | inr ne ↦ get_or-set_other s.words p q (word s p) 0 ne ] in
+    record {
+      seen = λ q lt. elim (seen_more (word s p) q p v.seen lt) [
+        | inl was ↦ let a = old.seen q was in let b = grows q in omega arith
+        | inr new ↦
+            let a : one_if (word (after s p (word s p) s.homes id w) q == 2) ≡ 1 = ap (λ (n : ℕ). one_if (n == 2)) (same q ∙ ap (word s) new.0 ∙ new.1) in
+            omega arith
+      ];
+      gone = λ q lt. elim (gone_more ((word s p == 4) && owns v p) q p v.gone lt) [
+        | inl was ↦ let a = old.gone q was in (a.0, a.1, same q ∙ a.2)
+        | inr new ↦
+            let both = and_parts (word s p == 4) (owns v p) new.1 in
+            let mine : 0 < has_role v (owner v.about p) = ltb-true 0 _ both.1 in (
+              subst (λ (n : ℕ). n < pages_of k) (sym new.0) near,
+              subst (λ (n : ℕ). 0 < has_role v (owner k n)) (sym new.0) (subst (λ (a : Key). 0 < has_role v (owner a p)) about mine),
+              same q ∙ ap (word s) new.0 ∙ eqb-true (word s p) 4 both.0,
+            )
+      ];
+    }
+
+pub look_step : (k : Key) (s : Table) (r : Rule k s) (p id : ℕ) (v : View) → get_elem? s.views id ≡ some v → p < pages_of k → v.about ≡ k
+    → Rule k (after s p (word s p) s.homes id (having_read v p (word s p)))
+look_step k s r p id v at near about =
+    let w : View = having_read v p (word s p) in
+    let long = r.words in
+    let wide : p < length s.words = omega arith in
+    let facts = r.seats id v at in
+    let content = r.content p near in
+    page_step k s r r.rec p (word s p) s.homes id v w at record {
+      near = near;
+      long = refl;
+      else_home = λ i _ _. refl;
+      lies = (r.place p near).lies;
+      frame = λ f. refl;
+      grip = refl;
+      else_grip = λ q ne. refl;
+      else_rec = λ q ne. refl;
+      lane = λ _. refl;
+      hands = λ _. refl;
+      fixed = content.fixed;
+      young = λ y. inl y;
+      bare = content.bare;
+      not_fewer = omega arith;
+      else_remembered = λ q ne. refl;
+      put_back = omega arith;
+      noted = λ lt. inl lt;
+      kept = λ lt. absurd (omega arith);
+      else_recorded = λ q ne. refl;
+      went = omega arith;
+      emptied = omega arith;
+      else_fetched = λ q ne. refl;
+      else_left = λ q ne. refl;
+      else_emptied = λ q ne. refl;
+      stays = λ e _. e;
+      roles = refl;
+      seated = record { about = facts.seated.about; idle = λ e. let a = facts.seated.idle e in record { hand = a.hand; rights = a.rights; recorded = a.recorded; left = a.left; emptied = a.emptied; fetched = a.fetched } };
+      records = record { mine = facts.records.mine; others = facts.records.others; in_hand = facts.records.in_hand };
+      saw = looked_saw k s p id v at wide near about facts.saw;
+    }
+
+-- whatever the table is, a look keeps the rule and tells what it found
+pub looked : (k : Key) (slots p id : ℕ) (me : Mine) → p < pages_of k → me.0.about ≡ k → Allows (Rule k) slots id me p (λ n. n) (Looked (step slots p 0 0 maybe.none) me)
+looked k slots p id me near about s r size at fits =
+    (having_read me.0 p (word s p), keeps, tt, look_step k s r p id me.0 at near about, record { view = refl; reads = reads k s r p id me.0 near at })

@@ -1,0 +1,155 @@
+-- Only views change: no word and no slot does, and what the views have together stays. So a seat is split off.
+use Rattle.std.proofs.Common.{◌≡◌, ℕ, ◌+◌, List, [], ◌∷◌, ◌++◌, take, drop, set, Some, None, inl, inr, refl, ap, sym, subst, ◌∙◌, arith}
+use mathlib.Core.Option.{some}
+use lib.ListN.{get_elem?}
+use Rattle.atomic_table.specs.Table.{Splits}
+use Rattle.atomic_table.proofs.Lists.{at_set, at_snoc}
+use Rattle.bc_pins.specs.declared.views.Hand.{Hand}
+use Rattle.bc_pins.specs.declared.views.View.{View}
+use Rattle.bc_pins.specs.Key.{Key, owner}
+use Rattle.bc_pins.specs.Totals.{total, times}
+use Rattle.bc_pins.specs.Views.{grips, grips_remembered, frame_in_hand, entries, look_up, opened_content}
+use Rattle.bc_pins.specs.Facts.{IsIdle, Table, remembered_now}
+use Rattle.bc_pins.specs.Rule.{SeatFacts, Rule}
+use Rattle.bc_pins.specs.Steps.{dealer, dealt}
+use Rattle.bc_pins.proofs.TotalLemmas.{total_set, total_append}
+
+-- the table with other views
+abbrev pub with_views : Table → List View → Table
+with_views s views = record { words = s.words; homes = s.homes; views = views }
+
+-- the views have together what others have
+pub record SameSums (old new : List View) : Type 0 where
+  pub grip : (p : ℕ) → total (λ (v : View). grips p v.hand) new ≡ total (λ (v : View). grips p v.hand) old
+  pub flag : (p : ℕ) → total (λ (v : View). grips_remembered p v.hand) new ≡ total (λ (v : View). grips_remembered p v.hand) old
+  pub recorded : (p : ℕ) → total (λ (v : View). times p v.recorded) new ≡ total (λ (v : View). times p v.recorded) old
+  pub fetched : (p : ℕ) → total (λ (v : View). times p v.fetched) new ≡ total (λ (v : View). times p v.fetched) old
+  pub left : (p : ℕ) → total (λ (v : View). times p v.left) new ≡ total (λ (v : View). times p v.left) old
+  pub emptied : (p : ℕ) → total (λ (v : View). times p v.emptied) new ≡ total (λ (v : View). times p v.emptied) old
+  pub roles : (r : ℕ) → total (λ (v : View). times r v.roles) new ≡ total (λ (v : View). times r v.roles) old
+  pub frame : (f : ℕ) → total (λ (v : View). frame_in_hand f v.hand + times f v.rights) new ≡ total (λ (v : View). frame_in_hand f v.hand + times f v.rights) old
+
+pub now_same : (s : Table) (views : List View) → SameSums s.views views → (p : ℕ) → remembered_now (with_views s views) p ≡ remembered_now s p
+now_same s views sums p = let a = sums.flag p in omega arith
+
+pub views_step : (k : Key) (s : Table) (r : Rule k s) (views : List View) → SameSums s.views views
+    → ((j : ℕ) (u : View) → get_elem? views j ≡ some u → SeatFacts k (with_views s views) r.rec u) → Rule k (with_views s views)
+views_step k s r views sums each = record {
+  rec = r.rec;
+  words = r.words;
+  slots = r.slots;
+  few = r.few;
+  place = λ p lt. let old = r.place p lt in record { lies = old.lies; held = sums.grip p ∙ old.held };
+  content = λ p lt.
+      let old = r.content p lt in
+      let now = now_same s views sums p in
+      record { fixed = old.fixed; young = λ y. let a = old.young y in omega arith; bare = old.bare };
+  standing = λ p lt.
+      let old = r.standing p lt in
+      let now = now_same s views sums p in
+      let ever = sums.recorded p in
+      let f = sums.fetched p in
+      let l = sums.left p in
+      let e = sums.emptied p in
+      let gone = old.gone in
+      let absent = old.absent in
+      record {
+        remembered = λ lt. let a = old.remembered (omega arith) in omega arith;
+        recorded = λ lt. let a = old.recorded (omega arith) in omega arith;
+        gone = omega arith;
+        absent = omega arith;
+      };
+  seats = each;
+  roles = record { each = λ n. sums.roles n ∙ r.roles.each n; apart = r.roles.apart; nobody = r.roles.nobody };
+  unowned = r.unowned;
+  frames = λ f. let old = r.frames f in let a = sums.frame f in omega arith;
+  still = record { counters = r.still.counters; bookmarks = r.still.bookmarks; marks = r.still.marks; finished = r.still.finished };
+}
+
+-- a seat that doesn't take part
+pub seat_kept : (k : Key) (s : Table) (rec : ℕ → List ℕ) (views : List View) → SameSums s.views views → (u : View) → SeatFacts k s rec u → SeatFacts k (with_views s views) rec u
+seat_kept k s rec views sums u old = record {
+  seated = old.seated;
+  records = old.records;
+  saw = record {
+    seen = λ p lt. let a = old.saw.seen p lt in let now = now_same s views sums p in omega arith;
+    gone = old.saw.gone;
+  };
+}
+
+pub no_hand : (z : Hand) → None ≡ Some z → ⊥
+no_hand z e = cc
+
+-- roles cut in two
+pub cut_times : (r : ℕ) (l : List ℕ) → times r (drop 1 l) + times r (take 1 l) ≡ times r l
+cut_times r [] = refl
+cut_times r (x ∷ xs) = omega arith
+
+split_sum : (f : View → ℕ) (vs : List View) (id : ℕ) (v a b : View) → get_elem? vs id ≡ some v → f a + f b ≡ f v → total f (set vs id a ++ b ∷ []) ≡ total f vs
+split_sum f vs id v a b at e =
+    let one = total_append f (set vs id a) (b ∷ []) in
+    let two = total_set f vs id v a at in
+    let three : total f (b ∷ []) ≡ f b = omega arith in
+    omega arith
+
+module _ (k : Key) (s : Table) (r : Rule k s) (id : ℕ) (v : View) (at : get_elem? s.views id ≡ some v) (unused : IsIdle v) (no_change : v.changed ≡ []) (no_gone : v.gone ≡ []) where
+  abbrev views : List View
+  views = set s.views id (dealer v) ++ dealt v ∷ []
+
+  facts : SeatFacts k s r.rec v
+  facts = r.seats id v at
+
+  sums : SameSums s.views views
+  sums = record {
+    grip = λ p. split_sum (λ u. grips p u.hand) s.views id v (dealer v) (dealt v) at (omega arith);
+    flag = λ p. split_sum (λ u. grips_remembered p u.hand) s.views id v (dealer v) (dealt v) at (omega arith);
+    recorded = λ p. split_sum (λ u. times p u.recorded) s.views id v (dealer v) (dealt v) at (omega arith);
+    fetched = λ p. split_sum (λ u. times p u.fetched) s.views id v (dealer v) (dealt v) at (omega arith);
+    left = λ p. split_sum (λ u. times p u.left) s.views id v (dealer v) (dealt v) at (omega arith);
+    emptied = λ p. split_sum (λ u. times p u.emptied) s.views id v (dealer v) (dealt v) at (omega arith);
+    roles = λ p. split_sum (λ u. times p u.roles) s.views id v (dealer v) (dealt v) at (cut_times p v.roles);
+    frame = λ p. split_sum (λ u. frame_in_hand p u.hand + times p u.rights) s.views id v (dealer v) (dealt v) at (omega arith);
+  }
+
+  idle_rest : IsIdle (dealer v)
+  idle_rest = record { hand = unused.hand; rights = unused.rights; recorded = unused.recorded; left = unused.left; emptied = unused.emptied; fetched = unused.fetched }
+
+  keeps_rest : SeatFacts k (with_views s views) r.rec (dealer v)
+  keeps_rest = record {
+    seated = record { about = facts.seated.about; idle = λ _. idle_rest };
+    records = record {
+      mine = λ p lt. let c = cut_times (owner k p) v.roles in facts.records.mine p (omega arith);
+      others = λ p _. ap (entries p) no_change;
+      in_hand = λ h e. absurd (no_hand h (sym unused.hand ∙ e));
+    };
+    saw = record {
+      seen = λ p lt. let a = facts.saw.seen p lt in let now = now_same s views sums p in omega arith;
+      gone = λ p lt. let z : times p v.gone ≡ 0 = ap (times p) no_gone in absurd (omega arith);
+    };
+  }
+
+  has_first : SeatFacts k (with_views s views) r.rec (dealt v)
+  has_first = record {
+    seated = record { about = facts.seated.about; idle = λ _. record { hand = refl; rights = refl; recorded = refl; left = refl; emptied = refl; fetched = refl } };
+    records = record {
+      mine = λ p lt. let c = cut_times (owner k p) v.roles in facts.records.mine p (omega arith) ∙ ap (λ (l : List (ℕ × List ℕ)). look_up p l (opened_content v.about p)) no_change;
+      others = λ p _. refl;
+      in_hand = λ h e. absurd (no_hand h e);
+    };
+    saw = record { seen = λ p lt. absurd (omega arith); gone = λ p lt. absurd (omega arith) };
+  }
+
+  seat_each : (j : ℕ) (u : View) → get_elem? views j ≡ some u → SeatFacts k (with_views s views) r.rec u
+  seat_each j u is = elim (at_snoc (set s.views id (dealer v)) (dealt v) u j is) [
+    | inl old ↦ elim (at_set s.views id j (dealer v) u old) [
+      | inl e ↦ subst (SeatFacts k (with_views s views) r.rec) e.1 keeps_rest
+      | inr o ↦ seat_kept k s r.rec views sums u (r.seats j u o.1)
+    ]
+    | inr new ↦ subst (SeatFacts k (with_views s views) r.rec) new has_first
+  ]
+
+  pub split_rule : Rule k (with_views s views)
+  split_rule = views_step k s r views sums seat_each
+
+pub deals : (k : Key) (id : ℕ) (v : View) → IsIdle v → v.changed ≡ [] → v.gone ≡ [] → Splits (Rule k) id v (dealer v) (dealt v)
+deals k id v unused no_change no_gone s r at = split_rule k s r id v at unused no_change no_gone

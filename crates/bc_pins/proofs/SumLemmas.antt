@@ -1,0 +1,55 @@
+-- Sums over places: of lists, and of numbers below a bound.
+use Rattle.std.proofs.Common.{◌≡◌, ℕ, ◌+◌, ◌<◌, ◌==◌, Bool, List, [], ◌∷◌, length, map, get_or, count_by, refl, ap, sym, ◌∙◌, arith}
+use Prim.Native.Nat.{zero, suc}
+use Rattle.bc_bits.specs.Counting.{one_if, count_below}
+use Rattle.bc_superpages.proofs.AccountLemmas.{count_by-places}
+use Rattle.bc_pins.specs.Totals.{total, times}
+
+abbrev pub sum_to : (ℕ → ℕ) → ℕ → ℕ
+sum_to g zero = 0
+sum_to g (suc n) = sum_to g n + g n
+
+pub sum_front : (g : ℕ → ℕ) (n : ℕ) → sum_to g (suc n) ≡ g 0 + sum_to (λ i. g (suc i)) n
+sum_front g zero = omega arith
+sum_front g (suc n) = let t = sum_front g n in omega arith
+
+pub sum_same : (g h : ℕ → ℕ) (n : ℕ) → ((i : ℕ) → i < n → g i ≡ h i) → sum_to g n ≡ sum_to h n
+sum_same g h zero each = refl
+sum_same g h (suc n) each = let a = sum_same g h n (λ i lt. each i (omega arith)) in let b = each n (omega arith) in omega arith
+
+pub sum_none : (g : ℕ → ℕ) (n : ℕ) → ((i : ℕ) → i < n → g i ≡ 0) → sum_to g n ≡ 0
+sum_none g zero each = refl
+sum_none g (suc n) each = let a = sum_none g n (λ i lt. each i (omega arith)) in let b = each n (omega arith) in omega arith
+
+pub sum_cut : (g : ℕ → ℕ) (m n k : ℕ) → k ≡ m + n → sum_to g k ≡ sum_to g m + sum_to (λ i. g (m + i)) n
+sum_cut g m zero k e = ap (sum_to g) e ∙ (let z : m + 0 ≡ m = omega arith in ap (sum_to g) z ∙ omega arith)
+sum_cut g m (suc n) k e =
+    let t = sum_cut g m n (m + n) refl in
+    let s : k ≡ suc (m + n) = omega arith in
+    ap (sum_to g) s ∙ omega arith
+
+pub total_sum : {A : Type 0} (f : A → ℕ) (xs : List A) (d : A) → total f xs ≡ sum_to (λ i. f (get_or xs i d)) (length xs)
+total_sum f [] d = refl
+total_sum f (x ∷ xs) d =
+    let t = total_sum f xs d in
+    let s = sum_front (λ i. f (get_or (x ∷ xs) i d)) (length xs) in
+    omega arith
+
+pub count_sum : (f : ℕ → Bool) (n : ℕ) → count_below f n ≡ sum_to (λ i. one_if (f i)) n
+unfolding count_below
+count_sum f zero = refl
+count_sum f (suc n) = let t = count_sum f n in omega arith
+
+pub count_total : {A : Type 0} (p : A → Bool) (xs : List A) (d : A) → count_by p xs ≡ total (λ x. one_if (p x)) xs
+count_total p xs d = count_by-places p xs d (length xs) refl ∙ count_sum (λ i. p (get_or xs i d)) (length xs) ∙ sym (total_sum (λ x. one_if (p x)) xs d)
+
+pub times_total : (n : ℕ) (xs : List ℕ) → times n xs ≡ total (λ x. one_if (x == n)) xs
+times_total n [] = refl
+times_total n (x ∷ xs) = let t = times_total n xs in omega arith
+
+pub times_count : (n : ℕ) (xs : List ℕ) → times n xs ≡ count_by (λ x. x == n) xs
+times_count n xs = times_total n xs ∙ sym (count_total (λ x. x == n) xs 0)
+
+pub total_map : {A B : Type 0} (g : A → B) (f : B → ℕ) (xs : List A) → total f (map g xs) ≡ total (λ x. f (g x)) xs
+total_map g f [] = refl
+total_map g f (x ∷ xs) = let t = total_map g f xs in omega arith

@@ -1,0 +1,222 @@
+-- Taking a page, from Home or from Home and remembered.
+use Rattle.std.proofs.Common.{◌≡◌, ℕ, ◌+◌, ◌<◌, ◌≤◌, ◌≢◌, ◌==◌, Bool, true, false, List, [], length, set, Some, None, if◌then◌else◌, inl, inr, refl, ap, sym, subst, ◌∙◌, arith}
+use mathlib.Core.Option.{some}
+use mathlib.Core.Option as maybe
+use lib.ListN.{get_elem?}
+use prog.Atomic.{either}
+use Rattle.std.proofs.lemmas.Bool.{cases_eq, eq-eqb}
+use Rattle.std.proofs.lemmas.List.{length-set}
+use Rattle.atomic_table.specs.Table.{Act, Allows, Valid, stepped, carried_after, step, keeps, takes, chain}
+use Rattle.atomic_table.proofs.Lists.{set_here, set_else, exchanged}
+use Rattle.bc_bits.specs.Counting.{one_if}
+use Rattle.bc_superpages.specs.declared.spaces.Homed.{Homed}
+use Rattle.bc_pins.specs.declared.views.Lodged.{Lodged}
+use Rattle.bc_pins.specs.declared.views.Lodged.TheVariants.{Nothing, Home}
+use Rattle.bc_pins.specs.declared.views.Hand.{Hand}
+use Rattle.bc_pins.specs.declared.views.View.{View}
+use Rattle.bc_pins.specs.Key.{Key, pages_of, owner}
+use Rattle.bc_pins.specs.Totals.{total, times}
+use Rattle.bc_pins.specs.Contents.{IsContent, RefersYoung}
+use Rattle.bc_pins.specs.Views.{grips, grips_remembered, frame_in_hand, has_role, opened_word}
+use Rattle.bc_pins.specs.Facts.{Table, word, slot, IsHomed, Lies, remembered_now, Records, Seated, frame_lodged}
+use Rattle.bc_pins.specs.Rule.{Rule}
+use Rattle.bc_pins.specs.Steps.{Mine, both_slots, gripping, having_read, Takes, Took}
+use Rattle.bc_pins.proofs.TotalLemmas.{total_set, total_at, one_same, one_other}
+use Rattle.bc_pins.proofs.PageSteps.{after, PageStep, page_step}
+use Rattle.bc_pins.proofs.ReadLemmas.{saw_kept, remembered_word, reads, look_step}
+
+abbrev pub Slots : Type 0
+Slots = List (maybe.Option Lodged)
+
+pub flag_is : (b : Bool) (p : ℕ) → (if b then one_if (p == p) else 0) ≡ one_if b
+flag_is true p = one_same p
+flag_is false p = refl
+
+pub flag_other : (b : Bool) (p q : ℕ) → p ≢ q → (if b then one_if (p == q) else 0) ≡ 0
+flag_other true p q ne = one_other p q ne
+flag_other false p q ne = refl
+
+pub homed_lies : (n : ℕ) (a b : maybe.Option (maybe.Option Lodged)) (c : List ℕ) → 1 ≤ n → n ≤ 2 → Lies n a b c → IsHomed a b c
+homed_lies n a b c lo hi l = elim (cases_eq n 1) [
+  | inl one ↦ subst (λ (j : ℕ). Lies j a b c) one l
+  | inr ne ↦ let two : n ≡ 2 = omega arith in subst (λ (j : ℕ). Lies j a b c) two l
+]
+
+pub some_hand : (g h : Hand) → Some g ≡ Some h → g ≡ h
+some_hand g h e = cc
+
+-- a frame that moves from its slot into a hand
+pub taken_frame : (f : ℕ) (hs : Slots) (p q : ℕ) (h : Homed) → p ≢ q → get_elem? hs p ≡ some (some (Home h)) → get_elem? hs q ≡ some (some Nothing)
+    → total (frame_lodged f) (set (set hs q maybe.none) p maybe.none) + one_if (h.frame == f) ≡ total (frame_lodged f) hs
+taken_frame f hs p q h ne one two =
+    let a = total_set (frame_lodged f) hs q (some Nothing) maybe.none two in
+    let b = total_set (frame_lodged f) (set hs q maybe.none) p (some (Home h)) maybe.none (set_else hs q p maybe.none ne ∙ one) in
+    omega arith
+
+module _ (k : Key) (s : Table) (r : Rule k s) (p id old role : ℕ) (v : View) (at : get_elem? s.views id ≡ some v) (near : p < pages_of k) (lo : 1 ≤ old) (hi : old ≤ 2) (is : word s p ≡ old)
+    (about : v.about ≡ k) (nothing : v.hand ≡ None) (some_role : 0 < has_role v role) (h : Homed)
+    (frame : slot s p ≡ some (some (Home h))) (store : slot s (pages_of k + p) ≡ some (some Nothing)) (content : h.page ≡ r.rec p) where
+  abbrev flag : Bool
+  flag = old == 2
+
+  abbrev w : View
+  w = gripping v p flag h
+
+  abbrev homes : Slots
+  homes = set (set s.homes (pages_of k + p) maybe.none) p maybe.none
+
+  wide : p < length s.words
+  wide = let long = r.words in omega arith
+
+  no_grip : (q : ℕ) → grips q v.hand ≡ 0
+  no_grip q = ap (grips q) nothing
+
+  no_flag : (q : ℕ) → grips_remembered q v.hand ≡ 0
+  no_flag q = ap (grips_remembered q) nothing
+
+  two_is : one_if (word s p == 2) ≡ one_if flag
+  two_is = ap (λ (n : ℕ). one_if (n == 2)) is
+
+  other_is : (n : ℕ) → n ≢ 1 → n ≢ 2 → one_if (word s p == n) ≡ 0
+  other_is n a b = one_other (word s p) n (λ e. absurd (elim (cases_eq old 1) [ inl one ↦ a (sym e ∙ is ∙ one) | inr ne ↦ let two : old ≡ 2 = omega arith in b (sym e ∙ is ∙ two) ]))
+
+  gripped : grips_remembered p w.hand ≡ one_if flag
+  gripped = flag_is flag p
+
+  fewer : one_if (word s p == 2) + grips_remembered p v.hand ≤ one_if (3 == 2) + grips_remembered p w.hand
+  fewer = let a = two_is in let b = no_flag p in let c = gripped in omega arith
+
+  else_flag : (q : ℕ) → q ≢ p → grips_remembered q w.hand ≡ grips_remembered q v.hand
+  else_flag q ne = flag_other flag p q (λ e. ne (sym e)) ∙ sym (no_flag q)
+
+  not_four : word s p ≡ 4 → ⊥
+  not_four e = omega arith
+
+  frames_kept : (f : ℕ) → total (frame_lodged f) homes + (frame_in_hand f w.hand + times f w.rights) ≡ total (frame_lodged f) s.homes + (frame_in_hand f v.hand + times f v.rights)
+  frames_kept f =
+      let a = taken_frame f s.homes p (pages_of k + p) h (λ e. omega arith) frame store in
+      let b : frame_in_hand f v.hand ≡ 0 = ap (frame_in_hand f) nothing in
+      omega arith
+
+  records_kept : Records k r.rec w
+  records_kept =
+      let old_facts = (r.seats id v at).records in
+      record {
+        mine = old_facts.mine;
+        others = old_facts.others;
+        in_hand = λ g e. subst (λ (x : Hand). (x.page < pages_of k) × (x.content ≡ r.rec x.page)) (some_hand _ g e) (near, content);
+      }
+
+  seated_kept : Seated k w
+  seated_kept =
+      let old_facts = (r.seats id v at).seated in
+      record {
+        about = old_facts.about;
+        idle = λ e. let z : has_role v role ≡ 0 = ap (times role) e in absurd (omega arith);
+      }
+
+  hit_step : PageStep k s r.rec r.rec p 3 homes id v w
+  hit_step =
+      let slots = r.slots in
+      let first = two_is in
+      let c = no_grip p in
+      let d = gripped in
+      let three = other_is 3 (λ e. omega arith) (λ e. omega arith) in
+      let four = other_is 4 (λ e. omega arith) (λ e. omega arith) in
+      let none_zero = other_is 0 (λ e. omega arith) (λ e. omega arith) in
+      let one = one_same p in
+      let e = no_flag p in
+      let long : length (set s.homes (pages_of k + p) maybe.none) ≡ length s.homes = length-set s.homes (pages_of k + p) maybe.none in
+      record {
+        near = near;
+        long = length-set (set s.homes (pages_of k + p) maybe.none) p maybe.none ∙ long;
+        else_home = λ i a b. set_else (set s.homes (pages_of k + p) maybe.none) p i maybe.none a ∙ set_else s.homes (pages_of k + p) i maybe.none b;
+        lies = (
+          set_here (set s.homes (pages_of k + p) maybe.none) p maybe.none (omega arith),
+          set_else (set s.homes (pages_of k + p) maybe.none) p (pages_of k + p) maybe.none (λ x. omega arith) ∙ set_here s.homes (pages_of k + p) maybe.none (omega arith),
+        );
+        frame = frames_kept;
+        grip = omega arith;
+        else_grip = λ q ne. one_other p q (λ x. ne (sym x)) ∙ sym (no_grip q);
+        else_rec = λ q ne. refl;
+        lane = λ _. refl;
+        hands = λ _. refl;
+        fixed = (r.content p near).fixed;
+        young = λ y. inl y;
+        bare = λ z. absurd (omega arith);
+        not_fewer = fewer;
+        else_remembered = else_flag;
+        put_back = omega arith;
+        noted = λ lt. inl (omega arith);
+        kept = λ lt. absurd (omega arith);
+        else_recorded = λ q ne. refl;
+        went = omega arith;
+        emptied = omega arith;
+        else_fetched = λ q ne. refl;
+        else_left = λ q ne. refl;
+        else_emptied = λ q ne. refl;
+        stays = λ x _. absurd (not_four x);
+        roles = refl;
+        seated = seated_kept;
+        records = records_kept;
+        saw = saw_kept k s p 3 homes id v w at wide fewer else_flag refl refl refl (λ x. absurd (not_four x)) (r.seats id v at).saw;
+      }
+
+  told : Takes v p flag h
+  told =
+      let facts = r.seats id v at in
+      let place = r.content p near in
+      let standing = r.standing p near in
+      let flagged : 0 < remembered_now s p → flag ≡ true = λ lt. eq-eqb old 2 (sym is ∙ remembered_word k s r p near (λ e. omega arith) lt) in
+      record {
+        mine = λ lt. content ∙ facts.records.mine p (subst (λ (a : Key). 0 < has_role v (owner a p)) about lt);
+        fixed = subst (λ (a : Key). IsContent a.opening p h.page) (sym about) (subst (IsContent k.opening p) (sym content) place.fixed);
+        young = λ y. flagged (place.young (subst (RefersYoung k.opening p) content (subst (λ (a : Key). RefersYoung a.opening p h.page) about y)));
+        recorded = λ lt.
+            let own = total_at (λ (u : View). times p u.recorded) s.views id v at in
+            let was : 0 < one_if (opened_word k p == 2) + times p v.recorded = subst (λ (a : Key). 0 < one_if (opened_word a p == 2) + times p v.recorded) about lt in
+            flagged (standing.remembered (omega arith));
+      }
+
+  pub hit_rule : Rule k (after s p 3 homes id w)
+  hit_rule = page_step k s r r.rec p 3 homes id v w at hit_step
+
+  pub hit_told : Takes v p flag h
+  hit_told = told
+
+-- whatever the table is, a try to take keeps the rule and tells what it found
+pub taken : (k : Key) (slots p id old role : ℕ) (v : View) → p < pages_of k → 1 ≤ old → old ≤ 2 → v.about ≡ k → v.hand ≡ None → 0 < has_role v role
+    → Allows (Rule k) slots id (v, []) p (λ n. either (n == old) 3 n) (Took (step slots p old 3 maybe.none) (v, []))
+taken k slots p id old role v near lo hi about nothing some_role s r size at fits =
+    exchanged (word s p) old 3
+    (λ n. (w : View) × (a : Act Lodged) × Valid s.homes [] a × Rule k (stepped s p n id [] w a) × Took (step slots p old 3 maybe.none) (v, []) (word s p) (w, carried_after [] a))
+    (λ e.
+    let place = (r.place p near).lies in
+    let homed = homed_lies (word s p) _ _ _ (omega arith) (omega arith) place in
+    let h = homed.0 in
+    let rule = hit_rule k s r p id old role v at near lo hi e about nothing some_role h homed.1 homed.2 homed.3 in (
+      gripping v p (old == 2) h,
+      chain (takes (pages_of k + p) Nothing) (takes p (Home h)),
+      (homed.2, set_else s.homes (pages_of k + p) p maybe.none (λ x. omega arith) ∙ homed.1),
+      rule,
+      record {
+        hit = λ _. (h, ap (λ (a : Key). (gripping v p (old == 2) h, both_slots a p (Home h) Nothing)) (sym about), hit_told k s r p id old role v at near lo hi e about nothing some_role h homed.1 homed.2 homed.3);
+        miss = λ ne. absurd (ne e);
+      },
+    ))
+    (λ ne. (
+      having_read v p (word s p),
+      keeps,
+      tt,
+      look_step k s r p id v at near about,
+      record {
+        hit = λ e. absurd (ne e);
+        miss = λ _. (refl, reads k s r p id v near at);
+      },
+    ))
+
+pub takes_from : (k : Key) (slots p id old role : ℕ) (me : Mine) → p < pages_of k → 1 ≤ old → old ≤ 2 → me.0.about ≡ k → me.0.hand ≡ None → 0 < has_role me.0 role → me.1 ≡ []
+    → Allows (Rule k) slots id me p (λ n. either (n == old) 3 n) (Took (step slots p old 3 maybe.none) me)
+takes_from k slots p id old role me near lo hi about nothing some_role free =
+    subst (λ (l : List (ℕ × Lodged)). Allows (Rule k) slots id (me.0, l) p (λ n. either (n == old) 3 n) (Took (step slots p old 3 maybe.none) (me.0, l))) (sym free)
+    (taken k slots p id old role me.0 near lo hi about nothing some_role)

@@ -1,0 +1,25 @@
+use Rattle.std.proofs.Common.{ℕ, List, ◌∙◌, sym, subst, length}
+use Rattle.bc_pins.specs.declared.key.Role.{Role}
+use Rattle.bc_pins.specs.Seating.{AreDealt}
+use Rattle.bc_pins.specs.Rule.{Rule}
+use Rattle.bc_pins.specs.Opening.{opened}
+use Rattle.bc_superpages.specs.declared.headers.Header.{Header}
+use Rattle.bc_pins.specs.Filling.{IsFilled}
+use Rattle.bc_pins.proofs.DrawLemmas.{sized, drawn_rule, drawn_opened}
+use Rattle.bc_pins.proofs.pins.Pins.draw.Goals as goal
+
+pub new-requires : goal.new-requires
+new-requires c =
+    let drawn = c.requires.drawn in
+    let size = sized _ _ _ _ _ _ drawn in
+    subst (λ (words : List ℕ). Rule c.args.about (opened c.args.about words c.lodge_all.new.slots.items)) (sym c.as_slice-2.ensures.value)
+    (drawn_rule c.args.about c.args.parts c.args.superpages c.args.turn c.args.room.holders.items c.args.room.roles.items drawn _ _
+    (subst (λ (hs : List Header). IsFilled c.args.about hs c.fill_words.new.words.items) c.as_slice.ensures.value (c.fill_words.ensures.filled c.args.about (record { supers = size.supers; all = size.all ∙ sym c.frames-frames.ensures.count; lanes = size.lanes })))
+    c.lodge_all.ensures.slots)
+
+pub returns-in-Ok-clause-opened : goal.returns-in-Ok-clause-opened
+returns-in-Ok-clause-opened c =
+    let drawn = c.requires.drawn in
+    let ok = c.in-Ok.ensures.ok in
+    drawn_opened c.args.about c.args.parts c.args.superpages c.args.turn c.args.room.holders.items c.args.room.roles.items drawn _ _ ok.5
+    (subst (λ (rs : List Role). AreDealt c.in-Ok.table.shared.table_id c.in-Ok.table.shared.key rs (length rs) c.deal_all.new.seats.items) c.as_slice-in-Ok.ensures.value c.deal_all.ensures.dealt)

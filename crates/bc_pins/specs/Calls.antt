@@ -1,0 +1,112 @@
+-- What the calls of a table require and tell.
+use Rattle.std.specs.Prelude.{◌≡◌, ℕ, ◌<◌, ◌⊎◌, Bool, true, false, if◌then◌else◌, List, [], Some, None}
+use Rattle.bc_pins.specs.declared.key.Role.{Role}
+use Rattle.bc_pins.specs.declared.key.Role.TheVariants.{Marker}
+use Rattle.bc_pins.specs.declared.views.Hand.{Hand}
+use Rattle.bc_pins.specs.declared.views.View.{View}
+use Rattle.bc_pins.specs.declared.views.Lodged.{Lodged}
+use Rattle.bc_pins.specs.declared.views.Lodged.TheVariants.{Nothing}
+use Rattle.bc_pins.specs.declared.pins.Pins.{Pins}
+use Rattle.bc_pins.specs.declared.pins.Seat.{Seat}
+use Rattle.bc_pins.specs.declared.holding.Held.{Held}
+use Rattle.bc_pins.specs.declared.taking.Want.{Want}
+use Rattle.bc_pins.specs.declared.taking.Want.TheVariants.{Work, Victim}
+use Rattle.bc_pins.specs.declared.taking.TakeNo.{TakeNo}
+use Rattle.bc_pins.specs.declared.taking.TakeNo.TheVariants.{Busy, Gone, Remembered, Absent}
+use Rattle.bc_pins.specs.Key.{Key, pages_of, owner, role_number}
+use Rattle.bc_pins.specs.Totals.{times}
+use Rattle.bc_pins.specs.Contents.{IsContent, RefersYoung}
+use Rattle.bc_pins.specs.Views.{has_role}
+use Rattle.bc_pins.specs.Steps.{both_slots, gripping, having_read, released}
+
+-- what the table was told, what a seat knows, and the slots that are out with it
+abbrev pub key_of : Pins → Key
+key_of pins = pins.table.shared.key
+
+abbrev pub view_of : Seat → View
+view_of seat = seat.inner.me.0
+
+abbrev pub slots_of : Seat → List (ℕ × Lodged)
+slots_of seat = seat.inner.me.1
+
+-- the seat is one of this table's, and has its role
+pub record IsAt (pins : Pins) (seat : Seat) : Type 0 where
+  pub table : seat.inner.table_id ≡ pins.table.shared.table_id
+  pub about : (view_of seat).about ≡ key_of pins
+  pub alive : (view_of seat).alive ≡ true
+  pub role : 0 < has_role (view_of seat) (role_number seat.role)
+
+-- a call leaves the seat that seat, with its role
+pub record IsSameSeat (old new : Seat) : Type 0 where
+  pub table : new.inner.table_id ≡ old.inner.table_id
+  pub id : new.inner.id ≡ old.inner.id
+  pub role : new.role ≡ old.role
+  pub opens : new.opens ≡ old.opens
+  pub about : (view_of new).about ≡ (view_of old).about
+  pub alive : (view_of new).alive ≡ (view_of old).alive
+  pub roles : (view_of new).roles ≡ (view_of old).roles
+
+-- nothing is in the seat's hands
+pub record IsFree (seat : Seat) : Type 0 where
+  pub hand : (view_of seat).hand ≡ None
+  pub slots : slots_of seat ≡ []
+
+-- the seat has this page in hand: as it was taken, but for what its holder wrote and remembered
+pub record Holds (seat : Seat) (held : Held) : Type 0 where
+  pub hand : Hand
+  pub has : (view_of seat).hand ≡ Some hand
+  pub page : hand.page ≡ held.page
+  pub inside : held.page < pages_of (view_of seat).about
+  pub frame : hand.frame ≡ held.homed.frame
+  pub slots : slots_of seat ≡ both_slots (view_of seat).about held.page Nothing Nothing
+
+-- and just as it was taken, by a seat whose view was v
+pub record Grasps (v : View) (seat : Seat) (page : ℕ) (held : Held) : Type 0 where
+  pub is : held.page ≡ page
+  pub view : view_of seat ≡ gripping v page held.remembered held.homed
+  pub slots : slots_of seat ≡ both_slots v.about page Nothing Nothing
+
+-- who may work on a page: a marker in a mark turn, and in a turn of lanes the lane that holds the page's domain
+abbrev pub IsMarker : Role → Type 0
+IsMarker role = (m : ℕ) × (role ≡ Marker m)
+
+abbrev pub MayWork : Seat → ℕ → Want → Type 0
+MayWork seat page Work = let v : View = view_of seat in (v.about.lanes ≡ false → IsMarker seat.role) × (v.about.lanes ≡ true → 0 < has_role v (owner v.about page))
+MayWork seat page Victim = Unit {0}
+
+-- what a seat had read before it took a page: to work on one that is remembered takes a second try
+abbrev pub tried : View → ℕ → Want → Bool → View
+tried v page Work remembered = if remembered then having_read v page 2 else v
+tried v page Victim remembered = v
+
+-- the word that each refusal tells
+abbrev pub refusal_word : TakeNo → ℕ
+refusal_word Absent = 0
+refusal_word Remembered = 2
+refusal_word Busy = 3
+refusal_word Gone = 4
+
+-- the refusal is what the last step on the page's word read; Remembered comes with Victim alone, and what was read as
+-- Remembered before is Busy then
+pub record IsRefused (v : View) (page : ℕ) (want : Want) (no : TakeNo) (w : View) : Type 0 where
+  pub read : (w ≡ having_read v page (refusal_word no)) ⊎ ((want ≡ Work) × (w ≡ having_read (having_read v page 2) page (refusal_word no)))
+  pub victim : no ≡ Remembered → want ≡ Victim
+  pub seen : 0 < times page v.seen → (no ≡ Busy) ⊎ (no ≡ Remembered)
+  pub gone : 0 < times page v.gone → no ≡ Gone
+
+abbrev pub WasSeen : View → ℕ → Type 0
+WasSeen v page = 0 < times page v.seen
+
+-- what may be put back: a content that keeps what is fixed in a turn, remembered where it refers to a nursery or was taken
+-- so; and by a seat that isn't the lane which holds the page's domain just what it took. Nothing is counted for the page
+pub record MayPut (seat : Seat) (held : Held) : Type 0 where
+  pub fixed : IsContent (view_of seat).about.opening held.page held.homed.page
+  pub young : RefersYoung (view_of seat).about.opening held.page held.homed.page → held.remembered ≡ true
+  pub remembered : (hand : Hand) → (view_of seat).hand ≡ Some hand → hand.remembered ≡ true → held.remembered ≡ true
+  pub others : (hand : Hand) → (view_of seat).hand ≡ Some hand → has_role (view_of seat) (owner (view_of seat).about held.page) ≡ 0
+      → (held.homed.page ≡ hand.content) × (held.remembered ≡ hand.remembered)
+  pub counted : (hand : Hand) → (view_of seat).hand ≡ Some hand → hand.counted ≡ []
+
+-- the view once the page was put back
+abbrev pub put_back : View → Held → View
+put_back v held = released v held.page held.remembered held.homed.page

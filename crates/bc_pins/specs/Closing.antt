@@ -1,0 +1,90 @@
+-- What closing a table requires, and what it gives.
+use Rattle.std.specs.Prelude.{◌≡◌, ℕ, ◌+◌, ◌-◌, ◌*◌, ◌^◌, ◌<◌, ◌≤◌, ◌==◌, List, [], length, min, None, slice_index, slice_index_or}
+use Rattle.atomic_table.specs.declared.shared.Seat.{Seat as Worker}
+use Rattle.atomic_table.specs.Seated.{TableId}
+use Rattle.bc_bits.specs.Counting.{one_if}
+use Rattle.bc_superpages.specs.declared.headers.Header.{Header}
+use Rattle.bc_superpages.specs.Headers.{unused_header}
+use Rattle.bc_superpages.specs.declared.headers.PageState.{PageState}
+use Rattle.bc_superpages.specs.declared.headers.PageState.TheVariants as state
+use Rattle.bc_superpages.specs.Layout.{Layout, superpages, content_at}
+use Rattle.bc_superpages.specs.LayoutAt.{state_at}
+use Rattle.bc_pins.specs.Contents.{IsContent, RefersYoung}
+use Rattle.bc_superpages.specs.Parts.{state_in}
+use Rattle.bc_pins.specs.declared.views.Lodged.{Lodged}
+use Rattle.bc_pins.specs.declared.views.View.{View}
+use Rattle.bc_pins.specs.declared.pins.Seat.{Seat}
+use Rattle.bc_pins.specs.Key.{Key, pages_of, owner}
+use Rattle.bc_pins.specs.Totals.{total, times}
+use Rattle.bc_pins.specs.Tidy.{IsTidy}
+use Rattle.bc_pins.specs.Views.{state_word, opened_word, opened_state, opened_content, has_role, record_of}
+
+abbrev pub seen_by : Seat → View
+seen_by seat = seat.inner.me.0
+
+-- a seat of this table with no page and no frame right in hand
+pub record IsBack (id : TableId) (k : Key) (seat : Seat) : Type 0 where
+  pub table : seat.inner.table_id ≡ id
+  pub about : (seen_by seat).about ≡ k
+  pub hand : (seen_by seat).hand ≡ None
+  pub slots : seat.inner.me.1 ≡ []
+  pub rights : (seen_by seat).rights ≡ []
+  pub tidy : IsTidy (seen_by seat)
+
+-- all seats of a table: between them they have each role that was given out
+pub record AreBack (id : TableId) (k : Key) (seats : List Seat) : Type 0 where
+  pub some : 0 < length seats
+  pub each : (j : ℕ) → j < length seats → (d : Seat) → IsBack id k (slice_index_or seats j d)
+  pub roles : (r : ℕ) → total (λ (seat : Seat). has_role (seen_by seat) r) seats ≡ times r k.roles
+
+-- a seat into which those from a place on were joined: it has all that they had
+pub record Gathered (id : TableId) (k : Key) (all front : List Seat) (root : Worker Lodged View) : Type 0 where
+  pub table : root.table_id ≡ id
+  pub about : root.me.0.about ≡ k
+  pub hand : root.me.0.hand ≡ None
+  pub slots : root.me.1 ≡ []
+  pub rights : root.me.0.rights ≡ []
+  pub tidy : IsTidy root.me.0
+  pub fewer : length front ≤ length all
+  pub same : (j : ℕ) → j < length front → (d : Seat) → slice_index_or front j d ≡ slice_index_or all j d
+  pub roles : (r : ℕ) → times r root.me.0.roles + total (λ (seat : Seat). has_role (seen_by seat) r) front ≡ times r k.roles
+  pub recorded : (p : ℕ) → times p root.me.0.recorded + total (λ (seat : Seat). times p (seen_by seat).recorded) front ≡ total (λ (seat : Seat). times p (seen_by seat).recorded) all
+  pub left : (p : ℕ) → times p root.me.0.left + total (λ (seat : Seat). times p (seen_by seat).left) front ≡ total (λ (seat : Seat). times p (seen_by seat).left) all
+  pub emptied : (p : ℕ) → times p root.me.0.emptied + total (λ (seat : Seat). times p (seen_by seat).emptied) front ≡ total (λ (seat : Seat). times p (seen_by seat).emptied) all
+  pub fetched : (p : ℕ) → times p root.me.0.fetched + total (λ (seat : Seat). times p (seen_by seat).fetched) front ≡ total (λ (seat : Seat). times p (seen_by seat).fetched) all
+  pub mine : (j : ℕ) → length front ≤ j → j < length all → (d : Seat) (p : ℕ) → 0 < has_role (seen_by (slice_index_or all j d)) (owner k p)
+      → (0 < has_role root.me.0 (owner k p)) × (record_of root.me.0 p ≡ record_of (seen_by (slice_index_or all j d)) p)
+
+-- how many boxes the seats opened
+abbrev pub opens_of : List Seat → ℕ
+opens_of seats = total (λ (seat : Seat). seat.opens) seats
+
+-- the states of the first pages are those that words tell, and nothing else of the headers changed
+pub record StatesSet (old new : List Header) (pages : ℕ) (words : List ℕ) : Type 0 where
+  pub long : length new ≡ length old
+  pub near : (p : ℕ) → p < pages → state_word (state_in new p) ≡ slice_index words p
+  pub far : (p : ℕ) → pages ≤ p → state_in new p ≡ state_in old p
+  pub else_same : (q : ℕ) → slice_index_or new q unused_header ≡ record (slice_index_or old q unused_header) { pages = (slice_index_or new q unused_header).pages }
+  pub states_long : (q : ℕ) → length (slice_index_or new q unused_header).pages ≡ length (slice_index_or old q unused_header).pages
+
+-- where a page is once the table is closed: Remembered exactly where it was so at the opening or a seat put it back so; Gone and
+-- Absent by the opening and by what the seats made of it
+pub record ClosedState (k : Key) (seats : List Seat) (st : PageState) (p : ℕ) : Type 0 where
+  pub remembered : 0 < one_if (opened_word k p == 2) + total (λ (seat : Seat). times p (seen_by seat).recorded) seats → st ≡ state.Remembered
+  pub recorded : st ≡ state.Remembered → 0 < one_if (opened_word k p == 2) + total (λ (seat : Seat). times p (seen_by seat).recorded) seats
+  pub gone : one_if (state_word st == 4) + total (λ (seat : Seat). times p (seen_by seat).fetched) seats
+      ≡ one_if (opened_word k p == 4) + total (λ (seat : Seat). times p (seen_by seat).left) seats
+  pub absent : one_if (state_word st == 0) ≡ one_if (opened_word k p == 0) + total (λ (seat : Seat). times p (seen_by seat).emptied) seats
+
+-- the space that a closed table gives back: as it was opened, but for the states of pages, their contents and the reads. Each
+-- page has the content that its lane's seat records, or else the opening's
+pub record Closed (k : Key) (seats : List Seat) (s : Layout) : Type 0 where
+  pub same : s ≡ record k.opening { states = s.states; pages = s.pages; reads = s.reads }
+  pub reads : s.reads ≡ min (k.opening.reads + opens_of seats) (2 ^ 64 - 1)
+  pub mine : (j : ℕ) → j < length seats → (d : Seat) (p : ℕ) → p < pages_of k → 0 < has_role (seen_by (slice_index_or seats j d)) (owner k p)
+      → content_at s.pages p ≡ record_of (seen_by (slice_index_or seats j d)) p
+  pub unowned : (p : ℕ) → p < pages_of k → times (owner k p) k.roles ≡ 0 → content_at s.pages p ≡ opened_content k p
+  pub behind : (p : ℕ) → pages_of k ≤ p → p < 4 * superpages k.opening → (state_at s.states p ≡ opened_state k p) × (content_at s.pages p ≡ opened_content k p)
+  pub states_are : (p : ℕ) → p < pages_of k → ClosedState k seats (state_at s.states p) p
+  pub fixed : (p : ℕ) → p < pages_of k → IsContent k.opening p (content_at s.pages p)
+  pub young : (p : ℕ) → p < pages_of k → RefersYoung k.opening p (content_at s.pages p) → state_at s.states p ≡ state.Remembered

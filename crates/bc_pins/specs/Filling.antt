@@ -1,0 +1,51 @@
+-- The words of a table at its opening.
+use Rattle.std.specs.Prelude.{◌≡◌, ℕ, ◌+◌, ◌*◌, ◌/◌, ◌%◌, ◌<◌, false, List, length, slice_index, slice_index_or}
+use Rattle.bc_superpages.specs.declared.headers.Header.{Header}
+use Rattle.bc_superpages.specs.Headers.{unused_header}
+use Rattle.bc_superpages.specs.Parts.{state_in}
+use Rattle.bc_pins.specs.declared.key.Turn.{Turn}
+use Rattle.bc_pins.specs.Key.{Key, is_lanes, pages_of, counter_at, bookmark_at, mark_at, finished_at, all_words}
+use Rattle.bc_pins.specs.Views.{state_word}
+use Rattle.bc_pins.specs.declared.filling.CellSet.{CellSet}
+use Rattle.bc_pins.specs.declared.filling.CellSet.TheVariants.{Bookmarks, Marks, Finished}
+
+-- so many words were added, word i of them f i
+pub record Extends (old new : List ℕ) (count : ℕ) (f : ℕ → ℕ) : Type 0 where
+  pub long : length new ≡ length old + count
+  pub kept : (i : ℕ) → i < length old → slice_index new i ≡ slice_index old i
+  pub added : (i : ℕ) → i < count → slice_index new (length old + i) ≡ f i
+
+-- a set of a header
+abbrev pub set_in : CellSet → Header → List ℕ
+set_in Bookmarks h = h.bookmarks
+set_in Marks h = h.marks
+set_in Finished h = h.finished
+
+-- a key of this size and turn
+pub record IsSized (k : Key) (superpages frames : ℕ) (turn : Turn) : Type 0 where
+  pub supers : k.supers ≡ superpages
+  pub all : k.frames ≡ frames
+  pub lanes : k.lanes ≡ is_lanes turn
+
+abbrev pub header_in : List Header → ℕ → Header
+header_in headers superpage = slice_index_or headers superpage unused_header
+
+-- word w of a set of all superpages
+abbrev pub set_word : CellSet → List Header → ℕ → ℕ
+set_word set headers w = slice_index (set_in set (header_in headers (w / 16))) (w % 16)
+
+-- the words of a mark turn were added
+pub record IsMarked (headers : List Header) (superpages : ℕ) (old new : List ℕ) : Type 0 where
+  pub long : length new ≡ length old + (32 * superpages + (4 * superpages + 63) / 64)
+  pub kept : (i : ℕ) → i < length old → slice_index new i ≡ slice_index old i
+  pub marks : (w : ℕ) → w < 16 * superpages → slice_index new (length old + w) ≡ set_word Marks headers w
+  pub finished : (w : ℕ) → w < 16 * superpages → slice_index new (length old + (16 * superpages + w)) ≡ set_word Finished headers w
+
+-- the words tell what the headers do
+pub record IsFilled (k : Key) (headers : List Header) (words : List ℕ) : Type 0 where
+  pub long : length words ≡ all_words k
+  pub states : (p : ℕ) → p < pages_of k → slice_index words p ≡ state_word (state_in headers p)
+  pub counters : (q : ℕ) → q < k.supers → slice_index words (counter_at k q) ≡ (header_in headers q).incoming
+  pub bookmarks : (w : ℕ) → w < 16 * k.supers → slice_index words (bookmark_at k w) ≡ set_word Bookmarks headers w
+  pub marks : (w : ℕ) → k.lanes ≡ false → w < 16 * k.supers → slice_index words (mark_at k w) ≡ set_word Marks headers w
+  pub finished : (w : ℕ) → k.lanes ≡ false → w < 16 * k.supers → slice_index words (finished_at k w) ≡ set_word Finished headers w

@@ -1,0 +1,94 @@
+-- What a table is told once, when it is made, and where its words lie.
+use Rattle.std.specs.Prelude.{ℕ, ◌+◌, ◌*◌, ◌/◌, Bool, true, false, if◌then◌else◌, List, slice_index}
+use Rattle.bc_pins.specs.declared.key.Turn.{Turn}
+use Rattle.bc_pins.specs.declared.key.Turn.TheVariants.{Lanes, Mark}
+use Rattle.bc_pins.specs.declared.key.Role.{Role}
+use Rattle.bc_pins.specs.declared.key.Role.TheVariants.{Lane, Marker, Pager}
+use Rattle.bc_superpages.specs.Layout.{Layout}
+
+-- is it a turn of lanes?
+abbrev pub is_lanes : Turn → Bool
+is_lanes Lanes = true
+is_lanes Mark = false
+
+-- the number of a role. None is 0, which is nobody's, and no two have the same
+abbrev pub lane_role : ℕ → ℕ
+lane_role lane = 3 * lane + 3
+
+abbrev pub role_number : Role → ℕ
+role_number (Lane lane) = lane_role lane
+role_number (Marker marker) = 3 * marker + 1
+role_number (Pager pager) = 3 * pager + 2
+
+pub record Key : Type 0 where
+  -- how many superpages the table has: those up to the last that has a page which isn't Absent
+  pub supers : ℕ
+  -- all frames of the heap
+  pub frames : ℕ
+  -- which of them are free at the opening
+  pub pool : List Bool
+  -- is it a turn of lanes, and no mark turn?
+  pub lanes : Bool
+  -- the space at the opening
+  pub opening : Layout
+  -- by domain, the role that holds it
+  pub owners : List ℕ
+  -- the roles that are given out
+  pub roles : List ℕ
+  -- the frames that are in use by no page: the nurseries'
+  pub nursery : List ℕ
+
+-- the table's pages. All pages behind them are Absent for the whole turn
+abbrev pub pages_of : Key → ℕ
+pages_of k = 4 * k.supers
+
+-- the role that holds a page's domain, or 0: nobody holds one in a mark turn
+abbrev pub owner : Key → ℕ → ℕ
+owner k page = slice_index k.owners (slice_index k.opening.domains (page / 4))
+
+-- Where the words lie: first a word for each page, then by superpage its counter, then its sixteen bookmark words, then
+-- the frame words, then the next notice. A mark turn has besides by superpage sixteen mark words, then sixteen finished
+-- words, then the queue words
+abbrev pub counter_at : Key → ℕ → ℕ
+counter_at k superpage = pages_of k + superpage
+
+abbrev pub bookmark_at : Key → ℕ → ℕ
+bookmark_at k word = pages_of k + (k.supers + word)
+
+abbrev pub frame_at : Key → ℕ → ℕ
+frame_at k word = pages_of k + (k.supers + (16 * k.supers + word))
+
+-- how many words the frames have: a bit for each, set where the frame is in use
+abbrev pub frame_words : Key → ℕ
+frame_words k = (k.frames + 63) / 64
+
+abbrev pub notice_at : Key → ℕ
+notice_at k = frame_at k (frame_words k)
+
+abbrev pub mark_at : Key → ℕ → ℕ
+mark_at k word = notice_at k + 1 + word
+
+abbrev pub finished_at : Key → ℕ → ℕ
+finished_at k word = notice_at k + 1 + (16 * k.supers + word)
+
+abbrev pub queue_at : Key → ℕ → ℕ
+queue_at k word = notice_at k + 1 + (32 * k.supers + word)
+
+-- how many words the queue bits have: a bit for each page
+abbrev pub queue_words : Key → ℕ
+queue_words k = (pages_of k + 63) / 64
+
+abbrev pub all_words : Key → ℕ
+all_words k = notice_at k + 1 + (if k.lanes then 0 else 32 * k.supers + queue_words k)
+
+-- the same by superpages, frames and turn
+abbrev pub table_words : ℕ → ℕ → Turn → ℕ
+table_words supers frames Lanes = 21 * supers + (frames + 63) / 64 + 1
+table_words supers frames Mark = 21 * supers + (frames + 63) / 64 + 1 + (32 * supers + (4 * supers + 63) / 64)
+
+-- the slots of a page
+abbrev pub frame_slot : Key → ℕ → ℕ
+frame_slot k page = page
+
+abbrev pub store_slot : Key → ℕ → ℕ
+store_slot k page = pages_of k + page

@@ -1,0 +1,43 @@
+-- Boxes that move between a space's lists and the slots of a table.
+use Rattle.std.specs.Prelude.{◌≡◌, ℕ, ◌+◌, ◌<◌, ◌≤◌, List, length, Option, Some, None, slice_index_or}
+use Rattle.bc_superpages.specs.declared.spaces.Homed.{Homed}
+use Rattle.bc_pins.specs.declared.views.Lodged.{Lodged}
+use Rattle.bc_pins.specs.declared.views.Lodged.TheVariants.{Nothing, Home, Away}
+
+-- the first items of a list were replaced, item i by f i
+pub record Replaced {A : Type 0} (default : A) (old new : List A) (count : ℕ) (f : ℕ → A) : Type 0 where
+  pub long : length new ≡ length old
+  pub near : (i : ℕ) → i < count → slice_index_or new i default ≡ f i
+  pub far : (i : ℕ) → count ≤ i → slice_index_or new i default ≡ slice_index_or old i default
+
+-- slots were added
+pub record Lodges (old new : List Lodged) (count : ℕ) (f : ℕ → Lodged) : Type 0 where
+  pub long : length new ≡ length old + count
+  pub kept : (i : ℕ) → i < length old → slice_index_or new i Nothing ≡ slice_index_or old i Nothing
+  pub added : (i : ℕ) → i < count → slice_index_or new (length old + i) Nothing ≡ f i
+
+abbrev pub home_of : Option Homed → Lodged
+home_of None = Nothing
+home_of (Some homed) = Home homed
+
+abbrev pub away_of : Option (List ℕ) → Lodged
+away_of None = Nothing
+away_of (Some content) = Away content
+
+abbrev pub box_of : Lodged → Option Homed
+box_of Nothing = None
+box_of (Home homed) = Some homed
+box_of (Away content) = None
+
+abbrev pub place_of : Lodged → Option (List ℕ)
+place_of Nothing = None
+place_of (Home homed) = None
+place_of (Away content) = Some content
+
+-- a box lies in a page's frame slot or in its place in the store, and not in both
+abbrev pub LiesOnce : Lodged → Option (List ℕ) → Type 0
+LiesOnce (Home homed) None = Unit {0}
+LiesOnce (Home homed) (Some content) = ⊥
+LiesOnce Nothing None = ⊥
+LiesOnce Nothing (Some content) = Unit {0}
+LiesOnce (Away x) place = ⊥

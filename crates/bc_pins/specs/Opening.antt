@@ -1,0 +1,117 @@
+-- What a table needs when it is opened, and what it leaves when it is closed.
+use Rattle.std.specs.Prelude.{◌≡◌, ◌≢◌, ℕ, ◌+◌, ◌*◌, ◌^◌, ◌<◌, ◌≤◌, false, List, [], ◌∷◌, length, map, slice_index, slice_index_or, Bool, None}
+use mathlib.Core.Option.{some}
+use lib.ListN.{get_elem?}
+use Rattle.atomic_table.specs.Table.{opening}
+use Rattle.bc_superpages.specs.declared.headers.PageState.TheVariants as state
+use Rattle.bc_superpages.specs.declared.parts.SpaceParts.{SpaceParts}
+use Rattle.bc_superpages.specs.Layout.{Layout, content_at, is_cell}
+use Rattle.bc_superpages.specs.LayoutAt.{state_at}
+use Rattle.bc_superpages.specs.Calls.{IsClosed}
+use Rattle.bc_superpages.specs.Parts.{state_in, AreParts}
+use Rattle.bc_pins.specs.Lodging.{Replaced, Lodges, home_of, away_of}
+use Rattle.bc_pins.specs.declared.key.Turn.{Turn}
+use Rattle.bc_pins.specs.declared.key.Role.{Role}
+use Rattle.bc_pins.specs.declared.views.Lodged.{Lodged}
+use Rattle.bc_pins.specs.declared.views.View.{View}
+use Rattle.bc_pins.specs.Key.{Key, pages_of, all_words, is_lanes, lane_role, role_number}
+use Rattle.bc_pins.specs.Totals.{times}
+use Rattle.bc_pins.specs.Contents.{IsContent, RefersYoung, IsBare}
+use Rattle.bc_pins.specs.Views.{opened_content, opened_word, record_of}
+use Rattle.bc_pins.specs.Facts.{Table, Lies, Frames, Still, Standing}
+use Rattle.bc_pins.specs.Steps.{fresh}
+
+-- the table as it is opened
+abbrev pub opened : Key → List ℕ → List Lodged → Table
+opened k words slots = opening words slots (fresh k k.roles)
+
+-- a page: its word tells its state and its box lies so; its content keeps what is fixed, refers to no nursery but where the page
+-- is Remembered, and where it is Absent it has no allocated cell
+pub record OpensPage (k : Key) (words : List ℕ) (slots : List Lodged) (p : ℕ) : Type 0 where
+  pub word : slice_index words p ≡ opened_word k p
+  pub not_held : opened_word k p ≢ 3
+  pub lies : Lies (opened_word k p) (get_elem? (map some slots) p) (get_elem? (map some slots) (pages_of k + p)) (opened_content k p)
+  pub fixed : IsContent k.opening p (opened_content k p)
+  pub young : RefersYoung k.opening p (opened_content k p) → opened_word k p ≡ 2
+  pub bare : opened_word k p ≡ 0 → IsBare k.opening p
+
+-- words and slots with which a table may be opened
+pub record MayOpen (k : Key) (words : List ℕ) (slots : List Lodged) : Type 0 where
+  pub words_long : length words ≡ all_words k
+  pub slots_long : length slots ≡ pages_of k + pages_of k
+  pub few : pages_of k < 2 ^ 32
+  pub pages : (p : ℕ) → p < pages_of k → OpensPage k words slots p
+  pub apart : (r : ℕ) → times r k.roles ≤ 1
+  pub nobody : times 0 k.roles ≡ 0
+  pub frames : (f : ℕ) → Frames k (opened k words slots) f
+  pub still : Still k (opened k words slots)
+
+-- a page of a table that is closed, where v is the view that all others were joined into: its box lies as its word tells, with
+-- the record as its content
+pub record ClosesPage (k : Key) (v : View) (words : List ℕ) (slots : List Lodged) (p : ℕ) : Type 0 where
+  pub not_held : slice_index words p ≢ 3
+  pub lies : Lies (slice_index words p) (get_elem? (map some slots) p) (get_elem? (map some slots) (pages_of k + p)) (record_of v p)
+  pub fixed : IsContent k.opening p (record_of v p)
+  pub young : RefersYoung k.opening p (record_of v p) → slice_index words p ≡ 2
+  pub bare : slice_index words p ≡ 0 → IsBare k.opening p
+  pub standing : Standing k (record { words = words; homes = map some slots; views = v ∷ [] }) p
+
+-- words and slots of a table that is closed
+pub record HasClosed (k : Key) (v : View) (words : List ℕ) (slots : List Lodged) : Type 0 where
+  pub words_long : length words ≡ all_words k
+  pub slots_long : length slots ≡ pages_of k + pages_of k
+  pub pages : (p : ℕ) → p < pages_of k → ClosesPage k v words slots p
+  pub frames : (f : ℕ) → Frames k (record { words = words; homes = map some slots; views = v ∷ [] }) f
+  pub still : Still k (record { words = words; homes = map some slots; views = v ∷ [] })
+
+-- a space with which a table may be opened: it is closed, no cell is promised, and a page that refers to a nursery is Remembered
+pub record IsReady (s : Layout) : Type 0 where
+  pub closed : IsClosed s
+  pub promised : (a : ℕ) → is_cell s.classes s.promised a ≡ false
+  pub young : (p : ℕ) → RefersYoung s p (content_at s.pages p) → state_at s.states p ≡ state.Remembered
+
+-- the boxes of the first pages are out of their lists, and nothing else of the parts changed
+pub record Emptied (whole parts : SpaceParts) (pages : ℕ) : Type 0 where
+  pub headers : parts.headers.items ≡ whole.headers.items
+  pub pool : parts.pool ≡ whole.pool
+  pub nursery : parts.nursery.items ≡ whole.nursery.items
+  pub reads : parts.store.reads ≡ whole.store.reads
+  pub end : parts.end ≡ whole.end
+  pub boxes : Replaced None whole.boxes.items parts.boxes.items pages (λ p. None)
+  pub places : Replaced None whole.store.places parts.store.places pages (λ p. None)
+
+-- what is left of a space's parts while its first pages are in a table. The other pages are Absent
+pub record IsRest (whole parts : SpaceParts) (pages : ℕ) : Type 0 where
+  pub kept : AreParts whole
+  pub within : pages ≤ 4 * length whole.headers.items
+  pub behind : (p : ℕ) → pages ≤ p → state_in whole.headers.items p ≡ state.Absent
+  pub emptied : Emptied whole parts pages
+
+-- a slot for the frame and one for the store of each page, with the boxes that lay in the lists
+pub record AreLodged (whole : SpaceParts) (pages : ℕ) (slots : List Lodged) : Type 0 where
+  pub first : List Lodged
+  pub homes : Lodges [] first pages (λ p. home_of (slice_index_or whole.boxes.items p None))
+  pub aways : Lodges first slots pages (λ p. away_of (slice_index_or whole.store.places p None))
+
+-- the same parts, as far as a space reads them
+pub record SameParts (a b : SpaceParts) : Type 0 where
+  pub headers : b.headers.items ≡ a.headers.items
+  pub pool : b.pool ≡ a.pool
+  pub nursery : b.nursery.items ≡ a.nursery.items
+  pub reads : b.store.reads ≡ a.store.reads
+  pub end : b.end ≡ a.end
+  pub boxes : b.boxes.items ≡ a.boxes.items
+  pub places : b.store.places ≡ a.store.places
+
+-- the key of a table, by what it was opened with
+abbrev pub key_for : ℕ → Turn → Layout → List Bool → List ℕ → List ℕ → List Role → Key
+key_for superpages turn space pool nursery holders roles = record {
+  supers = superpages;
+  frames = length pool;
+  pool = pool;
+  lanes = is_lanes turn;
+  opening = space;
+  owners = map lane_role holders;
+  roles = map role_number roles;
+  nursery = nursery;
+}

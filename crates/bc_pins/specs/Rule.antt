@@ -1,0 +1,31 @@
+-- The rule of a table: the turn facts of every page, seat and frame.
+use Rattle.std.specs.Prelude.{◌≡◌, ℕ, ◌+◌, ◌^◌, ◌<◌, List, length}
+use mathlib.Core.Option.{some}
+use lib.ListN.{get_elem?}
+use Rattle.bc_pins.specs.declared.views.View.{View}
+use Rattle.bc_pins.specs.Key.{Key, pages_of, owner, all_words}
+use Rattle.bc_pins.specs.Totals.{times}
+use Rattle.bc_pins.specs.Views.{opened_content}
+use Rattle.bc_pins.specs.Facts.{Table, Place, Content, Standing, Records, Saw, Seated, Roles, Frames, Still}
+
+-- what holds of one seat
+pub record SeatFacts (k : Key) (s : Table) (rec : ℕ → List ℕ) (v : View) : Type 0 where
+  pub seated : Seated k v
+  pub records : Records k rec v
+  pub saw : Saw k s v
+
+pub record Rule (k : Key) (s : Table) : Type 0 where
+  -- the record of each page
+  pub rec : ℕ → List ℕ
+  pub words : length s.words ≡ all_words k
+  pub slots : length s.homes ≡ pages_of k + pages_of k
+  pub few : pages_of k < 2 ^ 32
+  pub place : (p : ℕ) → p < pages_of k → Place k s rec p
+  pub content : (p : ℕ) → p < pages_of k → Content k s rec p
+  pub standing : (p : ℕ) → p < pages_of k → Standing k s p
+  pub seats : (id : ℕ) (v : View) → get_elem? s.views id ≡ some v → SeatFacts k s rec v
+  pub roles : Roles k s
+  -- a page whose domain no lane holds has the opening's content
+  pub unowned : (p : ℕ) → times (owner k p) k.roles ≡ 0 → rec p ≡ opened_content k p
+  pub frames : (f : ℕ) → Frames k s f
+  pub still : Still k s

@@ -1,0 +1,67 @@
+-- What one view says: what it has in hand, which content it records of a page, which roles it has.
+use Rattle.std.specs.Prelude.{ℕ, ◌+◌, ◌==◌, ◌<◌, Bool, if◌then◌else◌, List, [], ◌∷◌, Option, Some, None}
+use Rattle.bc_bits.specs.Counting.{one_if}
+use Rattle.bc_superpages.specs.declared.headers.PageState.{PageState}
+use Rattle.bc_superpages.specs.declared.headers.PageState.TheVariants as state
+use Rattle.bc_superpages.specs.Layout.{content_at}
+use Rattle.bc_superpages.specs.LayoutAt.{state_at}
+use Rattle.bc_pins.specs.declared.views.Hand.{Hand}
+use Rattle.bc_pins.specs.declared.views.View.{View}
+use Rattle.bc_pins.specs.Key.{Key, owner}
+use Rattle.bc_pins.specs.Totals.{times}
+
+-- how often the view has the page in hand: once or not. And the same where it says remembered
+abbrev pub grips : ℕ → Option Hand → ℕ
+grips page None = 0
+grips page (Some h) = one_if (h.page == page)
+
+abbrev pub grips_remembered : ℕ → Option Hand → ℕ
+grips_remembered page None = 0
+grips_remembered page (Some h) = if h.remembered then one_if (h.page == page) else 0
+
+-- is the frame that of the page in hand?
+abbrev pub frame_in_hand : ℕ → Option Hand → ℕ
+frame_in_hand frame None = 0
+frame_in_hand frame (Some h) = one_if (h.frame == frame)
+
+-- has the view this role, by its number?
+abbrev pub has_role : View → ℕ → ℕ
+has_role v role = times role v.roles
+
+-- is the view that of the lane which holds the page's domain?
+abbrev pub Owns : Key → View → ℕ → Type 0
+Owns k v page = 0 < has_role v (owner k page)
+
+-- how many entries of the list are of the page, and the content that the first of them has
+abbrev pub entries : ℕ → List (ℕ × List ℕ) → ℕ
+entries page [] = 0
+entries page (e ∷ es) = one_if (e.0 == page) + entries page es
+
+abbrev pub look_up : ℕ → List (ℕ × List ℕ) → List ℕ → List ℕ
+look_up page [] first = first
+look_up page (e ∷ es) first = if e.0 == page then e.1 else look_up page es first
+
+-- the page's content and state at the opening
+abbrev pub opened_content : Key → ℕ → List ℕ
+opened_content k page = content_at k.opening.pages page
+
+abbrev pub opened_state : Key → ℕ → PageState
+opened_state k page = state_at k.opening.states page
+
+-- the content that the view records of the page: what it put back last, or else the opening's
+abbrev pub record_of : View → ℕ → List ℕ
+record_of v page = look_up page v.changed (opened_content v.about page)
+
+-- the word of a page
+abbrev pub state_word : PageState → ℕ
+state_word state.Absent = 0
+state_word state.Home = 1
+state_word state.Remembered = 2
+state_word state.Held = 3
+state_word state.Gone = 4
+
+abbrev pub opened_word : Key → ℕ → ℕ
+opened_word k page = state_word (opened_state k page)
+
+abbrev pub home_word : Bool → ℕ
+home_word remembered = if remembered then 2 else 1

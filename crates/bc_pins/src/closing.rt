@@ -1,0 +1,40 @@
+//! Closing a table.
+
+ghost use Rattle.std.specs.Prelude.{◌≡◌};
+ghost use Rattle.bc_pins.specs.Calls.{key_of};
+ghost use Rattle.bc_pins.specs.Closing.{AreBack, Closed};
+
+use crate::gathering::{drain, set_states, unite_all};
+use crate::lodging::put_all_back;
+use crate::pins::{Pins, Seat};
+use crate::rest::Rest;
+use bc_superpages::Space;
+
+impl Pins {
+    /// Closes the table, to which all its seats came back with nothing in hand, and gives back the space.
+    pub fn close(self, seats: Vec<Seat>) -> Space
+        requires back { AreBack self.table.shared.table_id (key_of self) seats.items }
+        ensures closed { Closed (key_of self) seats.items result }
+    {
+        let Pins {
+            table,
+            rest,
+            superpages: _,
+            turn: _,
+            frame_words: _,
+            spare: mut slots,
+        } = self;
+        let Rest {
+            mut parts,
+            whole: _,
+            pages,
+        } = rest;
+        let root = unite_all(&table.shared, seats, &mut parts.store);
+        let mut closed = table.close_with(root);
+        drain(&mut closed, &mut slots);
+        set_states(&mut parts.headers, &closed, pages);
+        closed.free();
+        put_all_back(&mut parts.boxes, &mut parts.store, pages, slots);
+        Space::close_up(parts)
+    }
+}

@@ -1,0 +1,138 @@
+//! The words of a table at its opening.
+
+ghost use Rattle.std.specs.Prelude.{◌≡◌, ℕ, ◌+◌, ◌*◌, ◌/◌, ◌%◌, ◌^◌, ◌<◌, ◌≤◌, [], length, slice_index, slice_index_or, vec_capacity};
+ghost use Rattle.bc_superpages.specs.Headers.{unused_header};
+ghost use Rattle.bc_superpages.specs.Parts.{state_in};
+ghost use Rattle.bc_pins.specs.Views.{state_word};
+ghost use Rattle.bc_pins.specs.Key.{Key, table_words};
+ghost use Rattle.bc_pins.specs.Filling.{Extends, IsSized, IsFilled, IsMarked, set_in};
+
+use crate::key::Turn;
+use bc_superpages::{Header, PageState};
+
+/// Sets of cells that a table has words for.
+#[derive(Clone, Copy, PartialEq, Eq, Debug)]
+pub(crate) enum CellSet {
+    Bookmarks,
+    Marks,
+    Finished,
+}
+
+/// The word of a page in this state.
+fn word_of(state: PageState) -> u64
+    ensures word { result ≡ state_word state }
+{
+    match state {
+        PageState::Absent => 0,
+        PageState::Home => 1,
+        PageState::Remembered => 2,
+        PageState::Held => 3,
+        PageState::Gone => 4,
+    }
+}
+
+/// A word of a set of the header.
+fn set_word(header: &Header, set: CellSet, word: usize) -> u64
+    requires { word < 16 }
+    ensures word { result ≡ slice_index (set_in set header.now) word }
+{
+    match set {
+        CellSet::Bookmarks => header.bookmarks[word],
+        CellSet::Marks => header.marks[word],
+        CellSet::Finished => header.finished[word],
+    }
+}
+
+/// Adds the words of so many pages.
+pub(crate) fn push_states(words: &mut Vec<u64>, headers: &[Header], pages: usize)
+    requires pages { pages ≤ 4 * length headers.now }
+    requires room { length words.old.items + pages ≤ vec_capacity words.old }
+    ensures added { Extends words.old.items words.new.items pages (λ p. state_word (state_in headers.now p)) }
+    ensures room { vec_capacity words.new ≡ vec_capacity words.old }
+{
+    for page in 0..pages {
+        words.push_reserved(word_of(headers[page / 4].pages[page % 4]));
+    }
+}
+
+/// Adds the counters of so many superpages.
+pub(crate) fn push_counters(words: &mut Vec<u64>, headers: &[Header], superpages: usize)
+    requires superpages { superpages ≤ length headers.now }
+    requires room { length words.old.items + superpages ≤ vec_capacity words.old }
+    ensures added { Extends words.old.items words.new.items superpages (λ q. (slice_index_or headers.now q unused_header).incoming) }
+    ensures room { vec_capacity words.new ≡ vec_capacity words.old }
+{
+    for superpage in 0..superpages {
+        words.push_reserved(headers[superpage].incoming);
+    }
+}
+
+/// Adds the sixteen words of a set of so many superpages.
+pub(crate) fn push_sets(words: &mut Vec<u64>, headers: &[Header], superpages: usize, set: CellSet)
+    requires superpages { superpages ≤ length headers.now }
+    requires few { superpages ≤ 4096 }
+    requires room { length words.old.items + 16 * superpages ≤ vec_capacity words.old }
+    ensures added { Extends words.old.items words.new.items (16 * superpages) (λ w. slice_index (set_in set (slice_index_or headers.now (w / 16) unused_header)) (w % 16)) }
+    ensures room { vec_capacity words.new ≡ vec_capacity words.old }
+{
+    for word in 0..16 * superpages {
+        words.push_reserved(set_word(&headers[word / 16], set, word % 16));
+    }
+}
+
+/// Adds so many words that are 0.
+pub(crate) fn push_zeros(words: &mut Vec<u64>, count: usize)
+    requires room { length words.old.items + count ≤ vec_capacity words.old }
+    ensures added { Extends words.old.items words.new.items count (λ w. 0) }
+    ensures room { vec_capacity words.new ≡ vec_capacity words.old }
+{
+    for _word in 0..count {
+        words.push_reserved(0);
+    }
+}
+
+/// How many words a table has.
+pub(crate) fn word_count(superpages: usize, frames: usize, turn: Turn) -> usize
+    requires { (superpages ≤ 4096) × (frames < 2 ^ 32) }
+    ensures { result ≡ table_words superpages frames turn }
+{
+    let lanes = 21 * superpages + (frames + 63) / 64 + 1;
+    match turn {
+        Turn::Lanes => lanes,
+        Turn::Mark => lanes + (32 * superpages + (4 * superpages + 63) / 64),
+    }
+}
+
+/// Adds all words of a table of so many superpages.
+pub(crate) fn fill_words(
+    words: &mut Vec<u64>,
+    headers: &[Header],
+    superpages: usize,
+    frames: usize,
+    turn: Turn,
+)
+    requires size { (superpages ≤ 4096) × (superpages ≤ length headers.now) × (frames < 2 ^ 32) }
+    requires none { words.old.items ≡ [] }
+    requires room { table_words superpages frames turn ≤ vec_capacity words.old }
+    ensures filled { (k : Key) → IsSized k superpages frames turn → IsFilled k headers.now words.new.items }
+{
+    push_states(words, headers, 4 * superpages);
+    push_counters(words, headers, superpages);
+    push_sets(words, headers, superpages, CellSet::Bookmarks);
+    push_zeros(words, (frames + 63) / 64 + 1);
+    match turn {
+        Turn::Lanes => {}
+        Turn::Mark => fill_marks(words, headers, superpages),
+    }
+}
+
+/// Adds the words that a mark turn has besides.
+fn fill_marks(words: &mut Vec<u64>, headers: &[Header], superpages: usize)
+    requires size { (superpages ≤ 4096) × (superpages ≤ length headers.now) }
+    requires room { length words.old.items + (32 * superpages + (4 * superpages + 63) / 64) ≤ vec_capacity words.old }
+    ensures filled { IsMarked headers.now superpages words.old.items words.new.items }
+{
+    push_sets(words, headers, superpages, CellSet::Marks);
+    push_sets(words, headers, superpages, CellSet::Finished);
+    push_zeros(words, (4 * superpages + 63) / 64);
+}

@@ -1,0 +1,96 @@
+//! All seats joined into one, and all slots taken out of a table that is closed.
+
+ghost use Rattle.std.specs.Prelude.{◌≡◌, ℕ, ◌+◌, ◌-◌, ◌*◌, ◌/◌, ◌^◌, ◌<◌, ◌≤◌, false, [], length, min, slice_index, slice_index_or, vec_capacity};
+ghost use Rattle.core.specs.Mem.Slots.{slots_items, slots_filled, slots_len, IsFull};
+ghost use Rattle.bc_superpages.specs.Headers.{unused_header};
+ghost use Rattle.bc_pins.specs.Totals.{times};
+ghost use Rattle.bc_pins.specs.Views.{state_word};
+ghost use Rattle.bc_pins.specs.Closing.{AreBack, Gathered, StatesSet, opens_of};
+
+use crate::key::About;
+use crate::pins::Seat;
+use crate::rule::{TurnRule, Unite};
+use crate::views::{Lodged, View};
+use atomic_table::{Closed, Shared};
+use bc_frames::Store;
+use bc_superpages::{Header, PageState};
+use std::alloc::Global;
+
+type Board = Shared<Lodged, View, About, TurnRule>;
+
+type Worker = atomic_table::Seat<Lodged, View>;
+
+/// Joins all seats into the last one, and counts the boxes that they opened as reads of the store.
+pub(crate) fn unite_all(board: &Board, mut seats: Vec<Seat>, store: &mut Store) -> Worker
+    requires words { 0 < board.now.table_id.words }
+    requires apart { (r : ℕ) → times r board.now.key.roles ≤ 1 }
+    requires back { AreBack board.now.table_id board.now.key seats.items }
+    ensures gathered { Gathered board.now.table_id board.now.key seats.items [] result }
+    ensures store { store.new ≡ record store.old { reads = min (store.old.reads + opens_of seats.items) (2 ^ 64 - 1) } }
+{
+    let mut root = match seats.pop() {
+        Some(seat) => let_go(seat, store),
+        None => unreachable!(),
+    };
+    while let Some(seat) = seats.pop() {
+        let other = let_go(seat, store);
+        board.join_seat::<Unite>(&mut root, other);
+    }
+    seats.destroy_empty();
+    root
+}
+
+/// The seat at the table, once the boxes that it opened are counted.
+fn let_go(seat: Seat, store: &mut Store) -> Worker
+    ensures worker { result ≡ seat.inner }
+    ensures store { store.new ≡ record store.old { reads = min (store.old.reads + seat.opens) (2 ^ 64 - 1) } }
+{
+    let Seat {
+        inner,
+        role: _,
+        opens,
+    } = seat;
+    store.count(opens);
+    inner
+}
+
+/// Takes all values out of the slots, in their order.
+pub(crate) fn drain(closed: &mut Closed<Lodged, Global>, into: &mut Vec<Lodged>)
+    requires full { IsFull closed.old.slots }
+    requires none { into.old.items ≡ [] }
+    requires room { slots_len closed.old.slots ≤ vec_capacity into.old }
+    ensures items { into.new.items ≡ slots_items closed.old.slots }
+    ensures words { closed.new.words ≡ closed.old.words }
+    ensures emptied { (k : ℕ) → k < slots_len closed.new.slots → slice_index_or (slots_filled closed.new.slots) k false ≡ false }
+{
+    for slot in 0..closed.slot_count() {
+        into.push_reserved(closed.take(slot));
+    }
+}
+
+/// The state that a page's word tells.
+fn state_of(word: u64) -> PageState
+    requires { word ≤ 4 }
+    ensures state { state_word result ≡ word }
+{
+    match word {
+        0 => PageState::Absent,
+        1 => PageState::Home,
+        2 => PageState::Remembered,
+        3 => PageState::Held,
+        _ => PageState::Gone,
+    }
+}
+
+/// Writes into the headers what the words of so many pages tell.
+pub(crate) fn set_states(headers: &mut Vec<Header>, closed: &Closed<Lodged, Global>, pages: usize)
+    requires pages { pages ≤ 4 * length headers.old.items }
+    requires words { IsFull closed.now.words × (pages ≤ slots_len closed.now.words) }
+    requires long { (q : ℕ) → length (slice_index_or headers.old.items q unused_header).pages ≡ 4 }
+    requires few { (p : ℕ) → p < pages → slice_index (slots_items closed.now.words) p ≤ 4 }
+    ensures set { StatesSet headers.old.items headers.new.items pages (slots_items closed.now.words) }
+{
+    for page in 0..pages {
+        headers[page / 4].pages[page % 4] = state_of(closed.word(page));
+    }
+}

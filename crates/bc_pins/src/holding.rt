@@ -1,0 +1,67 @@
+//! A page in a worker's hands.
+
+use bc_superpages::Homed;
+
+/// A page in a worker's hands: its number, its box and frame, and whether it is remembered.
+#[derive(Drop)]
+pub struct Held {
+    pub(crate) page: u32,
+    pub(crate) remembered: bool,
+    pub(crate) homed: Homed,
+}
+
+impl Held {
+    ghost use Rattle.std.specs.Prelude.{◌≡◌, ℕ, ◌+◌, ◌<◌, true, length, slice_index, slice_set};
+    ghost use Rattle.bc_word.specs.Words.{word_of_bits};
+    ghost use Rattle.bc_word.specs.WordBits.{IsPacked};
+    ghost use Rattle.bc_word.specs.Addresses.{offset_of};
+    ghost use Rattle.bc_superpages.specs.Layout.{Layout};
+    ghost use Rattle.bc_superpages.specs.Kept.{IsLayout};
+    ghost use Rattle.bc_pins.specs.Contents.{IsField, NamesFixed, IsContent};
+
+    /// The page's number.
+    pub fn page(&self) -> u32
+        ensures page { result ≡ self.now.page }
+    {
+        self.page
+    }
+
+    /// Is the page named by a write buffer?
+    pub fn remembered(&self) -> bool
+        ensures remembered { result ≡ self.now.remembered }
+    {
+        self.remembered
+    }
+
+    /// A word of the page, by its place there.
+    pub fn word(&self, offset: u32) -> u64
+        requires { offset < 512 }
+        ensures word { result ≡ slice_index self.now.homed.page offset }
+        ensures long { length self.now.homed.page ≡ 512 }
+    {
+        self.homed.page.get(offset)
+    }
+
+    /// Writes a word of the page. Where it is a field of an allocated cell, and the new word is packed and names an
+    /// allocated cell or a nursery address, the page's content keeps what is fixed in a turn.
+    pub fn set(&mut self, offset: u32, bits: u64)
+        requires { offset < 512 }
+        ensures written { self.new
+            ≡ record self.old {
+              homed = record self.old.homed { page = slice_set self.old.homed.page offset bits };
+            } }
+        ensures fixed { (s : Layout) → (cell index : ℕ) → IsLayout s → IsContent s self.old.page self.old.homed.page
+            → IsField s self.old.page cell index → offset ≡ offset_of cell + 1 + index
+            → IsPacked bits → NamesFixed s (word_of_bits bits)
+            → IsContent s self.old.page self.new.homed.page }
+    {
+        self.homed.page.set(offset, bits);
+    }
+
+    /// Makes the page one that a write buffer names.
+    pub fn remember(&mut self)
+        ensures remembered { self.new ≡ record self.old { remembered = true } }
+    {
+        self.remembered = true;
+    }
+}

@@ -1,0 +1,60 @@
+//! What a table is told once, when it is made.
+
+use bc_frames::{Frame, FramePool};
+use bc_superpages::Space;
+use std::marker::Model;
+use std::snapshot::Snapshot;
+
+/// Who works in a turn.
+#[derive(Clone, Copy, PartialEq, Eq, Debug)]
+pub enum Turn {
+    /// Lanes, which change their own pages.
+    Lanes,
+    /// Markers, which change no page.
+    Mark,
+}
+
+/// What the holder of a seat may do.
+#[derive(Clone, Copy, PartialEq, Eq, Debug)]
+pub enum Role {
+    /// This lane: it changes pages of the domains that it holds.
+    Lane(u32),
+    /// A marker of a mark turn.
+    Marker(u32),
+    /// A pager: it takes pages to give them up.
+    Pager(u32),
+}
+
+/// What a table is told: its size, the turn, the space at the opening, who holds what. Contracts see it as a key.
+#[derive(Drop)]
+pub struct About {
+    /// How many superpages the table has: those up to the last that has a page which isn't Absent.
+    pub superpages: usize,
+    /// All frames of the heap.
+    pub frames: usize,
+    pub pool: Snapshot<FramePool>,
+    pub turn: Turn,
+    pub opening: Snapshot<Space>,
+    /// By domain, the lane that holds it.
+    pub holders: Snapshot<Vec<u32>>,
+    pub roles: Snapshot<Vec<Role>>,
+    pub nursery: Snapshot<Vec<Frame>>,
+}
+
+impl Model for About {
+    ghost use Rattle.std.specs.Prelude.{map};
+    ghost use Rattle.bc_pins.specs.Key.{Key, is_lanes, lane_role, role_number};
+
+    ghost Value = { Key };
+
+    ghost view = { λ a. record {
+      supers = a.superpages;
+      frames = a.frames;
+      pool = a.pool.value;
+      lanes = is_lanes a.turn;
+      opening = a.opening.value;
+      owners = map lane_role a.holders.value.items;
+      roles = map role_number a.roles.value.items;
+      nursery = a.nursery.value.items;
+    } };
+}

@@ -1,0 +1,118 @@
+//! Boxes that move from a space's lists into the slots of a table, and back.
+
+ghost use Rattle.std.specs.Prelude.{◌≡◌, ℕ, ◌+◌, ◌^◌, ◌<◌, ◌≤◌, [], Option, Some, None, length, slice_index_or, slice_set, vec_capacity};
+ghost use Rattle.bc_frames.specs.Places.{place_at};
+ghost use Rattle.bc_pins.specs.declared.views.Lodged.TheVariants.{Nothing};
+ghost use Rattle.bc_pins.specs.Lodging.{Replaced, Lodges, LiesOnce, home_of, away_of, box_of, place_of};
+
+use crate::views::Lodged;
+use bc_frames::Store;
+use bc_superpages::Homed;
+use std::mem;
+
+/// What a box becomes in a frame slot.
+fn lodge(home: Option<Homed>) -> Lodged
+    ensures lodged { result ≡ home_of home }
+{
+    match home {
+        Some(homed) => Lodged::Home(homed),
+        None => Lodged::Nothing,
+    }
+}
+
+/// The box that lies in a frame slot.
+fn unlodge(slot: Lodged) -> Option<Homed>
+    ensures home { result ≡ box_of slot }
+{
+    match slot {
+        Lodged::Home(homed) => Some(homed),
+        _ => None,
+    }
+}
+
+/// What lies in the store slot of a page whose frame slot is this: the box, lifted out of the store, where it isn't home.
+fn lift(store: &mut Store, page: usize, frame: &Lodged) -> Lodged
+    requires page { page < length store.old.places }
+    requires few { page < 2 ^ 32 }
+    requires once { LiesOnce frame.now (place_at store.old page) }
+    ensures away { result ≡ away_of (place_at store.old page) }
+    ensures store { store.new ≡ record store.old { places = slice_set store.old.places page None } }
+{
+    match frame {
+        Lodged::Home(_) => Lodged::Nothing,
+        _ => Lodged::Away(store.lift(page as u32)),
+    }
+}
+
+/// Moves the boxes of so many pages into slots, one for each page.
+pub(crate) fn lodge_boxes(boxes: &mut Vec<Option<Homed>>, pages: usize, slots: &mut Vec<Lodged>)
+    requires pages { pages ≤ length boxes.old.items }
+    requires room { pages ≤ vec_capacity slots.old }
+    requires none { slots.old.items ≡ [] }
+    ensures boxes { Replaced None boxes.old.items boxes.new.items pages (λ p. None) }
+    ensures slots { Lodges slots.old.items slots.new.items pages (λ p. home_of (slice_index_or boxes.old.items p None)) }
+    ensures room { vec_capacity slots.new ≡ vec_capacity slots.old }
+{
+    for page in 0..pages {
+        slots.push_reserved(lodge(boxes[page].take()));
+    }
+}
+
+/// Moves the boxes of so many pages that aren't home into slots, one more for each page.
+pub(crate) fn lodge_places(store: &mut Store, pages: usize, slots: &mut Vec<Lodged>)
+    requires pages { pages ≤ length store.old.places }
+    requires few { pages < 2 ^ 32 }
+    requires frames { length slots.old.items ≡ pages }
+    requires room { pages + pages ≤ vec_capacity slots.old }
+    requires once { (p : ℕ) → p < pages → LiesOnce (slice_index_or slots.old.items p Nothing) (slice_index_or store.old.places p None) }
+    ensures store { store.new ≡ record store.old { places = store.new.places } }
+    ensures places { Replaced None store.old.places store.new.places pages (λ p. None) }
+    ensures slots { Lodges slots.old.items slots.new.items pages (λ p. away_of (slice_index_or store.old.places p None)) }
+    ensures room { vec_capacity slots.new ≡ vec_capacity slots.old }
+{
+    for page in 0..pages {
+        let away = lift(store, page, &slots[page]);
+        slots.push_reserved(away);
+    }
+}
+
+/// Puts the box of a page back, out of its two slots.
+pub(crate) fn put_back(
+    boxes: &mut Vec<Option<Homed>>,
+    store: &mut Store,
+    page: usize,
+    frame: Lodged,
+    away: Lodged,
+)
+    requires page { (page < length boxes.old.items) × (page < length store.old.places) × (page < 2 ^ 32) }
+    requires empty { place_at store.old page ≡ None }
+    ensures boxes { boxes.new.items ≡ slice_set boxes.old.items page (box_of frame) }
+    ensures store { store.new ≡ record store.old { places = slice_set store.old.places page (place_of away) } }
+{
+    boxes[page] = unlodge(frame);
+    match away {
+        Lodged::Away(shut) => store.lower(page as u32, shut),
+        _ => {}
+    }
+}
+
+/// Puts all boxes back, where no table could be made.
+pub(crate) fn put_all_back(
+    boxes: &mut Vec<Option<Homed>>,
+    store: &mut Store,
+    pages: usize,
+    mut slots: Vec<Lodged>,
+)
+    requires pages { (pages ≤ length boxes.old.items) × (pages ≤ length store.old.places) × (pages < 2 ^ 32) }
+    requires slots { length slots.items ≡ pages + pages }
+    requires empty { (p : ℕ) → p < pages → place_at store.old p ≡ None }
+    ensures boxes { Replaced None boxes.old.items boxes.new.items pages (λ p. box_of (slice_index_or slots.items p Nothing)) }
+    ensures store { store.new ≡ record store.old { places = store.new.places } }
+    ensures places { Replaced None store.old.places store.new.places pages (λ p. place_of (slice_index_or slots.items (pages + p) Nothing)) }
+{
+    for page in 0..pages {
+        let frame = mem::replace(&mut slots[page], Lodged::Nothing);
+        let away = mem::replace(&mut slots[pages + page], Lodged::Nothing);
+        put_back(boxes, store, page, frame, away);
+    }
+}

@@ -1,0 +1,142 @@
+//! Opening a table.
+
+ghost use Rattle.std.specs.Prelude.{◌≡◌, ℕ, ◌+◌, ◌*◌, ◌^◌, ◌<◌, ◌≤◌, [], length, map, slice_index_or, vec_capacity, IfOk, IfErr};
+ghost use Rattle.bc_superpages.specs.declared.headers.PageState.TheVariants.{Absent};
+ghost use Rattle.bc_superpages.specs.LayoutAt.{state_at};
+ghost use Rattle.bc_superpages.specs.Parts.{AreParts, parts_layout, state_in};
+ghost use Rattle.bc_pins.specs.Key.{Key, pages_of, table_words, is_lanes, lane_role, role_number};
+ghost use Rattle.bc_pins.specs.Totals.{times};
+ghost use Rattle.bc_pins.specs.Opening.{IsReady, key_for};
+ghost use Rattle.bc_pins.specs.Opened.{IsDrawn, Opened};
+
+use crate::filling::{fill_words, word_count};
+use crate::key::{About, Role, Turn};
+use crate::pins::{Pins, Seat};
+use crate::rest::{Rest, lodge_all, restore};
+use crate::room::{Room, deal_all, take_room};
+use atomic_table::{Refused, Table};
+use bc_superpages::{Space, SpaceParts};
+use std::alloc::{AllocError, Global};
+use std::snapshot::Snapshot;
+
+/// What a table is told.
+fn about_of(
+    parts: &SpaceParts,
+    superpages: usize,
+    turn: Turn,
+    opening: Snapshot<Space>,
+    holders: &Vec<u32>,
+    roles: &Vec<Role>,
+) -> About
+    ensures key { result ≡ key_for superpages turn opening.value parts.now.pool parts.now.nursery.items holders.now.items roles.now.items }
+{
+    About {
+        superpages,
+        frames: parts.pool.frames() as usize,
+        pool: Snapshot::of(&parts.pool),
+        turn,
+        opening,
+        holders: Snapshot::of(holders),
+        roles: Snapshot::of(roles),
+        nursery: Snapshot::of(&parts.nursery),
+    }
+}
+
+impl Pins {
+    /// Opens a table over a space: each page up to the last that isn't Absent has its word and its slots, and each role its
+    /// seat, in their order. It takes all its memory first, and where there is none it gives the space back.
+    pub fn open(
+        alloc: Global,
+        space: Space,
+        turn: Turn,
+        holders: &[u32],
+        roles: &[Role],
+    ) -> Result<(Pins, Vec<Seat>), (Space, AllocError)>
+        requires ready { IsReady space }
+        requires some { 0 < length roles.now }
+        requires apart { (r : ℕ) → times r (map role_number roles.now) ≤ 1 }
+        ensures opened { IfOk result (λ r. Opened space turn holders.now roles.now r.0 r.1.items) }
+        ensures refused { IfErr result (λ e. e.0 ≡ space) }
+    {
+        let opening = Snapshot::of(&space);
+        let parts = space.open_up();
+        let superpages = ((parts.end + 3) / 4) as usize;
+        let words = word_count(superpages, parts.pool.frames() as usize, turn);
+        let Ok(room) = take_room(alloc, words, 8 * superpages, holders, roles) else {
+            return Err((Space::close_up(parts), AllocError));
+        };
+        let Ok(seats) = Vec::with_capacity(alloc, roles.len()) else {
+            return Err((Space::close_up(parts), AllocError));
+        };
+        let about = about_of(
+            &parts,
+            superpages,
+            turn,
+            opening,
+            &room.holders,
+            &room.roles,
+        );
+        Pins::draw(alloc, parts, superpages, turn, about, room, seats)
+    }
+
+    /// Fills words and slots, and makes the table.
+    fn draw(
+        alloc: Global,
+        mut parts: SpaceParts,
+        superpages: usize,
+        turn: Turn,
+        about: About,
+        room: Room,
+        mut seats: Vec<Seat>,
+    ) -> Result<(Pins, Vec<Seat>), (Space, AllocError)>
+        requires drawn { IsDrawn parts superpages turn room.holders.items room.roles.items about }
+        requires words { (room.words.items ≡ []) × (table_words superpages (length parts.pool) turn ≤ vec_capacity room.words) }
+        requires slots { (room.slots.items ≡ []) × (8 * superpages ≤ vec_capacity room.slots) }
+        requires spare { (room.spare.items ≡ []) × (8 * superpages ≤ vec_capacity room.spare) }
+        requires seats { (seats.items ≡ []) × (length room.roles.items ≤ vec_capacity seats) }
+        ensures opened { IfOk result (λ r. Opened about.opening turn room.holders.items room.roles.items r.0 r.1.items) }
+        ensures refused { IfErr result (λ e. e.0 ≡ about.opening) }
+    {
+        let Room {
+            mut words,
+            mut slots,
+            spare,
+            holders: _,
+            roles,
+        } = room;
+        let whole = Snapshot::of(&parts);
+        let pages = 4 * superpages;
+        let frames = parts.pool.frames() as usize;
+        fill_words(
+            &mut words,
+            parts.headers.as_slice(),
+            superpages,
+            frames,
+            turn,
+        );
+        lodge_all(&mut parts, pages, &mut slots);
+        match Table::new(alloc, words.as_slice(), slots, &about) {
+            Ok((table, root)) => {
+                deal_all(&table.shared, root, roles.as_slice(), &mut seats);
+                let pins = Pins {
+                    table,
+                    rest: Rest {
+                        parts,
+                        whole,
+                        pages,
+                    },
+                    superpages,
+                    turn,
+                    frame_words: ((frames + 63) / 64) as u32,
+                    spare,
+                };
+                Ok((pins, seats))
+            }
+            Err(Refused { slots }) => {
+                restore(&mut parts, &whole, pages, slots);
+                seats.destroy_empty();
+                Err((Space::close_up(parts), AllocError))
+            }
+        }
+    }
+}

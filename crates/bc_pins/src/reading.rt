@@ -1,0 +1,43 @@
+//! What everybody may read of a table.
+
+ghost use Rattle.std.specs.Prelude.{◌≡◌, ℕ, ◌*◌, ◌<◌, slice_index};
+ghost use Rattle.bc_superpages.specs.Layout.{superpages, set_of};
+ghost use Rattle.bc_pins.specs.Key.{pages_of, frame_words, is_lanes};
+ghost use Rattle.bc_pins.specs.Calls.{key_of};
+
+use crate::key::Turn;
+use crate::pins::Pins;
+use bc_superpages::Header;
+
+impl Pins {
+    /// The header of a superpage as it was at the opening. Its domain, class and cells don't change in a turn.
+    pub fn header(&self, superpage: u32) -> &Header
+        requires { superpage < superpages (key_of self.now).opening }
+        ensures domain { result.now.domain ≡ slice_index (key_of self.now).opening.domains superpage }
+        ensures class { result.now.class ≡ slice_index (key_of self.now).opening.classes superpage }
+        ensures cells { result.now.cells ≡ set_of (key_of self.now).opening.cells superpage }
+    {
+        &self.rest.parts.headers[superpage as usize]
+    }
+
+    /// How many pages the table has: four for each superpage up to the last that had a page which wasn't Absent.
+    pub fn pages(&self) -> u32
+        ensures pages { result ≡ pages_of (key_of self.now) }
+    {
+        4 * self.superpages as u32
+    }
+
+    /// How many words the frames have.
+    pub fn frame_words(&self) -> u32
+        ensures words { result ≡ frame_words (key_of self.now) }
+    {
+        self.frame_words
+    }
+
+    /// The turn for which the table was opened.
+    pub fn turn(&self) -> Turn
+        ensures turn { is_lanes result ≡ (key_of self.now).lanes }
+    {
+        self.turn
+    }
+}

@@ -1,0 +1,65 @@
+//! What lies in the slots of a table, and what a seat knows. Views are for the proofs alone: no value of one is made.
+
+use crate::key::About;
+use bc_frames::{Page, Shut};
+use bc_superpages::Homed;
+use std::collections::LinkedList;
+
+/// What lies in a slot. Each page has a frame slot and a store slot, and its box lies in one of them or in a worker's hands.
+#[derive(Drop)]
+pub enum Lodged {
+    /// The box is elsewhere.
+    Nothing,
+    /// In a frame slot: the box, and the right to its frame.
+    Home(Homed),
+    /// In a store slot: the box, shut.
+    Away(Shut),
+}
+
+/// The page that a seat has in hand.
+pub struct Hand {
+    pub page: u32,
+    pub remembered: bool,
+    pub frame: u32,
+    /// The content that was taken.
+    pub content: Page,
+    /// The superpages that are counted for the page.
+    pub counted: LinkedList<u32>,
+    /// The mark words of the page that were read in this holding, with what was read.
+    pub looked: LinkedList<(u32, u64)>,
+}
+
+/// What a seat has done and read.
+pub struct View {
+    /// A seat that was joined away isn't.
+    pub alive: bool,
+    pub about: About,
+    /// The numbers of the roles that the seat has.
+    pub roles: LinkedList<u64>,
+    pub hand: Option<Hand>,
+    /// A lane's own pages that it put back, the last first, each with the content.
+    pub changed: LinkedList<(u32, Page)>,
+    /// Pages that it put back as Remembered, made Gone, made Absent, and took from Gone.
+    pub recorded: LinkedList<u32>,
+    pub left: LinkedList<u32>,
+    pub emptied: LinkedList<u32>,
+    pub fetched: LinkedList<u32>,
+    /// Pages that it read as Remembered, and own pages that it read as Gone and hasn't taken since.
+    pub seen: LinkedList<u32>,
+    pub gone: LinkedList<u32>,
+    /// The words that it read, the last first: which word, and what it read.
+    pub read: LinkedList<(u64, u64)>,
+    /// The bookmark bits that it set: for which page, in which word, and which bits.
+    pub bookmarked: LinkedList<(u32, u32, u64)>,
+    /// Rights to frames.
+    pub rights: LinkedList<u32>,
+    /// In mark words: bits that are known to be set, and those that it set first. In finished words: bits that it set.
+    pub known: LinkedList<(u32, u64)>,
+    pub won: LinkedList<(u32, u64)>,
+    pub finished: LinkedList<(u32, u64)>,
+    /// Pages that it owes a queue bit, since it won a mark there, and since it cleared theirs.
+    pub owed: LinkedList<u32>,
+    pub dequeued: LinkedList<u32>,
+    /// The numbers of the notices that it claimed.
+    pub notices: LinkedList<u64>,
+}
