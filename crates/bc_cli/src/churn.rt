@@ -20,7 +20,7 @@ use crate::status::Status;
 use bc_engine::Engine;
 use bc_io::{Sink, write_all};
 use bc_model::Trace;
-use bc_pins::Gate;
+use bc_gates::Gate;
 use bc_trace::{Counts, churn_text, generate};
 use std::alloc::{AllocError, Global};
 use std::thread::Threads;

@@ -36,7 +36,7 @@ mod texts;
 mod top;
 
 use bc_io::{StdSink, StdSource};
-pub use bc_pins::{Gate, OpenGate};
+pub use bc_gates::{Gate, OpenGate};
 pub use laws::law_output;
 pub use outcome::Outcome;
 pub use status::{Fault, Status};

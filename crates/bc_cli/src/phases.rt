@@ -17,7 +17,7 @@ use crate::texts::{texts_of, write_texts};
 use bc_engine::{Engine, PhaseNo};
 use bc_io::Sink;
 use bc_model::{Phase, Replies, Trace};
-use bc_pins::Gate;
+use bc_gates::Gate;
 use std::alloc::{AllocError, Global};
 use std::thread::Threads;
 

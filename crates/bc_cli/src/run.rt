@@ -14,7 +14,7 @@ use crate::status::{Ending, Status};
 use bc_engine::Engine;
 use bc_io::{Sink, write_all};
 use bc_model::Trace;
-use bc_pins::Gate;
+use bc_gates::Gate;
 use std::alloc::Global;
 use std::thread::Threads;
 

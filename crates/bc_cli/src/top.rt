@@ -21,7 +21,7 @@ use crate::outcome::Outcome;
 use crate::run::run_trace;
 use crate::status::Status;
 use bc_io::{Sink, Source};
-use bc_pins::Gate;
+use bc_gates::Gate;
 use bc_words::{Command, command_of};
 use std::alloc::Global;
 use std::thread::Threads;

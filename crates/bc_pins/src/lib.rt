@@ -22,12 +22,11 @@
 //
 // Where things are: `pins` the table and a seat, `key` what a table is told, `views` slots and views, `rule` the rule and what
 // steps tell, `taking` the calls on pages, `holding` a page in hand, `reading` what everybody may read; `opening` with `room`,
-// `filling`, `lodging` and `rest`; `closing` with `gathering`; `gate` places where a test may look on.
+// `filling`, `lodging` and `rest`; `closing` with `gathering`. Gates, where a test may look on, are passed on from `bc_gates`.
 #![tactic(auto)]
 
 mod closing;
 mod filling;
-mod gate;
 mod gathering;
 mod holding;
 mod key;
@@ -41,7 +40,7 @@ mod rule;
 mod taking;
 mod views;
 
-pub use gate::{Gate, OpenGate};
+pub use bc_gates::{Gate, OpenGate};
 pub use holding::Held;
 pub use key::{About, Role, Turn};
 pub use pins::{Pins, Seat};

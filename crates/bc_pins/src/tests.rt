@@ -1,18 +1,8 @@
-//! Tests of tables and gates.
+//! Tests of tables.
 
 use super::*;
 use bc_superpages::Space;
 use std::test::Fail;
-
-fn passes<G: Gate>(gate: &G) {
-    gate.at(0, 1);
-    gate.at(200, 5);
-}
-
-#[test]
-fn an_open_gate_lets_everyone_pass() {
-    passes(&OpenGate);
-}
 
 #[test]
 fn a_table_of_the_largest_heap_opens_and_closes(rt: HostRuntime) -> Result<(), Fail> {

@@ -1,0 +1,31 @@
+// Gates: places inside the threads of a turn where a test may look on or hold a thread up.
+//
+// A worker (a lane, a marker or a pager) passes its gate at the points that docs/ARCHITECTURE.md
+// lists. A gate gets the worker's number and the point's, and returns: no contract sees what it
+// does, so nothing that is proved depends on one. The program runs with `OpenGate`, whose call
+// does nothing. Tests bring gates of their own, which count the passes or keep one thread at a
+// point until another has passed elsewhere.
+//
+// They stand below the table of a turn (`bc_pins`, which passes them on), since collector, engine and
+// program hand a gate down and need nothing else of a turn. No gate point is passed before the lanes
+// run as threads.
+#![tactic(auto)]
+
+/// A place where a test may look on. A call returns and changes nothing that a clause sees.
+pub trait Gate {
+    /// Worker `who` passes point `point`.
+    ///
+    /// `who` is j for lane j, 100 + m for marker m, and 200 + q for pager q, each counted from 0.
+    fn at(&self, who: u32, point: u32);
+}
+
+/// The gate of the program: it lets everyone pass.
+#[derive(Clone, Copy, Debug, PartialEq, Eq)]
+pub struct OpenGate;
+
+impl Gate for OpenGate {
+    fn at(&self, _who: u32, _point: u32) {}
+}
+
+#[cfg(test)]
+mod tests;
