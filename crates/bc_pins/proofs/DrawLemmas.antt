@@ -16,7 +16,7 @@ use Rattle.bc_pins.specs.Rule.{Rule}
 use Rattle.bc_pins.specs.Filling.{IsSized, IsFilled}
 use Rattle.bc_pins.specs.Opening.{opened, AreLodged}
 use Rattle.bc_pins.specs.Seating.{AreDealt}
-use Rattle.bc_pins.specs.Opened.{IsDrawn, Opened}
+use Rattle.bc_pins.specs.Opened.{IsKeyOf, Opened}
 use Rattle.bc_pins.proofs.TotalLemmas.{one_other}
 use Rattle.bc_pins.proofs.OpenLemmas.{starts}
 use Rattle.bc_pins.proofs.MayOpenLemmas.{may_open}
@@ -34,7 +34,7 @@ nobody_has (r ∷ rs) =
     let c = one_other (role_number r) 0 (λ e. omega arith) in
     omega arith
 
-module _ (k : Key) (parts : SpaceParts) (supers : ℕ) (turn : Turn) (holders : List ℕ) (roles : List Role) (drawn : IsDrawn parts supers turn holders roles k) where
+module _ (k : Key) (parts : SpaceParts) (supers : ℕ) (turn : Turn) (holders : List ℕ) (roles : List Role) (drawn : IsKeyOf parts supers turn holders roles k) where
   supers_is : k.supers ≡ supers
   supers_is = ap (λ (a : Key). a.supers) drawn.key
 

@@ -17,7 +17,7 @@ use Rattle.bc_pins.specs.Key.{Key, pages_of, owner}
 use Rattle.bc_pins.specs.Totals.{total, times}
 use Rattle.bc_pins.specs.Contents.{IsContent, RefersYoung}
 use Rattle.bc_pins.specs.Views.{grips, grips_remembered, frame_in_hand, has_role, entries, look_up, opened_content}
-use Rattle.bc_pins.specs.Facts.{Table, word, slot, IsHomed, Lies, Records, frame_lodged}
+use Rattle.bc_pins.specs.Facts.{Table, word, slot, IsHomed, Lies, RecordsContent, frame_lodged}
 use Rattle.bc_pins.specs.Tidy.{IsTidy}
 use Rattle.bc_pins.specs.Rule.{Rule}
 use Rattle.bc_pins.specs.Steps.{Mine, owns, both_slots, released, Gave}
@@ -156,7 +156,7 @@ module _ (k : Key) (s : Table) (r : Rule k s) (id x role : ℕ) (v : View) (g : 
       let c : has_role v (owner k p) ≡ 0 = subst (λ (n : ℕ). has_role v (owner k n) ≡ 0) e none_has in
       omega arith
 
-  records_kept : Records k rec' w
+  records_kept : RecordsContent k rec' w
   records_kept =
       let facts = (r.seats id v at).records in
       record {

@@ -11,9 +11,9 @@ use Rattle.bc_superpages.specs.Kept.{IsLayout}
 use Rattle.bc_superpages.specs.Calls.{fields_at}
 use Rattle.bc_superpages.proofs.HandLemmas.{allocated-few}
 use Rattle.bc_superpages.proofs.FieldLemmas.{words-apart, field-room}
-use Rattle.bc_pins.specs.Contents.{IsField, NamesFixed, IsContent}
+use Rattle.bc_pins.specs.Contents.{IsFieldOn, NamesFixed, IsContent}
 
-module _ (s : Layout) (p : ℕ) (c : List ℕ) (cell index o bits : ℕ) (l : IsLayout s) (old : IsContent s p c) (at : IsField s p cell index) (is : o ≡ offset_of cell + 1 + index) (packed : IsPacked bits) (names : NamesFixed s (word_of_bits bits)) where
+module _ (s : Layout) (p : ℕ) (c : List ℕ) (cell index o bits : ℕ) (l : IsLayout s) (old : IsContent s p c) (at : IsFieldOn s p cell index) (is : o ≡ offset_of cell + 1 + index) (packed : IsPacked bits) (names : NamesFixed s (word_of_bits bits)) where
   room : o < length c
   room = let a = field-room s cell index l at.allocated at.within in let b = old.long in omega arith
 

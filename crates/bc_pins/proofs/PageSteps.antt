@@ -12,9 +12,9 @@ use Rattle.bc_pins.specs.declared.views.Hand.{Hand}
 use Rattle.bc_pins.specs.declared.views.View.{View}
 use Rattle.bc_pins.specs.Key.{Key, pages_of, owner, counter_at, bookmark_at, mark_at, finished_at}
 use Rattle.bc_pins.specs.Totals.{total, times}
-use Rattle.bc_pins.specs.Contents.{IsContent, RefersYoung, IsBare}
+use Rattle.bc_pins.specs.Contents.{IsContent, RefersYoung, IsBarePage}
 use Rattle.bc_pins.specs.Views.{grips, grips_remembered, frame_in_hand, has_role, opened_content}
-use Rattle.bc_pins.specs.Facts.{Table, word, Lies, Place, remembered_now, Content, Standing, Records, Saw, Seated, Roles, frame_lodged, Frames, Still}
+use Rattle.bc_pins.specs.Facts.{Table, word, Lies, Place, remembered_now, Content, Standing, RecordsContent, Saw, Seated, Roles, frame_lodged, Frames, Still}
 use Rattle.bc_pins.specs.Rule.{SeatFacts, Rule}
 use Rattle.bc_pins.proofs.TotalLemmas.{total_set, total_at, total_two, one_few}
 
@@ -39,7 +39,7 @@ pub record PageStep (k : Key) (s : Table) (rec rec' : ℕ → List ℕ) (p x : �
   pub hands : grips p v.hand ≡ 0 → rec' p ≡ rec p
   pub fixed : IsContent k.opening p (rec' p)
   pub young : RefersYoung k.opening p (rec' p) → RefersYoung k.opening p (rec p) ⊎ (0 < one_if (x == 2) + grips_remembered p w.hand)
-  pub bare : x ≡ 0 → IsBare k.opening p
+  pub bare : x ≡ 0 → IsBarePage k.opening p
   -- remembered
   pub not_fewer : one_if (word s p == 2) + grips_remembered p v.hand ≤ one_if (x == 2) + grips_remembered p w.hand
   pub else_remembered : (q : ℕ) → q ≢ p → grips_remembered q w.hand ≡ grips_remembered q v.hand
@@ -57,7 +57,7 @@ pub record PageStep (k : Key) (s : Table) (rec rec' : ℕ → List ℕ) (p x : �
   -- the seat
   pub roles : w.roles ≡ v.roles
   pub seated : Seated k w
-  pub records : Records k rec' w
+  pub records : RecordsContent k rec' w
   pub saw : Saw k (after s p x homes id w) w
 
 module _ (k : Key) (s : Table) (r : Rule k s) (rec' : ℕ → List ℕ) (p x : ℕ) (homes : List (maybe.Option Lodged)) (id : ℕ) (v w : View) (at : get_elem? s.views id ≡ some v) (d : PageStep k s r.rec rec' p x homes id v w) where

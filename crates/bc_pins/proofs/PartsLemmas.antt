@@ -24,7 +24,7 @@ use Rattle.bc_superpages.proofs.MemoryLemmas.{memory_of-cell}
 use Rattle.bc_superpages.proofs.FieldLemmas.{field-word, field-packed}
 use Rattle.bc_pins.specs.declared.views.Lodged.{Lodged}
 use Rattle.bc_pins.specs.declared.views.Lodged.TheVariants.{Nothing}
-use Rattle.bc_pins.specs.Contents.{field_bits, IsField, NamesFixed, IsContent}
+use Rattle.bc_pins.specs.Contents.{field_bits, IsFieldOn, NamesFixed, IsContent}
 use Rattle.bc_pins.specs.Views.{state_word}
 use Rattle.bc_pins.specs.Facts.{Slot, Lies}
 use Rattle.bc_pins.specs.Lodging.{home_of, away_of}
@@ -60,7 +60,7 @@ content_fixed s p l ready lt = record {
       names_fixed s (word_of_bits (field_bits (content_at s.pages p) a i)) ready.promised (subst (CanName s) same can);
 }
   where
-    here : (a i : ℕ) (f : IsField s p a i) → word_at s.pages (a + 1 + i) ≡ field_bits (content_at s.pages p) a i
+    here : (a i : ℕ) (f : IsFieldOn s p a i) → word_at s.pages (a + 1 + i) ≡ field_bits (content_at s.pages p) a i
     here a i f = field-word s a i l f.allocated f.within ∙ ap (λ (q : ℕ). slice_index (content_at s.pages q) (offset_of a + 1 + i)) f.on
 
 -- a page's box lies in its slots as its word tells

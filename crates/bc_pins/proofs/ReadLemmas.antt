@@ -15,7 +15,7 @@ use Rattle.bc_pins.specs.Totals.{times}
 use Rattle.bc_pins.specs.Views.{grips, grips_remembered, has_role}
 use Rattle.bc_pins.specs.Facts.{Table, word, Lies, remembered_now, Saw}
 use Rattle.bc_pins.specs.Rule.{Rule}
-use Rattle.bc_pins.specs.Steps.{Mine, owns, having_read, Reads, Looked}
+use Rattle.bc_pins.specs.Steps.{Mine, owns, having_read, ReadsWord, Looked}
 use Rattle.bc_pins.proofs.TotalLemmas.{total_set, one_other, one_is, total_less}
 use Rattle.bc_pins.proofs.PageSteps.{after, page_step}
 
@@ -92,7 +92,7 @@ remembered_word k s r p near ne lt =
     one_is (word s p) 2 (omega arith)
 
 -- what a word tells
-pub reads : (k : Key) (s : Table) (r : Rule k s) (p id : ℕ) (v : View) → p < pages_of k → get_elem? s.views id ≡ some v → Reads v p (word s p)
+pub reads : (k : Key) (s : Table) (r : Rule k s) (p id : ℕ) (v : View) → p < pages_of k → get_elem? s.views id ≡ some v → ReadsWord v p (word s p)
 reads k s r p id v near at =
     let facts = (r.seats id v at).saw in
     let place = r.place p near in

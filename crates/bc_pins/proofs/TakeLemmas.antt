@@ -18,7 +18,7 @@ use Rattle.bc_pins.specs.Key.{Key, pages_of, owner}
 use Rattle.bc_pins.specs.Totals.{total, times}
 use Rattle.bc_pins.specs.Contents.{IsContent, RefersYoung}
 use Rattle.bc_pins.specs.Views.{grips, grips_remembered, frame_in_hand, has_role, opened_word}
-use Rattle.bc_pins.specs.Facts.{Table, word, slot, IsHomed, Lies, remembered_now, Records, Seated, frame_lodged}
+use Rattle.bc_pins.specs.Facts.{Table, word, slot, IsHomed, Lies, remembered_now, RecordsContent, Seated, frame_lodged}
 use Rattle.bc_pins.specs.Rule.{Rule}
 use Rattle.bc_pins.specs.Steps.{Mine, both_slots, gripping, having_read, Takes, Took}
 use Rattle.bc_pins.proofs.TotalLemmas.{total_set, total_at, one_same, one_other}
@@ -98,7 +98,7 @@ module _ (k : Key) (s : Table) (r : Rule k s) (p id old role : ℕ) (v : View) (
       let b : frame_in_hand f v.hand ≡ 0 = ap (frame_in_hand f) nothing in
       omega arith
 
-  records_kept : Records k r.rec w
+  records_kept : RecordsContent k r.rec w
   records_kept =
       let old_facts = (r.seats id v at).records in
       record {

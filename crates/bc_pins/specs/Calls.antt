@@ -52,7 +52,7 @@ pub record IsFree (seat : Seat) : Type 0 where
   pub slots : slots_of seat ≡ []
 
 -- the seat has this page in hand: as it was taken, but for what its holder wrote and remembered
-pub record Holds (seat : Seat) (held : Held) : Type 0 where
+pub record HoldsPage (seat : Seat) (held : Held) : Type 0 where
   pub hand : Hand
   pub has : (view_of seat).hand ≡ Some hand
   pub page : hand.page ≡ held.page
@@ -88,7 +88,7 @@ refusal_word Gone = 4
 
 -- the refusal is what the last step on the page's word read; Remembered comes with Victim alone, and what was read as
 -- Remembered before is Busy then
-pub record IsRefused (v : View) (page : ℕ) (want : Want) (no : TakeNo) (w : View) : Type 0 where
+pub record IsTakeRefused (v : View) (page : ℕ) (want : Want) (no : TakeNo) (w : View) : Type 0 where
   pub read : (w ≡ having_read v page (refusal_word no)) ⊎ ((want ≡ Work) × (w ≡ having_read (having_read v page 2) page (refusal_word no)))
   pub victim : no ≡ Remembered → want ≡ Victim
   pub seen : 0 < times page v.seen → (no ≡ Busy) ⊎ (no ≡ Remembered)

@@ -14,7 +14,7 @@ abbrev pub field_bits : List ℕ → ℕ → ℕ → ℕ
 field_bits c cell index = slice_index c (offset_of cell + 1 + index)
 
 -- an allocated cell of the page, and one of its fields
-pub record IsField (s : Layout) (page cell index : ℕ) : Type 0 where
+pub record IsFieldOn (s : Layout) (page cell index : ℕ) : Type 0 where
   pub allocated : IsAllocated s cell
   pub on : page_of cell ≡ page
   pub within : index < fields_at s cell
@@ -36,16 +36,16 @@ IsYoung s (Ref a) = 2048 * superpages s ≤ a.0
 pub record IsContent (s : Layout) (page : ℕ) (c : List ℕ) : Type 0 where
   pub long : length c ≡ 512
   pub heads : (a : ℕ) → IsAllocated s a → page_of a ≡ page → slice_index c (offset_of a) ≡ word_at s.pages a
-  pub packed : (a i : ℕ) → IsField s page a i → IsPacked (field_bits c a i)
-  pub names : (a i : ℕ) → IsField s page a i → NamesFixed s (word_of_bits (field_bits c a i))
+  pub packed : (a i : ℕ) → IsFieldOn s page a i → IsPacked (field_bits c a i)
+  pub names : (a i : ℕ) → IsFieldOn s page a i → NamesFixed s (word_of_bits (field_bits c a i))
 
 -- a field on the page refers to a nursery
 pub record RefersYoung (s : Layout) (page : ℕ) (c : List ℕ) : Type 0 where
   pub cell : ℕ
   pub index : ℕ
-  pub is : IsField s page cell index
+  pub is : IsFieldOn s page cell index
   pub young : IsYoung s (word_of_bits (field_bits c cell index))
 
 -- no allocated cell lies on the page
-abbrev pub IsBare : Layout → ℕ → Type 0
-IsBare s page = (a : ℕ) → IsAllocated s a → page_of a ≡ page → ⊥
+abbrev pub IsBarePage : Layout → ℕ → Type 0
+IsBarePage s page = (a : ℕ) → IsAllocated s a → page_of a ≡ page → ⊥

@@ -16,7 +16,7 @@ use Rattle.bc_pins.specs.declared.views.Hand.{Hand}
 use Rattle.bc_pins.specs.declared.views.View.{View}
 use Rattle.bc_pins.specs.Key.{Key, pages_of, owner, counter_at, bookmark_at, mark_at, finished_at, frame_slot, store_slot}
 use Rattle.bc_pins.specs.Totals.{total, times}
-use Rattle.bc_pins.specs.Contents.{IsContent, RefersYoung, IsBare}
+use Rattle.bc_pins.specs.Contents.{IsContent, RefersYoung, IsBarePage}
 use Rattle.bc_pins.specs.Views.{grips, grips_remembered, frame_in_hand, has_role, entries, opened_word, record_of}
 
 abbrev pub Table : Type 0
@@ -62,7 +62,7 @@ remembered_now s page = one_if (word s page == 2) + total (λ (v : View). grips_
 pub record Content (k : Key) (s : Table) (rec : ℕ → List ℕ) (page : ℕ) : Type 0 where
   pub fixed : IsContent k.opening page (rec page)
   pub young : RefersYoung k.opening page (rec page) → 0 < remembered_now s page
-  pub bare : word s page ≡ 0 → IsBare k.opening page
+  pub bare : word s page ≡ 0 → IsBarePage k.opening page
 
 -- how often the page was Remembered at the opening or was put back so
 abbrev pub remembered_ever : Key → Table → ℕ → ℕ
@@ -78,7 +78,7 @@ pub record Standing (k : Key) (s : Table) (page : ℕ) : Type 0 where
 
 -- Content, of one seat: the lane that holds a page's domain records its content, and nobody else changes it. What a seat has in
 -- hand has the content that it took
-pub record Records (k : Key) (rec : ℕ → List ℕ) (v : View) : Type 0 where
+pub record RecordsContent (k : Key) (rec : ℕ → List ℕ) (v : View) : Type 0 where
   pub mine : (p : ℕ) → 0 < has_role v (owner k p) → rec p ≡ record_of v p
   pub others : (p : ℕ) → has_role v (owner k p) ≡ 0 → entries p v.changed ≡ 0
   pub in_hand : (h : Hand) → v.hand ≡ Some h → (h.page < pages_of k) × (h.content ≡ rec h.page)

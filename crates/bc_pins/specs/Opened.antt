@@ -27,7 +27,7 @@ pub record Opened (space : Layout) (turn : Turn) (holders : List ℕ) (roles : L
   pub seats_are : AreDealt pins.table.shared.table_id (key_of pins) roles (length roles) seats
 
 -- a space's parts and the key of a table for them
-pub record IsDrawn (parts : SpaceParts) (supers : ℕ) (turn : Turn) (holders : List ℕ) (roles : List Role) (k : Key) : Type 0 where
+pub record IsKeyOf (parts : SpaceParts) (supers : ℕ) (turn : Turn) (holders : List ℕ) (roles : List Role) (k : Key) : Type 0 where
   pub kept : AreParts parts
   pub within : supers ≤ length parts.headers.items
   pub behind : (p : ℕ) → 4 * supers ≤ p → state_in parts.headers.items p ≡ Absent

@@ -16,7 +16,7 @@ use Rattle.bc_pins.specs.declared.views.Lodged.{Lodged}
 use Rattle.bc_pins.specs.declared.views.View.{View}
 use Rattle.bc_pins.specs.Key.{Key, pages_of, all_words, is_lanes, lane_role, role_number}
 use Rattle.bc_pins.specs.Totals.{times}
-use Rattle.bc_pins.specs.Contents.{IsContent, RefersYoung, IsBare}
+use Rattle.bc_pins.specs.Contents.{IsContent, RefersYoung, IsBarePage}
 use Rattle.bc_pins.specs.Views.{opened_content, opened_word, record_of}
 use Rattle.bc_pins.specs.Facts.{Table, Lies, Frames, Still, Standing}
 use Rattle.bc_pins.specs.Steps.{fresh}
@@ -33,7 +33,7 @@ pub record OpensPage (k : Key) (words : List ℕ) (slots : List Lodged) (p : ℕ
   pub lies : Lies (opened_word k p) (get_elem? (map some slots) p) (get_elem? (map some slots) (pages_of k + p)) (opened_content k p)
   pub fixed : IsContent k.opening p (opened_content k p)
   pub young : RefersYoung k.opening p (opened_content k p) → opened_word k p ≡ 2
-  pub bare : opened_word k p ≡ 0 → IsBare k.opening p
+  pub bare : opened_word k p ≡ 0 → IsBarePage k.opening p
 
 -- words and slots with which a table may be opened
 pub record MayOpen (k : Key) (words : List ℕ) (slots : List Lodged) : Type 0 where
@@ -53,7 +53,7 @@ pub record ClosesPage (k : Key) (v : View) (words : List ℕ) (slots : List Lodg
   pub lies : Lies (slice_index words p) (get_elem? (map some slots) p) (get_elem? (map some slots) (pages_of k + p)) (record_of v p)
   pub fixed : IsContent k.opening p (record_of v p)
   pub young : RefersYoung k.opening p (record_of v p) → slice_index words p ≡ 2
-  pub bare : slice_index words p ≡ 0 → IsBare k.opening p
+  pub bare : slice_index words p ≡ 0 → IsBarePage k.opening p
   pub standing : Standing k (record { words = words; homes = map some slots; views = v ∷ [] }) p
 
 -- words and slots of a table that is closed

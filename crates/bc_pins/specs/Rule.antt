@@ -6,12 +6,12 @@ use Rattle.bc_pins.specs.declared.views.View.{View}
 use Rattle.bc_pins.specs.Key.{Key, pages_of, owner, all_words}
 use Rattle.bc_pins.specs.Totals.{times}
 use Rattle.bc_pins.specs.Views.{opened_content}
-use Rattle.bc_pins.specs.Facts.{Table, Place, Content, Standing, Records, Saw, Seated, Roles, Frames, Still}
+use Rattle.bc_pins.specs.Facts.{Table, Place, Content, Standing, RecordsContent, Saw, Seated, Roles, Frames, Still}
 
 -- what holds of one seat
 pub record SeatFacts (k : Key) (s : Table) (rec : ℕ → List ℕ) (v : View) : Type 0 where
   pub seated : Seated k v
-  pub records : Records k rec v
+  pub records : RecordsContent k rec v
   pub saw : Saw k s v
 
 pub record Rule (k : Key) (s : Table) : Type 0 where

@@ -95,7 +95,7 @@ abbrev pub both_slots : Key → ℕ → Lodged → Lodged → List (ℕ × Lodge
 both_slots k page frame store = (page, frame) ∷ (pages_of k + page, store) ∷ []
 
 -- what a word tells that was read: the page's state, and what was read of it before is still so
-pub record Reads (v : View) (page found : ℕ) : Type 0 where
+pub record ReadsWord (v : View) (page found : ℕ) : Type 0 where
   pub word : found ≤ 4
   pub seen : 0 < times page v.seen → found ≢ 2 → found ≡ 3
   pub gone : 0 < times page v.gone → found ≡ 4
@@ -112,7 +112,7 @@ pub record Took (st : Step Lodged) (m : Mine) (found : ℕ) (m' : Mine) : Type 0
   pub hit : found ≡ st.first → (homed : Homed)
       × (m' ≡ (gripping m.0 st.word (st.first == 2) homed, both_slots m.0.about st.word (Home homed) Nothing))
       × Takes m.0 st.word (st.first == 2) homed
-  pub miss : found ≢ st.first → (m' ≡ (having_read m.0 st.word found, m.1)) × Reads m.0 st.word found
+  pub miss : found ≢ st.first → (m' ≡ (having_read m.0 st.word found, m.1)) × ReadsWord m.0 st.word found
 
 -- Release: nothing is in hand, and the slots are at home
 pub record Gave (st : Step Lodged) (m m' : Mine) : Type 0 where
@@ -122,7 +122,7 @@ pub record Gave (st : Step Lodged) (m m' : Mine) : Type 0 where
 -- Look
 pub record Looked (st : Step Lodged) (m : Mine) (found : ℕ) (m' : Mine) : Type 0 where
   pub view : m' ≡ (having_read m.0 st.word found, m.1)
-  pub reads : Reads m.0 st.word found
+  pub reads : ReadsWord m.0 st.word found
 
 -- Split: a new seat has the first role, and the other keeps the rest
 abbrev pub dealer : View → View

@@ -5,7 +5,7 @@ ghost use Rattle.bc_superpages.specs.Headers.{unused_header};
 ghost use Rattle.bc_superpages.specs.Parts.{state_in};
 ghost use Rattle.bc_pins.specs.Views.{state_word};
 ghost use Rattle.bc_pins.specs.Key.{Key, table_words};
-ghost use Rattle.bc_pins.specs.Filling.{Extends, IsSized, IsFilled, IsMarked, set_in};
+ghost use Rattle.bc_pins.specs.Filling.{Extends, IsSized, IsFilled, HasMarkWords, set_in};
 
 use crate::key::Turn;
 use bc_superpages::{Header, PageState};
@@ -130,7 +130,7 @@ pub(crate) fn fill_words(
 fn fill_marks(words: &mut Vec<u64>, headers: &[Header], superpages: usize)
     requires size { (superpages ≤ 4096) × (superpages ≤ length headers.now) }
     requires room { length words.old.items + (32 * superpages + (4 * superpages + 63) / 64) ≤ vec_capacity words.old }
-    ensures filled { IsMarked headers.now superpages words.old.items words.new.items }
+    ensures filled { HasMarkWords headers.now superpages words.old.items words.new.items }
 {
     push_sets(words, headers, superpages, CellSet::Marks);
     push_sets(words, headers, superpages, CellSet::Finished);

@@ -17,7 +17,7 @@ impl Held {
     ghost use Rattle.bc_word.specs.Addresses.{offset_of};
     ghost use Rattle.bc_superpages.specs.Layout.{Layout};
     ghost use Rattle.bc_superpages.specs.Kept.{IsLayout};
-    ghost use Rattle.bc_pins.specs.Contents.{IsField, NamesFixed, IsContent};
+    ghost use Rattle.bc_pins.specs.Contents.{IsFieldOn, NamesFixed, IsContent};
 
     /// The page's number.
     pub fn page(&self) -> u32
@@ -51,7 +51,7 @@ impl Held {
               homed = record self.old.homed { page = slice_set self.old.homed.page offset bits };
             } }
         ensures fixed { (s : Layout) → (cell index : ℕ) → IsLayout s → IsContent s self.old.page self.old.homed.page
-            → IsField s self.old.page cell index → offset ≡ offset_of cell + 1 + index
+            → IsFieldOn s self.old.page cell index → offset ≡ offset_of cell + 1 + index
             → IsPacked bits → NamesFixed s (word_of_bits bits)
             → IsContent s self.old.page self.new.homed.page }
     {

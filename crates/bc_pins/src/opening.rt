@@ -7,7 +7,7 @@ ghost use Rattle.bc_superpages.specs.Parts.{AreParts, parts_layout, state_in};
 ghost use Rattle.bc_pins.specs.Key.{Key, pages_of, table_words, is_lanes, lane_role, role_number};
 ghost use Rattle.bc_pins.specs.Totals.{times};
 ghost use Rattle.bc_pins.specs.Opening.{IsReady, key_for};
-ghost use Rattle.bc_pins.specs.Opened.{IsDrawn, Opened};
+ghost use Rattle.bc_pins.specs.Opened.{IsKeyOf, Opened};
 
 use crate::filling::{fill_words, word_count};
 use crate::key::{About, Role, Turn};
@@ -89,7 +89,7 @@ impl Pins {
         room: Room,
         mut seats: Vec<Seat>,
     ) -> Result<(Pins, Vec<Seat>), (Space, AllocError)>
-        requires drawn { IsDrawn parts superpages turn room.holders.items room.roles.items about }
+        requires drawn { IsKeyOf parts superpages turn room.holders.items room.roles.items about }
         requires words { (room.words.items ≡ []) × (table_words superpages (length parts.pool) turn ≤ vec_capacity room.words) }
         requires slots { (room.slots.items ≡ []) × (8 * superpages ≤ vec_capacity room.slots) }
         requires spare { (room.spare.items ≡ []) × (8 * superpages ≤ vec_capacity room.spare) }

@@ -3,9 +3,9 @@
 ghost use Rattle.std.specs.Prelude.{◌≡◌, ◌≢◌, ℕ, ◌<◌, ◌≤◌, ◌==◌, true, false, IfOk, IfErr};
 ghost use Rattle.bc_pins.specs.Key.{pages_of};
 ghost use Rattle.bc_pins.specs.Views.{state_word, home_word};
-ghost use Rattle.bc_pins.specs.Steps.{having_read, gripping, Reads, Takes};
+ghost use Rattle.bc_pins.specs.Steps.{having_read, gripping, ReadsWord, Takes};
 ghost use Rattle.bc_pins.specs.declared.taking.TakeNo.TheVariants.{Busy};
-ghost use Rattle.bc_pins.specs.Calls.{key_of, view_of, IsAt, IsSameSeat, IsFree, Holds, Grasps, MayWork, MayPut, tried, refusal_word, IsRefused, WasSeen, put_back};
+ghost use Rattle.bc_pins.specs.Calls.{key_of, view_of, IsAt, IsSameSeat, IsFree, HoldsPage, Grasps, MayWork, MayPut, tried, refusal_word, IsTakeRefused, WasSeen, put_back};
 
 use crate::holding::Held;
 use crate::pins::{Pins, Seat};
@@ -52,7 +52,7 @@ impl Pins {
         ensures same { IsSameSeat seat.old seat.new }
         ensures ok { IfOk result (λ held. Grasps (tried (view_of seat.old) page want held.remembered) seat.new page held) }
         ensures taken { IfOk result (λ held. Takes (view_of seat.old) page held.remembered held.homed) }
-        ensures err { IfErr result (λ no. IsFree seat.new × IsRefused (view_of seat.old) page want no (view_of seat.new)) }
+        ensures err { IfErr result (λ no. IsFree seat.new × IsTakeRefused (view_of seat.old) page want no (view_of seat.new)) }
     {
         match self.grip(seat, page, HOME) {
             Ok(held) => Ok(held),
@@ -93,7 +93,7 @@ impl Pins {
         ensures ok { IfOk result (λ held. (held.remembered ≡ (old == 2)) × Grasps (view_of seat.old) seat.new page held
             × Takes (view_of seat.old) page (old == 2) held.homed) }
         ensures err { IfErr result (λ found. (found ≢ old) × IsFree seat.new × (view_of seat.new ≡ having_read (view_of seat.old) page found)
-            × Reads (view_of seat.old) page found) }
+            × ReadsWord (view_of seat.old) page found) }
     {
         let words = &self.table.shared;
         let slot = page as usize;
@@ -114,7 +114,7 @@ impl Pins {
     /// Puts back the page that the seat has in hand.
     pub fn put(&self, seat: &mut Seat, held: Held)
         requires seat { IsAt self.now seat.old }
-        requires held { Holds seat.old held }
+        requires held { HoldsPage seat.old held }
         requires may { MayPut seat.old held }
         ensures same { IsSameSeat seat.old seat.new }
         ensures free { IsFree seat.new }
@@ -131,14 +131,14 @@ impl Pins {
         words.store::<Release>(&mut seat.inner, slot, word_at_home(remembered));
     }
 
-    /// Reads where a page is.
+    /// ReadsWord where a page is.
     pub fn look(&self, seat: &mut Seat, page: u32) -> PageState
         requires seat { IsAt self.now seat.old }
         requires page { page < pages_of (key_of self.now) }
         ensures same { IsSameSeat seat.old seat.new }
         ensures hands { seat.new.inner.me.1 ≡ seat.old.inner.me.1 }
         ensures read { view_of seat.new ≡ having_read (view_of seat.old) page (state_word result) }
-        ensures told { Reads (view_of seat.old) page (state_word result) }
+        ensures told { ReadsWord (view_of seat.old) page (state_word result) }
     {
         let found = self
             .table
