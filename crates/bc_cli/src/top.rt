@@ -110,21 +110,21 @@ where
     ensures churn_complete { (start ops workers : ℕ) → IsCommandOf (map (λ w. w.now) words.now) (Churn start ops workers) →
         ¬ Rose (K.faults sink.old) (K.faults sink.new) → IsOrNoMemory result.status Status.Done }
 {
-    match command_of(alloc, words) {
-        Ok(Some(Command::Run { workers })) => match read_trace(alloc, source) {
+    let Ok(found) = command_of(alloc, words) else {
+        return Outcome::without_heap(Status::NoMemory);
+    };
+    match found {
+        Some(Command::Run { workers }) => match read_trace(alloc, source) {
             Ok(trace) => run_trace(rt, alloc, &trace, workers, sink, gate),
             Err(status) => Outcome::without_heap(status),
         },
-        Ok(
-            Some(
-                Command::Churn {
-                    start,
-                    ops,
-                    workers,
-                },
-            ),
+        Some(
+            Command::Churn {
+                start,
+                ops,
+                workers,
+            },
         ) => churn(rt, alloc, start, ops, workers, sink, gate),
-        Ok(None) => Outcome::without_heap(Status::BadWords),
-        Err(_) => Outcome::without_heap(Status::NoMemory),
+        None => Outcome::without_heap(Status::BadWords),
     }
 }
