@@ -134,6 +134,7 @@ module _ (k : Key) (s : Table) (r : Rule k s) (id : ℕ) (v : View) (at : get_el
         fixed = subst (IsContent k.opening p) same content.fixed;
         young = λ y. remembered_word k s r p lt (not_held p lt) (content.young (subst (RefersYoung k.opening p) (sym same) y));
         bare = content.bare;
+        gone = λ e. sym same ∙ content.gone e;
         standing = record {
           remembered = λ lt. let a = old.remembered (omega arith) in omega arith;
           recorded = λ lt. let a = old.recorded (omega arith) in omega arith;
@@ -153,6 +154,7 @@ module _ (k : Key) (s : Table) (r : Rule k s) (id : ℕ) (v : View) (at : get_el
   closed = record {
     words_long = r.words;
     slots_long = sym size ∙ r.slots;
+    moved = (r.seats id v at).seated.moved;
     pages = page_closed;
     frames = frames_closed;
     still = record { counters = r.still.counters; bookmarks = r.still.bookmarks; marks = r.still.marks; finished = r.still.finished };

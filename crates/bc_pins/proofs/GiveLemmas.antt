@@ -217,6 +217,7 @@ module _ (k : Key) (s : Table) (r : Rule k s) (id x role : ℕ) (v : View) (g : 
         fixed = subst (IsContent k.opening p) (sym same_here) fixed;
         young = λ y. inr (let e = two_if (young (subst (RefersYoung k.opening p) same_here y)) in omega arith);
         bare = λ z. absurd (omega arith);
+        left_as_opened = λ e. absurd (omega arith);
         not_fewer = fewer;
         else_remembered = else_flag;
         put_back = omega arith;
@@ -233,6 +234,7 @@ module _ (k : Key) (s : Table) (r : Rule k s) (id x role : ℕ) (v : View) (g : 
         seated = record {
           about = facts.seated.about;
           idle = λ e. let z : has_role v role ≡ 0 = ap (times role) e in absurd (omega arith);
+          moved = let a = facts.seated.moved in record { left = a.left; emptied = a.emptied; fetched = a.fetched };
         };
         records = records_kept;
         saw = saw_kept k s p x homes id v w at wide fewer else_flag refl refl refl (λ e. absurd (not_four e)) facts.saw;

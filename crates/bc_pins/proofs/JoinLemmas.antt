@@ -127,6 +127,14 @@ module _ (k : Key) (s : Table) (r : Rule k s) (id other : ℕ) (v w : View) (at 
             emptied = none_of v.emptied w.emptied a.emptied b.emptied;
             fetched = none_of v.fetched w.fetched a.fetched b.fetched;
           };
+      moved =
+          let a = mine.seated.moved in
+          let b = theirs.seated.moved in
+          record {
+            left = none_of v.left w.left a.left b.left;
+            emptied = none_of v.emptied w.emptied a.emptied b.emptied;
+            fetched = none_of v.fetched w.fetched a.fetched b.fetched;
+          };
     };
     records = record {
       mine = record_united;
@@ -158,7 +166,7 @@ module _ (k : Key) (s : Table) (r : Rule k s) (id other : ℕ) (v w : View) (at 
 
   spent : SeatFacts k (with_views s views) r.rec nobody
   spent = record {
-    seated = record { about = λ e. absurd (not_alive e); idle = λ _. record { hand = refl; rights = refl; recorded = refl; left = refl; emptied = refl; fetched = refl } };
+    seated = record { about = λ e. absurd (not_alive e); idle = λ _. record { hand = refl; rights = refl; recorded = refl; left = refl; emptied = refl; fetched = refl }; moved = record { left = refl; emptied = refl; fetched = refl } };
     records = record { mine = λ p lt. absurd (omega arith); others = λ p _. refl; in_hand = λ h e. absurd (no_hand h e) };
     saw = record { seen = λ p lt. absurd (omega arith); gone = λ p lt. absurd (omega arith) };
   }

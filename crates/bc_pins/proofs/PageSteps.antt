@@ -40,6 +40,7 @@ pub record PageStep (k : Key) (s : Table) (rec rec' : ℕ → List ℕ) (p x : �
   pub fixed : IsContent k.opening p (rec' p)
   pub young : RefersYoung k.opening p (rec' p) → RefersYoung k.opening p (rec p) ⊎ (0 < one_if (x == 2) + grips_remembered p w.hand)
   pub bare : x ≡ 0 → IsBarePage k.opening p
+  pub left_as_opened : x ≡ 4 → rec' p ≡ opened_content k p
   -- remembered
   pub not_fewer : one_if (word s p == 2) + grips_remembered p v.hand ≤ one_if (x == 2) + grips_remembered p w.hand
   pub else_remembered : (q : ℕ) → q ≢ p → grips_remembered q w.hand ≡ grips_remembered q v.hand
@@ -132,6 +133,7 @@ module _ (k : Key) (s : Table) (r : Rule k s) (rec' : ℕ → List ℕ) (p x : �
         fixed = rw same old.fixed;
         young = λ y. let was = old.young (subst (λ c. RefersYoung k.opening q c) same y) in omega arith;
         bare = λ z. old.bare (sym (there q ne) ∙ z);
+        gone = λ e. same ∙ old.gone (sym (there q ne) ∙ e);
       }
 
   content_here : p < pages_of k → Content k t rec' p
@@ -139,6 +141,7 @@ module _ (k : Key) (s : Table) (r : Rule k s) (rec' : ℕ → List ℕ) (p x : �
     fixed = d.fixed;
     young = λ y. elim (d.young y) [ inl was ↦ let a = (r.content p lt).young was in let b = grown p in omega arith | inr now ↦ held_by now ];
     bare = λ z. d.bare (sym here ∙ z);
+    gone = λ e. d.left_as_opened (sym here ∙ e);
   }
 
   standing_there : (q : ℕ) → q ≢ p → q < pages_of k → Standing k t q

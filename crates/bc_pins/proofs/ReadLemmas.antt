@@ -170,6 +170,7 @@ look_step k s r p id v at near about =
       fixed = content.fixed;
       young = λ y. inl y;
       bare = content.bare;
+      left_as_opened = content.gone;
       not_fewer = omega arith;
       else_remembered = λ q ne. refl;
       put_back = omega arith;
@@ -183,7 +184,11 @@ look_step k s r p id v at near about =
       else_emptied = λ q ne. refl;
       stays = λ e _. e;
       roles = refl;
-      seated = record { about = facts.seated.about; idle = λ e. let a = facts.seated.idle e in record { hand = a.hand; rights = a.rights; recorded = a.recorded; left = a.left; emptied = a.emptied; fetched = a.fetched } };
+      seated = record {
+        about = facts.seated.about;
+        idle = λ e. let a = facts.seated.idle e in record { hand = a.hand; rights = a.rights; recorded = a.recorded; left = a.left; emptied = a.emptied; fetched = a.fetched };
+        moved = let a = facts.seated.moved in record { left = a.left; emptied = a.emptied; fetched = a.fetched };
+      };
       records = record { mine = facts.records.mine; others = facts.records.others; in_hand = facts.records.in_hand };
       saw = looked_saw k s p id v at wide near about facts.saw;
     }

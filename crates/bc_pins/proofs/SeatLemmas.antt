@@ -43,7 +43,7 @@ views_step k s r views sums each = record {
   content = λ p lt.
       let old = r.content p lt in
       let now = now_same s views sums p in
-      record { fixed = old.fixed; young = λ y. let a = old.young y in omega arith; bare = old.bare };
+      record { fixed = old.fixed; young = λ y. let a = old.young y in omega arith; bare = old.bare; gone = old.gone };
   standing = λ p lt.
       let old = r.standing p lt in
       let now = now_same s views sums p in
@@ -116,7 +116,7 @@ module _ (k : Key) (s : Table) (r : Rule k s) (id : ℕ) (v : View) (at : get_el
 
   keeps_rest : SeatFacts k (with_views s views) r.rec (dealer v)
   keeps_rest = record {
-    seated = record { about = facts.seated.about; idle = λ _. idle_rest };
+    seated = record { about = facts.seated.about; idle = λ _. idle_rest; moved = record { left = unused.left; emptied = unused.emptied; fetched = unused.fetched } };
     records = record {
       mine = λ p lt. let c = cut_times (owner k p) v.roles in facts.records.mine p (omega arith);
       others = λ p _. ap (entries p) no_change;
@@ -130,7 +130,7 @@ module _ (k : Key) (s : Table) (r : Rule k s) (id : ℕ) (v : View) (at : get_el
 
   has_first : SeatFacts k (with_views s views) r.rec (dealt v)
   has_first = record {
-    seated = record { about = facts.seated.about; idle = λ _. record { hand = refl; rights = refl; recorded = refl; left = refl; emptied = refl; fetched = refl } };
+    seated = record { about = facts.seated.about; idle = λ _. record { hand = refl; rights = refl; recorded = refl; left = refl; emptied = refl; fetched = refl }; moved = record { left = refl; emptied = refl; fetched = refl } };
     records = record {
       mine = λ p lt. let c = cut_times (owner k p) v.roles in facts.records.mine p (omega arith) ∙ ap (λ (l : List (ℕ × List ℕ)). look_up p l (opened_content v.about p)) no_change;
       others = λ p _. refl;

@@ -113,6 +113,7 @@ module _ (k : Key) (s : Table) (r : Rule k s) (p id old role : ℕ) (v : View) (
       record {
         about = old_facts.about;
         idle = λ e. let z : has_role v role ≡ 0 = ap (times role) e in absurd (omega arith);
+        moved = record { left = old_facts.moved.left; emptied = old_facts.moved.emptied; fetched = old_facts.moved.fetched };
       }
 
   hit_step : PageStep k s r.rec r.rec p 3 homes id v w
@@ -144,6 +145,7 @@ module _ (k : Key) (s : Table) (r : Rule k s) (p id old role : ℕ) (v : View) (
         fixed = (r.content p near).fixed;
         young = λ y. inl y;
         bare = λ z. absurd (omega arith);
+        left_as_opened = λ e. absurd (omega arith);
         not_fewer = fewer;
         else_remembered = else_flag;
         put_back = omega arith;

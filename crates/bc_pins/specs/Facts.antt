@@ -17,7 +17,7 @@ use Rattle.bc_pins.specs.declared.views.View.{View}
 use Rattle.bc_pins.specs.Key.{Key, pages_of, owner, counter_at, bookmark_at, mark_at, finished_at, frame_slot, store_slot}
 use Rattle.bc_pins.specs.Totals.{total, times}
 use Rattle.bc_pins.specs.Contents.{IsContent, RefersYoung, IsBarePage}
-use Rattle.bc_pins.specs.Views.{grips, grips_remembered, frame_in_hand, has_role, entries, opened_word, record_of}
+use Rattle.bc_pins.specs.Views.{grips, grips_remembered, frame_in_hand, has_role, entries, opened_word, opened_content, record_of}
 
 abbrev pub Table : Type 0
 Table = State Lodged View
@@ -58,11 +58,12 @@ abbrev pub remembered_now : Table → ℕ → ℕ
 remembered_now s page = one_if (word s page == 2) + total (λ (v : View). grips_remembered page v.hand) s.views
 
 -- Remembered, and Fixed: a page whose record refers to a nursery is Remembered or in hand so. Whatever was put back keeps
--- what is fixed, and an Absent page has no allocated cell
+-- what is fixed, an Absent page has no allocated cell, and a Gone page has the opening's content
 pub record Content (k : Key) (s : Table) (rec : ℕ → List ℕ) (page : ℕ) : Type 0 where
   pub fixed : IsContent k.opening page (rec page)
   pub young : RefersYoung k.opening page (rec page) → 0 < remembered_now s page
   pub bare : word s page ≡ 0 → IsBarePage k.opening page
+  pub gone : word s page ≡ 4 → rec page ≡ opened_content k page
 
 -- how often the page was Remembered at the opening or was put back so
 abbrev pub remembered_ever : Key → Table → ℕ → ℕ
@@ -97,10 +98,17 @@ pub record IsIdle (v : View) : Type 0 where
   pub emptied : v.emptied ≡ []
   pub fetched : v.fetched ≡ []
 
+-- the seat made no page Gone or Absent and took none from Gone. So it is before pages are given up in a turn
+pub record MovedNone (v : View) : Type 0 where
+  pub left : v.left ≡ []
+  pub emptied : v.emptied ≡ []
+  pub fetched : v.fetched ≡ []
+
 -- a seat knows what the table was told, and one without a role has done nothing
 pub record Seated (k : Key) (v : View) : Type 0 where
   pub about : v.alive ≡ true → v.about ≡ k
   pub idle : v.roles ≡ [] → IsIdle v
+  pub moved : MovedNone v
 
 -- Roles: each role that was given out is in exactly one view, and none was given out twice
 pub record Roles (k : Key) (s : Table) : Type 0 where

@@ -9,6 +9,7 @@ use Rattle.bc_superpages.specs.Layout.{Layout, content_at, is_cell}
 use Rattle.bc_superpages.specs.LayoutAt.{state_at}
 use Rattle.bc_superpages.specs.Calls.{IsClosed}
 use Rattle.bc_superpages.specs.Parts.{state_in, AreParts}
+use Rattle.bc_bookmarks.specs.Summarised.{IsSummarised}
 use Rattle.bc_pins.specs.Lodging.{Replaced, Lodges, home_of, away_of}
 use Rattle.bc_pins.specs.declared.key.Turn.{Turn}
 use Rattle.bc_pins.specs.declared.key.Role.{Role}
@@ -18,7 +19,7 @@ use Rattle.bc_pins.specs.Key.{Key, pages_of, all_words, is_lanes, lane_role, rol
 use Rattle.bc_pins.specs.Totals.{times}
 use Rattle.bc_pins.specs.Contents.{IsContent, RefersYoung, IsBarePage}
 use Rattle.bc_pins.specs.Views.{opened_content, opened_word, record_of}
-use Rattle.bc_pins.specs.Facts.{Table, Lies, Frames, Still, Standing}
+use Rattle.bc_pins.specs.Facts.{Table, Lies, MovedNone, Frames, Still, Standing}
 use Rattle.bc_pins.specs.Steps.{fresh}
 
 -- the table as it is opened
@@ -54,17 +55,27 @@ pub record ClosesPage (k : Key) (v : View) (words : List ℕ) (slots : List Lodg
   pub fixed : IsContent k.opening p (record_of v p)
   pub young : RefersYoung k.opening p (record_of v p) → slice_index words p ≡ 2
   pub bare : slice_index words p ≡ 0 → IsBarePage k.opening p
+  pub gone : slice_index words p ≡ 4 → record_of v p ≡ opened_content k p
   pub standing : Standing k (record { words = words; homes = map some slots; views = v ∷ [] }) p
 
 -- words and slots of a table that is closed
 pub record HasClosed (k : Key) (v : View) (words : List ℕ) (slots : List Lodged) : Type 0 where
   pub words_long : length words ≡ all_words k
   pub slots_long : length slots ≡ pages_of k + pages_of k
+  pub moved : MovedNone v
   pub pages : (p : ℕ) → p < pages_of k → ClosesPage k v words slots p
   pub frames : (f : ℕ) → Frames k (record { words = words; homes = map some slots; views = v ∷ [] }) f
   pub still : Still k (record { words = words; homes = map some slots; views = v ∷ [] })
 
--- a space with which a table may be opened: it is closed, no cell is promised, and a page that refers to a nursery is Remembered
+-- a space over which a table may be opened: it is summarised and closed, no cell is promised, and no page that is Home refers
+-- to a nursery. A closed table gives back such a one
+pub record IsOpenable (s : Layout) : Type 0 where
+  pub summarised : IsSummarised s
+  pub closed : IsClosed s
+  pub promised : (a : ℕ) → is_cell s.classes s.promised a ≡ false
+  pub home : (p : ℕ) → state_at s.states p ≡ state.Home → RefersYoung s p (content_at s.pages p) → ⊥
+
+-- the same as the rule uses it: a page that refers to a nursery is Remembered
 pub record IsReady (s : Layout) : Type 0 where
   pub closed : IsClosed s
   pub promised : (a : ℕ) → is_cell s.classes s.promised a ≡ false

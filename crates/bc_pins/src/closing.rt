@@ -5,9 +5,8 @@ ghost use Rattle.bc_pins.specs.Calls.{key_of};
 ghost use Rattle.bc_pins.specs.Closing.{AreBack, Closed};
 
 use crate::gathering::{drain, set_states, unite_all};
-use crate::lodging::put_all_back;
 use crate::pins::{Pins, Seat};
-use crate::rest::Rest;
+use crate::rest::{Rest, put_boxes_back};
 use bc_superpages::Space;
 
 impl Pins {
@@ -34,7 +33,7 @@ impl Pins {
         drain(&mut closed, &mut slots);
         set_states(&mut parts.headers, &closed, pages);
         closed.free();
-        put_all_back(&mut parts.boxes, &mut parts.store, pages, slots);
+        put_boxes_back(&mut parts, pages, slots);
         Space::close_up(parts)
     }
 }

@@ -12,7 +12,7 @@ use std::mem;
 
 /// What a box becomes in a frame slot.
 fn lodge(home: Option<Homed>) -> Lodged
-    ensures lodged { result ≡ home_of home }
+    ensures lodged { result ≡ home_of home.entry }
 {
     match home {
         Some(homed) => Lodged::Home(homed),
@@ -22,7 +22,7 @@ fn lodge(home: Option<Homed>) -> Lodged
 
 /// The box that lies in a frame slot.
 fn unlodge(slot: Lodged) -> Option<Homed>
-    ensures home { result ≡ box_of slot }
+    ensures home { result ≡ box_of slot.entry }
 {
     match slot {
         Lodged::Home(homed) => Some(homed),
@@ -86,8 +86,8 @@ pub(crate) fn put_back(
 )
     requires page { (page < length boxes.old.items) × (page < length store.old.places) × (page < 2 ^ 32) }
     requires empty { place_at store.old page ≡ None }
-    ensures boxes { boxes.new.items ≡ slice_set boxes.old.items page (box_of frame) }
-    ensures store { store.new ≡ record store.old { places = slice_set store.old.places page (place_of away) } }
+    ensures boxes { boxes.new.items ≡ slice_set boxes.old.items page (box_of frame.entry) }
+    ensures store { store.new ≡ record store.old { places = slice_set store.old.places page (place_of away.entry) } }
 {
     boxes[page] = unlodge(frame);
     match away {
@@ -106,9 +106,9 @@ pub(crate) fn put_all_back(
     requires pages { (pages ≤ length boxes.old.items) × (pages ≤ length store.old.places) × (pages < 2 ^ 32) }
     requires slots { length slots.items ≡ pages + pages }
     requires empty { (p : ℕ) → p < pages → place_at store.old p ≡ None }
-    ensures boxes { Replaced None boxes.old.items boxes.new.items pages (λ p. box_of (slice_index_or slots.items p Nothing)) }
+    ensures boxes { Replaced None boxes.old.items boxes.new.items pages (λ p. box_of (slice_index_or slots.entry.items p Nothing)) }
     ensures store { store.new ≡ record store.old { places = store.new.places } }
-    ensures places { Replaced None store.old.places store.new.places pages (λ p. place_of (slice_index_or slots.items (pages + p) Nothing)) }
+    ensures places { Replaced None store.old.places store.new.places pages (λ p. place_of (slice_index_or slots.entry.items (pages + p) Nothing)) }
 {
     for page in 0..pages {
         let frame = mem::replace(&mut slots[page], Lodged::Nothing);

@@ -1,7 +1,10 @@
 //! What is left of a space's parts while its pages are in a table.
 
-ghost use Rattle.std.specs.Prelude.{◌≡◌, ℕ, ◌+◌, ◌*◌, ◌<◌, ◌≤◌, [], length, slice_index_or, vec_capacity};
+ghost use Rattle.std.specs.Prelude.{◌≡◌, ℕ, ◌+◌, ◌*◌, ◌^◌, ◌<◌, ◌≤◌, [], None, length, slice_index_or, vec_capacity};
 ghost use Rattle.bc_superpages.specs.Parts.{AreParts, parts_layout};
+ghost use Rattle.bc_frames.specs.Places.{place_at};
+ghost use Rattle.bc_pins.specs.declared.views.Lodged.TheVariants.{Nothing};
+ghost use Rattle.bc_pins.specs.Lodging.{Replaced, box_of, place_of};
 ghost use Rattle.bc_pins.specs.Opening.{Emptied, AreLodged, SameParts};
 
 use crate::lodging::{lodge_boxes, lodge_places, put_all_back};
@@ -56,5 +59,17 @@ pub(crate) fn restore(
     ensures same { SameParts whole.now.value parts.new }
 {
     let _ = whole;
+    put_all_back(&mut parts.boxes, &mut parts.store, pages, slots);
+}
+
+/// Puts the boxes of so many pages back into their lists, when the table is closed.
+pub(crate) fn put_boxes_back(parts: &mut SpaceParts, pages: usize, slots: Vec<Lodged>)
+    requires pages { (pages ≤ length parts.old.boxes.items) × (pages ≤ length parts.old.store.places) × (pages < 2 ^ 32) }
+    requires slots { length slots.items ≡ pages + pages }
+    requires empty { (p : ℕ) → p < pages → place_at parts.old.store p ≡ None }
+    ensures boxes { Replaced None parts.old.boxes.items parts.new.boxes.items pages (λ p. box_of (slice_index_or slots.entry.items p Nothing)) }
+    ensures places { Replaced None parts.old.store.places parts.new.store.places pages (λ p. place_of (slice_index_or slots.entry.items (pages + p) Nothing)) }
+    ensures same { parts.new ≡ record parts.old { boxes = parts.new.boxes; store = record parts.old.store { places = parts.new.store.places } } }
+{
     put_all_back(&mut parts.boxes, &mut parts.store, pages, slots);
 }

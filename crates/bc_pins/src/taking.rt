@@ -118,7 +118,7 @@ impl Pins {
         requires may { MayPut seat.old held }
         ensures same { IsSameSeat seat.old seat.new }
         ensures free { IsFree seat.new }
-        ensures view { view_of seat.new ≡ put_back (view_of seat.old) held }
+        ensures view { view_of seat.new ≡ put_back (view_of seat.old) held.entry }
     {
         let Held {
             page,
