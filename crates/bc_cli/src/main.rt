@@ -35,8 +35,8 @@ mod status;
 mod texts;
 mod top;
 
-use bc_io::{StdSink, StdSource};
 pub use bc_gates::{Gate, OpenGate};
+use bc_io::{StdSink, StdSource};
 pub use laws::law_output;
 pub use outcome::Outcome;
 pub use status::{Fault, Status};

@@ -15,9 +15,9 @@ ghost use Rattle.bc_cli.specs.BetweenPhases.{HasRun, HasPhaseRoom, PhaseEnded};
 use crate::status::Ending;
 use crate::texts::{texts_of, write_texts};
 use bc_engine::{Engine, PhaseNo};
+use bc_gates::Gate;
 use bc_io::Sink;
 use bc_model::{Phase, Replies, Trace};
-use bc_gates::Gate;
 use std::alloc::{AllocError, Global};
 use std::thread::Threads;
 

@@ -12,9 +12,9 @@ use crate::outcome::Outcome;
 use crate::phases::write_phases;
 use crate::status::{Ending, Status};
 use bc_engine::Engine;
+use bc_gates::Gate;
 use bc_io::{Sink, write_all};
 use bc_model::Trace;
-use bc_gates::Gate;
 use std::alloc::Global;
 use std::thread::Threads;
 

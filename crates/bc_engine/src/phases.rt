@@ -16,8 +16,8 @@ ghost use Rattle.bc_model.specs.WellFormed.{IsGive, IsPhase};
 
 use crate::engines::{Ended, Engine};
 use bc_failsafe::law_room;
-use bc_model::{Give, Op, Phase, Replies, Reply};
 use bc_gates::Gate;
+use bc_model::{Give, Op, Phase, Replies, Reply};
 use std::alloc::{AllocError, Global};
 use std::thread::Threads;
 
