@@ -8,6 +8,7 @@ use Rattle.bc_bits.specs.Counting.{one_if}
 use Rattle.bc_bits.proofs.BitLemmas.{has-zeros, has-beyond}
 use Rattle.bc_memory.specs.Memory.{Cell}
 use Rattle.bc_superpages.specs.declared.headers.Header.{Header}
+use Rattle.bc_superpages.specs.declared.headers.PageState.TheVariants.{Home, Remembered}
 use Rattle.bc_superpages.specs.Headers.{unused_header}
 use Rattle.bc_superpages.specs.Layout.{Layout, set_of, is_cell}
 use Rattle.bc_superpages.specs.LayoutAt.{IsAllocated}
@@ -15,6 +16,7 @@ use Rattle.bc_superpages.specs.Memory.{memory}
 use Rattle.bc_superpages.specs.Calls.{new_space}
 use Rattle.bc_superpages.proofs.CellLemmas.{is_cell-bit}
 use Rattle.bc_superpages.proofs.MemoryLemmas.{memory_of-none}
+use Rattle.bc_bookmarks.proofs.SoundLemmas.{sound-opening}
 use Rattle.bc_pins.specs.declared.key.Role.{Role}
 use Rattle.bc_pins.specs.declared.key.Role.TheVariants.{Lane}
 use Rattle.bc_pins.specs.declared.pins.Seat.{Seat}
@@ -24,7 +26,7 @@ use Rattle.bc_pins.specs.Totals.{total, times}
 use Rattle.bc_pins.specs.Tidy.{IsTidy}
 use Rattle.bc_pins.specs.Views.{has_role}
 use Rattle.bc_pins.specs.Steps.{Mine, fresh}
-use Rattle.bc_pins.specs.Opening.{IsReady}
+use Rattle.bc_pins.specs.Opening.{IsOpenable, IsReady}
 use Rattle.bc_pins.specs.Seating.{IsDealt, AreDealt}
 use Rattle.bc_pins.specs.Closing.{seen_by, IsBack, AreBack}
 use Rattle.bc_pins.proofs.TotalLemmas.{one_other, one_few}
@@ -107,3 +109,18 @@ opening_ready n f y =
       | inl there ↦ absurd (clash (sym (set_bare (λ (h : Header). h.promised) n _ _ refl) ∙ is_cell-bit s.classes s.promised a there))
       | inr none_there ↦ none_there
     ])
+
+home_clash : Home ≡ Remembered → ⊥
+home_clash e = cc
+
+-- a table may be opened over a new space
+pub opening_openable : (n f y : ℕ) → IsOpenable (new_space n f y)
+opening_openable n f y =
+    let ready = opening_ready n f y in
+    let sound = (sound-opening n f).0 in
+    record {
+      summarised = record { bits = sound.bits; there = sound.there; targets = sound.targets; incoming = sound.incoming };
+      closed = ready.closed;
+      promised = ready.promised;
+      home = λ p e young. home_clash (sym e ∙ ready.young p young);
+    }

@@ -1,5 +1,6 @@
 -- What closing a table gives.
-use Rattle.std.proofs.Common.{◌≡◌, ℕ, ◌+◌, ◌-◌, ◌*◌, ◌^◌, ◌<◌, ◌≤◌, ◌==◌, List, [], length, map, get_or, min, Option, None, refl, ap, sym, subst, ◌∙◌, arith}
+use Rattle.std.proofs.Common.{◌≡◌, ℕ, ◌+◌, ◌-◌, ◌*◌, ◌^◌, ◌<◌, ◌≤◌, ◌==◌, List, [], length, map, get_or, min, Option, None, refl, ap, sym, subst, ◌∙◌, arith, inl, inr, true, false, Bool}
+use Rattle.std.proofs.lemmas.Bool.{cases_lt}
 use Rattle.std.proofs.lemmas.List.{length-map}
 use Rattle.atomic_table.specs.Table.{Final, Seen}
 use Rattle.atomic_table.specs.declared.shared.Seat.{Seat as Worker}
@@ -11,18 +12,23 @@ use Rattle.bc_superpages.specs.declared.headers.PageState.{PageState}
 use Rattle.bc_superpages.specs.declared.headers.PageState.TheVariants as state
 use Rattle.bc_superpages.specs.declared.spaces.Homed.{Homed}
 use Rattle.bc_superpages.specs.declared.parts.SpaceParts.{SpaceParts}
+use Rattle.bc_superpages.specs.Headers.{is_gone}
+use Rattle.bc_superpages.specs.Kept.{IsLayout}
 use Rattle.bc_superpages.specs.Layout.{Layout, superpages, content_at}
 use Rattle.bc_superpages.specs.LayoutAt.{state_at}
 use Rattle.bc_superpages.specs.Contents.{contents}
 use Rattle.bc_superpages.specs.Parts.{state_in, AreParts, parts_layout}
 use Rattle.bc_superpages.proofs.HandLemmas.{state-header}
+use Rattle.bc_superpages.proofs.KeptLemmas.{IsLayout-kept}
+use Rattle.bc_bookmarks.specs.Summarised.{gone_in}
 use Rattle.bc_pins.specs.declared.views.Lodged.{Lodged}
 use Rattle.bc_pins.specs.declared.views.Lodged.TheVariants.{Nothing}
 use Rattle.bc_pins.specs.declared.views.View.{View}
 use Rattle.bc_pins.specs.declared.pins.Seat.{Seat}
 use Rattle.bc_pins.specs.Key.{Key, pages_of, owner}
 use Rattle.bc_pins.specs.Contents.{IsContent, RefersYoung}
-use Rattle.bc_pins.specs.Views.{grips_remembered, state_word, opened_state, opened_content, record_of}
+use Rattle.bc_pins.specs.Views.{grips_remembered, state_word, opened_state, opened_word, opened_content, record_of}
+use Rattle.bc_pins.specs.Totals.{times}
 use Rattle.bc_pins.specs.Rule.{Rule}
 use Rattle.bc_pins.specs.Lodging.{Replaced, box_of, place_of}
 use Rattle.bc_pins.specs.Opening.{HasClosed, IsRest}
@@ -33,6 +39,7 @@ use Rattle.bc_pins.proofs.ReadLemmas.{lies_few}
 use Rattle.bc_pins.proofs.JoinLemmas.{look_none}
 use Rattle.bc_pins.proofs.CloseLemmas.{ends}
 use Rattle.bc_pins.proofs.GatherLemmas.{entries_none}
+use Rattle.bc_pins.proofs.OpenableLemmas.{still_openable}
 use Rattle.bc_pins.proofs.SpaceLemmas.{content_near, content_far, closed_kept, closed_ends, closed_layout}
 
 word_remembered : (st : PageState) → state_word st ≡ 2 → st ≡ state.Remembered
@@ -41,6 +48,19 @@ word_remembered state.Absent e = absurd (omega arith)
 word_remembered state.Home e = absurd (omega arith)
 word_remembered state.Held e = absurd (omega arith)
 word_remembered state.Gone e = absurd (omega arith)
+
+gone_word : (st : PageState) → is_gone st ≡ (state_word st == 4)
+gone_word state.Remembered = refl
+gone_word state.Absent = refl
+gone_word state.Home = refl
+gone_word state.Held = refl
+gone_word state.Gone = refl
+
+same_bit : (a b : Bool) → one_if a ≡ one_if b → a ≡ b
+same_bit true true e = refl
+same_bit false false e = refl
+same_bit true false e = absurd (omega arith)
+same_bit false true e = absurd (omega arith)
 
 -- what a table leaves, where all its seats were joined into one
 pub gathered_ends : (id : TableId) (k : Key) (all : List Seat) (root : Worker Lodged View) (ws : List ℕ) (xs : List Lodged) → Gathered id k all [] root → Final (Seen (Rule k) root.id root.me.0) ws xs → HasClosed k root.me.0 ws xs
@@ -134,6 +154,45 @@ module _ (id : TableId) (k : Key) (all : List Seat) (root : Worker Lodged View) 
         absent = omega arith;
       }
 
+  layout : IsLayout k.opening
+  layout = subst IsLayout e.layout (IsLayout-kept whole.headers.items whole.boxes.items whole.pool whole.nursery.items whole.store.places _ _ _ _ e.rest.kept.kept)
+
+  gone_count : (p : ℕ) → p < pages_of k → one_if (get_or words p 0 == 4) ≡ one_if (opened_word k p == 4)
+  gone_count p lt =
+      let gone = (e.closed.pages p lt).standing.gone in
+      let l : times p v.left ≡ 0 = ap (times p) e.closed.moved.left in
+      let f : times p v.fetched ≡ 0 = ap (times p) e.closed.moved.fetched in
+      omega arith
+
+  gone_same : (p : ℕ) → p < 4 * superpages k.opening → is_gone (state_at (map (λ (h : Header). h.pages) headers) p) ≡ gone_in k.opening p
+  gone_same p lt =
+      let many = supers_are in
+      elim (cases_lt p (pages_of k)) [
+        | inl less ↦
+            gone_word (state_at (map (λ (h : Header). h.pages) headers) p)
+            ∙ same_bit _ _ (ap (λ (n : ℕ). one_if (n == 4)) (word_is p less) ∙ gone_count p less)
+            ∙ sym (gone_word (opened_state k p))
+        | inr le ↦ ap is_gone (state_new p (omega arith) ∙ e.states_are.far p le ∙ sym (state_old p (omega arith)))
+      ]
+
+  gone_kept : (p : ℕ) → p < 4 * superpages k.opening → gone_in k.opening p ≡ true → content_at (contents boxes places) p ≡ opened_content k p
+  gone_kept p lt gone =
+      let many = supers_are in
+      let size = long in
+      elim (cases_lt p (pages_of k)) [
+        | inl less ↦
+            let count = gone_count p less in
+            let one : one_if (opened_word k p == 4) ≡ 1 = ap one_if (sym (gone_word (opened_state k p)) ∙ gone) in
+            near p less ∙ (e.closed.pages p less).gone (one_is (get_or words p 0) 4 (omega arith))
+        | inr le ↦ content_far k whole parts e.rest e.layout e.pool e.nursery e.frames v e.gathered.hand e.gathered.rights words slots e.closed headers e.states_are boxes e.box places e.place p le (omega arith)
+      ]
+
+  fixed_now : (p : ℕ) → p < pages_of k → IsContent k.opening p (content_at (contents boxes places) p)
+  fixed_now p lt = subst (IsContent k.opening p) (sym (near p lt)) (e.closed.pages p lt).fixed
+
+  young_now : (p : ℕ) → p < pages_of k → RefersYoung k.opening p (content_at (contents boxes places) p) → state_at (map (λ (h : Header). h.pages) headers) p ≡ state.Remembered
+  young_now p lt y = word_remembered _ (word_is p lt ∙ (e.closed.pages p lt).young (subst (RefersYoung k.opening p) (near p lt) y))
+
   pub ended_closed : (reads : ℕ) → reads ≡ min (k.opening.reads + opens_of all) (2 ^ 64 - 1) → Closed k all (made reads)
   ended_closed reads is = record {
     same = refl;
@@ -149,8 +208,9 @@ module _ (id : TableId) (k : Key) (all : List Seat) (root : Worker Lodged View) 
           content_far k whole parts e.rest e.layout e.pool e.nursery e.frames v e.gathered.hand e.gathered.rights words slots e.closed headers e.states_are boxes e.box places e.place p le (omega arith),
         );
     states_are = states_closed;
-    fixed = λ p lt. subst (IsContent k.opening p) (sym (near p lt)) (e.closed.pages p lt).fixed;
-    young = λ p lt y. word_remembered _ (word_is p lt ∙ (e.closed.pages p lt).young (subst (RefersYoung k.opening p) (near p lt) y));
+    fixed = fixed_now;
+    young = young_now;
+    openable = λ o. still_openable k _ _ reads layout o (λ p le lt. let many = supers_are in state_old p (omega arith) ∙ e.rest.behind p le) fixed_now young_now gone_same gone_kept;
   }
 
 -- it is known from what each step of a closing tells

@@ -4,6 +4,8 @@ use Rattle.std.proofs.lemmas.List.{length-map}
 use Rattle.bc_superpages.specs.declared.headers.Header.{Header}
 use Rattle.bc_superpages.specs.declared.parts.SpaceParts.{SpaceParts}
 use Rattle.bc_superpages.specs.Layout.{Layout, superpages}
+use Rattle.bc_superpages.specs.Kept.{IsLayout}
+use Rattle.bc_superpages.proofs.KeptLemmas.{IsLayout-kept}
 use Rattle.bc_pins.specs.declared.key.Turn.{Turn}
 use Rattle.bc_pins.specs.declared.key.Role.{Role}
 use Rattle.bc_pins.specs.declared.key.Role.TheVariants.{Lane, Marker, Pager}
@@ -19,6 +21,7 @@ use Rattle.bc_pins.specs.Seating.{AreDealt}
 use Rattle.bc_pins.specs.Opened.{IsKeyOf, Opened}
 use Rattle.bc_pins.proofs.TotalLemmas.{one_other}
 use Rattle.bc_pins.proofs.OpenLemmas.{starts}
+use Rattle.bc_pins.proofs.OpenableLemmas.{openable_ready}
 use Rattle.bc_pins.proofs.MayOpenLemmas.{may_open}
 
 number_some : (r : Role) → 0 < role_number r
@@ -54,9 +57,10 @@ module _ (k : Key) (parts : SpaceParts) (supers : ℕ) (turn : Turn) (holders : 
   drawn_rule words slots filled lodged =
       let size = supers_is in
       let within = drawn.within in
+      let layout : IsLayout k.opening = subst IsLayout drawn.layout (IsLayout-kept parts.headers.items parts.boxes.items parts.pool parts.nursery.items parts.store.places _ _ _ _ drawn.kept.kept) in
       let l : AreLodged parts (pages_of k) slots = subst (λ (n : ℕ). AreLodged parts (4 * n) slots) (sym supers_is) lodged in
       starts k words slots (may_open k parts drawn.kept drawn.layout (sym pool_is) (sym (ap (λ (a : Key). a.nursery) drawn.key)) (frames_are ∙ ap length (sym pool_is))
-      (omega arith) (λ p le. drawn.behind p (omega arith)) drawn.ready
+      (omega arith) (λ p le. drawn.behind p (omega arith)) (openable_ready k.opening layout drawn.openable)
       (λ r. subst (λ (rs : List ℕ). times r rs ≤ 1) (sym roles_are) (drawn.apart r))
       (ap (times 0) roles_are ∙ nobody_has roles)
       words filled l.first slots l.homes l.aways)

@@ -30,6 +30,8 @@ pub mod DealLemmas
 pub mod PartsLemmas
 -- Sums over places
 pub mod SumLemmas
+-- A space over which a table may be opened, and that a closed one gives back
+pub mod OpenableLemmas
 -- A table may be opened with the words and slots that a space's parts give.
 pub mod MayOpenLemmas
 -- Boxes that went into slots, and came back.

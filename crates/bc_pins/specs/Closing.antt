@@ -16,6 +16,7 @@ use Rattle.bc_pins.specs.declared.views.View.{View}
 use Rattle.bc_pins.specs.declared.pins.Seat.{Seat}
 use Rattle.bc_pins.specs.Key.{Key, pages_of, owner}
 use Rattle.bc_pins.specs.Totals.{total, times}
+use Rattle.bc_pins.specs.Opening.{IsOpenable}
 use Rattle.bc_pins.specs.Tidy.{IsTidy}
 use Rattle.bc_pins.specs.Views.{state_word, opened_word, opened_state, opened_content, has_role, record_of}
 
@@ -77,7 +78,8 @@ pub record ClosedState (k : Key) (seats : List Seat) (st : PageState) (p : ℕ) 
   pub absent : one_if (state_word st == 0) ≡ one_if (opened_word k p == 0) + total (λ (seat : Seat). times p (seen_by seat).emptied) seats
 
 -- the space that a closed table gives back: as it was opened, but for the states of pages, their contents and the reads. Each
--- page has the content that its lane's seat records, or else the opening's
+-- page has the content that its lane's seat records, or else the opening's. A table may be opened over it again,
+-- as it could at the opening
 pub record Closed (k : Key) (seats : List Seat) (s : Layout) : Type 0 where
   pub same : s ≡ record k.opening { states = s.states; pages = s.pages; reads = s.reads }
   pub reads : s.reads ≡ min (k.opening.reads + opens_of seats) (2 ^ 64 - 1)
@@ -88,3 +90,4 @@ pub record Closed (k : Key) (seats : List Seat) (s : Layout) : Type 0 where
   pub states_are : (p : ℕ) → p < pages_of k → ClosedState k seats (state_at s.states p) p
   pub fixed : (p : ℕ) → p < pages_of k → IsContent k.opening p (content_at s.pages p)
   pub young : (p : ℕ) → p < pages_of k → RefersYoung k.opening p (content_at s.pages p) → state_at s.states p ≡ state.Remembered
+  pub openable : IsOpenable k.opening → IsOpenable s

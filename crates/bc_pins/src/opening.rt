@@ -6,7 +6,7 @@ ghost use Rattle.bc_superpages.specs.LayoutAt.{state_at};
 ghost use Rattle.bc_superpages.specs.Parts.{AreParts, parts_layout, state_in};
 ghost use Rattle.bc_pins.specs.Key.{Key, pages_of, table_words, is_lanes, lane_role, role_number};
 ghost use Rattle.bc_pins.specs.Totals.{times};
-ghost use Rattle.bc_pins.specs.Opening.{IsReady, key_for};
+ghost use Rattle.bc_pins.specs.Opening.{IsOpenable, key_for};
 ghost use Rattle.bc_pins.specs.Opened.{IsKeyOf, Opened};
 
 use crate::filling::{fill_words, word_count};
@@ -52,7 +52,7 @@ impl Pins {
         holders: &[u32],
         roles: &[Role],
     ) -> Result<(Pins, Vec<Seat>), (Space, AllocError)>
-        requires ready { IsReady space }
+        requires openable { IsOpenable space }
         requires some { 0 < length roles.now }
         requires apart { (r : ℕ) → times r (map role_number roles.now) ≤ 1 }
         ensures opened { IfOk result (λ r. Opened space turn holders.now roles.now r.0 r.1.items) }

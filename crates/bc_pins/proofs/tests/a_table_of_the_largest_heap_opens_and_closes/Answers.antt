@@ -1,10 +1,10 @@
 use Rattle.std.proofs.Common.{rules, ◌<◌, ℕ, length, sym, subst, arith}
-use Rattle.bc_pins.specs.Opening.{IsReady}
-use Rattle.bc_pins.proofs.CallerLemmas.{dealt_back, opening_ready}
+use Rattle.bc_pins.specs.Opening.{IsOpenable}
+use Rattle.bc_pins.proofs.CallerLemmas.{dealt_back, opening_openable}
 use Rattle.bc_pins.proofs.tests.a_table_of_the_largest_heap_opens_and_closes.Goals as goal
 
-pub open-requires-clause-ready : goal.open-requires-clause-ready
-open-requires-clause-ready g c = subst IsReady (sym c.in_ok-space.ensures.opening) (opening_ready 4096 16386 2)
+pub open-requires-clause-openable : goal.open-requires-clause-openable
+open-requires-clause-openable g c = subst IsOpenable (sym c.in_ok-space.ensures.opening) (opening_openable 4096 16386 2)
 
 pub close-space-requires : goal.close-space-requires
 close-space-requires g c =
