@@ -32,7 +32,7 @@ use Rattle.bc_pins.specs.Closing.{seen_by, IsBack, AreBack}
 use Rattle.bc_pins.proofs.TotalLemmas.{one_other, one_few}
 use Rattle.bc_pins.proofs.SumLemmas.{sum_to, sum_same, total_sum, times_total, total_map}
 
-clash : false ≡ true → ⊥
+pub clash : false ≡ true → ⊥
 clash e = cc
 
 none_some : (c : Cell) → None ≡ Some c → ⊥
@@ -95,7 +95,7 @@ bare_ready s none_has promised =
       | inr none_there ↦ none_some c (sym (memory_of-none s.classes s.cells s.pages a none_there) ∙ found)
     ]
 
-set_bare : (f : Header → List ℕ) (n q b : ℕ) → f unused_header ≡ replicate 16 0 → has (set_of (map f (replicate n unused_header)) q) b ≡ false
+pub set_bare : (f : Header → List ℕ) (n q b : ℕ) → f unused_header ≡ replicate 16 0 → has (set_of (map f (replicate n unused_header)) q) b ≡ false
 set_bare f zero q b e = has-beyond [] b (omega arith)
 set_bare f (suc n) zero b e = ap (λ (ws : List ℕ). has ws b) e ∙ has-zeros 16 b
 set_bare f (suc n) (suc q) b e = set_bare f n q b e

@@ -50,3 +50,5 @@ pub mod SpaceLemmas
 pub mod ClosingLemmas
 -- What a caller needs to open a table and to close it: seats that were dealt come back, a space without cells is ready.
 pub mod CallerLemmas
+-- A seat that took pages and put them back
+pub mod VisitLemmas
