@@ -52,3 +52,5 @@ pub mod ClosingLemmas
 pub mod CallerLemmas
 -- A seat that took pages and put them back
 pub mod VisitLemmas
+-- Threads may share a table
+pub mod SharedLemmas
