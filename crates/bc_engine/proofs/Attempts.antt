@@ -5,8 +5,12 @@ use Rattle.std.specs.Prelude.{IsErrOf}
 use Rattle.bc_classes.proofs.ClassLemmas.{class_of-class}
 use Rattle.bc_whole_heap.specs.Closed.{buffer_of}
 use Rattle.bc_whole_heap.specs.LaneChunks.{chunk_of}
+use Rattle.bc_bookmarks.specs.Moves.{MovesPages, NoPageGoes}
+use Rattle.bc_whole_heap.proofs.MovingLemmas.{running-moved, stands-moved}
 use Rattle.bc_running.specs.Running.{RunningView, RunningStands}
-use Rattle.bc_running.specs.RunningFacts.{IsSound, StaysBut}
+use Rattle.bc_running.specs.RunningFacts.{IsSound, StaysBut, with_space}
+use Rattle.bc_running.specs.Touching.{IsTouching, SameRemembered}
+use Rattle.bc_running.proofs.MovingLemmas.{needs-kept}
 use Rattle.bc_model.specs.State.{State}
 use Rattle.bc_model.specs.Step.{step}
 use Rattle.bc_model.specs.declared.operations.Op.{Op}
@@ -15,8 +19,9 @@ use Rattle.bc_model.specs.declared.operations.Reply.{Reply}
 use Rattle.bc_model.specs.declared.traces.Setup.{Setup}
 use Rattle.bc_model.proofs.Steps.{made-step}
 use Rattle.bc_mutator.specs.Operations.{IsOpOf, WantsMore, NeedsEntry}
+use Rattle.bc_mutator.specs.Parts.{touched_slot}
 use Rattle.bc_mutator.specs.declared.operations.Stop.{Stop}
-use Rattle.bc_mutator.specs.declared.operations.Stop.TheVariants.{NurseryFull, BufferFull}
+use Rattle.bc_mutator.specs.declared.operations.Stop.TheVariants.{NurseryFull, BufferFull, NoFrame}
 use Rattle.bc_mutator.proofs.NewLemmas.{births-count, none-later}
 use Rattle.bc_nursery.specs.Entries.{Entries}
 use Rattle.bc_nursery.specs.Objects.{left_of, words_of}
@@ -27,7 +32,7 @@ use Rattle.bc_superpages.specs.LayoutAt.{state_at}
 use Rattle.bc_superpages.specs.RootWords.{RootWords}
 use Rattle.bc_engine.specs.EngineFacts.{CanRunLanes, IsUnrecorded}
 use Rattle.bc_engine.specs.Lanes.{Does, IsHeldUp, Stops}
-use Rattle.bc_engine.proofs.Sizes.{fits-step, op-of_state, none-young}
+use Rattle.bc_engine.proofs.Sizes.{fits-moved, fits-step, op-of_state, none-young}
 
 -- what the operation is to every state that the heap stands for
 abbrev pub IsStep : ℕ → Op → RunningView → RunningView → Reply → Type 0
@@ -38,8 +43,7 @@ pub ready-sound : {setup : Setup} {r : RunningView} → CanRunLanes setup r → 
 ready-sound {setup} {r} ready = record {
   running = ready.order;
   later = λ l lt. none-later r.heap r.holders r.serials ready.meant.0 ready.meant.1 l;
-  frames = omega (arith, ready.fits.nursery, ready.fits.frames, ready.fits.supers);
-  two = omega (arith, ready.fits.nursery, ready.fits.frames, ready.range.superpages.0);
+  frames = omega (arith, ready.fits.nursery, ready.fits.frames, ready.range.frames.0);
   lanes = ready.fits.lanes ∙ sym ready.lanes;
   few = omega (arith, ready.lanes, ready.range.lanes.1);
 }
@@ -60,7 +64,25 @@ does-step {setup} {r} {q} lane op reply ready within fits stays is =
       held = stays.holders;
     }
 
-pub ready-step : (setup : Setup) {r q : RunningView} (lane : ℕ) (op : Op) (x : Result Reply Stop) → StaysBut lane r q → IsSound q → IfOk x (IsStep lane op r q) → OnErr x (q ≡ r) → CanRunLanes setup r → CanRunLanes setup q
+-- where pages move lanes can run on
+pub ready-moved : (setup : Setup) {r q : RunningView} → MovesPages r.heap.space q.heap.space → q ≡ with_space r q.heap.space → CanRunLanes setup r → CanRunLanes setup q
+ready-moved setup {r} {q} moves rest ready = subst (CanRunLanes setup) (sym rest) (record {
+  range = ready.range;
+  order = running-moved r.heap q.heap.space r.holders moves ready.order;
+  fits = fits-moved setup moves ready.fits;
+  lanes = ready.lanes;
+  meant = (ready.meant.0, stands-moved r.heap q.heap.space r.holders r.serials ready.meant.0 moves ready.meant.1);
+})
+
+pub means-moved : {r q : RunningView} → MovesPages r.heap.space q.heap.space → q ≡ with_space r q.heap.space → (state : State) → RunningStands r state → RunningStands q state
+means-moved {r} {q} moves rest state stands =
+    subst (λ (x : RunningView). RunningStands x state) (sym rest) (stands-moved r.heap q.heap.space r.holders r.serials state moves stands)
+
+-- pages moved, and nothing else changed
+abbrev pub IsMoved : RunningView → RunningView → Type 0
+IsMoved r q = MovesPages r.heap.space q.heap.space × (q ≡ with_space r q.heap.space)
+
+pub ready-step : (setup : Setup) {r q : RunningView} (lane : ℕ) (op : Op) (x : Result Reply Stop) → StaysBut lane r q → IsSound q → IfOk x (IsStep lane op r q) → OnErr x (IsMoved r q) → CanRunLanes setup r → CanRunLanes setup q
 ready-step setup {r} {q} lane op (Ok reply) stays sound is same ready = record {
   range = ready.range;
   order = sound.running;
@@ -68,7 +90,7 @@ ready-step setup {r} {q} lane op (Ok reply) stays sound is same ready = record {
   lanes = ap length stays.serials ∙ length-set r.serials lane (get_or q.serials lane 0) ∙ ready.lanes;
   meant = ((step ready.meant.0 lane op).0, (is ready.meant.0 ready.meant.1).1);
 }
-ready-step setup lane op (Err stop) stays sound is same ready = subst (CanRunLanes setup) (sym same) ready
+ready-step setup lane op (Err stop) stays sound is same ready = ready-moved setup same.0 same.1 ready
 
 -- an empty chunk has room for every object
 never-full : (hs : List ℕ) (lane words : ℕ) (c : Nursery) (op : Op) → c.objects ≡ [] → 512 ≤ c.words → WantsMore hs lane (left_of c) op → ⊥
@@ -99,19 +121,29 @@ never-recorded hs lane s roots c b (Copy p q) none needs = needs
 never-recorded hs lane s roots c b (Clear p) none needs = needs
 never-recorded hs lane s roots c b (Same p q) none needs = needs
 
-pub never-stops : {setup : Setup} {r : RunningView} (lane : ℕ) (op : Op) (x : Result Reply Stop) → CanRunLanes setup r → lane < setup.lanes → (chunk_of r.heap.chunks lane).objects ≡ [] → (IsErrOf x NurseryFull → WantsMore r.holders lane (left_of (chunk_of r.heap.chunks lane)) op) → (IsErrOf x BufferFull → NeedsEntry r.holders lane r.heap.space r.heap.roots (chunk_of r.heap.chunks lane) (buffer_of r.heap.buffers lane) op) → OnErr x ⊥
-never-stops lane op (Ok reply) ready within none full wants = tt
-never-stops {setup} {r} lane op (Err NurseryFull) ready within none full wants =
+pub never-stops : {setup : Setup} {r : RunningView} (lane : ℕ) (op : Op) (x : Result Reply Stop) → CanRunLanes setup r → lane < setup.lanes → (chunk_of r.heap.chunks lane).objects ≡ [] → (IsErrOf x NurseryFull → WantsMore r.holders lane (left_of (chunk_of r.heap.chunks lane)) op) → (IsErrOf x BufferFull → NeedsEntry r.holders lane r.heap.space r.heap.roots (chunk_of r.heap.chunks lane) (buffer_of r.heap.buffers lane) op) → (IsErrOf x NoFrame → ⊥) → OnErr x ⊥
+never-stops lane op (Ok reply) ready within none full wants frame = tt
+never-stops {setup} {r} lane op (Err NurseryFull) ready within none full wants frame =
     let long : (chunk_of r.heap.chunks lane).words ≡ 512 * setup.nursery = ready.fits.words lane within in
     never-full r.holders lane 0 (chunk_of r.heap.chunks lane) op none (omega (arith, long, ready.range.nursery.0)) (full refl)
-never-stops {setup} {r} lane op (Err BufferFull) ready within none full wants =
+never-stops {setup} {r} lane op (Err BufferFull) ready within none full wants frame =
     never-recorded r.holders lane r.heap.space r.heap.roots (chunk_of r.heap.chunks lane) (buffer_of r.heap.buffers lane) op none (wants refl)
 
 -- why an operation stopped
-pub why-stopped : (A B : Type 0) (r : Result Reply Stop) → (IsErrOf r NurseryFull → A) → (IsErrOf r BufferFull → B) → OnErr r (A ⊎ B)
-why-stopped A B (Ok reply) full wants = tt
-why-stopped A B (Err NurseryFull) full wants = inl (full refl)
-why-stopped A B (Err BufferFull) full wants = inr (wants refl)
+pub why-stopped : (A B C : Type 0) (r : Result Reply Stop) → (IsErrOf r NurseryFull → A) → (IsErrOf r BufferFull → B) → (IsErrOf r NoFrame → C) → OnErr r (A ⊎ (B ⊎ C))
+why-stopped A B C (Ok reply) full wants frame = tt
+why-stopped A B C (Err NurseryFull) full wants frame = inl (full refl)
+why-stopped A B C (Err BufferFull) full wants frame = inr (inl (wants refl))
+why-stopped A B C (Err NoFrame) full wants frame = inr (inr (frame refl))
+
+-- of the heap of which pages moved
+pub still-stops : (lane : ℕ) (op : Op) {r q : RunningView} → IsMoved r q
+    → (WantsMore r.holders lane (left_of (chunk_of r.heap.chunks lane)) op) ⊎ ((NeedsEntry r.holders lane r.heap.space r.heap.roots (chunk_of r.heap.chunks lane) (buffer_of r.heap.buffers lane) op) ⊎ (IsTouching (touched_slot op) × NoPageGoes r.heap.space × (q ≡ r)))
+    → Stops lane op q
+still-stops lane op {r} {q} moved (inl wants) = subst (Stops lane op) (sym moved.1) (inl wants)
+still-stops lane op {r} {q} moved (inr (inl needs)) =
+    subst (Stops lane op) (sym moved.1) (inr (inl (needs-kept r.holders lane r.heap.roots (chunk_of r.heap.chunks lane) (buffer_of r.heap.buffers lane) op moved.0 needs)))
+still-stops lane op {r} {q} moved (inr (inr frame)) = subst (Stops lane op) (sym frame.2) (inr (inr (frame.0, frame.1)))
 
 -- only at capacity an entry is needed that isn't there
 at-capacity : (hs : List ℕ) (lane : ℕ) (s : Layout) (roots : RootWords) (c : Nursery) (b : Entries) (op : Op) → NeedsEntry hs lane s roots c b op → length b.entries ≡ b.capacity
@@ -128,13 +160,14 @@ at-capacity hs lane s roots c b (Same p q) needs = absurd needs
 
 pub held-up : (lane : ℕ) (op : Op) (r : RunningView) → Stops lane op r → IsHeldUp lane op r
 held-up lane op r (inl wants) = inl wants
-held-up lane op r (inr needs) = inr (at-capacity r.holders lane r.heap.space r.heap.roots (chunk_of r.heap.chunks lane) (buffer_of r.heap.buffers lane) op needs)
+held-up lane op r (inr (inr frame)) = inr (inr frame.0)
+held-up lane op r (inr (inl needs)) = inr (inl (at-capacity r.holders lane r.heap.space r.heap.roots (chunk_of r.heap.chunks lane) (buffer_of r.heap.buffers lane) op needs))
 
--- where nothing was recorded nothing is, if neither a buffer nor the state of a page changed
-pub unrecorded-kept : {lane : ℕ} {r q : RunningView} → (q.heap.buffers ≡ r.heap.buffers) × (q.heap.space.states ≡ r.heap.space.states) → StaysBut lane r q → IsUnrecorded r.heap → IsUnrecorded q.heap
+-- where nothing was recorded nothing is, if no buffer changed and no page became Remembered
+pub unrecorded-kept : {lane : ℕ} {r q : RunningView} → (q.heap.buffers ≡ r.heap.buffers) × SameRemembered r.heap.space q.heap.space → StaysBut lane r q → IsUnrecorded r.heap → IsUnrecorded q.heap
 unrecorded-kept {lane} {r} {q} same stays none = record {
   entries = λ l. ap (λ (bs : List Entries). (buffer_of bs l).entries) same.0 ∙ none.entries l;
   remembered = λ p lt is.
       none.remembered p (let long = ap (λ (s : Layout). superpages s) stays.space in omega arith)
-      (ap (λ (ss : List (List PageState)). state_at ss p) (sym same.1) ∙ is);
+      ((same.1 p).0 is);
 }

@@ -2,8 +2,7 @@
 use Rattle.std.proofs.Common.{Vec, Global, ◌≡◌, ℕ, List, slice_index, length, map, sym, ap, subst, ◌∙◌}
 use Rattle.std.proofs.Math.ListN.{get_or-map}
 use Rattle.std.proofs.lemmas.List.{length-map}
-use Rattle.bc_bits.specs.Bits.{has}
-use Rattle.bc_cycle.specs.Emptying.{IsUnbookmarked, IsEmptied, IsAsBefore}
+use Rattle.bc_cycle.specs.Emptying.{IsEmptied, IsAsBefore}
 use Rattle.bc_cycle.proofs.ChunkLists.{chunk-emptied}
 use Rattle.bc_failsafe.specs.Packing.{NeedOfHeap}
 use Rattle.bc_whole_heap.specs.Closed.{buffer_of, no_buffer}
@@ -20,7 +19,7 @@ use Rattle.bc_nursery.specs.Objects.{bare_nursery, emptied}
 use Rattle.bc_nursery.specs.Nurseries.{Nursery}
 use Rattle.bc_standing.specs.Standing.{StandsFor, AllBorn}
 use Rattle.bc_promotion.specs.Promises.{HasDomainsBelow}
-use Rattle.bc_superpages.specs.Layout.{Layout, set_of}
+use Rattle.bc_superpages.specs.Layout.{Layout}
 use Rattle.bc_superpages.specs.RootWords.{RootWords}
 use Rattle.bc_model.specs.declared.operations.Op.{Op}
 use Rattle.bc_model.specs.declared.operations.Reply.{Reply}
@@ -70,13 +69,6 @@ used-kept : (setup : Setup) (h k : HeapView) → h.roots.domains ≡ setup.domai
 used-kept setup h k domains keeps used =
     subst (λ (n : ℕ). HasDomainsBelow k.space n) domains (keeps (subst (λ (n : ℕ). HasDomainsBelow h.space n) (sym domains) used))
 
--- what nothing bookmarks, where bookmarks and counters stay
-unbookmarked-kept : (s t : Layout) → t.bookmarks ≡ s.bookmarks → t.incoming ≡ s.incoming → IsUnbookmarked s → IsUnbookmarked t
-unbookmarked-kept s t bookmarks incoming none = record {
-  bookmarks = λ q b. ap (λ (sets : List (List ℕ)). has (set_of sets q) b) bookmarks ∙ none.bookmarks q b;
-  incoming = λ q. ap (λ (ns : List ℕ). slice_index ns q) incoming ∙ none.incoming q;
-}
-
 fits-emptied : (setup : Setup) {h k : HeapView} → IsEmptied h k → HasSetup h setup → HasSetup k setup
 fits-emptied setup {h} {k} is fits = record {
   supers = is.sizes.supers ∙ fits.supers;
@@ -88,7 +80,6 @@ fits-emptied setup {h} {k} is fits = record {
   nursery = is.sizes.nursery ∙ fits.nursery;
   frames = is.sizes.frames ∙ fits.frames;
   used = used-kept setup h k fits.domains is.domains fits.used;
-  unbookmarked = is.unbookmarked fits.unbookmarked;
 }
 
 ready-emptied : {hs serials : List ℕ} {h k : HeapView} (setup : Setup) → IsEmptied h k → CanRunLanes setup (running_of h hs serials) → CanRunLanes setup (running_of k hs serials)
@@ -134,7 +125,6 @@ ready-before {hs} {serials} {h} {k} setup is ready = record {
     nursery = is.sizes.nursery ∙ ready.fits.nursery;
     frames = is.sizes.frames ∙ ready.fits.frames;
     used = used-kept setup h k ready.fits.domains is.domains ready.fits.used;
-    unbookmarked = unbookmarked-kept h.space k.space (ap (λ (s : Layout). s.bookmarks) is.only) (ap (λ (s : Layout). s.incoming) is.only) ready.fits.unbookmarked;
   };
   lanes = ready.lanes;
   meant = (ready.meant.0, stands-before ready.meant.0 is ready.meant.1);

@@ -63,7 +63,7 @@ ready-given {setup} {r} d l none empty within ready =
     record {
       range = ready.range;
       order = record {
-        none_gone = order.none_gone;
+        summarised = order.summarised;
         none_promised = order.none_promised;
         laid = order.laid;
         once = order.once;

@@ -3,9 +3,6 @@ use Rattle.std.proofs.Common.{◌≡◌, ℕ, ◌+◌, ◌*◌, ◌/◌, ◌%◌
 use Prim.Native.Nat.{zero, suc}
 use Rattle.std.proofs.lemmas.Bool.{cases_lt}
 use Rattle.std.proofs.lemmas.List.{get_or-map, get_or_past, get_or-replicate, length-map, length-replicate}
-use Rattle.bc_cycle.specs.Emptying.{IsUnbookmarked}
-use Rattle.bc_bits.specs.Bits.{has}
-use Rattle.bc_bits.proofs.BitLemmas.{has-zeros, has-beyond}
 use Rattle.bc_cycle.specs.Openings.{new_heap}
 use Rattle.bc_cycle.proofs.OpeningLemmas.{chunk-at, chunk-none, chunks-long, supers-long, no_object, no_entries, opening-running}
 use Rattle.bc_failsafe.proofs.OpeningLemmas.{nothing}
@@ -86,19 +83,6 @@ none-used n f k domains q used = absurd (false_true (sym (unused n q) ∙ used))
     unused (suc m) zero = refl
     unused (suc m) (suc p) = unused m p
 
-none-bookmarked : (n f k : ℕ) → IsUnbookmarked (space.new_space n f k)
-none-bookmarked n f k = record { bookmarks = none n; incoming = zeros n }
-  where
-    none : (m q b : ℕ) → has (get_or (map (λ (h : Header). h.bookmarks) (replicate m unused_header)) q []) b ≡ false
-    none zero q b = has-beyond [] b (omega arith)
-    none (suc m) zero b = has-zeros 16 b
-    none (suc m) (suc q) b = none m q b
-
-    zeros : (m q : ℕ) → get_or (map (λ (h : Header). h.incoming) (replicate m unused_header)) q 0 ≡ 0
-    zeros zero q = refl
-    zeros (suc m) zero = refl
-    zeros (suc m) (suc q) = zeros m q
-
 opening-stands : (s : Setup) → IsSetup s → StandsAs (new_heap s) (opening s).holders (replicate s.lanes 0) (opening s)
 opening-stands s range =
     let h = new_heap s in
@@ -111,7 +95,7 @@ opening-stands s range =
             (ReadAs-nil (births m) (s.domains * s.slots)));
         home = λ b r. absurd (none-reached s b r);
       };
-      born = λ a b e. absurd (let c = births-cell m a b e in nothing s.superpages (s.lanes * s.nursery + 4 * s.superpages) (s.lanes * s.nursery) a h.chunks (no_object s) (c.0, c.1));
+      born = λ a b e. absurd (let c = births-cell m a b e in nothing s.superpages s.frames (s.lanes * s.nursery) a h.chunks (no_object s) (c.0, c.1));
       held = refl;
       births = no-births s.lanes;
       domains = sym (length-map (numbers_below s.domains) (λ d. d % s.lanes) ∙ length-numbers_below s.domains);
@@ -127,7 +111,7 @@ ready-opening : (s : Setup) → IsSetup s → CanRunLanes s (new_running s)
 ready-opening s range =
     let n = s.superpages in
     let nursery = s.lanes * s.nursery in
-    let frames = nursery + 4 * n in
+    let frames = s.frames in
     record {
       range = range;
       order = opening-running s (omega (arith, range.lanes.0));
@@ -141,7 +125,6 @@ ready-opening s range =
         nursery = refl;
         frames = refl;
         used = none-used n frames nursery s.domains;
-        unbookmarked = none-bookmarked n frames nursery;
       };
       lanes = length-replicate s.lanes 0;
       meant = (opening s, opening-stands s range);

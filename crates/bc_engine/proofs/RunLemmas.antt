@@ -20,7 +20,7 @@ use Rattle.bc_nursery.specs.Objects.{left_of}
 use Rattle.bc_nursery.specs.Nurseries.{Nursery}
 use Rattle.bc_engine.specs.EngineFacts.{CanRunLanes}
 use Rattle.bc_engine.specs.Lanes.{of_lane, BirthsWithin, Does, EachFurther, LanesWentOn, HasSerialsLeft, IsAtEndOr, IsHeldUp, IsOneMore, LeavesOthers, LanesRan, Stops, left}
-use Rattle.bc_engine.proofs.Attempts.{held-up}
+use Rattle.bc_engine.proofs.Attempts.{IsMoved, held-up, means-moved, ready-moved}
 use Rattle.bc_engine.proofs.GoingLemmas.{with_reply, goes-none, goes-then, goes-step}
 
 -- nothing was done, and the heap stands for what it stood for
@@ -50,6 +50,11 @@ runs-then g e = record {
   births = λ j. omega (arith, e.births j, g.births j);
   held = e.held ∙ g.held;
 }
+
+-- pages moved, and nothing was done
+pub runs-moved : (lanes : List (List Op)) (r q : RunningView) (told : List (Vec Reply Global)) → IsMoved r q → LanesRan lanes r told q told
+runs-moved lanes r q told moved =
+    runs-none lanes r q told (ap (λ (x : RunningView). x.holders) moved.1) (ap (λ (x : RunningView). x.serials) moved.1) (λ state st. means-moved moved.0 moved.1 state st) (λ setup ready. ready-moved setup moved.0 moved.1 ready)
 
 -- the list behind a lane's Vec
 pub of_lane-vec : {X : Type 0} (vs : List (Vec X Global)) (lane : ℕ) (v : Vec X Global) → lane < length vs → v ≡ get_or vs lane v → of_lane (lists_of vs) lane ≡ v.items
@@ -175,6 +180,14 @@ pub told-other : (vs : List (Vec Reply Global)) (lane l : ℕ) (w : Vec Reply Gl
 told-other vs lane l w ne =
     ap (λ (rs : List (List Reply)). of_lane rs l) (map-set (λ (x : Vec Reply Global). x.items) vs lane w) ∙ get_or-set_other (lists_of vs) lane l w.items [] ne
 
+pub leaves-moved : (lane : ℕ) (r q : RunningView) (told : List (List Reply)) → IsMoved r q → LeavesOthers lane r told q told
+leaves-moved lane r q told moved = record {
+  chunk = λ l ne. ap (λ (x : RunningView). chunk_of x.heap.chunks l) moved.1;
+  buffer = λ l ne. ap (λ (x : RunningView). buffer_of x.heap.buffers l) moved.1;
+  replies = λ l ne. refl;
+  held = ap (λ (x : RunningView). x.holders) moved.1;
+}
+
 pub leaves-same : (lane : ℕ) (r q : RunningView) (told : List (List Reply)) → q ≡ r → LeavesOthers lane r told q told
 leaves-same lane r q told same = record {
   chunk = λ l ne. ap (λ (x : RunningView). chunk_of x.heap.chunks l) same;
@@ -196,7 +209,8 @@ still-held : {lane : ℕ} (l : ℕ) (op : Op) {r q : RunningView} {told answers 
 still-held l op {r} {q} leaves ne (inl wants) =
     inl (subst (λ (hs : List ℕ). WantsMore hs l (left_of (chunk_of q.heap.chunks l)) op) (sym leaves.held)
     (subst (λ (c : Nursery). WantsMore r.holders l (left_of c) op) (sym (leaves.chunk l ne)) wants))
-still-held l op leaves ne (inr full) = inr (subst (λ (b : Entries). length b.entries ≡ b.capacity) (sym (leaves.buffer l ne)) full)
+still-held l op leaves ne (inr (inl full)) = inr (inl (subst (λ (b : Entries). length b.entries ≡ b.capacity) (sym (leaves.buffer l ne)) full))
+still-held l op leaves ne (inr (inr touches)) = inr (inr touches)
 
 weaker : (P Q : Op → Type 0) (ops : List Op) (rs : List Reply) → ((op : Op) → P op → Q op) → IsAtEndOr ops rs P → IsAtEndOr ops rs Q
 weaker P Q ops rs f (inl end) = inl end

@@ -3,7 +3,7 @@ use Rattle.std.proofs.Common.{◌≡◌, ℕ, Bool, true, false, ◌==◌, List,
 use Rattle.std.proofs.lemmas.Bool.{cases_eq}
 use Rattle.std.specs.List.{find}
 use Rattle.std.specs.Option.{is_some}
-use Rattle.bc_cycle.specs.Emptying.{IsUnbookmarked}
+use Rattle.bc_bookmarks.specs.Moves.{MovesPages}
 use Rattle.bc_whole_heap.specs.Closed.{buffer_of}
 use Rattle.bc_whole_heap.specs.LaneChunks.{chunk_of}
 use Rattle.bc_whole_heap.specs.Heaps.{object_in, HeapView}
@@ -62,7 +62,20 @@ fits-step setup {lane} {r} {q} stays fits = record {
   nursery = ap (λ (s : Layout). s.nursery) stays.space ∙ fits.nursery;
   frames = ap (λ (s : Layout). s.frames) stays.space ∙ fits.frames;
   used = subst (λ (s : Layout). HasDomainsBelow s setup.domains) (sym stays.space) fits.used;
-  unbookmarked = subst (λ (s : Layout). IsUnbookmarked s) (sym stays.space) (record { bookmarks = fits.unbookmarked.bookmarks; incoming = fits.unbookmarked.incoming });
+}
+
+-- nor do pages that move
+pub fits-moved : (setup : Setup) {h : HeapView} {t : Layout} → MovesPages h.space t → HasSetup h setup → HasSetup (record h { space = t }) setup
+fits-moved setup moves fits = record {
+  supers = ap (λ (s : Layout). superpages s) moves.same ∙ fits.supers;
+  domains = fits.domains;
+  slots = fits.slots;
+  lanes = fits.lanes;
+  words = fits.words;
+  entries = fits.entries;
+  nursery = ap (λ (s : Layout). s.nursery) moves.same ∙ fits.nursery;
+  frames = ap (λ (s : Layout). s.frames) moves.same ∙ fits.frames;
+  used = subst (λ (s : Layout). HasDomainsBelow s setup.domains) (sym moves.same) fits.used;
 }
 
 -- an empty chunk has no object

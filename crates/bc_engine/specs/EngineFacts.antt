@@ -1,6 +1,5 @@
 -- What is true of an engine between calls.
 use Rattle.std.specs.Prelude.{◌≡◌, ◌≢◌, ℕ, ◌+◌, ◌*◌, ◌^◌, ◌<◌, ◌≤◌, List, [], length, Some, None, slice_index}
-use Rattle.bc_cycle.specs.Emptying.{IsUnbookmarked}
 use Rattle.bc_whole_heap.specs.Closed.{buffer_of}
 use Rattle.bc_whole_heap.specs.LaneChunks.{chunk_of}
 use Rattle.bc_whole_heap.specs.Heaps.{HeapView}
@@ -19,8 +18,7 @@ use Rattle.bc_engine.specs.Engines.{EngineView}
 abbrev pub with_holders : EngineView → List ℕ → EngineView
 with_holders e holders = record e { running = record (e.running) { holders = holders } }
 
--- the heap has the setup's superpages, root slots, chunks, buffers and frames: a frame for every page. Superpages are in use for the
--- setup's domains. No page was ever evicted, so nothing is bookmarked
+-- the heap has the setup's superpages, root slots, chunks, buffers and frames. Superpages are in use for the setup's domains
 pub record HasSetup (h : HeapView) (setup : Setup) : Type 0 where
   pub supers : superpages h.space ≡ setup.superpages
   pub domains : h.roots.domains ≡ setup.domains
@@ -29,9 +27,8 @@ pub record HasSetup (h : HeapView) (setup : Setup) : Type 0 where
   pub words : (l : ℕ) → l < setup.lanes → (chunk_of h.chunks l).words ≡ 512 * setup.nursery
   pub entries : (l : ℕ) → l < setup.lanes → (buffer_of h.buffers l).capacity ≡ setup.buffer
   pub nursery : h.space.nursery ≡ setup.lanes * setup.nursery
-  pub frames : h.space.frames ≡ setup.lanes * setup.nursery + 4 * setup.superpages
+  pub frames : h.space.frames ≡ setup.frames
   pub used : HasDomainsBelow h.space setup.domains
-  pub unbookmarked : IsUnbookmarked h.space
 
 -- all write buffers are empty, and no page is remembered
 pub record IsUnrecorded (h : HeapView) : Type 0 where

@@ -2,6 +2,7 @@
 use Rattle.std.specs.Prelude.{◌≡◌, ◌≢◌, ℕ, ◌+◌, ◌-◌, ◌^◌, ◌<◌, ◌≤◌, ◌⊎◌, List, [], ◌∷◌, ◌++◌, length, take, Vec, vec_capacity, slice_index, slice_index_or}
 use Rattle.std.specs.List.{AllByRecursion}
 use Rattle.std.specs.declared.alloc.Global.{Global}
+use Rattle.bc_bookmarks.specs.Moves.{NoPageGoes}
 use Rattle.bc_whole_heap.specs.Closed.{buffer_of}
 use Rattle.bc_whole_heap.specs.LaneChunks.{chunk_of}
 use Rattle.bc_model.specs.Interleaving.{LaneOp, after_steps, replies_by, ops_by}
@@ -13,10 +14,12 @@ use Rattle.bc_model.specs.declared.operations.Op.{Op}
 use Rattle.bc_model.specs.declared.operations.Reply.{Reply}
 use Rattle.bc_model.specs.declared.traces.Setup.{Setup}
 use Rattle.bc_mutator.specs.Operations.{WantsMore, NeedsEntry}
+use Rattle.bc_mutator.specs.Parts.{touched_slot}
 use Rattle.bc_nursery.specs.Objects.{left_of}
 use Rattle.bc_engine.specs.Engines.{EngineView}
 use Rattle.bc_engine.specs.EngineFacts.{CanRunLanes}
 use Rattle.bc_running.specs.Running.{RunningView, RunningStands}
+use Rattle.bc_running.specs.Touching.{IsTouching}
 
 -- the operations of a lane, or its replies
 abbrev pub of_lane : {X : Type 0} → List (List X) → ℕ → List X
@@ -77,18 +80,20 @@ abbrev pub IsOneMore : List Op → List Reply → List Reply → Type 0
 IsOneMore ops before after = (length before < length ops) × (length after ≡ length before + 1)
 
 -- an operation of a lane can't be done yet: the object takes more words than are left of the chunk, or an entry is needed and
--- the write buffer is at capacity
+-- the write buffer is at capacity, or it looks at an object, no frame is free and no page can leave
 abbrev pub Stops : ℕ → Op → RunningView → Type 0
 Stops lane op r =
     WantsMore r.holders lane (left_of (chunk_of r.heap.chunks lane)) op
-    ⊎ NeedsEntry r.holders lane r.heap.space r.heap.roots (chunk_of r.heap.chunks lane) (buffer_of r.heap.buffers lane) op
+    ⊎ (NeedsEntry r.holders lane r.heap.space r.heap.roots (chunk_of r.heap.chunks lane) (buffer_of r.heap.buffers lane) op
+    ⊎ (IsTouching (touched_slot op) × NoPageGoes r.heap.space))
 
--- the object takes more words than are left of the lane's chunk, or its write buffer is at capacity: what of that no other lane
--- changes
+-- the object takes more words than are left of the lane's chunk, or its write buffer is at capacity, or the operation looks at an
+-- object: what of that no other lane changes
 abbrev pub IsHeldUp : ℕ → Op → RunningView → Type 0
 IsHeldUp lane op r =
     WantsMore r.holders lane (left_of (chunk_of r.heap.chunks lane)) op
-    ⊎ (length (buffer_of r.heap.buffers lane).entries ≡ (buffer_of r.heap.buffers lane).capacity)
+    ⊎ ((length (buffer_of r.heap.buffers lane).entries ≡ (buffer_of r.heap.buffers lane).capacity)
+    ⊎ IsTouching (touched_slot op))
 
 -- all of a lane's operations have replies, or this is true of the next one
 abbrev pub IsAtEndOr : List Op → List Reply → (Op → Type 0) → Type 0

@@ -8,6 +8,8 @@ pub mod Phases
 pub mod Answers
 -- What lanes do of a phase
 pub mod Lanes
+-- The turns of a phase
+pub mod Turns
 -- The rounds of a phase
 pub mod Rounds
 pub mod Inside

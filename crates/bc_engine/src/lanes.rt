@@ -12,14 +12,14 @@ use bc_model::{Op, Reply};
 use bc_running::Running;
 
 /// Does the next operation of a lane and keeps its reply. It answers `false` where the lane is at its end, or its operation
-/// stops; then nothing has changed.
+/// stops; then at most pages have moved.
 fn advance(running: &mut Running, lanes: &[Vec<Op>], replies: &mut [Vec<Reply>], lane: u32) -> bool
     requires lane { lane < length lanes.now }
     requires underway { (setup : Setup) × IsUnderway setup (lists_of lanes.now) running.old replies.old }
     ensures runs { LanesRan (lists_of lanes.now) running.old replies.old running.new replies.new }
     ensures further { result ≡ true → IsOneMore (of_lane (lists_of lanes.now) lane) (of_lane (lists_of replies.old) lane) (of_lane (lists_of replies.new) lane) }
     ensures stopped { result ≡ false → IsAtEndOr (of_lane (lists_of lanes.now) lane) (of_lane (lists_of replies.new) lane) (λ op. Stops lane op running.new) }
-    ensures alone { (chunk_of running.old.heap.chunks lane).objects ≡ [] → result ≡ false
+    ensures alone { (chunk_of running.old.heap.chunks lane).objects ≡ [] → IsUnrecorded running.old.heap → result ≡ false
         → length (of_lane (lists_of lanes.now) lane) ≤ length (of_lane (lists_of replies.new) lane) }
     ensures unrecorded { (chunk_of running.old.heap.chunks lane).objects ≡ [] → IsUnrecorded running.old.heap → IsUnrecorded running.new.heap }
     ensures others { LeavesOthers lane running.old (lists_of replies.old) running.new (lists_of replies.new) }
@@ -61,8 +61,8 @@ pub(crate) fn run_lanes(running: &mut Running, lanes: &[Vec<Op>], replies: &mut 
     }
 }
 
-/// Does one operation of each lane that isn't at its end, in the order of the lanes. All chunks and write buffers are empty, so
-/// none stops.
+/// Does one operation of each lane that isn't at its end, in the order of the lanes. All chunks and write buffers are empty, and no page
+/// is Remembered, so none stops: a page that is wanted comes home, since every other one can leave.
 pub(crate) fn step_lanes(running: &mut Running, lanes: &[Vec<Op>], replies: &mut [Vec<Reply>])
     requires underway { (setup : Setup) × IsUnderway setup (lists_of lanes.now) running.old replies.old }
     requires empty { HasEmptyChunks running.old.heap }

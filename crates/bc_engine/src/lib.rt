@@ -38,6 +38,7 @@ mod engines;
 mod lanes;
 mod phases;
 mod rounds;
+mod turns;
 
 pub use answers::Answer;
 pub use engines::Engine;

@@ -39,7 +39,7 @@ impl Engine {
     /// It answers `OutOfHeap` where an emptying of the nurseries finds that the heap is too small, with the replies up to there,
     /// and `NoMemory` where there is no memory for all replies or for an emptying. Both end the engine. One that ended for want of
     /// heap answers the same need again with no replies, and changes nothing; one that ended for want of memory answers that
-    /// alone. No page leaves the heap, so the hints of the phase's turns change nothing.
+    /// alone. After each turn of the lanes pages are given up for the hints of the turn's line, which no reply tells.
     pub fn phase<R, G>(
         &mut self,
         rt: &R,
@@ -105,7 +105,7 @@ impl Engine {
         ensures births { (j : ℕ) → slice_index self.new.running.serials j ≤ slice_index self.old.running.serials j + length (of_lane phase.now.lanes j) }
     {
         self.facts();
-        match self.rounds(rt, alloc, &phase.lanes, &mut replies, gate) {
+        match self.rounds(rt, alloc, &phase.lanes, &phase.turns, &mut replies, gate) {
             Ok(()) => {
                 self.facts();
                 self.give_all(&phase.gives);

@@ -1,7 +1,10 @@
 -- A field of a cell is written: the heap stays closed, since a reference to the lane's chunk is recorded.
 use Rattle.std.proofs.Common.{◌≡◌, ◌≢◌, ◌⊎◌, ℕ, ◌<◌, true, false, List, [], ◌∷◌, length, get_or, set, Option, Some, refl, sym, ap, subst, ◌∙◌, inl, inr, arith, get_or-set_same, get_or-set_other, length-set}
-use Rattle.std.proofs.lemmas.Bool.{cases_eq, cases_lt}
+use Rattle.std.proofs.lemmas.Bool.{cases_eq, cases_lt, false≢true}
 use Rattle.std.proofs.lemmas.List.{get_or_append_left, get_or_push, length_push}
+use Rattle.bc_bits.specs.Bits.{has}
+use Rattle.bc_bookmarks.specs.Summarised.{IsSummarised, gone_in, LeavesSummary}
+use Rattle.bc_bookmarks.proofs.SummaryLemmas.{SummarisedOn-left}
 use Rattle.bc_whole_heap.specs.Closed.{buffer_of, no_buffer, IsCellOrYoung, IsRecorded, IsEntry, IsClosedHeap}
 use Rattle.bc_whole_heap.specs.LaneChunks.{chunk_of}
 use Rattle.bc_whole_heap.specs.Heaps.{end_of, heap_memory}
@@ -18,11 +21,13 @@ use Rattle.bc_nursery.specs.Nurseries.{Nursery}
 use Rattle.bc_nursery.specs.Survivors.{entry_at, no_entry}
 use Rattle.bc_standing.specs.Standing.{births}
 use Rattle.bc_standing.proofs.Writing.{births-with_cell}
+use Rattle.bc_superpages.specs.declared.headers.PageState.{PageState}
 use Rattle.bc_superpages.specs.declared.headers.PageState.TheVariants.{Remembered}
 use Rattle.bc_superpages.specs.Headers.{is_gone}
 use Rattle.bc_superpages.specs.Kept.{IsLayout}
-use Rattle.bc_superpages.specs.Layout.{Layout, superpages, is_cell}
+use Rattle.bc_superpages.specs.Layout.{Layout, superpages, set_of, is_cell}
 use Rattle.bc_superpages.specs.LayoutAt.{state_at, IsAllocated}
+use Rattle.bc_superpages.specs.Paging.{is_bookmarked}
 use Rattle.bc_superpages.specs.Memory as space
 use Rattle.bc_superpages.specs.RootWords.{RootWords}
 use Rattle.bc_superpages.proofs.MemoryLemmas.{memory_of-cell}
@@ -56,14 +61,17 @@ pub there-same : (s t : Layout) (c : Nursery) (a : ℕ) → t ≡ record s { sta
 there-same s t c a e (inl on) = inl (allocated-same s t a e ∙ on)
 there-same s t c a e (inr on) = inr on
 
--- remembered pages stay so, and no page goes
+-- remembered pages stay so, and exactly the pages that were Gone are
 still-remembered : (s t : Layout) (p : ℕ) → (state_at t.states p ≡ state_at s.states p) ⊎ (state_at t.states p ≡ Remembered) → state_at s.states p ≡ Remembered → state_at t.states p ≡ Remembered
 still-remembered s t p (inl same) e = same ∙ e
 still-remembered s t p (inr now) e = now
 
-still-there : (s t : Layout) (p : ℕ) → (state_at t.states p ≡ state_at s.states p) ⊎ (state_at t.states p ≡ Remembered) → is_gone (state_at s.states p) ≡ false → is_gone (state_at t.states p) ≡ false
-still-there s t p (inl same) e = ap is_gone same ∙ e
-still-there s t p (inr now) e = ap is_gone now
+still-gone : (s t : Layout) (b e : Entries) (at : Address) (index : ℕ) (word : Word) (p : ℕ) → is_gone (state_at s.states (page_of at.0)) ≡ false → Records s t b e at index word → is_gone (state_at t.states p) ≡ is_gone (state_at s.states p)
+still-gone s t b e at index word p here (inl r) = ap (λ (x : List (List PageState)). is_gone (state_at x p)) r.1.1
+still-gone s t b e at index word p here (inr r) = elim (cases_eq p (page_of at.0)) [
+  | inl same ↦ ap (λ (x : ℕ). is_gone (state_at t.states x)) same ∙ ap is_gone r.1.1.here ∙ sym here ∙ ap (λ (x : ℕ). is_gone (state_at s.states x)) (sym same)
+  | inr ne ↦ ap is_gone (r.1.1.others p ne)
+]
 
 -- a cell that has this head and as many fields
 pub record HasAlike (s : Layout) (a : ℕ) (c : Cell) : Type 0 where
@@ -299,11 +307,26 @@ module _ (s t : Layout) (r : RootWords) (cs : List Nursery) (bs es : List Entrie
       ∙ births-with_cell (heap_memory s cs) at.0 (cell_of s (chunk_of cs lane) at.0) (with_field (cell_of s (chunk_of cs lane) at.0) index word)
       (memory-there s cs lane at.0 layout apart w.lane_within (inl w.on)) refl
 
+  -- what lies on Gone pages is as it was, so the space stays summarised
+  leaves : LeavesSummary s (gone_in s) t
+  leaves = record {
+    long = ap superpages w.wrote.space;
+    objects = λ x gone. elsewhere x (λ same. false≢true (sym w.wrote.here ∙ ap (λ (y : ℕ). gone_in s (page_of y)) (sym same) ∙ gone));
+    bookmarks = ap (λ (z : Layout). z.bookmarks) w.wrote.space;
+    counters = ap (λ (z : Layout). z.incoming) w.wrote.space;
+    bookmarked = λ a on. subst (λ (z : Layout). is_bookmarked z a ≡ true) (sym w.wrote.space) on;
+    bits = λ q b lt on. subst (λ (z : Layout). (has (set_of z.cells q) b ≡ true) ⊎ (has (set_of z.promised q) b ≡ true)) (sym w.wrote.space) (w.run.summarised.bits q b lt on);
+  }
+
+  mature-summarised : IsSummarised t
+  mature-summarised =
+      SummarisedOn-left s t (gone_in s) (gone_in t) (λ p lt. still-gone s t (buffer_of bs lane) (buffer_of es lane) at index word p w.wrote.here w.wrote.entry) leaves w.run.summarised
+
   pub mature-running : IsLayout s → AreApart (end_of s) cs → IsRunning (view_of t r cs es) hs
   mature-running layout apart =
       let same = mature-births layout apart in
       record {
-        none_gone = λ p lt. still-there s t p (after-write p) (w.run.none_gone p (let long = ap superpages w.wrote.space in omega arith));
+        summarised = mature-summarised;
         none_promised = λ a. ap (λ (z : Layout). is_cell z.classes z.promised a) w.wrote.space ∙ w.run.none_promised a;
         laid = (w.run.laid.0, subst (λ (e : ℕ). AreChunks e w.run.laid.0 cs) (sym end-same) w.run.laid.1);
         once = λ a x b e f. w.run.once a x b (sym (ap (λ (g : ℕ → Option Birth). g a) same) ∙ e) (sym (ap (λ (g : ℕ → Option Birth). g x) same) ∙ f);

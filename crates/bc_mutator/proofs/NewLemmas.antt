@@ -240,7 +240,7 @@ module _ (s : Layout) (r : RootWords) (cs ds : List Nursery) (bs : List Entries)
 
   pub made-running : (n : ℕ) → head.lane ≡ lane → head.serial ≡ n + 1 → NoneLater s cs lane n → IsRunning (view_of s r ds bs) hs
   made-running n by next none = record {
-    none_gone = w.run.none_gone;
+    summarised = w.run.summarised;
     none_promised = w.run.none_promised;
     laid = (w.run.laid.0, laid-kept (end_of s) w.run.laid.0 cs ds lane (with_young_object (chunk_of cs lane) head) w.lane_within w.chunks refl refl w.run.laid.1);
     once = made-once n by next none;

@@ -1,22 +1,23 @@
 -- The objects that a lane may look at, in the heap as one memory.
-use Rattle.std.proofs.Common.{◌≡◌, ℕ, ◌+◌, ◌<◌, ◌≤◌, true, inl, inr, List, length, get_or, Some, option_map, refl, sym, ap, subst, ◌∙◌, arith}
+use Rattle.std.proofs.Common.{◌≡◌, ℕ, ◌+◌, ◌<◌, ◌≤◌, true, false, inl, inr, List, length, get_or, Some, option_map, refl, sym, ap, subst, ◌∙◌, arith}
 use Rattle.std.proofs.lemmas.Bool.{cases_lt, lt-ltb, le-ltb}
 use Rattle.std.proofs.lemmas.List.{get_or_read}
 use Rattle.bc_whole_heap.specs.Closed.{IsCellOrYoung, IsClosedHeap}
 use Rattle.bc_whole_heap.specs.LaneChunks.{chunk_of}
 use Rattle.bc_whole_heap.specs.Heaps.{end_of, heap_memory, young, no_chunk}
-use Rattle.bc_whole_heap.specs.HeapFacts.{AreChunks, AreApart, NoneGone, view_of}
+use Rattle.bc_whole_heap.specs.HeapFacts.{AreChunks, AreApart, view_of}
 use Rattle.bc_whole_heap.proofs.ChunkLemmas.{has-some, object_in-at}
-use Rattle.bc_whole_heap.proofs.HeapLemmas.{memory-below, memory-above, allocated-at_hand}
+use Rattle.bc_whole_heap.proofs.HeapLemmas.{memory-below, memory-above, allocated-here}
 use Rattle.bc_memory.specs.Memory.{Cell}
 use Rattle.bc_nursery.specs.Entries.{Entries}
 use Rattle.bc_nursery.specs.Objects.{IsChunk, has_object, the_object}
 use Rattle.bc_nursery.specs.Nurseries.{Nursery}
 use Rattle.bc_nursery.proofs.ObjectLemmas.{words-inside}
 use Rattle.bc_superpages.specs.Calls.{IsAtHand}
+use Rattle.bc_superpages.specs.Headers.{is_gone}
 use Rattle.bc_superpages.specs.Kept.{IsLayout}
 use Rattle.bc_superpages.specs.Layout.{Layout, content_at}
-use Rattle.bc_superpages.specs.LayoutAt.{IsAllocated, word_at}
+use Rattle.bc_superpages.specs.LayoutAt.{IsAllocated, state_at, word_at}
 use Rattle.bc_superpages.specs.Memory as space
 use Rattle.bc_superpages.specs.RootWords.{RootWords}
 use Rattle.bc_word.proofs.WordsLemmas.{length-words_from}
@@ -70,9 +71,9 @@ memory-there s cs l a k apart lt there = elim (cases_lt a (end_of s)) [
       ∙ sym (ap (λ (c : Cell). Some c) (cell_of-above s (chunk_of cs l) a above))
 ]
 
--- a cell is at hand, and its field is what is read
-pub at_hand-there : (s : Layout) (c : Nursery) (a : ℕ) → IsLayout s → NoneGone s → LieBehind s c → IsCellOrYoung s c a → a < end_of s → IsAtHand s a
-at_hand-there s c a k none behind there lt = allocated-at_hand s a k none (there-below s c a behind there lt)
+-- a cell is at hand where its page isn't Gone, and its field is what is read
+pub at_hand-there : (s : Layout) (c : Nursery) (a : ℕ) → IsLayout s → is_gone (state_at s.states (page_of a)) ≡ false → LieBehind s c → IsCellOrYoung s c a → a < end_of s → IsAtHand s a
+at_hand-there s c a k here behind there lt = allocated-here s a k here (there-below s c a behind there lt)
 
 pub field-below : (s : Layout) (c : Nursery) (a i : ℕ) (w : Word) → a < end_of s → i < (cell_of s c a).head.fields → w ≡ get_or (space.cell_at s.pages a).fields i w → w ≡ get_or (cell_of s c a).fields i Nil
 field-below s c a i w lt less read =

@@ -1,5 +1,5 @@
 -- From what a lane has in hand to the whole heap that it belongs to.
-use Rattle.std.proofs.Common.{◌≡◌, ◌⊎◌, ℕ, ◌+◌, ◌<◌, ◌≤◌, true, List, length, get_or, set, refl, sym, ap, subst, ◌∙◌, inl, inr, arith, get_or-set_same}
+use Rattle.std.proofs.Common.{◌≡◌, ◌⊎◌, ℕ, ◌+◌, ◌<◌, ◌≤◌, true, false, List, length, get_or, set, refl, sym, ap, subst, ◌∙◌, inl, inr, arith, get_or-set_same}
 use Rattle.bc_model.specs.WellFormed.{IsSlot}
 use Rattle.bc_model.specs.declared.operations.Op.{Op}
 use Rattle.bc_model.specs.declared.values.Slot.{Slot}
@@ -9,6 +9,7 @@ use Rattle.bc_nursery.specs.Nurseries.{Nursery}
 use Rattle.bc_nursery.specs.Objects as nursery
 use Rattle.bc_superpages.specs.declared.headers.PageState.TheVariants.{Remembered}
 use Rattle.bc_superpages.specs.Calls.{fields_at}
+use Rattle.bc_superpages.specs.Headers.{is_gone}
 use Rattle.bc_superpages.specs.Kept.{IsLayout}
 use Rattle.bc_superpages.specs.Layout.{Layout}
 use Rattle.bc_superpages.specs.LayoutAt.{IsAllocated, state_at, with_state, with_word, word_at}
@@ -57,16 +58,17 @@ pub field-above : (s : Layout) (chunk : Nursery) (a index : ℕ) (word : Word) �
 field-above s chunk a index word le read = read ∙ sym (ap (λ (c : Cell). get_or c.fields index Nil) (cell_of-above s chunk a le))
 
 -- a cell's field is written, and recorded where the word refers behind the superpages
-pub plain-cell : (s : Layout) (b : Entries) (cell : Address) (index : ℕ) (word : Word) → HasField s cell.0 index → RefersBelow s word → WroteCell s (record s { pages = with_word s.pages (cell.0 + 1 + index) (word_bits word) }) b b cell index word
-plain-cell s b cell index word has below = record {
+pub plain-cell : (s : Layout) (b : Entries) (cell : Address) (index : ℕ) (word : Word) → HasField s cell.0 index → is_gone (state_at s.states (page_of cell.0)) ≡ false → RefersBelow s word → WroteCell s (record s { pages = with_word s.pages (cell.0 + 1 + index) (word_bits word) }) b b cell index word
+plain-cell s b cell index word has here below = record {
   space = refl;
   words = refl;
   memory = field-memory s cell.0 index word has.layout has.allocated has.within;
   entry = inl (below, (refl, refl));
+  here = here;
 }
 
-pub recorded-cell : (s : Layout) (b e : Entries) (cell : Address) (index : ℕ) (word : Word) → HasField s cell.0 index → RefersBehind s word → e ≡ with_entry b cell index → WroteCell s (record s { states = with_state s.states (page_of cell.0) Remembered; pages = with_word s.pages (cell.0 + 1 + index) (word_bits word) }) b e cell index word
-recorded-cell s b e cell index word has young entry = record {
+pub recorded-cell : (s : Layout) (b e : Entries) (cell : Address) (index : ℕ) (word : Word) → HasField s cell.0 index → is_gone (state_at s.states (page_of cell.0)) ≡ false → RefersBehind s word → e ≡ with_entry b cell index → WroteCell s (record s { states = with_state s.states (page_of cell.0) Remembered; pages = with_word s.pages (cell.0 + 1 + index) (word_bits word) }) b e cell index word
+recorded-cell s b e cell index word has here young entry = record {
   space = refl;
   words = refl;
   memory = field-memory s cell.0 index word has.layout has.allocated has.within;
@@ -74,6 +76,7 @@ recorded-cell s b e cell index word has young entry = record {
     young,
     (entry, (remembers-home s (record s { states = with_state s.states (page_of cell.0) Remembered }) (page_of cell.0) has.layout (allocated-page s cell.0 has.layout has.allocated) refl).states),
   );
+  here = here;
 }
 
 -- the field after its page was remembered, and what it may hold then

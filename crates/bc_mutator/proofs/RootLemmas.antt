@@ -61,7 +61,7 @@ set_cases ws i n k P old new = elim (cases_eq k i) [
 -- the heap stays closed
 pub running-root : (s : Layout) (r : RootWords) (cs : List Nursery) (bs : List Entries) (hs : List ℕ) (p : Slot) (w : Word) → IsRunning (view_of s r cs bs) hs → p.slot < r.slots → IsOwn s (chunk_of cs (get_or hs p.domain 0)) w → IsRunning (view_of s (with_root r p w) cs bs) hs
 running-root s r cs bs hs p w run within own = record {
-  none_gone = run.none_gone;
+  summarised = run.summarised;
   none_promised = run.none_promised;
   laid = run.laid;
   once = run.once;

@@ -208,7 +208,7 @@ module _ (s : Layout) (r : RootWords) (cs ds : List Nursery) (bs : List Entries)
   young-running =
       let same = young-births in
       record {
-        none_gone = w.run.none_gone;
+        summarised = w.run.summarised;
         none_promised = w.run.none_promised;
         laid = (
           w.run.laid.0,

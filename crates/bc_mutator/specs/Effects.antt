@@ -1,5 +1,5 @@
 -- What an operation of a lane does to the heap.
-use Rattle.std.specs.Prelude.{◌≡◌, ◌≢◌, ◌⊎◌, ℕ, ◌+◌, ◌/◌, ◌<◌, ◌≤◌, List, [], ◌∷◌, ◌++◌, length, replicate, slice_index, slice_set, Some, None}
+use Rattle.std.specs.Prelude.{◌≡◌, ◌≢◌, ◌⊎◌, ℕ, ◌+◌, ◌/◌, ◌<◌, ◌≤◌, false, List, [], ◌∷◌, ◌++◌, length, replicate, slice_index, slice_set, Some, None}
 use Rattle.bc_whole_heap.specs.Closed.{buffer_of}
 use Rattle.bc_whole_heap.specs.Heaps.{HeapView, end_of}
 use Rattle.bc_whole_heap.specs.Running.{IsRunning}
@@ -20,6 +20,7 @@ use Rattle.bc_nursery.specs.Nurseries.{Nursery}
 use Rattle.bc_nursery.specs.Objects as nursery
 use Rattle.bc_superpages.specs.declared.headers.PageState.{PageState}
 use Rattle.bc_superpages.specs.declared.headers.PageState.TheVariants.{Remembered}
+use Rattle.bc_superpages.specs.Headers.{is_gone}
 use Rattle.bc_superpages.specs.Kept.{IsLayout}
 use Rattle.bc_superpages.specs.Layout.{Layout, content_at}
 use Rattle.bc_superpages.specs.LayoutAt.{state_at, with_state, with_word}
@@ -185,12 +186,13 @@ Records s t b e cell index word =
     (RefersBelow s word × RecordsNothing b e s.states t.states)
     ⊎ (RefersBehind s word × RecordsField cell index b e s.states t.states)
 
--- a field of a cell is written, and recorded
+-- a field of a cell is written, and recorded. The cell's page isn't Gone
 pub record WroteCell (s t : Layout) (b e : Entries) (cell : Address) (index : ℕ) (word : Word) : Type 0 where
   pub space : t ≡ record s { states = t.states; pages = t.pages }
   pub words : t.pages ≡ with_word s.pages (cell.0 + 1 + index) (word_bits word)
   pub memory : cells.memory t ≡ with_cell (cells.memory s) cell.0 (Some (with_field (cells.cell_at s.pages cell.0) index word))
   pub entry : Records s t b e cell index word
+  pub here : is_gone (state_at s.states (page_of cell.0)) ≡ false
 
 -- a field of an object is written: of a cell, or of an object of the lane's chunk. The space, the chunk and the buffer were
 -- s, c and b, and are t, d and e

@@ -8,3 +8,5 @@ pub mod CollectedLemmas
 pub mod SoundLemmas
 -- What a run begins with is in order.
 pub mod OpeningLemmas
+-- What an operation does after the page that it touches came home
+pub mod MovingLemmas

@@ -1,17 +1,21 @@
 -- A heap that lanes run on stays in order: after an operation, after a collection and after an emptying.
-use Rattle.std.proofs.Common.{◌≡◌, ◌≢◌, ℕ, ◌<◌, List, length, get_or, set, Result, Ok, Err, sym, ap, subst, ◌∙◌, inl, inr, arith}
+use Rattle.std.proofs.Common.{◌≡◌, ◌≢◌, ℕ, ◌<◌, List, length, get_or, set, vec_capacity, Result, Ok, Err, sym, ap, subst, ◌∙◌, inl, inr, arith}
 use Rattle.std.proofs.lemmas.Bool.{cases_eq}
 use Rattle.std.proofs.lemmas.List.{get_or-set_same, get_or-set_other, length-set, length-map}
 use Rattle.bc_cycle.specs.Causes.{IfOutOfHeap}
-use Rattle.bc_cycle.specs.Emptying.{IsEmptied, IsAsBefore}
+use Rattle.bc_cycle.specs.Emptying.{HasRoomToList, IsEmptied, IsAsBefore}
+use Rattle.bc_cycle.specs.declared.heaps.Heap.{Heap}
+use Rattle.bc_promotion.proofs.ListingLemmas.{words_in-same}
+use Rattle.bc_whole_heap.specs.LaneChunks.{chunk_of}
 use Rattle.bc_cycle.specs.declared.emptying.CycleNo.{CycleNo}
 use Rattle.bc_cycle.specs.declared.emptying.CycleNo.TheVariants.{OutOfHeap, NoMemory}
 use Rattle.bc_whole_heap.specs.Heaps.{HeapView}
-use Rattle.bc_whole_heap.specs.HeapFacts.{HasFrames, HasTwoFrames}
+use Rattle.bc_whole_heap.specs.HeapFacts.{HasTwoFrames}
 use Rattle.bc_whole_heap.specs.Running.{IsRunning}
 use Rattle.bc_memory.specs.Memory.{Memory}
 use Rattle.bc_mutator.specs.Operations.{NoneLater}
 use Rattle.bc_nursery.specs.Objects.{emptied}
+use Rattle.bc_nursery.specs.Nurseries.{Nursery}
 use Rattle.bc_standing.specs.Standing.{births}
 use Rattle.bc_running.specs.Running.{RunningView}
 use Rattle.bc_running.specs.RunningFacts.{IsSound, Collects, running_of}
@@ -22,7 +26,6 @@ sound-collected r k h c = record {
   running = c.running;
   later = λ l lt a b there lane. let from = c.born a b there in h.later l lt from.0 b from.1 lane;
   frames = c.frames h.frames;
-  two = c.two h.two;
   lanes = c.lanes ∙ h.lanes;
   few = h.few;
 }
@@ -39,8 +42,7 @@ pub sound-operated : (r : RunningView) (lane : ℕ) (k : HeapView) (n : ℕ) →
 sound-operated r lane k n within h o = record {
   running = o.running (h.later lane within);
   later = later;
-  frames = subst HasFrames (sym o.space) h.frames;
-  two = subst HasTwoFrames (sym o.space) h.two;
+  frames = subst HasTwoFrames (sym o.space) h.frames;
   lanes = o.long ∙ h.lanes ∙ sym (length-set r.serials lane n);
   few = let same = length-set r.serials lane n in let few = h.few in omega arith;
 }
@@ -55,13 +57,25 @@ sound-operated r lane k n within h o = record {
           (o.others l (get_or r.serials l 0) ne (h.later l (let same = length-set r.serials lane n in omega arith)))
     ]
 
+-- the list of survivors has room still
+pub room-operated : (lane : ℕ) (h k : Heap) → k ≡ record h { space = k.space; roots = k.roots; chunks = k.chunks; buffers = k.buffers } → ((l : ℕ) → l ≢ lane → chunk_of k.chunks.items l ≡ chunk_of h.chunks.items l) → chunk_of k.chunks.items lane ≡ record (chunk_of h.chunks.items lane) { objects = (chunk_of k.chunks.items lane).objects } → length k.chunks.items ≡ length h.chunks.items → HasRoomToList h → HasRoomToList k
+room-operated lane h k rest others own long room =
+    let words = words_in-same h.chunks.items k.chunks.items long same in
+    let list : vec_capacity k.survivors ≡ vec_capacity h.survivors = ap (λ (x : Heap). vec_capacity x.survivors) rest in
+    omega (arith, words, list, room)
+  where
+    same : (l : ℕ) → l < length h.chunks.items → (chunk_of k.chunks.items l).words ≡ (chunk_of h.chunks.items l).words
+    same l lt = elim (cases_eq l lane) [
+      | inl e ↦ ap (λ (n : ℕ). (chunk_of k.chunks.items n).words) e ∙ ap (λ (c : Nursery). c.words) own ∙ ap (λ (n : ℕ). (chunk_of h.chunks.items n).words) (sym e)
+      | inr ne ↦ ap (λ (c : Nursery). c.words) (others l ne)
+    ]
+
 -- an emptying leaves what a collection does, and so does one that was refused
 emptied-collects : (h k : HeapView) (hs : List ℕ) → IsRunning h hs → IsEmptied h k → Collects h k hs
 emptied-collects h k hs order is = record {
   running = is.order hs order;
   born = is.born;
-  frames = λ f. let supers = is.sizes.supers in let frames = is.sizes.frames in let nursery = is.sizes.nursery in omega arith;
-  two = λ f. let frames = is.sizes.frames in let nursery = is.sizes.nursery in omega arith;
+  frames = λ f. let frames = is.sizes.frames in let nursery = is.sizes.nursery in omega arith;
   lanes = ap length is.cleared ∙ length-map h.chunks emptied;
 }
 
@@ -69,8 +83,7 @@ before-collects : (h k : HeapView) (hs : List ℕ) → IsRunning h hs → IsAsBe
 before-collects h k hs order is = record {
   running = is.order hs order;
   born = λ x b e. (x, ap (λ (m : Memory). births m x) (sym is.memory) ∙ e);
-  frames = λ f. let supers = is.sizes.supers in let frames = is.sizes.frames in let nursery = is.sizes.nursery in omega arith;
-  two = λ f. let frames = is.sizes.frames in let nursery = is.sizes.nursery in omega arith;
+  frames = λ f. let frames = is.sizes.frames in let nursery = is.sizes.nursery in omega arith;
   lanes = sym (is.order hs order).closed.lanes ∙ ap length is.entries ∙ order.closed.lanes;
 }
 

@@ -27,6 +27,7 @@ use Rattle.bc_mutator.specs.Effects.{DidOperation, Leaves}
 use Rattle.bc_mutator.specs.Objects.{MayOperate, own_chunk, slot_word}
 use Rattle.bc_mutator.specs.Operations.{IsOpOf, NeedsEntry, setup_of}
 use Rattle.bc_mutator.specs.Parts.{IsPartOf, Serves, SlotLeadsToHand, TouchesHand, touched_slot}
+use Rattle.bc_running.specs.Touching.{IsHere, TouchesHere}
 use Rattle.bc_mutator.proofs.ObjectLemmas.{LieBehind-laid, at_hand-there}
 use Rattle.bc_mutator.proofs.VecLemmas.{with_item-same}
 
@@ -34,28 +35,30 @@ use Rattle.bc_mutator.proofs.VecLemmas.{with_item-same}
 abbrev pub IsIt : {X : Type 0} → X → X → Type 0
 IsIt x y = y ≡ x
 
--- what any slot refers to is in hand, where no page is evicted
-slot-hand : (h : HeapView) (hs : List ℕ) (lane : ℕ) (p : Slot) → MayOperate h hs lane → IsSlot (setup_of h.roots) p → SlotLeadsToHand (IsIt h.space) (IsIt h.roots) (λ page. is_resident (state_at h.space.states page) ≡ true) p
-slot-hand h hs lane p ready slot r same at e s is lt =
+-- what a slot refers to is in hand, where it isn't on a Gone page
+slot-hand : (h : HeapView) (hs : List ℕ) (lane : ℕ) (p : Slot) → MayOperate h hs lane → IsSlot (setup_of h.roots) p → IsHere h.space (slot_word h.roots p) → SlotLeadsToHand (IsIt h.space) (IsIt h.roots) (λ page. is_resident (state_at h.space.states page) ≡ true) p
+slot-hand h hs lane p ready slot here r same at e s is lt =
     let closed = ready.running.closed in
     let l = get_or hs p.domain 0 in
     let within : l < length h.chunks = closed.holder p.domain (subst (λ (n : ℕ). p.domain < n) (sym closed.domains) slot.0) in
-    let there = closed.root p.domain p.slot at slot.0 slot.1 (sym (ap (λ (x : RootWords). slot_word x p) same) ∙ e) in
-    (at_hand-there h.space (chunk_of h.chunks l) at.0 ready.layout ready.running.none_gone
+    let word : slot_word h.roots p ≡ Ref at = sym (ap (λ (x : RootWords). slot_word x p) same) ∙ e in
+    let there = closed.root p.domain p.slot at slot.0 slot.1 word in
+    let below : at.0 < end_of h.space = subst (λ (x : Layout). at.0 < end_of x) is lt in
+    (at_hand-there h.space (chunk_of h.chunks l) at.0 ready.layout (here at word below)
     (LieBehind-laid h.space ready.running.laid.0 h.chunks l ready.running.laid.1 within (ready.whole l within)) there
-    (subst (λ (x : Layout). at.0 < end_of x) is lt)).resident
+    below).resident
 
-pub touches-hand : (h : HeapView) (hs : List ℕ) (lane : ℕ) (op : Op) → MayOperate h hs lane → IsOpOf h.roots op → TouchesHand (IsIt h.space) (IsIt h.roots) (λ page. is_resident (state_at h.space.states page) ≡ true) (touched_slot op)
-touches-hand h hs lane (New p n) ready fits = tt
-touches-hand h hs lane (Who p) ready fits = slot-hand h hs lane p ready fits
-touches-hand h hs lane (Len p) ready fits = slot-hand h hs lane p ready fits
-touches-hand h hs lane (Set p i v) ready fits = slot-hand h hs lane p ready fits.0
-touches-hand h hs lane (Cut p i) ready fits = slot-hand h hs lane p ready fits.0
-touches-hand h hs lane (Link p i q) ready fits = slot-hand h hs lane p ready fits.0
-touches-hand h hs lane (Load p i q) ready fits = slot-hand h hs lane p ready fits.0
-touches-hand h hs lane (Copy p q) ready fits = tt
-touches-hand h hs lane (Clear p) ready fits = tt
-touches-hand h hs lane (Same p q) ready fits = tt
+pub touches-hand : (h : HeapView) (hs : List ℕ) (lane : ℕ) (op : Op) → MayOperate h hs lane → IsOpOf h.roots op → TouchesHere h.space h.roots (touched_slot op) → TouchesHand (IsIt h.space) (IsIt h.roots) (λ page. is_resident (state_at h.space.states page) ≡ true) (touched_slot op)
+touches-hand h hs lane (New p n) ready fits here = tt
+touches-hand h hs lane (Who p) ready fits here = slot-hand h hs lane p ready fits here
+touches-hand h hs lane (Len p) ready fits here = slot-hand h hs lane p ready fits here
+touches-hand h hs lane (Set p i v) ready fits here = slot-hand h hs lane p ready fits.0 here
+touches-hand h hs lane (Cut p i) ready fits here = slot-hand h hs lane p ready fits.0 here
+touches-hand h hs lane (Link p i q) ready fits here = slot-hand h hs lane p ready fits.0 here
+touches-hand h hs lane (Load p i q) ready fits here = slot-hand h hs lane p ready fits.0 here
+touches-hand h hs lane (Copy p q) ready fits here = tt
+touches-hand h hs lane (Clear p) ready fits here = tt
+touches-hand h hs lane (Same p q) ready fits here = tt
 
 -- the lane's parts of a heap
 pub whole-serves : (h : HeapView) (hs : List ℕ) (lane : ℕ) (op : Op) (c : Nursery) (b : Entries) → MayOperate h hs lane → IsOpOf h.roots op → c ≡ get_or h.chunks lane c → b ≡ get_or h.buffers lane b → Serves (IsIt h.space) (IsIt h.roots) c b hs lane op h

@@ -1,3 +1,7 @@
 pub mod Running
 -- What is true of a heap that lanes run on
 pub mod RunningFacts
+-- What an operation touches: the page of the object that it looks at.
+pub mod Touching
+-- Notices of a turn
+pub mod Serving

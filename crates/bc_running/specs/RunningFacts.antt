@@ -5,23 +5,27 @@ use Rattle.bc_cycle.specs.Openings.{new_heap}
 use Rattle.bc_whole_heap.specs.Closed.{buffer_of}
 use Rattle.bc_whole_heap.specs.LaneChunks.{chunk_of}
 use Rattle.bc_whole_heap.specs.Heaps.{HeapView}
-use Rattle.bc_whole_heap.specs.HeapFacts.{HasFrames, HasTwoFrames}
+use Rattle.bc_whole_heap.specs.HeapFacts.{HasTwoFrames}
 use Rattle.bc_whole_heap.specs.Running.{IsRunning}
 use Rattle.bc_model.specs.State.{numbers_below}
 use Rattle.bc_model.specs.declared.traces.Setup.{Setup}
 use Rattle.bc_mutator.specs.Operations.{NoneLater}
+use Rattle.bc_superpages.specs.Layout.{Layout}
 use Rattle.bc_running.specs.Running.{RunningView}
 
 abbrev pub running_of : HeapView → List ℕ → List ℕ → RunningView
 running_of heap holders serials = record { heap = heap; holders = holders; serials = serials }
 
+-- the same with another space
+abbrev pub with_space : RunningView → Layout → RunningView
+with_space r space = record r { heap = record (r.heap) { space = space } }
+
 -- what is true between operations and collections: the heap is running, no object of it has a later birth of a lane than the
--- lane's last one, and there is a frame for every page, and two of them in any case
+-- lane's last one, and two frames aren't those of nursery pages
 pub record IsSound (r : RunningView) : Type 0 where
   pub running : IsRunning r.heap r.holders
   pub later : (l : ℕ) → l < length r.serials → NoneLater r.heap.space r.heap.chunks l (slice_index r.serials l)
-  pub frames : HasFrames r.heap.space
-  pub two : HasTwoFrames r.heap.space
+  pub frames : HasTwoFrames r.heap.space
   pub lanes : length r.heap.chunks ≡ length r.serials
   pub few : length r.serials ≤ 16
 
@@ -30,12 +34,19 @@ abbrev pub new_running : Setup → RunningView
 new_running setup = running_of (new_heap setup) (map (λ d. d % setup.lanes) (numbers_below setup.domains)) (replicate setup.lanes 0)
 
 -- what an operation of a lane leaves as it was: holders, the births, chunks and write buffers of other lanes, all sizes, and of the
--- space all but states and contents of pages
+-- space all but states and contents of pages, and what changes where a page comes back: free frames, bookmarks, counters and reads
 pub record StaysBut (lane : ℕ) (r q : RunningView) : Type 0 where
   pub holders : q.holders ≡ r.holders
   pub serials : q.serials ≡ slice_set r.serials lane (slice_index q.serials lane)
   pub others : (l : ℕ) → l ≢ lane → (chunk_of q.heap.chunks l ≡ chunk_of r.heap.chunks l) × (buffer_of q.heap.buffers l ≡ buffer_of r.heap.buffers l)
-  pub space : q.heap.space ≡ record r.heap.space { states = q.heap.space.states; pages = q.heap.space.pages }
+  pub space : q.heap.space ≡ record r.heap.space {
+    states = q.heap.space.states;
+    pages = q.heap.space.pages;
+    free = q.heap.space.free;
+    bookmarks = q.heap.space.bookmarks;
+    incoming = q.heap.space.incoming;
+    reads = q.heap.space.reads;
+  }
   pub roots : q.heap.roots ≡ record r.heap.roots { words = q.heap.roots.words; noted = q.heap.roots.noted }
   pub chunk : chunk_of q.heap.chunks lane ≡ record (chunk_of r.heap.chunks lane) { objects = (chunk_of q.heap.chunks lane).objects }
   pub chunks : length q.heap.chunks ≡ length r.heap.chunks
@@ -46,6 +57,5 @@ pub record StaysBut (lane : ℕ) (r q : RunningView) : Type 0 where
 pub record Collects (h k : HeapView) (holders : List ℕ) : Type 0 where
   pub running : IsRunning k holders
   pub born : BringsNoBirth h k
-  pub frames : HasFrames h.space → HasFrames k.space
-  pub two : HasTwoFrames h.space → HasTwoFrames k.space
+  pub frames : HasTwoFrames h.space → HasTwoFrames k.space
   pub lanes : length k.chunks ≡ length h.chunks

@@ -5,8 +5,12 @@
 // nurseries are emptied (`empty_nursery`), and the whole heap is collected by the fail-safe (`collect`).
 //
 // What is true of it between calls is `IsSound`: the heap is running (`IsRunning` in `bc_whole_heap`), no object in it has a later
-// birth of a lane than the lane's count, and there is a frame for every page. Each call asks for it and leaves it; only a want of
-// memory loses the heap.
+// birth of a lane than the lane's count, and two frames aren't those of nursery pages. Each call asks for it and leaves it; only a
+// want of memory loses the heap.
+//
+// Pages may be gone. An operation looks at one object at most (`touching`): its page is brought home first, for which another may have
+// to leave. Where none can it stops, and is done after the nurseries were emptied: then no page is Remembered, and each can leave.
+// Between turns pages leave for notices, and the space is settled (`serve`).
 //
 // The theorem is that of the crates below, told of the value as a whole. An operation is the step of every state that the heap
 // stands for (`RunningStands`), a collection keeps what it stands for, and what isn't the lane's stays (`StaysBut`).
@@ -15,6 +19,8 @@
 mod collecting;
 mod operating;
 mod running;
+mod serving;
+mod touching;
 mod whole;
 
 pub use running::Running;

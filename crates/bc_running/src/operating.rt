@@ -1,24 +1,28 @@
 //! An operation of a lane on a heap that lanes run on, lent by its parts.
 
 ghost use Rattle.std.specs.Prelude.{◌≡◌, ◌↔◌, ◌+◌, ◌^◌, ◌<◌, [], length, slice_index, IfOk, OnErr, IsErrOf};
-ghost use Rattle.bc_cycle.specs.Emptying.{heap_view};
+ghost use Rattle.bc_bookmarks.specs.Moves.{CanMakeRoom, MovesPages, NoPageGoes};
+ghost use Rattle.bc_cycle.specs.Emptying.{heap_view, HasRoomToList};
 ghost use Rattle.bc_model.specs.State.{State};
 ghost use Rattle.bc_model.specs.Step.{step};
-ghost use Rattle.bc_mutator.specs.Effects.{IsChangedBy, IsRecordedBy};
+ghost use Rattle.bc_mutator.specs.Effects.{IsChangedBy};
 ghost use Rattle.bc_mutator.specs.Operations.{IsOpOf, NeedsEntry, WantsMore};
+ghost use Rattle.bc_mutator.specs.Parts.{touched_slot};
 ghost use Rattle.bc_nursery.specs.Objects.{left_of};
 ghost use Rattle.bc_whole_heap.specs.Closed.{buffer_of};
 ghost use Rattle.bc_whole_heap.specs.LaneChunks.{chunk_of};
 ghost use Rattle.bc_whole_heap.specs.Heaps.{heap_memory};
 ghost use Rattle.bc_whole_heap.specs.LaneStates.{StandsAs};
 ghost use Rattle.bc_running.specs.RunningFacts.{IsSound, StaysBut, running_of};
+ghost use Rattle.bc_running.specs.Touching.{IsTouching, RecordsAfter, SameRemembered};
 
-use crate::whole::operate;
+use crate::touching::bring_touched;
+use crate::whole::operate_here;
 use bc_cycle::Heap;
 use bc_model::{Op, Reply};
 use bc_mutator::Stop;
 
-/// The lane does an operation that fits, or stops with nothing changed.
+/// The lane does an operation that fits, once the page that it touches is in memory, or stops. Then at most pages have moved.
 pub(crate) fn attempt(
     heap: &mut Heap,
     holders: &[u32],
@@ -33,16 +37,22 @@ pub(crate) fn attempt(
     ensures sound { IsSound (running_of (heap_view heap.new) holders.now serials.new) }
     ensures step { IfOk result (λ reply. (state : State) → StandsAs (heap_view heap.old) holders.now serials.old state
         → ((step state lane op.now).1 ≡ reply) × StandsAs (heap_view heap.new) holders.now serials.new (step state lane op.now).0) }
-    ensures same { OnErr result ((heap.new ≡ heap.old) × (serials.new ≡ serials.old)) }
+    ensures stopped { OnErr result (MovesPages heap.old.space heap.new.space × (heap.new ≡ record heap.old { space = heap.new.space }) × (serials.new ≡ serials.old)) }
     ensures nursery { IsErrOf result Stop.NurseryFull ↔ WantsMore holders.now lane (left_of (chunk_of heap.old.chunks.items lane)) op.now }
     ensures buffer { IsErrOf result Stop.BufferFull → NeedsEntry holders.now lane heap.old.space heap.old.roots (chunk_of heap.old.chunks.items lane) (buffer_of heap.old.buffers.items lane) op.now }
+    ensures frame { IsErrOf result Stop.NoFrame → IsTouching (touched_slot op.now) × NoPageGoes heap.old.space × (heap.new ≡ heap.old) × (serials.new ≡ serials.old) }
+    ensures finds { IsErrOf result Stop.NoFrame → CanMakeRoom heap.old.space → ⊥ }
     ensures stays { StaysBut lane (running_of (heap_view heap.old) holders.now serials.old) (running_of (heap_view heap.new) holders.now serials.new) }
-    ensures recorded { IfOk result (λ reply. IsRecordedBy holders.now lane heap.old.space heap.old.roots (chunk_of heap.old.chunks.items lane) op.now
-        reply (buffer_of heap.old.buffers.items lane) (buffer_of heap.new.buffers.items lane) heap.new.space.states) }
+    ensures recorded { IfOk result (λ reply. RecordsAfter holders.now lane heap.old.space heap.old.roots (chunk_of heap.old.chunks.items lane) op.now
+        reply (buffer_of heap.old.buffers.items lane) (buffer_of heap.new.buffers.items lane) heap.new.space) }
     ensures memory { IfOk result (λ reply. IsChangedBy holders.now lane (slice_index serials.old lane) (heap_memory heap.old.space heap.old.chunks.items)
         (heap_memory heap.new.space heap.new.chunks.items) heap.old.roots op.now reply) }
+    ensures room { HasRoomToList heap.old → HasRoomToList heap.new }
     ensures unrecorded { (chunk_of heap.old.chunks.items lane).objects ≡ []
-        → (heap.new.buffers.items ≡ heap.old.buffers.items) × (heap.new.space.states ≡ heap.old.space.states) }
+        → (heap.new.buffers.items ≡ heap.old.buffers.items) × SameRemembered heap.old.space heap.new.space }
 {
-    operate(heap, holders, &mut serials[lane as usize], lane, op)
+    match bring_touched(&mut heap.space, &heap.roots, holders, lane, op) {
+        Ok(()) => operate_here(heap, holders, &mut serials[lane as usize], lane, op),
+        Err(stop) => Err(stop),
+    }
 }

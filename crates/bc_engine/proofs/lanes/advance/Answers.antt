@@ -4,8 +4,8 @@ use Rattle.bc_model.specs.Rows.{lists_of}
 use Rattle.bc_model.specs.declared.operations.Op.{Op}
 use Rattle.bc_model.specs.declared.operations.Reply.{Reply}
 use Rattle.bc_engine.specs.Lanes.{of_lane, Does, Stops}
-use Rattle.bc_engine.proofs.Attempts.{does-step, ready-sound, ready-step, never-stops, unrecorded-kept, why-stopped}
-use Rattle.bc_engine.proofs.RunLemmas.{IsKept, of_lane-long, of_lane-at, op-fits, runs-step, runs-same, one-more, told-other, leaves-same}
+use Rattle.bc_engine.proofs.Attempts.{does-step, ready-sound, ready-step, never-stops, still-stops, unrecorded-kept, why-stopped}
+use Rattle.bc_engine.proofs.RunLemmas.{IsKept, of_lane-long, of_lane-at, op-fits, runs-step, runs-moved, runs-same, one-more, told-other, leaves-moved, leaves-same}
 use Rattle.bc_engine.proofs.Sizes.{op-of_heap}
 use Rattle.bc_engine.proofs.lanes.advance.Goals as goal
 
@@ -94,19 +94,19 @@ done c =
     c.operate.ensures.stays c.in-Ok.ensures.step
 
 pub returns-in-Ok-clause-runs : goal.returns-in-Ok-clause-runs
-returns-in-Ok-clause-runs c = runs-step (kept c) (done c) (λ setup ready. ready-step setup c.args.lane c.index.result.now c.operate.result c.operate.ensures.stays c.operate.ensures.sound c.operate.ensures.step c.operate.ensures.same ready)
+returns-in-Ok-clause-runs c = runs-step (kept c) (done c) (λ setup ready. ready-step setup c.args.lane c.index.result.now c.operate.result c.operate.ensures.stays c.operate.ensures.sound c.operate.ensures.step c.operate.ensures.stopped ready)
 
 pub returns-in-Ok-clause-further : goal.returns-in-Ok-clause-further
 returns-in-Ok-clause-further c = λ e. one-more (kept c)
 
 pub returns-in-Err-clause-runs : goal.returns-in-Err-clause-runs
-returns-in-Err-clause-runs c = runs-same (lists_of c.args.lanes.now) c.args.running.now c.operate.new.self c.args.replies.now c.in-Err.ensures.same
+returns-in-Err-clause-runs c = runs-moved (lists_of c.args.lanes.now) c.args.running.now c.operate.new.self c.args.replies.now c.in-Err.ensures.stopped
 
 pub returns-in-Err-clause-alone : goal.returns-in-Err-clause-alone
-returns-in-Err-clause-alone c = λ none is.
+returns-in-Err-clause-alone c = λ none unrecorded is.
     let u = c.requires.underway.1 in
     let lt = c.requires.lane in
-    absurd (never-stops c.args.lane c.index.result.now (Err c.in-Err.field-0) u.ready (omega (arith, u.each, length-map c.args.lanes.now (λ (v : Vec Op Global). v.items))) none c.in-Err.ensures.nursery.0 c.in-Err.ensures.buffer)
+    absurd (never-stops c.args.lane c.index.result.now (Err c.in-Err.field-0) u.ready (omega (arith, u.each, length-map c.args.lanes.now (λ (v : Vec Op Global). v.items))) none c.in-Err.ensures.nursery.0 c.in-Err.ensures.buffer (λ frame. c.in-Err.ensures.finds frame unrecorded.remembered))
 
 pub returns-in-Ok-clause-unrecorded : goal.returns-in-Ok-clause-unrecorded
 returns-in-Ok-clause-unrecorded c = λ none unrecorded. unrecorded-kept (c.operate.ensures.unrecorded none) c.operate.ensures.stays unrecorded
@@ -123,7 +123,7 @@ returns-in-Ok-clause-others c = record {
 }
 
 pub returns-in-Err-clause-others : goal.returns-in-Err-clause-others
-returns-in-Err-clause-others c = leaves-same c.args.lane c.args.running.now c.operate.new.self (lists_of c.args.replies.now) c.in-Err.ensures.same
+returns-in-Err-clause-others c = leaves-moved c.args.lane c.args.running.now c.operate.new.self (lists_of c.args.replies.now) c.in-Err.ensures.stopped
 
 pub returns-in-Err-clause-stopped : goal.returns-in-Err-clause-stopped
 returns-in-Err-clause-stopped c = λ e.
@@ -141,5 +141,5 @@ returns-in-Err-clause-stopped c = λ e.
       op,
       omega arith,
       of_lane-at lanes lane c.len-done.result c.index-lanes-index-2.result op lt c.index-lanes-index-2.is c.index.ensures ∙ ap (λ n. get_or (of_lane (lists_of lanes) lane) n op) (sym done),
-      subst (Stops lane op) (sym c.in-Err.ensures.same) (why-stopped _ _ (Err c.in-Err.field-0) c.in-Err.ensures.nursery.0 c.in-Err.ensures.buffer),
+      still-stops lane op c.in-Err.ensures.stopped (why-stopped _ _ _ (Err c.in-Err.field-0) c.in-Err.ensures.nursery.0 c.in-Err.ensures.buffer c.in-Err.ensures.frame),
     )

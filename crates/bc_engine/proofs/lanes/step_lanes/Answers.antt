@@ -25,5 +25,5 @@ loop-lane-preserved c =
           let ne : n ≢ lane = omega arith in
           ap (λ (x : Nursery). x.objects) (e.others.chunk n ne) ∙ before.empty n (omega arith);
       each = each-further (lists_of c.args.lanes.now) (lists_of c.args.replies.now) (lists_of c.loop-lane.replies) (lists_of c.advance-further.new.replies) lane c.advance-further.result
-          before.runs.goes.more e.runs.goes.more before.each e.further (e.alone here);
+          before.runs.goes.more e.runs.goes.more before.each e.further (e.alone here before.unrecorded);
     }

@@ -5,7 +5,7 @@ use Rattle.bc_running.proofs.WholeLemmas.{back-same, did-whole, touches-hand, wh
 use Rattle.bc_running.proofs.whole.operate_own.Goals as goal
 
 pub operate_parts-requires-clause-hand : goal.operate_parts-requires-clause-hand
-operate_parts-requires-clause-hand c = touches-hand (heap_view c.args.heap.now) c.args.holders.now c.args.lane c.args.op.now c.requires.ready c.requires.op
+operate_parts-requires-clause-hand c = λ held. touches-hand (heap_view c.args.heap.now) c.args.holders.now c.args.lane c.args.op.now c.requires.ready c.requires.op (c.requires.here held)
 
 pub returns-clause-done : goal.returns-clause-done
 returns-clause-done c =

@@ -12,7 +12,7 @@ invariant_of-self c =
           let old = c.self.invariant.alive alive in
           record {
             workers = old.workers;
-            ready = ready-step c.self.inside.setup c.args.lane c.args.op.now c.operate.result e.stays e.sound e.step e.same old.ready;
+            ready = ready-step c.self.inside.setup c.args.lane c.args.op.now c.operate.result e.stays e.sound e.step e.stopped old.ready;
             going = λ going. unrecorded-kept (e.unrecorded empty) e.stays unrecorded;
           };
       unanswered = c.self.invariant.unanswered;
@@ -28,4 +28,5 @@ unreachable-requires c =
     let going = rw (← c.self.view_is) at c.requires.going in
     let empty = rw (← c.self.view_is) at c.requires.empty in
     let lane = rw (← c.self.view_is) at c.requires.lane in
-    never-stops c.args.lane c.args.op.now (Err c.in-Err.field-0) (c.self.invariant.alive going).ready lane empty c.in-Err.ensures.nursery.0 c.in-Err.ensures.buffer
+    let unrecorded = rw (← c.self.view_is) at c.requires.unrecorded in
+    never-stops c.args.lane c.args.op.now (Err c.in-Err.field-0) (c.self.invariant.alive going).ready lane empty c.in-Err.ensures.nursery.0 c.in-Err.ensures.buffer (λ frame. c.in-Err.ensures.finds frame unrecorded.remembered)

@@ -1,0 +1,19 @@
+-- Notices of a turn: requests that a page leave memory, each with a hint.
+use Rattle.std.specs.Prelude.{◌≡◌, ◌⊎◌, ℕ, ◌*◌, ◌<◌, List, length, slice_index}
+use Prim.Native.Nat.{zero, suc}
+use Rattle.bc_bookmarks.specs.Changes.{Settled}
+use Rattle.bc_bookmarks.specs.Choices.{GivenUp, NoneLeaves}
+use Rattle.bc_superpages.specs.Layout.{Layout, superpages}
+
+-- a page was given up for the hint, or nothing changed where no page can leave
+abbrev pub GivesUp : Layout → ℕ → Layout → Type 0
+GivesUp s hint t = ((page : ℕ) × (page < 4 * superpages s) × GivenUp s hint page t) ⊎ (NoneLeaves s × (t ≡ s))
+
+-- so it went with the first n hints, one after another
+abbrev pub GivesUpFirst : Layout → List ℕ → ℕ → Layout → Type 0
+GivesUpFirst s hints zero t = t ≡ s
+GivesUpFirst s hints (suc n) t = (u : Layout) × GivesUpFirst s hints n u × GivesUp u (slice_index hints n) t
+
+-- the notices of a turn were served, each once and in order, and then the space was settled
+abbrev pub Served : Layout → List ℕ → Layout → Type 0
+Served s hints t = (u : Layout) × GivesUpFirst s hints (length hints) u × Settled u t
