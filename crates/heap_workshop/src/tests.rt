@@ -2,10 +2,11 @@
 
 mod emptying;
 mod failsafe;
+mod paging;
 
 use super::*;
 use bc_failsafe::Need;
-use bc_model::{Birth, Op, Reply, Slot};
+use bc_model::{Birth, Op, Reply, Setup, Slot};
 use std::process::Abort;
 use std::test::Fail;
 
@@ -23,23 +24,25 @@ const X: Slot = Slot { domain: 1, slot: 0 };
 const Y: Slot = Slot { domain: 1, slot: 1 };
 
 /// One lane, one domain, and room for few objects.
-const SMALL: Sizes = Sizes {
+const SMALL: Setup = Setup {
     lanes: 1,
     domains: 1,
     slots: 4,
     superpages: 2,
     nursery: 1,
     buffer: 2,
+    frames: 9,
 };
 
 /// One superpage, which 1,024 objects of one field fill, and room for more of them in the chunk.
-const ONE_SUPERPAGE: Sizes = Sizes {
+const ONE_SUPERPAGE: Setup = Setup {
     lanes: 1,
     domains: 1,
     slots: 4,
     superpages: 1,
     nursery: 5,
     buffer: 2,
+    frames: 9,
 };
 
 /// The object of this birth of lane 0.
