@@ -20,3 +20,5 @@ pub mod RunLemmas
 pub mod RoundLemmas
 -- A phase
 pub mod PhaseLemmas
+-- An engine that was opened has made nothing, so each lane has all its births left.
+pub mod Births

@@ -18,7 +18,7 @@ ghost use Rattle.bc_cycle.specs.Openings.{CanOpen};
 use anyhow::{Context, Result, bail, ensure};
 use bc_failsafe::Need;
 use bc_model::{Op, Reply, Setup, Slot};
-use heap_workshop::{Halt, Workshop};
+use heap_workshop::{Halt, Workshop, objects_in_cells, superpages_in_use};
 use std::env;
 use std::rt::Clock;
 use std::time::{Duration, Instant};
@@ -203,8 +203,8 @@ where
     let taken = nanoseconds(start.elapsed(rt)?);
     let place = if young { "young " } else { "" };
     let kind = if random { "random" } else { "chain" };
-    let objects = workshop.objects_in_cells();
-    let superpages = workshop.superpages_in_use();
+    let objects = objects_in_cells(workshop.space());
+    let superpages = superpages_in_use(workshop.space());
     println!(rt; "{place}{kind} {nodes}: {objects} objects in {superpages} superpages")?;
     eprintln!(rt; "{place}{kind} {nodes}: {taken} nanoseconds")?;
     Ok(())

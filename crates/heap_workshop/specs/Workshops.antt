@@ -1,8 +1,9 @@
 -- A heap to be worked on by tests and benches.
-use Rattle.std.specs.Prelude.{ℕ, ◌<◌, false, length, slice_index_or}
+use Rattle.std.specs.Prelude.{ℕ, ◌*◌, ◌<◌, false, length, slice_index_or}
 use Rattle.std.specs.List.{sum_by}
 use Rattle.bc_bits.specs.Bits.{has}
 use Rattle.bc_bits.specs.Counting.{count_below}
+use Rattle.bc_bookmarks.specs.Summarised.{gone_in}
 use Rattle.bc_model.specs.State.{numbers_below}
 use Rattle.bc_model.specs.declared.operations.Op.{Op}
 use Rattle.bc_mutator.specs.Operations.{IsOpOf}
@@ -21,3 +22,7 @@ superpages_in_use s = count_below (λ q. slice_index_or s.used q false) (superpa
 -- how many cells are allocated: those of each superpage
 abbrev pub objects_in_cells : Layout → ℕ
 objects_in_cells s = sum_by (λ q. count_below (has (set_of s.cells q)) 1024) (numbers_below (superpages s))
+
+-- how many pages are gone
+abbrev pub pages_gone : Layout → ℕ
+pages_gone s = count_below (gone_in s) (4 * superpages s)

@@ -5,12 +5,14 @@
 // shape, in as few frames as they like, collect them, and compare replies.
 //
 // Between the calls the heap is running (`IsSound`). So every condition of the calls below holds, and a caller has none to
-// meet. What a call does is told by the clauses of the collector's own calls, passed on.
+// meet. What a call does is told by the clauses of the collector's own calls, passed on. What a space has can be counted.
 #![tactic(auto)]
 
+mod counts;
 mod operations;
 mod workshops;
 
+pub use counts::{objects_in_cells, pages_gone, superpages_in_use};
 pub use operations::Halt;
 pub use workshops::Workshop;
 

@@ -62,8 +62,8 @@ fn expect(rt: &impl Abort, workshop: &mut Workshop, op: Op, reply: Reply) {
 
 /// So many superpages are in use, and so many objects lie in cells.
 fn counted(rt: &impl Abort, workshop: &Workshop, superpages: u32, objects: u32) {
-    assert_eq!(rt; workshop.superpages_in_use(), superpages);
-    assert_eq!(rt; workshop.objects_in_cells(), objects);
+    assert_eq!(rt; superpages_in_use(workshop.space()), superpages);
+    assert_eq!(rt; objects_in_cells(workshop.space()), objects);
 }
 
 /// Makes so many objects of one field, the first one with this serial number, and has each refer to what slot A refers to, and

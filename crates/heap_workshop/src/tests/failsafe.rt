@@ -110,7 +110,7 @@ fn an_object_of_each_domain_needs_a_superpage(rt: HostRuntime) -> Result<(), Fai
     expect(&rt, &mut workshop, Op::New(A, 1), object(1));
     expect(&rt, &mut workshop, Op::New(X, 1), object(2));
     assert_eq!(rt; workshop.collect(), Err(Need(2)));
-    assert_eq!(rt; workshop.superpages_in_use(), 0);
+    assert_eq!(rt; superpages_in_use(workshop.space()), 0);
     expect(&rt, &mut workshop, Op::Who(A), object(1));
     expect(&rt, &mut workshop, Op::Who(X), object(2));
     expect(&rt, &mut workshop, Op::Clear(A), Reply::Done);
@@ -158,7 +158,7 @@ fn one_object_too_many_needs_a_superpage_more(rt: HostRuntime) -> Result<(), Fai
     let mut workshop = Workshop::open(rt.alloc(), &ONE_SUPERPAGE)?;
     chain(&rt, &mut workshop, 1, 1025);
     assert_eq!(rt; workshop.collect(), Err(Need(2)));
-    assert_eq!(rt; workshop.objects_in_cells(), 0);
+    assert_eq!(rt; objects_in_cells(workshop.space()), 0);
     follow(&rt, &mut workshop, 1025);
     // Without the last one it fits.
     expect(&rt, &mut workshop, Op::Load(A, 0, A), Reply::Ref);

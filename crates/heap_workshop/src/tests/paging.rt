@@ -28,14 +28,8 @@ where
 /// So many frames are free, so many pages are gone, and so many were read back.
 fn paged(rt: &impl Abort, workshop: &Workshop, free: u32, gone: u32, reads: u64) {
     let space = workshop.space();
-    let mut away: u32 = 0;
-    for page in 0..space.pages() {
-        if space.state(page).is_gone() {
-            away = away.saturating_add(1);
-        }
-    }
     assert_eq!(rt; space.free_frames(), free);
-    assert_eq!(rt; away, gone);
+    assert_eq!(rt; pages_gone(space), gone);
     assert_eq!(rt; space.reads(), reads);
 }
 
