@@ -1,6 +1,8 @@
 -- What an operation does after the page that it touches came home, told of the heap before.
 use Rattle.std.specs.Option.{IfSome, IfNone}
-use Rattle.std.proofs.Common.{◌≡◌, ◌≢◌, ◌↔◌, ℕ, ◌*◌, ◌<◌, false, inl, inr, List, length, get_or, Some, None, Option, refl, sym, ap, subst, ◌∙◌, arith}
+use Rattle.std.specs.Prelude.{IsErrOf}
+use Rattle.std.proofs.Common.{◌≡◌, ◌≢◌, ◌↔◌, ℕ, ◌+◌, ◌*◌, ◌<◌, false, inl, inr, List, length, get_or, Some, None, Option, Err, refl, sym, ap, subst, ◌∙◌, arith}
+use Prim.Native.Nat.{suc}
 use Rattle.std.proofs.lemmas.List.{set-get_or}
 use Rattle.bc_bookmarks.specs.Changes.{Settled}
 use Rattle.bc_bookmarks.specs.Choices.{GivenUp, NoneLeaves}
@@ -35,7 +37,7 @@ use Rattle.bc_word.specs.declared.addresses.Address.{Address}
 use Rattle.bc_word.specs.declared.words.Word.TheVariants.{Ref}
 use Rattle.bc_running.specs.Running.{RunningView}
 use Rattle.bc_running.specs.RunningFacts.{IsSound, StaysBut, with_space}
-use Rattle.bc_running.specs.Serving.{GivesUp}
+use Rattle.bc_running.specs.Serving.{GivesUp, GivesUpFirst}
 use Rattle.bc_running.specs.Touching.{IsTouching, LeadsTo, TouchesHere}
 
 later-moved : {s t : Layout} (cs : List Nursery) (lane serial : ℕ) → MovesPages s t → NoneLater s cs lane serial → NoneLater t cs lane serial
@@ -129,8 +131,14 @@ here-leads t r (Some p) page leads home = λ a refers below.
 
 -- whichever answer is given for a hint
 pub gives-up : (s t : Layout) (hint : ℕ) (result : Option ℕ) → IfSome result (λ page. (page < 4 * superpages s) × GivenUp s hint page t) → IfNone result (NoneLeaves s × (t ≡ s)) → GivesUp s hint t
-gives-up s t hint (Some page) some none = inl (page, some)
+gives-up s t hint (Some page) some none = inl (page, some.0, some.1)
 gives-up s t hint None some none = inr none
+
+-- one hint more
+pub gives-more : (s u t : Layout) (hints : List ℕ) (n : ℕ) → GivesUpFirst s hints n u → GivesUp u (get_or hints n 0) t → GivesUpFirst s hints (n + 1) t
+gives-more s u t hints n first more =
+    let e : suc n ≡ n + 1 = omega arith in
+    subst (λ (m : ℕ). GivesUpFirst s hints m t) e (u, first, more)
 
 -- pages move where one is given up for a hint, and where the space is settled
 pub moves-given : (s t : Layout) (hint : ℕ) → IsLayout s → GivesUp s hint t → IsSummarised t → MovesPages s t
@@ -152,11 +160,11 @@ moves-then s u t h k = record {
 }
 
 -- a stop for want of a frame is no other
-frame_nursery : NoFrame ≡ NurseryFull → ⊥
-frame_nursery e = cc
+frame_nursery : {T : Type 0} (stop : Stop) → stop ≡ NoFrame → IsErrOf {T = T} (Err stop) NurseryFull → ⊥
+frame_nursery stop is e = cc
 
-frame_buffer : NoFrame ≡ BufferFull → ⊥
-frame_buffer e = cc
+frame_buffer : {T : Type 0} (stop : Stop) → stop ≡ NoFrame → IsErrOf {T = T} (Err stop) BufferFull → ⊥
+frame_buffer stop is e = cc
 
 wants-none : (hs : List ℕ) (lane words : ℕ) (op : Op) → IsTouching (touched_slot op) → WantsMore hs lane words op → ⊥
 wants-none hs lane words (New p n) touches wants = touches
@@ -170,11 +178,11 @@ wants-none hs lane words (Copy p q) touches wants = wants
 wants-none hs lane words (Clear p) touches wants = wants
 wants-none hs lane words (Same p q) touches wants = wants
 
-pub frame-nursery : (hs : List ℕ) (lane words : ℕ) (op : Op) (stop : Stop) → stop ≡ NoFrame → IsTouching (touched_slot op) → (stop ≡ NurseryFull) ↔ WantsMore hs lane words op
-frame-nursery hs lane words op stop is touches = (λ e. absurd (frame_nursery (sym is ∙ e)), λ wants. absurd (wants-none hs lane words op touches wants))
+pub frame-nursery : (T : Type 0) (hs : List ℕ) (lane words : ℕ) (op : Op) (stop : Stop) → stop ≡ NoFrame → IsTouching (touched_slot op) → IsErrOf {T = T} (Err stop) NurseryFull ↔ WantsMore hs lane words op
+frame-nursery T hs lane words op stop is touches = (λ e. absurd (frame_nursery {T = T} stop is e), λ wants. absurd (wants-none hs lane words op touches wants))
 
-pub frame-buffer : {X : Type 0} (stop : Stop) → stop ≡ NoFrame → stop ≡ BufferFull → X
-frame-buffer stop is e = absurd (frame_buffer (sym is ∙ e))
+pub frame-buffer : (T X : Type 0) (stop : Stop) → stop ≡ NoFrame → IsErrOf {T = T} (Err stop) BufferFull → X
+frame-buffer T X stop is e = absurd (frame_buffer {T = T} stop is e)
 
 -- nothing was done
 pub stays-same : (lane : ℕ) (r : RunningView) → StaysBut lane r r

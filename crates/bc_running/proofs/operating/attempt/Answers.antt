@@ -1,11 +1,13 @@
-use Rattle.std.proofs.Common.{◌≡◌, refl, ap, sym, set, subst, absurd, get_or, List, ◌∙◌}
+use Rattle.std.proofs.Common.{◌≡◌, refl, ap, sym, set, subst, get_or, List, ◌∙◌}
 use Rattle.std.proofs.lemmas.List.{get_or-set_same, set-get_or}
 use Rattle.std.proofs.lemmas.Result.{IfOk-weaker, on_err_weaker}
 use Rattle.bc_bookmarks.specs.Moves.{MovesPages}
 use Rattle.bc_cycle.specs.Emptying.{heap_view}
 use Rattle.bc_cycle.specs.declared.heaps.Heap.{Heap}
 use Rattle.bc_memory.specs.Memory.{Memory}
+use Rattle.bc_model.specs.declared.operations.Reply.{Reply}
 use Rattle.bc_mutator.specs.Effects.{IsChangedBy}
+use Rattle.bc_nursery.specs.Objects.{left_of}
 use Rattle.bc_superpages.specs.Layout.{Layout}
 use Rattle.bc_superpages.specs.LayoutAt.{state_at}
 use Rattle.bc_superpages.specs.declared.headers.PageState.{PageState}
@@ -13,7 +15,7 @@ use Rattle.bc_superpages.specs.declared.spaces.Space.{Space}
 use Rattle.bc_whole_heap.specs.Closed.{buffer_of}
 use Rattle.bc_whole_heap.specs.LaneChunks.{chunk_of}
 use Rattle.bc_whole_heap.specs.Heaps.{heap_memory}
-use Rattle.bc_whole_heap.proofs.MovingLemmas.{memory-moved, stands-moved}
+use Rattle.bc_whole_heap.proofs.MovingLemmas.{memory-moved, running-moved, stands-moved}
 use Rattle.bc_running.specs.Running.{RunningView}
 use Rattle.bc_running.specs.RunningFacts.{running_of, with_space}
 use Rattle.bc_running.proofs.MovingLemmas.{frame-buffer, frame-nursery, needs-moved, sound-moved, stays-moved, stays-same}
@@ -22,6 +24,10 @@ use Rattle.bc_running.proofs.operating.attempt.Goals as goal
 
 pub bring_touched-requires-clause-running : goal.bring_touched-requires-clause-running
 bring_touched-requires-clause-running c = (c.args.heap.now.chunks.items, c.args.heap.now.buffers.items, c.requires.sound.running)
+
+pub operate_here-requires-clause-running : goal.operate_here-requires-clause-running
+operate_here-requires-clause-running c =
+    running-moved (heap_view c.args.heap.now) c.bring_touched.new.space c.args.holders.now c.bring_touched.ensures.moves c.requires.sound.running
 
 -- done, or stopped on the heap in which the page is home
 pub returns-in-Ok-clause-sound : goal.returns-in-Ok-clause-sound
@@ -116,10 +122,10 @@ pub returns-in-Err-clause-stopped : goal.returns-in-Err-clause-stopped
 returns-in-Err-clause-stopped c = (c.bring_touched.ensures.moves, refl, refl)
 
 pub returns-in-Err-clause-nursery : goal.returns-in-Err-clause-nursery
-returns-in-Err-clause-nursery c = frame-nursery c.args.holders.now c.args.lane _ c.args.op.now c.in-Err.stop c.in-Err.ensures.stop c.in-Err.ensures.touches
+returns-in-Err-clause-nursery c = frame-nursery Reply c.args.holders.now c.args.lane (left_of (chunk_of c.args.heap.now.chunks.items c.args.lane)) c.args.op.now c.in-Err.stop c.in-Err.ensures.stop c.in-Err.ensures.touches
 
 pub returns-in-Err-clause-buffer : goal.returns-in-Err-clause-buffer
-returns-in-Err-clause-buffer c = λ e. frame-buffer c.in-Err.stop c.in-Err.ensures.stop e
+returns-in-Err-clause-buffer c = λ e. frame-buffer Reply _ c.in-Err.stop c.in-Err.ensures.stop e
 
 pub returns-in-Err-clause-frame : goal.returns-in-Err-clause-frame
 returns-in-Err-clause-frame c = λ e.

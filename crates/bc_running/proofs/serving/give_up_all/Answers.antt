@@ -1,0 +1,24 @@
+use Rattle.std.proofs.Common.{refl}
+use Rattle.bc_bookmarks.proofs.MovingLemmas.{MovesPages-none}
+use Rattle.bc_whole_heap.proofs.MovingLemmas.{closed-moved}
+use Rattle.bc_running.proofs.MovingLemmas.{gives-more, moves-then}
+use Rattle.bc_running.proofs.serving.give_up_all.Goals as goal
+
+pub loop-hint-init : goal.loop-hint-init
+loop-hint-init c = record { gives = refl; moves = MovesPages-none c.args.space.now c.requires.summarised }
+
+pub loop-hint-preserved : goal.loop-hint-preserved
+loop-hint-preserved c =
+    let s = c.args.space.now in
+    let u = c.loop-hint.space in
+    let t = c.give_up_one.new.space in
+    let before = c.loop-hint.invariant in
+    record {
+      gives = gives-more s u t c.args.hints.now c.loop-hint.hint-index before.gives c.give_up_one.ensures.gives;
+      moves = moves-then s u t before.moves c.give_up_one.ensures.moves;
+    }
+
+pub give_up_one-requires-clause-closed : goal.give_up_one-requires-clause-closed
+give_up_one-requires-clause-closed c =
+    let h = c.requires.closed in
+    (h.0, h.1, h.2, h.3, closed-moved h.0 h.1 h.2 h.3 c.loop-hint.invariant.moves h.4)
