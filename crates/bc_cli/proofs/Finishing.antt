@@ -1,19 +1,15 @@
 -- The first and the last step of a replay, and what its ending says of a run.
-use Rattle.std.proofs.Common.{◌≡◌, ◌≢◌, ℕ, ◌+◌, ◌^◌, ◌<◌, ◌≤◌, List, [], ◌++◌, length, map, replicate, get_or, Option, Some, None, refl, sym, ap, ◌∙◌, append_assoc, arith, subst, inl, inr, take_all}
-use Rattle.std.proofs.lemmas.Bool.{cases_lt}
-use Rattle.std.proofs.lemmas.List.{get_or-map, get_or_past, length-map, length-replicate}
+use Rattle.std.proofs.Common.{◌≡◌, ◌≢◌, ℕ, ◌+◌, ◌^◌, ◌<◌, ◌≤◌, List, ◌++◌, length, Option, Some, None, refl, sym, ap, ◌∙◌, append_assoc, arith, subst, inl, inr, take_all}
 use Rattle.bc_engine.specs.Engines.{EngineView, EngineStands, HasEmptyChunks}
-use Rattle.bc_engine.specs.EngineFacts.{HasRoomForBirths}
+use Rattle.bc_engine.proofs.Births.{births-opened}
 use Rattle.bc_io.specs.Told.{HeldGrows, IsPrefix}
 use Rattle.bc_io.specs.Pieces.{RoomFalls}
 use Rattle.bc_io.proofs.Telling.{HeldGrows-more, IsPrefix-refl, IsPrefix-trans, IsPrefix-append}
 use Rattle.bc_model.specs.Lists.{TraceLists}
 use Rattle.bc_model.specs.Run.{opening, before, after_phases, final_state}
 use Rattle.bc_model.specs.RunLengths.{all_ops_of}
-use Rattle.bc_model.specs.State.{Object}
 use Rattle.bc_model.specs.WellFormed.{IsSetup, IsTrace}
 use Rattle.bc_model.specs.declared.traces.Setup.{Setup}
-use Rattle.bc_model.proofs.Openings.{made_by-opening}
 use Rattle.bc_trace.specs.Replies.{done_text, out_of_heap_text}
 use Rattle.bc_cli.specs.Endings.{WritesFront, FitsThroughout, HasRunRoom, EndsDone, EndsOutOfHeap, FailsAtDone}
 use Rattle.bc_cli.specs.BetweenPhases.{HasRun, HasPhaseRoom}
@@ -26,20 +22,6 @@ use Rattle.bc_cli.proofs.Pieces.{state-none, texts_before-front, room-for-next, 
 use Rattle.bc_cli.proofs.Running.{texts_before-next}
 
 -- ---- the engine that was opened
-
--- no lane has made anything
-no_births : (lanes j : ℕ) → get_or (map length (replicate lanes (let none : List Object = [] in none))) j 0 ≡ 0
-no_births lanes j =
-    elim (cases_lt j lanes) [
-      | inl within ↦ get_or-map length (replicate lanes []) j [] 0 (omega (arith, length-replicate {A = List Object} lanes [])) ∙ ap length (made_by-opening lanes j)
-      | inr past ↦ get_or_past (map length (replicate lanes (let none : List Object = [] in none))) j 0
-          (omega (arith, length-map (replicate lanes (let none : List Object = [] in none)) length, length-replicate {A = List Object} lanes []))
-    ]
-
-pub births-opened : (setup : Setup) (e : EngineView) (n : ℕ) → n < 2 ^ 32 → EngineStands e (opening setup) → HasRoomForBirths e n
-births-opened setup e n small h = λ j.
-    let none : get_or e.running.serials j 0 ≡ 0 = ap (λ (xs : List ℕ). get_or xs j 0) (sym h.births) ∙ no_births setup.lanes j in
-    omega (arith, none)
 
 pub HasRun-opened : (t : TraceLists) (setup : Setup) (e : EngineView) → setup ≡ t.setup → all_ops_of t < 2 ^ 32 → EngineStands e (opening setup) → (e.setup ≡ setup) × (e.ended ≡ None) × HasEmptyChunks e.running.heap → HasRun t 0 e
 HasRun-opened t setup e is small stands h = record {

@@ -20,6 +20,8 @@ pub mod CutRoom
 pub mod Finishing
 -- A phase of a trace that was run and whose replies are counted, and a workload that was drawn and run to its end.
 pub mod Counted
+-- A heap that is handed back hasn't run out of memory.
+pub mod Alive
 -- The command that was found, and the one that the words are.
 pub mod Asking
 -- The output of `churn` is short.

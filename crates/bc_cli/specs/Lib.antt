@@ -4,6 +4,8 @@ pub mod Statuses
 pub mod Output
 -- The line of the need
 pub mod NeedLine
+-- The account of a heap that is handed back
+pub mod Accounts
 -- How the replay of a trace ends
 pub mod Endings
 -- A replay between its phases

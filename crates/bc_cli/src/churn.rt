@@ -7,6 +7,7 @@ ghost use Rattle.bc_model.specs.Run.{replies_of};
 ghost use Rattle.bc_model.specs.RunLengths.{all_ops_of};
 ghost use Rattle.bc_model.specs.WellFormed.{IsTrace};
 ghost use Rattle.bc_trace.specs.Counts.{run_counts};
+ghost use Rattle.bc_cli.specs.Accounts.{KeepsAccount};
 ghost use Rattle.bc_cli.specs.Churns.{ChurnsDone, ChurnsInFault, HasChurned};
 ghost use Rattle.bc_cli.specs.Endings.{FitsThroughout};
 ghost use Rattle.bc_cli.specs.BetweenPhases.{HasRun};
@@ -58,6 +59,7 @@ where
     ensures firm { result.status ≢ Status.WriteFault → K.faults sink.new ≡ K.faults sink.old }
     ensures no_memory { result.status ≡ Status.NoMemory → (sink.new ≡ sink.old) × (result.heap ≡ None) }
     ensures workers { IfSome result.heap (λ engine. engine.workers ≡ workers) }
+    ensures account { IfSome result.heap KeepsAccount }
 {
     let Ok(churned) = replay(rt, alloc, start, ops, workers, gate) else {
         return Outcome::without_heap(Status::NoMemory);

@@ -1,6 +1,8 @@
 //! What a run ends with: its status, and the heap as it stands at the end.
 
-ghost use Rattle.std.specs.Prelude.{◌≡◌, Some, None};
+ghost use Rattle.std.specs.Prelude.{◌≡◌, ◌≢◌, Some, None, IfSome};
+ghost use Rattle.bc_engine.specs.declared.engines.Ended.{Ended};
+ghost use Rattle.bc_cli.specs.Accounts.{KeepsAccount};
 ghost use Rattle.bc_cli.specs.Statuses.{exit_code_of, fault_of};
 
 use crate::status::{Fault, Status};
@@ -15,10 +17,14 @@ pub struct Outcome {
 }
 
 impl Outcome {
+    /// Of a heap that hasn't run out of memory, and so keeps its account.
     pub(crate) fn with_heap(status: Status, heap: Engine) -> Self
+        requires alive { heap.ended ≢ Some Ended.NoMemory }
         ensures status { result.status ≡ status }
         ensures heap { result.heap ≡ Some heap }
+        ensures account { IfSome result.heap KeepsAccount }
     {
+        heap.facts();
         Outcome {
             status,
             heap: Some(heap),

@@ -4,6 +4,7 @@ ghost use Rattle.std.specs.Prelude.{◌≡◌, ◌≢◌, ◌^◌, ◌<◌, ◌�
 ghost use Rattle.bc_io.specs.Faults.{Rose};
 ghost use Rattle.bc_model.specs.RunLengths.{all_ops_of};
 ghost use Rattle.bc_model.specs.WellFormed.{IsTrace};
+ghost use Rattle.bc_cli.specs.Accounts.{KeepsAccount};
 ghost use Rattle.bc_cli.specs.Endings.{EndsDone, EndsOutOfHeap, EndsInFault, StopsBefore, HasRunRoom};
 ghost use Rattle.bc_cli.specs.Outcomes.{IfStatusOutOfHeap, IfHeapless};
 ghost use Rattle.bc_cli.specs.PartEndings.{IsEnding};
@@ -51,6 +52,7 @@ where
         ⊎ StopsBefore trace.now (K.held sink.old) (K.held sink.new) }
     ensures none { IfHeapless result.status (result.heap ≡ None) }
     ensures workers { IfSome result.heap (λ engine. engine.workers ≡ workers) }
+    ensures account { IfSome result.heap KeepsAccount }
 {
     let Ok(mut engine) = Engine::open(alloc, &trace.setup, workers) else {
         return Outcome::without_heap(Status::NoMemory);

@@ -10,6 +10,7 @@ ghost use Rattle.bc_trace.specs.declared.fault.TraceFault.{TraceFault};
 ghost use Rattle.bc_words.specs.Commands.{IsCommandOf};
 ghost use Rattle.bc_words.specs.declared.command.Command.{Command as Asked};
 ghost use Rattle.bc_words.specs.declared.command.Command.TheVariants.{Run, Churn};
+ghost use Rattle.bc_cli.specs.Accounts.{KeepsAccount};
 ghost use Rattle.bc_cli.specs.Churns.{ChurnsDone, ChurnsInFault};
 ghost use Rattle.bc_cli.specs.Endings.{FitsThroughout};
 ghost use Rattle.bc_cli.specs.Outcomes.{Replayed, RanOutOfHeap, ReplayedInPart, ReplayedTo, Faulty, IfBadTrace, IfStatusOutOfHeap, IfHeapless, IsChurnEnding, IsOrNoMemory, HasRoomFor, longest_trace, workers_of};
@@ -94,6 +95,9 @@ where
     // The heap has as many workers as the words ask for.
     ensures workers { (command : Asked) → IsCommandOf (map (λ w. w.now) words.now) command →
         IfSome result.heap (λ engine. engine.workers ≡ workers_of command) }
+
+    // Wherever its pages are, it keeps its account: those that left are summarised, and its frames are the trace's.
+    ensures account { IfSome result.heap KeepsAccount }
 
     // Where no fault is counted, the words and the bytes alone decide, unless memory runs out.
     ensures complete { (workers : ℕ) (bytes : List ℕ) (t : TraceLists) → IsCommandOf (map (λ w. w.now) words.now) (Run workers) →

@@ -22,3 +22,5 @@ pub mod TurnLemmas
 pub mod RoundLemmas
 -- A phase
 pub mod PhaseLemmas
+-- An engine that was opened has made nothing, so each lane has all its births left.
+pub mod Births

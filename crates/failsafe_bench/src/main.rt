@@ -12,13 +12,13 @@
 // It promises nothing: what is proved is that every condition of the calls is met.
 #![tactic(auto)]
 
-ghost use Rattle.std.specs.Prelude.{◌<◌, ◌≤◌};
-ghost use Rattle.heap_workshop.specs.Workshops.{AreSizes};
+ghost use Rattle.std.specs.Prelude.{◌≡◌, ◌<◌, ◌≤◌};
+ghost use Rattle.bc_cycle.specs.Openings.{CanOpen};
 
 use anyhow::{Context, Result, bail, ensure};
 use bc_failsafe::Need;
-use bc_model::{Op, Reply, Slot};
-use heap_workshop::{Halt, Sizes, Workshop};
+use bc_model::{Op, Reply, Setup, Slot};
+use heap_workshop::{Halt, Workshop, objects_in_cells, superpages_in_use};
 use std::env;
 use std::rt::Clock;
 use std::time::{Duration, Instant};
@@ -148,18 +148,22 @@ fn link_at_random(workshop: &mut Workshop, nodes: u32) -> Result<()>
     Ok(())
 }
 
-/// The sizes of a heap for so many objects, all in cells or all in the nursery.
-fn sizes_for(nodes: u32, young: bool) -> Sizes
+/// The setup of a heap for so many objects, all in cells or all in the nursery. There is a frame for every page.
+fn setup_for(nodes: u32, young: bool) -> Setup
     requires { nodes ≤ 1048576 }
-    ensures { AreSizes result }
+    ensures setup { CanOpen result }
+    ensures lanes { result.lanes ≡ 1 }
 {
-    Sizes {
+    let superpages = nodes / 512 + 4;
+    let nursery = nursery_for(nodes, young);
+    Setup {
         lanes: 1,
         domains: 1,
         slots: 256,
-        superpages: nodes / 512 + 4,
-        nursery: nursery_for(nodes, young),
+        superpages,
+        nursery,
         buffer: 4096,
+        frames: nursery + 4 * superpages,
     }
 }
 
@@ -182,7 +186,7 @@ where
     requires some { 0 < nodes }
     requires few { nodes ≤ 1048576 }
 {
-    let mut workshop = Workshop::open(rt.alloc(), sizes_for(nodes, young))?;
+    let mut workshop = Workshop::open(rt.alloc(), &setup_for(nodes, young))?;
     for node in 0..nodes {
         make(&mut workshop, node)?;
     }
@@ -199,8 +203,8 @@ where
     let taken = nanoseconds(start.elapsed(rt)?);
     let place = if young { "young " } else { "" };
     let kind = if random { "random" } else { "chain" };
-    let objects = workshop.objects_in_cells();
-    let superpages = workshop.superpages_in_use();
+    let objects = objects_in_cells(workshop.space());
+    let superpages = superpages_in_use(workshop.space());
     println!(rt; "{place}{kind} {nodes}: {objects} objects in {superpages} superpages")?;
     eprintln!(rt; "{place}{kind} {nodes}: {taken} nanoseconds")?;
     Ok(())

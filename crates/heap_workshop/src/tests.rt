@@ -2,10 +2,11 @@
 
 mod emptying;
 mod failsafe;
+mod paging;
 
 use super::*;
 use bc_failsafe::Need;
-use bc_model::{Birth, Op, Reply, Slot};
+use bc_model::{Birth, Op, Reply, Setup, Slot};
 use std::process::Abort;
 use std::test::Fail;
 
@@ -23,23 +24,25 @@ const X: Slot = Slot { domain: 1, slot: 0 };
 const Y: Slot = Slot { domain: 1, slot: 1 };
 
 /// One lane, one domain, and room for few objects.
-const SMALL: Sizes = Sizes {
+const SMALL: Setup = Setup {
     lanes: 1,
     domains: 1,
     slots: 4,
     superpages: 2,
     nursery: 1,
     buffer: 2,
+    frames: 9,
 };
 
 /// One superpage, which 1,024 objects of one field fill, and room for more of them in the chunk.
-const ONE_SUPERPAGE: Sizes = Sizes {
+const ONE_SUPERPAGE: Setup = Setup {
     lanes: 1,
     domains: 1,
     slots: 4,
     superpages: 1,
     nursery: 5,
     buffer: 2,
+    frames: 9,
 };
 
 /// The object of this birth of lane 0.
@@ -59,8 +62,8 @@ fn expect(rt: &impl Abort, workshop: &mut Workshop, op: Op, reply: Reply) {
 
 /// So many superpages are in use, and so many objects lie in cells.
 fn counted(rt: &impl Abort, workshop: &Workshop, superpages: u32, objects: u32) {
-    assert_eq!(rt; workshop.superpages_in_use(), superpages);
-    assert_eq!(rt; workshop.objects_in_cells(), objects);
+    assert_eq!(rt; superpages_in_use(workshop.space()), superpages);
+    assert_eq!(rt; objects_in_cells(workshop.space()), objects);
 }
 
 /// Makes so many objects of one field, the first one with this serial number, and has each refer to what slot A refers to, and

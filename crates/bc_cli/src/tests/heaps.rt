@@ -41,12 +41,25 @@ fn push_chain(
     Ok(())
 }
 
-/// A trace of one phase that makes a chain of so many objects, and the text of its replies.
-fn chain(alloc: Global, objects: u32) -> Result<(String, String), AllocError> {
-    let mut text = header(alloc, SMALL)?;
-    text.push_str("phase\nlane 0\nnew 0 0 1\ncopy 0 0 0 1\n")?;
+/// The lines of a first phase that makes a chain of so many objects, behind a header and a line of hints, and the text of its replies.
+fn chain_phase(
+    alloc: Global,
+    numbers: [u32; 7],
+    turns: &str,
+    objects: u32,
+) -> Result<(String, String), AllocError> {
+    let mut text = header(alloc, numbers)?;
+    text.push_str("phase\n")?;
+    text.push_str(turns)?;
+    text.push_str("lane 0\nnew 0 0 1\ncopy 0 0 0 1\n")?;
     let mut output = String::from_str(alloc, "phase 1\nlane 0\nobj 0.1\nok\n")?;
     push_chain(alloc, &mut text, &mut output, objects)?;
+    Ok((text, output))
+}
+
+/// A trace of one phase that makes a chain of so many objects, and the text of its replies.
+fn chain(alloc: Global, objects: u32) -> Result<(String, String), AllocError> {
+    let (mut text, output) = chain_phase(alloc, SMALL, "", objects)?;
     text.push_str("end\ndone\n")?;
     Ok((text, output))
 }
@@ -144,5 +157,69 @@ fn cells_of_a_dropped_chain_make_room_for_another_size_class(rt: HostRuntime) ->
     output.push_str("phase 2\nlane 0\nok\nobj 0.1201\n")?;
     output.push_str("phase 3\nlane 0\nyes\nobj 0.1\nobj 0.1200\ndone\n")?;
     shows_done(&rt, rt.alloc(), &text, &output)?;
+    Ok(())
+}
+
+#[test]
+fn a_chain_on_twenty_pages_is_followed_within_two_frames(rt: HostRuntime) -> Result<(), Fail> {
+    let (mut text, mut output) = chain_phase(rt.alloc(), [1, 1, 2, 5, 1, 4, 3], "turn 0\n", 5000)?;
+    text.push_str("copy 0 0 0 1\n")?;
+    output.push_str("ok\n")?;
+    for passed in 1..=5000u32 {
+        text.push_str("load 0 1 0 0 1\n")?;
+        output.push_str(if passed < 5000 { "ref\n" } else { "nil\n" })?;
+    }
+    text.push_str("end\ndone\n")?;
+    output.push_str("done\n")?;
+    shows_done(&rt, rt.alloc(), &text, &output)?;
+    Ok(())
+}
+
+#[test]
+fn a_superpage_with_a_page_that_is_gone_is_emptied_by_the_fail_safe(
+    rt: HostRuntime,
+) -> Result<(), Fail> {
+    let (mut text, mut output) = chain_phase(rt.alloc(), SMALL, "", 600)?;
+    text.push_str("end\nphase\nlane 0\nclear 0 0\nclear 0 1\nnew 0 0 2\nend\ndone\n")?;
+    output.push_str("phase 2\nlane 0\nok\nok\nobj 0.601\ndone\n")?;
+    shows_done(&rt, rt.alloc(), &text, &output)?;
+    Ok(())
+}
+
+/// Headers, phases behind them, and what they print: pages that leave for notices, one that is remembered, notices that all are
+/// declined, and a page that comes back while every other one is remembered.
+const WITH_NOTICES: [([u32; 7], &str, &str); 4] = [
+    (
+        SMALL,
+        "phase\nlane 0\nnew 0 0 1\nend\nphase\nturn 0 0\nlane 0\nnew 0 1 0\nlink 0 0 0 0 1\nload 0 0 0 0 1\nwho 0 1\nend\nphase\nlane 0\nwho 0 1\nend\n",
+        "phase 1\nlane 0\nobj 0.1\nphase 2\nlane 0\nobj 0.2\nok\nref\nobj 0.2\nphase 3\nlane 0\nobj 0.2\n",
+    ),
+    (
+        SMALL,
+        "phase\nturn 0 1 2 3 0 1 2 3\nlane 0\nnew 0 0 0\nend\n",
+        "phase 1\nlane 0\nobj 0.1\n",
+    ),
+    (
+        [1, 1, 4, 3, 1, 4, 3],
+        "phase\nlane 0\nnew 0 0 1\nnew 0 1 3\nnew 0 2 7\nend\nphase\nlane 0\nwho 0 0\nwho 0 1\nnew 0 3 0\nlink 0 0 0 0 3\nlink 0 1 0 0 3\nwho 0 2\nload 0 0 0 0 3\nwho 0 3\nend\n",
+        "phase 1\nlane 0\nobj 0.1\nobj 0.2\nobj 0.3\nphase 2\nlane 0\nobj 0.1\nobj 0.2\nobj 0.4\nok\nok\nobj 0.3\nref\nobj 0.4\n",
+    ),
+    (
+        SMALL,
+        "phase\nturn 0 1 2 3\nturn\nlane 0\nnew 0 0 1\nset 0 0 0 5\nend\nphase\nturn 3 2 1 0\nlane 0\nload 0 0 0 0 1\nend\nphase\nlane 0\nwho 0 1\nlen 0 0\nend\n",
+        "phase 1\nlane 0\nobj 0.1\nok\nphase 2\nlane 0\nnum 5\nphase 3\nlane 0\nnum 5\nlen 1\n",
+    ),
+];
+
+#[test]
+fn notices_and_pages_that_come_back_change_no_reply(rt: HostRuntime) -> Result<(), Fail> {
+    for (numbers, phases, replies) in WITH_NOTICES {
+        let mut text = header(rt.alloc(), numbers)?;
+        text.push_str(phases)?;
+        text.push_str("done\n")?;
+        let mut output = String::from_str(rt.alloc(), replies)?;
+        output.push_str("done\n")?;
+        shows_done(&rt, rt.alloc(), &text, &output)?;
+    }
     Ok(())
 }

@@ -5,13 +5,14 @@ use bc_mutator::Stop;
 use std::thread::Threads;
 
 /// Two lanes, with a domain and a chunk each.
-const TWO_LANES: Sizes = Sizes {
+const TWO_LANES: Setup = Setup {
     lanes: 2,
     domains: 2,
     slots: 4,
     superpages: 2,
     nursery: 1,
     buffer: 2,
+    frames: 10,
 };
 
 /// The object of this birth of lane 1.
@@ -34,7 +35,7 @@ where
 fn a_recorded_field_alone_keeps_its_target_and_twice_recorded_keeps_it_once(
     rt: HostRuntime,
 ) -> Result<(), Fail> {
-    let mut workshop = Workshop::open(rt.alloc(), SMALL)?;
+    let mut workshop = Workshop::open(rt.alloc(), &SMALL)?;
     expect(&rt, &mut workshop, Op::New(A, 1), object(1));
     workshop = empty(&rt, workshop, 1, 1)?;
     // The second object lies in the chunk, and only a field of the first one, in a cell, refers to it.
@@ -63,7 +64,7 @@ fn a_recorded_field_alone_keeps_its_target_and_twice_recorded_keeps_it_once(
 fn a_cycle_of_a_chunk_survives_whole_and_one_without_a_reference_does_not(
     rt: HostRuntime,
 ) -> Result<(), Fail> {
-    let mut workshop = Workshop::open(rt.alloc(), SMALL)?;
+    let mut workshop = Workshop::open(rt.alloc(), &SMALL)?;
     expect(&rt, &mut workshop, Op::New(A, 1), object(1));
     expect(&rt, &mut workshop, Op::New(B, 1), object(2));
     expect(&rt, &mut workshop, Op::Link(A, 0, B), Reply::Done);
@@ -82,7 +83,7 @@ fn a_cycle_of_a_chunk_survives_whole_and_one_without_a_reference_does_not(
 
 #[test]
 fn each_of_two_chunks_has_its_own_survivors(rt: HostRuntime) -> Result<(), Fail> {
-    let mut workshop = Workshop::open(rt.alloc(), TWO_LANES)?;
+    let mut workshop = Workshop::open(rt.alloc(), &TWO_LANES)?;
     expect(&rt, &mut workshop, Op::New(A, 1), object(1));
     expect(&rt, &mut workshop, Op::New(A, 1), object(2));
     expect_of(&rt, &mut workshop, 1, Op::New(X, 1), object_of_1(1));
@@ -102,7 +103,7 @@ fn each_of_two_chunks_has_its_own_survivors(rt: HostRuntime) -> Result<(), Fail>
 fn where_the_last_survivor_finds_no_cell_the_fail_safe_tells_the_need_or_packs(
     rt: HostRuntime,
 ) -> Result<(), Fail> {
-    let mut workshop = Workshop::open(rt.alloc(), ONE_SUPERPAGE)?;
+    let mut workshop = Workshop::open(rt.alloc(), &ONE_SUPERPAGE)?;
     chain(&rt, &mut workshop, 1, 1023);
     workshop = empty(&rt, workshop, 1, 1023)?;
     // One cell is free, and the chunk has two survivors. The heap is as it was.

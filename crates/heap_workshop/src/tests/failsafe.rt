@@ -3,13 +3,14 @@
 use super::*;
 
 /// Two domains, and one superpage for both.
-const TWO_DOMAINS: Sizes = Sizes {
+const TWO_DOMAINS: Setup = Setup {
     lanes: 1,
     domains: 2,
     slots: 4,
     superpages: 1,
     nursery: 1,
     buffer: 2,
+    frames: 5,
 };
 
 /// The heap is collected, and then so many superpages are in use, and so many objects lie in cells.
@@ -20,7 +21,7 @@ fn collect(rt: &impl Abort, workshop: &mut Workshop, superpages: u32, objects: u
 
 #[test]
 fn a_cycle_of_two_and_a_self_reference(rt: HostRuntime) -> Result<(), Fail> {
-    let mut workshop = Workshop::open(rt.alloc(), SMALL)?;
+    let mut workshop = Workshop::open(rt.alloc(), &SMALL)?;
     expect(&rt, &mut workshop, Op::New(A, 1), object(1));
     expect(&rt, &mut workshop, Op::New(B, 1), object(2));
     expect(&rt, &mut workshop, Op::Link(A, 0, B), Reply::Done);
@@ -42,7 +43,7 @@ fn a_cycle_of_two_and_a_self_reference(rt: HostRuntime) -> Result<(), Fail> {
 
 #[test]
 fn a_cycle_that_nothing_refers_to_is_gone(rt: HostRuntime) -> Result<(), Fail> {
-    let mut workshop = Workshop::open(rt.alloc(), SMALL)?;
+    let mut workshop = Workshop::open(rt.alloc(), &SMALL)?;
     expect(&rt, &mut workshop, Op::New(A, 1), object(1));
     expect(&rt, &mut workshop, Op::New(B, 1), object(2));
     expect(&rt, &mut workshop, Op::Link(A, 0, B), Reply::Done);
@@ -57,7 +58,7 @@ fn a_cycle_that_nothing_refers_to_is_gone(rt: HostRuntime) -> Result<(), Fail> {
 
 #[test]
 fn two_slots_and_a_field_share_a_target(rt: HostRuntime) -> Result<(), Fail> {
-    let mut workshop = Workshop::open(rt.alloc(), SMALL)?;
+    let mut workshop = Workshop::open(rt.alloc(), &SMALL)?;
     expect(&rt, &mut workshop, Op::New(A, 3), object(1));
     expect(&rt, &mut workshop, Op::Copy(A, B), Reply::Done);
     expect(&rt, &mut workshop, Op::New(C, 1), object(2));
@@ -77,7 +78,7 @@ fn two_slots_and_a_field_share_a_target(rt: HostRuntime) -> Result<(), Fail> {
 
 #[test]
 fn a_chain_goes_back_and_forth_between_chunk_and_cells(rt: HostRuntime) -> Result<(), Fail> {
-    let mut workshop = Workshop::open(rt.alloc(), SMALL)?;
+    let mut workshop = Workshop::open(rt.alloc(), &SMALL)?;
     expect(&rt, &mut workshop, Op::New(A, 1), object(1));
     expect(&rt, &mut workshop, Op::New(B, 1), object(2));
     collect(&rt, &mut workshop, 1, 2);
@@ -105,11 +106,11 @@ fn a_chain_goes_back_and_forth_between_chunk_and_cells(rt: HostRuntime) -> Resul
 
 #[test]
 fn an_object_of_each_domain_needs_a_superpage(rt: HostRuntime) -> Result<(), Fail> {
-    let mut workshop = Workshop::open(rt.alloc(), TWO_DOMAINS)?;
+    let mut workshop = Workshop::open(rt.alloc(), &TWO_DOMAINS)?;
     expect(&rt, &mut workshop, Op::New(A, 1), object(1));
     expect(&rt, &mut workshop, Op::New(X, 1), object(2));
     assert_eq!(rt; workshop.collect(), Err(Need(2)));
-    assert_eq!(rt; workshop.superpages_in_use(), 0);
+    assert_eq!(rt; superpages_in_use(workshop.space()), 0);
     expect(&rt, &mut workshop, Op::Who(A), object(1));
     expect(&rt, &mut workshop, Op::Who(X), object(2));
     expect(&rt, &mut workshop, Op::Clear(A), Reply::Done);
@@ -120,7 +121,7 @@ fn an_object_of_each_domain_needs_a_superpage(rt: HostRuntime) -> Result<(), Fai
 
 #[test]
 fn garbage_in_cells_and_in_the_chunk_is_left_behind(rt: HostRuntime) -> Result<(), Fail> {
-    let mut workshop = Workshop::open(rt.alloc(), ONE_SUPERPAGE)?;
+    let mut workshop = Workshop::open(rt.alloc(), &ONE_SUPERPAGE)?;
     chain(&rt, &mut workshop, 1, 500);
     collect(&rt, &mut workshop, 1, 500);
     // Only the last three of the chain stay, and an object that is made now.
@@ -143,7 +144,7 @@ fn garbage_in_cells_and_in_the_chunk_is_left_behind(rt: HostRuntime) -> Result<(
 
 #[test]
 fn a_heap_may_be_exactly_full(rt: HostRuntime) -> Result<(), Fail> {
-    let mut workshop = Workshop::open(rt.alloc(), ONE_SUPERPAGE)?;
+    let mut workshop = Workshop::open(rt.alloc(), &ONE_SUPERPAGE)?;
     chain(&rt, &mut workshop, 1, 1024);
     collect(&rt, &mut workshop, 1, 1024);
     follow(&rt, &mut workshop, 1024);
@@ -154,10 +155,10 @@ fn a_heap_may_be_exactly_full(rt: HostRuntime) -> Result<(), Fail> {
 
 #[test]
 fn one_object_too_many_needs_a_superpage_more(rt: HostRuntime) -> Result<(), Fail> {
-    let mut workshop = Workshop::open(rt.alloc(), ONE_SUPERPAGE)?;
+    let mut workshop = Workshop::open(rt.alloc(), &ONE_SUPERPAGE)?;
     chain(&rt, &mut workshop, 1, 1025);
     assert_eq!(rt; workshop.collect(), Err(Need(2)));
-    assert_eq!(rt; workshop.objects_in_cells(), 0);
+    assert_eq!(rt; objects_in_cells(workshop.space()), 0);
     follow(&rt, &mut workshop, 1025);
     // Without the last one it fits.
     expect(&rt, &mut workshop, Op::Load(A, 0, A), Reply::Ref);

@@ -2,7 +2,7 @@
 use Rattle.std.proofs.Common.{◌≡◌, get_or, ap, ◌∙◌, arith}
 use Rattle.bc_engine.specs.Engines.{EngineView}
 use Rattle.bc_model.specs.declared.traces.Setup.{Setup}
-use Rattle.bc_cli.proofs.Finishing.{births-opened}
+use Rattle.bc_engine.proofs.Births.{births-opened}
 use Rattle.bc_cli.proofs.tests.engines.an_engine_that_ended_answers_its_need_again_without_replies.Goals as goal
 
 pub phase-requires-clause-phase : goal.phase-requires-clause-phase

@@ -4,10 +4,8 @@ use Rattle.bc_bits.specs.Counting.{count_below}
 use Rattle.bc_bits.proofs.CountLemmas.{count_below-le}
 use Rattle.bc_superpages.specs.Layout.{set_of}
 use Rattle.bc_superpages.specs.declared.headers.Header.{Header}
-use Rattle.bc_running.specs.Running.{RunningView}
-use Rattle.bc_whole_heap.specs.Heaps.{HeapView}
 use Rattle.heap_workshop.proofs.CountLemmas.{counted-so_far}
-use Rattle.heap_workshop.proofs.workshops.Workshop.objects_in_cells.Goals as goal
+use Rattle.heap_workshop.proofs.counts.objects_in_cells.Goals as goal
 
 pub overflow_add-objects : goal.overflow_add-objects
 overflow_add-objects c =
@@ -22,7 +20,5 @@ overflow_add-objects c =
 pub loop-superpage-preserved : goal.loop-superpage-preserved
 loop-superpage-preserved c =
     let q = c.loop-superpage.superpage in
-    counted-so_far c.args.self.now.heap.space.cells q c.loop-superpage.objects c.count-objects.result c.loop-superpage.invariant.0 c.loop-superpage.invariant.1
-    (c.count-objects.ensures.count ∙ ap (λ (h : Header). count_below (has h.cells) 1024) c.header.ensures.header
-    ∙ ap (λ (h : HeapView). count_below (has (set_of h.space.cells q)) 1024) c.heap.ensures
-    ∙ ap (λ (w : RunningView). count_below (has (set_of w.heap.space.cells q)) 1024) c.self.view_is)
+    counted-so_far c.args.space.now.cells q c.loop-superpage.objects c.count-objects.result c.loop-superpage.invariant.0 c.loop-superpage.invariant.1
+    (c.count-objects.ensures.count ∙ ap (λ (h : Header). count_below (has h.cells) 1024) c.header.ensures.header)
