@@ -1,0 +1,176 @@
+"""A program's heap as a trace: the program works on objects through variables, and each thing that it does to them is written down.
+
+A variable is a root slot. `Domain.new` makes an object and answers a variable that holds it; `get` loads a field, `set` writes one. A
+variable that Python lets go is cleared, and its slot is used again. So the trace reads and writes what the program does, in its
+order, and keeps alive what the program keeps.
+
+Beside the trace the objects themselves are kept, to know what a load answers, and how many superpages is needed by what is reached
+at the end of each phase: `Mutator.trace` makes the heap as large as the most of these, times a factor."""
+import random
+from math import ceil
+
+LIMIT = 16_777_216
+MOST_FIELDS = 127
+MOST_SLOTS = 256
+MOST_SUPERPAGES = 4096
+CLASSES = (2, 4, 8, 16, 32, 64, 128)
+
+
+class Refused(Exception):
+    """What a trace can't say."""
+
+
+class Thing:
+    """An object of the heap: its domain, and what its fields hold: None, a number, or another object."""
+    __slots__ = ('domain', 'fields')
+
+    def __init__(self, domain, fields):
+        self.domain, self.fields = domain, [None] * fields
+
+    def pair(self):
+        return self.domain, next(size for size in CLASSES if size > len(self.fields))
+
+
+class Variable:
+    """A root slot that holds an object."""
+    __slots__ = ('domain', 'slot', 'thing')
+
+    def __init__(self, domain, thing):
+        self.domain, self.thing = domain, thing
+        self.slot = domain.take_slot(thing)
+
+    def __del__(self):
+        self.domain.give_back(self.slot)
+
+    def __len__(self):
+        return len(self.thing.fields)
+
+    def __bool__(self):
+        return True
+
+    def get(self, field):
+        """What a field holds: None, a number, or a variable with the object."""
+        value, domain = self.thing.fields[field], self.domain
+        answer = Variable(domain, value) if isinstance(value, Thing) else value
+        slot = answer.slot if isinstance(value, Thing) else domain.scratch
+        domain.write(f'load {domain.number} {self.slot} {field} {domain.number} {slot}')
+        return answer
+
+    def set(self, field, value):
+        """Writes a field: None, a number, or the object of a variable."""
+        number, slot = self.domain.number, self.slot
+        if value is None:
+            self.domain.write(f'cut {number} {slot} {field}')
+        elif isinstance(value, Variable):
+            self.domain.write(f'link {number} {slot} {field} {value.domain.number} {value.slot}')
+            value = value.thing
+        else:
+            self.domain.write(f'set {number} {slot} {field} {value}')
+        self.thing.fields[field] = value
+
+    def copied(self, domain):
+        """A variable of another domain with the same object."""
+        answer = Variable(domain, self.thing)
+        self.domain.write(f'copy {self.domain.number} {self.slot} {domain.number} {answer.slot}')
+        return answer
+
+    def is_same(self, other):
+        """Whether two variables hold one object. The trace asks it too."""
+        self.domain.write(f'same {self.domain.number} {self.slot} {other.domain.number} {other.slot}')
+        return self.thing is other.thing
+
+
+class Domain:
+    """A domain with the variables of the lane that holds it. Slot 0 takes the numbers that are loaded."""
+
+    def __init__(self, mutator, number, lane):
+        self.mutator, self.number, self.lane = mutator, number, lane
+        self.scratch, self.free, self.held = 0, [], [None]
+
+    def write(self, line):
+        self.mutator.write(self.lane, line)
+
+    def take_slot(self, thing):
+        if self.free:
+            slot = self.free.pop()
+            self.held[slot] = thing
+            return slot
+        if len(self.held) == MOST_SLOTS:
+            raise Refused(f'more than {MOST_SLOTS - 1} variables in domain {self.number}')
+        self.held.append(thing)
+        return len(self.held) - 1
+
+    def give_back(self, slot):
+        self.held[slot] = None
+        self.free.append(slot)
+        if not self.mutator.is_done:
+            self.write(f'clear {self.number} {slot}')
+
+    def new(self, fields):
+        """A variable with a new object, whose fields hold nothing."""
+        if fields > MOST_FIELDS:
+            raise Refused(f'an object of {fields} fields, where {MOST_FIELDS} are the most')
+        variable = Variable(self, Thing(self.number, fields))
+        self.write(f'new {self.number} {variable.slot} {fields}')
+        return variable
+
+
+class Mutator:
+    """Writes a trace phase by phase. A phase has one `turn` line of so many notices, whose hints are drawn."""
+
+    def __init__(self, lanes=1, domains=1, notices=0, seed=7):
+        self.lanes, self.notices, self.random = lanes, notices, random.Random(seed)
+        self.domains = [Domain(self, number, number % lanes) for number in range(domains)]
+        self.is_done, self.size, self.need = False, 0, 1
+        self.phases, self.lines, self.gives = [], [[] for _ in range(lanes)], []
+
+    def write(self, lane, line):
+        self.size += len(line) + 1
+        if self.size > LIMIT - 65_536:
+            raise Refused(f'the trace is longer than {LIMIT} bytes: choose a smaller size')
+        self.lines[lane].append(line)
+
+    def add_domain(self):
+        """One domain more, held by the lane that holds it at the start."""
+        self.domains.append(Domain(self, len(self.domains), len(self.domains) % self.lanes))
+
+    def give(self, domain, lane):
+        """The domain changes hands at the end of this phase."""
+        self.gives.append((domain, lane))
+
+    def end_phase(self):
+        hints = [f'turn{"".join(f" {self.random.randrange(1 << 14)}" for _ in range(self.notices))}'] if self.notices else []
+        lanes = [line for lane, lines in enumerate(self.lines) for line in [f'lane {lane}', *lines]]
+        gives = [f'give {domain.number} {lane}' for domain, lane in self.gives]
+        self.phases.append('\n'.join(['phase', *hints, *lanes, *gives, 'end\n']))
+        self.size += len(self.phases[-1]) - sum(len(line) + 1 for lines in self.lines for line in lines)
+        for domain, lane in self.gives:
+            domain.lane = lane
+        self.lines, self.gives = [[] for _ in range(self.lanes)], []
+        self.need = max(self.need, self.needed())
+
+    def needed(self):
+        """How many superpages what is reached now needs, where it is packed."""
+        todo = [thing for domain in self.domains for thing in domain.held if thing]
+        seen, counts = set(map(id, todo)), {}
+        while todo:
+            thing = todo.pop()
+            counts[thing.pair()] = counts.get(thing.pair(), 0) + 1
+            for value in thing.fields:
+                if isinstance(value, Thing) and id(value) not in seen:
+                    seen.add(id(value))
+                    todo.append(value)
+        return sum(ceil(count / (4 * (512 // size))) for (_, size), count in counts.items())
+
+    def trace(self, factor, nursery, buffer, share):
+        """The whole trace, in a heap of the superpages needed times the factor, with frames for this share of the heap's pages."""
+        self.is_done = True
+        superpages = max(self.need + 1, ceil(self.need * factor))
+        if superpages > MOST_SUPERPAGES:
+            raise Refused(f'the heap needs {superpages} superpages, where {MOST_SUPERPAGES} are the most: choose a smaller size')
+        lanes_pages = self.lanes * nursery
+        frames = min(max(lanes_pages + round(share * 4 * superpages), lanes_pages + 2), lanes_pages + 4 * superpages)
+        slots = max(len(domain.held) for domain in self.domains)
+        header = {'bc-trace': 1, 'lanes': self.lanes, 'domains': len(self.domains), 'slots': slots, 'superpages': superpages,
+                  'nursery': nursery, 'buffer': buffer, 'frames': frames}
+        return ''.join(f'{word} {number}\n' for word, number in header.items()) + ''.join(self.phases) + 'done\n'
