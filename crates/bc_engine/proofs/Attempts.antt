@@ -128,6 +128,7 @@ never-stops {setup} {r} lane op (Err NurseryFull) ready within none full wants f
     never-full r.holders lane 0 (chunk_of r.heap.chunks lane) op none (omega (arith, long, ready.range.nursery.0)) (full refl)
 never-stops {setup} {r} lane op (Err BufferFull) ready within none full wants frame =
     never-recorded r.holders lane r.heap.space r.heap.roots (chunk_of r.heap.chunks lane) (buffer_of r.heap.buffers lane) op none (wants refl)
+never-stops lane op (Err NoFrame) ready within none full wants frame = frame refl
 
 -- why an operation stopped
 pub why-stopped : (A B C : Type 0) (r : Result Reply Stop) → (IsErrOf r NurseryFull → A) → (IsErrOf r BufferFull → B) → (IsErrOf r NoFrame → C) → OnErr r (A ⊎ (B ⊎ C))

@@ -16,6 +16,8 @@ pub mod EmptyingLemmas
 pub mod CutLemmas
 -- Stretches of a phase, as the code keeps its replies.
 pub mod RunLemmas
+-- A turn
+pub mod TurnLemmas
 -- A round
 pub mod RoundLemmas
 -- A phase

@@ -58,7 +58,7 @@ pub record IsEngine (e : EngineView) : Type 0 where
 abbrev pub HasRoomForBirths : EngineView → ℕ → Type 0
 HasRoomForBirths e n = (j : ℕ) → slice_index e.running.serials j + n < 2 ^ 32
 
--- what the type keeps: until it runs out of memory an engine's heap is in order. There are no notices yet, and so no answers
+-- what the type keeps: until it runs out of memory an engine's heap is in order. What became of notices isn't kept yet
 pub record IsSoundEngine (e : EngineView) : Type 0 where
   pub alive : e.ended ≢ Some NoMemory → IsEngine e
   pub unanswered : e.answers ≡ []

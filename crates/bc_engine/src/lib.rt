@@ -6,13 +6,20 @@
 // are, or memory ran out. An engine that has ended replays no other phase.
 //
 // A phase (`phases`) begins by taking room for the replies to all its operations, so that none of them takes memory. Then
-// it goes in rounds (`rounds`). In a round each lane does operations (`lanes`) until it is at its end or one stops, since
-// the lane's chunk or its write buffer is full. An operation that stops has changed nothing. Then the nurseries are
-// emptied, and if all lanes are at their ends the rounds are through. If not, each lane that has operations left does one
-// more on empty chunks. That one can't stop: an empty chunk has room for any object, and where a chunk is empty no
-// reference to it can be stored. Nor does it record anything, so all buffers are empty still. So each round that isn't the
-// last does an operation of every lane that had any left, and the operations that are left get fewer. When the rounds are
-// through, the domains change hands: all chunks are empty then, so nothing refers to the chunk of the lane that loses one.
+// it goes in rounds (`rounds`). A round begins with a turn of the lanes (`turns`): each does operations (`lanes`) until it
+// is at its end or one stops, since the lane's chunk or its write buffer is full, or since it looks at an object on a page
+// that has left memory, no frame is free and no other page can leave for it. An operation that stops has at most moved pages.
+// Then a page is given up for each hint of the turn's line, and the heap is settled. The lines of a phase are used in
+// order, one for each turn, and from the first one again when they are used up. So the heap gets by with the frames that
+// the setup gives it, and no reply tells which pages were away.
+//
+// Then the nurseries are emptied, and if all lanes are at their ends the rounds are through. If not, each lane that has
+// operations left does one more on empty chunks. That one can't stop: an empty chunk has room for any object, where a
+// chunk is empty no reference to it can be stored, and no page is remembered, so every page can leave for the one that is
+// wanted. Nor does it record anything, so all buffers are empty still. So each round that isn't the last does an operation
+// of every lane that had any left, and the operations that are left get fewer. When the rounds are through, the domains
+// change hands: all chunks are empty then, so nothing refers to the chunk of the lane that loses one. `Engine::serial` does
+// such an operation by itself.
 //
 // An emptying may find that the heap is too small. Then the heap is as it was, what it stands for needs more
 // superpages than there are, and the phase ends there with the replies so far. Whatever the lanes have done is a cut of
@@ -22,9 +29,10 @@
 // the phase's end alone (proofs/CutLemmas.antt).
 //
 // What is true of every engine between calls, until memory runs out (`IsEngine`): its heap is in order, so that lanes can
-// run on it (`IsRunning` in `bc_whole_heap`); it has the sizes of the setup, with a frame for every page, and superpages are in
-// use for the setup's domains alone; and there is a state of the heap that never frees, moves or pages that it stands for,
-// with just these holders and births. As long as it hasn't ended, write buffers are empty and no page is remembered.
+// run on it (`IsRunning` in `bc_whole_heap`), of which it is part that bookmarks and counters stand for the pages that left; it
+// has the sizes of the setup and its frames, of which two aren't those of nursery pages, and superpages are in use for the
+// setup's domains alone; and there is a state of the heap that never frees, moves or pages that it stands for, with just these
+// holders and births. As long as it hasn't ended, write buffers are empty and no page is remembered. `facts` tells all this.
 //
 // The theorem is the contract of `Engine::phase`. Done, the replies are those of the heap that never frees, to every
 // operation, the engine stands for the state after the phase, and its superpages are at least that state's need
