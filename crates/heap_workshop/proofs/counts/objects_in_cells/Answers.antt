@@ -2,7 +2,6 @@ use Rattle.std.proofs.Common.{ap, ◌∙◌, arith}
 use Rattle.bc_bits.specs.Bits.{has}
 use Rattle.bc_bits.specs.Counting.{count_below}
 use Rattle.bc_bits.proofs.CountLemmas.{count_below-le}
-use Rattle.bc_superpages.specs.Layout.{set_of}
 use Rattle.bc_superpages.specs.declared.headers.Header.{Header}
 use Rattle.heap_workshop.proofs.CountLemmas.{counted-so_far}
 use Rattle.heap_workshop.proofs.counts.objects_in_cells.Goals as goal
