@@ -37,8 +37,8 @@ use Rattle.bc_word.specs.declared.addresses.Address.{Address}
 use Rattle.bc_word.specs.declared.words.Word.TheVariants.{Ref}
 use Rattle.bc_running.specs.Running.{RunningView}
 use Rattle.bc_running.specs.RunningFacts.{IsSound, StaysBut, with_space}
-use Rattle.bc_running.specs.Serving.{GivesUp, GivesUpFirst}
-use Rattle.bc_running.specs.Touching.{IsTouching, LeadsTo, TouchesHere}
+use Rattle.bc_running.specs.Serving.{GivesUpFor, GivesUpFirst}
+use Rattle.bc_running.specs.Touching.{IsTouching, LeadsToPage, TouchesHere}
 
 later-moved : {s t : Layout} (cs : List Nursery) (lane serial : ℕ) → MovesPages s t → NoneLater s cs lane serial → NoneLater t cs lane serial
 later-moved cs lane serial moves none a b there = none a b (subst (λ (m : Memory). births m a ≡ Some b) (memory-moved cs moves) there)
@@ -123,25 +123,25 @@ needs-kept {s} {t} hs lane r c b op moves needs =
 one_place : (x y : Address) → Ref x ≡ Ref y → x ≡ y
 one_place x y e = cc
 
-pub here-leads : (t : Layout) (r : RootWords) (slot : Option Slot) (page : ℕ) → LeadsTo r slot page → state_at t.states page ≡ Home → TouchesHere t r slot
+pub here-leads : (t : Layout) (r : RootWords) (slot : Option Slot) (page : ℕ) → LeadsToPage r slot page → state_at t.states page ≡ Home → TouchesHere t r slot
 here-leads t r None page leads home = absurd leads
 here-leads t r (Some p) page leads home = λ a refers below.
     let same : a ≡ leads.0 = one_place a leads.0 (sym refers ∙ leads.1) in
     ap (λ (x : Address). is_gone (state_at t.states (page_of x.0))) same ∙ ap (λ (x : ℕ). is_gone (state_at t.states x)) leads.2 ∙ ap is_gone home
 
 -- whichever answer is given for a hint
-pub gives-up : (s t : Layout) (hint : ℕ) (result : Option ℕ) → IfSome result (λ page. (page < 4 * superpages s) × GivenUp s hint page t) → IfNone result (NoneLeaves s × (t ≡ s)) → GivesUp s hint t
+pub gives-up : (s t : Layout) (hint : ℕ) (result : Option ℕ) → IfSome result (λ page. (page < 4 * superpages s) × GivenUp s hint page t) → IfNone result (NoneLeaves s × (t ≡ s)) → GivesUpFor s hint t
 gives-up s t hint (Some page) some none = inl (page, some.0, some.1)
 gives-up s t hint None some none = inr none
 
 -- one hint more
-pub gives-more : (s u t : Layout) (hints : List ℕ) (n : ℕ) → GivesUpFirst s hints n u → GivesUp u (get_or hints n 0) t → GivesUpFirst s hints (n + 1) t
+pub gives-more : (s u t : Layout) (hints : List ℕ) (n : ℕ) → GivesUpFirst s hints n u → GivesUpFor u (get_or hints n 0) t → GivesUpFirst s hints (n + 1) t
 gives-more s u t hints n first more =
     let e : suc n ≡ n + 1 = omega arith in
     subst (λ (m : ℕ). GivesUpFirst s hints m t) e (u, first, more)
 
 -- pages move where one is given up for a hint, and where the space is settled
-pub moves-given : (s t : Layout) (hint : ℕ) → IsLayout s → GivesUp s hint t → IsSummarised t → MovesPages s t
+pub moves-given : (s t : Layout) (hint : ℕ) → IsLayout s → GivesUpFor s hint t → IsSummarised t → MovesPages s t
 moves-given s t hint k (inl given) sum = MovesPages-after s t t (Frees-given s t hint given.0 k given.1 given.2) (MovesPages-none t sum)
 moves-given s t hint k (inr none) sum = subst (λ (x : Layout). MovesPages s x) (sym none.1) (MovesPages-none s (subst IsSummarised none.1 sum))
 

@@ -6,13 +6,13 @@ use Rattle.bc_bookmarks.specs.Choices.{GivenUp, NoneLeaves}
 use Rattle.bc_superpages.specs.Layout.{Layout, superpages}
 
 -- a page was given up for the hint, or nothing changed where no page can leave
-abbrev pub GivesUp : Layout → ℕ → Layout → Type 0
-GivesUp s hint t = ((page : ℕ) × (page < 4 * superpages s) × GivenUp s hint page t) ⊎ (NoneLeaves s × (t ≡ s))
+abbrev pub GivesUpFor : Layout → ℕ → Layout → Type 0
+GivesUpFor s hint t = ((page : ℕ) × (page < 4 * superpages s) × GivenUp s hint page t) ⊎ (NoneLeaves s × (t ≡ s))
 
 -- so it went with the first n hints, one after another
 abbrev pub GivesUpFirst : Layout → List ℕ → ℕ → Layout → Type 0
 GivesUpFirst s hints zero t = t ≡ s
-GivesUpFirst s hints (suc n) t = (u : Layout) × GivesUpFirst s hints n u × GivesUp u (slice_index hints n) t
+GivesUpFirst s hints (suc n) t = (u : Layout) × GivesUpFirst s hints n u × GivesUpFor u (slice_index hints n) t
 
 -- the notices of a turn were served, each once and in order, and then the space was settled
 abbrev pub Served : Layout → List ℕ → Layout → Type 0

@@ -29,9 +29,9 @@ TouchesHere s roots None = Unit {0}
 TouchesHere s roots (Some p) = IsHere s (slot_word roots p)
 
 -- the slot, where there is one, refers to an address on this page
-abbrev pub LeadsTo : RootWords → Option Slot → ℕ → Type 0
-LeadsTo roots None page = ⊥
-LeadsTo roots (Some p) page = (a : Address) × (slot_word roots p ≡ Ref a) × (page_of a.0 ≡ page)
+abbrev pub LeadsToPage : RootWords → Option Slot → ℕ → Type 0
+LeadsToPage roots None page = ⊥
+LeadsToPage roots (Some p) page = (a : Address) × (slot_word roots p ≡ Ref a) × (page_of a.0 ≡ page)
 
 -- there is such a slot
 abbrev pub IsTouching : Option Slot → Type 0

@@ -10,7 +10,7 @@ ghost use Rattle.bc_superpages.specs.RootWords.{RootWords};
 ghost use Rattle.bc_whole_heap.specs.Closed.{IsClosedHeap};
 ghost use Rattle.bc_whole_heap.specs.HeapFacts.{view_of};
 ghost use Rattle.bc_whole_heap.specs.Running.{IsRunning};
-ghost use Rattle.bc_running.specs.Serving.{GivesUp, GivesUpFirst, Served};
+ghost use Rattle.bc_running.specs.Serving.{GivesUpFor, GivesUpFirst, Served};
 
 use bc_bookmarks::{give_up, settle};
 use bc_cycle::Heap;
@@ -54,7 +54,7 @@ fn give_up_all(space: &mut Space, hints: &[u32])
 fn give_up_one(space: &mut Space, hint: u32)
     requires summarised { IsSummarised space.old }
     requires closed { (r : RootWords) × (cs : List Nursery) × (bs : List Entries) × (holders : List ℕ) × IsClosedHeap (view_of space.old r cs bs) holders }
-    ensures gives { GivesUp space.old hint space.new }
+    ensures gives { GivesUpFor space.old hint space.new }
     ensures moves { MovesPages space.old space.new }
 {
     space.facts();
