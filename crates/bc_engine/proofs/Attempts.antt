@@ -26,9 +26,7 @@ use Rattle.bc_mutator.proofs.NewLemmas.{births-count, none-later}
 use Rattle.bc_nursery.specs.Entries.{Entries}
 use Rattle.bc_nursery.specs.Objects.{left_of, words_of}
 use Rattle.bc_nursery.specs.Nurseries.{Nursery}
-use Rattle.bc_superpages.specs.declared.headers.PageState.{PageState}
 use Rattle.bc_superpages.specs.Layout.{Layout, superpages}
-use Rattle.bc_superpages.specs.LayoutAt.{state_at}
 use Rattle.bc_superpages.specs.RootWords.{RootWords}
 use Rattle.bc_engine.specs.EngineFacts.{CanRunLanes, IsUnrecorded}
 use Rattle.bc_engine.specs.Lanes.{Does, IsHeldUp, Stops}

@@ -1,5 +1,5 @@
 -- What an emptying of the nurseries, or its refusal, means to an engine.
-use Rattle.std.proofs.Common.{Vec, Global, ◌≡◌, ℕ, List, slice_index, length, map, sym, ap, subst, ◌∙◌}
+use Rattle.std.proofs.Common.{Vec, Global, ◌≡◌, ℕ, List, length, map, sym, ap, subst, ◌∙◌}
 use Rattle.std.proofs.Math.ListN.{get_or-map}
 use Rattle.std.proofs.lemmas.List.{length-map}
 use Rattle.bc_cycle.specs.Emptying.{IsEmptied, IsAsBefore}
@@ -19,7 +19,6 @@ use Rattle.bc_nursery.specs.Objects.{bare_nursery, emptied}
 use Rattle.bc_nursery.specs.Nurseries.{Nursery}
 use Rattle.bc_standing.specs.Standing.{StandsFor, AllBorn}
 use Rattle.bc_promotion.specs.Promises.{HasDomainsBelow}
-use Rattle.bc_superpages.specs.Layout.{Layout}
 use Rattle.bc_superpages.specs.RootWords.{RootWords}
 use Rattle.bc_model.specs.declared.operations.Op.{Op}
 use Rattle.bc_model.specs.declared.operations.Reply.{Reply}

@@ -1,7 +1,7 @@
 -- What an operation does after the page that it touches came home, told of the heap before.
 use Rattle.std.specs.Option.{IfSome, IfNone}
 use Rattle.std.specs.Prelude.{IsErrOf}
-use Rattle.std.proofs.Common.{◌≡◌, ◌≢◌, ◌↔◌, ℕ, ◌+◌, ◌*◌, ◌<◌, false, inl, inr, List, length, get_or, Some, None, Option, Err, refl, sym, ap, subst, ◌∙◌, arith}
+use Rattle.std.proofs.Common.{◌≡◌, ◌↔◌, ℕ, ◌+◌, ◌*◌, ◌<◌, inl, inr, List, get_or, Some, None, Option, Err, refl, sym, ap, subst, ◌∙◌, arith}
 use Prim.Native.Nat.{suc}
 use Rattle.std.proofs.lemmas.List.{set-get_or}
 use Rattle.bc_bookmarks.specs.Changes.{Settled}
@@ -12,9 +12,7 @@ use Rattle.bc_bookmarks.proofs.MovingLemmas.{Frees-given, MovesPages-after, Move
 use Rattle.bc_memory.specs.Memory.{Memory}
 use Rattle.bc_model.specs.declared.operations.Op.{Op}
 use Rattle.bc_model.specs.declared.operations.Op.TheVariants.{New, Who, Len, Set, Cut, Link, Load, Copy, Clear, Same}
-use Rattle.bc_model.specs.declared.values.Birth.{Birth}
 use Rattle.bc_model.specs.declared.values.Slot.{Slot}
-use Rattle.bc_mutator.specs.Objects.{slot_word}
 use Rattle.bc_mutator.specs.Operations.{NeedsEntry, NoneLater, WantsMore}
 use Rattle.bc_mutator.specs.Parts.{touched_slot}
 use Rattle.bc_mutator.specs.declared.operations.Stop.{Stop}
@@ -29,7 +27,6 @@ use Rattle.bc_superpages.specs.Kept.{IsLayout}
 use Rattle.bc_superpages.specs.Layout.{Layout, superpages}
 use Rattle.bc_superpages.specs.LayoutAt.{state_at}
 use Rattle.bc_superpages.specs.RootWords.{RootWords}
-use Rattle.bc_whole_heap.specs.Heaps.{heap_memory, HeapView}
 use Rattle.bc_whole_heap.specs.HeapFacts.{HasTwoFrames}
 use Rattle.bc_whole_heap.proofs.MovingLemmas.{memory-moved, running-moved}
 use Rattle.bc_word.specs.Addresses.{page_of}

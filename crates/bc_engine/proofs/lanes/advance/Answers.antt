@@ -1,9 +1,9 @@
-use Rattle.std.proofs.Common.{◌≡◌, ◌<◌, length, get_or, refl, sym, ap, subst, inl, inr, ◌∙◌, arith, ◌++◌, ◌∷◌, [], Vec, Global, vec_capacity, vec_len, Err}
+use Rattle.std.proofs.Common.{◌≡◌, ◌<◌, length, get_or, refl, sym, ap, inl, inr, ◌∙◌, arith, ◌++◌, ◌∷◌, [], Vec, Global, vec_capacity, vec_len, Err}
 use Rattle.std.proofs.lemmas.List.{length-map}
 use Rattle.bc_model.specs.Rows.{lists_of}
 use Rattle.bc_model.specs.declared.operations.Op.{Op}
 use Rattle.bc_model.specs.declared.operations.Reply.{Reply}
-use Rattle.bc_engine.specs.Lanes.{of_lane, Does, Stops}
+use Rattle.bc_engine.specs.Lanes.{of_lane, Does}
 use Rattle.bc_engine.proofs.Attempts.{does-step, ready-sound, ready-step, never-stops, still-stops, unrecorded-kept, why-stopped}
 use Rattle.bc_engine.proofs.RunLemmas.{IsKept, of_lane-long, of_lane-at, op-fits, runs-step, runs-moved, runs-same, one-more, told-other, leaves-moved, leaves-same}
 use Rattle.bc_engine.proofs.Sizes.{op-of_heap}

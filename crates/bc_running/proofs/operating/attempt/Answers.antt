@@ -1,4 +1,4 @@
-use Rattle.std.proofs.Common.{◌≡◌, refl, ap, sym, set, subst, get_or, List, ◌∙◌}
+use Rattle.std.proofs.Common.{refl, ap, sym, set, subst, get_or, List, ◌∙◌}
 use Rattle.std.proofs.lemmas.List.{get_or-set_same, set-get_or}
 use Rattle.std.proofs.lemmas.Result.{IfOk-weaker, on_err_weaker}
 use Rattle.bc_bookmarks.specs.Moves.{MovesPages}

@@ -1,4 +1,3 @@
-use Rattle.std.proofs.Common.{sym, subst}
 use Rattle.std.proofs.lemmas.Result.{IfOk-weaker, on_err_weaker}
 use Rattle.bc_cycle.specs.Emptying.{heap_view}
 use Rattle.bc_running.proofs.WholeLemmas.{back-same, did-whole, touches-hand, whole-needs, whole-serves}
