@@ -9,23 +9,19 @@ LIMIT = 16_777_216
 
 @dataclass(frozen=True)
 class Setup:
-    """What a trace's header says. There is a frame for every page, or for so many of them."""
+    """What a trace's header says. There is a frame for every page."""
     lanes: int = 1
     domains: int = 1
     slots: int = 1
     superpages: int = 1
     nursery: int = 1
     buffer: int = 1
-    resident: Optional[int] = None
-
-    def pages(self):
-        return 4 * self.superpages
 
     def frames(self):
-        return self.lanes * self.nursery + (self.pages() if self.resident is None else self.resident)
+        return self.lanes * self.nursery + 4 * self.superpages
 
     def heap_bytes(self):
-        return 4096 * (self.lanes * self.nursery + self.pages())
+        return 4096 * self.frames()
 
     def header(self):
         return (f'bc-trace 1\nlanes {self.lanes}\ndomains {self.domains}\nslots {self.slots}\nsuperpages {self.superpages}\n'
@@ -140,28 +136,6 @@ def full_heap(setup, count):
                 else:
                     lines.append(f'new 0 1 127\nlink 0 0 {grandchild} 0 1\n')
     return whole(setup, [setup.phase(''.join(lines) + 'clear 0 1\n'), setup.phase('new 0 0 127\n' * count)])
-
-
-def chain_followed(setup, count, times):
-    """A list of so many objects of one field, the newest first, which is followed from its head so many times."""
-    more = 'new 0 1 1\nlink 0 1 0 0 0\ncopy 0 1 0 0\n'
-    made = 'new 0 0 1\n' + more * (count - 1)
-    return whole(setup, [setup.phase(made)] + [setup.phase('copy 0 0 0 1\n' + 'load 0 1 0 0 1\n' * count)] * times)
-
-
-def moving_working_set(setup, rounds, window=4):
-    """A list in each root slot but the first, of as many objects of three fields as a page has cells, and rounds of steps along some
-    lists side by side, of which one is left for the next one in each round. Each step writes a number."""
-    rng, lists = random.Random(7), setup.slots - 1
-    phases = [setup.phase('new 0 0 3\n' + f'copy 0 0 0 {slot}\n' + f'new 0 0 3\nlink 0 0 0 0 {slot}\ncopy 0 0 0 {slot}\n' * 127)
-              for slot in range(1, setup.slots)]
-    for first in range(rounds):
-        lines = []
-        for _ in range(20):
-            lines.append(f'copy 0 {1 + (first + rng.randrange(window)) % lists} 0 0\n')
-            lines.append('load 0 0 0 0 0\nset 0 0 1 7\n' * 10)
-        phases.append(setup.phase(''.join(lines)))
-    return whole(setup, phases)
 
 
 @dataclass(frozen=True)

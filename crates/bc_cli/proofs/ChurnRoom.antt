@@ -1,5 +1,5 @@
 -- The output of `churn` is short.
-use Rattle.std.proofs.Common.{◌≡◌, ℕ, ◌+◌, ◌*◌, ◌^◌, ◌<◌, ◌≤◌, inl, inr, List, [], ◌∷◌, ◌++◌, codes, length, slice_index, suc, ap, arith, length-append}
+use Rattle.std.proofs.Common.{ℕ, ◌+◌, ◌*◌, ◌^◌, ◌<◌, ◌≤◌, inl, inr, List, [], ◌∷◌, ◌++◌, codes, length, slice_index, suc, arith, length-append}
 use Rattle.std.specs.List.{sum, sum_by}
 use Rattle.std.specs.Fmt.{decimal}
 use Rattle.std.proofs.lemmas.Bool.{cases_lt}
@@ -7,7 +7,7 @@ use Rattle.std.proofs.lemmas.Fmt.{length-decimal-le}
 use Rattle.std.proofs.lemmas.List.{get_or_past}
 use Rattle.std.proofs.lemmas.List.Sums.{get_or-le-sum_by, sum_by-cons}
 use Rattle.bc_model.specs.Run.{replies_of}
-use Rattle.bc_trace.specs.Churn.{churn_trace, phases_of}
+use Rattle.bc_trace.specs.Churn.{churn_trace}
 use Rattle.bc_trace.specs.Counts.{churn_line, churn_text, count_line, count_lines, kind_names, run_counts}
 use Rattle.bc_trace.specs.Replies.{done_text}
 use Rattle.bc_trace.proofs.ChurnSums.{counted-churn}

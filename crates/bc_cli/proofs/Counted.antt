@@ -1,16 +1,16 @@
 -- A phase of a trace that was run and whose replies are counted, and a workload that was drawn and run to its end.
-use Rattle.std.proofs.Common.{◌≡◌, ℕ, ◌+◌, ◌*◌, ◌^◌, ◌<◌, ◌≤◌, List, [], ◌∷◌, ◌++◌, length, take, Option, None, Some, refl, sym, ap, subst, ◌∙◌, append-nil, arith, length-append, take_all}
-use Rattle.std.specs.List.{sum, sum_by}
+use Rattle.std.proofs.Common.{◌≡◌, ℕ, ◌+◌, ◌^◌, ◌<◌, ◌≤◌, List, [], ◌∷◌, ◌++◌, length, take, Option, None, Some, refl, sym, ap, subst, ◌∙◌, append-nil, arith, length-append, take_all}
+use Rattle.std.specs.List.{sum}
 use Rattle.std.proofs.lemmas.Grind.{flat_map-append}
 use Rattle.std.proofs.lemmas.List.{take_more}
 use Rattle.std.proofs.lemmas.List.Sums.{sum_by-take-le}
 use Rattle.bc_engine.specs.Engines.{EngineView, EngineStands}
-use Rattle.bc_model.specs.Lists.{PhaseLists, TraceLists}
+use Rattle.bc_model.specs.Lists.{TraceLists}
 use Rattle.bc_model.specs.Run.{opening, before, phase_at, no_phase, replies_of, replies_of_phases, replies_to_lanes}
 use Rattle.bc_model.specs.RunLengths.{ops_of, all_ops_of}
 use Rattle.bc_model.specs.declared.operations.Reply.{Reply}
 use Rattle.bc_model.specs.declared.traces.Setup.{Setup}
-use Rattle.bc_trace.specs.Churn.{churn_trace, phases_of}
+use Rattle.bc_trace.specs.Churn.{churn_trace}
 use Rattle.bc_trace.specs.Counts.{all_replies, phase_replies, counts, run_counts}
 use Rattle.bc_trace.proofs.ChurnNeed.{need-cut, setup-is}
 use Rattle.bc_trace.proofs.ChurnSums.{counted-once, counted-run, trace-ops}

@@ -3,7 +3,7 @@ use Rattle.std.proofs.Common.{◌≡◌, ℕ, ◌+◌, ◌<◌, inl, inr, List, 
 use Rattle.bc_engine.specs.Engines.{EngineView}
 use Rattle.bc_engine.specs.EngineFacts.{HasRoomForBirths}
 use Rattle.bc_engine.specs.Lanes.{HasRoomForOps}
-use Rattle.bc_engine.specs.Phases.{DidPhase, CutPhase}
+use Rattle.bc_engine.specs.Phases.{DidPhase}
 use Rattle.bc_io.specs.Told.{HasRoom, HeldGrows}
 use Rattle.bc_io.specs.Pieces.{RoomFalls}
 use Rattle.bc_model.specs.Lists.{PhaseLists, TraceLists}

@@ -1,6 +1,6 @@
 -- One phase of a trace on an engine, by what the engine says of it.
 use Rattle.std.proofs.Common.{◌≡◌, ℕ, ◌+◌, ◌<◌, ◌≤◌, inl, inr, List, [], ◌++◌, length, drop, get_or, Option, Some, sym, ap, ◌∙◌, append_assoc, arith, subst, length-append, below_more}
-use Rattle.std.specs.Prelude.{sum_by, OnOk, Result, Ok, Err}
+use Rattle.std.specs.Prelude.{sum_by, Result, Err}
 use Rattle.std.proofs.lemmas.Bool.{cases_lt}
 use Rattle.std.proofs.lemmas.List.{get_or_past, get_or_read}
 use Rattle.std.proofs.lemmas.List.Sums.{get_or-le-sum_by, sum_by-drop_more}

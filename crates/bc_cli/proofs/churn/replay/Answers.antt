@@ -1,8 +1,8 @@
-use Rattle.std.proofs.Common.{◌<◌, ◌^◌, ap, sym, subst, ◌∙◌}
+use Rattle.std.proofs.Common.{◌<◌, ◌^◌, ap, sym, subst}
 use Rattle.bc_model.specs.Lists.{TraceLists}
 use Rattle.bc_model.specs.RunLengths.{all_ops_of}
 use Rattle.bc_cli.specs.Endings.{FitsThroughout}
-use Rattle.bc_cli.proofs.Counted.{churn-fits, churn-small, has-churned}
+use Rattle.bc_cli.proofs.Counted.{churn-fits, churn-small}
 use Rattle.bc_cli.proofs.Finishing.{HasRun-opened}
 use Rattle.bc_cli.proofs.churn.replay.Goals as goal
 

@@ -1,7 +1,6 @@
-use Rattle.std.proofs.Common.{◌≡◌, Some, refl, ap, subst, string_bytes}
+use Rattle.std.proofs.Common.{◌≡◌, Some, refl, ap, string_bytes}
 use Rattle.bc_model.specs.Lists.{TraceLists}
 use Rattle.bc_model.specs.Run.{phase_at}
-use Rattle.bc_cli.specs.Endings.{EndsOutOfHeap}
 use Rattle.bc_cli.proofs.PhaseEnds.{Ran, HasTexts, ran-read, ran-on, texts-fault, texts-written, texts-filled, need-written}
 use Rattle.bc_cli.proofs.Running.{err-same, phase-read}
 use Rattle.bc_cli.proofs.phases.write_phase.Goals as goal

@@ -1,9 +1,10 @@
-use Rattle.std.proofs.Common.{Err, ap, sym, subst, inl, inr}
+use Rattle.std.proofs.Common.{rules, Err, ap, sym, subst, inl, inr}
 use Rattle.bc_io.proofs.Telling.{IsPrefix-refl}
 use Rattle.bc_model.specs.Lists.{TraceLists}
 use Rattle.bc_trace.specs.Replies.{done_text}
 use Rattle.bc_cli.specs.Endings.{EndsDone, EndsInFault}
 use Rattle.bc_cli.specs.Output.{all_texts}
+use Rattle.bc_cli.proofs.Alive.{need-alive}
 use Rattle.bc_cli.proofs.Finishing.{HasRun-opened, ends-done, fails-at_done}
 use Rattle.bc_cli.proofs.Pieces.{Rose-since, room-for-next, front-taken}
 use Rattle.bc_cli.proofs.run.run_trace.Goals as goal
@@ -37,3 +38,8 @@ pub returns-in-Err-WriteFault-clause-write_fault : goal.returns-in-Err-WriteFaul
 returns-in-Err-WriteFault-clause-write_fault g c = λ _.
     let fault = c.in-Err-WriteFault.ensures.write_fault (ap Err c.in-Err-WriteFault.field-0-is) in
     (fault.0, subst (EndsInFault c.args.trace.now _ _) (sym c.with_heap-in-Err-WriteFault.ensures.heap) fault.1)
+
+pub with_heap-requires-in-Err-OutOfHeap : goal.with_heap-requires-in-Err-OutOfHeap
+with_heap-requires-in-Err-OutOfHeap g c = record {
+  alive = need-alive _ _ _ _ c.in-Err-OutOfHeap.need (c.in-Err-OutOfHeap.ensures.out_of_heap c.in-Err-OutOfHeap.need (search rules));
+}

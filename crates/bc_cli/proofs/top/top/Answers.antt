@@ -1,4 +1,4 @@
-use Rattle.std.proofs.Common.{rules, ◌≡◌, Some, sym, subst, arith}
+use Rattle.std.proofs.Common.{rules, ◌≡◌, sym, subst, arith}
 use Rattle.std.specs.Prelude.{IfSome}
 use Rattle.bc_words.specs.Commands.{IsCommandOf}
 use Rattle.bc_words.specs.declared.command.Command.{Command}
