@@ -2,32 +2,31 @@
 use Rattle.std.proofs.Common.{Vec, Global, ◌≡◌, ℕ, List, length, map, sym, ap, subst, ◌∙◌}
 use Rattle.std.proofs.Math.ListN.{get_or-map}
 use Rattle.std.proofs.lemmas.List.{length-map}
-use Rattle.bc_cycle.specs.Emptying.{IsEmptied, IsAsBefore}
+use Rattle.bc_cycle.specs.Emptying.{IsEmptied, KeepsMeaning}
 use Rattle.bc_cycle.proofs.ChunkLists.{chunk-emptied}
-use Rattle.bc_failsafe.specs.Packing.{NeedOfHeap}
 use Rattle.bc_whole_heap.specs.Closed.{buffer_of, no_buffer}
 use Rattle.bc_whole_heap.specs.LaneChunks.{chunk_of}
-use Rattle.bc_whole_heap.specs.Heaps.{heap_memory, root_words, no_chunk, HeapView}
+use Rattle.bc_whole_heap.specs.Heaps.{no_chunk, HeapView}
 use Rattle.bc_whole_heap.proofs.ChunkLemmas.{length-alike}
+use Rattle.bc_whole_heap.proofs.ClosedLemmas.{running-survivors}
 use Rattle.bc_whole_heap.specs.LaneStates.{StandsAs}
-use Rattle.bc_memory.specs.Memory.{Memory}
 use Rattle.bc_model.specs.State.{State}
 use Rattle.bc_model.specs.declared.traces.Setup.{Setup}
 use Rattle.bc_nursery.specs.Entries.{Entries}
 use Rattle.bc_nursery.specs.Buffers.{without_entries}
 use Rattle.bc_nursery.specs.Objects.{bare_nursery, emptied}
 use Rattle.bc_nursery.specs.Nurseries.{Nursery}
-use Rattle.bc_standing.specs.Standing.{StandsFor, AllBorn}
 use Rattle.bc_promotion.specs.Promises.{HasDomainsBelow}
 use Rattle.bc_superpages.specs.RootWords.{RootWords}
 use Rattle.bc_model.specs.declared.operations.Op.{Op}
 use Rattle.bc_model.specs.declared.operations.Reply.{Reply}
 use Rattle.bc_running.specs.Running.{RunningView, RunningStands}
 use Rattle.bc_running.specs.RunningFacts.{running_of}
-use Rattle.bc_engine.specs.Lanes.{LanesRan}
+use Rattle.bc_engine.specs.Lanes.{LanesRan, LanesWentOn}
+use Rattle.bc_engine.proofs.GoingLemmas.{goes-none}
 use Rattle.bc_engine.proofs.RunLemmas.{runs-none}
 use Rattle.bc_engine.specs.Engines.{HasEmptyChunks}
-use Rattle.bc_engine.specs.EngineFacts.{HasSetup, CanRunLanes, IsUnrecorded}
+use Rattle.bc_engine.specs.EngineFacts.{HasSetup, CanRunLanes, IsReadyForSurvivors, IsUnrecorded}
 
 -- what is true of a heap with the holders and births that there were is true with those that there are, which are the same
 through : (r q : RunningView) (P : RunningView → Type 0) → q.holders ≡ r.holders → q.serials ≡ r.serials → P (running_of q.heap r.holders r.serials) → P q
@@ -82,9 +81,9 @@ fits-emptied setup {h} {k} is fits = record {
 }
 
 ready-emptied : {hs serials : List ℕ} {h k : HeapView} (setup : Setup) → IsEmptied h k → CanRunLanes setup (running_of h hs serials) → CanRunLanes setup (running_of k hs serials)
-ready-emptied {hs} setup is ready = record {
+ready-emptied {hs} {serials} {h} setup is ready = record {
   range = ready.range;
-  order = is.order hs ready.order;
+  order = is.order hs (running-survivors h hs ready.order);
   fits = fits-emptied setup is ready.fits;
   lanes = ready.lanes;
   meant = (ready.meant.0, stands-emptied ready.meant.0 is ready.meant.1);
@@ -96,13 +95,12 @@ runs-emptied lanes {r} {q} told held same is =
     runs-none lanes r q told held same (λ state st. through r q (λ (x : RunningView). RunningStands x state) held same (stands-emptied state is st))
     (λ setup ready. through r q (CanRunLanes setup) held same (ready-emptied setup is ready))
 
--- a heap that is as before stands for what it stood for
-stands-before : {hs serials : List ℕ} {h k : HeapView} (state : State) → IsAsBefore h k → StandsAs h hs serials state → StandsAs k hs serials state
-stands-before {hs} {serials} {h} {k} state is st = record {
+-- a heap whose nurseries couldn't be emptied stands for what it stood for
+stands-refused : {hs serials : List ℕ} {h k : HeapView} (state : State) → KeepsMeaning h k → StandsAs h hs serials state → StandsAs k hs serials state
+stands-refused {hs} {serials} {h} {k} state is st = record {
   consistent = st.consistent;
-  stands = subst (λ (m : Memory). StandsFor m (root_words k.roots) state) (sym is.memory)
-      (subst (λ (r : RootWords). StandsFor (heap_memory h.space h.chunks) (root_words r) state) (sym is.slots) st.stands);
-  born = subst (λ (m : Memory). AllBorn m state.made) (sym is.memory) st.born;
+  stands = is.keeps state.slots state.made st.stands;
+  born = λ a b e. let from = is.born a b e in st.born from.0 b from.1;
   held = st.held;
   births = st.births;
   domains = ap (λ (x : RootWords). x.domains) is.sizes.roots ∙ st.domains;
@@ -110,10 +108,10 @@ stands-before {hs} {serials} {h} {k} state is st = record {
   lanes = length-alike bare_nursery h.chunks k.chunks is.chunks ∙ st.lanes;
 }
 
-ready-before : {hs serials : List ℕ} {h k : HeapView} (setup : Setup) → IsAsBefore h k → CanRunLanes setup (running_of h hs serials) → CanRunLanes setup (running_of k hs serials)
-ready-before {hs} {serials} {h} {k} setup is ready = record {
+ready-kept : {hs serials : List ℕ} {h k : HeapView} (setup : Setup) → KeepsMeaning h k → CanRunLanes setup (running_of h hs serials) → IsReadyForSurvivors setup (running_of k hs serials)
+ready-kept {hs} {serials} {h} {k} setup is ready = record {
   range = ready.range;
-  order = is.order hs ready.order;
+  order = is.order hs (running-survivors h hs ready.order);
   fits = record {
     supers = is.sizes.supers ∙ ready.fits.supers;
     domains = ap (λ (x : RootWords). x.domains) is.sizes.roots ∙ ready.fits.domains;
@@ -126,18 +124,14 @@ ready-before {hs} {serials} {h} {k} setup is ready = record {
     used = used-kept setup h k ready.fits.domains is.domains ready.fits.used;
   };
   lanes = ready.lanes;
-  meant = (ready.meant.0, stands-before ready.meant.0 is ready.meant.1);
+  meant = (ready.meant.0, stands-refused ready.meant.0 is ready.meant.1);
 }
 
-pub runs-before : (lanes : List (List Op)) {r q : RunningView} (told : List (Vec Reply Global)) → q.holders ≡ r.holders → q.serials ≡ r.serials → IsAsBefore r.heap q.heap → LanesRan lanes r told q told
-runs-before lanes {r} {q} told held same is =
-    runs-none lanes r q told held same (λ state st. through r q (λ (x : RunningView). RunningStands x state) held same (stands-before state is st))
-    (λ setup ready. through r q (CanRunLanes setup) held same (ready-before setup is ready))
+-- so the lanes went on up to there
+pub goes-refused : (lanes : List (List Op)) {r q : RunningView} (told : List (List Reply)) → q.holders ≡ r.holders → q.serials ≡ r.serials → KeepsMeaning r.heap q.heap → LanesWentOn lanes r told q told
+goes-refused lanes {r} {q} told held same is =
+    goes-none lanes r q told (λ state st. through r q (λ (x : RunningView). RunningStands x state) held same (stands-refused state is st))
 
--- and has the same need
-pub need-before : {h k : HeapView} (n : ℕ) → IsAsBefore h k → NeedOfHeap h.space h.roots h.chunks n → NeedOfHeap k.space k.roots k.chunks n
-need-before {h} {k} n is need state stands domains =
-    need state
-    (subst (λ (r : RootWords). StandsFor (heap_memory h.space h.chunks) (root_words r) state) is.slots
-    (subst (λ (m : Memory). StandsFor m (root_words k.roots) state) is.memory stands))
-    (domains ∙ ap (λ (r : RootWords). r.domains) is.slots)
+-- and what is true of survivors is true of them
+pub ready-refused : (setup : Setup) {r q : RunningView} → q.holders ≡ r.holders → q.serials ≡ r.serials → KeepsMeaning r.heap q.heap → CanRunLanes setup r → IsReadyForSurvivors setup q
+ready-refused setup {r} {q} held same is ready = through r q (IsReadyForSurvivors setup) held same (ready-kept setup is ready)

@@ -23,7 +23,7 @@ use Rattle.bc_superpages.specs.Kept.{IsLayout}
 use Rattle.bc_superpages.specs.Layout.{Layout, superpages}
 use Rattle.bc_word.specs.declared.words.Word.{Word}
 use Rattle.bc_engine.specs.Engines.{EngineView, EngineStands, HasEmptyChunks}
-use Rattle.bc_engine.specs.EngineFacts.{with_holders, HasRoomForBirths, IsEngine, CanRunLanes}
+use Rattle.bc_engine.specs.EngineFacts.{with_holders, HasRoomForBirths, IsEngine, IsReadyForSurvivors}
 use Rattle.bc_engine.specs.Lanes.{of_lane, AreDone, BirthsWithin, LanesWentOn, HasSerialsLeft, HasRoomForOps}
 use Rattle.bc_engine.specs.Phases.{CutPhase, DidPhase}
 use Rattle.bc_engine.specs.Rounds.{RoundsWentOn, IfTooSmall, IsRoomFor, IsThrough, IsTooSmall, IsUnderwayOn}
@@ -31,6 +31,7 @@ use Rattle.bc_engine.specs.declared.engines.Ended.{Ended}
 use Rattle.bc_engine.specs.declared.engines.Ended.TheVariants.{OutOfHeap}
 use Rattle.bc_model.proofs.NeedFound.{need-found}
 use Rattle.bc_model.proofs.RunStates.{length-cut_lanes}
+use Rattle.bc_engine.proofs.Attempts.{ready-going}
 use Rattle.bc_engine.proofs.CutLemmas.{mixed-cut, mixed-whole, run-lanes}
 use Rattle.bc_engine.proofs.Sizes.{no-object, op-of_heap, op-of_state}
 
@@ -42,9 +43,9 @@ fits-births e p told fits j = omega (arith, fits j)
 pub fits-later : (e f : EngineView) (lanes : List (List Op)) → ((j : ℕ) → get_or f.running.serials j 0 ≤ get_or e.running.serials j 0 + length (of_lane lanes j)) → (n : ℕ) → HasRoomForOps e lanes n → HasRoomForBirths f n
 fits-later e f lanes births n fits j = omega (arith, births j, fits j)
 
-pub underway-begun : (e : EngineView) (p : PhaseLists) (vs : List (Vec Reply Global)) → IsEngine e → IsPhase e.setup p → HasRoomForOps e p.lanes 0 → length vs ≡ length p.lanes → IsRoomFor p.lanes vs → IsUnderwayOn e p.lanes vs
-underway-begun e p vs engine phase fits long room = record {
-  ready = engine.ready;
+pub underway-begun : (e : EngineView) (p : PhaseLists) (vs : List (Vec Reply Global)) → IsEngine e → e.ended ≡ None → IsPhase e.setup p → HasRoomForOps e p.lanes 0 → length vs ≡ length p.lanes → IsRoomFor p.lanes vs → IsUnderwayOn e p.lanes vs
+underway-begun e p vs engine going phase fits long room = record {
+  ready = ready-going e engine going;
   each = phase.lanes;
   ops = phase.ops;
   long = long ∙ phase.lanes;
@@ -75,7 +76,7 @@ all-weaker : {X : Type 0} (P Q : X → Type 0) → ((x : X) → P x → Q x) →
 all-weaker P Q f [] h = tt
 all-weaker P Q f (x ∷ xs) h = (f x h.0, all-weaker P Q f xs h.1)
 
-ops-fit : (e : EngineView) (lanes : List (List Op)) (s : State) → CanRunLanes e.setup e.running → EngineStands e s → AllByRecursion (AllByRecursion (IsOp e.setup)) lanes → AllByRecursion (AllByRecursion (IsOp (sizes_of s))) lanes
+ops-fit : (e : EngineView) (lanes : List (List Op)) (s : State) → IsReadyForSurvivors e.setup e.running → EngineStands e s → AllByRecursion (AllByRecursion (IsOp e.setup)) lanes → AllByRecursion (AllByRecursion (IsOp (sizes_of s))) lanes
 ops-fit e lanes s ready st ops =
     all-weaker (AllByRecursion (IsOp e.setup)) (AllByRecursion (IsOp (sizes_of s)))
     (λ os fits. all-weaker (IsOp e.setup) (IsOp (sizes_of s)) (λ o fit. op-of_state e.running.heap e.running.holders e.running.serials s o st (op-of_heap e.setup e.running.heap o ready.fits fit)) os fits) lanes ops
@@ -85,10 +86,10 @@ pub record IsCutOf (lanes : List (List Op)) (q : RunningView) (answers : List (L
   pub replies : answers ≡ replies_to_lanes s 0 (cut_lanes (map length answers) lanes)
   pub stands : RunningStands q (after_lanes s 0 (cut_lanes (map length answers) lanes))
 
-each-lane : (e : EngineView) (p : PhaseLists) (s : State) → CanRunLanes e.setup e.running → IsPhase e.setup p → EngineStands e s → length p.lanes ≡ length s.made
+each-lane : (e : EngineView) (p : PhaseLists) (s : State) → IsReadyForSurvivors e.setup e.running → IsPhase e.setup p → EngineStands e s → length p.lanes ≡ length s.made
 each-lane e p s ready phase st = phase.lanes ∙ sym ready.fits.lanes ∙ st.lanes
 
-cut-run : (e : EngineView) {p : PhaseLists} {q : RunningView} {told answers : List (List Reply)} → CanRunLanes e.setup e.running → IsPhase e.setup p → ((j : ℕ) → of_lane told j ≡ []) → length answers ≡ length p.lanes → LanesWentOn p.lanes e.running told q answers → (s : State) → EngineStands e s → IsCutOf p.lanes q answers s
+cut-run : (e : EngineView) {p : PhaseLists} {q : RunningView} {told answers : List (List Reply)} → IsReadyForSurvivors e.setup e.running → IsPhase e.setup p → ((j : ℕ) → of_lane told j ≡ []) → length answers ≡ length p.lanes → LanesWentOn p.lanes e.running told q answers → (s : State) → EngineStands e s → IsCutOf p.lanes q answers s
 cut-run e {p} {q} {told} {answers} ready phase none long goes s st =
     let cut = map length answers in
     let mixed = mixed-cut s p.lanes answers goes.steps (each-lane e p s ready phase st) (ops-fit e p.lanes s ready st phase.ops) goes.below (ops-begun goes none) in
@@ -100,15 +101,16 @@ pub record IsWhole (lanes : List (List Op)) (q : RunningView) (answers : List (L
   pub replies : answers ≡ replies_to_lanes s 0 lanes
   pub stands : RunningStands q (after_lanes s 0 lanes)
 
-whole-run : (e : EngineView) {p : PhaseLists} {q : RunningView} {told answers : List (List Reply)} → CanRunLanes e.setup e.running → IsPhase e.setup p → ((j : ℕ) → of_lane told j ≡ []) → length answers ≡ length p.lanes → AreDone p.lanes answers → LanesWentOn p.lanes e.running told q answers → (s : State) → EngineStands e s → IsWhole p.lanes q answers s
+whole-run : (e : EngineView) {p : PhaseLists} {q : RunningView} {told answers : List (List Reply)} → IsReadyForSurvivors e.setup e.running → IsPhase e.setup p → ((j : ℕ) → of_lane told j ≡ []) → length answers ≡ length p.lanes → AreDone p.lanes answers → LanesWentOn p.lanes e.running told q answers → (s : State) → EngineStands e s → IsWhole p.lanes q answers s
 whole-run e {p} {q} {told} {answers} ready phase none long done goes s st =
     let mixed = mixed-whole s p.lanes answers goes.steps (each-lane e p s ready phase st) (ops-fit e p.lanes s ready st phase.ops) goes.below done (ops-begun goes none) in
     let run = run-lanes s p.lanes answers goes.steps st.consistent mixed long (replies-begun goes none s st) in
     record { replies = run.replies; stands = subst (RunningStands q) run.state (goes.means s st) }
 
--- what a phase begins with: an engine in order, and room for replies, of which there are none
+-- what a phase begins with: an engine in order that hasn't ended, and room for replies, of which there are none
 pub record HasBegun (e : EngineView) (p : PhaseLists) (vs : List (Vec Reply Global)) : Type 0 where
   pub engine : IsEngine e
+  pub going : e.ended ≡ None
   pub phase : IsPhase e.setup p
   pub room : IsRoomFor p.lanes vs
 
@@ -185,7 +187,7 @@ pub underway-lent : (e : EngineView) (p : PhaseLists) (os : List (List Op)) (us 
 underway-lent e p os us vs begun fits long lanes lent =
     subst (λ (ls : List (List Op)). IsUnderwayOn e ls us) (sym lanes)
     (subst (λ (ys : List (Vec Reply Global)). IsUnderwayOn e p.lanes ys) (sym lent)
-    (underway-begun e p vs begun.engine begun.phase fits long begun.room))
+    (underway-begun e p vs begun.engine begun.going begun.phase fits long begun.room))
 
 pub births-lent : (e f : EngineView) (p : PhaseLists) (os : List (List Op)) (us ws : List (Vec Reply Global)) → os ≡ p.lanes → BirthsWithin os e.running.serials (lists_of us) f.running.serials (lists_of ws) → (j : ℕ) → get_or f.running.serials j 0 ≤ get_or e.running.serials j 0 + length (of_lane p.lanes j)
 births-lent e f p os us ws lanes births j =

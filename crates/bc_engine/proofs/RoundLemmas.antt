@@ -1,21 +1,22 @@
 -- A round: the lanes run, the nurseries are emptied, and the lanes that aren't at their ends do one operation more.
 use Rattle.std.proofs.Common.{Vec, Global, ◌≡◌, ◌≢◌, ℕ, ◌<◌, ◌≤◌, List, length, Option, Some, None, Err, refl, sym, ap, subst, ◌∙◌, arith}
 use Rattle.bc_cycle.specs.Causes.{IfOutOfHeap}
-use Rattle.bc_cycle.specs.Emptying.{IsAsBefore}
+use Rattle.bc_cycle.specs.Emptying.{KeepsMeaning}
 use Rattle.bc_cycle.specs.declared.emptying.CycleNo.{CycleNo}
 use Rattle.bc_cycle.specs.declared.emptying.CycleNo.TheVariants as cycle
 use Rattle.bc_failsafe.specs.Packing.{NeedOfHeap}
+use Rattle.bc_model.specs.Rows.{lists_of}
 use Rattle.bc_model.specs.declared.traces.Setup.{Setup}
 use Rattle.bc_model.specs.declared.operations.Op.{Op}
 use Rattle.bc_model.specs.declared.operations.Reply.{Reply}
 use Rattle.bc_superpages.specs.Layout.{superpages}
 use Rattle.bc_engine.specs.Engines.{EngineView}
-use Rattle.bc_engine.specs.EngineFacts.{CanRunLanes}
+use Rattle.bc_engine.specs.EngineFacts.{IsReadyForSurvivors}
 use Rattle.bc_engine.specs.Lanes.{of_lane, EachFurther, HasMore, IsUnderway, LanesRan, left}
 use Rattle.bc_engine.specs.Rounds.{ended_of, RoundsWentOn, IfTooSmall, IsTooSmall, IsUnderwayOn}
 use Rattle.bc_engine.specs.declared.engines.Ended.{Ended}
 use Rattle.bc_engine.specs.declared.engines.Ended.TheVariants.{OutOfHeap, NoMemory}
-use Rattle.bc_engine.proofs.EmptyingLemmas.{need-before, runs-before}
+use Rattle.bc_engine.proofs.EmptyingLemmas.{goes-refused, ready-refused}
 use Rattle.bc_engine.proofs.GoingLemmas.{goes-then}
 use Rattle.bc_engine.proofs.RunLemmas.{runs-same, runs-then, left-le, left-less}
 use Rattle.bc_running.specs.Running.{RunningView}
@@ -35,21 +36,21 @@ ran {lanes} {e} underway runs = record { runs = runs; underway = runs.underway e
 pub ran-more : {lanes : List (List Op)} {e : EngineView} {r q : RunningView} {told mid replies : List (Vec Reply Global)} → LanesRan lanes r mid q replies → IsAt lanes e told r mid → IsAt lanes e told q replies
 ran-more {lanes} {e} runs at = record { runs = runs-then at.runs runs; underway = runs.underway e.setup at.underway }
 
--- an end for want of heap leaves the heap ready
-pub ready-ended : (T : Type 0) {lanes : List (List Op)} {e : EngineView} {r q : RunningView} {told replies : List (Vec Reply Global)} (cause : CycleNo) (ended : Ended) → ended ≡ ended_of cause → IfOutOfHeap {T = T} (Err cause) (λ need. IsAsBefore r.heap q.heap) → q.holders ≡ r.holders → q.serials ≡ r.serials → IsAt lanes e told r replies → Some ended ≢ Some NoMemory → CanRunLanes e.setup q
-ready-ended T {lanes} {e} {r} {q} {told} {replies} (cycle.OutOfHeap need) ended is before held same at alive = (ran-more {q = q} (runs-before lanes replies held same before) at).underway.ready
-ready-ended T cycle.NoMemory ended is before held same at alive = absurd (alive (ap Some is))
+-- an end for want of heap leaves the heap ready, where it is asked of survivors
+pub ready-ended : (T : Type 0) {lanes : List (List Op)} {e : EngineView} {r q : RunningView} {told replies : List (Vec Reply Global)} (cause : CycleNo) (ended : Ended) → ended ≡ ended_of cause → IfOutOfHeap {T = T} (Err cause) (λ need. KeepsMeaning r.heap q.heap) → q.holders ≡ r.holders → q.serials ≡ r.serials → IsAt lanes e told r replies → Some ended ≢ Some NoMemory → IsReadyForSurvivors e.setup q
+ready-ended T {lanes} {e} {r} {q} {told} {replies} (cycle.OutOfHeap need) ended is meaning held same at alive = ready-refused e.setup held same meaning at.underway.ready
+ready-ended T cycle.NoMemory ended is meaning held same at alive = absurd (alive (ap Some is))
 
 -- and is what the phase is cut by
-pub too-small : (T U : Type 0) {lanes : List (List Op)} {e : EngineView} (f : EngineView) {r : RunningView} {told replies : List (Vec Reply Global)} (cause : CycleNo) (ended : Ended) → ended ≡ ended_of cause → IfOutOfHeap {T = T} (Err cause) (λ need. IsAsBefore r.heap f.running.heap) → IfOutOfHeap {T = T} (Err cause) (λ need. NeedOfHeap r.heap.space r.heap.roots r.heap.chunks need × (superpages r.heap.space < need)) → f.running.holders ≡ r.holders → f.running.serials ≡ r.serials → f.ended ≡ Some ended → IsAt lanes e told r replies → IfTooSmall {T = U} (Err ended) (IsTooSmall lanes e told f replies)
-too-small T U {lanes} {e} f {r} {told} {replies} (cycle.OutOfHeap need) ended is before needs held same end at =
+pub too-small : (T U : Type 0) {lanes : List (List Op)} {e : EngineView} (f : EngineView) {r : RunningView} {told replies : List (Vec Reply Global)} (cause : CycleNo) (ended : Ended) → ended ≡ ended_of cause → IfOutOfHeap {T = T} (Err cause) (λ need. KeepsMeaning r.heap f.running.heap) → IfOutOfHeap {T = T} (Err cause) (λ need. NeedOfHeap f.running.heap.space f.running.heap.roots f.running.heap.chunks need × (superpages f.running.heap.space < need)) → f.running.holders ≡ r.holders → f.running.serials ≡ r.serials → f.ended ≡ Some ended → IsAt lanes e told r replies → IfTooSmall {T = U} (Err ended) (IsTooSmall lanes e told f replies)
+too-small T U {lanes} {e} f {r} {told} {replies} (cycle.OutOfHeap need) ended is meaning needs held same end at =
     subst (λ (x : Ended). IfTooSmall {T = U} (Err x) (IsTooSmall lanes e told f replies)) (sym is) (record {
       cause = end ∙ ap Some is;
-      goes = (ran-more {q = f.running} (runs-before lanes replies held same before) at).runs.goes;
-      needs = need-before need before needs.0;
-      above = omega (arith, needs.1, before.sizes.supers);
+      goes = goes-then at.runs.goes (goes-refused lanes (lists_of replies) held same meaning);
+      needs = needs.0;
+      above = needs.1;
     })
-too-small T U {lanes} {e} f {r} {told} {replies} cycle.NoMemory ended is before needs held same end at =
+too-small T U {lanes} {e} f {r} {told} {replies} cycle.NoMemory ended is meaning needs held same end at =
     subst (λ (x : Ended). IfTooSmall {T = U} (Err x) (IsTooSmall lanes e told f replies)) (sym is) tt
 
 -- where some lane wasn't at its end, and each such lane has done an operation more, less is to come

@@ -21,18 +21,20 @@
 // change hands: all chunks are empty then, so nothing refers to the chunk of the lane that loses one. `Engine::serial` does
 // such an operation by itself.
 //
-// An emptying may find that the heap is too small. Then the heap is as it was, what it stands for needs more
-// superpages than there are, and the phase ends there with the replies so far. Whatever the lanes have done is a cut of
+// An emptying may find that the heap is too small. Then it stands for what it stood for, that needs more superpages than
+// there are, and the phase ends there with the replies so far. Whatever the lanes have done is a cut of
 // the phase: so many of the first operations of each lane. They were done in the order of the rounds and not lane after
 // lane, but a lane looks at no more than its own domains lead to, so each order gives the same replies and the same state.
 // The proofs keep the list of the steps that were done, in their order (`Goes`), and turn to lane after lane at
 // the phase's end alone (proofs/CutLemmas.antt).
 //
-// What is true of every engine between calls, until memory runs out (`IsEngine`): its heap is in order, so that lanes can
-// run on it (`IsRunning` in `bc_whole_heap`), of which it is part that bookmarks and counters stand for the pages that left; it
-// has the sizes of the setup and its frames, of which two aren't those of nursery pages, and superpages are in use for the
-// setup's domains alone; and there is a state of the heap that never frees, moves or pages that it stands for, with just these
-// holders and births. As long as it hasn't ended, write buffers are empty and no page is remembered. `facts` tells all this.
+// What is true of every engine between calls, until memory runs out (`IsEngine`): its heap is in order, where it is asked of
+// what survives (`IsRunningForSurvivors` in `bc_whole_heap`), of which it is part that bookmarks and counters stand for the
+// pages that left; it has the sizes of the setup and its frames, of which two aren't those of nursery pages, and superpages are
+// in use for the setup's domains alone; and there is a state of the heap that never frees, moves or pages that it stands for,
+// with just these holders and births. As long as it hasn't ended, the heap is in order whole, so that lanes can run on it
+// (`IsRunning`), write buffers are empty and no page is remembered. `facts` tells all this. An emptying that was refused may
+// have freed cells to which objects of chunks refer that nothing leads to: so no operation is done on an engine that has ended.
 //
 // The theorem is the contract of `Engine::phase`. Done, the replies are those of the heap that never frees, to every
 // operation, the engine stands for the state after the phase, and its superpages are at least that state's need

@@ -3,7 +3,7 @@ use Rattle.std.proofs.Common.{◌≡◌, ◌≢◌, ℕ, ◌<◌, List, length, 
 use Rattle.std.proofs.lemmas.Bool.{cases_eq}
 use Rattle.std.proofs.lemmas.List.{get_or-set_same, get_or-set_other, length-set, length-map}
 use Rattle.bc_cycle.specs.Causes.{IfOutOfHeap}
-use Rattle.bc_cycle.specs.Emptying.{HasRoomToList, IsEmptied, IsAsBefore}
+use Rattle.bc_cycle.specs.Emptying.{HasRoomToList, IsEmptied, KeepsMeaning}
 use Rattle.bc_cycle.specs.declared.heaps.Heap.{Heap}
 use Rattle.bc_promotion.proofs.ListingLemmas.{words_in-same}
 use Rattle.bc_whole_heap.specs.LaneChunks.{chunk_of}
@@ -12,16 +12,17 @@ use Rattle.bc_cycle.specs.declared.emptying.CycleNo.TheVariants.{OutOfHeap, NoMe
 use Rattle.bc_whole_heap.specs.Heaps.{HeapView}
 use Rattle.bc_whole_heap.specs.HeapFacts.{HasTwoFrames}
 use Rattle.bc_whole_heap.specs.Running.{IsRunning}
-use Rattle.bc_memory.specs.Memory.{Memory}
+use Rattle.bc_whole_heap.specs.Closed.{IsSurvivorOf}
+use Rattle.bc_whole_heap.proofs.ChunkLemmas.{length-alike}
+use Rattle.bc_whole_heap.proofs.ClosedLemmas.{running-survivors}
 use Rattle.bc_mutator.specs.Operations.{NoneLater}
-use Rattle.bc_nursery.specs.Objects.{emptied}
+use Rattle.bc_nursery.specs.Objects.{bare_nursery, emptied}
 use Rattle.bc_nursery.specs.Nurseries.{Nursery}
-use Rattle.bc_standing.specs.Standing.{births}
 use Rattle.bc_running.specs.Running.{RunningView}
-use Rattle.bc_running.specs.RunningFacts.{IsSound, Collects, running_of}
+use Rattle.bc_running.specs.RunningFacts.{IsSound, IsSoundOver, IsStillSound, Collects, CollectsOver, running_of}
 
 -- after a collection
-pub sound-collected : (r : RunningView) (k : HeapView) → IsSound r → Collects r.heap k r.holders → IsSound (running_of k r.holders r.serials)
+pub sound-collected : {Before After : HeapView → ℕ → ℕ → Type 0} (r : RunningView) (k : HeapView) → IsSoundOver Before r → CollectsOver After r.heap k r.holders → IsSoundOver After (running_of k r.holders r.serials)
 sound-collected r k h c = record {
   running = c.running;
   later = λ l lt a b there lane. let from = c.born a b there in h.later l lt from.0 b from.1 lane;
@@ -70,28 +71,28 @@ room-operated lane h k rest others own long room =
       | inr ne ↦ ap (λ (c : Nursery). c.words) (others l ne)
     ]
 
--- an emptying leaves what a collection does, and so does one that was refused
+-- an emptying leaves what a collection does, and so does one that was refused, where it is asked of survivors
 emptied-collects : (h k : HeapView) (hs : List ℕ) → IsRunning h hs → IsEmptied h k → Collects h k hs
 emptied-collects h k hs order is = record {
-  running = is.order hs order;
+  running = is.order hs (running-survivors h hs order);
   born = is.born;
   frames = λ f. let frames = is.sizes.frames in let nursery = is.sizes.nursery in omega arith;
   lanes = ap length is.cleared ∙ length-map h.chunks emptied;
 }
 
-before-collects : (h k : HeapView) (hs : List ℕ) → IsRunning h hs → IsAsBefore h k → Collects h k hs
-before-collects h k hs order is = record {
-  running = is.order hs order;
-  born = λ x b e. (x, ap (λ (m : Memory). births m x) (sym is.memory) ∙ e);
+refused-collects : (h k : HeapView) (hs : List ℕ) → IsRunning h hs → KeepsMeaning h k → CollectsOver IsSurvivorOf h k hs
+refused-collects h k hs order is = record {
+  running = is.order hs (running-survivors h hs order);
+  born = is.born;
   frames = λ f. let frames = is.sizes.frames in let nursery = is.sizes.nursery in omega arith;
-  lanes = sym (is.order hs order).closed.lanes ∙ ap length is.entries ∙ order.closed.lanes;
+  lanes = length-alike bare_nursery h.chunks k.chunks is.chunks;
 }
 
 pub sound-emptied : (r : RunningView) (k : HeapView) → IsSound r → IsEmptied r.heap k → IsSound (running_of k r.holders r.serials)
 sound-emptied r k h is = sound-collected r k h (emptied-collects r.heap k r.holders h.running is)
 
-pub sound-refused : (r : RunningView) (k : HeapView) → IsSound r → IsAsBefore r.heap k → IsSound (running_of k r.holders r.serials)
-sound-refused r k h is = sound-collected r k h (before-collects r.heap k r.holders h.running is)
+pub sound-refused : (r : RunningView) (k : HeapView) → IsSound r → KeepsMeaning r.heap k → IsStillSound (running_of k r.holders r.serials)
+sound-refused r k h is = sound-collected r k h (refused-collects r.heap k r.holders h.running is)
 
 -- what a heap that is too small has in one way it has in another
 pub too-small-weaker : {T : Type 0} (r : Result T CycleNo) (P Q : ℕ → Type 0) → ((need : ℕ) → P need → Q need) → IfOutOfHeap r P → IfOutOfHeap r Q

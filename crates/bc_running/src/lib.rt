@@ -5,8 +5,9 @@
 // nurseries are emptied (`empty_nursery`), and the whole heap is collected by the fail-safe (`collect`).
 //
 // What is true of it between calls is `IsSound`: the heap is running (`IsRunning` in `bc_whole_heap`), no object in it has a later
-// birth of a lane than the lane's count, and two frames aren't those of nursery pages. Each call asks for it and leaves it; only a
-// want of memory loses the heap.
+// birth of a lane than the lane's count, and two frames aren't those of nursery pages. Each call asks for it and leaves it, but for
+// an emptying of the nurseries that finds the heap too small: what nothing leads to may refer to cells then that were freed
+// (`IsStillSound`), and the heap is kept for what it stands for alone.
 //
 // Pages may be gone. An operation looks at one object at most (`touching`): its page is brought home first, for which another may have
 // to leave. Where none can it stops, and is done after the nurseries were emptied: then no page is Remembered, and each can leave.

@@ -25,8 +25,8 @@ fn empty<R>(rt: &R, workshop: Workshop, superpages: u32, objects: u32) -> Result
 where
     R: Abort + AllocGlobal + Threads + Sync,
 {
-    let (workshop, emptied) = workshop.empty(rt, rt.alloc())?;
-    assert_eq!(rt; emptied, Ok(()));
+    let emptied = workshop.empty(rt, rt.alloc())?;
+    let workshop = emptied.expect(rt, "there are superpages enough");
     counted(rt, &workshop, superpages, objects);
     Ok(workshop)
 }
@@ -99,20 +99,34 @@ fn each_of_two_chunks_has_its_own_survivors(rt: HostRuntime) -> Result<(), Fail>
     Ok(())
 }
 
+/// One cell is free, and the chunk has two survivors. The chain from slot A on is the cells' and they.
+fn one_cell_short<R>(rt: &R) -> Result<Workshop, Fail>
+where
+    R: Abort + AllocGlobal + Threads + Sync,
+{
+    let mut workshop = Workshop::open(rt.alloc(), &ONE_SUPERPAGE)?;
+    chain(rt, &mut workshop, 1, 1023);
+    workshop = empty(rt, workshop, 1, 1023)?;
+    chain(rt, &mut workshop, 1024, 2);
+    Ok(workshop)
+}
+
 #[test]
-fn where_the_last_survivor_finds_no_cell_the_fail_safe_tells_the_need_or_packs(
+fn where_the_last_survivor_finds_no_cell_the_need_is_told(rt: HostRuntime) -> Result<(), Fail> {
+    let workshop = one_cell_short(&rt)?;
+    match workshop.empty(&rt, rt.alloc())? {
+        Ok(_workshop) => assert!(rt; false),
+        Err(need) => assert_eq!(rt; need, Need(2)),
+    }
+    Ok(())
+}
+
+#[test]
+fn where_most_cells_have_no_live_object_the_last_survivor_finds_one(
     rt: HostRuntime,
 ) -> Result<(), Fail> {
-    let mut workshop = Workshop::open(rt.alloc(), &ONE_SUPERPAGE)?;
-    chain(&rt, &mut workshop, 1, 1023);
-    workshop = empty(&rt, workshop, 1, 1023)?;
-    // One cell is free, and the chunk has two survivors. The heap is as it was.
-    chain(&rt, &mut workshop, 1024, 2);
-    let (mut workshop, refused) = workshop.empty(&rt, rt.alloc())?;
-    assert_eq!(rt; refused, Err(Need(2)));
-    counted(&rt, &workshop, 1, 1023);
+    let mut workshop = one_cell_short(&rt)?;
     follow(&rt, &mut workshop, 1025);
-    // There are the same two survivors, and now most cells have no live object.
     expect(&rt, &mut workshop, Op::Load(A, 0, B), Reply::Ref);
     expect(&rt, &mut workshop, Op::Cut(B, 0), Reply::Done);
     workshop = empty(&rt, workshop, 1, 2)?;

@@ -20,9 +20,8 @@ fn empty<R>(rt: &R, workshop: Workshop) -> Result<Workshop, Fail>
 where
     R: Abort + AllocGlobal + Threads + Sync,
 {
-    let (workshop, emptied) = workshop.empty(rt, rt.alloc())?;
-    assert_eq!(rt; emptied, Ok(()));
-    Ok(workshop)
+    let emptied = workshop.empty(rt, rt.alloc())?;
+    Ok(emptied.expect(rt, "there are superpages enough"))
 }
 
 /// So many frames are free, so many pages are gone, and so many were read back.

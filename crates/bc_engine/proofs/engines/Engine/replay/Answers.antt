@@ -11,7 +11,7 @@ use Rattle.bc_engine.proofs.engines.Engine.replay.Goals as goal
 pub rounds-requires-clause-underway : goal.rounds-requires-clause-underway
 rounds-requires-clause-underway g c κs within =
     underway-lent c.args.self.now c.args.phase.now (lists_of c.deref.result.now) c.deref_mut.result.now c.args.replies.items
-    (record { engine = c.facts.ensures.engine; phase = c.requires.phase; room = c.requires.room })
+    (record { engine = c.facts.ensures.engine; going = c.requires.going; phase = c.requires.phase; room = c.requires.room })
     c.requires.births c.requires.long
     (ap lists_of c.deref.ensures.value ∙ ap (λ (p : PhaseLists). p.lanes) c.phase.view_is) c.deref_mut.ensures.value
 
@@ -23,7 +23,7 @@ returns-in-Ok-clause-done g c =
     let len = c.deref_mut.ensures.len in
     let gives = c.deref-in-Ok.ensures.value ∙ ap (λ (p : PhaseLists). p.gives) c.phase.view_is in
     did-lent c.args.self.now c.rounds.new.self c.give_all.new.self phase (lists_of c.deref.result.now) c.deref_mut.result.now c.args.replies.items c.rounds.new.replies _
-    (record { engine = c.facts.ensures.engine; phase = c.requires.phase; room = c.requires.room })
+    (record { engine = c.facts.ensures.engine; going = c.requires.going; phase = c.requires.phase; room = c.requires.room })
     (ap lists_of c.deref.ensures.value ∙ ap (λ (p : PhaseLists). p.lanes) c.phase.view_is) c.deref_mut.ensures.value
     (take_at c.rounds.new.replies _ c.args.replies.len (omega arith))
     (omega (arith, c.requires.long)) c.in-Ok.ensures.on c.in-Ok.ensures.through
@@ -44,7 +44,7 @@ returns-in-Err-OutOfHeap-clause-cut g c =
     let os = lists_of c.deref.result.now in
     rw c.in-Err-OutOfHeap.field-0-is
     (cut-lent c.args.self.now c.rounds.new.self c.args.phase.now os c.deref_mut.result.now c.args.replies.items c.rounds.new.replies _ c.in-Err-OutOfHeap.need
-    (record { engine = c.facts.ensures.engine; phase = c.requires.phase; room = c.requires.room })
+    (record { engine = c.facts.ensures.engine; going = c.requires.going; phase = c.requires.phase; room = c.requires.room })
     c.facts-in-Err-OutOfHeap.ensures.engine
     (ap lists_of c.deref.ensures.value ∙ ap (λ (p : PhaseLists). p.lanes) c.phase.view_is) c.deref_mut.ensures.value
     (take_at c.rounds.new.replies _ c.args.replies.len (omega arith))
