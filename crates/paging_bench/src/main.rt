@@ -85,7 +85,12 @@ where
     let count = operations(phase);
     let need = match engine.phase(rt, rt.alloc(), phase, &OpenGate) {
         Ok(_replies) => None,
-        Err(PhaseNo::OutOfHeap { replies: _replies, need }) => Some(need),
+        Err(
+            PhaseNo::OutOfHeap {
+                replies: _replies,
+                need,
+            },
+        ) => Some(need),
         Err(PhaseNo::NoMemory) => bail!("out of memory"),
     };
     let space = &engine.heap().space;
