@@ -1,2 +1,4 @@
 -- Allocated cells, counted superpage after superpage.
 pub mod CountLemmas
+-- The need of a heap whose nurseries couldn't be emptied.
+mod RefusalLemmas

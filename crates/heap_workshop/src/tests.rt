@@ -1,5 +1,6 @@
 //! Heaps built by hand, and what their collections leave of them.
 
+mod collecting;
 mod emptying;
 mod failsafe;
 mod paging;
@@ -9,6 +10,7 @@ use bc_failsafe::Need;
 use bc_model::{Birth, Op, Reply, Setup, Slot};
 use std::process::Abort;
 use std::test::Fail;
+use std::thread::Threads;
 
 // Slots of domain 0, and two of domain 1.
 const A: Slot = Slot { domain: 0, slot: 0 };
@@ -60,10 +62,27 @@ fn expect(rt: &impl Abort, workshop: &mut Workshop, op: Op, reply: Reply) {
     expect_of(rt, workshop, 0, op, reply);
 }
 
+/// The workshop when its nurseries are empty: its survivors find room.
+fn emptied<R>(rt: &R, workshop: Workshop) -> Workshop
+where
+    R: Abort + AllocGlobal + Threads + Sync,
+{
+    let emptied = workshop.empty(rt, rt.alloc());
+    emptied.expect(rt, "there are superpages enough")
+}
+
 /// So many superpages are in use, and so many objects lie in cells.
 fn counted(rt: &impl Abort, workshop: &Workshop, superpages: u32, objects: u32) {
     assert_eq!(rt; superpages_in_use(workshop.space()), superpages);
     assert_eq!(rt; objects_in_cells(workshop.space()), objects);
+}
+
+/// So many frames are free, so many pages are gone, and so many were read back.
+fn paged(rt: &impl Abort, workshop: &Workshop, free: u32, gone: u32, reads: u64) {
+    let space = workshop.space();
+    assert_eq!(rt; space.free_frames(), free);
+    assert_eq!(rt; pages_gone(space), gone);
+    assert_eq!(rt; space.reads(), reads);
 }
 
 /// Makes so many objects of one field, the first one with this serial number, and has each refer to what slot A refers to, and

@@ -2,7 +2,6 @@
 
 use super::*;
 use bc_mutator::Stop;
-use std::thread::Threads;
 
 /// Two lanes, with a domain and a chunk each.
 const TWO_LANES: Setup = Setup {
@@ -21,14 +20,13 @@ fn object_of_1(serial: u32) -> Reply {
 }
 
 /// The nurseries are emptied, and then so many superpages are in use, and so many objects lie in cells.
-fn empty<R>(rt: &R, workshop: Workshop, superpages: u32, objects: u32) -> Result<Workshop, Fail>
+fn empty<R>(rt: &R, workshop: Workshop, superpages: u32, objects: u32) -> Workshop
 where
     R: Abort + AllocGlobal + Threads + Sync,
 {
-    let emptied = workshop.empty(rt, rt.alloc())?;
-    let workshop = emptied.expect(rt, "there are superpages enough");
+    let workshop = emptied(rt, workshop);
     counted(rt, &workshop, superpages, objects);
-    Ok(workshop)
+    workshop
 }
 
 #[test]
@@ -37,12 +35,12 @@ fn a_recorded_field_alone_keeps_its_target_and_twice_recorded_keeps_it_once(
 ) -> Result<(), Fail> {
     let mut workshop = Workshop::open(rt.alloc(), &SMALL)?;
     expect(&rt, &mut workshop, Op::New(A, 1), object(1));
-    workshop = empty(&rt, workshop, 1, 1)?;
+    workshop = empty(&rt, workshop, 1, 1);
     // The second object lies in the chunk, and only a field of the first one, in a cell, refers to it.
     expect(&rt, &mut workshop, Op::New(B, 1), object(2));
     expect(&rt, &mut workshop, Op::Link(A, 0, B), Reply::Done);
     expect(&rt, &mut workshop, Op::Clear(B), Reply::Done);
-    workshop = empty(&rt, workshop, 1, 2)?;
+    workshop = empty(&rt, workshop, 1, 2);
     expect(&rt, &mut workshop, Op::Load(A, 0, B), Reply::Ref);
     expect(&rt, &mut workshop, Op::Who(B), object(2));
     // The field is recorded twice, and with that the buffer is full.
@@ -54,7 +52,7 @@ fn a_recorded_field_alone_keeps_its_target_and_twice_recorded_keeps_it_once(
         Err(Halt::Stopped(Stop::BufferFull))
     );
     expect(&rt, &mut workshop, Op::Clear(C), Reply::Done);
-    workshop = empty(&rt, workshop, 1, 3)?;
+    workshop = empty(&rt, workshop, 1, 3);
     expect(&rt, &mut workshop, Op::Load(A, 0, C), Reply::Ref);
     expect(&rt, &mut workshop, Op::Who(C), object(3));
     Ok(())
@@ -73,7 +71,7 @@ fn a_cycle_of_a_chunk_survives_whole_and_one_without_a_reference_does_not(
     expect(&rt, &mut workshop, Op::Link(C, 0, C), Reply::Done);
     expect(&rt, &mut workshop, Op::Clear(B), Reply::Done);
     expect(&rt, &mut workshop, Op::Clear(C), Reply::Done);
-    workshop = empty(&rt, workshop, 1, 2)?;
+    workshop = empty(&rt, workshop, 1, 2);
     expect(&rt, &mut workshop, Op::Load(A, 0, B), Reply::Ref);
     expect(&rt, &mut workshop, Op::Who(B), object(2));
     expect(&rt, &mut workshop, Op::Load(B, 0, D), Reply::Ref);
@@ -90,7 +88,7 @@ fn each_of_two_chunks_has_its_own_survivors(rt: HostRuntime) -> Result<(), Fail>
     expect_of(&rt, &mut workshop, 1, Op::New(Y, 1), object_of_1(2));
     expect_of(&rt, &mut workshop, 1, Op::Link(X, 0, Y), Reply::Done);
     expect_of(&rt, &mut workshop, 1, Op::Clear(Y), Reply::Done);
-    workshop = empty(&rt, workshop, 2, 3)?;
+    workshop = empty(&rt, workshop, 2, 3);
     expect(&rt, &mut workshop, Op::Who(A), object(2));
     expect(&rt, &mut workshop, Op::Who(X), Reply::Foreign);
     expect_of(&rt, &mut workshop, 1, Op::Who(X), object_of_1(1));
@@ -106,7 +104,7 @@ where
 {
     let mut workshop = Workshop::open(rt.alloc(), &ONE_SUPERPAGE)?;
     chain(rt, &mut workshop, 1, 1023);
-    workshop = empty(rt, workshop, 1, 1023)?;
+    workshop = empty(rt, workshop, 1, 1023);
     chain(rt, &mut workshop, 1024, 2);
     Ok(workshop)
 }
@@ -114,10 +112,8 @@ where
 #[test]
 fn where_the_last_survivor_finds_no_cell_the_need_is_told(rt: HostRuntime) -> Result<(), Fail> {
     let workshop = one_cell_short(&rt)?;
-    match workshop.empty(&rt, rt.alloc())? {
-        Ok(_workshop) => assert!(rt; false),
-        Err(need) => assert_eq!(rt; need, Need(2)),
-    }
+    let refused = workshop.empty(&rt, rt.alloc()).err();
+    assert_eq!(rt; refused, Some(Need(2)));
     Ok(())
 }
 
@@ -129,7 +125,7 @@ fn where_most_cells_have_no_live_object_the_last_survivor_finds_one(
     follow(&rt, &mut workshop, 1025);
     expect(&rt, &mut workshop, Op::Load(A, 0, B), Reply::Ref);
     expect(&rt, &mut workshop, Op::Cut(B, 0), Reply::Done);
-    workshop = empty(&rt, workshop, 1, 2)?;
+    workshop = empty(&rt, workshop, 1, 2);
     expect(&rt, &mut workshop, Op::Who(A), object(1025));
     expect(&rt, &mut workshop, Op::Load(A, 0, B), Reply::Ref);
     expect(&rt, &mut workshop, Op::Who(B), object(1024));

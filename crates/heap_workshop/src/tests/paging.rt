@@ -2,7 +2,6 @@
 
 use super::*;
 use bc_mutator::Stop;
-use std::thread::Threads;
 
 /// Two frames beyond the nursery, for twelve pages.
 const TWO_FRAMES: Setup = Setup {
@@ -15,30 +14,13 @@ const TWO_FRAMES: Setup = Setup {
     frames: 4,
 };
 
-/// The nurseries are emptied.
-fn empty<R>(rt: &R, workshop: Workshop) -> Result<Workshop, Fail>
-where
-    R: Abort + AllocGlobal + Threads + Sync,
-{
-    let emptied = workshop.empty(rt, rt.alloc())?;
-    Ok(emptied.expect(rt, "there are superpages enough"))
-}
-
-/// So many frames are free, so many pages are gone, and so many were read back.
-fn paged(rt: &impl Abort, workshop: &Workshop, free: u32, gone: u32, reads: u64) {
-    let space = workshop.space();
-    assert_eq!(rt; space.free_frames(), free);
-    assert_eq!(rt; pages_gone(space), gone);
-    assert_eq!(rt; space.reads(), reads);
-}
-
 #[test]
 fn survivors_of_two_pairs_find_room_on_two_absent_pages_with_one_free_frame(
     rt: HostRuntime,
 ) -> Result<(), Fail> {
     let mut workshop = Workshop::open(rt.alloc(), &TWO_FRAMES)?;
     expect(&rt, &mut workshop, Op::New(A, 1), object(1));
-    workshop = empty(&rt, workshop)?;
+    workshop = emptied(&rt, workshop);
     paged(&rt, &workshop, 1, 0, 0);
     // Objects of two other size classes by turns. In the order of the chunk each would want the page that the other just had.
     expect(&rt, &mut workshop, Op::New(B, 3), object(2));
@@ -49,7 +31,7 @@ fn survivors_of_two_pairs_find_room_on_two_absent_pages_with_one_free_frame(
     expect(&rt, &mut workshop, Op::Clear(C), Reply::Done);
     expect(&rt, &mut workshop, Op::New(C, 7), object(5));
     expect(&rt, &mut workshop, Op::Link(D, 0, C), Reply::Done);
-    workshop = empty(&rt, workshop)?;
+    workshop = emptied(&rt, workshop);
     // One page of the three had to leave, and none was read.
     counted(&rt, &workshop, 3, 5);
     paged(&rt, &workshop, 0, 1, 0);
@@ -70,10 +52,10 @@ fn survivors_fill_a_half_full_home_page_and_then_an_absent_page_of_its_superpage
     let mut workshop = Workshop::open(rt.alloc(), &TWO_FRAMES)?;
     // A page has room for 256 of these objects.
     chain(&rt, &mut workshop, 1, 128);
-    workshop = empty(&rt, workshop)?;
+    workshop = emptied(&rt, workshop);
     paged(&rt, &workshop, 1, 0, 0);
     chain(&rt, &mut workshop, 129, 256);
-    workshop = empty(&rt, workshop)?;
+    workshop = emptied(&rt, workshop);
     counted(&rt, &workshop, 1, 384);
     paged(&rt, &workshop, 0, 0, 0);
     follow(&rt, &mut workshop, 384);
@@ -89,7 +71,7 @@ fn a_page_that_is_gone_is_wanted_while_every_other_page_is_remembered(
     expect(&rt, &mut workshop, Op::New(A, 1), object(1));
     expect(&rt, &mut workshop, Op::New(B, 3), object(2));
     expect(&rt, &mut workshop, Op::New(C, 7), object(3));
-    workshop = empty(&rt, workshop)?;
+    workshop = emptied(&rt, workshop);
     expect(&rt, &mut workshop, Op::Who(A), object(1));
     expect(&rt, &mut workshop, Op::Who(B), object(2));
     // Both pages in memory get a reference to a new object, so neither may leave, and that of the third object is gone.
@@ -105,7 +87,7 @@ fn a_page_that_is_gone_is_wanted_while_every_other_page_is_remembered(
     workshop.serve(&[0, 1, 2]);
     paged(&rt, &workshop, 0, 1, reads);
     // Once the nurseries are empty one of the two may leave. The new object lies beside the first one by then.
-    workshop = empty(&rt, workshop)?;
+    workshop = emptied(&rt, workshop);
     expect(&rt, &mut workshop, Op::Who(C), object(3));
     paged(&rt, &workshop, 0, 1, reads.saturating_add(1));
     expect(&rt, &mut workshop, Op::Load(A, 0, D), Reply::Ref);
@@ -123,7 +105,7 @@ fn a_page_leaves_for_each_hint_and_comes_back_for_an_operation(
     expect(&rt, &mut workshop, Op::New(A, 1), object(1));
     expect(&rt, &mut workshop, Op::New(B, 3), object(2));
     expect(&rt, &mut workshop, Op::Link(A, 0, B), Reply::Done);
-    workshop = empty(&rt, workshop)?;
+    workshop = emptied(&rt, workshop);
     paged(&rt, &workshop, 0, 0, 0);
     workshop.serve(&[0]);
     paged(&rt, &workshop, 1, 1, 0);

@@ -1,0 +1,100 @@
+//! Emptyings of nurseries whose survivors don't fit: dead cells in memory are freed for them, and no page is read back. The fail-safe
+//! would read each page that is gone, and free all that is dead.
+
+use super::*;
+
+/// One superpage of four pages, of which two are in memory. A page has room for four objects of 127 fields.
+const HALF_GONE: Setup = Setup {
+    lanes: 1,
+    domains: 1,
+    slots: 2,
+    superpages: 1,
+    nursery: 1,
+    buffer: 4,
+    frames: 3,
+};
+
+/// Three superpages of twelve pages, of which two are in memory.
+const MOSTLY_GONE: Setup = Setup {
+    lanes: 1,
+    domains: 1,
+    slots: 4,
+    superpages: 3,
+    nursery: 1,
+    buffer: 4,
+    frames: 3,
+};
+
+/// Two new objects of 127 fields refer to each other. The two that slots A and B referred to are dropped.
+fn pair(rt: &impl Abort, workshop: &mut Workshop, first: u32) {
+    expect(rt, workshop, Op::New(A, 127), object(first));
+    expect(rt, workshop, Op::New(B, 127), object(first.wrapping_add(1)));
+    expect(rt, workshop, Op::Link(A, 0, B), Reply::Done);
+    expect(rt, workshop, Op::Link(B, 0, A), Reply::Done);
+}
+
+/// Four new objects of 127 fields, which fill a page, become the front of the list from the slot on. Slot B is used.
+fn page_of_list<R>(rt: &R, mut workshop: Workshop, slot: Slot, first: u32) -> Workshop
+where
+    R: Abort + AllocGlobal + Threads + Sync,
+{
+    for serial in 0..4 {
+        expect(
+            rt,
+            &mut workshop,
+            Op::New(B, 127),
+            object(first.wrapping_add(serial)),
+        );
+        expect(rt, &mut workshop, Op::Link(B, 0, slot), Reply::Done);
+        expect(rt, &mut workshop, Op::Copy(B, slot), Reply::Done);
+    }
+    expect(rt, &mut workshop, Op::Clear(B), Reply::Done);
+    emptied(rt, workshop)
+}
+
+#[test]
+fn cycles_that_are_dropped_make_room_for_others_and_nothing_is_read_back(
+    rt: HostRuntime,
+) -> Result<(), Fail> {
+    let mut workshop = Workshop::open(rt.alloc(), &HALF_GONE)?;
+    for round in 0..8 {
+        pair(&rt, &mut workshop, 1 + 2 * round);
+        workshop = emptied(&rt, workshop);
+    }
+    counted(&rt, &workshop, 1, 16);
+    paged(&rt, &workshop, 0, 2, 0);
+    for round in 8..20 {
+        pair(&rt, &mut workshop, 1 + 2 * round);
+        workshop = emptied(&rt, workshop);
+        // Every fourth time the heap is full. Then the eight on the two pages in memory are freed for the two.
+        counted(&rt, &workshop, 1, 10 + 2 * (round % 4));
+        paged(&rt, &workshop, 0, 2, 0);
+    }
+    expect(&rt, &mut workshop, Op::Load(A, 0, A), Reply::Ref);
+    expect(&rt, &mut workshop, Op::Who(A), object(40));
+    Ok(())
+}
+
+#[test]
+fn where_most_of_the_heap_is_gone_what_is_dead_in_memory_is_freed_and_the_rest_kept(
+    rt: HostRuntime,
+) -> Result<(), Fail> {
+    let mut workshop = Workshop::open(rt.alloc(), &MOSTLY_GONE)?;
+    for page in 0..10 {
+        workshop = page_of_list(&rt, workshop, A, 1 + 4 * page);
+    }
+    for page in 10..12 {
+        workshop = page_of_list(&rt, workshop, C, 1 + 4 * page);
+    }
+    counted(&rt, &workshop, 3, 48);
+    paged(&rt, &workshop, 0, 10, 0);
+    // What is dropped fills the two pages in memory, and the heap is full.
+    expect(&rt, &mut workshop, Op::Clear(C), Reply::Done);
+    expect(&rt, &mut workshop, Op::New(D, 127), object(49));
+    workshop = emptied(&rt, workshop);
+    assert_eq!(rt; objects_in_cells(workshop.space()), 41);
+    assert_eq!(rt; workshop.space().reads(), 0);
+    follow(&rt, &mut workshop, 40);
+    expect(&rt, &mut workshop, Op::Who(D), object(49));
+    Ok(())
+}
