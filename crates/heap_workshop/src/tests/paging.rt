@@ -2,6 +2,7 @@
 
 use super::*;
 use bc_mutator::Stop;
+use bc_superpages::{PageState, Space};
 
 /// Two frames beyond the nursery, for twelve pages.
 const TWO_FRAMES: Setup = Setup {
@@ -13,6 +14,26 @@ const TWO_FRAMES: Setup = Setup {
     buffer: 8,
     frames: 4,
 };
+
+/// Two domains that share one superpage, and two frames beyond the nursery.
+const ONE_SUPERPAGE_OF_TWO: Setup = Setup {
+    lanes: 1,
+    domains: 2,
+    slots: 4,
+    superpages: 1,
+    nursery: 1,
+    buffer: 8,
+    frames: 3,
+};
+
+/// Where the pages of the first superpage are.
+fn first_pages(space: &Space) -> [PageState; 4] {
+    if 0 < space.superpages() {
+        space.header(0).pages
+    } else {
+        [PageState::Absent; 4]
+    }
+}
 
 #[test]
 fn survivors_of_two_pairs_find_room_on_two_absent_pages_with_one_free_frame(
@@ -115,5 +136,38 @@ fn a_page_leaves_for_each_hint_and_comes_back_for_an_operation(
     paged(&rt, &workshop, 1, 1, 1);
     expect(&rt, &mut workshop, Op::Who(C), object(2));
     paged(&rt, &workshop, 0, 0, 2);
+    Ok(())
+}
+
+#[test]
+fn a_need_that_is_told_leaves_each_page_where_it_was(rt: HostRuntime) -> Result<(), Fail> {
+    let mut workshop = Workshop::open(rt.alloc(), &ONE_SUPERPAGE_OF_TWO)?;
+    for part in 0..3 {
+        chain(&rt, &mut workshop, 1 + 200 * part, 200);
+        workshop = emptied(&rt, workshop);
+    }
+    // A new object comes behind the chain's first, whose page is Remembered from then on, and one of the other domain lies beside it.
+    expect(&rt, &mut workshop, Op::Load(A, 0, B), Reply::Ref);
+    expect(&rt, &mut workshop, Op::New(C, 1), object(601));
+    expect(&rt, &mut workshop, Op::Link(C, 0, B), Reply::Done);
+    expect(&rt, &mut workshop, Op::Link(A, 0, C), Reply::Done);
+    expect(&rt, &mut workshop, Op::New(X, 0), object(602));
+    let pages = first_pages(workshop.space());
+    assert_eq!(rt;
+        pages,
+        [
+            PageState::Gone,
+            PageState::Home,
+            PageState::Remembered,
+            PageState::Absent
+        ]
+    );
+    assert_eq!(rt; workshop.collect(), Err(Need(2)));
+    assert_eq!(rt; first_pages(workshop.space()), pages);
+    counted(&rt, &workshop, 1, 600);
+    expect(&rt, &mut workshop, Op::Who(X), object(602));
+    expect(&rt, &mut workshop, Op::Who(C), object(601));
+    expect(&rt, &mut workshop, Op::Load(A, 0, C), Reply::Ref);
+    expect(&rt, &mut workshop, Op::Who(C), object(601));
     Ok(())
 }
