@@ -23,7 +23,7 @@ use Rattle.bc_superpages.specs.Calls.{class_at}
 use Rattle.bc_superpages.specs.Headers.{unused_header}
 use Rattle.bc_superpages.proofs.LayoutLemmas.{header_of-layout}
 use Rattle.bc_bookmarks.specs.Summarised.{IsSummarised}
-use Rattle.bc_pins.specs.Facts.{bookmark_bit, cell_bit, IsBookmarkedIn}
+use Rattle.bc_pins.specs.Facts.{bookmark_bit, cell_bit, HasBookmarkBit}
 use Rattle.bc_pins.specs.Opening.{IsOpenable}
 use Rattle.bc_superpages.specs.LayoutAt.{state_at, header_of}
 use Rattle.bc_superpages.specs.Contents.{contents}
@@ -229,7 +229,7 @@ module _ (id : TableId) (k : Key) (all : List Seat) (root : Worker Lodged View) 
     | inr past ↦ o.summarised.bits q b lt (sym (ap (λ (l : List ℕ). has l b) (set_behind q past lt)) ∙ on)
   ]
 
-  marked_now : (a : ℕ) → IsBookmarkedIn k words a → is_cell k.opening.classes (map (λ (h : Header). h.bookmarks) headers) a ≡ true
+  marked_now : (a : ℕ) → HasBookmarkBit k words a → is_cell k.opening.classes (map (λ (h : Header). h.bookmarks) headers) a ≡ true
   marked_now a m =
       let many = supers_are in
       let within = e.rest.within in

@@ -3,12 +3,12 @@ use Rattle.std.proofs.Common.{◌≡◌, ℕ, ◌+◌, ◌*◌, ◌/◌, ◌%◌
 use Rattle.bc_word.specs.Addresses.{superpage_of, cell_number}
 use Rattle.bc_superpages.specs.Calls.{class_at}
 use Rattle.bc_pins.specs.Key.{Key}
-use Rattle.bc_pins.specs.Facts.{bookmark_bit, IsBookmarkedIn, Summary}
+use Rattle.bc_pins.specs.Facts.{bookmark_bit, HasBookmarkBit, Summary}
 
 abbrev pub KeepsBits : Key → List ℕ → List ℕ → Type 0
 KeepsBits k words more = (w b : ℕ) → bookmark_bit k words w b ≡ 1 → bookmark_bit k more w b ≡ 1
 
-pub marked_more : (k : Key) (words more : List ℕ) (a : ℕ) → KeepsBits k words more → IsBookmarkedIn k words a → IsBookmarkedIn k more a
+pub marked_more : (k : Key) (words more : List ℕ) (a : ℕ) → KeepsBits k words more → HasBookmarkBit k words a → HasBookmarkBit k more a
 marked_more k words more a keeps m = record {
   within = m.within;
   starts = m.starts;

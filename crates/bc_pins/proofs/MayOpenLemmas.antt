@@ -38,7 +38,7 @@ use Rattle.bc_pins.specs.Views.{state_word, opened_state, opened_word, opened_co
 use Rattle.bc_pins.specs.Facts.{frame_of, frame_lodged}
 use Rattle.bc_pins.specs.Lodging.{Lodges, home_of, away_of}
 use Rattle.bc_pins.specs.Opening.{IsReady, IsOpenable}
-use Rattle.bc_pins.specs.Facts.{Frames, Still, bookmark_bit, opened_bit, cell_bit, IsBookmarkedIn, Summary, points, adds_to, Counters, Bits}
+use Rattle.bc_pins.specs.Facts.{Frames, Still, bookmark_bit, opened_bit, cell_bit, HasBookmarkBit, Summary, points, adds_to, Counters, Bits}
 use Rattle.bc_pins.specs.Filling.{IsFilled}
 use Rattle.bc_pins.specs.Opening.{opened, OpensPage, MayOpen}
 use Rattle.bc_pins.proofs.SumLemmas.{sum_same, sum_none, sum_cut, total_sum, count_total, times_count, total_map}
@@ -147,7 +147,7 @@ module _ (k : Key) (whole : SpaceParts) (kept : AreParts whole) (layout : parts_
   no_promise a there = clash (sym (openable.promised a) ∙ there)
 
   -- a bookmarked cell of the space is one of the table's
-  marked_open : (a : ℕ) → is_bookmarked k.opening a ≡ true → IsAllocated k.opening a → IsBookmarkedIn k words a
+  marked_open : (a : ℕ) → is_bookmarked k.opening a ≡ true → IsAllocated k.opening a → HasBookmarkBit k words a
   marked_open a on there =
       let page = cell_near a there in
       let within : superpage_of a < k.supers = omega arith in

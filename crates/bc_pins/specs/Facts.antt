@@ -72,7 +72,7 @@ abbrev pub cell_bit : Key → ℕ → ℕ → ℕ
 cell_bit k w b = bit_at (slice_index (set_of k.opening.cells (w / 16)) (w % 16)) b
 
 -- the cell that begins at the address is bookmarked in the table
-pub record IsBookmarkedIn (k : Key) (words : List ℕ) (address : ℕ) : Type 0 where
+pub record HasBookmarkBit (k : Key) (words : List ℕ) (address : ℕ) : Type 0 where
   pub within : superpage_of address < k.supers
   pub starts : address % class_at k.opening address ≡ 0
   pub bit : bookmark_bit k words (16 * superpage_of address + cell_number (class_at k.opening address) address / 64) (cell_number (class_at k.opening address) address % 64) ≡ 1
@@ -80,7 +80,7 @@ pub record IsBookmarkedIn (k : Key) (words : List ℕ) (address : ℕ) : Type 0 
 -- Gone: a page with this content has an allocated cell, and each of its targets is bookmarked. So none is a nursery address
 pub record Summary (k : Key) (words : List ℕ) (page : ℕ) (c : List ℕ) : Type 0 where
   pub there : HasCell k.opening page
-  pub targets : (a : ℕ) → is_target (objects_in k.opening c) page a ≡ true → IsBookmarkedIn k words a
+  pub targets : (a : ℕ) → is_target (objects_in k.opening c) page a ≡ true → HasBookmarkBit k words a
 
 -- Remembered, and Fixed: a page whose record refers to a nursery is Remembered or in hand so. Whatever was put back keeps
 -- what is fixed, an Absent page has no allocated cell, and a Gone page is summarised
