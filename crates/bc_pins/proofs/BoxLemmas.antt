@@ -11,12 +11,12 @@ use Rattle.bc_superpages.specs.Headers.{is_resident}
 use Rattle.bc_superpages.specs.Contents.{content_of, uses_frame, LiesIn}
 use Rattle.bc_pins.specs.declared.views.Lodged.{Lodged}
 use Rattle.bc_pins.specs.declared.views.Lodged.TheVariants.{Nothing, Home, Away}
-use Rattle.bc_pins.specs.Totals.{total}
+use Rattle.bc_pins.specs.Totals.{total, sum_to}
 use Rattle.bc_pins.specs.Views.{state_word}
 use Rattle.bc_pins.specs.Facts.{Lies, frame_of, frame_lodged}
 use Rattle.bc_pins.specs.Lodging.{box_of, place_of}
 use Rattle.bc_pins.proofs.TotalLemmas.{one_same, one_other}
-use Rattle.bc_pins.proofs.SumLemmas.{sum_to, sum_same, sum_none, sum_cut, total_sum, count_total, total_map}
+use Rattle.bc_pins.proofs.SumLemmas.{sum_same, sum_none, sum_cut, total_sum, count_total, total_map}
 
 some_lodged : (a b : Lodged) → some (some a) ≡ some (some b) → a ≡ b
 some_lodged a b e = some-injective a b (some-injective (some a) (some b) e)
@@ -73,16 +73,16 @@ frames_back bs xs n f le size near past store =
     omega arith
 
 -- how many boxes there are, by the frames that they use
-sum_one : (m n : ℕ) → m < n → sum_to (λ f. one_if (m == f)) n ≡ 1
-sum_one m zero lt = absurd (omega arith)
-sum_one m (suc n) lt = elim (cases_eq m n) [
+sum_hit : (m n : ℕ) → m < n → sum_to (λ f. one_if (m == f)) n ≡ 1
+sum_hit m zero lt = absurd (omega arith)
+sum_hit m (suc n) lt = elim (cases_eq m n) [
   | inl e ↦
       let here : one_if (m == n) ≡ 1 = ap one_if (eq-eqb m n e) in
       let before = sum_none (λ f. one_if (m == f)) n (λ i less. one_other m i (λ z. omega arith)) in
       omega arith
   | inr ne ↦
       let here = one_other m n ne in
-      let before = sum_one m n (omega arith) in
+      let before = sum_hit m n (omega arith) in
       omega arith
 ]
 
@@ -101,7 +101,7 @@ boxes_sum (Some h ∷ bs) n past =
     let rest = boxes_sum bs n (λ f le. let a = past f le in omega arith) in
     let plus = sum_plus (λ f. one_if (h.frame == f)) (λ f. total (λ b. one_if (uses_frame f b)) bs) n in
     elim (cases_lt h.frame n) [
-      | inl lt ↦ let one = sum_one h.frame n lt in omega arith
+      | inl lt ↦ let one = sum_hit h.frame n lt in omega arith
       | inr le ↦ let a = past h.frame le in let b : one_if (h.frame == h.frame) ≡ 1 = one_same h.frame in absurd (omega arith)
     ]
 

@@ -22,7 +22,7 @@ use Rattle.bc_pins.specs.declared.key.Role.TheVariants.{Lane}
 use Rattle.bc_pins.specs.declared.pins.Seat.{Seat}
 use Rattle.bc_pins.specs.declared.views.View.{View}
 use Rattle.bc_pins.specs.Key.{Key, role_number}
-use Rattle.bc_pins.specs.Totals.{total, times}
+use Rattle.bc_pins.specs.Totals.{total, times, sum_to}
 use Rattle.bc_pins.specs.Tidy.{IsTidy}
 use Rattle.bc_pins.specs.Views.{has_role}
 use Rattle.bc_pins.specs.Steps.{Mine, fresh}
@@ -30,7 +30,7 @@ use Rattle.bc_pins.specs.Opening.{IsOpenable, IsReady}
 use Rattle.bc_pins.specs.Seating.{IsDealt, AreDealt}
 use Rattle.bc_pins.specs.Closing.{seen_by, IsBack, AreBack}
 use Rattle.bc_pins.proofs.TotalLemmas.{one_other, one_few}
-use Rattle.bc_pins.proofs.SumLemmas.{sum_to, sum_same, total_sum, times_total, total_map}
+use Rattle.bc_pins.proofs.SumLemmas.{sum_same, total_sum, times_total, total_map}
 
 pub clash : false ≡ true → ⊥
 clash e = cc

@@ -1,5 +1,5 @@
 -- What a table leaves when it is closed by a seat into which all others were joined.
-use Rattle.std.proofs.Common.{◌≡◌, ℕ, ◌+◌, ◌-◌, ◌<◌, ◌≢◌, ◌==◌, List, [], ◌∷◌, length, map, None, inl, inr, refl, ap, sym, subst, ◌∙◌, arith}
+use Rattle.std.proofs.Common.{◌≡◌, ℕ, ◌+◌, ◌-◌, ◌<◌, ◌*◌, ◌≢◌, ◌==◌, if◌then◌else◌, List, [], ◌∷◌, length, map, None, inl, inr, refl, ap, sym, subst, ◌∙◌, arith}
 use Prim.Native.Nat.{zero, suc}
 use mathlib.Core.Option.{some, some-injective, some-ne-none}
 use mathlib.Core.Option as maybe
@@ -10,16 +10,17 @@ use Rattle.bc_bits.specs.Counting.{one_if}
 use Rattle.bc_pins.specs.declared.views.Lodged.{Lodged}
 use Rattle.bc_pins.specs.declared.views.Lodged.TheVariants.{Nothing, Home, Away}
 use Rattle.bc_pins.specs.declared.views.View.{View}
-use Rattle.bc_pins.specs.Key.{Key, pages_of, owner}
-use Rattle.bc_pins.specs.Totals.{total, times}
+use Rattle.bc_pins.specs.Key.{Key, pages_of, counter_at, owner}
+use Rattle.bc_pins.specs.Totals.{total, times, sum_to}
 use Rattle.bc_pins.specs.Contents.{IsContent, RefersYoung}
-use Rattle.bc_pins.specs.Views.{grips, grips_remembered, frame_in_hand, has_role, opened_content, record_of}
-use Rattle.bc_pins.specs.Facts.{Table, Slot, word, Lies, Frames, frame_lodged, IsIdle}
+use Rattle.bc_pins.specs.Views.{grips, grips_remembered, frame_in_hand, counted_for, sets_bit, has_role, opened_content, record_of}
+use Rattle.bc_pins.specs.Facts.{Table, Slot, word, Lies, Summary, Frames, frame_lodged, points, adds_to, Bits, IsIdle}
 use Rattle.bc_pins.specs.Rule.{Rule}
 use Rattle.bc_pins.specs.Opening.{ClosesPage, HasClosed}
 use Rattle.bc_pins.proofs.TotalLemmas.{total_two, one_same}
 use Rattle.bc_pins.proofs.ReadLemmas.{remembered_word}
 use Rattle.bc_pins.proofs.JoinLemmas.{look_none}
+use Rattle.bc_pins.proofs.SumLemmas.{sum_same}
 
 total_only : {A : Type 0} (f : A → ℕ) (vs : List A) (j : ℕ) (v : A) → get_elem? vs j ≡ some v → ((i : ℕ) (u : A) → i ≢ j → get_elem? vs i ≡ some u → f u ≡ 0) → total f vs ≡ f v
 total_only f [] j v e others = absurd (some-ne-none v (sym e))
@@ -134,7 +135,7 @@ module _ (k : Key) (s : Table) (r : Rule k s) (id : ℕ) (v : View) (at : get_el
         fixed = subst (IsContent k.opening p) same content.fixed;
         young = λ y. remembered_word k s r p lt (not_held p lt) (content.young (subst (RefersYoung k.opening p) (sym same) y));
         bare = content.bare;
-        gone = λ e. sym same ∙ content.gone e;
+        gone = λ e. subst (Summary k s.words p) same (content.gone e);
         standing = record {
           remembered = λ lt. let a = old.remembered (omega arith) in omega arith;
           recorded = λ lt. let a = old.recorded (omega arith) in omega arith;
@@ -150,14 +151,28 @@ module _ (k : Key) (s : Table) (r : Rule k s) (id : ℕ) (v : View) (at : get_el
       let homes : total (frame_lodged f) s.homes ≡ total (frame_lodged f) (map some xs) = ap (total (frame_lodged f)) homes_are in
       omega arith
 
+  counters_closed : (q : ℕ) → q < k.supers → word s (counter_at k q) ≡ sum_to (λ p. if word s p == 4 then points k p (record_of v p) q else 0) (pages_of k)
+  counters_closed q lt = r.counters q lt ∙ sum_same (adds_to k s r.rec q) (λ p. if word s p == 4 then points k p (record_of v p) q else 0) (pages_of k) (λ p _.
+      let none_counted = only (λ u. counted_for p q u.hand) (λ u i. ap (counted_for p q) i.hand) in
+      let mine : counted_for p q v.hand ≡ 0 = ap (counted_for p q) nothing in
+      let same : (if word s p == 4 then points k p (r.rec p) q else 0) ≡ (if word s p == 4 then points k p (record_of v p) q else 0) = ap (λ (c : List ℕ). if word s p == 4 then points k p c q else 0) (record_is p) in
+      omega arith)
+
+  bits_closed : (w b : ℕ) → w < 16 * k.supers → b < 64 → Bits k last w b
+  bits_closed w b lt few =
+      let old = r.bits w b lt few in
+      let set_by = only (λ u. sets_bit w b u.bookmarked) (λ u i. ap (sets_bit w b) i.bookmarked) in
+      record { kept = λ lt. old.kept (omega arith); only = λ lt. let a = old.only lt in omega arith; cell = old.cell }
+
   pub closed : HasClosed k v s.words xs
   closed = record {
     words_long = r.words;
     slots_long = sym size ∙ r.slots;
-    moved = (r.seats id v at).seated.moved;
     pages = page_closed;
     frames = frames_closed;
-    still = record { counters = r.still.counters; bookmarks = r.still.bookmarks; marks = r.still.marks; finished = r.still.finished };
+    counters = counters_closed;
+    bits = bits_closed;
+    still = record { marks = r.still.marks; finished = r.still.finished };
   }
 
 pub ends : (k : Key) (id : ℕ) (v : View) (ws : List ℕ) (xs : List Lodged) → v.about ≡ k → v.hand ≡ None → ((n : ℕ) → times n v.roles ≡ times n k.roles)

@@ -1,7 +1,7 @@
 -- What closing a table gives.
-use Rattle.std.proofs.Common.{◌≡◌, ℕ, ◌+◌, ◌-◌, ◌*◌, ◌^◌, ◌<◌, ◌≤◌, ◌==◌, List, [], length, map, get_or, min, Option, None, refl, ap, sym, subst, ◌∙◌, arith, inl, inr, true, false, Bool}
-use Rattle.std.proofs.lemmas.Bool.{cases_lt}
-use Rattle.std.proofs.lemmas.List.{length-map}
+use Rattle.std.proofs.Common.{◌≡◌, ℕ, ◌+◌, ◌-◌, ◌*◌, ◌/◌, ◌%◌, ◌^◌, ◌<◌, ◌≤◌, ◌==◌, ◌⊎◌, List, [], length, map, get_or, slice_index, min, Option, None, refl, ap, sym, subst, ◌∙◌, arith, inl, inr, true, false, Bool}
+use Rattle.std.proofs.lemmas.Bool.{cases_lt, eqb-true, eq-eqb, and_from}
+use Rattle.std.proofs.lemmas.List.{length-map, get_or-map, get_or_past}
 use Rattle.atomic_table.specs.Table.{Final, Seen}
 use Rattle.atomic_table.specs.declared.shared.Seat.{Seat as Worker}
 use Rattle.atomic_table.specs.Seated.{TableId}
@@ -14,8 +14,18 @@ use Rattle.bc_superpages.specs.declared.spaces.Homed.{Homed}
 use Rattle.bc_superpages.specs.declared.parts.SpaceParts.{SpaceParts}
 use Rattle.bc_superpages.specs.Headers.{is_gone}
 use Rattle.bc_superpages.specs.Kept.{IsLayout}
-use Rattle.bc_superpages.specs.Layout.{Layout, superpages, content_at}
-use Rattle.bc_superpages.specs.LayoutAt.{state_at}
+use Rattle.bc_superpages.specs.Layout.{Layout, superpages, set_of, content_at, is_cell}
+use Rattle.std.specs.Int.{bit_at}
+use Rattle.bc_bits.specs.Bits.{has}
+use Rattle.bc_frames.specs.Pool.{free_count}
+use Rattle.bc_word.specs.Addresses.{superpage_of, cell_number}
+use Rattle.bc_superpages.specs.Calls.{class_at}
+use Rattle.bc_superpages.specs.Headers.{unused_header}
+use Rattle.bc_superpages.proofs.LayoutLemmas.{header_of-layout}
+use Rattle.bc_bookmarks.specs.Summarised.{IsSummarised}
+use Rattle.bc_pins.specs.Facts.{bookmark_bit, cell_bit, HasBookmarkBit}
+use Rattle.bc_pins.specs.Opening.{IsOpenable}
+use Rattle.bc_superpages.specs.LayoutAt.{state_at, header_of}
 use Rattle.bc_superpages.specs.Contents.{contents}
 use Rattle.bc_superpages.specs.Parts.{state_in, AreParts, parts_layout}
 use Rattle.bc_superpages.proofs.HandLemmas.{state-header}
@@ -33,13 +43,15 @@ use Rattle.bc_pins.specs.Rule.{Rule}
 use Rattle.bc_pins.specs.Lodging.{Replaced, box_of, place_of}
 use Rattle.bc_pins.specs.Opening.{HasClosed, IsRest}
 use Rattle.bc_pins.specs.Resting.{RestView}
-use Rattle.bc_pins.specs.Closing.{Gathered, StatesSet, opens_of, ClosedState, Closed}
+use Rattle.bc_pins.specs.Closing.{Gathered, StatesSet, SummariesSet, HeadersSet, opens_of, ClosedState, ClosedBit, Closed}
+use Rattle.bc_pins.proofs.TallyLemmas.{GoneBy, gone_word, tally, none_behind, target_in, set_bit, bit_set, bit_in, in_bit, bit_few, few_bits, number_few}
 use Rattle.bc_pins.proofs.TotalLemmas.{one_is}
 use Rattle.bc_pins.proofs.ReadLemmas.{lies_few}
 use Rattle.bc_pins.proofs.JoinLemmas.{look_none}
 use Rattle.bc_pins.proofs.CloseLemmas.{ends}
 use Rattle.bc_pins.proofs.GatherLemmas.{entries_none}
-use Rattle.bc_pins.proofs.OpenableLemmas.{still_openable}
+use Rattle.bc_pins.proofs.OpenableLemmas.{opened_none, still_openable}
+use Rattle.bc_pins.proofs.HeaderLemmas.{headers_set}
 use Rattle.bc_pins.proofs.SpaceLemmas.{content_near, content_far, closed_kept, closed_ends, closed_layout}
 
 word_remembered : (st : PageState) → state_word st ≡ 2 → st ≡ state.Remembered
@@ -49,18 +61,8 @@ word_remembered state.Home e = absurd (omega arith)
 word_remembered state.Held e = absurd (omega arith)
 word_remembered state.Gone e = absurd (omega arith)
 
-gone_word : (st : PageState) → is_gone st ≡ (state_word st == 4)
-gone_word state.Remembered = refl
-gone_word state.Absent = refl
-gone_word state.Home = refl
-gone_word state.Held = refl
-gone_word state.Gone = refl
-
-same_bit : (a b : Bool) → one_if a ≡ one_if b → a ≡ b
-same_bit true true e = refl
-same_bit false false e = refl
-same_bit true false e = absurd (omega arith)
-same_bit false true e = absurd (omega arith)
+clash : false ≡ true → ⊥
+clash e = cc
 
 -- what a table leaves, where all its seats were joined into one
 pub gathered_ends : (id : TableId) (k : Key) (all : List Seat) (root : Worker Lodged View) (ws : List ℕ) (xs : List Lodged) → Gathered id k all [] root → Final (Seen (Rule k) root.id root.me.0) ws xs → HasClosed k root.me.0 ws xs
@@ -78,7 +80,7 @@ pub record Ended (id : TableId) (k : Key) (all : List Seat) (root : Worker Lodge
   pub frames : k.frames ≡ length k.pool
   pub gathered : Gathered id k all [] root
   pub closed : HasClosed k root.me.0 words slots
-  pub states_are : StatesSet whole.headers.items headers (pages_of k) words
+  pub states_are : HeadersSet k whole.headers.items headers words
   pub box : Replaced None parts.boxes.items boxes (pages_of k) (λ p. box_of (get_or slots p Nothing))
   pub place : Replaced None parts.store.places places (pages_of k) (λ p. place_of (get_or slots (pages_of k + p) Nothing))
 
@@ -104,7 +106,13 @@ module _ (id : TableId) (k : Key) (all : List Seat) (root : Worker Lodged View) 
   }
 
   abbrev made : ℕ → Layout
-  made reads = record k.opening { states = map (λ (h : Header). h.pages) headers; pages = contents boxes places; reads = reads }
+  made reads = record k.opening {
+    states = map (λ (h : Header). h.pages) headers;
+    pages = contents boxes places;
+    bookmarks = map (λ (h : Header). h.bookmarks) headers;
+    incoming = map (λ (h : Header). h.incoming) headers;
+    reads = reads;
+  }
 
   pub ended_layout : (reads : ℕ) (f : SpaceParts) → Together whole headers boxes places reads f → parts_layout f ≡ made reads
   ended_layout reads f t =
@@ -157,41 +165,134 @@ module _ (id : TableId) (k : Key) (all : List Seat) (root : Worker Lodged View) 
   layout : IsLayout k.opening
   layout = subst IsLayout e.layout (IsLayout-kept whole.headers.items whole.boxes.items whole.pool whole.nursery.items whole.store.places _ _ _ _ e.rest.kept.kept)
 
-  gone_count : (p : ℕ) → p < pages_of k → one_if (get_or words p 0 == 4) ≡ one_if (opened_word k p == 4)
-  gone_count p lt =
-      let gone = (e.closed.pages p lt).standing.gone in
-      let l : times p v.left ≡ 0 = ap (times p) e.closed.moved.left in
-      let f : times p v.fetched ≡ 0 = ap (times p) e.closed.moved.fetched in
-      omega arith
-
-  gone_same : (p : ℕ) → p < 4 * superpages k.opening → is_gone (state_at (map (λ (h : Header). h.pages) headers) p) ≡ gone_in k.opening p
-  gone_same p lt =
-      let many = supers_are in
-      elim (cases_lt p (pages_of k)) [
-        | inl less ↦
-            gone_word (state_at (map (λ (h : Header). h.pages) headers) p)
-            ∙ same_bit _ _ (ap (λ (n : ℕ). one_if (n == 4)) (word_is p less) ∙ gone_count p less)
-            ∙ sym (gone_word (opened_state k p))
-        | inr le ↦ ap is_gone (state_new p (omega arith) ∙ e.states_are.far p le ∙ sym (state_old p (omega arith)))
-      ]
-
-  gone_kept : (p : ℕ) → p < 4 * superpages k.opening → gone_in k.opening p ≡ true → content_at (contents boxes places) p ≡ opened_content k p
-  gone_kept p lt gone =
-      let many = supers_are in
-      let size = long in
-      elim (cases_lt p (pages_of k)) [
-        | inl less ↦
-            let count = gone_count p less in
-            let one : one_if (opened_word k p == 4) ≡ 1 = ap one_if (sym (gone_word (opened_state k p)) ∙ gone) in
-            near p less ∙ (e.closed.pages p less).gone (one_is (get_or words p 0) 4 (omega arith))
-        | inr le ↦ content_far k whole parts e.rest e.layout e.pool e.nursery e.frames v e.gathered.hand e.gathered.rights words slots e.closed headers e.states_are boxes e.box places e.place p le (omega arith)
-      ]
-
   fixed_now : (p : ℕ) → p < pages_of k → IsContent k.opening p (content_at (contents boxes places) p)
   fixed_now p lt = subst (IsContent k.opening p) (sym (near p lt)) (e.closed.pages p lt).fixed
 
   young_now : (p : ℕ) → p < pages_of k → RefersYoung k.opening p (content_at (contents boxes places) p) → state_at (map (λ (h : Header). h.pages) headers) p ≡ state.Remembered
   young_now p lt y = word_remembered _ (word_is p lt ∙ (e.closed.pages p lt).young (subst (RefersYoung k.opening p) (near p lt) y))
+
+  behind : (p : ℕ) → pages_of k ≤ p → p < 4 * superpages k.opening → opened_state k p ≡ state.Absent
+  behind p le lt = let many = supers_are in state_old p (omega arith) ∙ e.rest.behind p le
+
+  gone_by : GoneBy k (contents boxes places) (λ p. is_gone (state_at (map (λ (h : Header). h.pages) headers) p)) (record_of v) words (4 * superpages k.opening)
+  gone_by = record {
+    few = (let many = supers_are in let a = e.rest.within in omega arith);
+    near = λ p lt. gone_word (state_at (map (λ (h : Header). h.pages) headers) p) ∙ ap (λ (n : ℕ). n == 4) (word_is p lt);
+    behind = λ p le lt. let many = supers_are in ap is_gone (state_new p (omega arith) ∙ e.states_are.far p le ∙ e.rest.behind p le);
+    contents = near;
+  }
+
+  -- the words of a set of the headers
+  header_set : (q : ℕ) → q < length headers → set_of (map (λ (h : Header). h.bookmarks) headers) q ≡ (get_or headers q unused_header).bookmarks
+  header_set q lt = get_or-map (λ (h : Header). h.bookmarks) headers q unused_header [] lt
+
+  header_count : (q : ℕ) → q < length headers → slice_index (map (λ (h : Header). h.incoming) headers) q ≡ (get_or headers q unused_header).incoming
+  header_count q lt = get_or-map (λ (h : Header). h.incoming) headers q unused_header 0 lt
+
+  opening_header : (q : ℕ) → q < length whole.headers.items → header_of k.opening q ≡ get_or whole.headers.items q unused_header
+  opening_header q lt = ap (λ (s : Layout). header_of s q) (sym e.layout) ∙ header_of-layout whole.headers.items (contents whole.boxes.items whole.store.places) (length whole.pool) (length whole.nursery.items) (free_count whole.pool) whole.store.reads q lt
+
+  set_behind : (q : ℕ) → k.supers ≤ q → q < superpages k.opening → set_of (map (λ (h : Header). h.bookmarks) headers) q ≡ set_of k.opening.bookmarks q
+  set_behind q le lt =
+      let many = supers_are in
+      let size = e.states_are.long in
+      header_set q (omega arith) ∙ (e.states_are.behind q le).0 ∙ sym (ap (λ (h : Header). h.bookmarks) (opening_header q (omega arith)))
+
+  -- a bit of the headers is that of the table
+  bit_is : (q j b : ℕ) → q < k.supers → j < 16 → bit_at (slice_index (set_of (map (λ (h : Header). h.bookmarks) headers) q) j) b ≡ bookmark_bit k words (16 * q + j) b
+  bit_is q j b lt few =
+      let many = supers_are in
+      let size = e.states_are.long in
+      let within = e.rest.within in
+      ap (λ (l : List ℕ). bit_at (slice_index l j) b) (header_set q (omega arith)) ∙ ap (λ (n : ℕ). bit_at n b) (e.states_are.bookmarks q j lt few)
+
+  long_set : (q : ℕ) → q < k.supers → length (set_of (map (λ (h : Header). h.bookmarks) headers) q) ≡ 16
+  long_set q lt =
+      let many = supers_are in
+      let size = e.states_are.long in
+      let within = e.rest.within in
+      ap length (header_set q (omega arith)) ∙ (e.states_are.sets q lt).0
+
+  bits_now : (o : IsOpenable k.opening) (q b : ℕ) → q < superpages k.opening → has (set_of (map (λ (h : Header). h.bookmarks) headers) q) b ≡ true
+      → (has (set_of k.opening.cells q) b ≡ true) ⊎ (has (set_of k.opening.promised q) b ≡ true)
+  bits_now o q b lt on = elim (cases_lt q k.supers) [
+    | inl here ↦
+        let few : b < 1024 = few_bits (set_of (map (λ (h : Header). h.bookmarks) headers) q) b (long_set q here) on in
+        let one = sym (bit_is q (b / 64) (b % 64) here (omega arith)) ∙ set_bit (set_of (map (λ (h : Header). h.bookmarks) headers) q) b on in
+        let cell = (e.closed.bits (16 * q + b / 64) (b % 64) (omega arith) (omega arith)).cell (omega arith) in
+        let at : (16 * q + b / 64) / 16 ≡ q = omega arith in
+        let place : (16 * q + b / 64) % 16 ≡ b / 64 = omega arith in
+        let is : cell_bit k (16 * q + b / 64) (b % 64) ≡ bit_at (slice_index (set_of k.opening.cells q) (b / 64)) (b % 64) =
+        ap (λ (n : ℕ). bit_at (slice_index (set_of k.opening.cells n) ((16 * q + b / 64) % 16)) (b % 64)) at ∙ ap (λ (n : ℕ). bit_at (slice_index (set_of k.opening.cells q) n) (b % 64)) place in
+        let small = bit_few (slice_index (set_of k.opening.cells q) (b / 64)) (b % 64) in
+        inl (bit_set (set_of k.opening.cells q) b (omega arith))
+    | inr past ↦ o.summarised.bits q b lt (sym (ap (λ (l : List ℕ). has l b) (set_behind q past lt)) ∙ on)
+  ]
+
+  marked_now : (a : ℕ) → HasBookmarkBit k words a → is_cell k.opening.classes (map (λ (h : Header). h.bookmarks) headers) a ≡ true
+  marked_now a m =
+      let many = supers_are in
+      let within = e.rest.within in
+      let here = m.within in
+      let n : ℕ = cell_number (class_at k.opening a) a in
+      let few : n < 1024 = number_few (class_at k.opening a) a (layout.each (superpage_of a) (omega arith)).class in
+      and_from _ _
+      (bit_set (set_of (map (λ (h : Header). h.bookmarks) headers) (superpage_of a)) n (bit_is (superpage_of a) (n / 64) (n % 64) here (omega arith) ∙ m.bit))
+      (eq-eqb _ 0 m.starts)
+
+  summarised_now : (reads : ℕ) → IsOpenable k.opening → IsSummarised (made reads)
+  summarised_now reads o =
+      let many = supers_are in
+      let size = e.states_are.long in
+      let summed = λ (p : ℕ) (lt : p < pages_of k) (four : get_or words p 0 ≡ 4). (e.closed.pages p lt).gone four in
+      let four : (p : ℕ) → p < 4 * superpages k.opening → is_gone (state_at (map (λ (h : Header). h.pages) headers) p) ≡ true → (p < pages_of k) × (get_or words p 0 ≡ 4) = λ p lt gone.
+      elim (cases_lt p (pages_of k)) [
+        | inl less ↦ (less, eqb-true (get_or words p 0) 4 (sym (gone_by.near p less) ∙ gone))
+        | inr le ↦ absurd (clash (sym (gone_by.behind p le lt) ∙ gone))
+      ] in
+      record {
+        bits = bits_now o;
+        there = λ p lt gone. let f = four p lt gone in (summed p f.0 f.1).there;
+        targets = λ p a lt gone target.
+            let f = four p lt gone in
+            marked_now a ((summed p f.0 f.1).targets a (target_in k.opening (contents boxes places) p a (record_of v p) (near p f.0) ∙ target));
+        incoming = λ q lt. elim (cases_lt q k.supers) [
+          | inl here ↦
+              let within = e.rest.within in
+              header_count q (omega arith) ∙ e.states_are.counters q here ∙ e.closed.counters q here
+              ∙ sym (tally k (contents boxes places) (λ p. is_gone (state_at (map (λ (h : Header). h.pages) headers) p)) (record_of v) words (4 * superpages k.opening) gone_by q)
+          | inr past ↦
+              header_count q (omega arith) ∙ (e.states_are.behind q past).1 ∙ sym (ap (λ (h : Header). h.incoming) (opening_header q (omega arith)))
+              ∙ opened_none k (map (λ (h : Header). h.pages) headers) (contents boxes places) (map (λ (h : Header). h.bookmarks) headers) (map (λ (h : Header). h.incoming) headers) reads layout o behind fixed_now young_now q past lt
+              ∙ sym (none_behind k (contents boxes places) (λ p. is_gone (state_at (map (λ (h : Header). h.pages) headers) p)) (record_of v) words (4 * superpages k.opening) gone_by summed q past)
+        ];
+      }
+
+  behind_all : (q : ℕ) → k.supers ≤ q → set_of (map (λ (h : Header). h.bookmarks) headers) q ≡ set_of k.opening.bookmarks q
+  behind_all q le = elim (cases_lt q (superpages k.opening)) [
+    | inl lt ↦ set_behind q le lt
+    | inr past ↦
+        let many = supers_are in
+        let size = e.states_are.long in
+        let a = length-map headers (λ (h : Header). h.bookmarks) in
+        let b = layout.long.bookmarks in
+        get_or_past (map (λ (h : Header). h.bookmarks) headers) q [] (omega arith) ∙ sym (get_or_past k.opening.bookmarks q [] (omega arith))
+  ]
+
+  bits_closed : (reads w b : ℕ) → w < 16 * k.supers → b < 64 → ClosedBit k all (made reads) w b
+  bits_closed reads w b lt few =
+      let old = e.closed.bits w b lt few in
+      let sum = e.gathered.bookmarked w b in
+      let back : 16 * (w / 16) + w % 16 ≡ w = omega arith in
+      let is : bit_at (slice_index (set_of (map (λ (h : Header). h.bookmarks) headers) (w / 16)) (w % 16)) b ≡ bookmark_bit k words w b =
+      bit_is (w / 16) (w % 16) b (omega arith) (omega arith) ∙ ap (λ (n : ℕ). bookmark_bit k words n b) back in
+      record {
+        kept = λ lt. bit_in (set_of (map (λ (h : Header). h.bookmarks) headers) (w / 16)) (w % 16) b few (is ∙ old.kept (omega arith));
+        only = λ on.
+            let one = sym is ∙ in_bit (set_of (map (λ (h : Header). h.bookmarks) headers) (w / 16)) (w % 16) b few on in
+            let a = old.only (omega arith) in
+            omega arith;
+      }
 
   pub ended_closed : (reads : ℕ) → reads ≡ min (k.opening.reads + opens_of all) (2 ^ 64 - 1) → Closed k all (made reads)
   ended_closed reads is = record {
@@ -210,16 +311,18 @@ module _ (id : TableId) (k : Key) (all : List Seat) (root : Worker Lodged View) 
     states_are = states_closed;
     fixed = fixed_now;
     young = young_now;
-    openable = λ o. still_openable k _ _ reads layout o (λ p le lt. let many = supers_are in state_old p (omega arith) ∙ e.rest.behind p le) fixed_now young_now gone_same gone_kept;
+    bits = bits_closed reads;
+    bits_behind = λ q le. behind_all q le;
+    openable = λ o. still_openable k _ _ _ _ reads layout o behind fixed_now young_now (summarised_now reads o);
   }
 
 -- it is known from what each step of a closing tells
-pub ended_from : (id : TableId) (k : Key) (all : List Seat) (root : Worker Lodged View) (r : RestView) (whole parts : SpaceParts) (n : ℕ) (ws told : List ℕ) (xs out : List Lodged) (headers : List Header) (st : StoreView) (boxes : List (Option Homed)) (places : List (Option (List ℕ)))
+pub ended_from : (id : TableId) (k : Key) (all : List Seat) (root : Worker Lodged View) (r : RestView) (whole parts : SpaceParts) (n : ℕ) (ws told : List ℕ) (xs out : List Lodged) (middle headers : List Header) (sup : ℕ) (st : StoreView) (boxes : List (Option Homed)) (places : List (Option (List ℕ)))
     → whole ≡ r.whole → n ≡ r.pages → IsRest whole parts n → r.pages ≡ pages_of k → parts_layout r.whole ≡ k.opening → r.whole.pool ≡ k.pool → r.whole.nursery.items ≡ k.nursery → k.frames ≡ length k.pool
-    → Gathered id k all [] root → Final (Seen (Rule k) root.id root.me.0) ws xs → told ≡ ws → out ≡ xs → StatesSet parts.headers.items headers n told → st.places ≡ parts.store.places
+    → Gathered id k all [] root → Final (Seen (Rule k) root.id root.me.0) ws xs → told ≡ ws → out ≡ xs → StatesSet parts.headers.items middle n told → sup ≡ k.supers → SummariesSet middle headers sup told → st.places ≡ parts.store.places
     → Replaced None parts.boxes.items boxes n (λ p. box_of (get_or out p Nothing)) → Replaced None st.places places n (λ p. place_of (get_or out (n + p) Nothing))
     → Ended id k all root whole parts ws xs headers boxes places
-ended_from id k all root r whole parts n ws told xs out headers st boxes places is count rest paged layout pool nursery frames gathered final words slots set stored box place =
+ended_from id k all root r whole parts n ws told xs out middle headers sup st boxes places is count rest paged layout pool nursery frames gathered final words slots set supers summed stored box place =
     let size : n ≡ pages_of k = count ∙ paged in
     let rest_now : IsRest whole parts (pages_of k) = subst (IsRest whole parts) size rest in
     record {
@@ -230,8 +333,10 @@ ended_from id k all root r whole parts n ws told xs out headers st boxes places 
       frames = frames;
       gathered = gathered;
       closed = gathered_ends id k all root ws xs gathered final;
-      states_are = subst (λ (hs : List Header). StatesSet hs headers (pages_of k) ws) rest_now.emptied.headers
-          (subst (λ (m : ℕ). StatesSet parts.headers.items headers m ws) size (subst (StatesSet parts.headers.items headers n) words set));
+      states_are = headers_set k whole.headers.items middle headers ws
+          (subst (λ (hs : List Header). StatesSet hs middle (pages_of k) ws) rest_now.emptied.headers
+          (subst (λ (m : ℕ). StatesSet parts.headers.items middle m ws) size (subst (StatesSet parts.headers.items middle n) words set)))
+          (subst (λ (m : ℕ). SummariesSet middle headers m ws) supers (subst (SummariesSet middle headers sup) words summed));
       box = subst (λ (m : ℕ). Replaced None parts.boxes.items boxes m (λ p. box_of (get_or xs p Nothing))) size
           (subst (λ (l : List Lodged). Replaced None parts.boxes.items boxes n (λ p. box_of (get_or l p Nothing))) slots box);
       place = subst (λ (m : ℕ). Replaced None parts.store.places places m (λ p. place_of (get_or xs (m + p) Nothing))) size

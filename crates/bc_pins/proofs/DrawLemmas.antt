@@ -60,10 +60,20 @@ module _ (k : Key) (parts : SpaceParts) (supers : ℕ) (turn : Turn) (holders : 
       let layout : IsLayout k.opening = subst IsLayout drawn.layout (IsLayout-kept parts.headers.items parts.boxes.items parts.pool parts.nursery.items parts.store.places _ _ _ _ drawn.kept.kept) in
       let l : AreLodged parts (pages_of k) slots = subst (λ (n : ℕ). AreLodged parts (4 * n) slots) (sym supers_is) lodged in
       starts k words slots (may_open k parts drawn.kept drawn.layout (sym pool_is) (sym (ap (λ (a : Key). a.nursery) drawn.key)) (frames_are ∙ ap length (sym pool_is))
-      (omega arith) (λ p le. drawn.behind p (omega arith)) (openable_ready k.opening layout drawn.openable)
+      (omega arith) (λ p le. drawn.behind p (omega arith)) (openable_ready k.opening layout drawn.openable) drawn.openable
       (λ r. subst (λ (rs : List ℕ). times r rs ≤ 1) (sym roles_are) (drawn.apart r))
       (ap (times 0) roles_are ∙ nobody_has roles)
       words filled l.first slots l.homes l.aways)
+
+  pub drawn_inside : k.supers ≤ superpages k.opening
+  drawn_inside =
+      let size = supers_is in
+      let within = drawn.within in
+      let many : superpages k.opening ≡ length parts.headers.items = ap superpages (sym drawn.layout) ∙ length-map parts.headers.items (λ (h : Header). h.used) in
+      omega arith
+
+  pub drawn_apart : (r : ℕ) → times r k.roles ≤ 1
+  drawn_apart r = subst (λ (rs : List ℕ). times r rs ≤ 1) (sym roles_are) (drawn.apart r)
 
   pub drawn_opened : (pins : Pins) (seats : List Seat) → pins.table.shared.key ≡ k → AreDealt pins.table.shared.table_id pins.table.shared.key roles (length roles) seats → Opened k.opening turn holders roles pins seats
   drawn_opened pins seats e dealt =

@@ -10,11 +10,11 @@ use Rattle.bc_pins.specs.declared.pins.Seat.{Seat}
 use Rattle.bc_pins.specs.Key.{Key, owner}
 use Rattle.bc_pins.specs.Totals.{total, times}
 use Rattle.bc_pins.specs.Tidy.{IsTidy}
-use Rattle.bc_pins.specs.Views.{has_role, entries, look_up, opened_content, record_of}
+use Rattle.bc_pins.specs.Views.{has_role, sets_bit, entries, look_up, opened_content, record_of}
 use Rattle.bc_pins.specs.Steps.{Mine, united}
 use Rattle.bc_pins.specs.Closing.{seen_by, IsBack, AreBack, Gathered, opens_of}
 use Rattle.bc_pins.proofs.TotalLemmas.{total_append, times_append}
-use Rattle.bc_pins.proofs.JoinLemmas.{entries_append, look_skips, look_first}
+use Rattle.bc_pins.proofs.JoinLemmas.{entries_append, sets_append, look_skips, look_first}
 use Rattle.bc_pins.proofs.DealLemmas.{front_of, end_of}
 
 -- what moves from a seat to the root
@@ -29,6 +29,19 @@ moved f v front seat p n e =
 first_moved : (f : View → List ℕ) (front : List Seat) (seat : Seat) (p : ℕ)
     → times p (f (seen_by seat)) + total (λ (s : Seat). times p (f (seen_by s))) front ≡ total (λ (s : Seat). times p (f (seen_by s))) (front ++ seat ∷ [])
 first_moved f front seat p = let b = total_append (λ (s : Seat). times p (f (seen_by s))) front (seat ∷ []) in omega arith
+
+-- the same of bits
+set_moved : (v : View) (front : List Seat) (seat : Seat) (w b n : ℕ)
+    → sets_bit w b v.bookmarked + total (λ (s : Seat). sets_bit w b (seen_by s).bookmarked) (front ++ seat ∷ []) ≡ n
+    → sets_bit w b (v.bookmarked ++ (seen_by seat).bookmarked) + total (λ (s : Seat). sets_bit w b (seen_by s).bookmarked) front ≡ n
+set_moved v front seat w b n e =
+    let a = sets_append w b v.bookmarked (seen_by seat).bookmarked in
+    let c = total_append (λ (s : Seat). sets_bit w b (seen_by s).bookmarked) front (seat ∷ []) in
+    omega arith
+
+first_set : (front : List Seat) (seat : Seat) (w b : ℕ)
+    → sets_bit w b (seen_by seat).bookmarked + total (λ (s : Seat). sets_bit w b (seen_by s).bookmarked) front ≡ total (λ (s : Seat). sets_bit w b (seen_by s).bookmarked) (front ++ seat ∷ [])
+first_set front seat w b = let c = total_append (λ (s : Seat). sets_bit w b (seen_by s).bookmarked) front (seat ∷ []) in omega arith
 
 pub entries_none : (k : Key) (v : View) (p : ℕ) → IsTidy v → v.about ≡ k → has_role v (owner k p) ≡ 0 → entries p v.changed ≡ 0
 entries_none k v p tidy about z = tidy p (subst (λ (a : Key). has_role v (owner a p) ≡ 0) (sym about) z)
@@ -61,6 +74,7 @@ module _ (id : TableId) (k : Key) (apart : (r : ℕ) → times r k.roles ≤ 1) 
         recorded = λ p. first_moved (λ v. v.recorded) front seat p ∙ ap (total (λ (s : Seat). times p (seen_by s).recorded)) (sym is);
         left = λ p. first_moved (λ v. v.left) front seat p ∙ ap (total (λ (s : Seat). times p (seen_by s).left)) (sym is);
         emptied = λ p. first_moved (λ v. v.emptied) front seat p ∙ ap (total (λ (s : Seat). times p (seen_by s).emptied)) (sym is);
+        bookmarked = λ w b. first_set front seat w b ∙ ap (total (λ (s : Seat). sets_bit w b (seen_by s).bookmarked)) (sym is);
         fetched = λ p. first_moved (λ v. v.fetched) front seat p ∙ ap (total (λ (s : Seat). times p (seen_by s).fetched)) (sym is);
         mine = λ j le lt d p has.
             let e : get_or all j d ≡ seat = (let z : j ≡ length front = omega arith in ap (λ (i : ℕ). get_or all i d) z ∙ here d) in
@@ -100,6 +114,7 @@ module _ (id : TableId) (k : Key) (apart : (r : ℕ) → times r k.roles ≤ 1) 
         recorded = λ p. ap (λ (u : View). times p u.recorded + total (λ (s : Seat). times p (seen_by s).recorded) front) view ∙ moved (λ u. u.recorded) v front seat p _ (g.recorded p);
         left = λ p. ap (λ (u : View). times p u.left + total (λ (s : Seat). times p (seen_by s).left) front) view ∙ moved (λ u. u.left) v front seat p _ (g.left p);
         emptied = λ p. ap (λ (u : View). times p u.emptied + total (λ (s : Seat). times p (seen_by s).emptied) front) view ∙ moved (λ u. u.emptied) v front seat p _ (g.emptied p);
+        bookmarked = λ x b. ap (λ (u : View). sets_bit x b u.bookmarked + total (λ (s : Seat). sets_bit x b (seen_by s).bookmarked) front) view ∙ set_moved v front seat x b _ (g.bookmarked x b);
         fetched = λ p. ap (λ (u : View). times p u.fetched + total (λ (s : Seat). times p (seen_by s).fetched) front) view ∙ moved (λ u. u.fetched) v front seat p _ (g.fetched p);
         mine = λ j le lt d p has.
             let sum = times_append (owner k p) v.roles w.roles in

@@ -16,17 +16,17 @@ use Rattle.bc_pins.specs.declared.views.View.{View}
 use Rattle.bc_pins.specs.Key.{Key, pages_of, owner}
 use Rattle.bc_pins.specs.Totals.{total, times}
 use Rattle.bc_pins.specs.Contents.{IsContent, RefersYoung}
-use Rattle.bc_pins.specs.Views.{grips, grips_remembered, frame_in_hand, has_role, entries, look_up, opened_content}
-use Rattle.bc_pins.specs.Facts.{Table, word, slot, IsHomed, Lies, RecordsContent, frame_lodged}
+use Rattle.bc_pins.specs.Views.{grips, grips_remembered, frame_in_hand, counted_for, marked_for, has_role, entries, look_up, opened_content}
+use Rattle.bc_pins.specs.Facts.{Table, word, slot, IsHomed, Lies, RecordsContent, Marking, frame_lodged, points}
 use Rattle.bc_pins.specs.Tidy.{IsTidy}
 use Rattle.bc_pins.specs.Rule.{Rule}
 use Rattle.bc_pins.specs.Steps.{Mine, owns, both_slots, released, Gave}
 use Rattle.bc_pins.proofs.TotalLemmas.{total_set, total_at, one_same, one_other, one_is}
 use Rattle.bc_pins.proofs.PageSteps.{after, PageStep, page_step}
 use Rattle.bc_pins.proofs.ReadLemmas.{saw_kept}
-use Rattle.bc_pins.proofs.TakeLemmas.{Slots, flag_is, flag_other}
+use Rattle.bc_pins.proofs.TakeLemmas.{Slots, flag_is, flag_other, none_either}
 
-no_hand : (z : Hand) → None ≡ Some z → ⊥
+pub no_hand : (z : Hand) → None ≡ Some z → ⊥
 no_hand z e = cc
 
 lies_homed : (n : ℕ) (a b : maybe.Option (maybe.Option Lodged)) (c : List ℕ) → 1 ≤ n → n ≤ 2 → IsHomed a b c → Lies n a b c
@@ -68,7 +68,7 @@ given_frame f hs p q h ne one two =
 module _ (k : Key) (s : Table) (r : Rule k s) (id x role : ℕ) (v : View) (g : Hand) (h : Homed) (at : get_elem? s.views id ≡ some v) (lo : 1 ≤ x) (hi : x ≤ 2)
     (about : v.about ≡ k) (has : v.hand ≡ Some g) (some_role : 0 < has_role v role) (frame : h.frame ≡ g.frame)
     (fixed : IsContent k.opening g.page h.page) (young : RefersYoung k.opening g.page h.page → x ≡ 2) (flag : g.remembered ≡ true → x ≡ 2)
-    (others : has_role v (owner k g.page) ≡ 0 → h.page ≡ g.content) where
+    (others : has_role v (owner k g.page) ≡ 0 → h.page ≡ g.content) (uncounted : g.counted ≡ []) (unmarked : g.marked ≡ []) where
   abbrev p : ℕ
   p = g.page
 
@@ -176,6 +176,29 @@ module _ (k : Key) (s : Table) (r : Rule k s) (id x role : ℕ) (v : View) (g : 
         in_hand = λ z e. absurd (no_hand z e);
       }
 
+  hand_counted : (j q : ℕ) → counted_for j q v.hand ≡ 0
+  hand_counted j q = ap (counted_for j q) has ∙ none_either (p == j) (times q g.counted) (ap (times q) uncounted)
+
+  never_four : (n : ℕ) → (if x == 4 then n else 0) ≡ 0
+  never_four n = ap (λ (b : Bool). if b then n else 0) (ne_eqb x 4 (λ e. omega arith))
+
+  was_no_four : (n : ℕ) → (if word s p == 4 then n else 0) ≡ 0
+  was_no_four n = ap (λ (b : Bool). if b then n else 0) (ne_eqb (word s p) 4 not_four)
+
+  marking_kept : Marking w
+  marking_kept =
+      let old_marks = (r.seats id v at).marking in
+      record {
+        once = λ z e q. absurd (no_hand z e);
+        whose = λ j lt. elim (old_marks.whose j lt) [
+          | inl held ↦
+              let is : p ≡ j = one_is p j (let a = grip_is j in omega arith) in
+              inr (subst (λ (n : ℕ). 0 < times n v.left) is (old_marks.unmarked g has unmarked (subst (λ (n : ℕ). 0 < marked_for n v.bookmarked) (sym is) lt)))
+          | inr gone ↦ inr gone
+        ];
+        unmarked = λ z e _ lt. absurd (no_hand z e);
+      }
+
   give_step : PageStep k s r.rec rec' p x homes id v w
   give_step =
       let slots = r.slots in
@@ -217,7 +240,7 @@ module _ (k : Key) (s : Table) (r : Rule k s) (id x role : ℕ) (v : View) (g : 
         fixed = subst (IsContent k.opening p) (sym same_here) fixed;
         young = λ y. inr (let e = two_if (young (subst (RefersYoung k.opening p) same_here y)) in omega arith);
         bare = λ z. absurd (omega arith);
-        left_as_opened = λ e. absurd (omega arith);
+        summarised = λ e. absurd (omega arith);
         not_fewer = fewer;
         else_remembered = else_flag;
         put_back = omega arith;
@@ -230,11 +253,14 @@ module _ (k : Key) (s : Table) (r : Rule k s) (id x role : ℕ) (v : View) (g : 
         else_left = λ q ne. refl;
         else_emptied = λ q ne. refl;
         stays = λ e _. absurd (not_four e);
+        count = λ q lt. let a = hand_counted p q in let b = never_four (points k p (rec' p) q) in let c = was_no_four (points k p (r.rec p) q) in omega arith;
+        else_count = λ j q ne. sym (hand_counted j q);
+        bookmarked = refl;
+        marking = marking_kept;
         roles = refl;
         seated = record {
           about = facts.seated.about;
           idle = λ e. let z : has_role v role ≡ 0 = ap (times role) e in absurd (omega arith);
-          moved = let a = facts.seated.moved in record { left = a.left; emptied = a.emptied; fetched = a.fetched };
         };
         records = records_kept;
         saw = saw_kept k s p x homes id v w at wide fewer else_flag refl refl refl (λ e. absurd (not_four e)) facts.saw;
@@ -256,14 +282,14 @@ first_homed p a b l m e = home_is a b (ap second e)
 -- whatever the table is, putting a page back keeps the rule
 pub gave : (k : Key) (slots id x role : ℕ) (v : View) (g : Hand) (h : Homed) → 1 ≤ x → x ≤ 2 → v.about ≡ k → v.hand ≡ Some g → 0 < has_role v role → h.frame ≡ g.frame
     → IsContent k.opening g.page h.page → (RefersYoung k.opening g.page h.page → x ≡ 2) → (g.remembered ≡ true → x ≡ 2)
-    → (has_role v (owner k g.page) ≡ 0 → h.page ≡ g.content)
+    → (has_role v (owner k g.page) ≡ 0 → h.page ≡ g.content) → g.counted ≡ [] → g.marked ≡ []
     → Allows (Rule k) slots id (v, both_slots k g.page (Home h) Nothing) g.page (λ _. x)
     (λ _. Gave (step slots g.page x 0 maybe.none) (v, both_slots k g.page (Home h) Nothing))
-gave k slots id x role v g h lo hi about has some_role frame fixed young flag others s r size at fits = (
+gave k slots id x role v g h lo hi about has some_role frame fixed young flag others uncounted unmarked s r size at fits = (
   released v g.page (x == 2) h.page,
   chain gives gives,
   (tt, tt),
-  give_rule k s r id x role v g h at lo hi about has some_role frame fixed young flag others,
+  give_rule k s r id x role v g h at lo hi about has some_role frame fixed young flag others uncounted unmarked,
   record {
     slots = refl;
     view = λ z e. ap (λ (y : Homed). released v g.page (x == 2) y.page) (first_homed g.page h z _ _ e);
@@ -273,16 +299,16 @@ gave k slots id x role v g h lo hi about has some_role frame fixed young flag ot
 pub gives_from : (k : Key) (slots id x role : ℕ) (me : Mine) (v : View) (g : Hand) (h : Homed) (p : ℕ) → me ≡ (v, both_slots k p (Home h) Nothing) → g.page ≡ p → 1 ≤ x → x ≤ 2
     → v.about ≡ k → v.hand ≡ Some g → 0 < has_role v role → h.frame ≡ g.frame
     → IsContent v.about.opening p h.page → (RefersYoung v.about.opening p h.page → x ≡ 2) → (g.remembered ≡ true → x ≡ 2)
-    → (has_role v (owner v.about p) ≡ 0 → h.page ≡ g.content)
+    → (has_role v (owner v.about p) ≡ 0 → h.page ≡ g.content) → g.counted ≡ [] → g.marked ≡ []
     → Allows (Rule k) slots id me p (λ _. x) (λ _. Gave (step slots p x 0 maybe.none) me)
-gives_from k slots id x role me v g h p is page lo hi about has some_role frame fixed young flag others =
+gives_from k slots id x role me v g h p is page lo hi about has some_role frame fixed young flag others uncounted unmarked =
     subst (λ (m : Mine). Allows (Rule k) slots id m p (λ _. x) (λ _. Gave (step slots p x 0 maybe.none) m)) (sym is)
     (subst (λ (q : ℕ). Allows (Rule k) slots id (v, both_slots k q (Home h) Nothing) q (λ _. x) (λ _. Gave (step slots q x 0 maybe.none) (v, both_slots k q (Home h) Nothing))) page
     (gave k slots id x role v g h lo hi about has some_role frame
     (subst (λ (q : ℕ). IsContent k.opening q h.page) (sym page) (subst (λ (a : Key). IsContent a.opening p h.page) about fixed))
     (λ y. young (subst (λ (a : Key). RefersYoung a.opening p h.page) (sym about) (subst (λ (q : ℕ). RefersYoung k.opening q h.page) page y)))
     flag
-    (λ z. others (subst (λ (a : Key). has_role v (owner a p) ≡ 0) (sym about) (subst (λ (q : ℕ). has_role v (owner k q) ≡ 0) page z)))))
+    (λ z. others (subst (λ (a : Key). has_role v (owner a p) ≡ 0) (sym about) (subst (λ (q : ℕ). has_role v (owner k q) ≡ 0) page z))) uncounted unmarked))
 
 -- a view that is tidy stays so when a page was put back
 pub tidy_released : (v : View) (p : ℕ) (b : Bool) (c : List ℕ) → IsTidy v → IsTidy (released v p b c)

@@ -9,12 +9,12 @@ use Rattle.bc_bits.specs.Counting.{one_if}
 use Rattle.bc_pins.specs.declared.views.View.{View}
 use Rattle.bc_pins.specs.Key.{Key, owner}
 use Rattle.bc_pins.specs.Totals.{total, times}
-use Rattle.bc_pins.specs.Views.{grips, grips_remembered, frame_in_hand, has_role, entries, look_up, opened_content, record_of}
+use Rattle.bc_pins.specs.Views.{grips, grips_remembered, frame_in_hand, counted_for, sets_bit, marked_for, has_role, entries, look_up, opened_content, record_of}
 use Rattle.bc_pins.specs.Facts.{Table}
 use Rattle.bc_pins.specs.Rule.{SeatFacts, Rule}
 use Rattle.bc_pins.specs.Steps.{united, nobody}
 use Rattle.bc_pins.proofs.TotalLemmas.{total_set, total_two, times_append}
-use Rattle.bc_pins.proofs.SeatLemmas.{with_views, SameSums, now_same, views_step, seat_kept, no_hand}
+use Rattle.bc_pins.proofs.SeatLemmas.{with_views, SameSums, now_same, views_step, seat_kept, no_hand, no_marking}
 
 -- a seat is joined into another
 join_sum : (f : View → ℕ) (vs : List View) (id other : ℕ) (v w a b : View) → get_elem? vs id ≡ some v → get_elem? (set vs id a) other ≡ some w → f b ≡ 0 → f a ≡ f v + f w → total f (set (set vs id a) other b) ≡ total f vs
@@ -26,6 +26,14 @@ join_sum f vs id other v w a b at there z e =
 pub entries_append : (p : ℕ) (l m : List (ℕ × List ℕ)) → entries p (l ++ m) ≡ entries p l + entries p m
 entries_append p [] m = omega arith
 entries_append p (e ∷ l) m = let a = entries_append p l m in omega arith
+
+pub sets_append : (x b : ℕ) (l m : List (ℕ × ℕ × ℕ)) → sets_bit x b (l ++ m) ≡ sets_bit x b l + sets_bit x b m
+sets_append x b [] m = omega arith
+sets_append x b (e ∷ l) m = let a = sets_append x b l m in omega arith
+
+marked_append : (p : ℕ) (l m : List (ℕ × ℕ × ℕ)) → marked_for p (l ++ m) ≡ marked_for p l + marked_for p m
+marked_append p [] m = omega arith
+marked_append p (e ∷ l) m = let a = marked_append p l m in omega arith
 
 pub look_skips : (p : ℕ) (l m : List (ℕ × List ℕ)) (d : List ℕ) → entries p l ≡ 0 → look_up p (l ++ m) d ≡ look_up p m d
 look_skips p [] m d e = refl
@@ -84,6 +92,8 @@ module _ (k : Key) (s : Table) (r : Rule k s) (id other : ℕ) (v w : View) (at 
     left = λ p. sum_of (λ u. times p u.left) refl (times_append p v.left w.left);
     emptied = λ p. sum_of (λ u. times p u.emptied) refl (times_append p v.emptied w.emptied);
     roles = λ p. sum_of (λ u. times p u.roles) refl (times_append p v.roles w.roles);
+    count = λ p q. sum_of (λ u. counted_for p q u.hand) refl (let a : counted_for p q w.hand ≡ 0 = ap (counted_for p q) nothing in omega arith);
+    sets = λ x b. sum_of (λ u. sets_bit x b u.bookmarked) refl (sets_append x b v.bookmarked w.bookmarked);
     frame = λ p. sum_of (λ u. frame_in_hand p u.hand + times p u.rights) refl
         (let a : frame_in_hand p w.hand ≡ 0 = ap (frame_in_hand p) nothing in let b = times_append p v.rights w.rights in omega arith);
   }
@@ -111,6 +121,13 @@ module _ (k : Key) (s : Table) (r : Rule k s) (id other : ℕ) (v w : View) (at 
             ∙ sym (look_skips p v.changed w.changed (opened_content v.about p) (mine.records.others p none_v))
       ]
 
+  -- what the other bookmarked it gave up, since it has nothing in hand
+  given_up : (p : ℕ) → 0 < marked_for p w.bookmarked → 0 < times p w.left
+  given_up p lt = elim (theirs.marking.whose p lt) [
+    | inl held ↦ let z : grips p w.hand ≡ 0 = ap (grips p) nothing in absurd (omega arith)
+    | inr gone ↦ gone
+  ]
+
   seat_united : SeatFacts k (with_views s views) r.rec (united v w)
   seat_united = record {
     seated = record {
@@ -126,14 +143,7 @@ module _ (k : Key) (s : Table) (r : Rule k s) (id other : ℕ) (v w : View) (at 
             left = none_of v.left w.left a.left b.left;
             emptied = none_of v.emptied w.emptied a.emptied b.emptied;
             fetched = none_of v.fetched w.fetched a.fetched b.fetched;
-          };
-      moved =
-          let a = mine.seated.moved in
-          let b = theirs.seated.moved in
-          record {
-            left = none_of v.left w.left a.left b.left;
-            emptied = none_of v.emptied w.emptied a.emptied b.emptied;
-            fetched = none_of v.fetched w.fetched a.fetched b.fetched;
+            bookmarked = ap (λ (l : List (ℕ × ℕ × ℕ)). l ++ w.bookmarked) a.bookmarked ∙ b.bookmarked;
           };
     };
     records = record {
@@ -151,8 +161,8 @@ module _ (k : Key) (s : Table) (r : Rule k s) (id other : ℕ) (v w : View) (at 
           let c = times_append p v.seen w.seen in
           let now = now_same s views sums p in
           elim (cases_lt 0 (times p v.seen)) [
-            | inl has ↦ let a = mine.saw.seen p has in omega arith
-            | inr le ↦ let a = theirs.saw.seen p (omega arith) in omega arith
+            | inl has ↦ let a = mine.saw.seen p has in let b = a.1 in (a.0, omega arith)
+            | inr le ↦ let a = theirs.saw.seen p (omega arith) in let b = a.1 in (a.0, omega arith)
           ];
       gone = λ p lt.
           let c = times_append p v.gone w.gone in
@@ -162,13 +172,31 @@ module _ (k : Key) (s : Table) (r : Rule k s) (id other : ℕ) (v w : View) (at 
             | inr le ↦ let a = theirs.saw.gone p (omega arith) in let b = a.1 in (a.0, omega arith, a.2)
           ];
     };
+    marking = record {
+      once = mine.marking.once;
+      whose = λ p lt.
+          let c = marked_append p v.bookmarked w.bookmarked in
+          let d = times_append p v.left w.left in
+          elim (cases_lt 0 (marked_for p v.bookmarked)) [
+            | inl has ↦ elim (mine.marking.whose p has) [ inl held ↦ inl held | inr gone ↦ inr (omega arith) ]
+            | inr le ↦ let a = given_up p (omega arith) in inr (omega arith)
+          ];
+      unmarked = λ h e none_set lt.
+          let c = marked_append h.page v.bookmarked w.bookmarked in
+          let d = times_append h.page v.left w.left in
+          elim (cases_lt 0 (marked_for h.page v.bookmarked)) [
+            | inl has ↦ let a = mine.marking.unmarked h e none_set has in omega arith
+            | inr le ↦ let a = given_up h.page (omega arith) in omega arith
+          ];
+    };
   }
 
   spent : SeatFacts k (with_views s views) r.rec nobody
   spent = record {
-    seated = record { about = λ e. absurd (not_alive e); idle = λ _. record { hand = refl; rights = refl; recorded = refl; left = refl; emptied = refl; fetched = refl }; moved = record { left = refl; emptied = refl; fetched = refl } };
+    seated = record { about = λ e. absurd (not_alive e); idle = λ _. record { hand = refl; rights = refl; recorded = refl; left = refl; emptied = refl; fetched = refl; bookmarked = refl } };
     records = record { mine = λ p lt. absurd (omega arith); others = λ p _. refl; in_hand = λ h e. absurd (no_hand h e) };
     saw = record { seen = λ p lt. absurd (omega arith); gone = λ p lt. absurd (omega arith) };
+    marking = no_marking nobody refl refl;
   }
 
   seat_each : (j : ℕ) (u : View) → get_elem? views j ≡ some u → SeatFacts k (with_views s views) r.rec u

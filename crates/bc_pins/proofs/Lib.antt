@@ -34,6 +34,18 @@ pub mod SumLemmas
 pub mod OpenableLemmas
 -- A table may be opened with the words and slots that a space's parts give.
 pub mod MayOpenLemmas
+-- Counters and bookmark bits at the opening and at the closing
+pub mod TallyLemmas
+-- What is bookmarked in a table stays so
+pub mod MarkedLemmas
+-- What a step on a word that is no page's owes
+pub mod SideSteps
+-- Bookmark bits and counters of the page in hand
+pub mod MarkSteps
+-- A seat's slots while a box goes into its store slot
+pub mod GivingLemmas
+-- Making the page in hand Gone or Absent
+pub mod LeaveSteps
 -- Boxes that went into slots, and came back.
 pub mod RestLemmas
 -- A table that is drawn from a space's parts
@@ -44,6 +56,8 @@ pub mod GatherLemmas
 pub mod DrainLemmas
 -- Boxes that come out of slots
 pub mod BoxLemmas
+-- Headers into which states, counters and bookmarks were written.
+pub mod HeaderLemmas
 -- The space that a closed table's words and boxes make.
 pub mod SpaceLemmas
 -- What closing a table gives

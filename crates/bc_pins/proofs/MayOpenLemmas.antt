@@ -1,5 +1,5 @@
 -- A table may be opened with the words and slots that a space's parts give.
-use Rattle.std.proofs.Common.{◌≡◌, ℕ, ◌+◌, ◌-◌, ◌*◌, ◌/◌, ◌%◌, ◌<◌, ◌≤◌, ◌≢◌, Bool, false, List, [], length, map, get_or, slice_index, Option, Some, None, count_by, nat_lt, refl, ap, sym, subst, ◌∙◌, arith}
+use Rattle.std.proofs.Common.{◌≡◌, ℕ, ◌+◌, ◌-◌, ◌*◌, ◌/◌, ◌%◌, ◌<◌, ◌≤◌, ◌≢◌, ◌==◌, Bool, true, false, if◌then◌else◌, List, [], length, map, get_or, slice_index, Option, Some, None, count_by, nat_lt, inl, inr, refl, ap, sym, subst, ◌∙◌, arith}
 use mathlib.Core.Option.{some}
 use lib.ListN.{get_elem?}
 use Rattle.std.proofs.lemmas.List.{length-map}
@@ -10,29 +10,43 @@ use Rattle.bc_superpages.specs.declared.headers.PageState.{PageState}
 use Rattle.bc_superpages.specs.declared.headers.PageState.TheVariants as state
 use Rattle.bc_superpages.specs.declared.spaces.Homed.{Homed}
 use Rattle.bc_superpages.specs.declared.parts.SpaceParts.{SpaceParts}
-use Rattle.bc_superpages.specs.Headers.{unused_header, is_resident}
-use Rattle.bc_superpages.specs.Layout.{Layout, superpages, content_at}
-use Rattle.bc_superpages.specs.LayoutAt.{state_at, header_of}
+use Rattle.bc_superpages.specs.Headers.{unused_header, is_resident, is_gone}
+use Rattle.std.specs.Int.{bit_at}
+use Rattle.std.proofs.lemmas.Bool.{cases_lt, eq-eqb}
+use Rattle.bc_word.specs.Addresses.{superpage_of, page_of, cell_number}
+use Rattle.bc_word.specs.CellAddresses.{cell_address}
+use Rattle.bc_superpages.specs.Calls.{class_at}
+use Rattle.bc_superpages.specs.Paging.{is_bookmarked}
+use Rattle.bc_superpages.proofs.CellLemmas.{cell-bit, is_cell-bit, is_cell-start}
+use Rattle.bc_superpages.proofs.TagLemmas.{taken-few}
+use Rattle.bc_bookmarks.specs.Summarised.{gone_in}
+use Rattle.bc_bookmarks.proofs.SummaryLemmas.{targets-taken}
+use Rattle.bc_superpages.specs.Layout.{Layout, superpages, set_of, content_at}
+use Rattle.bc_superpages.specs.LayoutAt.{state_at, header_of, IsAllocated, IsPromised}
 use Rattle.bc_superpages.specs.Contents.{contents, content_of, uses_frame, LiesIn}
 use Rattle.bc_superpages.specs.Kept.{IsLayout}
 use Rattle.bc_superpages.specs.Parts.{state_in, AreParts, parts_layout}
 use Rattle.bc_superpages.proofs.LayoutLemmas.{header_of-layout}
 use Rattle.bc_superpages.proofs.KeptLemmas.{get_or-contents, IsLayout-kept}
-use Rattle.bc_superpages.proofs.HandLemmas.{state-header}
+use Rattle.bc_superpages.proofs.HandLemmas.{state-header, allocated-page}
 use Rattle.bc_superpages.proofs.BringLemmas.{allocated-not_absent}
 use Rattle.bc_pins.specs.declared.views.Lodged.{Lodged}
 use Rattle.bc_pins.specs.declared.views.Lodged.TheVariants.{Nothing}
-use Rattle.bc_pins.specs.Key.{Key, pages_of}
+use Rattle.bc_pins.specs.Key.{Key, pages_of, bookmark_at}
 use Rattle.bc_pins.specs.Totals.{total, times}
-use Rattle.bc_pins.specs.Views.{state_word, opened_content}
+use Rattle.bc_pins.specs.Views.{state_word, opened_state, opened_word, opened_content}
 use Rattle.bc_pins.specs.Facts.{frame_of, frame_lodged}
 use Rattle.bc_pins.specs.Lodging.{Lodges, home_of, away_of}
-use Rattle.bc_pins.specs.Opening.{IsReady}
-use Rattle.bc_pins.specs.Facts.{Frames, Still}
+use Rattle.bc_pins.specs.Opening.{IsReady, IsOpenable}
+use Rattle.bc_pins.specs.Facts.{Frames, Still, bookmark_bit, opened_bit, cell_bit, HasBookmarkBit, Summary, points, adds_to, Counters, Bits}
 use Rattle.bc_pins.specs.Filling.{IsFilled}
 use Rattle.bc_pins.specs.Opening.{opened, OpensPage, MayOpen}
 use Rattle.bc_pins.proofs.SumLemmas.{sum_same, sum_none, sum_cut, total_sum, count_total, times_count, total_map}
 use Rattle.bc_pins.proofs.PartsLemmas.{content_fixed, slots_lie, slot_there, word_states, word_absent}
+use Rattle.bc_pins.proofs.TallyLemmas.{GoneBy, tally, target_in, set_bit, bit_in, in_bit, bit_few, gone_word}
+
+clash : false ≡ true → ⊥
+clash e = cc
 
 frame_home : (b : Option Homed) (f : ℕ) → frame_of (home_of b) f ≡ one_if (uses_frame f b)
 frame_home None f = refl
@@ -74,7 +88,7 @@ frames_same bs ps first slots n f le past one two =
     omega arith
 
 module _ (k : Key) (whole : SpaceParts) (kept : AreParts whole) (layout : parts_layout whole ≡ k.opening) (pool : whole.pool ≡ k.pool) (nursery : whole.nursery.items ≡ k.nursery) (frames : k.frames ≡ length k.pool)
-    (within : pages_of k ≤ 4 * length whole.headers.items) (behind : (p : ℕ) → pages_of k ≤ p → state_in whole.headers.items p ≡ state.Absent) (ready : IsReady k.opening)
+    (within : pages_of k ≤ 4 * length whole.headers.items) (behind : (p : ℕ) → pages_of k ≤ p → state_in whole.headers.items p ≡ state.Absent) (ready : IsReady k.opening) (openable : IsOpenable k.opening)
     (apart : (r : ℕ) → times r k.roles ≤ 1) (nobody : times 0 k.roles ≡ 0)
     (words : List ℕ) (filled : IsFilled k whole.headers.items words) (first slots : List Lodged)
     (one : Lodges [] first (pages_of k) (λ p. home_of (get_or whole.boxes.items p None))) (two : Lodges first slots (pages_of k) (λ p. away_of (get_or whole.store.places p None))) where
@@ -102,6 +116,95 @@ module _ (k : Key) (whole : SpaceParts) (kept : AreParts whole) (layout : parts_
   not_held : (p : ℕ) → p < pages_of k → state_in whole.headers.items p ≢ state.Held
   not_held p lt = (kept.kept.whole (p / 4) (omega arith)).not_held (p % 4)
 
+  header_is : (q : ℕ) → q < length whole.headers.items → header_of k.opening q ≡ get_or whole.headers.items q unused_header
+  header_is q lt = ap (λ (s : Layout). header_of s q) (sym layout) ∙ header_of-layout whole.headers.items (contents whole.boxes.items whole.store.places) (length whole.pool) (length whole.nursery.items) (free_count whole.pool) whole.store.reads q lt
+
+  -- an allocated cell lies on one of the table's pages
+  cell_near : (a : ℕ) → IsAllocated k.opening a → page_of a < pages_of k
+  cell_near a there = elim (cases_lt (page_of a) (pages_of k)) [
+    | inl near ↦ near
+    | inr far ↦
+        let many = supers_are in
+        let lt = allocated-page k.opening a whole_layout there in
+        let is : state_at k.opening.states (page_of a) ≡ state_in whole.headers.items (page_of a) = ap (λ (s : Layout). state_at s.states (page_of a)) (sym layout) ∙ state-header whole.headers.items (page_of a) (omega arith) in
+        absurd (allocated-not_absent k.opening a whole_layout there (is ∙ behind (page_of a) far))
+  ]
+
+  gone_by : GoneBy k k.opening.pages (gone_in k.opening) (opened_content k) words (4 * superpages k.opening)
+  gone_by = record {
+    few = (let many = supers_are in omega arith);
+    near = λ p lt. gone_word (opened_state k p) ∙ ap (λ (n : ℕ). n == 4) (sym (filled.states p lt ∙ sym (ap state_word (state_is p lt))));
+    behind = λ p le lt.
+        let many = supers_are in
+        ap is_gone (ap (λ (s : Layout). state_at s.states p) (sym layout) ∙ state-header whole.headers.items p (omega arith) ∙ behind p le);
+    contents = λ p lt. refl;
+  }
+
+  bookmark_word : (w : ℕ) → w < 16 * k.supers → slice_index words (bookmark_at k w) ≡ slice_index (set_of k.opening.bookmarks (w / 16)) (w % 16)
+  bookmark_word w lt = filled.bookmarks w lt ∙ sym (ap (λ (h : Header). slice_index h.bookmarks (w % 16)) (header_is (w / 16) (omega arith)))
+
+  no_promise : (a : ℕ) → IsPromised k.opening a → ⊥
+  no_promise a there = clash (sym (openable.promised a) ∙ there)
+
+  -- a bookmarked cell of the space is one of the table's
+  marked_open : (a : ℕ) → is_bookmarked k.opening a ≡ true → IsAllocated k.opening a → HasBookmarkBit k words a
+  marked_open a on there =
+      let page = cell_near a there in
+      let within : superpage_of a < k.supers = omega arith in
+      let n : ℕ = cell_number (class_at k.opening a) a in
+      let few = taken-few k.opening a whole_layout (inl there) in
+      let w : ℕ = 16 * superpage_of a + n / 64 in
+      let at : w / 16 ≡ superpage_of a = omega arith in
+      let place : w % 16 ≡ n / 64 = omega arith in
+      record {
+        within = within;
+        starts = is_cell-start k.opening.classes k.opening.bookmarks a on;
+        bit = ap (λ (x : ℕ). bit_at x (n % 64)) (bookmark_word w (omega arith)
+            ∙ ap (λ (q : ℕ). slice_index (set_of k.opening.bookmarks q) (w % 16)) at ∙ ap (slice_index (set_of k.opening.bookmarks (superpage_of a))) place)
+            ∙ set_bit (set_of k.opening.bookmarks (superpage_of a)) n (is_cell-bit k.opening.classes k.opening.bookmarks a on);
+      }
+
+  gone_open : (p : ℕ) → p < pages_of k → opened_word k p ≡ 4 → Summary k words p (opened_content k p)
+  gone_open p lt e =
+      let many = supers_are in
+      let gone : gone_in k.opening p ≡ true = gone_word (opened_state k p) ∙ eq-eqb (opened_word k p) 4 e in
+      record {
+        there = openable.summarised.there p (omega arith) gone;
+        targets = λ a target.
+            let on = openable.summarised.targets p a (omega arith) gone (sym (target_in k.opening k.opening.pages p a (opened_content k p) refl) ∙ target) in
+            marked_open a on (elim (targets-taken k.opening (gone_in k.opening) p a whole_layout openable.summarised (omega arith) gone (sym (target_in k.opening k.opening.pages p a (opened_content k p) refl) ∙ target)).0 [ inl there ↦ there | inr promised ↦ absurd (no_promise a promised) ]);
+      }
+
+  counters_open : (q : ℕ) → q < k.supers → Counters k (opened k words slots) (opened_content k) q
+  counters_open q lt =
+      let many = supers_are in
+      filled.counters q lt ∙ sym (ap (λ (h : Header). h.incoming) (header_is q (omega arith)))
+      ∙ openable.summarised.incoming q (omega arith) ∙ tally k k.opening.pages (gone_in k.opening) (opened_content k) words (4 * superpages k.opening) gone_by q
+      ∙ sum_same (λ p. if slice_index words p == 4 then points k p (opened_content k p) q else 0) (adds_to k (opened k words slots) (opened_content k) q) (pages_of k) (λ p _. omega arith)
+
+  cell_of_bit : (w b : ℕ) → w < 16 * k.supers → b < 64 → opened_bit k w b ≡ 1 → cell_bit k w b ≡ 1
+  cell_of_bit w b lt few one =
+      let many = supers_are in
+      elim (openable.summarised.bits (w / 16) (64 * (w % 16) + b) (omega arith) (bit_in (set_of k.opening.bookmarks (w / 16)) (w % 16) b few one)) [
+        | inl there ↦ in_bit (set_of k.opening.cells (w / 16)) (w % 16) b few there
+        | inr promised ↦
+            let q : ℕ = w / 16 in
+            let header = whole_layout.each q (omega arith) in
+            let used = header.promised_used (64 * (w % 16) + b) promised in
+            absurd (no_promise (cell_address q (slice_index k.opening.classes q) (64 * (w % 16) + b))
+            (cell-bit k.opening.classes k.opening.promised q (64 * (w % 16) + b) header.class used.1 ∙ promised))
+      ]
+
+  bits_open : (w b : ℕ) → w < 16 * k.supers → b < 64 → Bits k (opened k words slots) w b
+  bits_open w b lt few =
+      let same : bookmark_bit k words w b ≡ opened_bit k w b = ap (λ (x : ℕ). bit_at x b) (bookmark_word w lt) in
+      let small = bit_few (slice_index (set_of k.opening.bookmarks (w / 16)) (w % 16)) b in
+      record {
+        kept = λ on. omega arith;
+        only = λ on. omega arith;
+        cell = λ on. let a = cell_of_bit w b lt few (omega arith) in omega arith;
+      }
+
   opens_page : (p : ℕ) → p < pages_of k → OpensPage k words slots p
   opens_page p lt =
       let st = state_is p lt in
@@ -122,6 +225,7 @@ module _ (k : Key) (whole : SpaceParts) (kept : AreParts whole) (layout : parts_
         lies = rw (ap state_word st, content_is p lt) lies;
         fixed = content_fixed k.opening p whole_layout ready (omega arith);
         young = λ y. ap state_word (ready.young p y);
+        gone = λ e. gone_open p lt e;
         bare = λ z a there on. allocated-not_absent k.opening a whole_layout there (ap (state_at k.opening.states) on ∙ word_absent (state_at k.opening.states p) z);
       }
 
@@ -136,13 +240,8 @@ module _ (k : Key) (whole : SpaceParts) (kept : AreParts whole) (layout : parts_
       let all_same : one_if (nat_lt f (length whole.pool)) ≡ one_if (nat_lt f k.frames) = ap (λ (n : ℕ). one_if (nat_lt f n)) (ap length pool ∙ sym frames) in
       omega arith
 
-  header_is : (q : ℕ) → q < length whole.headers.items → header_of k.opening q ≡ get_or whole.headers.items q unused_header
-  header_is q lt = ap (λ (s : Layout). header_of s q) (sym layout) ∙ header_of-layout whole.headers.items (contents whole.boxes.items whole.store.places) (length whole.pool) (length whole.nursery.items) (free_count whole.pool) whole.store.reads q lt
-
   still_open : Still k (opened k words slots)
   still_open = record {
-    counters = λ q lt. filled.counters q lt ∙ sym (ap (λ (h : Header). h.incoming) (header_is q (omega arith)));
-    bookmarks = λ w lt. filled.bookmarks w lt ∙ sym (ap (λ (h : Header). slice_index h.bookmarks (w % 16)) (header_is (w / 16) (omega arith)));
     marks = λ w turn lt. filled.marks w turn lt ∙ sym (ap (λ (h : Header). slice_index h.marks (w % 16)) (header_is (w / 16) (omega arith)));
     finished = λ w turn lt. filled.finished w turn lt ∙ sym (ap (λ (h : Header). slice_index h.finished (w % 16)) (header_is (w / 16) (omega arith)));
   }
@@ -156,5 +255,7 @@ module _ (k : Key) (whole : SpaceParts) (kept : AreParts whole) (layout : parts_
     apart = apart;
     nobody = nobody;
     frames = frames_open;
+    counters = counters_open;
+    bits = bits_open;
     still = still_open;
   }

@@ -14,7 +14,7 @@ use Rattle.bc_pins.specs.Rule.{SeatFacts, Rule}
 use Rattle.bc_pins.specs.Steps.{fresh}
 use Rattle.bc_pins.specs.Opening.{opened, MayOpen}
 use Rattle.bc_pins.proofs.TotalLemmas.{one_other}
-use Rattle.bc_pins.proofs.SeatLemmas.{no_hand}
+use Rattle.bc_pins.proofs.SeatLemmas.{no_hand, no_marking}
 
 one_view : (v u : View) (j : ℕ) → get_elem? (v ∷ []) j ≡ some u → v ≡ u
 one_view v u zero e = some-injective v u e
@@ -40,7 +40,7 @@ starts k words slots may =
             fixed = page.fixed;
             young = λ y. let a : one_if (word s p == 2) ≡ 1 = ap (λ (n : ℕ). one_if (n == 2)) (page.word ∙ page.young y) in omega arith;
             bare = λ z. page.bare (sym page.word ∙ z);
-            gone = λ _. refl;
+            gone = λ e. page.gone (sym page.word ∙ e);
           };
       standing = λ p lt.
           let page = may.pages p lt in
@@ -49,12 +49,15 @@ starts k words slots may =
           let none_is : one_if (word s p == 0) ≡ one_if (opened_word k p == 0) = ap (λ (n : ℕ). one_if (n == 0)) page.word in
           record { remembered = λ lt. omega arith; recorded = λ lt. omega arith; gone = omega arith; absent = omega arith };
       seats = λ id v at. subst (SeatFacts k s (opened_content k)) (one_view first v id at) record {
-        seated = record { about = λ _. refl; idle = λ _. record { hand = refl; rights = refl; recorded = refl; left = refl; emptied = refl; fetched = refl }; moved = record { left = refl; emptied = refl; fetched = refl } };
+        seated = record { about = λ _. refl; idle = λ _. record { hand = refl; rights = refl; recorded = refl; left = refl; emptied = refl; fetched = refl; bookmarked = refl } };
         records = record { mine = λ p _. refl; others = λ p _. refl; in_hand = λ h e. absurd (no_hand h e) };
         saw = record { seen = λ p lt. absurd (omega arith); gone = λ p lt. absurd (omega arith) };
+        marking = no_marking first refl refl;
       };
       roles = record { each = λ r. omega arith; apart = may.apart; nobody = may.nobody };
       unowned = λ p _. refl;
       frames = may.frames;
+      counters = may.counters;
+      bits = may.bits;
       still = may.still;
     }

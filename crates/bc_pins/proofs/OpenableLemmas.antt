@@ -1,5 +1,5 @@
 -- A space over which a table may be opened is one as the rule uses it, and a closed table gives back such a one.
-use Rattle.std.proofs.Common.{◌≡◌, ℕ, ◌+◌, ◌*◌, ◌/◌, ◌%◌, ◌<◌, ◌≤◌, true, List, length, get_or, slice_index, Some, inl, inr, refl, ap, sym, subst, ◌∙◌, arith}
+use Rattle.std.proofs.Common.{◌≡◌, ℕ, ◌+◌, ◌*◌, ◌/◌, ◌%◌, ◌<◌, ◌≤◌, ◌&&◌, Bool, true, false, List, length, get_or, slice_index, Some, inl, inr, refl, ap, sym, subst, ◌∙◌, arith}
 use Rattle.std.specs.Prelude.{slice_index_or}
 use Rattle.std.proofs.lemmas.Bool.{cases_lt, cases_Bool}
 use Rattle.bc_memory.specs.Memory.{Cell}
@@ -20,13 +20,17 @@ use Rattle.bc_superpages.specs.Kept.{IsLayout}
 use Rattle.bc_superpages.proofs.HandLemmas.{allocated-superpage}
 use Rattle.bc_superpages.proofs.MemoryLemmas.{memory_of-cell, memory_of-none}
 use Rattle.bc_superpages.proofs.BringLemmas.{allocated-not_absent}
-use Rattle.bc_bookmarks.specs.Targets.{RefersTo}
-use Rattle.bc_bookmarks.specs.Summarised.{IsSummarised, gone_in, LeavesSummary}
-use Rattle.bc_bookmarks.proofs.TargetLemmas.{refers-target}
-use Rattle.bc_bookmarks.proofs.SummaryLemmas.{SummarisedOn-left, allocated-by-memory, targets-taken}
+use Rattle.bc_bookmarks.specs.Targets.{RefersTo, has_target_in}
+use Rattle.bc_bookmarks.specs.Summarised.{IsSummarised, gone_in}
+use Rattle.bc_bits.proofs.CountLemmas.{count_below-none}
+use Rattle.bc_bookmarks.proofs.TargetLemmas.{refers-target, in-target}
+use Rattle.bc_bookmarks.proofs.SummaryLemmas.{allocated-by-memory, targets-taken}
 use Rattle.bc_pins.specs.Key.{Key, pages_of}
 use Rattle.bc_pins.specs.Contents.{field_bits, IsFieldOn, NamesFixed, IsYoung, IsContent, RefersYoung}
 use Rattle.bc_pins.specs.Opening.{IsOpenable, IsReady}
+
+clash : false ≡ true → ⊥
+clash e = cc
 
 home_clash : state.Home ≡ state.Remembered → ⊥
 home_clash e = cc
@@ -74,17 +78,15 @@ pub openable_ready : (s : Layout) → IsLayout s → IsOpenable s → IsReady s
 openable_ready s l o = record { closed = o.closed; promised = o.promised; young = λ p y. remembered_young s p l o y (state_at s.states p) refl }
 
 -- a space that a closed table gives back
-module _ (k : Key) (states : List (List PageState)) (pages : List (List ℕ)) (reads : ℕ) (l : IsLayout k.opening) (o : IsOpenable k.opening)
+module _ (k : Key) (states : List (List PageState)) (pages bits : List (List ℕ)) (counters : List ℕ) (reads : ℕ) (l : IsLayout k.opening) (o : IsOpenable k.opening)
     (bare : (p : ℕ) → pages_of k ≤ p → p < 4 * superpages k.opening → state_at k.opening.states p ≡ state.Absent)
     (fixed : (p : ℕ) → p < pages_of k → IsContent k.opening p (content_at pages p))
-    (young : (p : ℕ) → p < pages_of k → RefersYoung k.opening p (content_at pages p) → state_at states p ≡ state.Remembered)
-    (gone_same : (p : ℕ) → p < 4 * superpages k.opening → is_gone (state_at states p) ≡ gone_in k.opening p)
-    (gone_kept : (p : ℕ) → p < 4 * superpages k.opening → gone_in k.opening p ≡ true → content_at pages p ≡ content_at k.opening.pages p) where
+    (young : (p : ℕ) → p < pages_of k → RefersYoung k.opening p (content_at pages p) → state_at states p ≡ state.Remembered) where
   abbrev s : Layout
   s = k.opening
 
   abbrev t : Layout
-  t = record k.opening { states = states; pages = pages; reads = reads }
+  t = record k.opening { states = states; pages = pages; bookmarks = bits; incoming = counters; reads = reads }
 
   inside : (a : ℕ) → IsAllocated s a → page_of a < pages_of k
   inside a there =
@@ -94,22 +96,23 @@ module _ (k : Key) (states : List (List PageState)) (pages : List (List ℕ)) (r
         | inr le ↦ absurd (allocated-not_absent s a l there (bare (page_of a) le (omega arith)))
       ]
 
-  left : LeavesSummary s (gone_in s) t
-  left = record {
-    long = refl;
-    objects = λ x gone. elim (cases_Bool (is_cell s.classes s.cells x)) [
-      | inl on ↦
-          let few = allocated-superpage s x l on in
-          memory_of-cell s.classes s.cells pages x on
-          ∙ ap (λ (c : List ℕ). Some (cell_on c (offset_of x))) (gone_kept (page_of x) (omega arith) gone)
-          ∙ sym (memory_of-cell s.classes s.cells s.pages x on)
-      | inr off ↦ memory_of-none s.classes s.cells pages x off ∙ sym (memory_of-none s.classes s.cells s.pages x off)
-    ];
-    bookmarks = refl;
-    counters = refl;
-    bookmarked = λ a on. on;
-    bits = λ q b lt on. o.summarised.bits q b lt on;
-  }
+  -- no Gone page has a target behind the table's superpages
+  pub opened_none : (q : ℕ) → k.supers ≤ q → q < superpages s → slice_index s.incoming q ≡ 0
+  opened_none q le lt = o.summarised.incoming q lt ∙ count_below-none (λ p. gone_in s p && has_target_in (memory s) p q) (4 * superpages s) (λ p less.
+      elim (cases_Bool (gone_in s p)) [
+        | inl gone ↦ ap (λ (b : Bool). b && has_target_in (memory s) p q) gone ∙ elim (cases_Bool (has_target_in (memory s) p q)) [
+          | inl has_one ↦
+              let target = in-target (memory s) p q has_one in
+              let taken = targets-taken s (gone_in s) p target.address l o.summarised less gone target.target in
+              let lies = target.lies in
+              elim taken.0 [
+                | inl there ↦ let near = inside target.address there in absurd (omega arith)
+                | inr promised ↦ absurd (clash (sym (o.promised target.address) ∙ promised))
+              ]
+          | inr none_has ↦ none_has
+        ]
+        | inr off ↦ ap (λ (b : Bool). b && has_target_in (memory s) p q) off
+      ])
 
   field_in : (p cell index : ℕ) → IsFieldOn t p cell index → IsFieldOn s p cell index
   field_in p cell index f =
@@ -149,9 +152,9 @@ module _ (k : Key) (states : List (List PageState)) (pages : List (List ℕ)) (r
       let same : cell_at pages a ≡ c = cell_is _ _ (sym (memory_of-cell s.classes s.cells pages a there) ∙ found) in
       subst (λ (d : Cell). i < length d.fields → CanName t (slice_index_or d.fields i Nil)) same (field_named a i there) lt
 
-  pub still_openable : IsOpenable t
-  still_openable = record {
-    summarised = SummarisedOn-left s t (gone_in s) (gone_in t) gone_same left o.summarised;
+  pub still_openable : IsSummarised t → IsOpenable t
+  still_openable summarised = record {
+    summarised = summarised;
     closed = closed;
     promised = o.promised;
     home = home;

@@ -1,5 +1,5 @@
 -- What a step on a page word owes, and that the rule then holds after it: the frame lemma of the page words.
-use Rattle.std.proofs.Common.{◌≡◌, ℕ, ◌+◌, ◌<◌, ◌≤◌, ◌≢◌, ◌==◌, ◌⊎◌, List, length, set, Some, inl, inr, ap, sym, subst, ◌∙◌, arith, get_or-set_same, get_or-set_other}
+use Rattle.std.proofs.Common.{◌≡◌, ℕ, ◌+◌, ◌<◌, ◌≤◌, ◌*◌, ◌≢◌, ◌==◌, ◌⊎◌, List, length, set, if◌then◌else◌, Some, inl, inr, ap, sym, subst, ◌∙◌, arith, get_or-set_same, get_or-set_other}
 use mathlib.Core.Option.{some}
 use mathlib.Core.Option as maybe
 use lib.ListN.{get_elem?}
@@ -11,12 +11,15 @@ use Rattle.bc_pins.specs.declared.views.Lodged.{Lodged}
 use Rattle.bc_pins.specs.declared.views.Hand.{Hand}
 use Rattle.bc_pins.specs.declared.views.View.{View}
 use Rattle.bc_pins.specs.Key.{Key, pages_of, owner, counter_at, bookmark_at, mark_at, finished_at}
+use Rattle.std.specs.Int.{bit_at}
 use Rattle.bc_pins.specs.Totals.{total, times}
 use Rattle.bc_pins.specs.Contents.{IsContent, RefersYoung, IsBarePage}
-use Rattle.bc_pins.specs.Views.{grips, grips_remembered, frame_in_hand, has_role, opened_content}
-use Rattle.bc_pins.specs.Facts.{Table, word, Lies, Place, remembered_now, Content, Standing, RecordsContent, Saw, Seated, Roles, frame_lodged, Frames, Still}
+use Rattle.bc_pins.specs.Views.{grips, grips_remembered, frame_in_hand, counted_for, sets_bit, has_role, opened_content}
+use Rattle.bc_pins.specs.Facts.{Table, word, Lies, Place, remembered_now, Summary, Content, Standing, RecordsContent, Saw, Seated, Marking, Roles, frame_lodged, Frames, points, adds_to, Counters, bookmark_bit, Bits, Still}
 use Rattle.bc_pins.specs.Rule.{SeatFacts, Rule}
 use Rattle.bc_pins.proofs.TotalLemmas.{total_set, total_at, total_two, one_few}
+use Rattle.bc_pins.proofs.SumLemmas.{sum_same}
+use Rattle.bc_pins.proofs.MarkedLemmas.{summary_more}
 
 -- the table after a step of seat id on the word of page p
 abbrev pub after : Table → ℕ → ℕ → List (maybe.Option Lodged) → ℕ → View → Table
@@ -40,7 +43,7 @@ pub record PageStep (k : Key) (s : Table) (rec rec' : ℕ → List ℕ) (p x : �
   pub fixed : IsContent k.opening p (rec' p)
   pub young : RefersYoung k.opening p (rec' p) → RefersYoung k.opening p (rec p) ⊎ (0 < one_if (x == 2) + grips_remembered p w.hand)
   pub bare : x ≡ 0 → IsBarePage k.opening p
-  pub left_as_opened : x ≡ 4 → rec' p ≡ opened_content k p
+  pub summarised : x ≡ 4 → Summary k s.words p (rec' p)
   -- remembered
   pub not_fewer : one_if (word s p == 2) + grips_remembered p v.hand ≤ one_if (x == 2) + grips_remembered p w.hand
   pub else_remembered : (q : ℕ) → q ≢ p → grips_remembered q w.hand ≡ grips_remembered q v.hand
@@ -55,7 +58,12 @@ pub record PageStep (k : Key) (s : Table) (rec rec' : ℕ → List ℕ) (p x : �
   pub else_left : (q : ℕ) → q ≢ p → times q w.left ≡ times q v.left
   pub else_emptied : (q : ℕ) → q ≢ p → times q w.emptied ≡ times q v.emptied
   pub stays : word s p ≡ 4 → has_role v (owner k p) ≡ 0 → x ≡ 4
+  -- counters and bits
+  pub count : (q : ℕ) → q < k.supers → (if x == 4 then points k p (rec' p) q else 0) + counted_for p q w.hand ≡ (if word s p == 4 then points k p (rec p) q else 0) + counted_for p q v.hand
+  pub else_count : (r q : ℕ) → r ≢ p → counted_for r q w.hand ≡ counted_for r q v.hand
+  pub bookmarked : w.bookmarked ≡ v.bookmarked
   -- the seat
+  pub marking : Marking w
   pub roles : w.roles ≡ v.roles
   pub seated : Seated k w
   pub records : RecordsContent k rec' w
@@ -103,6 +111,12 @@ module _ (k : Key) (s : Table) (r : Rule k s) (rec' : ℕ → List ℕ) (p x : �
       let b = total_at (λ (u : View). grips_remembered p u.hand) s.views id v at in
       omega arith
 
+  far : (i : ℕ) → pages_of k ≤ i → word t i ≡ word s i
+  far i le = let near = d.near in there i (λ e. omega arith)
+
+  summary_kept : (q : ℕ) (c : List ℕ) → Summary k s.words q c → Summary k t.words q c
+  summary_kept q c = summary_more k s.words t.words q c (λ i b e. ap (λ (n : ℕ). bit_at n b) (far (bookmark_at k i) (omega arith)) ∙ e)
+
   place_there : (q : ℕ) → q ≢ p → q < pages_of k → Place k t rec' q
   place_there q ne lt =
       let old = r.place q lt in
@@ -133,7 +147,7 @@ module _ (k : Key) (s : Table) (r : Rule k s) (rec' : ℕ → List ℕ) (p x : �
         fixed = rw same old.fixed;
         young = λ y. let was = old.young (subst (λ c. RefersYoung k.opening q c) same y) in omega arith;
         bare = λ z. old.bare (sym (there q ne) ∙ z);
-        gone = λ e. same ∙ old.gone (sym (there q ne) ∙ e);
+        gone = λ e. summary_kept q (rec' q) (subst (Summary k s.words q) (sym same) (old.gone (sym (there q ne) ∙ e)));
       }
 
   content_here : p < pages_of k → Content k t rec' p
@@ -141,7 +155,7 @@ module _ (k : Key) (s : Table) (r : Rule k s) (rec' : ℕ → List ℕ) (p x : �
     fixed = d.fixed;
     young = λ y. elim (d.young y) [ inl was ↦ let a = (r.content p lt).young was in let b = grown p in omega arith | inr now ↦ held_by now ];
     bare = λ z. d.bare (sym here ∙ z);
-    gone = λ e. d.left_as_opened (sym here ∙ e);
+    gone = λ e. summary_kept p (rec' p) (d.summarised (sym here ∙ e));
   }
 
   standing_there : (q : ℕ) → q ≢ p → q < pages_of k → Standing k t q
@@ -242,14 +256,15 @@ module _ (k : Key) (s : Table) (r : Rule k s) (rec' : ℕ → List ℕ) (p x : �
           in_hand = λ h has. let was = old.records.in_hand h has in (was.0, was.1 ∙ sym (hand_else j u ne is h has was.0));
         };
         saw = record {
-          seen = λ q lt. let was = old.saw.seen q lt in let more = grown q in omega arith;
+          seen = λ q lt. let was = old.saw.seen q lt in let has = was.1 in let more = grown q in (was.0, omega arith);
           gone = λ q lt. let was = old.saw.gone q lt in (was.0, was.1, word_four u j ne is q was.0 was.1 was.2);
         };
+        marking = old.marking;
       }
 
   seat_each : (j : ℕ) (u : View) → get_elem? t.views j ≡ some u → SeatFacts k t rec' u
   seat_each j u is = elim (at_set s.views id j w u is) [
-    | inl e ↦ subst (SeatFacts k t rec') e.1 (record { seated = d.seated; records = d.records; saw = d.saw })
+    | inl e ↦ subst (SeatFacts k t rec') e.1 (record { seated = d.seated; records = d.records; saw = d.saw; marking = d.marking })
     | inr o ↦ seat_else j u o.0 o.1
   ]
 
@@ -271,8 +286,34 @@ module _ (k : Key) (s : Table) (r : Rule k s) (rec' : ℕ → List ℕ) (p x : �
     | inr other ↦ d.else_rec q other ∙ r.unowned q none_has
   ]
 
-  far : (i : ℕ) → pages_of k ≤ i → word t i ≡ word s i
-  far i le = let near = d.near in there i (λ e. omega arith)
+  counts_same : (q j : ℕ) → q < k.supers → adds_to k t rec' q j ≡ adds_to k s r.rec q j
+  counts_same q j lt = elim (cases_eq j p) [
+    | inl e ↦
+        let a : (if word t p == 4 then points k p (rec' p) q else 0) ≡ (if x == 4 then points k p (rec' p) q else 0) = ap (λ (n : ℕ). if n == 4 then points k p (rec' p) q else 0) here in
+        let b = sum (λ u. counted_for p q u.hand) in
+        let c = d.count q lt in
+        let same : adds_to k t rec' q p ≡ adds_to k s r.rec q p = omega arith in
+        subst (λ (n : ℕ). adds_to k t rec' q n ≡ adds_to k s r.rec q n) (sym e) same
+    | inr ne ↦
+        let a : (if word t j == 4 then points k j (rec' j) q else 0) ≡ (if word s j == 4 then points k j (rec' j) q else 0) = ap (λ (n : ℕ). if n == 4 then points k j (rec' j) q else 0) (there j ne) in
+        let b : (if word s j == 4 then points k j (rec' j) q else 0) ≡ (if word s j == 4 then points k j (r.rec j) q else 0) = ap (λ (c : List ℕ). if word s j == 4 then points k j c q else 0) (d.else_rec j ne) in
+        let c = same_sum (λ u. counted_for j q u.hand) (d.else_count j q ne) in
+        omega arith
+  ]
+
+  counters_kept : (q : ℕ) → q < k.supers → Counters k t rec' q
+  counters_kept q lt = far (counter_at k q) (omega arith) ∙ r.counters q lt ∙ sym (sum_same (adds_to k t rec' q) (adds_to k s r.rec q) (pages_of k) (λ j _. counts_same q j lt))
+
+  bits_kept : (i b : ℕ) → i < 16 * k.supers → b < 64 → Bits k t i b
+  bits_kept i b lt few =
+      let old = r.bits i b lt few in
+      let bit : bookmark_bit k t.words i b ≡ bookmark_bit k s.words i b = ap (λ (n : ℕ). bit_at n b) (far (bookmark_at k i) (omega arith)) in
+      let ever = same_sum (λ u. sets_bit i b u.bookmarked) (ap (sets_bit i b) d.bookmarked) in
+      record {
+        kept = λ lt. bit ∙ old.kept (omega arith);
+        only = λ lt. let a = old.only (omega arith) in omega arith;
+        cell = λ lt. old.cell (omega arith);
+      }
 
   frame_kept : (f : ℕ) → Frames k t f
   frame_kept f =
@@ -283,8 +324,6 @@ module _ (k : Key) (s : Table) (r : Rule k s) (rec' : ℕ → List ℕ) (p x : �
 
   still_kept : Still k t
   still_kept = record {
-    counters = λ q lt. far (counter_at k q) (omega arith) ∙ r.still.counters q lt;
-    bookmarks = λ i lt. far (bookmark_at k i) (omega arith) ∙ r.still.bookmarks i lt;
     marks = λ i turn lt. far (mark_at k i) (omega arith) ∙ r.still.marks i turn lt;
     finished = λ i turn lt. far (finished_at k i) (omega arith) ∙ r.still.finished i turn lt;
   }
@@ -302,5 +341,7 @@ module _ (k : Key) (s : Table) (r : Rule k s) (rec' : ℕ → List ℕ) (p x : �
     roles = roles_kept;
     unowned = unowned_kept;
     frames = frame_kept;
+    counters = counters_kept;
+    bits = bits_kept;
     still = still_kept;
   }

@@ -63,7 +63,7 @@ module _ (k : Key) (s : Table) (p x : ℕ) (homes : List (maybe.Option Lodged)) 
   -- a seat that read nothing more
   pub saw_kept : w.seen ≡ v.seen → w.gone ≡ v.gone → w.roles ≡ v.roles → (word s p ≡ 4 → x ≡ 4) → Saw k s v → Saw k t w
   saw_kept seen gone roles stays old = record {
-    seen = λ q lt. let was = old.seen q (subst (λ l. 0 < times q l) seen lt) in let more = now_grows q in omega arith;
+    seen = λ q lt. let was = old.seen q (subst (λ l. 0 < times q l) seen lt) in let has = was.1 in let more = now_grows q in (was.0, omega arith);
     gone = λ q lt.
         let was = old.gone q (subst (λ l. 0 < times q l) gone lt) in (
           was.0,
@@ -100,7 +100,7 @@ reads k s r p id v near at =
       word = lies_few _ _ _ _ place.lies;
       seen = λ lt ne. elim (cases_eq (word s p) 3) [
         | inl e ↦ e
-        | inr other ↦ absurd (ne (remembered_word k s r p near other (facts.seen p lt)))
+        | inr other ↦ absurd (ne (remembered_word k s r p near other (facts.seen p lt).1))
       ];
       gone = λ lt. (facts.gone p lt).2;
     }
@@ -131,10 +131,10 @@ looked_saw k s p id v at long near about old =
     λ q. elim (cases_eq q p) [ inl e ↦ ap (word (after s p (word s p) s.homes id w)) e ∙ get_or-set_same s.words p (word s p) 0 long ∙ ap (word s) (sym e) | inr ne ↦ get_or-set_other s.words p q (word s p) 0 ne ] in
     record {
       seen = λ q lt. elim (seen_more (word s p) q p v.seen lt) [
-        | inl was ↦ let a = old.seen q was in let b = grows q in omega arith
+        | inl was ↦ let a = old.seen q was in let c = a.1 in let b = grows q in (a.0, omega arith)
         | inr new ↦
             let a : one_if (word (after s p (word s p) s.homes id w) q == 2) ≡ 1 = ap (λ (n : ℕ). one_if (n == 2)) (same q ∙ ap (word s) new.0 ∙ new.1) in
-            omega arith
+            (subst (λ (n : ℕ). n < pages_of k) (sym new.0) near, omega arith)
       ];
       gone = λ q lt. elim (gone_more ((word s p == 4) && owns v p) q p v.gone lt) [
         | inl was ↦ let a = old.gone q was in (a.0, a.1, same q ∙ a.2)
@@ -170,7 +170,7 @@ look_step k s r p id v at near about =
       fixed = content.fixed;
       young = λ y. inl y;
       bare = content.bare;
-      left_as_opened = content.gone;
+      summarised = content.gone;
       not_fewer = omega arith;
       else_remembered = λ q ne. refl;
       put_back = omega arith;
@@ -183,11 +183,14 @@ look_step k s r p id v at near about =
       else_left = λ q ne. refl;
       else_emptied = λ q ne. refl;
       stays = λ e _. e;
+      count = λ q lt. refl;
+      else_count = λ j q ne. refl;
+      bookmarked = refl;
+      marking = record { once = facts.marking.once; whose = facts.marking.whose; unmarked = facts.marking.unmarked };
       roles = refl;
       seated = record {
         about = facts.seated.about;
-        idle = λ e. let a = facts.seated.idle e in record { hand = a.hand; rights = a.rights; recorded = a.recorded; left = a.left; emptied = a.emptied; fetched = a.fetched };
-        moved = let a = facts.seated.moved in record { left = a.left; emptied = a.emptied; fetched = a.fetched };
+        idle = λ e. let a = facts.seated.idle e in record { hand = a.hand; rights = a.rights; recorded = a.recorded; left = a.left; emptied = a.emptied; fetched = a.fetched; bookmarked = a.bookmarked };
       };
       records = record { mine = facts.records.mine; others = facts.records.others; in_hand = facts.records.in_hand };
       saw = looked_saw k s p id v at wide near about facts.saw;

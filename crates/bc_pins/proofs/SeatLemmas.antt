@@ -1,18 +1,19 @@
 -- Only views change: no word and no slot does, and what the views have together stays. So a seat is split off.
-use Rattle.std.proofs.Common.{◌≡◌, ℕ, ◌+◌, List, [], ◌∷◌, ◌++◌, take, drop, set, Some, None, inl, inr, refl, ap, sym, subst, ◌∙◌, arith}
+use Rattle.std.proofs.Common.{◌≡◌, ℕ, ◌+◌, ◌<◌, List, [], ◌∷◌, ◌++◌, take, drop, set, Some, None, inl, inr, refl, ap, sym, subst, ◌∙◌, arith}
 use mathlib.Core.Option.{some}
 use lib.ListN.{get_elem?}
 use Rattle.atomic_table.specs.Table.{Splits}
 use Rattle.atomic_table.proofs.Lists.{at_set, at_snoc}
 use Rattle.bc_pins.specs.declared.views.Hand.{Hand}
 use Rattle.bc_pins.specs.declared.views.View.{View}
-use Rattle.bc_pins.specs.Key.{Key, owner}
+use Rattle.bc_pins.specs.Key.{Key, pages_of, owner}
 use Rattle.bc_pins.specs.Totals.{total, times}
-use Rattle.bc_pins.specs.Views.{grips, grips_remembered, frame_in_hand, entries, look_up, opened_content}
-use Rattle.bc_pins.specs.Facts.{IsIdle, Table, remembered_now}
+use Rattle.bc_pins.specs.Views.{grips, grips_remembered, frame_in_hand, counted_for, sets_bit, marked_for, entries, look_up, opened_content}
+use Rattle.bc_pins.specs.Facts.{IsIdle, Table, remembered_now, adds_to, Marking}
 use Rattle.bc_pins.specs.Rule.{SeatFacts, Rule}
 use Rattle.bc_pins.specs.Steps.{dealer, dealt}
 use Rattle.bc_pins.proofs.TotalLemmas.{total_set, total_append}
+use Rattle.bc_pins.proofs.SumLemmas.{sum_same}
 
 -- the table with other views
 abbrev pub with_views : Table → List View → Table
@@ -27,6 +28,8 @@ pub record SameSums (old new : List View) : Type 0 where
   pub left : (p : ℕ) → total (λ (v : View). times p v.left) new ≡ total (λ (v : View). times p v.left) old
   pub emptied : (p : ℕ) → total (λ (v : View). times p v.emptied) new ≡ total (λ (v : View). times p v.emptied) old
   pub roles : (r : ℕ) → total (λ (v : View). times r v.roles) new ≡ total (λ (v : View). times r v.roles) old
+  pub count : (p q : ℕ) → total (λ (v : View). counted_for p q v.hand) new ≡ total (λ (v : View). counted_for p q v.hand) old
+  pub sets : (w b : ℕ) → total (λ (v : View). sets_bit w b v.bookmarked) new ≡ total (λ (v : View). sets_bit w b v.bookmarked) old
   pub frame : (f : ℕ) → total (λ (v : View). frame_in_hand f v.hand + times f v.rights) new ≡ total (λ (v : View). frame_in_hand f v.hand + times f v.rights) old
 
 pub now_same : (s : Table) (views : List View) → SameSums s.views views → (p : ℕ) → remembered_now (with_views s views) p ≡ remembered_now s p
@@ -63,7 +66,12 @@ views_step k s r views sums each = record {
   roles = record { each = λ n. sums.roles n ∙ r.roles.each n; apart = r.roles.apart; nobody = r.roles.nobody };
   unowned = r.unowned;
   frames = λ f. let old = r.frames f in let a = sums.frame f in omega arith;
-  still = record { counters = r.still.counters; bookmarks = r.still.bookmarks; marks = r.still.marks; finished = r.still.finished };
+  counters = λ q lt. r.counters q lt ∙ sym (sum_same (adds_to k (with_views s views) r.rec q) (adds_to k s r.rec q) (pages_of k) (λ j _. let a = sums.count j q in omega arith));
+  bits = λ w b lt few.
+      let old = r.bits w b lt few in
+      let a = sums.sets w b in
+      record { kept = λ lt. old.kept (omega arith); only = λ lt. let c = old.only lt in omega arith; cell = old.cell };
+  still = record { marks = r.still.marks; finished = r.still.finished };
 }
 
 -- a seat that doesn't take part
@@ -72,13 +80,22 @@ seat_kept k s rec views sums u old = record {
   seated = old.seated;
   records = old.records;
   saw = record {
-    seen = λ p lt. let a = old.saw.seen p lt in let now = now_same s views sums p in omega arith;
+    seen = λ p lt. let a = old.saw.seen p lt in let b = a.1 in let now = now_same s views sums p in (a.0, omega arith);
     gone = old.saw.gone;
   };
+  marking = old.marking;
 }
 
 pub no_hand : (z : Hand) → None ≡ Some z → ⊥
 no_hand z e = cc
+
+-- a view that has nothing in hand and bookmarked nothing
+pub no_marking : (v : View) → v.hand ≡ None → v.bookmarked ≡ [] → Marking v
+no_marking v nothing none_set = record {
+  once = λ h e. absurd (no_hand h (sym nothing ∙ e));
+  whose = λ p lt. let z : marked_for p v.bookmarked ≡ 0 = ap (marked_for p) none_set in absurd (omega arith);
+  unmarked = λ h e. absurd (no_hand h (sym nothing ∙ e));
+}
 
 -- roles cut in two
 pub cut_times : (r : ℕ) (l : List ℕ) → times r (drop 1 l) + times r (take 1 l) ≡ times r l
@@ -108,35 +125,39 @@ module _ (k : Key) (s : Table) (r : Rule k s) (id : ℕ) (v : View) (at : get_el
     left = λ p. split_sum (λ u. times p u.left) s.views id v (dealer v) (dealt v) at (omega arith);
     emptied = λ p. split_sum (λ u. times p u.emptied) s.views id v (dealer v) (dealt v) at (omega arith);
     roles = λ p. split_sum (λ u. times p u.roles) s.views id v (dealer v) (dealt v) at (cut_times p v.roles);
+    count = λ p q. split_sum (λ u. counted_for p q u.hand) s.views id v (dealer v) (dealt v) at (omega arith);
+    sets = λ w b. split_sum (λ u. sets_bit w b u.bookmarked) s.views id v (dealer v) (dealt v) at (omega arith);
     frame = λ p. split_sum (λ u. frame_in_hand p u.hand + times p u.rights) s.views id v (dealer v) (dealt v) at (omega arith);
   }
 
   idle_rest : IsIdle (dealer v)
-  idle_rest = record { hand = unused.hand; rights = unused.rights; recorded = unused.recorded; left = unused.left; emptied = unused.emptied; fetched = unused.fetched }
+  idle_rest = record { hand = unused.hand; rights = unused.rights; recorded = unused.recorded; left = unused.left; emptied = unused.emptied; fetched = unused.fetched; bookmarked = unused.bookmarked }
 
   keeps_rest : SeatFacts k (with_views s views) r.rec (dealer v)
   keeps_rest = record {
-    seated = record { about = facts.seated.about; idle = λ _. idle_rest; moved = record { left = unused.left; emptied = unused.emptied; fetched = unused.fetched } };
+    seated = record { about = facts.seated.about; idle = λ _. idle_rest };
     records = record {
       mine = λ p lt. let c = cut_times (owner k p) v.roles in facts.records.mine p (omega arith);
       others = λ p _. ap (entries p) no_change;
       in_hand = λ h e. absurd (no_hand h (sym unused.hand ∙ e));
     };
     saw = record {
-      seen = λ p lt. let a = facts.saw.seen p lt in let now = now_same s views sums p in omega arith;
+      seen = λ p lt. let a = facts.saw.seen p lt in let b = a.1 in let now = now_same s views sums p in (a.0, omega arith);
       gone = λ p lt. let z : times p v.gone ≡ 0 = ap (times p) no_gone in absurd (omega arith);
     };
+    marking = record { once = facts.marking.once; whose = facts.marking.whose; unmarked = facts.marking.unmarked };
   }
 
   has_first : SeatFacts k (with_views s views) r.rec (dealt v)
   has_first = record {
-    seated = record { about = facts.seated.about; idle = λ _. record { hand = refl; rights = refl; recorded = refl; left = refl; emptied = refl; fetched = refl }; moved = record { left = refl; emptied = refl; fetched = refl } };
+    seated = record { about = facts.seated.about; idle = λ _. record { hand = refl; rights = refl; recorded = refl; left = refl; emptied = refl; fetched = refl; bookmarked = refl } };
     records = record {
       mine = λ p lt. let c = cut_times (owner k p) v.roles in facts.records.mine p (omega arith) ∙ ap (λ (l : List (ℕ × List ℕ)). look_up p l (opened_content v.about p)) no_change;
       others = λ p _. refl;
       in_hand = λ h e. absurd (no_hand h e);
     };
     saw = record { seen = λ p lt. absurd (omega arith); gone = λ p lt. absurd (omega arith) };
+    marking = no_marking (dealt v) refl refl;
   }
 
   seat_each : (j : ℕ) (u : View) → get_elem? views j ≡ some u → SeatFacts k (with_views s views) r.rec u

@@ -1,5 +1,5 @@
 -- The space that a closed table's words and boxes make.
-use Rattle.std.proofs.Common.{◌≡◌, ℕ, ◌+◌, ◌*◌, ◌/◌, ◌%◌, ◌<◌, ◌≤◌, ◌==◌, Bool, true, false, List, [], ◌∷◌, length, map, get_or, slice_index, Option, None, count_by, nat_lt, inl, inr, refl, ap, sym, subst, ◌∙◌, arith}
+use Rattle.std.proofs.Common.{◌≡◌, ℕ, ◌+◌, ◌*◌, ◌/◌, ◌%◌, ◌<◌, ◌≤◌, ◌==◌, if◌then◌else◌, Bool, true, false, List, [], ◌∷◌, length, map, get_or, slice_index, Option, None, count_by, nat_lt, inl, inr, refl, ap, sym, subst, ◌∙◌, arith}
 use Prim.Native.Nat.{suc}
 use mathlib.Core.Option.{some}
 use Rattle.std.proofs.lemmas.Bool.{cases_lt, cases_Bool, ltb-true}
@@ -36,7 +36,9 @@ use Rattle.bc_frames.specs.Pool.{free_count}
 use Rattle.bc_word.specs.CellAddresses.{cell_address}
 use Rattle.bc_word.proofs.AddressLemmas.{page_of-cell_address, cell_page-within}
 use Rattle.bc_superpages.specs.LayoutAt.{layout_of}
-use Rattle.bc_superpages.specs.Kept.{IsObject, IsSuperpage}
+use Rattle.bc_superpages.specs.Kept.{IsObject, IsCellSet, IsSuperpage}
+use Rattle.bc_pins.specs.Totals.{sum_to}
+use Rattle.bc_pins.specs.Facts.{points}
 use Rattle.bc_superpages.specs.Parts.{EndsAt}
 use Rattle.bc_superpages.proofs.CellLemmas.{cell-bit}
 use Rattle.bc_superpages.proofs.KeptLemmas.{length-contents}
@@ -48,9 +50,10 @@ use Rattle.bc_pins.specs.declared.views.View.{View}
 use Rattle.bc_pins.specs.Views.{frame_in_hand, record_of}
 use Rattle.bc_pins.specs.Lodging.{Replaced, box_of, place_of}
 use Rattle.bc_pins.specs.Opening.{HasClosed, IsRest}
-use Rattle.bc_pins.specs.Closing.{StatesSet}
+use Rattle.bc_pins.specs.Closing.{HeadersSet}
 use Rattle.bc_pins.proofs.TotalLemmas.{one_is}
-use Rattle.bc_pins.proofs.SumLemmas.{times_count}
+use Rattle.bc_pins.proofs.SumLemmas.{times_count, sum_few}
+use Rattle.bc_pins.proofs.TotalLemmas.{one_few}
 use Rattle.bc_pins.proofs.BoxLemmas.{BoxLies, box_lies, no_frame, frames_back, boxes_same}
 use Rattle.bc_pins.proofs.PartsLemmas.{slot_there, word_absent}
 use Rattle.bc_pins.proofs.MayOpenLemmas.{no_box}
@@ -60,6 +63,10 @@ ge-nat_lt f m le = elim (cases_Bool (nat_lt f m)) [
   | inl on ↦ let a : f < m = ltb-true f m on in absurd (omega arith)
   | inr off ↦ off
 ]
+
+point_few : (b c : Bool) → (if b then one_if c else 0) ≤ 1
+point_few true c = one_few c
+point_few false c = omega arith
 
 absent_held : Absent ≡ Held → ⊥
 absent_held e = cc
@@ -76,7 +83,7 @@ part_same g (h ∷ hs) (k ∷ ks) size each = both_same (g k) (g h) (map g ks) (
 
 module _ (k : Key) (whole parts : SpaceParts) (rest : IsRest whole parts (pages_of k)) (layout : parts_layout whole ≡ k.opening) (pool : whole.pool ≡ k.pool) (nursery : whole.nursery.items ≡ k.nursery) (frames : k.frames ≡ length k.pool)
     (v : View) (nothing : v.hand ≡ None) (no_right : v.rights ≡ []) (words : List ℕ) (slots : List Lodged) (closed : HasClosed k v words slots)
-    (headers : List Header) (set_states : StatesSet whole.headers.items headers (pages_of k) words)
+    (headers : List Header) (set_states : HeadersSet k whole.headers.items headers words)
     (boxes : List (Option Homed)) (box : Replaced None parts.boxes.items boxes (pages_of k) (λ p. box_of (get_or slots p Nothing)))
     (places : List (Option (List ℕ))) (place : Replaced None parts.store.places places (pages_of k) (λ p. place_of (get_or slots (pages_of k + p) Nothing))) where
   abbrev n : ℕ
@@ -180,7 +187,8 @@ module _ (k : Key) (whole parts : SpaceParts) (rest : IsRest whole parts (pages_
       let all = kept.account.all in
       record { each = account_each; all = omega arith }
 
-  header_is : (q : ℕ) → get_or headers q unused_header ≡ record (get_or whole.headers.items q unused_header) { pages = (get_or headers q unused_header).pages }
+  header_is : (q : ℕ) → get_or headers q unused_header
+      ≡ record (get_or whole.headers.items q unused_header) { pages = (get_or headers q unused_header).pages; bookmarks = (get_or headers q unused_header).bookmarks; incoming = (get_or headers q unused_header).incoming }
   header_is = set_states.else_same
 
   opening_header : (q : ℕ) → q < length whole.headers.items → header_of k.opening q ≡ get_or whole.headers.items q unused_header
@@ -256,7 +264,23 @@ module _ (k : Key) (whole parts : SpaceParts) (rest : IsRest whole parts (pages_
         domain = old.domain;
         sets_long = old.sets_long;
         sets_fit = old.sets_fit;
-        tags = record { marks = old.tags.marks; finished = old.tags.finished; bookmarks = old.tags.bookmarks; incoming = rw same_contents old.tags.incoming };
+        tags = record {
+          marks = old.tags.marks;
+          finished = old.tags.finished;
+          bookmarks = elim (cases_lt q k.supers) [
+            | inl here ↦ set_states.sets q here
+            | inr past ↦ subst IsCellSet (sym (set_states.behind q past).0) old.tags.bookmarks
+          ];
+          incoming = elim (cases_lt q k.supers) [
+            | inl here ↦
+                let count = set_states.counters q here ∙ closed.counters q here in
+                let few = sum_few (λ p. if get_or words p 0 == 4 then points k p (record_of v p) q else 0) (pages_of k) (λ p. point_few (get_or words p 0 == 4) _) in
+                let all = length-contents boxes places (let a = boxes_long in let b = places_long in omega arith) in
+                let room = inside in
+                omega arith
+            | inr past ↦ let same = (set_states.behind q past).1 in let few = old.tags.incoming in omega arith
+          ];
+        };
         states_long = set_states.states_long q ∙ old.states_long;
         cells_used = old.cells_used;
         promised_used = old.promised_used;
@@ -309,7 +333,7 @@ module _ (k : Key) (whole parts : SpaceParts) (rest : IsRest whole parts (pages_
 
   -- but for states, contents and reads the space is as it was opened
   pub closed_layout : (reads : ℕ) → layout_of headers (contents boxes places) (length whole.pool) (length whole.nursery.items) (free_count whole.pool) reads
-      ≡ record k.opening { states = map (λ (h : Header). h.pages) headers; pages = contents boxes places; reads = reads }
+      ≡ record k.opening { states = map (λ (h : Header). h.pages) headers; pages = contents boxes places; bookmarks = map (λ (h : Header). h.bookmarks) headers; incoming = map (λ (h : Header). h.incoming) headers; reads = reads }
   closed_layout reads =
       let size = set_states.long in
       let hs : List Header = whole.headers.items in
@@ -321,7 +345,5 @@ module _ (k : Key) (whole parts : SpaceParts) (rest : IsRest whole parts (pages_
         part_same (λ (h : Header). h.promised) hs headers size (λ q. ap (λ (h : Header). h.promised) (header_is q)),
         part_same (λ (h : Header). h.marks) hs headers size (λ q. ap (λ (h : Header). h.marks) (header_is q)),
         part_same (λ (h : Header). h.finished) hs headers size (λ q. ap (λ (h : Header). h.finished) (header_is q)),
-        part_same (λ (h : Header). h.bookmarks) hs headers size (λ q. ap (λ (h : Header). h.bookmarks) (header_is q)),
-        part_same (λ (h : Header). h.incoming) hs headers size (λ q. ap (λ (h : Header). h.incoming) (header_is q)),
       )
-      (ap (λ (s : Layout). record s { states = map (λ (h : Header). h.pages) headers; pages = contents boxes places; reads = reads }) layout)
+      (ap (λ (s : Layout). record s { states = map (λ (h : Header). h.pages) headers; pages = contents boxes places; bookmarks = map (λ (h : Header). h.bookmarks) headers; incoming = map (λ (h : Header). h.incoming) headers; reads = reads }) layout)

@@ -1,13 +1,10 @@
 -- Sums over places: of lists, and of numbers below a bound.
-use Rattle.std.proofs.Common.{◌≡◌, ℕ, ◌+◌, ◌<◌, ◌==◌, Bool, List, [], ◌∷◌, length, map, get_or, count_by, refl, ap, sym, ◌∙◌, arith}
+use Rattle.std.proofs.Common.{◌≡◌, ℕ, ◌+◌, ◌<◌, ◌≤◌, ◌≢◌, ◌==◌, Bool, List, [], ◌∷◌, length, map, get_or, count_by, inl, inr, refl, ap, sym, ◌∙◌, arith}
 use Prim.Native.Nat.{zero, suc}
+use Rattle.std.proofs.lemmas.Bool.{cases_eq}
 use Rattle.bc_bits.specs.Counting.{one_if, count_below}
 use Rattle.bc_superpages.proofs.AccountLemmas.{count_by-places}
-use Rattle.bc_pins.specs.Totals.{total, times}
-
-abbrev pub sum_to : (ℕ → ℕ) → ℕ → ℕ
-sum_to g zero = 0
-sum_to g (suc n) = sum_to g n + g n
+use Rattle.bc_pins.specs.Totals.{total, times, sum_to}
 
 pub sum_front : (g : ℕ → ℕ) (n : ℕ) → sum_to g (suc n) ≡ g 0 + sum_to (λ i. g (suc i)) n
 sum_front g zero = omega arith
@@ -20,6 +17,28 @@ sum_same g h (suc n) each = let a = sum_same g h n (λ i lt. each i (omega arith
 pub sum_none : (g : ℕ → ℕ) (n : ℕ) → ((i : ℕ) → i < n → g i ≡ 0) → sum_to g n ≡ 0
 sum_none g zero each = refl
 sum_none g (suc n) each = let a = sum_none g n (λ i lt. each i (omega arith)) in let b = each n (omega arith) in omega arith
+
+pub sum_few : (g : ℕ → ℕ) (n : ℕ) → ((i : ℕ) → g i ≤ 1) → sum_to g n ≤ n
+sum_few g zero each = omega arith
+sum_few g (suc n) each = let a = sum_few g n each in let b = each n in omega arith
+
+pub sum_few_below : (g : ℕ → ℕ) (n : ℕ) → ((i : ℕ) → i < n → g i ≤ 1) → sum_to g n ≤ n
+sum_few_below g zero each = omega arith
+sum_few_below g (suc n) each = let a = sum_few_below g n (λ i lt. each i (omega arith)) in let b = each n (omega arith) in omega arith
+
+pub sum_one : (g h : ℕ → ℕ) (n p : ℕ) → p < n → ((i : ℕ) → i < n → i ≢ p → g i ≡ h i) → sum_to g n + h p ≡ sum_to h n + g p
+sum_one g h zero p lt each = absurd (omega arith)
+sum_one g h (suc n) p lt each = elim (cases_eq p n) [
+  | inl e ↦
+      let a = sum_same g h n (λ i less. each i (omega arith) (λ z. omega arith)) in
+      let b : g p ≡ g n = ap g e in
+      let c : h p ≡ h n = ap h e in
+      omega arith
+  | inr ne ↦
+      let a = sum_one g h n p (omega arith) (λ i less. each i (omega arith)) in
+      let b = each n (omega arith) (λ z. ne (sym z)) in
+      omega arith
+]
 
 pub sum_cut : (g : ℕ → ℕ) (m n k : ℕ) → k ≡ m + n → sum_to g k ≡ sum_to g m + sum_to (λ i. g (m + i)) n
 sum_cut g m zero k e = ap (sum_to g) e ∙ (let z : m + 0 ≡ m = omega arith in ap (sum_to g) z ∙ omega arith)

@@ -4,7 +4,7 @@ use mathlib.Core.Option.{some}
 use mathlib.Core.Option as maybe
 use lib.ListN.{get_elem?}
 use prog.Atomic.{either}
-use Rattle.std.proofs.lemmas.Bool.{cases_eq, eq-eqb}
+use Rattle.std.proofs.lemmas.Bool.{cases_eq, eq-eqb, ne_eqb}
 use Rattle.std.proofs.lemmas.List.{length-set}
 use Rattle.atomic_table.specs.Table.{Act, Allows, Valid, stepped, carried_after, step, keeps, takes, chain}
 use Rattle.atomic_table.proofs.Lists.{set_here, set_else, exchanged}
@@ -17,8 +17,8 @@ use Rattle.bc_pins.specs.declared.views.View.{View}
 use Rattle.bc_pins.specs.Key.{Key, pages_of, owner}
 use Rattle.bc_pins.specs.Totals.{total, times}
 use Rattle.bc_pins.specs.Contents.{IsContent, RefersYoung}
-use Rattle.bc_pins.specs.Views.{grips, grips_remembered, frame_in_hand, has_role, opened_word}
-use Rattle.bc_pins.specs.Facts.{Table, word, slot, IsHomed, Lies, remembered_now, RecordsContent, Seated, frame_lodged}
+use Rattle.bc_pins.specs.Views.{grips, grips_remembered, frame_in_hand, counted_for, marked_for, has_role, opened_word}
+use Rattle.bc_pins.specs.Facts.{Table, word, slot, IsHomed, Lies, remembered_now, RecordsContent, Seated, Marking, frame_lodged, points}
 use Rattle.bc_pins.specs.Rule.{Rule}
 use Rattle.bc_pins.specs.Steps.{Mine, both_slots, gripping, having_read, Takes, Took}
 use Rattle.bc_pins.proofs.TotalLemmas.{total_set, total_at, one_same, one_other}
@@ -41,6 +41,10 @@ homed_lies n a b c lo hi l = elim (cases_eq n 1) [
   | inl one ↦ subst (λ (j : ℕ). Lies j a b c) one l
   | inr ne ↦ let two : n ≡ 2 = omega arith in subst (λ (j : ℕ). Lies j a b c) two l
 ]
+
+pub none_either : (b : Bool) (n : ℕ) → n ≡ 0 → (if b then n else 0) ≡ 0
+none_either true n e = e
+none_either false n e = refl
 
 pub some_hand : (g h : Hand) → Some g ≡ Some h → g ≡ h
 some_hand g h e = cc
@@ -113,7 +117,28 @@ module _ (k : Key) (s : Table) (r : Rule k s) (p id old role : ℕ) (v : View) (
       record {
         about = old_facts.about;
         idle = λ e. let z : has_role v role ≡ 0 = ap (times role) e in absurd (omega arith);
-        moved = record { left = old_facts.moved.left; emptied = old_facts.moved.emptied; fetched = old_facts.moved.fetched };
+      }
+
+  no_count : (j q : ℕ) → counted_for j q v.hand ≡ 0
+  no_count j q = ap (counted_for j q) nothing
+
+  hand_counts : (j q : ℕ) → counted_for j q w.hand ≡ 0
+  hand_counts j q = none_either (p == j) (times q []) refl
+
+  not_gone : (n : ℕ) → (if word s p == 4 then n else 0) ≡ 0
+  not_gone n = ap (λ (b : Bool). if b then n else 0) (ne_eqb (word s p) 4 not_four)
+
+  marking_kept : Marking w
+  marking_kept =
+      let old_marks = (r.seats id v at).marking in
+      let given_up : (j : ℕ) → 0 < marked_for j v.bookmarked → 0 < times j v.left = λ j lt. elim (old_marks.whose j lt) [
+        | inl held ↦ let none_held = no_grip j in absurd (omega arith)
+        | inr gone ↦ gone
+      ] in
+      record {
+        once = λ g e q. subst (λ (x : Hand). times q x.counted ≤ 1) (some_hand _ g e) (omega arith);
+        whose = λ j lt. inr (given_up j lt);
+        unmarked = λ g e _ lt. given_up g.page lt;
       }
 
   hit_step : PageStep k s r.rec r.rec p 3 homes id v w
@@ -145,7 +170,7 @@ module _ (k : Key) (s : Table) (r : Rule k s) (p id old role : ℕ) (v : View) (
         fixed = (r.content p near).fixed;
         young = λ y. inl y;
         bare = λ z. absurd (omega arith);
-        left_as_opened = λ e. absurd (omega arith);
+        summarised = λ e. absurd (omega arith);
         not_fewer = fewer;
         else_remembered = else_flag;
         put_back = omega arith;
@@ -158,6 +183,10 @@ module _ (k : Key) (s : Table) (r : Rule k s) (p id old role : ℕ) (v : View) (
         else_left = λ q ne. refl;
         else_emptied = λ q ne. refl;
         stays = λ x _. absurd (not_four x);
+        count = λ q lt. let a = no_count p q in let b = hand_counts p q in let c = not_gone (points k p (r.rec p) q) in omega arith;
+        else_count = λ j q ne. hand_counts j q ∙ sym (no_count j q);
+        bookmarked = refl;
+        marking = marking_kept;
         roles = refl;
         seated = seated_kept;
         records = records_kept;

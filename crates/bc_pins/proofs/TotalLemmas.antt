@@ -76,3 +76,10 @@ total_less f g (x ∷ xs) each =
     let here = each x in
     let t = total_less f g xs each in
     omega arith
+
+pub total_less_at : {A : Type 0} (f g : A → ℕ) (vs : List A) → ((j : ℕ) (v : A) → get_elem? vs j ≡ some v → f v ≤ g v) → total f vs ≤ total g vs
+total_less_at f g [] each = omega arith
+total_less_at f g (x ∷ xs) each =
+    let here = each 0 x refl in
+    let t = total_less_at f g xs (λ j. each (suc j)) in
+    omega arith

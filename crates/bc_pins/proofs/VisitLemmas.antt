@@ -34,13 +34,13 @@ use Rattle.bc_pins.proofs.CallerLemmas.{clash, bare_ready, set_bare, opening_rea
 
 module _ (v : View) (seat : Seat) (page : ℕ) (held : Held) (g : Grasps v seat page held) where
   in_hand : (hand : Hand) → (view_of seat).hand ≡ Some hand
-      → hand ≡ record { page = page; remembered = held.remembered; frame = held.homed.frame; content = held.homed.page; counted = []; looked = [] }
+      → hand ≡ record { page = page; remembered = held.remembered; frame = held.homed.frame; content = held.homed.page; counted = []; marked = []; looked = [] }
   in_hand hand has = some_hand hand _ (sym has ∙ ap (λ (w : View). w.hand) g.view)
 
   -- what was taken is in hand
   pub holds_taken : page < pages_of v.about → HoldsPage seat held
   holds_taken lt = record {
-    hand = record { page = page; remembered = held.remembered; frame = held.homed.frame; content = held.homed.page; counted = []; looked = [] };
+    hand = record { page = page; remembered = held.remembered; frame = held.homed.frame; content = held.homed.page; counted = []; marked = []; looked = [] };
     has = ap (λ (w : View). w.hand) g.view;
     page = sym g.is;
     inside = subst (λ (w : View). held.page < pages_of w.about) (sym g.view) (subst (λ (p : ℕ). p < pages_of v.about) (sym g.is) lt);
@@ -56,6 +56,7 @@ module _ (v : View) (seat : Seat) (page : ℕ) (held : Held) (g : Grasps v seat 
     remembered = λ hand has r. sym (ap (λ (h : Hand). h.remembered) (in_hand hand has)) ∙ r;
     others = λ hand has z. (sym (ap (λ (h : Hand). h.content) (in_hand hand has)), sym (ap (λ (h : Hand). h.remembered) (in_hand hand has)));
     counted = λ hand has. ap (λ (h : Hand). h.counted) (in_hand hand has);
+    marked = λ hand has. ap (λ (h : Hand). h.marked) (in_hand hand has);
   }
 
 pub tried_rights : (v : View) (page : ℕ) (want : Want) (remembered : Bool) → (tried v page want remembered).rights ≡ v.rights

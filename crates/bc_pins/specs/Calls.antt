@@ -98,7 +98,8 @@ abbrev pub WasSeen : View → ℕ → Type 0
 WasSeen v page = 0 < times page v.seen
 
 -- what may be put back: a content that keeps what is fixed in a turn, remembered where it refers to a nursery or was taken
--- so; and by a seat that isn't the lane which holds the page's domain just what it took. Nothing is counted for the page
+-- so; and by a seat that isn't the lane which holds the page's domain just what it took. Nothing is counted for the page, and
+-- no bookmark bit was set for it since it was taken
 pub record MayPut (seat : Seat) (held : Held) : Type 0 where
   pub fixed : IsContent (view_of seat).about.opening held.page held.homed.page
   pub young : RefersYoung (view_of seat).about.opening held.page held.homed.page → held.remembered ≡ true
@@ -106,6 +107,7 @@ pub record MayPut (seat : Seat) (held : Held) : Type 0 where
   pub others : (hand : Hand) → (view_of seat).hand ≡ Some hand → has_role (view_of seat) (owner (view_of seat).about held.page) ≡ 0
       → (held.homed.page ≡ hand.content) × (held.remembered ≡ hand.remembered)
   pub counted : (hand : Hand) → (view_of seat).hand ≡ Some hand → hand.counted ≡ []
+  pub marked : (hand : Hand) → (view_of seat).hand ≡ Some hand → hand.marked ≡ []
 
 -- the view once the page was put back
 abbrev pub put_back : View → Held → View

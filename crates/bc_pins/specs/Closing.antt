@@ -1,5 +1,5 @@
 -- What closing a table requires, and what it gives.
-use Rattle.std.specs.Prelude.{◌≡◌, ℕ, ◌+◌, ◌-◌, ◌*◌, ◌^◌, ◌<◌, ◌≤◌, ◌==◌, List, [], length, min, None, slice_index, slice_index_or}
+use Rattle.std.specs.Prelude.{◌≡◌, ℕ, ◌+◌, ◌-◌, ◌*◌, ◌/◌, ◌%◌, ◌^◌, ◌<◌, ◌≤◌, ◌==◌, true, List, [], length, min, None, slice_index, slice_index_or}
 use Rattle.atomic_table.specs.declared.shared.Seat.{Seat as Worker}
 use Rattle.atomic_table.specs.Seated.{TableId}
 use Rattle.bc_bits.specs.Counting.{one_if}
@@ -7,18 +7,22 @@ use Rattle.bc_superpages.specs.declared.headers.Header.{Header}
 use Rattle.bc_superpages.specs.Headers.{unused_header}
 use Rattle.bc_superpages.specs.declared.headers.PageState.{PageState}
 use Rattle.bc_superpages.specs.declared.headers.PageState.TheVariants as state
-use Rattle.bc_superpages.specs.Layout.{Layout, superpages, content_at}
+use Rattle.bc_superpages.specs.Layout.{Layout, superpages, set_of, content_at}
+use Rattle.bc_bits.specs.Bits.{has}
+use Rattle.bc_bits.specs.BitChanges.{AreWords}
+use Rattle.bc_superpages.specs.Kept.{IsCellSet}
+use Rattle.bc_pins.specs.Facts.{opened_bit}
 use Rattle.bc_superpages.specs.LayoutAt.{state_at}
 use Rattle.bc_pins.specs.Contents.{IsContent, RefersYoung}
 use Rattle.bc_superpages.specs.Parts.{state_in}
 use Rattle.bc_pins.specs.declared.views.Lodged.{Lodged}
 use Rattle.bc_pins.specs.declared.views.View.{View}
 use Rattle.bc_pins.specs.declared.pins.Seat.{Seat}
-use Rattle.bc_pins.specs.Key.{Key, pages_of, owner}
+use Rattle.bc_pins.specs.Key.{Key, pages_of, owner, counter_at, bookmark_at}
 use Rattle.bc_pins.specs.Totals.{total, times}
 use Rattle.bc_pins.specs.Opening.{IsOpenable}
 use Rattle.bc_pins.specs.Tidy.{IsTidy}
-use Rattle.bc_pins.specs.Views.{state_word, opened_word, opened_state, opened_content, has_role, record_of}
+use Rattle.bc_pins.specs.Views.{state_word, opened_word, opened_state, opened_content, has_role, sets_bit, record_of}
 
 abbrev pub seen_by : Seat → View
 seen_by seat = seat.inner.me.0
@@ -52,6 +56,7 @@ pub record Gathered (id : TableId) (k : Key) (all front : List Seat) (root : Wor
   pub recorded : (p : ℕ) → times p root.me.0.recorded + total (λ (seat : Seat). times p (seen_by seat).recorded) front ≡ total (λ (seat : Seat). times p (seen_by seat).recorded) all
   pub left : (p : ℕ) → times p root.me.0.left + total (λ (seat : Seat). times p (seen_by seat).left) front ≡ total (λ (seat : Seat). times p (seen_by seat).left) all
   pub emptied : (p : ℕ) → times p root.me.0.emptied + total (λ (seat : Seat). times p (seen_by seat).emptied) front ≡ total (λ (seat : Seat). times p (seen_by seat).emptied) all
+  pub bookmarked : (w b : ℕ) → sets_bit w b root.me.0.bookmarked + total (λ (seat : Seat). sets_bit w b (seen_by seat).bookmarked) front ≡ total (λ (seat : Seat). sets_bit w b (seen_by seat).bookmarked) all
   pub fetched : (p : ℕ) → times p root.me.0.fetched + total (λ (seat : Seat). times p (seen_by seat).fetched) front ≡ total (λ (seat : Seat). times p (seen_by seat).fetched) all
   pub mine : (j : ℕ) → length front ≤ j → j < length all → (d : Seat) (p : ℕ) → 0 < has_role (seen_by (slice_index_or all j d)) (owner k p)
       → (0 < has_role root.me.0 (owner k p)) × (record_of root.me.0 p ≡ record_of (seen_by (slice_index_or all j d)) p)
@@ -68,6 +73,36 @@ pub record StatesSet (old new : List Header) (pages : ℕ) (words : List ℕ) : 
   pub else_same : (q : ℕ) → slice_index_or new q unused_header ≡ record (slice_index_or old q unused_header) { pages = (slice_index_or new q unused_header).pages }
   pub states_long : (q : ℕ) → length (slice_index_or new q unused_header).pages ≡ length (slice_index_or old q unused_header).pages
 
+-- the header has the counter and the first bookmark words, of sixteen, that the table's words tell of its superpage
+pub record SummarySet (old new : Header) (superpage superpages : ℕ) (words : List ℕ) (count : ℕ) : Type 0 where
+  pub same : new ≡ record old { incoming = slice_index words (4 * superpages + superpage); bookmarks = new.bookmarks }
+  pub long : length new.bookmarks ≡ 16
+  pub fits : AreWords new.bookmarks
+  pub bits : (j : ℕ) → j < count → slice_index new.bookmarks j ≡ slice_index words (5 * superpages + (16 * superpage + j))
+
+-- the first headers have, in a table of so many superpages
+pub record SummariesBelow (old new : List Header) (count superpages : ℕ) (words : List ℕ) : Type 0 where
+  pub long : length new ≡ length old
+  pub near : (q : ℕ) → q < count → SummarySet (slice_index_or old q unused_header) (slice_index_or new q unused_header) q superpages words 16
+  pub far : (q : ℕ) → count ≤ q → slice_index_or new q unused_header ≡ slice_index_or old q unused_header
+
+abbrev pub SummariesSet : List Header → List Header → ℕ → List ℕ → Type 0
+SummariesSet old new superpages words = SummariesBelow old new superpages superpages words
+
+-- states, counters and bookmarks are those that the table's words tell, and nothing else of the headers changed
+pub record HeadersSet (k : Key) (old new : List Header) (words : List ℕ) : Type 0 where
+  pub long : length new ≡ length old
+  pub near : (p : ℕ) → p < pages_of k → state_word (state_in new p) ≡ slice_index words p
+  pub far : (p : ℕ) → pages_of k ≤ p → state_in new p ≡ state_in old p
+  pub else_same : (q : ℕ) → slice_index_or new q unused_header
+      ≡ record (slice_index_or old q unused_header) { pages = (slice_index_or new q unused_header).pages; bookmarks = (slice_index_or new q unused_header).bookmarks; incoming = (slice_index_or new q unused_header).incoming }
+  pub states_long : (q : ℕ) → length (slice_index_or new q unused_header).pages ≡ length (slice_index_or old q unused_header).pages
+  pub counters : (q : ℕ) → q < k.supers → (slice_index_or new q unused_header).incoming ≡ slice_index words (counter_at k q)
+  pub sets : (q : ℕ) → q < k.supers → IsCellSet (slice_index_or new q unused_header).bookmarks
+  pub bookmarks : (q j : ℕ) → q < k.supers → j < 16 → slice_index (slice_index_or new q unused_header).bookmarks j ≡ slice_index words (bookmark_at k (16 * q + j))
+  pub behind : (q : ℕ) → k.supers ≤ q
+      → ((slice_index_or new q unused_header).bookmarks ≡ (slice_index_or old q unused_header).bookmarks) × ((slice_index_or new q unused_header).incoming ≡ (slice_index_or old q unused_header).incoming)
+
 -- where a page is once the table is closed: Remembered exactly where it was so at the opening or a seat put it back so; Gone and
 -- Absent by the opening and by what the seats made of it
 pub record ClosedState (k : Key) (seats : List Seat) (st : PageState) (p : ℕ) : Type 0 where
@@ -77,17 +112,25 @@ pub record ClosedState (k : Key) (seats : List Seat) (st : PageState) (p : ℕ) 
       ≡ one_if (opened_word k p == 4) + total (λ (seat : Seat). times p (seen_by seat).left) seats
   pub absent : one_if (state_word st == 0) ≡ one_if (opened_word k p == 0) + total (λ (seat : Seat). times p (seen_by seat).emptied) seats
 
--- the space that a closed table gives back: as it was opened, but for the states of pages, their contents and the reads. Each
--- page has the content that its lane's seat records, or else the opening's. A table may be opened over it again,
--- as it could at the opening
+-- a bookmark bit once the table is closed, by its word, of which each superpage has sixteen, and its place there
+pub record ClosedBit (k : Key) (seats : List Seat) (s : Layout) (w b : ℕ) : Type 0 where
+  pub kept : 0 < opened_bit k w b + total (λ (seat : Seat). sets_bit w b (seen_by seat).bookmarked) seats → has (set_of s.bookmarks (w / 16)) (64 * (w % 16) + b) ≡ true
+  pub only : has (set_of s.bookmarks (w / 16)) (64 * (w % 16) + b) ≡ true → 0 < opened_bit k w b + total (λ (seat : Seat). sets_bit w b (seen_by seat).bookmarked) seats
+
+-- the space that a closed table gives back: as it was opened, but for the states of pages, their contents, bookmarks and
+-- counters, and the reads. Each page has the content that its lane's seat records, or else the opening's. A bookmark bit is
+-- set exactly where it was at the opening or a seat set it. A table may be opened over it again, as it could at the opening:
+-- so it is summarised
 pub record Closed (k : Key) (seats : List Seat) (s : Layout) : Type 0 where
-  pub same : s ≡ record k.opening { states = s.states; pages = s.pages; reads = s.reads }
+  pub same : s ≡ record k.opening { states = s.states; pages = s.pages; bookmarks = s.bookmarks; incoming = s.incoming; reads = s.reads }
   pub reads : s.reads ≡ min (k.opening.reads + opens_of seats) (2 ^ 64 - 1)
   pub mine : (j : ℕ) → j < length seats → (d : Seat) (p : ℕ) → p < pages_of k → 0 < has_role (seen_by (slice_index_or seats j d)) (owner k p)
       → content_at s.pages p ≡ record_of (seen_by (slice_index_or seats j d)) p
   pub unowned : (p : ℕ) → p < pages_of k → times (owner k p) k.roles ≡ 0 → content_at s.pages p ≡ opened_content k p
   pub behind : (p : ℕ) → pages_of k ≤ p → p < 4 * superpages k.opening → (state_at s.states p ≡ opened_state k p) × (content_at s.pages p ≡ opened_content k p)
   pub states_are : (p : ℕ) → p < pages_of k → ClosedState k seats (state_at s.states p) p
+  pub bits : (w b : ℕ) → w < 16 * k.supers → b < 64 → ClosedBit k seats s w b
+  pub bits_behind : (q : ℕ) → k.supers ≤ q → set_of s.bookmarks q ≡ set_of k.opening.bookmarks q
   pub fixed : (p : ℕ) → p < pages_of k → IsContent k.opening p (content_at s.pages p)
   pub young : (p : ℕ) → p < pages_of k → RefersYoung k.opening p (content_at s.pages p) → state_at s.states p ≡ state.Remembered
   pub openable : IsOpenable k.opening → IsOpenable s

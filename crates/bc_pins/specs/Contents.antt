@@ -1,13 +1,14 @@
 -- What a page's content keeps in a turn, and what it refers to. The space is the one at the opening.
-use Rattle.std.specs.Prelude.{◌≡◌, ℕ, ◌+◌, ◌*◌, ◌<◌, ◌≤◌, ◌⊎◌, List, length, slice_index}
+use Rattle.std.specs.Prelude.{◌≡◌, ℕ, ◌+◌, ◌*◌, ◌<◌, ◌≤◌, ◌⊎◌, List, length, slice_index, if◌then◌else◌, Some, None}
 use Rattle.bc_word.specs.declared.words.Word.{Word}
 use Rattle.bc_word.specs.declared.words.Word.TheVariants.{Nil, Num, Ref}
 use Rattle.bc_word.specs.Words.{word_of_bits}
 use Rattle.bc_word.specs.WordBits.{IsPacked}
 use Rattle.bc_word.specs.Addresses.{page_of, offset_of}
-use Rattle.bc_superpages.specs.Layout.{Layout, superpages}
+use Rattle.bc_superpages.specs.Layout.{Layout, superpages, is_cell}
 use Rattle.bc_superpages.specs.LayoutAt.{word_at, IsAllocated}
 use Rattle.bc_superpages.specs.Calls.{fields_at}
+use Rattle.bc_superpages.specs.Memory.{Memory, cell_on}
 
 -- field i of the allocated cell at an address, where the page's content is c
 abbrev pub field_bits : List ℕ → ℕ → ℕ → ℕ
@@ -45,6 +46,10 @@ pub record RefersYoung (s : Layout) (page : ℕ) (c : List ℕ) : Type 0 where
   pub index : ℕ
   pub is : IsFieldOn s page cell index
   pub young : IsYoung s (word_of_bits (field_bits c cell index))
+
+-- the objects of a page whose content is c
+abbrev pub objects_in : Layout → List ℕ → Memory
+objects_in s c address = if is_cell s.classes s.cells address then Some (cell_on c (offset_of address)) else None
 
 -- no allocated cell lies on the page
 abbrev pub IsBarePage : Layout → ℕ → Type 0

@@ -1,6 +1,7 @@
 -- The turn facts: what holds of the words, the slots and the views of a table between any two steps of a turn. Each is said
 -- of one page, one seat or one frame. A page's record is the content that its lane put back last, or else the opening's.
-use Rattle.std.specs.Prelude.{◌≡◌, ℕ, ◌+◌, ◌*◌, ◌/◌, ◌%◌, ◌<◌, ◌≤◌, ◌==◌, true, false, List, [], nat_lt, slice_index, Some, None}
+use Rattle.std.specs.Prelude.{◌≡◌, ℕ, ◌+◌, ◌*◌, ◌/◌, ◌%◌, ◌<◌, ◌≤◌, ◌==◌, ◌⊎◌, true, false, if◌then◌else◌, List, [], nat_lt, slice_index, Some, None}
+use Rattle.std.specs.Int.{bit_at}
 use Prim.Native.Nat.{zero, suc}
 use mathlib.Core.Option.{some, none}
 use mathlib.Core.Option as maybe
@@ -8,16 +9,19 @@ use lib.ListN.{get_elem?}
 use Rattle.atomic_table.specs.Table.{State}
 use Rattle.bc_bits.specs.Counting.{one_if}
 use Rattle.bc_frames.specs.Pool.{is_free}
+use Rattle.bc_word.specs.Addresses.{superpage_of, cell_number}
 use Rattle.bc_superpages.specs.declared.spaces.Homed.{Homed}
 use Rattle.bc_superpages.specs.Layout.{set_of}
+use Rattle.bc_superpages.specs.Calls.{class_at}
+use Rattle.bc_bookmarks.specs.Targets.{is_target, has_target_in, HasCell}
 use Rattle.bc_pins.specs.declared.views.Lodged.{Lodged}
 use Rattle.bc_pins.specs.declared.views.Lodged.TheVariants.{Nothing, Home, Away}
 use Rattle.bc_pins.specs.declared.views.Hand.{Hand}
 use Rattle.bc_pins.specs.declared.views.View.{View}
 use Rattle.bc_pins.specs.Key.{Key, pages_of, owner, counter_at, bookmark_at, mark_at, finished_at, frame_slot, store_slot}
-use Rattle.bc_pins.specs.Totals.{total, times}
-use Rattle.bc_pins.specs.Contents.{IsContent, RefersYoung, IsBarePage}
-use Rattle.bc_pins.specs.Views.{grips, grips_remembered, frame_in_hand, has_role, entries, opened_word, opened_content, record_of}
+use Rattle.bc_pins.specs.Totals.{total, times, sum_to}
+use Rattle.bc_pins.specs.Contents.{IsContent, RefersYoung, IsBarePage, objects_in}
+use Rattle.bc_pins.specs.Views.{grips, grips_remembered, frame_in_hand, counted_for, sets_bit, marked_for, has_role, entries, opened_word, opened_content, record_of}
 
 abbrev pub Table : Type 0
 Table = State Lodged View
@@ -57,13 +61,34 @@ pub record Place (k : Key) (s : Table) (rec : ℕ → List ℕ) (page : ℕ) : T
 abbrev pub remembered_now : Table → ℕ → ℕ
 remembered_now s page = one_if (word s page == 2) + total (λ (v : View). grips_remembered page v.hand) s.views
 
+-- a bit of a bookmark word, in the table and at the opening, and whether it is that of an allocated cell
+abbrev pub bookmark_bit : Key → List ℕ → ℕ → ℕ → ℕ
+bookmark_bit k words w b = bit_at (slice_index words (bookmark_at k w)) b
+
+abbrev pub opened_bit : Key → ℕ → ℕ → ℕ
+opened_bit k w b = bit_at (slice_index (set_of k.opening.bookmarks (w / 16)) (w % 16)) b
+
+abbrev pub cell_bit : Key → ℕ → ℕ → ℕ
+cell_bit k w b = bit_at (slice_index (set_of k.opening.cells (w / 16)) (w % 16)) b
+
+-- the cell that begins at the address is bookmarked in the table
+pub record HasBookmarkBit (k : Key) (words : List ℕ) (address : ℕ) : Type 0 where
+  pub within : superpage_of address < k.supers
+  pub starts : address % class_at k.opening address ≡ 0
+  pub bit : bookmark_bit k words (16 * superpage_of address + cell_number (class_at k.opening address) address / 64) (cell_number (class_at k.opening address) address % 64) ≡ 1
+
+-- Gone: a page with this content has an allocated cell, and each of its targets is bookmarked. So none is a nursery address
+pub record Summary (k : Key) (words : List ℕ) (page : ℕ) (c : List ℕ) : Type 0 where
+  pub there : HasCell k.opening page
+  pub targets : (a : ℕ) → is_target (objects_in k.opening c) page a ≡ true → HasBookmarkBit k words a
+
 -- Remembered, and Fixed: a page whose record refers to a nursery is Remembered or in hand so. Whatever was put back keeps
--- what is fixed, an Absent page has no allocated cell, and a Gone page has the opening's content
+-- what is fixed, an Absent page has no allocated cell, and a Gone page is summarised
 pub record Content (k : Key) (s : Table) (rec : ℕ → List ℕ) (page : ℕ) : Type 0 where
   pub fixed : IsContent k.opening page (rec page)
   pub young : RefersYoung k.opening page (rec page) → 0 < remembered_now s page
   pub bare : word s page ≡ 0 → IsBarePage k.opening page
-  pub gone : word s page ≡ 4 → rec page ≡ opened_content k page
+  pub gone : word s page ≡ 4 → Summary k s.words page (rec page)
 
 -- how often the page was Remembered at the opening or was put back so
 abbrev pub remembered_ever : Key → Table → ℕ → ℕ
@@ -86,7 +111,7 @@ pub record RecordsContent (k : Key) (rec : ℕ → List ℕ) (v : View) : Type 0
 
 -- Seen: a page that was read as Remembered is Remembered or in hand so, and an own page that was read as Gone is Gone
 pub record Saw (k : Key) (s : Table) (v : View) : Type 0 where
-  pub seen : (p : ℕ) → 0 < times p v.seen → 0 < remembered_now s p
+  pub seen : (p : ℕ) → 0 < times p v.seen → (p < pages_of k) × (0 < remembered_now s p)
   pub gone : (p : ℕ) → 0 < times p v.gone → (p < pages_of k) × (0 < has_role v (owner k p)) × (word s p ≡ 4)
 
 -- a seat that has done nothing and has nothing in hand
@@ -97,18 +122,12 @@ pub record IsIdle (v : View) : Type 0 where
   pub left : v.left ≡ []
   pub emptied : v.emptied ≡ []
   pub fetched : v.fetched ≡ []
-
--- the seat made no page Gone or Absent and took none from Gone. So it is before pages are given up in a turn
-pub record MovedNone (v : View) : Type 0 where
-  pub left : v.left ≡ []
-  pub emptied : v.emptied ≡ []
-  pub fetched : v.fetched ≡ []
+  pub bookmarked : v.bookmarked ≡ []
 
 -- a seat knows what the table was told, and one without a role has done nothing
 pub record Seated (k : Key) (v : View) : Type 0 where
   pub about : v.alive ≡ true → v.about ≡ k
   pub idle : v.roles ≡ [] → IsIdle v
-  pub moved : MovedNone v
 
 -- Roles: each role that was given out is in exactly one view, and none was given out twice
 pub record Roles (k : Key) (s : Table) : Type 0 where
@@ -134,9 +153,36 @@ frame_used s frame = total (frame_lodged frame) s.homes + total (λ (v : View). 
 abbrev pub Frames : Key → Table → ℕ → Type 0
 Frames k s frame = frame_used s frame + (times frame k.nursery + one_if (is_free k.pool frame)) ≡ one_if (nat_lt frame k.frames)
 
--- the words that no step changes before pages are given up in a turn: counters, bookmark words, and a mark turn's own
+-- how often a page with this content counts for a superpage: once where it has a target there, or not
+abbrev pub points : Key → ℕ → List ℕ → ℕ → ℕ
+points k page c q = one_if (has_target_in (objects_in k.opening c) page q)
+
+-- what a page adds to a superpage's counter: where it is Gone what its content adds_to, and where it is in hand what its holder
+-- counted for it
+abbrev pub adds_to : Key → Table → (ℕ → List ℕ) → ℕ → ℕ → ℕ
+adds_to k s rec q page = (if word s page == 4 then points k page (rec page) q else 0) + total (λ (v : View). counted_for page q v.hand) s.views
+
+-- Counters: each superpage's counter is what all pages add
+abbrev pub Counters : Key → Table → (ℕ → List ℕ) → ℕ → Type 0
+Counters k s rec q = word s (counter_at k q) ≡ sum_to (adds_to k s rec q) (pages_of k)
+
+-- Bits: a bookmark bit is set exactly where it was at the opening or a view set it, and it is that of an allocated cell
+abbrev pub ever_set : Key → Table → ℕ → ℕ → ℕ
+ever_set k s w b = opened_bit k w b + total (λ (v : View). sets_bit w b v.bookmarked) s.views
+
+pub record Bits (k : Key) (s : Table) (w b : ℕ) : Type 0 where
+  pub kept : 0 < ever_set k s w b → bookmark_bit k s.words w b ≡ 1
+  pub only : 0 < bookmark_bit k s.words w b → 0 < ever_set k s w b
+  pub cell : 0 < bookmark_bit k s.words w b → 0 < cell_bit k w b
+
+-- what a seat bookmarked and counted: each superpage once for the page in hand; and the pages for which it set bits are in its
+-- hands, or were given up by it. Where no bit was set for the page since it was taken, it isn't one of these but by then
+pub record Marking (v : View) : Type 0 where
+  pub once : (h : Hand) → v.hand ≡ Some h → (q : ℕ) → times q h.counted ≤ 1
+  pub whose : (p : ℕ) → 0 < marked_for p v.bookmarked → (0 < grips p v.hand) ⊎ (0 < times p v.left)
+  pub unmarked : (h : Hand) → v.hand ≡ Some h → h.marked ≡ [] → 0 < marked_for h.page v.bookmarked → 0 < times h.page v.left
+
+-- the words that no step changes before marks are words of a table: those of a mark turn
 pub record Still (k : Key) (s : Table) : Type 0 where
-  pub counters : (q : ℕ) → q < k.supers → word s (counter_at k q) ≡ slice_index k.opening.incoming q
-  pub bookmarks : (w : ℕ) → w < 16 * k.supers → word s (bookmark_at k w) ≡ slice_index (set_of k.opening.bookmarks (w / 16)) (w % 16)
   pub marks : (w : ℕ) → k.lanes ≡ false → w < 16 * k.supers → word s (mark_at k w) ≡ slice_index (set_of k.opening.marks (w / 16)) (w % 16)
   pub finished : (w : ℕ) → k.lanes ≡ false → w < 16 * k.supers → word s (finished_at k w) ≡ slice_index (set_of k.opening.finished (w / 16)) (w % 16)

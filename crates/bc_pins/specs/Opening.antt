@@ -1,5 +1,5 @@
 -- What a table needs when it is opened, and what it leaves when it is closed.
-use Rattle.std.specs.Prelude.{◌≡◌, ◌≢◌, ℕ, ◌+◌, ◌*◌, ◌^◌, ◌<◌, ◌≤◌, false, List, [], ◌∷◌, length, map, slice_index, slice_index_or, Bool, None}
+use Rattle.std.specs.Prelude.{◌≡◌, ◌≢◌, ℕ, ◌+◌, ◌*◌, ◌^◌, ◌<◌, ◌≤◌, ◌==◌, if◌then◌else◌, false, List, [], ◌∷◌, length, map, slice_index, slice_index_or, Bool, None}
 use mathlib.Core.Option.{some}
 use lib.ListN.{get_elem?}
 use Rattle.atomic_table.specs.Table.{opening}
@@ -15,11 +15,11 @@ use Rattle.bc_pins.specs.declared.key.Turn.{Turn}
 use Rattle.bc_pins.specs.declared.key.Role.{Role}
 use Rattle.bc_pins.specs.declared.views.Lodged.{Lodged}
 use Rattle.bc_pins.specs.declared.views.View.{View}
-use Rattle.bc_pins.specs.Key.{Key, pages_of, all_words, is_lanes, lane_role, role_number}
-use Rattle.bc_pins.specs.Totals.{times}
+use Rattle.bc_pins.specs.Key.{Key, pages_of, counter_at, all_words, is_lanes, lane_role, role_number}
+use Rattle.bc_pins.specs.Totals.{times, sum_to}
 use Rattle.bc_pins.specs.Contents.{IsContent, RefersYoung, IsBarePage}
 use Rattle.bc_pins.specs.Views.{opened_content, opened_word, record_of}
-use Rattle.bc_pins.specs.Facts.{Table, Lies, MovedNone, Frames, Still, Standing}
+use Rattle.bc_pins.specs.Facts.{Table, Lies, Summary, Frames, Counters, Bits, points, Still, Standing}
 use Rattle.bc_pins.specs.Steps.{fresh}
 
 -- the table as it is opened
@@ -35,6 +35,7 @@ pub record OpensPage (k : Key) (words : List ℕ) (slots : List Lodged) (p : ℕ
   pub fixed : IsContent k.opening p (opened_content k p)
   pub young : RefersYoung k.opening p (opened_content k p) → opened_word k p ≡ 2
   pub bare : opened_word k p ≡ 0 → IsBarePage k.opening p
+  pub gone : opened_word k p ≡ 4 → Summary k words p (opened_content k p)
 
 -- words and slots with which a table may be opened
 pub record MayOpen (k : Key) (words : List ℕ) (slots : List Lodged) : Type 0 where
@@ -45,6 +46,8 @@ pub record MayOpen (k : Key) (words : List ℕ) (slots : List Lodged) : Type 0 w
   pub apart : (r : ℕ) → times r k.roles ≤ 1
   pub nobody : times 0 k.roles ≡ 0
   pub frames : (f : ℕ) → Frames k (opened k words slots) f
+  pub counters : (q : ℕ) → q < k.supers → Counters k (opened k words slots) (opened_content k) q
+  pub bits : (w b : ℕ) → w < 16 * k.supers → b < 64 → Bits k (opened k words slots) w b
   pub still : Still k (opened k words slots)
 
 -- a page of a table that is closed, where v is the view that all others were joined into: its box lies as its word tells, with
@@ -55,16 +58,17 @@ pub record ClosesPage (k : Key) (v : View) (words : List ℕ) (slots : List Lodg
   pub fixed : IsContent k.opening p (record_of v p)
   pub young : RefersYoung k.opening p (record_of v p) → slice_index words p ≡ 2
   pub bare : slice_index words p ≡ 0 → IsBarePage k.opening p
-  pub gone : slice_index words p ≡ 4 → record_of v p ≡ opened_content k p
+  pub gone : slice_index words p ≡ 4 → Summary k words p (record_of v p)
   pub standing : Standing k (record { words = words; homes = map some slots; views = v ∷ [] }) p
 
 -- words and slots of a table that is closed
 pub record HasClosed (k : Key) (v : View) (words : List ℕ) (slots : List Lodged) : Type 0 where
   pub words_long : length words ≡ all_words k
   pub slots_long : length slots ≡ pages_of k + pages_of k
-  pub moved : MovedNone v
   pub pages : (p : ℕ) → p < pages_of k → ClosesPage k v words slots p
   pub frames : (f : ℕ) → Frames k (record { words = words; homes = map some slots; views = v ∷ [] }) f
+  pub counters : (q : ℕ) → q < k.supers → slice_index words (counter_at k q) ≡ sum_to (λ p. if slice_index words p == 4 then points k p (record_of v p) q else 0) (pages_of k)
+  pub bits : (w b : ℕ) → w < 16 * k.supers → b < 64 → Bits k (record { words = words; homes = map some slots; views = v ∷ [] }) w b
   pub still : Still k (record { words = words; homes = map some slots; views = v ∷ [] })
 
 -- a space over which a table may be opened: it is summarised and closed, no cell is promised, and no page that is Home refers

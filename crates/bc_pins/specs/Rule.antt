@@ -1,18 +1,19 @@
 -- The rule of a table: the turn facts of every page, seat and frame.
-use Rattle.std.specs.Prelude.{◌≡◌, ℕ, ◌+◌, ◌^◌, ◌<◌, List, length}
+use Rattle.std.specs.Prelude.{◌≡◌, ℕ, ◌+◌, ◌*◌, ◌^◌, ◌<◌, List, length}
 use mathlib.Core.Option.{some}
 use lib.ListN.{get_elem?}
 use Rattle.bc_pins.specs.declared.views.View.{View}
 use Rattle.bc_pins.specs.Key.{Key, pages_of, owner, all_words}
 use Rattle.bc_pins.specs.Totals.{times}
 use Rattle.bc_pins.specs.Views.{opened_content}
-use Rattle.bc_pins.specs.Facts.{Table, Place, Content, Standing, RecordsContent, Saw, Seated, Roles, Frames, Still}
+use Rattle.bc_pins.specs.Facts.{Table, Place, Content, Standing, RecordsContent, Saw, Seated, Marking, Roles, Frames, Counters, Bits, Still}
 
 -- what holds of one seat
 pub record SeatFacts (k : Key) (s : Table) (rec : ℕ → List ℕ) (v : View) : Type 0 where
   pub seated : Seated k v
   pub records : RecordsContent k rec v
   pub saw : Saw k s v
+  pub marking : Marking v
 
 pub record Rule (k : Key) (s : Table) : Type 0 where
   -- the record of each page
@@ -28,4 +29,6 @@ pub record Rule (k : Key) (s : Table) : Type 0 where
   -- a page whose domain no lane holds has the opening's content
   pub unowned : (p : ℕ) → times (owner k p) k.roles ≡ 0 → rec p ≡ opened_content k p
   pub frames : (f : ℕ) → Frames k s f
+  pub counters : (q : ℕ) → q < k.supers → Counters k s rec q
+  pub bits : (w b : ℕ) → w < 16 * k.supers → b < 64 → Bits k s w b
   pub still : Still k s

@@ -1,16 +1,22 @@
 -- The kinds of step: what the view is after each, and what each tells the seat that makes it.
-use Rattle.std.specs.Prelude.{◌≡◌, ◌≢◌, ℕ, ◌+◌, ◌<◌, ◌≤◌, ◌==◌, ◌&&◌, Bool, true, false, if◌then◌else◌, nat_lt, List, [], ◌∷◌, ◌++◌, take, drop, Some, None}
+use Rattle.std.specs.Prelude.{◌≡◌, ◌≢◌, ℕ, ◌+◌, ◌*◌, ◌/◌, ◌%◌, ◌<◌, ◌≤◌, ◌==◌, ◌&&◌, Bool, true, false, if◌then◌else◌, nat_lt, List, [], ◌∷◌, ◌++◌, take, drop, Some, None}
 use Rattle.atomic_table.specs.Table.{Me, Step, rest}
 use Rattle.bc_bits.specs.Counting.{one_if}
+use Rattle.std.specs.Int.{bit_at}
+use Rattle.bc_word.specs.Addresses.{superpage_of, cell_number}
 use Rattle.bc_superpages.specs.LayoutAt.{layout_of}
+use Rattle.bc_superpages.specs.Calls.{class_at}
+use Rattle.bc_bookmarks.specs.Targets.{is_target, HasCell}
 use Rattle.bc_superpages.specs.declared.spaces.Homed.{Homed}
 use Rattle.bc_pins.specs.declared.views.Lodged.{Lodged}
 use Rattle.bc_pins.specs.declared.views.Lodged.TheVariants.{Nothing, Home}
+use Rattle.bc_pins.specs.declared.views.Hand.{Hand}
 use Rattle.bc_pins.specs.declared.views.View.{View}
-use Rattle.bc_pins.specs.Key.{Key, pages_of, owner}
+use Rattle.bc_pins.specs.Key.{Key, pages_of, owner, counter_at, bookmark_at}
 use Rattle.bc_pins.specs.Totals.{times}
-use Rattle.bc_pins.specs.Contents.{IsContent, RefersYoung}
-use Rattle.bc_pins.specs.Views.{has_role, opened_word, record_of}
+use Rattle.bc_pins.specs.Contents.{IsContent, RefersYoung, IsBarePage, objects_in}
+use Rattle.bc_pins.specs.Facts.{points}
+use Rattle.bc_pins.specs.Views.{has_role, sets_bit, opened_word, record_of}
 
 abbrev pub Mine : Type 0
 Mine = Me Lodged View
@@ -78,6 +84,7 @@ gripping v page remembered homed = record v {
     frame = homed.frame;
     content = homed.page;
     counted = [];
+    marked = [];
     looked = [];
   });
 }
@@ -90,9 +97,68 @@ released v page remembered content = record v {
   recorded = if remembered then page ∷ v.recorded else v.recorded;
 }
 
+-- bits of a bookmark word were set for the page in hand
+abbrev pub bookmarking : View → Hand → ℕ → ℕ → View
+bookmarking v h w bits = record v {
+  hand = Some (record h { marked = (w, bits) ∷ h.marked });
+  bookmarked = (h.page, w, bits) ∷ v.bookmarked;
+}
+
+-- a superpage was counted for the page in hand
+abbrev pub counting : View → Hand → ℕ → View
+counting v h superpage = record v { hand = Some (record h { counted = superpage ∷ h.counted }) }
+
+-- the page in hand was made Gone, or Absent; its frame is a right in hand
+abbrev pub leaving : View → Hand → View
+leaving v h = record v {
+  hand = None;
+  left = h.page ∷ v.left;
+  rights = h.frame ∷ v.rights;
+}
+
+abbrev pub vacating : View → Hand → View
+vacating v h = record v {
+  hand = None;
+  emptied = h.page ∷ v.emptied;
+  rights = h.frame ∷ v.rights;
+}
+
 -- the slots of a page that was taken, as the seat has them: the frame slot first
 abbrev pub both_slots : Key → ℕ → Lodged → Lodged → List (ℕ × Lodged)
 both_slots k page frame store = (page, frame) ∷ (pages_of k + page, store) ∷ []
+
+-- bit b of a bookmark word is that of a target of the page in hand
+pub record IsTargetBit (k : Key) (h : Hand) (w b : ℕ) : Type 0 where
+  pub address : ℕ
+  pub target : is_target (objects_in k.opening h.content) h.page address ≡ true
+  pub superpage : superpage_of address ≡ w / 16
+  pub number : cell_number (class_at k.opening address) address ≡ 64 * (w % 16) + b
+
+-- each of the bits is
+abbrev pub AreTargets : Key → Hand → ℕ → ℕ → Type 0
+AreTargets k h w bits = (b : ℕ) → b < 64 → 0 < bit_at bits b → IsTargetBit k h w b
+
+-- the view set the bookmark bit of the cell that begins at the address
+pub record IsBookmarkedBy (k : Key) (v : View) (address : ℕ) : Type 0 where
+  pub within : superpage_of address < k.supers
+  pub few : cell_number (class_at k.opening address) address < 1024
+  pub starts : address % class_at k.opening address ≡ 0
+  pub bit : 0 < sets_bit (16 * superpage_of address + cell_number (class_at k.opening address) address / 64) (cell_number (class_at k.opening address) address % 64) v.bookmarked
+
+-- what is owed of a page that is made Gone: an allocated cell lies on it, it isn't remembered, each of its targets was bookmarked,
+-- and each superpage was counted for it in which it has a target, and no other
+pub record MayLeave (k : Key) (v : View) (h : Hand) : Type 0 where
+  pub there : HasCell k.opening h.page
+  pub quiet : h.remembered ≡ false
+  pub targets : (a : ℕ) → is_target (objects_in k.opening h.content) h.page a ≡ true → IsBookmarkedBy k v a
+  pub counts : (q : ℕ) → q < k.supers → times q h.counted ≡ points k h.page h.content q
+
+-- and of one that is made Absent: no allocated cell lies on it, it isn't remembered, and nothing was counted or bookmarked for it
+pub record MayVacate (k : Key) (h : Hand) : Type 0 where
+  pub bare : IsBarePage k.opening h.page
+  pub quiet : h.remembered ≡ false
+  pub uncounted : h.counted ≡ []
+  pub unmarked : h.marked ≡ []
 
 -- what a word tells that was read: the page's state, and what was read of it before is still so
 pub record ReadsWord (v : View) (page found : ℕ) : Type 0 where
@@ -118,6 +184,22 @@ pub record Took (st : Step Lodged) (m : Mine) (found : ℕ) (m' : Mine) : Type 0
 pub record Gave (st : Step Lodged) (m m' : Mine) : Type 0 where
   pub slots : m'.1 ≡ rest (rest m.1)
   pub view : (homed : Homed) → m.1 ≡ (st.word, Home homed) ∷ rest m.1 → m'.0 ≡ released m.0 st.word (st.first == 2) homed.page
+
+-- Bookmark bit, and counter add, of the page in hand
+pub record SetBits (st : Step Lodged) (m m' : Mine) : Type 0 where
+  pub view : (h : Hand) (w : ℕ) → m.0.hand ≡ Some h → st.word ≡ bookmark_at m.0.about w → m' ≡ (bookmarking m.0 h w st.first, m.1)
+
+pub record Counted (st : Step Lodged) (m m' : Mine) : Type 0 where
+  pub view : (h : Hand) (q : ℕ) → m.0.hand ≡ Some h → st.word ≡ counter_at m.0.about q → m' ≡ (counting m.0 h q, m.1)
+
+-- Relinquish word, and absent word: the slots are at home
+pub record Left (st : Step Lodged) (m m' : Mine) : Type 0 where
+  pub slots : m'.1 ≡ rest (rest m.1)
+  pub view : (h : Hand) → m.0.hand ≡ Some h → m'.0 ≡ leaving m.0 h
+
+pub record Vacated (st : Step Lodged) (m m' : Mine) : Type 0 where
+  pub slots : m'.1 ≡ rest (rest m.1)
+  pub view : (h : Hand) → m.0.hand ≡ Some h → m'.0 ≡ vacating m.0 h
 
 -- Look
 pub record Looked (st : Step Lodged) (m : Mine) (found : ℕ) (m' : Mine) : Type 0 where

@@ -1,5 +1,6 @@
--- Sums over lists: how much all items have, and how often a number stands in a list.
+-- Sums over lists and over the numbers below a bound: how much all have, and how often a number stands in a list.
 use Rattle.std.specs.Prelude.{ℕ, ◌+◌, ◌==◌, List, [], ◌∷◌}
+use Prim.Native.Nat.{zero, suc}
 use Rattle.bc_bits.specs.Counting.{one_if}
 
 abbrev pub total : {A : Type 0} → (A → ℕ) → List A → ℕ
@@ -10,3 +11,8 @@ total f (x ∷ xs) = f x + total f xs
 abbrev pub times : ℕ → List ℕ → ℕ
 times n [] = 0
 times n (x ∷ xs) = one_if (x == n) + times n xs
+
+-- what the numbers below the bound have together
+abbrev pub sum_to : (ℕ → ℕ) → ℕ → ℕ
+sum_to g zero = 0
+sum_to g (suc n) = sum_to g n + g n

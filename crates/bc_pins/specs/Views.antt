@@ -1,5 +1,6 @@
 -- What one view says: what it has in hand, which content it records of a page, which roles it has.
 use Rattle.std.specs.Prelude.{ℕ, ◌+◌, ◌==◌, ◌<◌, Bool, if◌then◌else◌, List, [], ◌∷◌, Option, Some, None}
+use Rattle.std.specs.Int.{bit_at}
 use Rattle.bc_bits.specs.Counting.{one_if}
 use Rattle.bc_superpages.specs.declared.headers.PageState.{PageState}
 use Rattle.bc_superpages.specs.declared.headers.PageState.TheVariants as state
@@ -23,6 +24,20 @@ grips_remembered page (Some h) = if h.remembered then one_if (h.page == page) el
 abbrev pub frame_in_hand : ℕ → Option Hand → ℕ
 frame_in_hand frame None = 0
 frame_in_hand frame (Some h) = one_if (h.frame == frame)
+
+-- how often the superpage is counted for the page, if it is in hand
+abbrev pub counted_for : ℕ → ℕ → Option Hand → ℕ
+counted_for page superpage None = 0
+counted_for page superpage (Some h) = if h.page == page then times superpage h.counted else 0
+
+-- how often this bit of a bookmark word was set, and how often bits were set for the page: by the page, word and bits of each step
+abbrev pub sets_bit : ℕ → ℕ → List (ℕ × ℕ × ℕ) → ℕ
+sets_bit word bit [] = 0
+sets_bit word bit (e ∷ es) = (if e.1 == word then bit_at e.2 bit else 0) + sets_bit word bit es
+
+abbrev pub marked_for : ℕ → List (ℕ × ℕ × ℕ) → ℕ
+marked_for page [] = 0
+marked_for page (e ∷ es) = one_if (e.0 == page) + marked_for page es
 
 -- has the view this role, by its number?
 abbrev pub has_role : View → ℕ → ℕ

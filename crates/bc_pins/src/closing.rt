@@ -4,7 +4,7 @@ ghost use Rattle.std.specs.Prelude.{◌≡◌};
 ghost use Rattle.bc_pins.specs.Calls.{key_of};
 ghost use Rattle.bc_pins.specs.Closing.{AreBack, Closed};
 
-use crate::gathering::{drain, set_states, unite_all};
+use crate::gathering::{drain, set_states, set_summaries, unite_all};
 use crate::pins::{Pins, Seat};
 use crate::rest::{Rest, put_boxes_back};
 use bc_superpages::Space;
@@ -18,7 +18,7 @@ impl Pins {
         let Pins {
             table,
             rest,
-            superpages: _,
+            superpages,
             turn: _,
             frame_words: _,
             spare: mut slots,
@@ -32,6 +32,7 @@ impl Pins {
         let mut closed = table.close_with(root);
         drain(&mut closed, &mut slots);
         set_states(&mut parts.headers, &closed, pages);
+        set_summaries(&mut parts.headers, &closed, superpages);
         closed.free();
         put_boxes_back(&mut parts, pages, slots);
         Space::close_up(parts)

@@ -3,9 +3,10 @@
 ghost use Rattle.std.specs.Prelude.{◌≡◌, ℕ, ◌+◌, ◌-◌, ◌*◌, ◌/◌, ◌^◌, ◌<◌, ◌≤◌, false, [], length, min, slice_index, slice_index_or, vec_capacity};
 ghost use Rattle.core.specs.Mem.Slots.{slots_items, slots_filled, slots_len, IsFull};
 ghost use Rattle.bc_superpages.specs.Headers.{unused_header};
+ghost use Rattle.bc_superpages.specs.Kept.{IsCellSet};
 ghost use Rattle.bc_pins.specs.Totals.{times};
 ghost use Rattle.bc_pins.specs.Views.{state_word};
-ghost use Rattle.bc_pins.specs.Closing.{AreBack, Gathered, StatesSet, opens_of};
+ghost use Rattle.bc_pins.specs.Closing.{AreBack, Gathered, StatesSet, SummarySet, SummariesSet, opens_of};
 
 use crate::key::About;
 use crate::pins::Seat;
@@ -92,5 +93,39 @@ pub(crate) fn set_states(headers: &mut Vec<Header>, closed: &Closed<Lodged, Glob
 {
     for page in 0..pages {
         headers[page / 4].pages[page % 4] = state_of(closed.word(page));
+    }
+}
+
+/// Writes into a header what the words tell of its superpage's bookmarks and counter.
+fn set_summary(
+    header: &mut Header,
+    closed: &Closed<Lodged, Global>,
+    superpage: usize,
+    superpages: usize,
+)
+    requires superpage { (superpage < superpages) × (superpages ≤ 4096) }
+    requires words { IsFull closed.now.words × (21 * superpages ≤ slots_len closed.now.words) }
+    requires sixteen { IsCellSet header.old.bookmarks }
+    ensures set { SummarySet header.old header.new superpage superpages (slots_items closed.now.words) 16 }
+{
+    header.incoming = closed.word(4 * superpages + superpage);
+    for word in 0..16 {
+        header.bookmarks[word] = closed.word(5 * superpages + (16 * superpage + word));
+    }
+}
+
+/// Writes into the headers of so many superpages what the words tell of bookmarks and counters.
+pub(crate) fn set_summaries(
+    headers: &mut Vec<Header>,
+    closed: &Closed<Lodged, Global>,
+    superpages: usize,
+)
+    requires superpages { (superpages ≤ length headers.old.items) × (superpages ≤ 4096) }
+    requires words { IsFull closed.now.words × (21 * superpages ≤ slots_len closed.now.words) }
+    requires sets { (q : ℕ) → q < superpages → IsCellSet (slice_index_or headers.old.items q unused_header).bookmarks }
+    ensures set { SummariesSet headers.old.items headers.new.items superpages (slots_items closed.now.words) }
+{
+    for superpage in 0..superpages {
+        set_summary(&mut headers[superpage], closed, superpage, superpages);
     }
 }

@@ -12,22 +12,29 @@
 // The rule (`specs/Rule.antt`, made of the turn facts of `specs/Facts.antt`) holds between any two steps, whatever order the
 // threads' steps take: a page's box lies where its word says, with the record as its content; a page is in one view's hands at
 // most; a page whose record refers to a nursery is remembered; what was read as Remembered stays so, and an own page that was
-// read as Gone is Gone until it is taken; each role is in one view; each frame is in one place. `proofs/PageSteps.antt` has the
-// one lemma by which every step on a page's word keeps it.
+// read as Gone is Gone until it is taken; a Gone page is summarised by the table's bookmark bits; counters count Gone pages and
+// what is counted for those in hand; each role is in one view; each frame is in one place. `proofs/PageSteps.antt` has the
+// one lemma by which every step on a page's word keeps it, and `proofs/SideSteps.antt` the one for a step on another word.
+//
+// A page in hand is given up in single steps: `bookmark_bit` for its targets, `counter_add` for each superpage that has one,
+// `store_in`, and `relinquish_word`, after which its word says Gone; or `store_in` and `absent_word` where no cell lies on it. The
+// word is the last of them. The right to the page's frame is then in the seat's view; the step that gives it back comes later.
 //
 // `open` makes words and slots out of a space's headers and lists, and deals a seat for each role. `close` joins all seats into
-// one, puts the boxes back and makes states of the words: the space is as it was opened, but that each page has its record.
-// Words for counters, bookmarks, frames, notices and, in a mark turn, marks, finished cells and queues have their places too
-// (`specs/Key.antt`); the steps on them come later.
+// one, puts the boxes back and makes states, counters and bookmarks of the words: the space is as it was opened, but that each
+// page has its record, and Gone pages are summarised. Words for frames, notices and, in a mark turn, marks, finished cells and
+// queues have their places too (`specs/Key.antt`); the steps on them come later.
 //
 // Where things are: `pins` the table and a seat, `key` what a table is told, `views` slots and views, `rule` the rule and what
-// steps tell, `taking` the calls on pages, `holding` a page in hand, `reading` what everybody may read; `opening` with `room`,
-// `filling`, `lodging` and `rest`; `closing` with `gathering`. Gates, where a test may look on, are passed on from `bc_gates`.
+// steps tell, `taking` the calls on pages, `giving` the steps by which one is given up, `holding` a page in hand, `reading` what
+// everybody may read; `opening` with `room`, `filling`, `lodging` and `rest`; `closing` with `gathering`. Gates, where a test
+// may look on, are passed on from `bc_gates`.
 #![tactic(auto)]
 
 mod closing;
 mod filling;
 mod gathering;
+mod giving;
 mod holding;
 mod key;
 mod lodging;

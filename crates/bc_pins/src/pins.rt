@@ -1,6 +1,7 @@
 //! The table of a turn, and a seat at it.
 
 ghost use Rattle.std.specs.Prelude.{◌≡◌, ℕ, ◌+◌, ◌^◌, ◌<◌, ◌≤◌, [], length, vec_capacity};
+ghost use Rattle.bc_superpages.specs.Layout.{superpages as superpages_of};
 ghost use Rattle.bc_superpages.specs.Parts.{parts_layout};
 ghost use Rattle.bc_pins.specs.Totals.{times};
 ghost use Rattle.bc_pins.specs.Tidy.{IsTidy};
@@ -29,6 +30,7 @@ pub struct Pins {
     ghost slots: { table.shared.table_id.slots ≡ pages_of table.shared.key + pages_of table.shared.key },
     ghost few: { pages_of table.shared.key < 2 ^ 32 },
     ghost counted: { superpages ≡ table.shared.key.supers },
+    ghost inside: { table.shared.key.supers ≤ superpages_of table.shared.key.opening },
     ghost turned: { is_lanes turn ≡ table.shared.key.lanes },
     ghost framed: { frame_words ≡ frame_words_of table.shared.key },
     ghost spared: { (spare.items ≡ []) × (pages_of table.shared.key + pages_of table.shared.key ≤ vec_capacity spare) },

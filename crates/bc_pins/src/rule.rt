@@ -34,6 +34,42 @@ impl Play<Lodged, View> for Release {
     ghost then = { λ st m _ n. Gave st m n };
 }
 
+/// Bits of a bookmark word are set.
+pub struct BookmarkBit;
+
+impl Play<Lodged, View> for BookmarkBit {
+    ghost use Rattle.bc_pins.specs.Steps.{SetBits};
+
+    ghost then = { λ st m _ n. SetBits st m n };
+}
+
+/// A superpage is counted.
+pub struct CounterAdd;
+
+impl Play<Lodged, View> for CounterAdd {
+    ghost use Rattle.bc_pins.specs.Steps.{Counted};
+
+    ghost then = { λ st m _ n. Counted st m n };
+}
+
+/// A page is made Gone.
+pub struct MakeGone;
+
+impl Play<Lodged, View> for MakeGone {
+    ghost use Rattle.bc_pins.specs.Steps.{Left};
+
+    ghost then = { λ st m _ n. Left st m n };
+}
+
+/// A page is made Absent.
+pub struct MakeAbsent;
+
+impl Play<Lodged, View> for MakeAbsent {
+    ghost use Rattle.bc_pins.specs.Steps.{Vacated};
+
+    ghost then = { λ st m _ n. Vacated st m n };
+}
+
 /// A page's word is read.
 pub struct Look;
 

@@ -25,6 +25,8 @@ pub struct Hand {
     pub content: Page,
     /// The superpages that are counted for the page.
     pub counted: LinkedList<u32>,
+    /// The bookmark bits that were set for the page in this holding: in which word, and which bits.
+    pub marked: LinkedList<(u32, u64)>,
     /// The mark words of the page that were read in this holding, with what was read.
     pub looked: LinkedList<(u32, u64)>,
 }

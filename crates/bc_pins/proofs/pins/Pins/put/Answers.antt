@@ -25,7 +25,7 @@ store-requires c =
       c.exchange.ensures.0 ∙ seat.table,
       omega arith,
       gives_from _ _ _ _ _ _ v holds.hand c.args.held.homed p is holds.page w.low w.high seat.about holds.has seat.role (sym holds.frame)
-          may.fixed (λ y. w.flag (may.young y)) (λ on. w.flag (may.remembered holds.hand holds.has on)) (λ z. (may.others holds.hand holds.has z).0),
+          may.fixed (λ y. w.flag (may.young y)) (λ on. w.flag (may.remembered holds.hand holds.has on)) (λ z. (may.others holds.hand holds.has z).0) (may.counted holds.hand holds.has) (may.marked holds.hand holds.has),
     )
 
 pub returns-clause-same : goal.returns-clause-same

@@ -1,0 +1,179 @@
+-- What a step on a word that is no page's owes, and that the rule then holds after it: no box moves, and what is in hand and
+-- remembered stays. What it changes of counters, bits and frames each kind of step says itself.
+use Rattle.std.proofs.Common.{◌≡◌, ℕ, ◌+◌, ◌*◌, ◌<◌, ◌≤◌, ◌≢◌, ◌==◌, if◌then◌else◌, List, inl, inr, ap, sym, subst, ◌∙◌, arith, get_or-set_other}
+use mathlib.Core.Option.{some}
+use lib.ListN.{get_elem?}
+use Rattle.std.proofs.lemmas.List.{length-set}
+use Rattle.atomic_table.proofs.Lists.{at_set}
+use Rattle.bc_bits.specs.Counting.{one_if}
+use Rattle.bc_pins.specs.declared.views.View.{View}
+use Rattle.bc_pins.specs.Key.{Key, pages_of, owner, counter_at, bookmark_at, notice_at, mark_at, finished_at}
+use Rattle.std.specs.Int.{bit_at}
+use Rattle.bc_pins.specs.Totals.{total, times}
+use Rattle.bc_pins.specs.Views.{grips, grips_remembered, frame_in_hand, counted_for, sets_bit}
+use Rattle.bc_pins.specs.Facts.{Table, word, Lies, Place, remembered_now, Content, Standing, RecordsContent, Saw, Seated, Marking, Roles, Frames, points, adds_to, Counters, bookmark_bit, Bits, Still}
+use Rattle.bc_pins.specs.Rule.{SeatFacts, Rule}
+use Rattle.bc_pins.proofs.TotalLemmas.{total_set}
+use Rattle.bc_pins.proofs.SumLemmas.{sum_same}
+use Rattle.bc_pins.proofs.PageSteps.{after}
+use Rattle.bc_pins.proofs.MarkedLemmas.{KeepsBits, summary_more}
+
+-- what such a step owes: the word i becomes x, and the seat's view v becomes w
+pub record SideStep (k : Key) (s : Table) (rec : ℕ → List ℕ) (i x id : ℕ) (v w : View) : Type 0 where
+  pub far : pages_of k ≤ i
+  pub before : i < notice_at k
+  pub grip : (p : ℕ) → grips p w.hand ≡ grips p v.hand
+  pub flag : (p : ℕ) → grips_remembered p w.hand ≡ grips_remembered p v.hand
+  pub recorded : w.recorded ≡ v.recorded
+  pub left : w.left ≡ v.left
+  pub emptied : w.emptied ≡ v.emptied
+  pub fetched : w.fetched ≡ v.fetched
+  pub seen : w.seen ≡ v.seen
+  pub gone : w.gone ≡ v.gone
+  pub roles : w.roles ≡ v.roles
+  pub seated : Seated k w
+  pub records : RecordsContent k rec w
+  pub marking : Marking w
+  -- counters, bits and frames
+  pub set : KeepsBits k s.words (after s i x s.homes id w).words
+  pub counters : (q : ℕ) → q < k.supers → Counters k (after s i x s.homes id w) rec q
+  pub bits : (j b : ℕ) → j < 16 * k.supers → b < 64 → Bits k (after s i x s.homes id w) j b
+  pub frames : (f : ℕ) → Frames k (after s i x s.homes id w) f
+
+module _ (k : Key) (s : Table) (r : Rule k s) (i x id : ℕ) (v w : View) (at : get_elem? s.views id ≡ some v) (d : SideStep k s r.rec i x id v w) where
+  abbrev t : Table
+  t = after s i x s.homes id w
+
+  there : (j : ℕ) → j ≢ i → word t j ≡ word s j
+  there j ne = get_or-set_other s.words i j x 0 ne
+
+  page_word : (p : ℕ) → p < pages_of k → word t p ≡ word s p
+  page_word p lt = let far = d.far in there p (λ e. omega arith)
+
+  same_sum : (f : View → ℕ) → f w ≡ f v → total f t.views ≡ total f s.views
+  same_sum f e = let c = total_set f s.views id v w at in omega arith
+
+  now_same : (p : ℕ) → p < pages_of k → remembered_now t p ≡ remembered_now s p
+  now_same p lt =
+      let a : one_if (word t p == 2) ≡ one_if (word s p == 2) = ap (λ (n : ℕ). one_if (n == 2)) (page_word p lt) in
+      let b = same_sum (λ u. grips_remembered p u.hand) (d.flag p) in
+      omega arith
+
+  place_kept : (p : ℕ) → p < pages_of k → Place k t r.rec p
+  place_kept p lt =
+      let old = r.place p lt in
+      let a : one_if (word t p == 3) ≡ one_if (word s p == 3) = ap (λ (n : ℕ). one_if (n == 3)) (page_word p lt) in
+      let b = same_sum (λ u. grips p u.hand) (d.grip p) in
+      let held = old.held in
+      record { lies = rw (page_word p lt) old.lies; held = omega arith }
+
+  content_kept : (p : ℕ) → p < pages_of k → Content k t r.rec p
+  content_kept p lt =
+      let old = r.content p lt in
+      let same = now_same p lt in
+      record {
+        fixed = old.fixed;
+        young = λ y. let was = old.young y in omega arith;
+        bare = λ z. old.bare (sym (page_word p lt) ∙ z);
+        gone = λ e. summary_more k s.words t.words p (r.rec p) d.set (old.gone (sym (page_word p lt) ∙ e));
+      }
+
+  standing_kept : (p : ℕ) → p < pages_of k → Standing k t p
+  standing_kept p lt =
+      let old = r.standing p lt in
+      let now = now_same p lt in
+      let ever = same_sum (λ u. times p u.recorded) (ap (times p) d.recorded) in
+      let f = same_sum (λ u. times p u.fetched) (ap (times p) d.fetched) in
+      let l = same_sum (λ u. times p u.left) (ap (times p) d.left) in
+      let e = same_sum (λ u. times p u.emptied) (ap (times p) d.emptied) in
+      let four : one_if (word t p == 4) ≡ one_if (word s p == 4) = ap (λ (n : ℕ). one_if (n == 4)) (page_word p lt) in
+      let zeros : one_if (word t p == 0) ≡ one_if (word s p == 0) = ap (λ (n : ℕ). one_if (n == 0)) (page_word p lt) in
+      let gone = old.gone in
+      let absent = old.absent in
+      record {
+        remembered = λ lt. let a = old.remembered (omega arith) in omega arith;
+        recorded = λ lt. let a = old.recorded (omega arith) in omega arith;
+        gone = omega arith;
+        absent = omega arith;
+      }
+
+  saw_same : (u : View) → Saw k s u → Saw k t u
+  saw_same u old = record {
+    seen = λ p lt. let was = old.seen p lt in let has = was.1 in let now = now_same p was.0 in (was.0, omega arith);
+    gone = λ p lt. let was = old.gone p lt in (was.0, was.1, page_word p was.0 ∙ was.2);
+  }
+
+  -- the seat has read nothing more
+  saw_here : Saw k t w
+  saw_here =
+      let old = saw_same v (r.seats id v at).saw in
+      record {
+        seen = λ p lt. old.seen p (subst (λ (l : List ℕ). 0 < times p l) d.seen lt);
+        gone = λ p lt.
+            let was = old.gone p (subst (λ (l : List ℕ). 0 < times p l) d.gone lt) in
+            (was.0, subst (λ (l : List ℕ). 0 < times (owner k p) l) (sym d.roles) was.1, was.2);
+      }
+
+  seat_else : (j : ℕ) (u : View) → get_elem? s.views j ≡ some u → SeatFacts k t r.rec u
+  seat_else j u is = let old = r.seats j u is in record { seated = old.seated; records = old.records; saw = saw_same u old.saw; marking = old.marking }
+
+  seat_each : (j : ℕ) (u : View) → get_elem? t.views j ≡ some u → SeatFacts k t r.rec u
+  seat_each j u is = elim (at_set s.views id j w u is) [
+    | inl e ↦ subst (SeatFacts k t r.rec) e.1 (record { seated = d.seated; records = d.records; saw = saw_here; marking = d.marking })
+    | inr o ↦ seat_else j u o.1
+  ]
+
+  pub side_step : Rule k t
+  side_step = record {
+    rec = r.rec;
+    words = length-set s.words i x ∙ r.words;
+    slots = r.slots;
+    few = r.few;
+    place = place_kept;
+    content = content_kept;
+    standing = standing_kept;
+    seats = seat_each;
+    roles = record { each = λ n. same_sum (λ u. times n u.roles) (ap (times n) d.roles) ∙ r.roles.each n; apart = r.roles.apart; nobody = r.roles.nobody };
+    unowned = r.unowned;
+    frames = d.frames;
+    counters = d.counters;
+    bits = d.bits;
+    still = (let low = d.before in record {
+      marks = λ j turn lt. there (mark_at k j) (λ e. omega arith) ∙ r.still.marks j turn lt;
+      finished = λ j turn lt. there (finished_at k j) (λ e. omega arith) ∙ r.still.finished j turn lt;
+    });
+  }
+
+-- of the three groups of words a step on one leaves the others as they are
+pub counters_same : (k : Key) (s : Table) (r : Rule k s) (i x id : ℕ) (v w : View) (q : ℕ) → get_elem? s.views id ≡ some v → pages_of k ≤ i → q < k.supers → counter_at k q ≢ i → ((p : ℕ) → counted_for p q w.hand ≡ counted_for p q v.hand)
+    → Counters k (after s i x s.homes id w) r.rec q
+counters_same k s r i x id v w q at far lt other same =
+    let t : Table = after s i x s.homes id w in
+    get_or-set_other s.words i (counter_at k q) x 0 other ∙ r.counters q lt
+    ∙ sum_same (adds_to k s r.rec q) (adds_to k t r.rec q) (pages_of k) (λ p less.
+    let word_is : word t p ≡ word s p = get_or-set_other s.words i p x 0 (λ e. omega arith) in
+    let a : (if word t p == 4 then points k p (r.rec p) q else 0) ≡ (if word s p == 4 then points k p (r.rec p) q else 0) = ap (λ (n : ℕ). if n == 4 then points k p (r.rec p) q else 0) word_is in
+    let b = total_set (λ (u : View). counted_for p q u.hand) s.views id v w at in
+    let c = same p in
+    omega arith)
+
+pub bits_same : (k : Key) (s : Table) (r : Rule k s) (i x id : ℕ) (v w : View) (j b : ℕ) → get_elem? s.views id ≡ some v → j < 16 * k.supers → b < 64 → bookmark_at k j ≢ i → sets_bit j b w.bookmarked ≡ sets_bit j b v.bookmarked
+    → Bits k (after s i x s.homes id w) j b
+bits_same k s r i x id v w j b at lt few other same =
+    let t : Table = after s i x s.homes id w in
+    let old = r.bits j b lt few in
+    let bit : bookmark_bit k t.words j b ≡ bookmark_bit k s.words j b = ap (λ (n : ℕ). bit_at n b) (get_or-set_other s.words i (bookmark_at k j) x 0 other) in
+    let a = total_set (λ (u : View). sets_bit j b u.bookmarked) s.views id v w at in
+    record {
+      kept = λ lt. bit ∙ old.kept (omega arith);
+      only = λ lt. let z = old.only (omega arith) in omega arith;
+      cell = λ lt. old.cell (omega arith);
+    }
+
+pub frames_same : (k : Key) (s : Table) (r : Rule k s) (i x id : ℕ) (v w : View) → get_elem? s.views id ≡ some v → ((f : ℕ) → frame_in_hand f w.hand + times f w.rights ≡ frame_in_hand f v.hand + times f v.rights)
+    → (f : ℕ) → Frames k (after s i x s.homes id w) f
+frames_same k s r i x id v w at same f =
+    let old = r.frames f in
+    let a = total_set (λ (u : View). frame_in_hand f u.hand + times f u.rights) s.views id v w at in
+    let b = same f in
+    omega arith
