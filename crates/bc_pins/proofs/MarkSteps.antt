@@ -96,9 +96,10 @@ module _ (k : Key) (s : Table) (r : Rule k s) (id role : ℕ) (v : View) (h : Ha
   content = ((r.seats id v at).records.in_hand h has_one).1
 
   -- a view that changed its hand, and not the page and its content there
-  seated_kept : (u : View) → u.about ≡ v.about → u.roles ≡ v.roles → u.alive ≡ v.alive → Seated k u
+  seated_kept : (u : View) → u.about ≡ v.about → u.roles ≡ v.roles → u.fetched ≡ v.fetched → Seated k u
   seated_kept u a b c = record {
     about = λ e. a ∙ about;
+    unfetched = c ∙ (r.seats id v at).seated.unfetched;
     idle = λ e. let z : has_role v role ≡ 0 = ap (times role) (sym b ∙ e) in absurd (omega arith);
   }
 

@@ -135,7 +135,7 @@ module _ (k : Key) (s : Table) (r : Rule k s) (id : ℕ) (v : View) (at : get_el
 
   keeps_rest : SeatFacts k (with_views s views) r.rec (dealer v)
   keeps_rest = record {
-    seated = record { about = facts.seated.about; idle = λ _. idle_rest };
+    seated = record { about = facts.seated.about; unfetched = facts.seated.unfetched; idle = λ _. idle_rest };
     records = record {
       mine = λ p lt. let c = cut_times (owner k p) v.roles in facts.records.mine p (omega arith);
       others = λ p _. ap (entries p) no_change;
@@ -150,7 +150,7 @@ module _ (k : Key) (s : Table) (r : Rule k s) (id : ℕ) (v : View) (at : get_el
 
   has_first : SeatFacts k (with_views s views) r.rec (dealt v)
   has_first = record {
-    seated = record { about = facts.seated.about; idle = λ _. record { hand = refl; rights = refl; recorded = refl; left = refl; emptied = refl; fetched = refl; bookmarked = refl } };
+    seated = record { about = facts.seated.about; unfetched = refl; idle = λ _. record { hand = refl; rights = refl; recorded = refl; left = refl; emptied = refl; fetched = refl; bookmarked = refl } };
     records = record {
       mine = λ p lt. let c = cut_times (owner k p) v.roles in facts.records.mine p (omega arith) ∙ ap (λ (l : List (ℕ × List ℕ)). look_up p l (opened_content v.about p)) no_change;
       others = λ p _. refl;

@@ -124,9 +124,10 @@ pub record IsIdle (v : View) : Type 0 where
   pub fetched : v.fetched ≡ []
   pub bookmarked : v.bookmarked ≡ []
 
--- a seat knows what the table was told, and one without a role has done nothing
+-- a seat knows what the table was told, and one without a role has done nothing. None has taken a page from Gone: no step does yet
 pub record Seated (k : Key) (v : View) : Type 0 where
   pub about : v.alive ≡ true → v.about ≡ k
+  pub unfetched : v.fetched ≡ []
   pub idle : v.roles ≡ [] → IsIdle v
 
 -- Roles: each role that was given out is in exactly one view, and none was given out twice

@@ -160,18 +160,21 @@ pub record MayVacate (k : Key) (h : Hand) : Type 0 where
   pub uncounted : h.counted ≡ []
   pub unmarked : h.marked ≡ []
 
--- what a word tells that was read: the page's state, and what was read of it before is still so
+-- what a word tells that was read: the page's state, and what was read of it before is still so. No allocated cell lies on a page
+-- that is Absent
 pub record ReadsWord (v : View) (page found : ℕ) : Type 0 where
   pub word : found ≤ 4
+  pub bare : found ≡ 0 → IsBarePage v.about.opening page
   pub seen : 0 < times page v.seen → found ≢ 2 → found ≡ 3
   pub gone : 0 < times page v.gone → found ≡ 4
 
--- what the box tells of a page that was taken from Home, or from Home and remembered
+-- what the box tells of a page that was taken from Home, or from Home and remembered. It wasn't Gone at the opening
 pub record Takes (v : View) (page : ℕ) (remembered : Bool) (homed : Homed) : Type 0 where
   pub mine : 0 < has_role v (owner v.about page) → homed.page ≡ record_of v page
   pub fixed : IsContent v.about.opening page homed.page
   pub young : RefersYoung v.about.opening page homed.page → remembered ≡ true
   pub recorded : 0 < one_if (opened_word v.about page == 2) + times page v.recorded → remembered ≡ true
+  pub here : opened_word v.about page ≢ 4
 
 -- Take: the page is in hand with its box, or the word that was read is told
 pub record Took (st : Step Lodged) (m : Mine) (found : ℕ) (m' : Mine) : Type 0 where

@@ -20,6 +20,13 @@ impl Pins {
         &self.rest.parts.headers[superpage as usize]
     }
 
+    /// Where the superpages end, as an address in words.
+    pub fn end(&self) -> u32
+        ensures end { result ≡ 2048 * superpages (key_of self.now).opening }
+    {
+        2048 * self.rest.parts.headers.len() as u32
+    }
+
     /// How many pages the table has: four for each superpage up to the last that had a page which wasn't Absent.
     pub fn pages(&self) -> u32
         ensures pages { result ≡ pages_of (key_of self.now) }
