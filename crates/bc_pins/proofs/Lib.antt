@@ -48,6 +48,8 @@ pub mod GivingLemmas
 pub mod LeaveSteps
 -- Boxes that went into slots, and came back.
 pub mod RestLemmas
+-- The space at the opening: its cells lie on pages of the table
+pub mod InsideLemmas
 -- A table that is drawn from a space's parts
 pub mod DrawLemmas
 -- Seats that are joined one by one

@@ -97,16 +97,20 @@ released v page remembered content = record v {
   recorded = if remembered then page ∷ v.recorded else v.recorded;
 }
 
--- bits of a bookmark word were set for the page in hand
-abbrev pub bookmarking : View → Hand → ℕ → ℕ → View
-bookmarking v h w bits = record v {
+-- bits of a bookmark word were set for the page in hand, and the word was read as it was before
+abbrev pub bookmarking : View → Hand → ℕ → ℕ → ℕ → View
+bookmarking v h w bits found = record v {
   hand = Some (record h { marked = (w, bits) ∷ h.marked });
   bookmarked = (h.page, w, bits) ∷ v.bookmarked;
+  read = (bookmark_at v.about w, found) ∷ v.read;
 }
 
--- a superpage was counted for the page in hand
-abbrev pub counting : View → Hand → ℕ → View
-counting v h superpage = record v { hand = Some (record h { counted = superpage ∷ h.counted }) }
+-- a superpage was counted for the page in hand, and its counter was read as it was before
+abbrev pub counting : View → Hand → ℕ → ℕ → View
+counting v h superpage found = record v {
+  hand = Some (record h { counted = superpage ∷ h.counted });
+  read = (counter_at v.about superpage, found) ∷ v.read;
+}
 
 -- the page in hand was made Gone, or Absent; its frame is a right in hand
 abbrev pub leaving : View → Hand → View
@@ -189,20 +193,22 @@ pub record Gave (st : Step Lodged) (m m' : Mine) : Type 0 where
   pub view : (homed : Homed) → m.1 ≡ (st.word, Home homed) ∷ rest m.1 → m'.0 ≡ released m.0 st.word (st.first == 2) homed.page
 
 -- Bookmark bit, and counter add, of the page in hand
-pub record SetBits (st : Step Lodged) (m m' : Mine) : Type 0 where
-  pub view : (h : Hand) (w : ℕ) → m.0.hand ≡ Some h → st.word ≡ bookmark_at m.0.about w → m' ≡ (bookmarking m.0 h w st.first, m.1)
+pub record SetBits (st : Step Lodged) (m : Mine) (found : ℕ) (m' : Mine) : Type 0 where
+  pub view : (h : Hand) (w : ℕ) → m.0.hand ≡ Some h → st.word ≡ bookmark_at m.0.about w → m' ≡ (bookmarking m.0 h w st.first found, m.1)
 
-pub record Counted (st : Step Lodged) (m m' : Mine) : Type 0 where
-  pub view : (h : Hand) (q : ℕ) → m.0.hand ≡ Some h → st.word ≡ counter_at m.0.about q → m' ≡ (counting m.0 h q, m.1)
+pub record Counted (st : Step Lodged) (m : Mine) (found : ℕ) (m' : Mine) : Type 0 where
+  pub view : (h : Hand) (q : ℕ) → m.0.hand ≡ Some h → st.word ≡ counter_at m.0.about q → m' ≡ (counting m.0 h q found, m.1)
 
--- Relinquish word, and absent word: the slots are at home
+-- Relinquish word, and absent word: the slots are at home. The frame to which there is a right is one of the heap's
 pub record Left (st : Step Lodged) (m m' : Mine) : Type 0 where
   pub slots : m'.1 ≡ rest (rest m.1)
   pub view : (h : Hand) → m.0.hand ≡ Some h → m'.0 ≡ leaving m.0 h
+  pub frame : (h : Hand) → m.0.hand ≡ Some h → h.frame < m.0.about.frames
 
 pub record Vacated (st : Step Lodged) (m m' : Mine) : Type 0 where
   pub slots : m'.1 ≡ rest (rest m.1)
   pub view : (h : Hand) → m.0.hand ≡ Some h → m'.0 ≡ vacating m.0 h
+  pub frame : (h : Hand) → m.0.hand ≡ Some h → h.frame < m.0.about.frames
 
 -- Look
 pub record Looked (st : Step Lodged) (m : Mine) (found : ℕ) (m' : Mine) : Type 0 where

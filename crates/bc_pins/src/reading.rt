@@ -1,7 +1,10 @@
 //! What everybody may read of a table.
 
 ghost use Rattle.std.specs.Prelude.{◌≡◌, ℕ, ◌*◌, ◌<◌, slice_index};
+ghost use Rattle.bc_word.specs.Addresses.{page_of};
 ghost use Rattle.bc_superpages.specs.Layout.{superpages, set_of};
+ghost use Rattle.bc_superpages.specs.LayoutAt.{IsAllocated};
+ghost use Rattle.bc_superpages.specs.Kept.{IsLayout};
 ghost use Rattle.bc_pins.specs.Key.{pages_of, frame_words, is_lanes};
 ghost use Rattle.bc_pins.specs.Calls.{key_of};
 
@@ -10,6 +13,14 @@ use crate::pins::Pins;
 use bc_superpages::Header;
 
 impl Pins {
+    /// What holds of the space at the opening: its layout, and that each allocated cell lies on a page of the table.
+    pub fn facts(&self)
+        ensures layout { IsLayout (key_of self.now).opening }
+        ensures inside { (a : ℕ) → IsAllocated (key_of self.now).opening a → page_of a < pages_of (key_of self.now) }
+    {
+        self.rest.facts();
+    }
+
     /// The header of a superpage as it was at the opening. Its domain, class and cells don't change in a turn.
     pub fn header(&self, superpage: u32) -> &Header
         requires { superpage < superpages (key_of self.now).opening }
