@@ -42,6 +42,8 @@ pub mod MarkedLemmas
 pub mod SideSteps
 -- Bookmark bits and counters of the page in hand
 pub mod MarkSteps
+-- Giving up rights to frames
+pub mod FrameSteps
 -- A seat's slots while a box goes into its store slot
 pub mod GivingLemmas
 -- Making the page in hand Gone or Absent
@@ -58,6 +60,8 @@ pub mod GatherLemmas
 pub mod DrainLemmas
 -- Boxes that come out of slots
 pub mod BoxLemmas
+-- Frames that are given back to the pool
+pub mod PoolLemmas
 -- Headers into which states, counters and bookmarks were written.
 pub mod HeaderLemmas
 -- The space that a closed table's words and boxes make.

@@ -140,7 +140,7 @@ module _ (k : Key) (s : Table) (r : Rule k s) (id role : ℕ) (v : View) (h : Ha
     bit_there j b ne = ap (λ (n : ℕ). bit_at n b) (get_or-set_other s.words i (bookmark_at k j) x 0 (λ e. ne (omega arith)))
 
     keeps_set : KeepsBits k s.words t.words
-    keeps_set j b one = elim (cases_eq j w) [
+    keeps_set j b less one = elim (cases_eq j w) [
       | inl e ↦
           let a = bit_here b in
           let c = bit_few (word s i) b in
@@ -228,7 +228,7 @@ module _ (k : Key) (s : Table) (r : Rule k s) (id role : ℕ) (v : View) (h : Ha
           set = keeps_set;
           counters = λ q less. counters_same k s r i x id v u q at (omega arith) less (λ e. omega arith) (λ p. sym (ap (counted_for p q) has_one));
           bits = bits_now;
-          frames = frames_same k s r i x id v u at (λ f. ap (λ (n : ℕ). n + times f v.rights) (sym (ap (frame_in_hand f) has_one)));
+          frames = frames_same k s r i x id v u at (λ j e. omega arith) (λ f. ap (λ (n : ℕ). n + times f v.rights) (sym (ap (frame_in_hand f) has_one)));
         }
 
     pub mark_rule : Rule k t
@@ -347,10 +347,10 @@ module _ (k : Key) (s : Table) (r : Rule k s) (id role : ℕ) (v : View) (h : Ha
           seated = seated_kept c_view refl refl refl;
           records = records_kept c_view (record h { counted = q ∷ h.counted }) refl refl refl refl refl refl;
           marking = c_marking;
-          set = λ j b one. ap (λ (n : ℕ). bit_at n b) (get_or-set_other s.words c_at (bookmark_at k j) y 0 (λ e. omega arith)) ∙ one;
+          set = λ j b less one. ap (λ (n : ℕ). bit_at n b) (get_or-set_other s.words c_at (bookmark_at k j) y 0 (λ e. omega arith)) ∙ one;
           counters = counters_now;
           bits = λ j b less few. bits_same k s r c_at y id v c_view j b at less few (λ e. omega arith) refl;
-          frames = frames_same k s r c_at y id v c_view at (λ f. ap (λ (n : ℕ). n + times f v.rights) (sym (ap (frame_in_hand f) has_one)));
+          frames = frames_same k s r c_at y id v c_view at (λ j e. omega arith) (λ f. ap (λ (n : ℕ). n + times f v.rights) (sym (ap (frame_in_hand f) has_one)));
         }
 
     pub count_rule : Rule k c_table

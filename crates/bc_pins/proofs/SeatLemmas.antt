@@ -65,7 +65,7 @@ views_step k s r views sums each = record {
   seats = each;
   roles = record { each = λ n. sums.roles n ∙ r.roles.each n; apart = r.roles.apart; nobody = r.roles.nobody };
   unowned = r.unowned;
-  frames = λ f. let old = r.frames f in let a = sums.frame f in omega arith;
+  frames = λ f. let old = r.frames f in let used = old.used in let a = sums.frame f in record { used = omega arith; free = old.free; past = old.past };
   counters = λ q lt. r.counters q lt ∙ sym (sum_same (adds_to k (with_views s views) r.rec q) (adds_to k s r.rec q) (pages_of k) (λ j _. let a = sums.count j q in omega arith));
   bits = λ w b lt few.
       let old = r.bits w b lt few in

@@ -1,8 +1,8 @@
 -- The kinds of step: what the view is after each, and what each tells the seat that makes it.
-use Rattle.std.specs.Prelude.{◌≡◌, ◌≢◌, ℕ, ◌+◌, ◌*◌, ◌/◌, ◌%◌, ◌<◌, ◌≤◌, ◌==◌, ◌&&◌, Bool, true, false, if◌then◌else◌, nat_lt, List, [], ◌∷◌, ◌++◌, take, drop, Some, None}
+use Rattle.std.specs.Prelude.{◌≡◌, ◌≢◌, ℕ, ◌+◌, ◌*◌, ◌/◌, ◌%◌, ◌^◌, ◌<◌, ◌≤◌, ◌==◌, ◌&&◌, Bool, true, false, if◌then◌else◌, nat_lt, List, [], ◌∷◌, ◌++◌, take, drop, Some, None}
 use Rattle.atomic_table.specs.Table.{Me, Step, rest}
 use Rattle.bc_bits.specs.Counting.{one_if}
-use Rattle.std.specs.Int.{bit_at}
+use Rattle.std.specs.Int.{bit_at, bit_not, w64}
 use Rattle.bc_word.specs.Addresses.{superpage_of, cell_number}
 use Rattle.bc_superpages.specs.LayoutAt.{layout_of}
 use Rattle.bc_superpages.specs.Calls.{class_at}
@@ -12,7 +12,7 @@ use Rattle.bc_pins.specs.declared.views.Lodged.{Lodged}
 use Rattle.bc_pins.specs.declared.views.Lodged.TheVariants.{Nothing, Home}
 use Rattle.bc_pins.specs.declared.views.Hand.{Hand}
 use Rattle.bc_pins.specs.declared.views.View.{View}
-use Rattle.bc_pins.specs.Key.{Key, pages_of, owner, counter_at, bookmark_at}
+use Rattle.bc_pins.specs.Key.{Key, pages_of, owner, counter_at, bookmark_at, frame_at}
 use Rattle.bc_pins.specs.Totals.{times}
 use Rattle.bc_pins.specs.Contents.{IsContent, RefersYoung, IsBarePage, objects_in}
 use Rattle.bc_pins.specs.Facts.{points}
@@ -127,6 +127,18 @@ vacating v h = record v {
   rights = h.frame ∷ v.rights;
 }
 
+-- rights without those to frames whose bits, in this frame word, are among these
+abbrev pub given_back : ℕ → ℕ → List ℕ → List ℕ
+given_back w bits [] = []
+given_back w bits (f ∷ fs) = if (f / 64 == w) && (bit_at bits (f % 64) == 1) then given_back w bits fs else f ∷ given_back w bits fs
+
+abbrev pub giving : View → ℕ → ℕ → ℕ → View
+giving v w bits found = record v { rights = given_back w bits v.rights; read = (frame_at v.about w, found) ∷ v.read }
+
+-- each of the bits, in this frame word, is that of a frame to which the view has the right
+abbrev pub AreRights : View → ℕ → ℕ → Type 0
+AreRights v w bits = (b : ℕ) → b < 64 → 0 < bit_at bits b → 0 < times (64 * w + b) v.rights
+
 -- the slots of a page that was taken, as the seat has them: the frame slot first
 abbrev pub both_slots : Key → ℕ → Lodged → Lodged → List (ℕ × Lodged)
 both_slots k page frame store = (page, frame) ∷ (pages_of k + page, store) ∷ []
@@ -198,6 +210,10 @@ pub record SetBits (st : Step Lodged) (m : Mine) (found : ℕ) (m' : Mine) : Typ
 
 pub record Counted (st : Step Lodged) (m : Mine) (found : ℕ) (m' : Mine) : Type 0 where
   pub view : (h : Hand) (q : ℕ) → m.0.hand ≡ Some h → st.word ≡ counter_at m.0.about q → m' ≡ (counting m.0 h q found, m.1)
+
+-- Frame give
+pub record GaveFrames (st : Step Lodged) (m : Mine) (found : ℕ) (m' : Mine) : Type 0 where
+  pub view : (w bits : ℕ) → st.word ≡ frame_at m.0.about w → st.first ≡ bit_not w64 bits → bits < 2 ^ 64 → m' ≡ (giving m.0 w bits found, m.1)
 
 -- Relinquish word, and absent word: the slots are at home. The frame to which there is a right is one of the heap's
 pub record Left (st : Step Lodged) (m m' : Mine) : Type 0 where

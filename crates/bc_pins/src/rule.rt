@@ -52,6 +52,15 @@ impl Play<Lodged, View> for CounterAdd {
     ghost then = { Counted };
 }
 
+/// Rights to frames are given up.
+pub struct FrameGive;
+
+impl Play<Lodged, View> for FrameGive {
+    ghost use Rattle.bc_pins.specs.Steps.{GaveFrames};
+
+    ghost then = { GaveFrames };
+}
+
 /// A page is made Gone.
 pub struct MakeGone;
 
