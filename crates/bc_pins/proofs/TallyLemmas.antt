@@ -1,8 +1,8 @@
 -- Counters and bookmark bits at the opening and at the closing: what the space's headers say of its Gone pages is what the
 -- table's words say of them.
-use Rattle.std.proofs.Common.{◌≡◌, ℕ, ◌+◌, ◌-◌, ◌*◌, ◌/◌, ◌%◌, ◌<◌, ◌≤◌, ◌==◌, ◌&&◌, ◌⊎◌, Bool, true, false, if◌then◌else◌, List, length, slice_index, Some, None, inl, inr, refl, ap, sym, subst, ◌∙◌, arith}
+use Rattle.std.proofs.Common.{◌≡◌, ℕ, ◌+◌, ◌-◌, ◌*◌, ◌/◌, ◌%◌, ◌<◌, ◌≤◌, ◌==◌, ◌&&◌, ◌⊎◌, nat_lt, Bool, true, false, if◌then◌else◌, List, length, slice_index, Some, None, inl, inr, refl, ap, sym, subst, ◌∙◌, arith}
 use Rattle.std.specs.Int.{bit_at}
-use Rattle.std.proofs.lemmas.Bool.{cases_Bool, cases_lt, eqb-true, eq-eqb}
+use Rattle.std.proofs.lemmas.Bool.{cases_Bool, cases_lt, eqb-true, eq-eqb, ltb-true}
 use Rattle.bc_bits.proofs.BitLemmas.{has-beyond}
 use Rattle.bc_classes.specs.ClassNumbers.{IsClass}
 use Rattle.bc_classes.proofs.ClassLemmas.{cap-few}
@@ -24,6 +24,12 @@ use Rattle.bc_pins.specs.Views.{state_word}
 use Rattle.bc_pins.specs.Contents.{objects_in}
 use Rattle.bc_pins.specs.Facts.{points, Summary}
 use Rattle.bc_pins.proofs.SumLemmas.{sum_same, sum_none, sum_cut, count_sum}
+
+pub ge-nat_lt : (f m : ℕ) → m ≤ f → nat_lt f m ≡ false
+ge-nat_lt f m le = elim (cases_Bool (nat_lt f m)) [
+  | inl on ↦ let a : f < m = ltb-true f m on in absurd (omega arith)
+  | inr off ↦ off
+]
 
 -- Gone, by the word
 pub gone_word : (st : PageState) → is_gone st ≡ (state_word st == 4)

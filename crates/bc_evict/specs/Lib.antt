@@ -1,0 +1,6 @@
+-- What a seat may give up, and what it has then
+pub mod Evicting
+-- What a view says once the targets of a page were bookmarked
+pub mod Marking
+-- What a page whose word says Gone is
+pub mod GonePages
