@@ -78,18 +78,7 @@ fits-moved setup moves fits = record {
   used = subst (λ (s : Layout). HasDomainsBelow s setup.domains) (sym moves.same) fits.used;
 }
 
--- an empty chunk has no object
-pub none-young : {X : Type 0} (c : Nursery) (a : ℕ) → c.objects ≡ [] → has_object c a ≡ true → X
-none-young c a none has =
-    absurd (false_true (sym (ap (λ (os : List ChunkObject). is_some (find (λ o. nat_same o.address a) os)) none) ∙ has))
-  where
-    nat_same : ℕ → ℕ → Bool
-    nat_same x y = x == y
-
-    false_true : false ≡ true → ⊥
-    false_true e = cc
-
--- nor has a list of empty chunks
+-- an empty chunk has no object, nor has a list of empty chunks
 none-in : (c : Nursery) (a : ℕ) → c.objects ≡ [] → has_object c a ≡ false
 none-in c a none = grind (arith, none)
 
