@@ -83,7 +83,7 @@ round-more {lanes} {lines} {e} {f} {told} {mid} {next} g replies at round =
     (f, mid, at.rounds, subst (λ (hints : List ℕ). RanRound lanes f mid hints g replies) (line-hints lines at.count next at.line) round)
 
 pub turns-more : {lanes : List (List Op)} {lines : List (List ℕ)} {e f : EngineView} {told mid : List (Vec Reply Global)} {next : ℕ} (g : EngineView) (replies : List (Vec Reply Global)) (behind_it : ℕ) → IsAtTurn lanes lines e told f mid next → behind_it ≡ line_behind lines next → RanRound lanes f mid (hints_at lines next) g replies → IsAtTurn lanes lines e told g replies behind_it
-turns-more {lanes} {lines} {next = next} g replies behind_it at moved round = record {
+turns-more {lanes} {lines} {e} {f} {told} {mid} {next} g replies behind_it at moved round = record {
   count = suc at.count;
   rounds = round-more g replies at round;
   line = line-next lines at.count next behind_it moved at.line;

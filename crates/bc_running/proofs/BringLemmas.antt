@@ -1,11 +1,9 @@
 -- The page of the object that an operation looks at: when it is Gone, and that it comes home.
-use Rattle.std.proofs.Common.{◌≡◌, ◌↔◌, ◌⊎◌, ℕ, ◌+◌, ◌*◌, ◌<◌, ◌==◌, Bool, true, false, inl, inr, List, get_or, Option, Some, None, Result, Ok, Err, refl, sym, ap, subst, ◌∙◌, arith}
+use Rattle.std.proofs.Common.{◌≡◌, ℕ, ◌+◌, ◌*◌, ◌<◌, ◌==◌, Bool, true, false, inl, inr, List, length, get_or, Option, Some, None, refl, sym, ap, subst, ◌∙◌, arith}
 use Rattle.std.specs.List.{list_all}
-use Rattle.std.specs.Prelude.{IsErrOf}
-use Rattle.std.specs.Result.{OnOk}
 use Rattle.bc_bookmarks.specs.Changes.{Reloaded}
 use Rattle.bc_bookmarks.specs.Choices.{GivenUp, MadeRoom}
-use Rattle.bc_bookmarks.specs.Moves.{NoPageGoes}
+use Rattle.bc_bookmarks.specs.Moves.{CanMakeRoom, NoPageGoes}
 use Rattle.bc_model.specs.Step.{domains_of}
 use Rattle.bc_model.specs.WellFormed.{IsSlot}
 use Rattle.bc_model.specs.declared.operations.Op.{Op}
@@ -14,37 +12,41 @@ use Rattle.bc_model.specs.declared.values.Slot.{Slot}
 use Rattle.bc_mutator.specs.Objects.{AreWhole, slot_word}
 use Rattle.bc_mutator.specs.Operations.{IsOpOf, WantsMore, setup_of}
 use Rattle.bc_mutator.specs.Parts.{touched_slot}
-use Rattle.bc_mutator.specs.declared.operations.Stop.{Stop}
-use Rattle.bc_mutator.specs.declared.operations.Stop.TheVariants.{NoFrame}
 use Rattle.bc_mutator.proofs.ObjectLemmas.{LieBehind-laid, allocated-below, there-below}
 use Rattle.bc_nursery.specs.Entries.{Entries}
 use Rattle.bc_nursery.specs.Nurseries.{Nursery}
-use Rattle.bc_superpages.specs.declared.headers.PageState.{PageState}
 use Rattle.bc_superpages.specs.declared.headers.PageState.TheVariants.{Gone}
 use Rattle.bc_superpages.specs.Headers.{is_gone}
 use Rattle.bc_superpages.specs.Kept.{IsLayout}
-use Rattle.bc_superpages.specs.Layout.{Layout, superpages}
+use Rattle.bc_superpages.specs.Layout.{Layout, is_cell, superpages}
 use Rattle.bc_superpages.specs.LayoutAt.{state_at}
 use Rattle.bc_superpages.specs.RootWords.{RootWords}
 use Rattle.bc_whole_heap.specs.Closed.{IsClosedHeap}
 use Rattle.bc_whole_heap.specs.LaneChunks.{chunk_of}
 use Rattle.bc_whole_heap.specs.Heaps.{end_of}
-use Rattle.bc_whole_heap.specs.HeapFacts.{view_of}
+use Rattle.bc_whole_heap.specs.HeapFacts.{NoneRemembered, view_of}
 use Rattle.bc_whole_heap.specs.Running.{IsRunning}
 use Rattle.bc_word.specs.Addresses.{page_of}
 use Rattle.bc_word.specs.declared.addresses.Address.{Address}
 use Rattle.bc_word.specs.declared.words.Word.TheVariants.{Ref}
-use Rattle.bc_running.specs.Touching.{BringsHome, CameHome, IsHere, IsTouching, LeadsToPage, LooksAtGone, TouchesHere}
+use Rattle.bc_running.specs.Running.{RunningView}
+use Rattle.bc_running.specs.RunningFacts.{IsSound}
+use Rattle.bc_running.specs.Touching.{BringsHome, IsHere, IsTouching, LeadsToPage, LooksAtGone, TouchesHere}
+
+true_false : {X : Type 0} (b : Bool) → b ≡ false → b ≡ true → X
+true_false b off on = absurd (let e : false ≡ true = sym off ∙ on in cc)
+
+-- room can be made in a heap that lanes run on, where nothing is remembered
+pub room-sound : {r : RunningView} → IsSound r → NoneRemembered r.heap.space → CanMakeRoom r.heap.space
+room-sound {r} sound none = record {
+  remembered = none;
+  promised = λ p lt home x on here. true_false (is_cell r.heap.space.classes r.heap.space.promised x) (sound.running.none_promised x) on;
+  frames = let two = sound.frames in omega arith;
+}
 
 -- the lane holds all domains that the operation names
 abbrev pub all_held : List ℕ → ℕ → Op → Bool
 all_held hs lane op = list_all (λ d. get_or hs d 0 == lane) (domains_of op)
-
-true_false : {X : Type 0} (b : Bool) → b ≡ false → b ≡ true → X
-true_false b n y = absurd (let e : false ≡ true = sym n ∙ y in cc)
-
-pub looks-held : {hs : List ℕ} {lane : ℕ} {s : Layout} {r : RootWords} {op : Op} (b : Bool) → b ≡ all_held hs lane op → b ≡ false → LooksAtGone hs lane s r op → ⊥
-looks-held {hs} {lane} {s} {r} {op} b is no looks = true_false (all_held hs lane op) (sym is ∙ no) looks.held
 
 -- it looks at no such page where what its slot refers to is elsewhere
 pub looks-elsewhere : {hs : List ℕ} {lane : ℕ} {s : Layout} {r : RootWords} {op : Op} → IsLayout s → TouchesHere s r (touched_slot op) → LooksAtGone hs lane s r op → ⊥
@@ -137,18 +139,18 @@ pub looks-touching : {hs : List ℕ} {lane : ℕ} {s : Layout} {r : RootWords} {
 looks-touching looks = subst IsTouching (sym looks.touched) tt
 
 -- one that makes an object looks at none
-pub wants-elsewhere : {hs : List ℕ} {lane words : ℕ} {s t : Layout} {r : RootWords} (op : Op) → WantsMore hs lane words op → BringsHome hs lane s r op t → t ≡ s
-wants-elsewhere op wants (inr same) = same.1
-wants-elsewhere (New p n) wants (inl came) = absurd (let e = came.looks.touched in none_some came.looks.slot e)
+pub wants-elsewhere : {hs : List ℕ} {lane : ℕ} {s t : Layout} {r : RootWords} (words : ℕ) (op : Op) → WantsMore hs lane words op → BringsHome hs lane s r op t → t ≡ s
+wants-elsewhere words op wants (inr same) = same.1
+wants-elsewhere words (New p n) wants (inl came) = absurd (let e = came.looks.touched in none_some came.looks.slot e)
   where
     none_some : (x : Slot) → None ≡ Some x → ⊥
     none_some x e = cc
-wants-elsewhere (Who p) wants (inl came) = absurd wants
-wants-elsewhere (Len p) wants (inl came) = absurd wants
-wants-elsewhere (Set p i v) wants (inl came) = absurd wants
-wants-elsewhere (Cut p i) wants (inl came) = absurd wants
-wants-elsewhere (Link p i q) wants (inl came) = absurd wants
-wants-elsewhere (Load p i q) wants (inl came) = absurd wants
-wants-elsewhere (Copy p q) wants (inl came) = absurd wants
-wants-elsewhere (Clear p) wants (inl came) = absurd wants
-wants-elsewhere (Same p q) wants (inl came) = absurd wants
+wants-elsewhere words (Who p) wants (inl came) = absurd wants
+wants-elsewhere words (Len p) wants (inl came) = absurd wants
+wants-elsewhere words (Set p i v) wants (inl came) = absurd wants
+wants-elsewhere words (Cut p i) wants (inl came) = absurd wants
+wants-elsewhere words (Link p i q) wants (inl came) = absurd wants
+wants-elsewhere words (Load p i q) wants (inl came) = absurd wants
+wants-elsewhere words (Copy p q) wants (inl came) = absurd wants
+wants-elsewhere words (Clear p) wants (inl came) = absurd wants
+wants-elsewhere words (Same p q) wants (inl came) = absurd wants

@@ -111,11 +111,11 @@ none-young c a none has =
 -- chunks that differ only in what is kept beside their objects are empty alike
 pub empty-alike : (cs ds : List Nursery) → map bare_nursery ds ≡ map bare_nursery cs → ((l : ℕ) → (chunk_of cs l).objects ≡ []) → (l : ℕ) → (chunk_of ds l).objects ≡ []
 empty-alike cs ds same none l = none-bare (chunk_of ds l).objects (
-  ap (λ (c : Nursery). c.objects) (sym (get_or-map bare_nursery ds l no_chunk))
-  ∙ ap (λ (xs : List Nursery). (chunk_of xs l).objects) same
-  ∙ ap (λ (c : Nursery). c.objects) (get_or-map bare_nursery cs l no_chunk)
-  ∙ ap (map bare_object) (none l)
-)
+    ap (λ (c : Nursery). c.objects) (sym (get_or-map bare_nursery ds l no_chunk))
+    ∙ ap (λ (xs : List Nursery). (chunk_of xs l).objects) same
+    ∙ ap (λ (c : Nursery). c.objects) (get_or-map bare_nursery cs l no_chunk)
+    ∙ ap (map bare_object) (none l)
+    )
   where
     some_none : (o : ChunkObject) (os : List ChunkObject) → o ∷ os ≡ [] → ⊥
     some_none o os e = cc

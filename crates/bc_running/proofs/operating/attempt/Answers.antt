@@ -74,7 +74,7 @@ pub returns-in-Ok-clause-full : goal.returns-in-Ok-clause-full
 returns-in-Ok-clause-full c = λ stopped.
     let h = c.args.heap.now in
     let e = c.operate_here.ensures in
-    let same = wants-elsewhere {lane = c.args.lane} {s = h.space} {r = h.roots} c.args.op.now (e.nursery.0 stopped) c.in-Ok.ensures.brings in
+    let same = wants-elsewhere (left_of (chunk_of h.chunks.items c.args.lane)) c.args.op.now (e.nursery.0 stopped) c.in-Ok.ensures.brings in
     (at_err c.operate_here.result NurseryFull stopped e.same).0 ∙ ap (λ (s : Space). record h { space = s }) same
 
 pub returns-in-Ok-clause-brings : goal.returns-in-Ok-clause-brings
