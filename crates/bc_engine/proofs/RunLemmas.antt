@@ -184,8 +184,8 @@ each-further lanes told mid answers n b before others each one none j lt some = 
     here false yes_one at_end less = absurd (let end = at_end refl in omega (arith, end, less, same))
 
 -- and the lanes behind it are as before
-pub as-before : {lane : ℕ} {r q : RunningView} {told mid answers : List (List Reply)} → AreAsBefore lane told mid → LeavesOthers lane r mid q answers → AreAsBefore (lane + 1) told answers
-as-before {lane} before leaves j le = leaves.replies j (omega (arith, le)) ∙ before j (omega (arith, le))
+pub as-before : {lane : ℕ} {r q : RunningView} {mid answers : List (List Reply)} (told : List (List Reply)) → AreAsBefore lane told mid → LeavesOthers lane r mid q answers → AreAsBefore (lane + 1) told answers
+as-before {lane} told before leaves j le = leaves.replies j (omega (arith, le)) ∙ before j (omega (arith, le))
 
 -- the replies of another lane
 pub told-other : (vs : List (Vec Reply Global)) (lane l : ℕ) (w : Vec Reply Global) → l ≢ lane → of_lane (lists_of (set vs lane w)) l ≡ of_lane (lists_of vs) l

@@ -16,7 +16,7 @@ ghost use Rattle.bc_model.specs.State.{State};
 ghost use Rattle.bc_model.specs.WellFormed.{IsGive, IsPhase};
 
 use crate::engines::{Ended, Engine};
-use bc_failsafe::{Need, law_room};
+use bc_failsafe::law_room;
 use bc_gates::Gate;
 use bc_model::{Give, Op, Phase, Replies, Reply};
 use std::alloc::{AllocError, Global};
@@ -119,9 +119,10 @@ impl Engine {
                 self.room_facts();
                 Ok(Replies { lanes: replies })
             }
-            Err(Need(need)) => {
+            Err(need) => {
                 self.facts();
                 let replies = Replies { lanes: replies };
+                let need = need.0;
                 Err(PhaseNo::OutOfHeap { replies, need })
             }
         }

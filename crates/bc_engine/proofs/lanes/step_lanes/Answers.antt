@@ -30,5 +30,5 @@ loop-lane-preserved c =
       each = each-further (lists_of c.args.lanes.now) (lists_of c.args.replies.now) (lists_of c.loop-lane.replies) (lists_of c.advance-further.new.replies) lane c.advance-further.result
           before.before e.others.replies before.each e.further
           (λ stop. subst (λ (vs : List (Vec Reply Global)). length (of_lane (lists_of c.args.lanes.now) lane) ≤ length (of_lane (lists_of vs) lane)) (e.same stop) (e.alone here before.unrecorded stop));
-      before = as-before before.before e.others;
+      before = as-before (lists_of c.args.replies.now) before.before e.others;
     }

@@ -53,7 +53,7 @@ returns-in-Err-clause-cut g c =
     let lent = ap length c.deref_mut.ensures.value in
     let len = c.deref_mut.ensures.len in
     let os = lists_of c.deref.result.now in
-    cut-lent c.args.self.now c.rounds.new.self c.args.phase.now os c.deref_mut.result.now c.args.replies.items c.rounds.new.replies _ c.in-Err.need
+    cut-lent c.args.self.now c.rounds.new.self c.args.phase.now os c.deref_mut.result.now c.args.replies.items c.rounds.new.replies _ c.in-Err.need.0
     (record { engine = c.facts.ensures.engine; going = c.requires.going; phase = c.requires.phase; room = c.requires.room })
     c.facts-in-Err.ensures.engine
     (ap lists_of c.deref.ensures.value ∙ ap (λ (p : PhaseLists). p.lanes) c.phase.view_is) c.deref_mut.ensures.value
