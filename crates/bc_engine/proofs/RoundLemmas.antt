@@ -1,5 +1,5 @@
 -- A round: the lanes run, the nurseries are emptied, and the lanes that aren't at their ends do one operation more.
-use Rattle.std.proofs.Common.{Vec, Global, ◌≡◌, ◌≢◌, ℕ, ◌<◌, ◌≤◌, List, length, Option, Some, None, Err, refl, sym, ap, subst, ◌∙◌, arith}
+use Rattle.std.proofs.Common.{Vec, Global, ◌≡◌, ◌≢◌, ℕ, ◌<◌, ◌≤◌, List, length, Option, Some, None, Err, refl, sym, subst, arith}
 use Rattle.bc_cycle.specs.Causes.{IfOutOfHeap}
 use Rattle.bc_cycle.specs.Emptying.{KeepsMeaning}
 use Rattle.bc_cycle.specs.declared.emptying.CycleNo.{CycleNo}
