@@ -10,8 +10,10 @@ use Rattle.bc_whole_heap.proofs.ClosedLemmas.{running-survivors}
 use Rattle.bc_whole_heap.proofs.MovingLemmas.{running-moved, stands-moved}
 use Rattle.bc_running.specs.Running.{RunningView, RunningStands}
 use Rattle.bc_running.specs.RunningFacts.{IsSound, StaysBut, with_space}
-use Rattle.bc_running.specs.Touching.{IsTouching, SameRemembered}
+use Rattle.bc_running.specs.Touching.{LooksAtGone, SameRemembered}
+use Rattle.bc_running.proofs.BringLemmas.{looks-touching}
 use Rattle.bc_running.proofs.MovingLemmas.{needs-kept}
+use Rattle.bc_running.proofs.SoundLemmas.{none-young}
 use Rattle.bc_model.specs.State.{State}
 use Rattle.bc_model.specs.Step.{step}
 use Rattle.bc_model.specs.declared.operations.Op.{Op}
@@ -20,7 +22,6 @@ use Rattle.bc_model.specs.declared.operations.Reply.{Reply}
 use Rattle.bc_model.specs.declared.traces.Setup.{Setup}
 use Rattle.bc_model.proofs.Steps.{made-step}
 use Rattle.bc_mutator.specs.Operations.{IsOpOf, WantsMore, NeedsEntry}
-use Rattle.bc_mutator.specs.Parts.{touched_slot}
 use Rattle.bc_mutator.specs.declared.operations.Stop.{Stop}
 use Rattle.bc_mutator.specs.declared.operations.Stop.TheVariants.{NurseryFull, BufferFull, NoFrame}
 use Rattle.bc_mutator.proofs.NewLemmas.{births-count, none-later}
@@ -32,7 +33,7 @@ use Rattle.bc_superpages.specs.RootWords.{RootWords}
 use Rattle.bc_engine.specs.Engines.{EngineView}
 use Rattle.bc_engine.specs.EngineFacts.{CanRunLanes, IsEngine, IsReadyForSurvivors, IsUnrecorded}
 use Rattle.bc_engine.specs.Lanes.{Does, IsHeldUp, Stops}
-use Rattle.bc_engine.proofs.Sizes.{fits-moved, fits-step, op-of_state, none-young}
+use Rattle.bc_engine.proofs.Sizes.{fits-moved, fits-step, op-of_state}
 
 -- what the operation is to every state that the heap stands for
 abbrev pub IsStep : ℕ → Op → RunningView → RunningView → Reply → Type 0
@@ -159,7 +160,7 @@ why-stopped A B C (Err NoFrame) full wants frame = inr (inr (frame refl))
 
 -- of the heap of which pages moved
 pub still-stops : (lane : ℕ) (op : Op) {r q : RunningView} → IsMoved r q
-    → (WantsMore r.holders lane (left_of (chunk_of r.heap.chunks lane)) op) ⊎ ((NeedsEntry r.holders lane r.heap.space r.heap.roots (chunk_of r.heap.chunks lane) (buffer_of r.heap.buffers lane) op) ⊎ (IsTouching (touched_slot op) × NoPageGoes r.heap.space × (q ≡ r)))
+    → (WantsMore r.holders lane (left_of (chunk_of r.heap.chunks lane)) op) ⊎ ((NeedsEntry r.holders lane r.heap.space r.heap.roots (chunk_of r.heap.chunks lane) (buffer_of r.heap.buffers lane) op) ⊎ (LooksAtGone r.holders lane r.heap.space r.heap.roots op × NoPageGoes r.heap.space × (q ≡ r)))
     → Stops lane op q
 still-stops lane op {r} {q} moved (inl wants) = subst (Stops lane op) (sym moved.1) (inl wants)
 still-stops lane op {r} {q} moved (inr (inl needs)) =
@@ -181,7 +182,7 @@ at-capacity hs lane s roots c b (Same p q) needs = absurd needs
 
 pub held-up : (lane : ℕ) (op : Op) (r : RunningView) → Stops lane op r → IsHeldUp lane op r
 held-up lane op r (inl wants) = inl wants
-held-up lane op r (inr (inr frame)) = inr (inr frame.0)
+held-up lane op r (inr (inr frame)) = inr (inr (looks-touching frame.0, frame.0.held))
 held-up lane op r (inr (inl needs)) = inr (inl (at-capacity r.holders lane r.heap.space r.heap.roots (chunk_of r.heap.chunks lane) (buffer_of r.heap.buffers lane) op needs))
 
 -- where nothing was recorded nothing is, if no buffer changed and no page became Remembered

@@ -7,6 +7,7 @@ use Rattle.std.specs.List.{AllByRecursion}
 use Rattle.bc_whole_heap.specs.Closed.{buffer_of}
 use Rattle.bc_whole_heap.specs.LaneChunks.{chunk_of}
 use Rattle.bc_running.specs.Running.{RunningView, RunningStands}
+use Rattle.bc_running.specs.Touching.{LooksAtObject}
 use Rattle.bc_model.specs.Rows.{lists_of}
 use Rattle.bc_model.specs.WellFormed.{IsOp}
 use Rattle.bc_model.proofs.Runs.{at-index}
@@ -162,18 +163,29 @@ left-less (ops ∷ lanes) (t ∷ ts) [] j more within some further = absurd (ome
 left-less (ops ∷ lanes) (t ∷ ts) (a ∷ bs) zero more within some further = omega (arith, left-le lanes ts bs (λ i. more (suc i)))
 left-less (ops ∷ lanes) (t ∷ ts) (a ∷ bs) (suc j) more within some further = omega (arith, more 0, left-less lanes ts bs j (λ i. more (suc i)) (omega arith) some further)
 
+-- the lanes from one on have the replies that they had
+abbrev pub AreAsBefore : ℕ → List (List Reply) → List (List Reply) → Type 0
+AreAsBefore n told mid = (j : ℕ) → n ≤ j → of_lane mid j ≡ of_lane told j
+
 -- one lane more has done an operation, unless it was at its end
-pub each-further : (lanes : List (List Op)) (told mid answers : List (List Reply)) (n : ℕ) (b : Bool) → ((j : ℕ) → length (of_lane told j) ≤ length (of_lane mid j)) → ((j : ℕ) → length (of_lane mid j) ≤ length (of_lane answers j)) → EachFurther n lanes told mid → (b ≡ true → IsOneMore (of_lane lanes n) (of_lane mid n) (of_lane answers n)) → (b ≡ false → length (of_lane lanes n) ≤ length (of_lane answers n)) → EachFurther (n + 1) lanes told answers
-each-further lanes told mid answers n b first second each one none j lt some = elim (cases_eq j n) [
+pub each-further : (lanes : List (List Op)) (told mid answers : List (List Reply)) (n : ℕ) (b : Bool) → AreAsBefore n told mid → ((j : ℕ) → j ≢ n → of_lane answers j ≡ of_lane mid j) → EachFurther n lanes told mid → (b ≡ true → IsOneMore (of_lane lanes n) (of_lane mid n) (of_lane answers n)) → (b ≡ false → length (of_lane lanes n) ≤ length (of_lane mid n)) → EachFurther (n + 1) lanes told answers
+each-further lanes told mid answers n b before others each one none j lt some = elim (cases_eq j n) [
   | inl e ↦
-      subst (λ (m : ℕ). length (of_lane told m) < length (of_lane answers m)) (sym e)
+      subst (λ (m : ℕ). length (of_lane answers m) ≡ length (of_lane told m) + 1) (sym e)
       (here b one none (subst (λ (m : ℕ). length (of_lane told m) < length (of_lane lanes m)) e some))
-  | inr ne ↦ omega (arith, each j (omega arith) some, second j)
+  | inr ne ↦ ap length (others j ne) ∙ each j (omega (arith, lt, ne)) some
 ]
   where
-    here : (t : Bool) → (t ≡ true → IsOneMore (of_lane lanes n) (of_lane mid n) (of_lane answers n)) → (t ≡ false → length (of_lane lanes n) ≤ length (of_lane answers n)) → length (of_lane told n) < length (of_lane lanes n) → length (of_lane told n) < length (of_lane answers n)
-    here true yes_one at_end less = omega (arith, (yes_one refl).1, first n)
-    here false yes_one at_end less = omega (arith, at_end refl)
+    same : length (of_lane mid n) ≡ length (of_lane told n)
+    same = ap length (before n (omega arith))
+
+    here : (t : Bool) → (t ≡ true → IsOneMore (of_lane lanes n) (of_lane mid n) (of_lane answers n)) → (t ≡ false → length (of_lane lanes n) ≤ length (of_lane mid n)) → length (of_lane told n) < length (of_lane lanes n) → length (of_lane answers n) ≡ length (of_lane told n) + 1
+    here true yes_one at_end less = (yes_one refl).1 ∙ ap (λ (k : ℕ). k + 1) same
+    here false yes_one at_end less = absurd (let end = at_end refl in omega (arith, end, less, same))
+
+-- and the lanes behind it are as before
+pub as-before : {lane : ℕ} {r q : RunningView} {mid answers : List (List Reply)} (told : List (List Reply)) → AreAsBefore lane told mid → LeavesOthers lane r mid q answers → AreAsBefore (lane + 1) told answers
+as-before {lane} told before leaves j le = leaves.replies j (omega (arith, le)) ∙ before j (omega (arith, le))
 
 -- the replies of another lane
 pub told-other : (vs : List (Vec Reply Global)) (lane l : ℕ) (w : Vec Reply Global) → l ≢ lane → of_lane (lists_of (set vs lane w)) l ≡ of_lane (lists_of vs) l
@@ -210,7 +222,7 @@ still-held l op {r} {q} leaves ne (inl wants) =
     inl (subst (λ (hs : List ℕ). WantsMore hs l (left_of (chunk_of q.heap.chunks l)) op) (sym leaves.held)
     (subst (λ (c : Nursery). WantsMore r.holders l (left_of c) op) (sym (leaves.chunk l ne)) wants))
 still-held l op leaves ne (inr (inl full)) = inr (inl (subst (λ (b : Entries). length b.entries ≡ b.capacity) (sym (leaves.buffer l ne)) full))
-still-held l op leaves ne (inr (inr touches)) = inr (inr touches)
+still-held l op {r} {q} leaves ne (inr (inr looks)) = inr (inr (subst (λ (hs : List ℕ). LooksAtObject hs l op) (sym leaves.held) looks))
 
 weaker : (P Q : Op → Type 0) (ops : List Op) (rs : List Reply) → ((op : Op) → P op → Q op) → IsAtEndOr ops rs P → IsAtEndOr ops rs Q
 weaker P Q ops rs f (inl end) = inl end

@@ -14,12 +14,11 @@ use Rattle.bc_model.specs.declared.operations.Op.{Op}
 use Rattle.bc_model.specs.declared.operations.Reply.{Reply}
 use Rattle.bc_model.specs.declared.traces.Setup.{Setup}
 use Rattle.bc_mutator.specs.Operations.{WantsMore, NeedsEntry}
-use Rattle.bc_mutator.specs.Parts.{touched_slot}
 use Rattle.bc_nursery.specs.Objects.{left_of}
 use Rattle.bc_engine.specs.Engines.{EngineView}
 use Rattle.bc_engine.specs.EngineFacts.{CanRunLanes}
 use Rattle.bc_running.specs.Running.{RunningView, RunningStands}
-use Rattle.bc_running.specs.Touching.{IsTouching}
+use Rattle.bc_running.specs.Touching.{LooksAtGone, LooksAtObject}
 
 -- the operations of a lane, or its replies
 abbrev pub of_lane : {X : Type 0} → List (List X) → ℕ → List X
@@ -80,20 +79,20 @@ abbrev pub IsOneMore : List Op → List Reply → List Reply → Type 0
 IsOneMore ops before after = (length before < length ops) × (length after ≡ length before + 1)
 
 -- an operation of a lane can't be done yet: the object takes more words than are left of the chunk, or an entry is needed and
--- the write buffer is at capacity, or it looks at an object, no frame is free and no page can leave
+-- the write buffer is at capacity, or it looks at an object on a page that is Gone, no frame is free and no page can leave
 abbrev pub Stops : ℕ → Op → RunningView → Type 0
 Stops lane op r =
     WantsMore r.holders lane (left_of (chunk_of r.heap.chunks lane)) op
     ⊎ (NeedsEntry r.holders lane r.heap.space r.heap.roots (chunk_of r.heap.chunks lane) (buffer_of r.heap.buffers lane) op
-    ⊎ (IsTouching (touched_slot op) × NoPageGoes r.heap.space))
+    ⊎ (LooksAtGone r.holders lane r.heap.space r.heap.roots op × NoPageGoes r.heap.space))
 
 -- the object takes more words than are left of the lane's chunk, or its write buffer is at capacity, or the operation looks at an
--- object: what of that no other lane changes
+-- object and names domains that the lane holds: what of that no other lane changes
 abbrev pub IsHeldUp : ℕ → Op → RunningView → Type 0
 IsHeldUp lane op r =
     WantsMore r.holders lane (left_of (chunk_of r.heap.chunks lane)) op
     ⊎ ((length (buffer_of r.heap.buffers lane).entries ≡ (buffer_of r.heap.buffers lane).capacity)
-    ⊎ IsTouching (touched_slot op))
+    ⊎ LooksAtObject r.holders lane op)
 
 -- all of a lane's operations have replies, or this is true of the next one
 abbrev pub IsAtEndOr : List Op → List Reply → (Op → Type 0) → Type 0
@@ -108,10 +107,10 @@ pub record LeavesOthers (lane : ℕ) (r : RunningView) (before : List (List Repl
   pub replies : (l : ℕ) → l ≢ lane → of_lane after l ≡ of_lane before l
   pub held : q.holders ≡ r.holders
 
--- each of the first n lanes that wasn't at its end has more replies
+-- each of the first n lanes that wasn't at its end has one reply more
 abbrev pub EachFurther : ℕ → List (List Op) → List (List Reply) → List (List Reply) → Type 0
 EachFurther n lanes before after =
-    (j : ℕ) → j < n → length (of_lane before j) < length (of_lane lanes j) → length (of_lane before j) < length (of_lane after j)
+    (j : ℕ) → j < n → length (of_lane before j) < length (of_lane lanes j) → length (of_lane after j) ≡ length (of_lane before j) + 1
 
 -- every lane is at its end, and some lane is not
 abbrev pub AreDone : List (List Op) → List (List Reply) → Type 0

@@ -18,6 +18,7 @@ fn advance(running: &mut Running, lanes: &[Vec<Op>], replies: &mut [Vec<Reply>],
     requires underway { (setup : Setup) × IsUnderway setup (lists_of lanes.now) running.old replies.old }
     ensures runs { LanesRan (lists_of lanes.now) running.old replies.old running.new replies.new }
     ensures further { result ≡ true → IsOneMore (of_lane (lists_of lanes.now) lane) (of_lane (lists_of replies.old) lane) (of_lane (lists_of replies.new) lane) }
+    ensures same { result ≡ false → replies.new ≡ replies.old }
     ensures stopped { result ≡ false → IsAtEndOr (of_lane (lists_of lanes.now) lane) (of_lane (lists_of replies.new) lane) (λ op. Stops lane op running.new) }
     ensures alone { (chunk_of running.old.heap.chunks lane).objects ≡ [] → IsUnrecorded running.old.heap → result ≡ false
         → length (of_lane (lists_of lanes.now) lane) ≤ length (of_lane (lists_of replies.new) lane) }

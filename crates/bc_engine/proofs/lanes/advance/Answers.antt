@@ -141,5 +141,6 @@ returns-in-Err-clause-stopped c = λ e.
       op,
       omega arith,
       of_lane-at lanes lane c.len-done.result c.index-lanes-index-2.result op lt c.index-lanes-index-2.is c.index.ensures ∙ ap (λ n. get_or (of_lane (lists_of lanes) lane) n op) (sym done),
-      still-stops lane op c.in-Err.ensures.stopped (why-stopped _ _ _ (Err c.in-Err.field-0) c.in-Err.ensures.nursery.0 c.in-Err.ensures.buffer c.in-Err.ensures.frame),
+      still-stops lane op c.in-Err.ensures.stopped (why-stopped _ _ _ (Err c.in-Err.field-0) c.in-Err.ensures.nursery.0 c.in-Err.ensures.buffer
+          (λ stopped. let wants = c.in-Err.ensures.frame.0 stopped in (wants.0, wants.1, c.in-Err.ensures.kept stopped))),
     )
