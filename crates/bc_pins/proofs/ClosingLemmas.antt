@@ -30,15 +30,13 @@ use Rattle.bc_superpages.specs.Contents.{contents}
 use Rattle.bc_superpages.specs.Parts.{state_in, AreParts, parts_layout}
 use Rattle.bc_superpages.proofs.HandLemmas.{state-header}
 use Rattle.bc_superpages.proofs.KeptLemmas.{IsLayout-kept}
-use Rattle.bc_bookmarks.specs.Summarised.{gone_in}
 use Rattle.bc_pins.specs.declared.views.Lodged.{Lodged}
 use Rattle.bc_pins.specs.declared.views.Lodged.TheVariants.{Nothing}
 use Rattle.bc_pins.specs.declared.views.View.{View}
 use Rattle.bc_pins.specs.declared.pins.Seat.{Seat}
 use Rattle.bc_pins.specs.Key.{Key, pages_of, owner, frame_at}
 use Rattle.bc_pins.specs.Contents.{IsContent, RefersYoung}
-use Rattle.bc_pins.specs.Views.{grips_remembered, state_word, opened_state, opened_word, opened_content, record_of}
-use Rattle.bc_pins.specs.Totals.{times}
+use Rattle.bc_pins.specs.Views.{grips_remembered, state_word, opened_state, opened_content, record_of}
 use Rattle.bc_pins.specs.Rule.{Rule}
 use Rattle.bc_pins.specs.Lodging.{Replaced, box_of, place_of}
 use Rattle.bc_pins.specs.Opening.{HasClosed, IsRest}

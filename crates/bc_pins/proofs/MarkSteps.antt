@@ -1,5 +1,5 @@
 -- Setting bookmark bits for the page in hand, and counting a superpage for it.
-use Rattle.std.proofs.Common.{◌≡◌, ℕ, ◌+◌, ◌*◌, ◌/◌, ◌%◌, ◌^◌, ◌<◌, ◌≤◌, ◌≢◌, ◌==◌, ◌⊎◌, Bool, true, false, if◌then◌else◌, List, [], ◌∷◌, Option, Some, None, max, bit_or, length, get_or, inl, inr, refl, ap, sym, subst, ◌∙◌, arith, get_or-set_same, get_or-set_other}
+use Rattle.std.proofs.Common.{◌≡◌, ℕ, ◌+◌, ◌*◌, ◌/◌, ◌%◌, ◌^◌, ◌<◌, ◌≤◌, ◌≢◌, ◌==◌, Bool, true, false, if◌then◌else◌, List, [], ◌∷◌, Option, Some, None, max, bit_or, length, get_or, inl, inr, refl, ap, sym, subst, ◌∙◌, arith, get_or-set_same, get_or-set_other}
 use mathlib.Core.Option.{some}
 use mathlib.Core.Option as maybe
 use lib.ListN.{get_elem?}
@@ -14,7 +14,7 @@ use Rattle.bc_word.specs.declared.words.Word.{Word}
 use Rattle.bc_word.specs.declared.words.Word.TheVariants.{Nil, Num, Ref}
 use Rattle.bc_word.specs.Words.{word_of_bits}
 use Rattle.bc_word.specs.Heads.{fields_of_bits}
-use Rattle.bc_word.specs.Addresses.{superpage_of, page_of, offset_of, cell_number}
+use Rattle.bc_word.specs.Addresses.{superpage_of, offset_of, cell_number}
 use Rattle.bc_word.proofs.WordsLemmas.{length-words_from, get_or-words_from}
 use Rattle.bc_superpages.specs.Layout.{Layout, superpages, set_of, is_cell}
 use Rattle.bc_superpages.specs.LayoutAt.{IsAllocated}
@@ -25,8 +25,8 @@ use Rattle.bc_bookmarks.specs.Targets.{is_target}
 use Rattle.bc_bookmarks.proofs.TargetLemmas.{target-refers}
 use Rattle.bc_pins.specs.declared.views.Hand.{Hand}
 use Rattle.bc_pins.specs.declared.views.View.{View}
-use Rattle.bc_pins.specs.Key.{Key, pages_of, owner, counter_at, bookmark_at, notice_at}
-use Rattle.bc_pins.specs.Totals.{total, times, sum_to}
+use Rattle.bc_pins.specs.Key.{Key, pages_of, owner, counter_at, bookmark_at}
+use Rattle.bc_pins.specs.Totals.{times}
 use Rattle.bc_pins.specs.Contents.{IsContent, IsFieldOn, NamesFixed, field_bits, objects_in}
 use Rattle.bc_pins.specs.Views.{grips, grips_remembered, frame_in_hand, counted_for, sets_bit, marked_for, has_role, entries, look_up, opened_content}
 use Rattle.bc_pins.specs.Facts.{Table, word, RecordsContent, Seated, Marking, points, adds_to, Counters, bookmark_bit, ever_set, cell_bit, Bits}

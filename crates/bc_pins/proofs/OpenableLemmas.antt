@@ -12,13 +12,13 @@ use Rattle.bc_word.proofs.WordsLemmas.{length-words_from, get_or-words_from}
 use Rattle.bc_superpages.specs.declared.headers.PageState.{PageState}
 use Rattle.bc_superpages.specs.declared.headers.PageState.TheVariants as state
 use Rattle.bc_superpages.specs.Headers.{is_gone}
-use Rattle.bc_superpages.specs.Layout.{Layout, superpages, content_at, is_cell}
+use Rattle.bc_superpages.specs.Layout.{Layout, superpages, content_at}
 use Rattle.bc_superpages.specs.LayoutAt.{state_at, IsAllocated}
-use Rattle.bc_superpages.specs.Memory.{memory, cell_at, cell_on}
+use Rattle.bc_superpages.specs.Memory.{memory, cell_at}
 use Rattle.bc_superpages.specs.Calls.{fields_at, CanName, IsClosed}
 use Rattle.bc_superpages.specs.Kept.{IsLayout}
 use Rattle.bc_superpages.proofs.HandLemmas.{allocated-superpage}
-use Rattle.bc_superpages.proofs.MemoryLemmas.{memory_of-cell, memory_of-none}
+use Rattle.bc_superpages.proofs.MemoryLemmas.{memory_of-cell}
 use Rattle.bc_superpages.proofs.BringLemmas.{allocated-not_absent}
 use Rattle.bc_bookmarks.specs.Targets.{RefersTo, has_target_in}
 use Rattle.bc_bookmarks.specs.Summarised.{IsSummarised, gone_in}

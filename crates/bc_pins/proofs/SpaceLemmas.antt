@@ -2,7 +2,7 @@
 use Rattle.std.proofs.Common.{◌≡◌, ℕ, ◌+◌, ◌*◌, ◌/◌, ◌%◌, ◌<◌, ◌≤◌, ◌==◌, ◌&&◌, ◌||◌, if◌then◌else◌, Bool, true, false, List, [], ◌∷◌, length, map, get_or, slice_index, Option, None, count_by, nat_lt, inl, inr, refl, ap, sym, subst, ◌∙◌, arith}
 use Prim.Native.Nat.{suc}
 use mathlib.Core.Option.{some}
-use Rattle.std.proofs.lemmas.Bool.{cases_lt, cases_Bool, ltb-true}
+use Rattle.std.proofs.lemmas.Bool.{cases_lt}
 use Rattle.std.proofs.lemmas.List.{length-map, get_or_past}
 use Rattle.bc_bits.specs.Counting.{one_if}
 use Rattle.bc_frames.specs.Pool.{is_free}
@@ -37,7 +37,6 @@ use Rattle.bc_word.specs.CellAddresses.{cell_address}
 use Rattle.bc_word.proofs.AddressLemmas.{page_of-cell_address, cell_page-within}
 use Rattle.bc_superpages.specs.LayoutAt.{layout_of}
 use Rattle.bc_superpages.specs.Kept.{IsObject, IsCellSet, IsSuperpage}
-use Rattle.bc_pins.specs.Totals.{sum_to}
 use Rattle.bc_pins.specs.Facts.{points}
 use Rattle.bc_superpages.specs.Parts.{EndsAt}
 use Rattle.bc_superpages.proofs.CellLemmas.{cell-bit}

@@ -1,4 +1,4 @@
-use Rattle.std.proofs.Common.{ap, ◌==◌, ℕ, ◌∙◌}
+use Rattle.std.proofs.Common.{ap, ◌==◌, ℕ}
 use Rattle.std.proofs.lemmas.Nat.Bits.{shr_and_one}
 use Rattle.bc_pins.proofs.gathering.is_clear.Goals as goal
 

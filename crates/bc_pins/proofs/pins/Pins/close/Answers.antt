@@ -1,8 +1,8 @@
-use Rattle.std.proofs.Common.{◌≡◌, ℕ, ◌+◌, ◌*◌, ◌/◌, ◌≤◌, Bool, List, length, get_or, slice_index, ap, refl, sym, subst, ◌∙◌, arith}
+use Rattle.std.proofs.Common.{◌≡◌, ℕ, ◌≤◌, List, length, get_or, ap, refl, sym, subst, ◌∙◌, arith}
 use Rattle.core.specs.Mem.Slots.{slots_items, slots_len, IsFull}
 use Rattle.bc_frames.specs.Places.{StoreView}
 use Rattle.bc_superpages.specs.declared.parts.SpaceParts.{SpaceParts}
-use Rattle.bc_pins.specs.Key.{pages_of, frame_words}
+use Rattle.bc_pins.specs.Key.{pages_of}
 use Rattle.bc_pins.specs.Resting.{RestView}
 use Rattle.bc_pins.proofs.HeaderLemmas.{sets_are}
 use Rattle.bc_pins.proofs.ClosingLemmas.{gathered_ends, words_few, ended_from, ended_parts, ended_space}
