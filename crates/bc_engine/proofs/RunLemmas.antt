@@ -16,10 +16,6 @@ use Rattle.bc_model.specs.State.{State}
 use Rattle.bc_model.specs.declared.operations.Op.{Op}
 use Rattle.bc_model.specs.declared.operations.Reply.{Reply}
 use Rattle.bc_model.specs.declared.traces.Setup.{Setup}
-use Rattle.bc_mutator.specs.Operations.{WantsMore}
-use Rattle.bc_nursery.specs.Entries.{Entries}
-use Rattle.bc_nursery.specs.Objects.{left_of}
-use Rattle.bc_nursery.specs.Nurseries.{Nursery}
 use Rattle.bc_engine.specs.EngineFacts.{CanRunLanes}
 use Rattle.bc_engine.specs.Lanes.{of_lane, BirthsWithin, Does, EachFurther, LanesWentOn, HasSerialsLeft, IsAtEndOr, IsOneMore, LeavesCells, LeavesOthers, LanesRan, StoppedBetween, Stops, left}
 use Rattle.bc_engine.proofs.Attempts.{IsMoved, means-moved, ready-moved}
