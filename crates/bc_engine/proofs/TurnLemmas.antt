@@ -7,7 +7,7 @@ use Rattle.std.proofs.lemmas.List.{get_or_past, length-map}
 use Rattle.bc_engine.specs.Engines.{EngineView}
 use Rattle.bc_engine.specs.EngineFacts.{with_holders}
 use Rattle.bc_engine.specs.PhaseTurns.{HadTurns, HadTurnsToCut}
-use Rattle.bc_engine.specs.Rounds.{CutRound, IsRoomFor, RanAll, RanRound, RanRounds, RanToCut}
+use Rattle.bc_engine.specs.Rounds.{CutRound, IsRoomFor, LastRound, RanAll, RanRound, RanRounds, RanToCut}
 use Rattle.bc_model.specs.Lists.{PhaseLists}
 use Rattle.bc_model.specs.Rows.{lists_of}
 use Rattle.bc_model.specs.declared.operations.Op.{Op}
@@ -15,14 +15,15 @@ use Rattle.bc_model.specs.declared.operations.Reply.{Reply}
 use Rattle.bc_running.specs.Running.{RunningView}
 use Rattle.bc_running.specs.RunningFacts.{with_space}
 use Rattle.bc_running.specs.Serving.{Served}
-use Rattle.bc_engine.specs.Lanes.{of_lane, IsAtEndOr, IsHeldUp, LanesRan}
+use Rattle.bc_engine.specs.Lanes.{LanesRan, LeavesCells, StoppedBetween}
 use Rattle.bc_engine.specs.Turns.{RanTurn, hints_at, hints_of, line_behind}
 
 -- the lanes ran, and then notices were served
-pub turn-ran : (vs : List (Vec Op Global)) {r q x : RunningView} {told answers : List (Vec Reply Global)} {hints : List ℕ} → LanesRan (lists_of vs) r told q answers → ((j : ℕ) → j < length vs → IsAtEndOr (of_lane (lists_of vs) j) (of_lane (lists_of answers) j) (λ op. IsHeldUp j op q)) → Served q.heap.space hints x.heap.space → x ≡ with_space q x.heap.space → RanTurn (lists_of vs) r told hints x answers
-turn-ran vs {r} {q} {x} {told} {answers} {hints} ran stopped served rest = record {
+pub turn-ran : (vs : List (Vec Op Global)) {r q x : RunningView} {told answers : List (Vec Reply Global)} {hints : List ℕ} → LanesRan (lists_of vs) r told q answers → LeavesCells r q → ((j : ℕ) → j < length vs → StoppedBetween (lists_of vs) r told q answers j) → Served q.heap.space hints x.heap.space → x ≡ with_space q x.heap.space → RanTurn (lists_of vs) r told hints x answers
+turn-ran vs {r} {q} {x} {told} {answers} {hints} ran leaves stopped served rest = record {
   mid = q;
   ran = ran;
+  leaves = leaves;
   stopped = λ j lt. stopped j (omega (arith, lt, length-map vs (λ (v : Vec Op Global). v.items)));
   served = served;
   rest = rest;
@@ -89,8 +90,9 @@ turns-more {lanes} {lines} {e} {f} {told} {mid} {next} g replies behind_it at mo
   line = line-next lines at.count next behind_it moved at.line;
 }
 
-pub turns-all : {lanes : List (List Op)} {lines : List (List ℕ)} {e f : EngineView} {told mid : List (Vec Reply Global)} {next : ℕ} (g : EngineView) (replies : List (Vec Reply Global)) → IsAtTurn lanes lines e told f mid next → RanRound lanes f mid (hints_at lines next) g replies → RanAll lanes lines e told g replies
-turns-all g replies at round = (suc at.count, omega arith, round-more g replies at round)
+pub turns-all : {lanes : List (List Op)} {lines : List (List ℕ)} {e f : EngineView} {told mid : List (Vec Reply Global)} {next : ℕ} (g : EngineView) (replies : List (Vec Reply Global)) → IsAtTurn lanes lines e told f mid next → LastRound lanes f mid (hints_at lines next) g replies → RanAll lanes lines e told g replies
+turns-all {lanes} {lines} {e} {f} {told} {mid} {next} g replies at last =
+    (at.count, f, mid, at.rounds, subst (λ (hints : List ℕ). LastRound lanes f mid hints g replies) (line-hints lines at.count next at.line) last)
 
 pub turns-cut : {lanes : List (List Op)} {lines : List (List ℕ)} {e f : EngineView} {told mid : List (Vec Reply Global)} {next : ℕ} (g : EngineView) (replies : List (Vec Reply Global)) → IsAtTurn lanes lines e told f mid next → CutRound lanes f mid (hints_at lines next) g replies → RanToCut lanes lines e told g replies
 turns-cut {lanes} {lines} {e} {f} {told} {mid} {next} g replies at cut =

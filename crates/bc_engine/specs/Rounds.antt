@@ -10,7 +10,7 @@ use Rattle.bc_model.specs.declared.operations.Op.{Op}
 use Rattle.bc_model.specs.declared.operations.Reply.{Reply}
 use Rattle.bc_superpages.specs.Layout.{superpages}
 use Rattle.bc_engine.specs.Engines.{EngineView, HasEmptyChunks}
-use Rattle.bc_engine.specs.Lanes.{of_lane, AreDone, EachFurther, LanesWentOn, IsUnderway, LanesRan}
+use Rattle.bc_engine.specs.Lanes.{of_lane, AreDone, EachFurther, HasMore, LanesWentOn, LeavesCells, IsUnderway, LanesRan}
 use Rattle.bc_engine.specs.Turns.{RanTurn, hints_of}
 use Rattle.bc_engine.specs.declared.engines.Ended.TheVariants.{OutOfHeap}
 use Rattle.bc_running.specs.Running.{RunningView}
@@ -55,16 +55,26 @@ pub record EmptiesNurseries (r q : RunningView) : Type 0 where
   pub kept : (SurvivorsFit r.heap → ⊥) → HasKeptWhereItFits r.heap q.heap
   pub lanes : SameLanes r q
 
--- a round: the lanes had their turn, in which the notices with these hints were served, and the nurseries were emptied. Then each lane
--- that wasn't at its end did one operation more
+-- a round: the lanes had their turn, in which the notices with these hints were served, and the nurseries were emptied. Some lane wasn't at its
+-- end, and each such lane did one operation more
 pub record RanRound (lanes : List (List Op)) (e : EngineView) (before : List (Vec Reply Global)) (hints : List ℕ) (f : EngineView) (after : List (Vec Reply Global)) : Type 0 where
   pub turned : RunningView
   pub told : List (Vec Reply Global)
   pub turn : RanTurn lanes e.running before hints turned told
   pub emptied : RunningView
   pub empties : EmptiesNurseries turned emptied
+  pub more : HasMore lanes (lists_of told)
   pub steps : LanesRan lanes emptied told f.running after
+  pub leaves : LeavesCells emptied f.running
   pub each : EachFurther (length lanes) lanes (lists_of told) (lists_of after)
+  pub rest : f ≡ record e { running = f.running }
+
+-- the last round: in their turn all lanes came to their ends, and the nurseries were emptied
+pub record LastRound (lanes : List (List Op)) (e : EngineView) (before : List (Vec Reply Global)) (hints : List ℕ) (f : EngineView) (after : List (Vec Reply Global)) : Type 0 where
+  pub turned : RunningView
+  pub turn : RanTurn lanes e.running before hints turned after
+  pub done : AreDone lanes (lists_of after)
+  pub empties : EmptiesNurseries turned f.running
   pub rest : f ≡ record e { running = f.running }
 
 -- a round that was cut: the lanes had their turn, and the nurseries couldn't be emptied
@@ -72,16 +82,18 @@ pub record CutRound (lanes : List (List Op)) (e : EngineView) (before : List (Ve
   pub turned : RunningView
   pub turn : RanTurn lanes e.running before hints turned after
   pub refused : KeepsMeaning turned.heap f.running.heap × SameLanes turned f.running
+  pub rest : f ≡ record e { running = f.running; ended = f.ended }
 
--- so many rounds, one after another. The notices of the n-th one are those of the n-th turn of the phase
+-- so many rounds with others to come, one after another. The notices of the n-th one are those of the n-th turn of the phase
 abbrev pub RanRounds : List (List Op) → List (List ℕ) → EngineView → List (Vec Reply Global) → ℕ → EngineView → List (Vec Reply Global) → Type 0
 RanRounds lanes lines e before zero f after = (f ≡ e) × (after ≡ before)
 RanRounds lanes lines e before (suc n) f after =
     (mid : EngineView) × (told : List (Vec Reply Global)) × RanRounds lanes lines e before n mid told × RanRound lanes mid told (hints_of lines n) f after
 
--- the rounds of a phase from its first turn on: one at least
+-- the rounds of a phase from its first turn on: so many as have others to come, and the last one
 abbrev pub RanAll : List (List Op) → List (List ℕ) → EngineView → List (Vec Reply Global) → EngineView → List (Vec Reply Global) → Type 0
-RanAll lanes lines e before f after = (n : ℕ) × (0 < n) × RanRounds lanes lines e before n f after
+RanAll lanes lines e before f after =
+    (n : ℕ) × (mid : EngineView) × (told : List (Vec Reply Global)) × RanRounds lanes lines e before n mid told × LastRound lanes mid told (hints_of lines n) f after
 
 -- so many of them as there were before one that was cut, and that one
 abbrev pub RanToCut : List (List Op) → List (List ℕ) → EngineView → List (Vec Reply Global) → EngineView → List (Vec Reply Global) → Type 0

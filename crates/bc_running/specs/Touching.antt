@@ -43,11 +43,6 @@ abbrev pub IsTouching : Option Slot → Type 0
 IsTouching None = ⊥
 IsTouching (Some p) = Unit {0}
 
--- the operation looks at an object, and the lane holds all domains that it names
-abbrev pub LooksAtObject : List ℕ → ℕ → Op → Type 0
-LooksAtObject holders lane op =
-    IsTouching (touched_slot op) × (list_all (λ d. slice_index holders d == lane) (domains_of op) ≡ true)
-
 -- the object that an operation of the lane looks at lies in a cell on a page that is Gone. The lane holds all domains that the
 -- operation names
 pub record LooksAtGone (holders : List ℕ) (lane : ℕ) (s : Layout) (roots : RootWords) (op : Op) : Type 0 where

@@ -3,12 +3,13 @@ use Rattle.bc_model.specs.Rows.{lists_of}
 use Rattle.bc_nursery.specs.Nurseries.{Nursery}
 use Rattle.bc_model.specs.declared.operations.Reply.{Reply}
 use Rattle.bc_engine.specs.Lanes.{of_lane}
-use Rattle.bc_engine.proofs.RunLemmas.{as-before, runs-same, runs-then, each-further}
+use Rattle.bc_engine.proofs.RunLemmas.{as-before, cells-same, cells-then, runs-same, runs-then, each-further}
 use Rattle.bc_engine.proofs.lanes.step_lanes.Goals as goal
 
 pub loop-lane-init : goal.loop-lane-init
 loop-lane-init c = record {
   runs = runs-same (lists_of c.args.lanes.now) c.args.running.now c.args.running.now c.args.replies.now refl;
+  leaves = cells-same c.args.running.now;
   unrecorded = c.requires.unrecorded;
   empty = λ n le. c.requires.empty n;
   each = λ j lt. absurd (omega arith);
@@ -23,6 +24,7 @@ loop-lane-preserved c =
     let here = before.empty lane (omega arith) in
     record {
       runs = runs-then before.runs e.runs;
+      leaves = cells-then before.leaves e.leaves;
       unrecorded = e.unrecorded here before.unrecorded;
       empty = λ n le.
           let ne : n ≢ lane = omega arith in

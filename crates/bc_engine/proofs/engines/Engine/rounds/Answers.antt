@@ -23,7 +23,7 @@ rounds-preserved g c =
       births = λ j. omega (arith, round.births j, before.births j);
       on = on-then before.on c.in_ok-round.ensures.on;
       underway = underway-then round.same.1 c.in_ok-round.ensures.on before.underway;
-      turns = turns-more c.round.new.self c.round.new.replies c.round.new.next before.turns round.next c.in_ok-round.ensures.turn;
+      turns = turns-more c.round.new.self c.round.new.replies c.round.new.next before.turns round.next (c.in_ok-round.ensures.turn c.if-branch.false);
     }
 
 pub returns-then-branch-clause-births : goal.returns-then-branch-clause-births
@@ -37,7 +37,7 @@ pub returns-in_err-round-clause-births : goal.returns-in_err-round-clause-births
 returns-in_err-round-clause-births g c = λ j. omega (arith, c.round.ensures.births j, c.rounds.invariant.births j)
 
 pub returns-then-branch-clause-turns : goal.returns-then-branch-clause-turns
-returns-then-branch-clause-turns g c = turns-all c.round.new.self c.round.new.replies c.rounds.invariant.turns c.in_ok-round.ensures.turn
+returns-then-branch-clause-turns g c = turns-all c.round.new.self c.round.new.replies c.rounds.invariant.turns (c.in_ok-round.ensures.last_turn c.if-branch.true)
 
 pub returns-in_err-round-clause-cut : goal.returns-in_err-round-clause-cut
 returns-in_err-round-clause-cut g c =
