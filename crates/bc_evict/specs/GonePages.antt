@@ -1,7 +1,6 @@
 -- What a page is whose word says Gone.
-use Rattle.std.specs.Prelude.{◌≡◌, ℕ, ◌*◌, ◌<◌, ◌≤◌, List, true}
+use Rattle.std.specs.Prelude.{◌≡◌, ℕ, ◌<◌, ◌≤◌, List, true}
 use mathlib.Core.Option.{some}
-use Rattle.bc_superpages.specs.Layout.{superpages}
 use Rattle.bc_bookmarks.specs.Targets.{is_target, HasCell}
 use Rattle.bc_pins.specs.declared.views.Lodged.TheVariants.{Away}
 use Rattle.bc_pins.specs.Key.{Key, counter_at, store_slot}
@@ -16,4 +15,4 @@ pub record IsGoneSummarised (k : Key) (s : Table) (page : ℕ) : Type 0 where
   pub there : HasCell k.opening page
   pub targets : (a : ℕ) → is_target (objects_in k.opening content) page a ≡ true → HasBookmarkBit k s.words a
   pub counted : (q : ℕ) → q < k.supers → points k page content q ≤ word s (counter_at k q)
-  pub old : k.supers ≤ superpages k.opening → RefersYoung k.opening page content → ⊥
+  pub old : RefersYoung k.opening page content → ⊥
