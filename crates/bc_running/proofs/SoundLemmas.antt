@@ -6,7 +6,7 @@ use Rattle.std.specs.Option.{is_some}
 use Rattle.std.proofs.lemmas.Bool.{cases_eq}
 use Rattle.std.proofs.lemmas.List.{get_or-set_same, get_or-set_other, length-set, length-map}
 use Rattle.bc_cycle.specs.Causes.{IfOutOfHeap}
-use Rattle.bc_cycle.specs.Emptying.{HasRoomToList, IsEmptied, KeepsMeaning}
+use Rattle.bc_cycle.specs.Emptying.{outline_nursery, outline_object, HasRoomToList, IsEmptied, KeepsMeaning}
 use Rattle.bc_cycle.specs.declared.heaps.Heap.{Heap}
 use Rattle.bc_promotion.proofs.ListingLemmas.{words_in-same}
 use Rattle.bc_whole_heap.specs.LaneChunks.{chunk_of}
@@ -19,7 +19,7 @@ use Rattle.bc_whole_heap.specs.Closed.{IsSurvivorOf}
 use Rattle.bc_whole_heap.proofs.ChunkLemmas.{length-alike}
 use Rattle.bc_whole_heap.proofs.ClosedLemmas.{running-survivors}
 use Rattle.bc_mutator.specs.Operations.{NoneLater}
-use Rattle.bc_nursery.specs.Objects.{bare_nursery, bare_object, emptied, has_object}
+use Rattle.bc_nursery.specs.Objects.{emptied, has_object}
 use Rattle.bc_nursery.specs.Nurseries.{ChunkObject, Nursery}
 use Rattle.bc_running.specs.Running.{HasEmptyChunks, RunningView}
 use Rattle.bc_running.specs.RunningFacts.{IsSound, IsSoundOver, IsStillSound, Collects, CollectsOver, running_of}
@@ -88,7 +88,7 @@ refused-collects h k hs order is = record {
   running = is.order hs (running-survivors h hs order);
   born = is.born;
   frames = λ f. let frames = is.sizes.frames in let nursery = is.sizes.nursery in omega arith;
-  lanes = length-alike bare_nursery h.chunks k.chunks is.chunks;
+  lanes = length-alike outline_nursery h.chunks k.chunks is.chunks;
 }
 
 pub sound-emptied : (r : RunningView) (k : HeapView) → IsSound r → IsEmptied r.heap k → IsSound (running_of k r.holders r.serials)
@@ -108,21 +108,21 @@ none-young c a none has =
     false_true : false ≡ true → ⊥
     false_true e = cc
 
--- chunks that differ only in what is kept beside their objects are empty alike
-pub empty-alike : (cs ds : List Nursery) → map bare_nursery ds ≡ map bare_nursery cs → ((l : ℕ) → (chunk_of cs l).objects ≡ []) → (l : ℕ) → (chunk_of ds l).objects ≡ []
+-- chunks that differ only in fields and in what is kept beside their objects are empty alike
+pub empty-alike : (cs ds : List Nursery) → map outline_nursery ds ≡ map outline_nursery cs → ((l : ℕ) → (chunk_of cs l).objects ≡ []) → (l : ℕ) → (chunk_of ds l).objects ≡ []
 empty-alike cs ds same none l = none-bare (chunk_of ds l).objects (
-    ap (λ (c : Nursery). c.objects) (sym (get_or-map bare_nursery ds l no_chunk))
+    ap (λ (c : Nursery). c.objects) (sym (get_or-map outline_nursery ds l no_chunk))
     ∙ ap (λ (xs : List Nursery). (chunk_of xs l).objects) same
-    ∙ ap (λ (c : Nursery). c.objects) (get_or-map bare_nursery cs l no_chunk)
-    ∙ ap (map bare_object) (none l)
+    ∙ ap (λ (c : Nursery). c.objects) (get_or-map outline_nursery cs l no_chunk)
+    ∙ ap (map outline_object) (none l)
     )
   where
     some_none : (o : ChunkObject) (os : List ChunkObject) → o ∷ os ≡ [] → ⊥
     some_none o os e = cc
 
-    none-bare : (os : List ChunkObject) → map bare_object os ≡ [] → os ≡ []
+    none-bare : (os : List ChunkObject) → map outline_object os ≡ [] → os ≡ []
     none-bare [] e = refl
-    none-bare (o ∷ os) e = absurd (some_none (bare_object o) (map bare_object os) e)
+    none-bare (o ∷ os) e = absurd (some_none (outline_object o) (map outline_object os) e)
 
 -- where all chunks are empty there is no object of a chunk that could be asked, so a heap that runs for its survivors runs
 pub running-empty : (h : HeapView) (hs : List ℕ) → HasEmptyChunks h → IsRunningForSurvivors h hs → IsRunning h hs
