@@ -7,7 +7,7 @@ use Rattle.bc_lane.specs.declared.parts.LanePart.{LanePart}
 use Rattle.bc_lane.specs.declared.stops.Stop.{Stop}
 use Rattle.bc_lane.specs.declared.stops.Stop.TheVariants as stop
 use Rattle.bc_lane.specs.Shown.{HasPage, IsOwnPage, ShowsPages}
-use Rattle.bc_lane.specs.Turns.{DoesOne, HasInHand, HoldsAll, IsLaneSeat, IsLaneTable, IsRefusedPage, IsWhole, LeadsTo, LooksForeign, LooksOn, LooksOwn, ReadLast, SlotsOf, StaysWhole, StopsOp}
+use Rattle.bc_lane.specs.Turns.{DoesOne, HasInHand, LaneHoldsAll, IsLaneSeat, IsLaneTable, IsRefusedPage, IsWhole, LeadsToPage, LooksForeign, LooksOn, LooksOwn, ReadLast, SlotsOf, StaysWhole, StopsOp}
 use Rattle.bc_lane.proofs.ForeignLemmas.{foreign-looked}
 use Rattle.bc_lane.proofs.HandLemmas.{hand-after}
 use Rattle.bc_lane.proofs.LookLemmas.{looking-wants, touches-more}
@@ -55,13 +55,13 @@ whole-moved part v w hand after end h shows whole = record {
 }
 
 -- what is looked at is in hand, if it lies on the page in hand or nowhere
-pub touches-page : (part : LanePart) (end page : ℕ) (op : Op) (v : View) (hand : Option Held) → LeadsTo part end op (λ q. q ≡ page) → HasPage hand page
+pub touches-page : (part : LanePart) (end page : ℕ) (op : Op) (v : View) (hand : Option Held) → LeadsToPage part end op (λ q. q ≡ page) → HasPage hand page
     → TouchesHand (ShowsPages v hand end) (SlotsOf part) (HasPage hand) (touched_slot op)
 touches-page part end page op v hand leads has =
     touches-more (ShowsPages v hand end) (ShowsPages v hand end) (SlotsOf part) (SlotsOf part) (λ q. q ≡ page) (HasPage hand) (touched_slot op)
     (λ s shown. shown) (λ r shown. shown) (λ q e. subst (HasPage hand) (sym e) has) (leads v hand)
 
-pub touches-none : (part : LanePart) (end : ℕ) (op : Op) (v : View) (hand : Option Held) → LeadsTo part end op (λ q. ⊥)
+pub touches-none : (part : LanePart) (end : ℕ) (op : Op) (v : View) (hand : Option Held) → LeadsToPage part end op (λ q. ⊥)
     → TouchesHand (ShowsPages v hand end) (SlotsOf part) (HasPage hand) (touched_slot op)
 touches-none part end op v hand leads =
     touches-more (ShowsPages v hand end) (ShowsPages v hand end) (SlotsOf part) (SlotsOf part) (λ q. ⊥) (HasPage hand) (touched_slot op)
@@ -82,7 +82,7 @@ pub foreign-wants : (part : LanePart) (h : HeapView) (words : ℕ) (op : Op) →
 foreign-wants part h words op looks wants = looking-wants h.roots part.holders.items part.lane words op looks.at looks.looks wants
 
 -- a cell of another lane's is looked at
-pub foreign-does : (part : LanePart) (k : Key) (v : View) (hand : Option Held) (end : ℕ) (op : Op) → v.about ≡ k → HoldsAll part op
+pub foreign-does : (part : LanePart) (k : Key) (v : View) (hand : Option Held) (end : ℕ) (op : Op) → v.about ≡ k → LaneHoldsAll part op
     → ((u : View) → (g : Option Held) → (h : HeapView) → u.about ≡ k → IsWhole part u g end h → IsOpOf h.roots op → LooksForeign h part.holders.items part.lane op)
     → DoesOne part v hand part v hand end op Foreign
 foreign-does part k v hand end op about held looks = λ h whole fits.

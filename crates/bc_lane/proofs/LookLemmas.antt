@@ -5,7 +5,7 @@ use Rattle.std.specs.Prelude.{IfNone, IfSome, OnSome}
 use Rattle.std.proofs.lemmas.Bool.{and_parts, cases_lt}
 use Rattle.std.proofs.lemmas.List.{get_or_default}
 use Rattle.bc_lane.specs.Shown.{ShowsPages, ShowsSlots}
-use Rattle.bc_lane.specs.Turns.{HoldsAll, IsLaneTable, IsWhole, LeadsTo, LooksAt, LooksForeign, LooksOn, LooksOwn, LooksTold, SlotsOf}
+use Rattle.bc_lane.specs.Turns.{LaneHoldsAll, IsLaneTable, IsWhole, LeadsToPage, LooksAtObject, LooksForeign, LooksOn, LooksOwn, LooksTold, SlotsOf}
 use Rattle.bc_lane.specs.declared.looking.Looking.TheVariants.{Foreign}
 use Rattle.bc_lane.specs.declared.parts.LanePart.{LanePart}
 use Rattle.bc_lane.proofs.PageLemmas.{opened-allocated}
@@ -78,7 +78,7 @@ touched-own hs lane (Clear q) p e held = none-some p e
 touched-own hs lane (Same q t) p e held = none-some p e
 
 -- an operation that looks at an object makes none
-pub looking-wants : (r : RootWords) (hs : List ℕ) (lane words : ℕ) (op : Op) (at : Address) → LooksAt r (touched_slot op) at → WantsMore hs lane words op → ⊥
+pub looking-wants : (r : RootWords) (hs : List ℕ) (lane words : ℕ) (op : Op) (at : Address) → LooksAtObject r (touched_slot op) at → WantsMore hs lane words op → ⊥
 looking-wants r hs lane words (New p n) at looks wants = looks
 looking-wants r hs lane words (Who p) at looks wants = wants
 looking-wants r hs lane words (Len p) at looks wants = wants
@@ -91,7 +91,7 @@ looking-wants r hs lane words (Clear p) at looks wants = wants
 looking-wants r hs lane words (Same p q) at looks wants = wants
 
 -- where no object is looked at, nothing need be in hand
-pub leads-nowhere : (part : LanePart) (end : ℕ) (op : Op) (P : ℕ → Type 0) → touched_slot op ≡ None → LeadsTo part end op P
+pub leads-nowhere : (part : LanePart) (end : ℕ) (op : Op) (P : ℕ → Type 0) → touched_slot op ≡ None → LeadsToPage part end op P
 leads-nowhere part end op P is v hand = subst (TouchesHand (ShowsPages v hand end) (SlotsOf part) P) (sym is) tt
 
 -- what is true of the pages that are looked at, and implies more
@@ -124,8 +124,8 @@ module _ (part : LanePart) (v0 : View) (hand0 : Option Held) (end : ℕ) (h : He
   pub looked-word : slot_word h.roots p ≡ word_of_bits bits
   looked-word = own-word hs part.lane part.slots starts words h.roots p w.belongs.roots slot own
 
-  pub looks-at : (word : Word) (at : Address) → word ≡ word_of_bits bits → word ≡ Ref at → LooksAt h.roots (touched_slot op) at
-  looks-at word at read e = subst (λ (o : Option Slot). LooksAt h.roots o at) (sym is) (looked-word ∙ sym read ∙ e)
+  pub looks-at : (word : Word) (at : Address) → word ≡ word_of_bits bits → word ≡ Ref at → LooksAtObject h.roots (touched_slot op) at
+  looks-at word at read e = subst (λ (o : Option Slot). LooksAtObject h.roots o at) (sym is) (looked-word ∙ sym read ∙ e)
 
   shown-slot : (r : RootWords) → SlotsOf part r → IsSlot (setup_of r) p
   shown-slot r shown =
@@ -137,7 +137,7 @@ module _ (part : LanePart) (v0 : View) (hand0 : Option Held) (end : ℕ) (h : He
       let less = slot.1 in
       (omega arith, omega arith)
 
-  pub leads : (word : Word) → word ≡ word_of_bits bits → (P : ℕ → Type 0) → ((at : Address) → word ≡ Ref at → at.0 < end → P (page_of at.0)) → LeadsTo part end op P
+  pub leads : (word : Word) → word ≡ word_of_bits bits → (P : ℕ → Type 0) → ((at : Address) → word ≡ Ref at → at.0 < end → P (page_of at.0)) → LeadsToPage part end op P
   leads word read P each v hand =
       subst (TouchesHand (ShowsPages v hand end) (SlotsOf part) P) (sym is)
       (λ r shown at e s pages lt.
@@ -147,15 +147,15 @@ module _ (part : LanePart) (v0 : View) (hand0 : Option Held) (end : ℕ) (h : He
 cell-domain : (s : Layout) (a : ℕ) → IsLayout s → IsAllocated s a → (space.cell_at s.pages a).head.domain ≡ get_or s.domains (superpage_of a) 0
 cell-domain s a l on = (allocated-object s a l on).of_domain
 
-looked-own : (r : RootWords) (op : Op) (at : Address) → LooksAt r (touched_slot op) at → (p : Slot) × (touched_slot op ≡ Some p) × (slot_word r p ≡ Ref at)
+looked-own : (r : RootWords) (op : Op) (at : Address) → LooksAtObject r (touched_slot op) at → (p : Slot) × (touched_slot op ≡ Some p) × (slot_word r p ≡ Ref at)
 looked-own r op at looks = go (touched_slot op) refl looks
   where
-    go : (o : Option Slot) → touched_slot op ≡ o → LooksAt r o at → (p : Slot) × (touched_slot op ≡ Some p) × (slot_word r p ≡ Ref at)
+    go : (o : Option Slot) → touched_slot op ≡ o → LooksAtObject r o at → (p : Slot) × (touched_slot op ≡ Some p) × (slot_word r p ≡ Ref at)
     go None e l = absurd l
     go (Some p) e l = (p, e, l)
 
 module _ (part : LanePart) (k : Key) (v : View) (hand : Option Held) (end : ℕ) (h : HeapView) (op : Op) (about : v.about ≡ k) (w : IsWhole part v hand end h) (fits : IsOpOf h.roots op) (table : IsLaneTable k part.holders.items)
-    (held : HoldsAll part op) (at : Address) (below : at.0 < end) (looks : LooksAt h.roots (touched_slot op) at) where
+    (held : LaneHoldsAll part op) (at : Address) (below : at.0 < end) (looks : LooksAtObject h.roots (touched_slot op) at) where
   at-slot : (p : Slot) × (touched_slot op ≡ Some p) × (slot_word h.roots p ≡ Ref at)
   at-slot = looked-own h.roots op at looks
 
@@ -204,10 +204,10 @@ pub superpage-page : (a : ℕ) (ds : List ℕ) → get_or ds (superpage_of a) 0 
 superpage-page a ds = ap (λ (q : ℕ). get_or ds q 0) (page_of-superpage a)
 
 -- what is told of where an operation looks at a cell, whatever the whole heap
-module _ (part : LanePart) (k : Key) (end : ℕ) (op : Op) (at : Address) (table : IsLaneTable k part.holders.items) (held : HoldsAll part op) (below : at.0 < end) (leads-on : LeadsTo part end op (λ q. q ≡ page_of at.0))
-    (at-each : (v : View) → (hand : Option Held) → (h : HeapView) → IsWhole part v hand end h → IsOpOf h.roots op → LooksAt h.roots (touched_slot op) at)
+module _ (part : LanePart) (k : Key) (end : ℕ) (op : Op) (at : Address) (table : IsLaneTable k part.holders.items) (held : LaneHoldsAll part op) (below : at.0 < end) (leads-on : LeadsToPage part end op (λ q. q ≡ page_of at.0))
+    (at-each : (v : View) → (hand : Option Held) → (h : HeapView) → IsWhole part v hand end h → IsOpOf h.roots op → LooksAtObject h.roots (touched_slot op) at)
     (some : (v : View) × (hand : Option Held) × (h : HeapView) × (v.about ≡ k) × IsWhole part v hand end h × IsOpOf h.roots op) where
-  one-looks : LooksAt (some.2).roots (touched_slot op) at
+  one-looks : LooksAtObject (some.2).roots (touched_slot op) at
   one-looks = at-each some.0 some.1 some.2 some.4 some.5
 
   pub told-superpage : superpage_of at.0 < superpages k.opening
@@ -243,16 +243,16 @@ module _ (part : LanePart) (k : Key) (end : ℕ) (op : Op) (at : Address) (table
   )
 
 -- what an operation's slot refers to
-module _ (part : LanePart) (end : ℕ) (op : Op) (p : Slot) (is : touched_slot op ≡ Some p) (held : HoldsAll part op) (word : Word)
+module _ (part : LanePart) (end : ℕ) (op : Op) (p : Slot) (is : touched_slot op ≡ Some p) (held : LaneHoldsAll part op) (word : Word)
     (some : (v : View) × (hand : Option Held) × (h : HeapView) × IsWhole part v hand end h × IsOpOf h.roots op)
     (read : word ≡ word_of_bits (get_or part.words.items (get_or part.starts.items p.domain 0 + p.slot) 0)) where
   own : get_or part.holders.items p.domain 0 ≡ part.lane
   own = touched-own part.holders.items part.lane op p is held
 
-  pub refers-leads : (P : ℕ → Type 0) → ((at : Address) → word ≡ Ref at → at.0 < end → P (page_of at.0)) → LeadsTo part end op P
+  pub refers-leads : (P : ℕ → Type 0) → ((at : Address) → word ≡ Ref at → at.0 < end → P (page_of at.0)) → LeadsToPage part end op P
   refers-leads P each = leads part some.0 some.1 end some.2 op some.3 some.4 p is own word read P each
 
-  pub refers-at : (at : Address) → word ≡ Ref at → (v : View) → (hand : Option Held) → (h : HeapView) → IsWhole part v hand end h → IsOpOf h.roots op → LooksAt h.roots (touched_slot op) at
+  pub refers-at : (at : Address) → word ≡ Ref at → (v : View) → (hand : Option Held) → (h : HeapView) → IsWhole part v hand end h → IsOpOf h.roots op → LooksAtObject h.roots (touched_slot op) at
   refers-at at e v hand h w fits = looks-at part v hand end h op w fits p is own word at read e
 
 pub one-ref : (word : Word) (a b : Address) → word ≡ Ref a → word ≡ Ref b → b ≡ a

@@ -4,7 +4,7 @@ use Rattle.std.proofs.lemmas.List.{get_or_default}
 use Rattle.std.specs.List.{AllByRecursion}
 use Rattle.std.specs.Result.{IfErr, OnErr}
 use Rattle.bc_lane.specs.Shown.{ShowsPages}
-use Rattle.bc_lane.specs.Turns.{DoesOne, IsGoing, IsLaneSeat, IsLaneTable, IsNext, IsWhole, LaneRan, ReadLast, ReadsOn, SamePart, StaysWhole, StopsOp, WhyStopped}
+use Rattle.bc_lane.specs.Turns.{DoesOne, IsGoing, IsLaneSeat, IsLaneTable, IsNextOp, IsWhole, LaneRan, ReadLast, ReadsOn, SamePart, StaysWhole, StopsOp, WhyStopped}
 use Rattle.bc_lane.specs.declared.parts.LanePart.{LanePart}
 use Rattle.bc_lane.specs.declared.stops.Stop.{Stop}
 use Rattle.bc_lane.specs.declared.stops.Stop.TheVariants as stop
@@ -112,7 +112,7 @@ module _ (pins : Pins) (ops : List Op) (end : ℕ) (turn new : LaneTurn) (part :
       (subst (λ (p : LanePart). StopsOp p (view_of after) last end op why) (sym part_is) stops)
 
   pub stayed-nursery : (op : Op) (why : Stop) → op ≡ get_or ops turn.next op → (WantsMore turn.part.holders.items turn.part.lane (left_of turn.part.chunk) op → why ≡ stop.NurseryFull)
-      → IsNext ops new.next (λ o. WantsMore new.part.holders.items new.part.lane (left_of new.part.chunk) o) → why ≡ stop.NurseryFull
+      → IsNextOp ops new.next (λ o. WantsMore new.part.holders.items new.part.lane (left_of new.part.chunk) o) → why ≡ stop.NurseryFull
   stayed-nursery op why is full more =
       let at : more.0 ≡ get_or ops turn.next more.0 = subst (λ (n : ℕ). more.0 ≡ get_or ops n more.0) next more.2 in
       let same_op : more.0 ≡ op = at ∙ get_or_default ops turn.next more.0 op less ∙ sym is in

@@ -3,7 +3,7 @@ use Rattle.std.proofs.Common.{◌≡◌, ◌≢◌, ◌↔◌, ℕ, ◌+◌, ◌
 use Rattle.std.proofs.lemmas.List.{length-map}
 use Rattle.std.specs.List.{list_all}
 use Rattle.bc_lane.specs.Shown.{HasPage, ShowsPages, ShowsSlots}
-use Rattle.bc_lane.specs.Turns.{HoldsAll, IsWhole, SlotsOf}
+use Rattle.bc_lane.specs.Turns.{LaneHoldsAll, IsWhole, SlotsOf}
 use Rattle.bc_lane.specs.declared.parts.LanePart.{LanePart}
 use Rattle.bc_lane.proofs.LookLemmas.{touches-more}
 use Rattle.bc_model.specs.State.{State}
@@ -109,7 +109,7 @@ module _ (part : LanePart) (v sv : View) (hand : Option Held) (end : ℕ) (op : 
       (λ p has. subst (λ (x : Option Held). HasPage x p) (sym e_hand) has)
       touches
 
-  pub held-at : list_all (λ d. get_or chs d 0 == part.lane) (domains_of op) ≡ true → HoldsAll part op
+  pub held-at : list_all (λ d. get_or chs d 0 == part.lane) (domains_of op) ≡ true → LaneHoldsAll part op
   held-at held = subst (λ (xs : List ℕ). list_all (λ d. get_or xs d 0 == part.lane) (domains_of op) ≡ true) is_chs held
 
   pub did-at : (h k : HeapView) (next : ℕ) (reply : Reply) → DidOperation h k chs part.lane part.serial next op reply → DidOperation h k part.holders.items part.lane part.serial next op reply

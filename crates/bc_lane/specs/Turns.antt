@@ -67,7 +67,7 @@ AreStarts domains slots count starts =
     → (i : ℕ) → i < length domains → slice_index starts (slice_index domains i) ≡ i * slots)
 
 -- what a lane takes into a turn
-pub record IsPrepared (lane : ℕ) (holders : List ℕ) (roots : LaneRoots) (chunk : Nursery) (buffer : Entries) (serial count from : ℕ) (turn : LaneTurn) : Type 0 where
+pub record IsPreparedTurn (lane : ℕ) (holders : List ℕ) (roots : LaneRoots) (chunk : Nursery) (buffer : Entries) (serial count from : ℕ) (turn : LaneTurn) : Type 0 where
   pub lane_is : turn.part.lane ≡ lane
   pub holders_are : turn.part.holders.items ≡ holders
   pub domains : turn.part.domains ≡ roots.domains
@@ -108,13 +108,13 @@ pub record IsLaneSeat (pins : Pins) (lane : ℕ) (seat : Seat) (hand : Option He
   pub hands : HasInHand seat hand
 
 -- the slot whose object an operation looks at, where there is one, refers to this address
-abbrev pub LooksAt : RootWords → Option Slot → Address → Type 0
-LooksAt r None at = ⊥
-LooksAt r (Some p) at = slot_word r p ≡ Ref at
+abbrev pub LooksAtObject : RootWords → Option Slot → Address → Type 0
+LooksAtObject r None at = ⊥
+LooksAtObject r (Some p) at = slot_word r p ≡ Ref at
 
 -- the operation looks at a cell on this page
 abbrev pub LooksOn : HeapView → Op → ℕ → Type 0
-LooksOn h op page = (at : Address) × LooksAt h.roots (touched_slot op) at × IsAllocated h.space at.0 × (page_of at.0 ≡ page)
+LooksOn h op page = (at : Address) × LooksAtObject h.roots (touched_slot op) at × IsAllocated h.space at.0 × (page_of at.0 ≡ page)
 
 -- what the seat read last: this, of this page
 abbrev pub ReadLast : View → ℕ → ℕ → Type 0
@@ -126,21 +126,21 @@ pub record ReadsOn (v w : View) : Type 0 where
   pub rights : w.rights ≡ v.rights
 
 -- this is true of the operation of that number, which there is
-abbrev pub IsNext : List Op → ℕ → (Op → Type 0) → Type 0
-IsNext ops next P = (op : Op) × (next < length ops) × (op ≡ slice_index_or ops next op) × P op
+abbrev pub IsNextOp : List Op → ℕ → (Op → Type 0) → Type 0
+IsNextOp ops next P = (op : Op) × (next < length ops) × (op ≡ slice_index_or ops next op) × P op
 
 -- the lane holds all domains that the operation names
-abbrev pub HoldsAll : LanePart → Op → Type 0
-HoldsAll part op = list_all (λ d. slice_index part.holders.items d == part.lane) (domains_of op) ≡ true
+abbrev pub LaneHoldsAll : LanePart → Op → Type 0
+LaneHoldsAll part op = list_all (λ d. slice_index part.holders.items d == part.lane) (domains_of op) ≡ true
 
 -- what the operation looks at, if at a cell, lies on pages of which this is true
-abbrev pub LeadsTo : LanePart → ℕ → Op → (ℕ → Type 0) → Type 0
-LeadsTo part end op P = (v : View) → (hand : Option Held) → TouchesHand (ShowsPages v hand end) (SlotsOf part) P (touched_slot op)
+abbrev pub LeadsToPage : LanePart → ℕ → Op → (ℕ → Type 0) → Type 0
+LeadsToPage part end op P = (v : View) → (hand : Option Held) → TouchesHand (ShowsPages v hand end) (SlotsOf part) P (touched_slot op)
 
 -- the operation looks at a cell of a domain that the lane holds, on this page of the table
 pub record LooksOwn (part : LanePart) (k : Key) (end : ℕ) (op : Op) (page : ℕ) : Type 0 where
-  pub held : HoldsAll part op
-  pub leads : LeadsTo part end op (λ q. q ≡ page)
+  pub held : LaneHoldsAll part op
+  pub leads : LeadsToPage part end op (λ q. q ≡ page)
   pub inside : page < pages_of k
   pub domain : slice_index k.opening.domains (page / 4) < length part.holders.items
   pub owned : slice_index part.holders.items (slice_index k.opening.domains (page / 4)) ≡ part.lane
@@ -150,15 +150,15 @@ pub record LooksOwn (part : LanePart) (k : Key) (end : ℕ) (op : Op) (page : �
 -- or at one of a domain that another lane holds
 pub record LooksForeign (h : HeapView) (holders : List ℕ) (lane : ℕ) (op : Op) : Type 0 where
   pub at : Address
-  pub looks : LooksAt h.roots (touched_slot op) at
+  pub looks : LooksAtObject h.roots (touched_slot op) at
   pub there : IsAllocated h.space at.0
   pub foreign : slice_index holders (slice_index h.space.domains (superpage_of at.0)) ≢ lane
 
 -- what is told of where an operation looks
 abbrev pub LooksTold : LanePart → Key → ℕ → Op → Looking → Type 0
-LooksTold part k end op Nowhere = HoldsAll part op → LeadsTo part end op (λ _. ⊥)
+LooksTold part k end op Nowhere = LaneHoldsAll part op → LeadsToPage part end op (λ _. ⊥)
 LooksTold part k end op (Own page) = LooksOwn part k end op page
-LooksTold part k end op Foreign = HoldsAll part op × ((v : View) → (hand : Option Held) → (h : HeapView) → v.about ≡ k → IsWhole part v hand end h → IsOpOf h.roots op
+LooksTold part k end op Foreign = LaneHoldsAll part op × ((v : View) → (hand : Option Held) → (h : HeapView) → v.about ≡ k → IsWhole part v hand end h → IsOpOf h.roots op
     → LooksForeign h part.holders.items part.lane op)
 
 -- a page couldn't be taken: the stop is what was read of it
@@ -184,7 +184,7 @@ StopsOp part v hand end op (stop.Gone page) = ReadLast v page 4 × ((h : HeapVie
 
 -- why a lane stops before the operation of this number: at its end, or since that operation isn't done
 abbrev pub WhyStopped : List Op → ℕ → LaneTurn → View → Option Held → Stop → Type 0
-WhyStopped ops end turn v hand why = ((why ≡ stop.End) × (length ops ≤ turn.next)) ⊎ IsNext ops turn.next (λ op. StopsOp turn.part v hand end op why)
+WhyStopped ops end turn v hand why = ((why ≡ stop.End) × (length ops ≤ turn.next)) ⊎ IsNextOp ops turn.next (λ op. StopsOp turn.part v hand end op why)
 
 -- what the turn of a lane rests on
 pub record IsGoing (pins : Pins) (ops : List Op) (turn : LaneTurn) (seat : Seat) (hand : Option Held) : Type 0 where

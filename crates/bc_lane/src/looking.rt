@@ -1,7 +1,7 @@
 //! Where an operation looks: at a cell of the lane's own, at a cell of another lane's, or at none.
 
 ghost use Rattle.std.specs.Prelude.{◌≡◌, ℕ, ◌<◌, Option, IfNone, IfSome, OnSome};
-ghost use Rattle.bc_lane.specs.Turns.{HoldsAll, IsLaneTable, IsWhole, LeadsTo, LooksAt, LooksTold};
+ghost use Rattle.bc_lane.specs.Turns.{LaneHoldsAll, IsLaneTable, IsWhole, LeadsToPage, LooksAtObject, LooksTold};
 ghost use Rattle.bc_mutator.specs.Operations.{IsOpOf};
 ghost use Rattle.bc_mutator.specs.Parts.{touched_slot};
 ghost use Rattle.bc_pins.specs.declared.holding.Held.{Held};
@@ -51,12 +51,12 @@ pub(crate) fn looks(part: &LanePart, pins: &Pins, end: u32, op: &Op) -> Looking
 /// The address of the cell that an operation of the lane looks at, if it looks at one.
 fn cell_looked_at(part: &LanePart, end: u32, op: &Op) -> Option<Address>
     requires whole { (v : View) × (hand : Option Held) × (h : HeapView) × IsWhole part.now v hand end h × IsOpOf h.roots op.now }
-    ensures none { IfNone result (HoldsAll part.now op.now → LeadsTo part.now end op.now (λ _. ⊥)) }
-    ensures held { OnSome result (HoldsAll part.now op.now) }
+    ensures none { IfNone result (LaneHoldsAll part.now op.now → LeadsToPage part.now end op.now (λ _. ⊥)) }
+    ensures held { OnSome result (LaneHoldsAll part.now op.now) }
     ensures below { IfSome result (λ at. at.0 < end) }
-    ensures leads { IfSome result (λ at. LeadsTo part.now end op.now (λ q. q ≡ page_of at.0)) }
+    ensures leads { IfSome result (λ at. LeadsToPage part.now end op.now (λ q. q ≡ page_of at.0)) }
     ensures looks { IfSome result (λ at. (v : View) → (hand : Option Held) → (h : HeapView) → IsWhole part.now v hand end h → IsOpOf h.roots op.now
-        → LooksAt h.roots (touched_slot op.now) at) }
+        → LooksAtObject h.roots (touched_slot op.now) at) }
 {
     if holds_all(&part.holders, part.lane, op) {
         cell_in_slot(part, end, op)
@@ -68,12 +68,12 @@ fn cell_looked_at(part: &LanePart, end: u32, op: &Op) -> Option<Address>
 /// The same where the lane holds all domains that the operation names.
 fn cell_in_slot(part: &LanePart, end: u32, op: &Op) -> Option<Address>
     requires whole { (v : View) × (hand : Option Held) × (h : HeapView) × IsWhole part.now v hand end h × IsOpOf h.roots op.now }
-    requires held { HoldsAll part.now op.now }
-    ensures none { IfNone result (HoldsAll part.now op.now → LeadsTo part.now end op.now (λ _. ⊥)) }
+    requires held { LaneHoldsAll part.now op.now }
+    ensures none { IfNone result (LaneHoldsAll part.now op.now → LeadsToPage part.now end op.now (λ _. ⊥)) }
     ensures below { IfSome result (λ at. at.0 < end) }
-    ensures leads { IfSome result (λ at. LeadsTo part.now end op.now (λ q. q ≡ page_of at.0)) }
+    ensures leads { IfSome result (λ at. LeadsToPage part.now end op.now (λ q. q ≡ page_of at.0)) }
     ensures looks { IfSome result (λ at. (v : View) → (hand : Option Held) → (h : HeapView) → IsWhole part.now v hand end h → IsOpOf h.roots op.now
-        → LooksAt h.roots (touched_slot op.now) at) }
+        → LooksAtObject h.roots (touched_slot op.now) at) }
 {
     match touched(op) {
         Some(slot) => referred_below(word_in(&part.starts, &part.words, slot), end),

@@ -3,7 +3,7 @@
 ghost use Rattle.std.specs.Prelude.{◌≡◌, ◌↔◌, ℕ, ◌+◌, ◌^◌, ◌<◌, Err, IfOk, IfErr, OnErr, IsErrOf};
 ghost use Rattle.bc_lane.specs.declared.stops.Stop.TheVariants.{NurseryFull};
 ghost use Rattle.bc_lane.specs.Shown.{HasPage, ShowsPages};
-ghost use Rattle.bc_lane.specs.Turns.{DoesOne, HoldsAll, IsWhole, SamePart, SlotsOf, StopsOp};
+ghost use Rattle.bc_lane.specs.Turns.{DoesOne, LaneHoldsAll, IsWhole, SamePart, SlotsOf, StopsOp};
 ghost use Rattle.bc_mutator.specs.declared.operations.Stop.TheVariants as refusal;
 ghost use Rattle.bc_mutator.specs.Effects.{DidOperation};
 ghost use Rattle.bc_mutator.specs.Operations.{IsOpOf, NeedsEntry, WantsMore};
@@ -38,7 +38,7 @@ fn operate_at<S: Station>(
     requires whole { (h : HeapView) × IsWhole part.old (view_of _seat.now) hand.old end h × IsOpOf h.roots op.now }
     requires few { part.old.lane < 16 }
     requires serial { part.old.serial + 1 < 2 ^ 32 }
-    requires hand { HoldsAll part.old op.now
+    requires hand { LaneHoldsAll part.old op.now
         → TouchesHand (ShowsPages (view_of _seat.now) hand.old end) (SlotsOf part.old) (HasPage hand.old) (touched_slot op.now) }
     ensures same { SamePart part.old part.new }
     ensures done { IfOk result (λ reply. (h : HeapView) → IsWhole part.old (view_of _seat.now) hand.old end h → IsOpOf h.roots op.now
@@ -99,7 +99,7 @@ pub(crate) fn operate(
     requires whole { (h : HeapView) × IsWhole part.old (view_of seat.now) hand.old end h × IsOpOf h.roots op.now }
     requires few { part.old.lane < 16 }
     requires serial { part.old.serial + 1 < 2 ^ 32 }
-    requires hand { HoldsAll part.old op.now
+    requires hand { LaneHoldsAll part.old op.now
         → TouchesHand (ShowsPages (view_of seat.now) hand.old end) (SlotsOf part.old) (HasPage hand.old) (touched_slot op.now) }
     ensures part { SamePart part.old part.new }
     ensures page { (page : ℕ) → HasPage hand.old page → HasPage hand.new page }

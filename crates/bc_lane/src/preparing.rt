@@ -1,7 +1,7 @@
 //! What a lane takes into a turn, and gives back.
 
 ghost use Rattle.std.specs.Prelude.{◌≡◌, ℕ, ◌*◌, ◌<◌, ◌≤◌, length, slice_index, IfOk};
-ghost use Rattle.bc_lane.specs.Turns.{AreStarts, IsFinished, IsPrepared};
+ghost use Rattle.bc_lane.specs.Turns.{AreStarts, IsFinished, IsPreparedTurn};
 
 use crate::parts::LanePart;
 use crate::turns::{LaneDone, LaneRoots, LaneTurn};
@@ -28,7 +28,7 @@ impl LaneTurn {
         requires words { (slots : ℕ) × (slots ≤ 256) × (length roots.words.items ≡ length roots.domains.items * slots) }
         requires few { length roots.domains.items ≤ 64 }
         requires from { from ≤ length ops.now }
-        ensures prepared { IfOk result (λ turn. IsPrepared lane holders.now roots chunk buffer serial (length ops.now) from turn) }
+        ensures prepared { IfOk result (λ turn. IsPreparedTurn lane holders.now roots chunk buffer serial (length ops.now) from turn) }
     {
         let LaneRoots { domains, words } = roots;
         let slots = width_of(&domains, &words);
