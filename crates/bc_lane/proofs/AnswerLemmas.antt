@@ -7,7 +7,7 @@ use Rattle.bc_lane.specs.declared.parts.LanePart.{LanePart}
 use Rattle.bc_lane.specs.declared.stops.Stop.{Stop}
 use Rattle.bc_lane.specs.declared.stops.Stop.TheVariants as stop
 use Rattle.bc_lane.specs.Shown.{HasPage, IsOwnPage, ShowsPages}
-use Rattle.bc_lane.specs.Turns.{DoesOne, HasInHand, LaneHoldsAll, IsLaneSeat, IsLaneTable, IsRefusedPage, IsWhole, LeadsToPage, LooksForeign, LooksOn, LooksOwn, ReadLast, SlotsOf, StaysWhole, StopsOp}
+use Rattle.bc_lane.specs.Turns.{DoesOne, HasInHand, LaneHoldsAll, IsLaneSeat, IsLaneTable, IsRefusedPage, IsWhole, LeadsToPageWhere, LooksForeign, LooksOn, LooksOwn, ReadLast, SlotsOf, StaysWhole, StopsOp}
 use Rattle.bc_lane.proofs.ForeignLemmas.{foreign-looked}
 use Rattle.bc_lane.proofs.HandLemmas.{hand-after}
 use Rattle.bc_lane.proofs.LookLemmas.{looking-wants, touches-more}
@@ -55,13 +55,13 @@ whole-moved part v w hand after end h shows whole = record {
 }
 
 -- what is looked at is in hand, if it lies on the page in hand or nowhere
-pub touches-page : (part : LanePart) (end page : ℕ) (op : Op) (v : View) (hand : Option Held) → LeadsToPage part end op (λ q. q ≡ page) → HasPage hand page
+pub touches-page : (part : LanePart) (end page : ℕ) (op : Op) (v : View) (hand : Option Held) → LeadsToPageWhere part end op (λ q. q ≡ page) → HasPage hand page
     → TouchesHand (ShowsPages v hand end) (SlotsOf part) (HasPage hand) (touched_slot op)
 touches-page part end page op v hand leads has =
     touches-more (ShowsPages v hand end) (ShowsPages v hand end) (SlotsOf part) (SlotsOf part) (λ q. q ≡ page) (HasPage hand) (touched_slot op)
     (λ s shown. shown) (λ r shown. shown) (λ q e. subst (HasPage hand) (sym e) has) (leads v hand)
 
-pub touches-none : (part : LanePart) (end : ℕ) (op : Op) (v : View) (hand : Option Held) → LeadsToPage part end op (λ q. ⊥)
+pub touches-none : (part : LanePart) (end : ℕ) (op : Op) (v : View) (hand : Option Held) → LeadsToPageWhere part end op (λ q. ⊥)
     → TouchesHand (ShowsPages v hand end) (SlotsOf part) (HasPage hand) (touched_slot op)
 touches-none part end op v hand leads =
     touches-more (ShowsPages v hand end) (ShowsPages v hand end) (SlotsOf part) (SlotsOf part) (λ q. ⊥) (HasPage hand) (touched_slot op)

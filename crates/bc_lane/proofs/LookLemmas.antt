@@ -5,7 +5,7 @@ use Rattle.std.specs.Prelude.{IfNone, IfSome, OnSome}
 use Rattle.std.proofs.lemmas.Bool.{and_parts, cases_lt}
 use Rattle.std.proofs.lemmas.List.{get_or_default}
 use Rattle.bc_lane.specs.Shown.{ShowsPages, ShowsSlots}
-use Rattle.bc_lane.specs.Turns.{LaneHoldsAll, IsLaneTable, IsWhole, LeadsToPage, LooksAtObject, LooksForeign, LooksOn, LooksOwn, LooksTold, SlotsOf}
+use Rattle.bc_lane.specs.Turns.{LaneHoldsAll, IsLaneTable, IsWhole, LeadsToPageWhere, LooksAtObject, LooksForeign, LooksOn, LooksOwn, LooksTold, SlotsOf}
 use Rattle.bc_lane.specs.declared.looking.Looking.TheVariants.{Foreign}
 use Rattle.bc_lane.specs.declared.parts.LanePart.{LanePart}
 use Rattle.bc_lane.proofs.PageLemmas.{opened-allocated}
@@ -91,7 +91,7 @@ looking-wants r hs lane words (Clear p) at looks wants = wants
 looking-wants r hs lane words (Same p q) at looks wants = wants
 
 -- where no object is looked at, nothing need be in hand
-pub leads-nowhere : (part : LanePart) (end : ℕ) (op : Op) (P : ℕ → Type 0) → touched_slot op ≡ None → LeadsToPage part end op P
+pub leads-nowhere : (part : LanePart) (end : ℕ) (op : Op) (P : ℕ → Type 0) → touched_slot op ≡ None → LeadsToPageWhere part end op P
 leads-nowhere part end op P is v hand = subst (TouchesHand (ShowsPages v hand end) (SlotsOf part) P) (sym is) tt
 
 -- what is true of the pages that are looked at, and implies more
@@ -137,7 +137,7 @@ module _ (part : LanePart) (v0 : View) (hand0 : Option Held) (end : ℕ) (h : He
       let less = slot.1 in
       (omega arith, omega arith)
 
-  pub leads : (word : Word) → word ≡ word_of_bits bits → (P : ℕ → Type 0) → ((at : Address) → word ≡ Ref at → at.0 < end → P (page_of at.0)) → LeadsToPage part end op P
+  pub leads : (word : Word) → word ≡ word_of_bits bits → (P : ℕ → Type 0) → ((at : Address) → word ≡ Ref at → at.0 < end → P (page_of at.0)) → LeadsToPageWhere part end op P
   leads word read P each v hand =
       subst (TouchesHand (ShowsPages v hand end) (SlotsOf part) P) (sym is)
       (λ r shown at e s pages lt.
@@ -204,7 +204,7 @@ pub superpage-page : (a : ℕ) (ds : List ℕ) → get_or ds (superpage_of a) 0 
 superpage-page a ds = ap (λ (q : ℕ). get_or ds q 0) (page_of-superpage a)
 
 -- what is told of where an operation looks at a cell, whatever the whole heap
-module _ (part : LanePart) (k : Key) (end : ℕ) (op : Op) (at : Address) (table : IsLaneTable k part.holders.items) (held : LaneHoldsAll part op) (below : at.0 < end) (leads-on : LeadsToPage part end op (λ q. q ≡ page_of at.0))
+module _ (part : LanePart) (k : Key) (end : ℕ) (op : Op) (at : Address) (table : IsLaneTable k part.holders.items) (held : LaneHoldsAll part op) (below : at.0 < end) (leads-on : LeadsToPageWhere part end op (λ q. q ≡ page_of at.0))
     (at-each : (v : View) → (hand : Option Held) → (h : HeapView) → IsWhole part v hand end h → IsOpOf h.roots op → LooksAtObject h.roots (touched_slot op) at)
     (some : (v : View) × (hand : Option Held) × (h : HeapView) × (v.about ≡ k) × IsWhole part v hand end h × IsOpOf h.roots op) where
   one-looks : LooksAtObject (some.2).roots (touched_slot op) at
@@ -249,7 +249,7 @@ module _ (part : LanePart) (end : ℕ) (op : Op) (p : Slot) (is : touched_slot o
   own : get_or part.holders.items p.domain 0 ≡ part.lane
   own = touched-own part.holders.items part.lane op p is held
 
-  pub refers-leads : (P : ℕ → Type 0) → ((at : Address) → word ≡ Ref at → at.0 < end → P (page_of at.0)) → LeadsToPage part end op P
+  pub refers-leads : (P : ℕ → Type 0) → ((at : Address) → word ≡ Ref at → at.0 < end → P (page_of at.0)) → LeadsToPageWhere part end op P
   refers-leads P each = leads part some.0 some.1 end some.2 op some.3 some.4 p is own word read P each
 
   pub refers-at : (at : Address) → word ≡ Ref at → (v : View) → (hand : Option Held) → (h : HeapView) → IsWhole part v hand end h → IsOpOf h.roots op → LooksAtObject h.roots (touched_slot op) at

@@ -134,13 +134,13 @@ abbrev pub LaneHoldsAll : LanePart → Op → Type 0
 LaneHoldsAll part op = list_all (λ d. slice_index part.holders.items d == part.lane) (domains_of op) ≡ true
 
 -- what the operation looks at, if at a cell, lies on pages of which this is true
-abbrev pub LeadsToPage : LanePart → ℕ → Op → (ℕ → Type 0) → Type 0
-LeadsToPage part end op P = (v : View) → (hand : Option Held) → TouchesHand (ShowsPages v hand end) (SlotsOf part) P (touched_slot op)
+abbrev pub LeadsToPageWhere : LanePart → ℕ → Op → (ℕ → Type 0) → Type 0
+LeadsToPageWhere part end op P = (v : View) → (hand : Option Held) → TouchesHand (ShowsPages v hand end) (SlotsOf part) P (touched_slot op)
 
 -- the operation looks at a cell of a domain that the lane holds, on this page of the table
 pub record LooksOwn (part : LanePart) (k : Key) (end : ℕ) (op : Op) (page : ℕ) : Type 0 where
   pub held : LaneHoldsAll part op
-  pub leads : LeadsToPage part end op (λ q. q ≡ page)
+  pub leads : LeadsToPageWhere part end op (λ q. q ≡ page)
   pub inside : page < pages_of k
   pub domain : slice_index k.opening.domains (page / 4) < length part.holders.items
   pub owned : slice_index part.holders.items (slice_index k.opening.domains (page / 4)) ≡ part.lane
@@ -156,7 +156,7 @@ pub record LooksForeign (h : HeapView) (holders : List ℕ) (lane : ℕ) (op : O
 
 -- what is told of where an operation looks
 abbrev pub LooksTold : LanePart → Key → ℕ → Op → Looking → Type 0
-LooksTold part k end op Nowhere = LaneHoldsAll part op → LeadsToPage part end op (λ _. ⊥)
+LooksTold part k end op Nowhere = LaneHoldsAll part op → LeadsToPageWhere part end op (λ _. ⊥)
 LooksTold part k end op (Own page) = LooksOwn part k end op page
 LooksTold part k end op Foreign = LaneHoldsAll part op × ((v : View) → (hand : Option Held) → (h : HeapView) → v.about ≡ k → IsWhole part v hand end h → IsOpOf h.roots op
     → LooksForeign h part.holders.items part.lane op)

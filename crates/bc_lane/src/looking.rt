@@ -1,7 +1,7 @@
 //! Where an operation looks: at a cell of the lane's own, at a cell of another lane's, or at none.
 
 ghost use Rattle.std.specs.Prelude.{◌≡◌, ℕ, ◌<◌, Option, IfNone, IfSome, OnSome};
-ghost use Rattle.bc_lane.specs.Turns.{LaneHoldsAll, IsLaneTable, IsWhole, LeadsToPage, LooksAtObject, LooksTold};
+ghost use Rattle.bc_lane.specs.Turns.{LaneHoldsAll, IsLaneTable, IsWhole, LeadsToPageWhere, LooksAtObject, LooksTold};
 ghost use Rattle.bc_mutator.specs.Operations.{IsOpOf};
 ghost use Rattle.bc_mutator.specs.Parts.{touched_slot};
 ghost use Rattle.bc_pins.specs.declared.holding.Held.{Held};
@@ -51,10 +51,10 @@ pub(crate) fn looks(part: &LanePart, pins: &Pins, end: u32, op: &Op) -> Looking
 /// The address of the cell that an operation of the lane looks at, if it looks at one.
 fn cell_looked_at(part: &LanePart, end: u32, op: &Op) -> Option<Address>
     requires whole { (v : View) × (hand : Option Held) × (h : HeapView) × IsWhole part.now v hand end h × IsOpOf h.roots op.now }
-    ensures none { IfNone result (LaneHoldsAll part.now op.now → LeadsToPage part.now end op.now (λ _. ⊥)) }
+    ensures none { IfNone result (LaneHoldsAll part.now op.now → LeadsToPageWhere part.now end op.now (λ _. ⊥)) }
     ensures held { OnSome result (LaneHoldsAll part.now op.now) }
     ensures below { IfSome result (λ at. at.0 < end) }
-    ensures leads { IfSome result (λ at. LeadsToPage part.now end op.now (λ q. q ≡ page_of at.0)) }
+    ensures leads { IfSome result (λ at. LeadsToPageWhere part.now end op.now (λ q. q ≡ page_of at.0)) }
     ensures looks { IfSome result (λ at. (v : View) → (hand : Option Held) → (h : HeapView) → IsWhole part.now v hand end h → IsOpOf h.roots op.now
         → LooksAtObject h.roots (touched_slot op.now) at) }
 {
@@ -69,9 +69,9 @@ fn cell_looked_at(part: &LanePart, end: u32, op: &Op) -> Option<Address>
 fn cell_in_slot(part: &LanePart, end: u32, op: &Op) -> Option<Address>
     requires whole { (v : View) × (hand : Option Held) × (h : HeapView) × IsWhole part.now v hand end h × IsOpOf h.roots op.now }
     requires held { LaneHoldsAll part.now op.now }
-    ensures none { IfNone result (LaneHoldsAll part.now op.now → LeadsToPage part.now end op.now (λ _. ⊥)) }
+    ensures none { IfNone result (LaneHoldsAll part.now op.now → LeadsToPageWhere part.now end op.now (λ _. ⊥)) }
     ensures below { IfSome result (λ at. at.0 < end) }
-    ensures leads { IfSome result (λ at. LeadsToPage part.now end op.now (λ q. q ≡ page_of at.0)) }
+    ensures leads { IfSome result (λ at. LeadsToPageWhere part.now end op.now (λ q. q ≡ page_of at.0)) }
     ensures looks { IfSome result (λ at. (v : View) → (hand : Option Held) → (h : HeapView) → IsWhole part.now v hand end h → IsOpOf h.roots op.now
         → LooksAtObject h.roots (touched_slot op.now) at) }
 {
