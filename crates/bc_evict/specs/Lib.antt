@@ -4,3 +4,5 @@ pub mod Evicting
 pub mod Marking
 -- What a page whose word says Gone is
 pub mod GonePages
+-- An object on a page in hand
+pub mod Objects
