@@ -76,6 +76,32 @@ fn cycles_that_are_dropped_make_room_for_others_and_nothing_is_read_back(
 }
 
 #[test]
+fn a_collection_by_hand_frees_what_is_dead_in_memory_and_reads_nothing_back(
+    rt: HostRuntime,
+) -> Result<(), Fail> {
+    let mut workshop = Workshop::open(rt.alloc(), &MOSTLY_GONE)?;
+    for page in 0..10 {
+        workshop = page_of_list(&rt, workshop, A, 1 + 4 * page);
+    }
+    for page in 10..12 {
+        workshop = page_of_list(&rt, workshop, C, 1 + 4 * page);
+    }
+    expect(&rt, &mut workshop, Op::Clear(C), Reply::Done);
+    expect(&rt, &mut workshop, Op::New(D, 127), object(49));
+    // The chunk has an object.
+    assert_eq!(rt; workshop.collect_cells(&rt, rt.alloc()), false);
+    counted(&rt, &workshop, 3, 48);
+    workshop = emptied(&rt, workshop);
+    counted(&rt, &workshop, 3, 41);
+    expect(&rt, &mut workshop, Op::Clear(D), Reply::Done);
+    assert_eq!(rt; workshop.collect_cells(&rt, rt.alloc()), true);
+    counted(&rt, &workshop, 3, 40);
+    assert_eq!(rt; workshop.space().reads(), 0);
+    follow(&rt, &mut workshop, 40);
+    Ok(())
+}
+
+#[test]
 fn where_most_of_the_heap_is_gone_what_is_dead_in_memory_is_freed_and_the_rest_kept(
     rt: HostRuntime,
 ) -> Result<(), Fail> {
