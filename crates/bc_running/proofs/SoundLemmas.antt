@@ -19,11 +19,7 @@ use Rattle.bc_whole_heap.specs.Closed.{IsSurvivorOf}
 use Rattle.bc_whole_heap.proofs.ChunkLemmas.{length-alike}
 use Rattle.bc_whole_heap.proofs.ClosedLemmas.{running-survivors}
 use Rattle.bc_mutator.specs.Operations.{NoneLater}
-<<<<<<< HEAD
 use Rattle.bc_nursery.specs.Objects.{emptied, has_object}
-=======
-use Rattle.bc_nursery.specs.Objects.{bare_nursery, bare_object, emptied, has_object}
->>>>>>> 426f60a5446f8bdfe1483e817dde4aa92d910ef0
 use Rattle.bc_nursery.specs.Nurseries.{ChunkObject, Nursery}
 use Rattle.bc_running.specs.Running.{HasEmptyChunks, RunningView}
 use Rattle.bc_running.specs.RunningFacts.{IsSound, IsSoundOver, IsStillSound, Collects, CollectsOver, running_of}
@@ -112,7 +108,6 @@ none-young c a none has =
     false_true : false ≡ true → ⊥
     false_true e = cc
 
-<<<<<<< HEAD
 -- chunks that differ only in fields and in what is kept beside their objects are empty alike
 pub empty-alike : (cs ds : List Nursery) → map outline_nursery ds ≡ map outline_nursery cs → ((l : ℕ) → (chunk_of cs l).objects ≡ []) → (l : ℕ) → (chunk_of ds l).objects ≡ []
 empty-alike cs ds same none l = none-bare (chunk_of ds l).objects (
@@ -120,29 +115,14 @@ empty-alike cs ds same none l = none-bare (chunk_of ds l).objects (
     ∙ ap (λ (xs : List Nursery). (chunk_of xs l).objects) same
     ∙ ap (λ (c : Nursery). c.objects) (get_or-map outline_nursery cs l no_chunk)
     ∙ ap (map outline_object) (none l)
-=======
--- chunks that differ only in what is kept beside their objects are empty alike
-pub empty-alike : (cs ds : List Nursery) → map bare_nursery ds ≡ map bare_nursery cs → ((l : ℕ) → (chunk_of cs l).objects ≡ []) → (l : ℕ) → (chunk_of ds l).objects ≡ []
-empty-alike cs ds same none l = none-bare (chunk_of ds l).objects (
-    ap (λ (c : Nursery). c.objects) (sym (get_or-map bare_nursery ds l no_chunk))
-    ∙ ap (λ (xs : List Nursery). (chunk_of xs l).objects) same
-    ∙ ap (λ (c : Nursery). c.objects) (get_or-map bare_nursery cs l no_chunk)
-    ∙ ap (map bare_object) (none l)
->>>>>>> 426f60a5446f8bdfe1483e817dde4aa92d910ef0
     )
   where
     some_none : (o : ChunkObject) (os : List ChunkObject) → o ∷ os ≡ [] → ⊥
     some_none o os e = cc
 
-<<<<<<< HEAD
     none-bare : (os : List ChunkObject) → map outline_object os ≡ [] → os ≡ []
     none-bare [] e = refl
     none-bare (o ∷ os) e = absurd (some_none (outline_object o) (map outline_object os) e)
-=======
-    none-bare : (os : List ChunkObject) → map bare_object os ≡ [] → os ≡ []
-    none-bare [] e = refl
-    none-bare (o ∷ os) e = absurd (some_none (bare_object o) (map bare_object os) e)
->>>>>>> 426f60a5446f8bdfe1483e817dde4aa92d910ef0
 
 -- where all chunks are empty there is no object of a chunk that could be asked, so a heap that runs for its survivors runs
 pub running-empty : (h : HeapView) (hs : List ℕ) → HasEmptyChunks h → IsRunningForSurvivors h hs → IsRunning h hs

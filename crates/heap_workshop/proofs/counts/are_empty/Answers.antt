@@ -12,11 +12,7 @@ pub returns-then-is_some : goal.returns-then-is_some
 returns-then-is_some c = (
   λ is. absurd (let e : false ≡ true = is in cc),
   λ empty. absurd (none-empty c.args.chunks.now c.loop-chunk.chunk-index c.chunk-item.result c.next.result (let within = c.loop-chunk-test.true in omega arith)
-<<<<<<< HEAD
       c.chunk-item.is c.next.ensures.next (sym c.is_some.ensures ∙ c.if-is_some.true) empty),
-=======
-  c.chunk-item.is c.next.ensures.next (sym c.is_some.ensures ∙ c.if-is_some.true) empty),
->>>>>>> 426f60a5446f8bdfe1483e817dde4aa92d910ef0
 )
 
 pub returns : goal.returns
