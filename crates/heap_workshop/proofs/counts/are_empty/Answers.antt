@@ -12,7 +12,7 @@ pub returns-then-is_some : goal.returns-then-is_some
 returns-then-is_some c = (
   λ is. absurd (let e : false ≡ true = is in cc),
   λ empty. absurd (none-empty c.args.chunks.now c.loop-chunk.chunk-index c.chunk-item.result c.next.result (let within = c.loop-chunk-test.true in omega arith)
-  c.chunk-item.is c.next.ensures.next (sym c.is_some.ensures ∙ c.if-is_some.true) empty),
+      c.chunk-item.is c.next.ensures.next (sym c.is_some.ensures ∙ c.if-is_some.true) empty),
 )
 
 pub returns : goal.returns
