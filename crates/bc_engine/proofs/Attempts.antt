@@ -10,8 +10,9 @@ use Rattle.bc_whole_heap.proofs.ClosedLemmas.{running-survivors}
 use Rattle.bc_whole_heap.proofs.MovingLemmas.{running-moved, stands-moved}
 use Rattle.bc_running.specs.Running.{RunningView, RunningStands}
 use Rattle.bc_running.specs.RunningFacts.{IsSound, StaysBut, with_space}
-use Rattle.bc_running.specs.Touching.{IsTouching, SameRemembered}
+use Rattle.bc_running.specs.Touching.{LooksAtGone, SameRemembered}
 use Rattle.bc_running.proofs.MovingLemmas.{needs-kept}
+use Rattle.bc_running.proofs.SoundLemmas.{none-young}
 use Rattle.bc_model.specs.State.{State}
 use Rattle.bc_model.specs.Step.{step}
 use Rattle.bc_model.specs.declared.operations.Op.{Op}
@@ -20,7 +21,6 @@ use Rattle.bc_model.specs.declared.operations.Reply.{Reply}
 use Rattle.bc_model.specs.declared.traces.Setup.{Setup}
 use Rattle.bc_model.proofs.Steps.{made-step}
 use Rattle.bc_mutator.specs.Operations.{IsOpOf, WantsMore, NeedsEntry}
-use Rattle.bc_mutator.specs.Parts.{touched_slot}
 use Rattle.bc_mutator.specs.declared.operations.Stop.{Stop}
 use Rattle.bc_mutator.specs.declared.operations.Stop.TheVariants.{NurseryFull, BufferFull, NoFrame}
 use Rattle.bc_mutator.proofs.NewLemmas.{births-count, none-later}
@@ -31,8 +31,8 @@ use Rattle.bc_superpages.specs.Layout.{Layout, superpages}
 use Rattle.bc_superpages.specs.RootWords.{RootWords}
 use Rattle.bc_engine.specs.Engines.{EngineView}
 use Rattle.bc_engine.specs.EngineFacts.{CanRunLanes, IsEngine, IsReadyForSurvivors, IsUnrecorded}
-use Rattle.bc_engine.specs.Lanes.{Does, IsHeldUp, Stops}
-use Rattle.bc_engine.proofs.Sizes.{fits-moved, fits-step, op-of_state, none-young}
+use Rattle.bc_engine.specs.Lanes.{Does, Stops}
+use Rattle.bc_engine.proofs.Sizes.{fits-moved, fits-step, op-of_state}
 
 -- what the operation is to every state that the heap stands for
 abbrev pub IsStep : ℕ → Op → RunningView → RunningView → Reply → Type 0
@@ -159,30 +159,12 @@ why-stopped A B C (Err NoFrame) full wants frame = inr (inr (frame refl))
 
 -- of the heap of which pages moved
 pub still-stops : (lane : ℕ) (op : Op) {r q : RunningView} → IsMoved r q
-    → (WantsMore r.holders lane (left_of (chunk_of r.heap.chunks lane)) op) ⊎ ((NeedsEntry r.holders lane r.heap.space r.heap.roots (chunk_of r.heap.chunks lane) (buffer_of r.heap.buffers lane) op) ⊎ (IsTouching (touched_slot op) × NoPageGoes r.heap.space × (q ≡ r)))
+    → (WantsMore r.holders lane (left_of (chunk_of r.heap.chunks lane)) op) ⊎ ((NeedsEntry r.holders lane r.heap.space r.heap.roots (chunk_of r.heap.chunks lane) (buffer_of r.heap.buffers lane) op) ⊎ (LooksAtGone r.holders lane r.heap.space r.heap.roots op × NoPageGoes r.heap.space × (q ≡ r)))
     → Stops lane op q
 still-stops lane op {r} {q} moved (inl wants) = subst (Stops lane op) (sym moved.1) (inl wants)
 still-stops lane op {r} {q} moved (inr (inl needs)) =
     subst (Stops lane op) (sym moved.1) (inr (inl (needs-kept r.holders lane r.heap.roots (chunk_of r.heap.chunks lane) (buffer_of r.heap.buffers lane) op moved.0 needs)))
 still-stops lane op {r} {q} moved (inr (inr frame)) = subst (Stops lane op) (sym frame.2) (inr (inr (frame.0, frame.1)))
-
--- only at capacity an entry is needed that isn't there
-at-capacity : (hs : List ℕ) (lane : ℕ) (s : Layout) (roots : RootWords) (c : Nursery) (b : Entries) (op : Op) → NeedsEntry hs lane s roots c b op → length b.entries ≡ b.capacity
-at-capacity hs lane s roots c b (Link p i q) needs = needs.1
-at-capacity hs lane s roots c b (New p n) needs = absurd needs
-at-capacity hs lane s roots c b (Who p) needs = absurd needs
-at-capacity hs lane s roots c b (Len p) needs = absurd needs
-at-capacity hs lane s roots c b (Set p i v) needs = absurd needs
-at-capacity hs lane s roots c b (Cut p i) needs = absurd needs
-at-capacity hs lane s roots c b (Load p i q) needs = absurd needs
-at-capacity hs lane s roots c b (Copy p q) needs = absurd needs
-at-capacity hs lane s roots c b (Clear p) needs = absurd needs
-at-capacity hs lane s roots c b (Same p q) needs = absurd needs
-
-pub held-up : (lane : ℕ) (op : Op) (r : RunningView) → Stops lane op r → IsHeldUp lane op r
-held-up lane op r (inl wants) = inl wants
-held-up lane op r (inr (inr frame)) = inr (inr frame.0)
-held-up lane op r (inr (inl needs)) = inr (inl (at-capacity r.holders lane r.heap.space r.heap.roots (chunk_of r.heap.chunks lane) (buffer_of r.heap.buffers lane) op needs))
 
 -- where nothing was recorded nothing is, if no buffer changed and no page became Remembered
 pub unrecorded-kept : {lane : ℕ} {r q : RunningView} → (q.heap.buffers ≡ r.heap.buffers) × SameRemembered r.heap.space q.heap.space → StaysBut lane r q → IsUnrecorded r.heap → IsUnrecorded q.heap

@@ -2,7 +2,7 @@
 use Rattle.std.proofs.Common.{Vec, Global, ◌≡◌, ℕ, List, length, map, sym, ap, subst, ◌∙◌}
 use Rattle.std.proofs.Math.ListN.{get_or-map}
 use Rattle.std.proofs.lemmas.List.{length-map}
-use Rattle.bc_cycle.specs.Emptying.{IsEmptied, KeepsMeaning}
+use Rattle.bc_cycle.specs.Emptying.{outline_nursery, IsEmptied, KeepsMeaning}
 use Rattle.bc_cycle.proofs.ChunkLists.{chunk-emptied}
 use Rattle.bc_whole_heap.specs.Closed.{buffer_of, no_buffer}
 use Rattle.bc_whole_heap.specs.LaneChunks.{chunk_of}
@@ -14,7 +14,7 @@ use Rattle.bc_model.specs.State.{State}
 use Rattle.bc_model.specs.declared.traces.Setup.{Setup}
 use Rattle.bc_nursery.specs.Entries.{Entries}
 use Rattle.bc_nursery.specs.Buffers.{without_entries}
-use Rattle.bc_nursery.specs.Objects.{bare_nursery, emptied}
+use Rattle.bc_nursery.specs.Objects.{emptied}
 use Rattle.bc_nursery.specs.Nurseries.{Nursery}
 use Rattle.bc_promotion.specs.Promises.{HasDomainsBelow}
 use Rattle.bc_superpages.specs.RootWords.{RootWords}
@@ -36,10 +36,10 @@ through r q P held same p =
 buffer-emptied : (bs : List Entries) (l : ℕ) → buffer_of (map without_entries bs) l ≡ without_entries (buffer_of bs l)
 buffer-emptied bs l = get_or-map without_entries bs l no_buffer
 
--- chunks that differ only in what is kept beside their objects have as many words
-words-alike : (cs ds : List Nursery) (l : ℕ) → map bare_nursery ds ≡ map bare_nursery cs → (chunk_of ds l).words ≡ (chunk_of cs l).words
+-- chunks that differ only in fields and in what is kept beside their objects have as many words
+words-alike : (cs ds : List Nursery) (l : ℕ) → map outline_nursery ds ≡ map outline_nursery cs → (chunk_of ds l).words ≡ (chunk_of cs l).words
 words-alike cs ds l e =
-    ap (λ (c : Nursery). c.words) (sym (get_or-map bare_nursery ds l no_chunk)) ∙ ap (λ (xs : List Nursery). (chunk_of xs l).words) e ∙ ap (λ (c : Nursery). c.words) (get_or-map bare_nursery cs l no_chunk)
+    ap (λ (c : Nursery). c.words) (sym (get_or-map outline_nursery ds l no_chunk)) ∙ ap (λ (xs : List Nursery). (chunk_of xs l).words) e ∙ ap (λ (c : Nursery). c.words) (get_or-map outline_nursery cs l no_chunk)
 
 pub empty-chunks : {h k : HeapView} → IsEmptied h k → HasEmptyChunks k
 empty-chunks {h} is l = ap (λ (cs : List Nursery). (chunk_of cs l).objects) is.cleared ∙ ap (λ (c : Nursery). c.objects) (chunk-emptied h.chunks l)
@@ -105,7 +105,7 @@ stands-refused {hs} {serials} {h} {k} state is st = record {
   births = st.births;
   domains = ap (λ (x : RootWords). x.domains) is.sizes.roots ∙ st.domains;
   slots = ap (λ (x : RootWords). x.slots) is.sizes.roots ∙ st.slots;
-  lanes = length-alike bare_nursery h.chunks k.chunks is.chunks ∙ st.lanes;
+  lanes = length-alike outline_nursery h.chunks k.chunks is.chunks ∙ st.lanes;
 }
 
 ready-kept : {hs serials : List ℕ} {h k : HeapView} (setup : Setup) → KeepsMeaning h k → CanRunLanes setup (running_of h hs serials) → IsReadyForSurvivors setup (running_of k hs serials)
@@ -116,7 +116,7 @@ ready-kept {hs} {serials} {h} {k} setup is ready = record {
     supers = is.sizes.supers ∙ ready.fits.supers;
     domains = ap (λ (x : RootWords). x.domains) is.sizes.roots ∙ ready.fits.domains;
     slots = ap (λ (x : RootWords). x.slots) is.sizes.roots ∙ ready.fits.slots;
-    lanes = length-alike bare_nursery h.chunks k.chunks is.chunks ∙ ready.fits.lanes;
+    lanes = length-alike outline_nursery h.chunks k.chunks is.chunks ∙ ready.fits.lanes;
     words = λ l lt. words-alike h.chunks k.chunks l is.chunks ∙ ready.fits.words l lt;
     entries = λ l lt. ap (λ (bs : List Entries). (buffer_of bs l).capacity) is.entries ∙ ready.fits.entries l lt;
     nursery = is.sizes.nursery ∙ ready.fits.nursery;

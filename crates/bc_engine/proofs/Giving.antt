@@ -16,7 +16,7 @@ use Rattle.bc_superpages.specs.LayoutAt.{IsAllocated}
 use Rattle.bc_superpages.specs.RootWords.{RootWords}
 use Rattle.bc_engine.specs.Engines.{HasEmptyChunks}
 use Rattle.bc_engine.specs.EngineFacts.{CanRunLanes, IsReadyOver, IsUnrecorded}
-use Rattle.bc_engine.proofs.Sizes.{none-young}
+use Rattle.bc_running.proofs.SoundLemmas.{none-young}
 
 -- what refers to a cell or to an object of an empty chunk refers to a cell
 only-cell : (s : Layout) (c : Nursery) (a : ℕ) → c.objects ≡ [] → IsCellOrYoung s c a → IsAllocated s a

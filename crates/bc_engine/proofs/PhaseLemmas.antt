@@ -1,5 +1,5 @@
 -- A phase: what its rounds and gives do to the states that the engine stands for.
-use Rattle.std.proofs.Common.{Vec, Global, vec_capacity, ◌≡◌, ℕ, ◌+◌, ◌<◌, ◌≤◌, List, [], ◌∷◌, ◌++◌, length, take, map, get_or, None, Err, refl, sym, ap, subst, ◌∙◌, inl, inr, arith}
+use Rattle.std.proofs.Common.{Vec, Global, vec_capacity, ◌≡◌, ℕ, ◌+◌, ◌<◌, ◌≤◌, List, [], ◌∷◌, ◌++◌, length, take, map, get_or, None, refl, sym, ap, subst, ◌∙◌, inl, inr, arith}
 use Prim.Native.Nat.{zero, suc}
 use Rattle.std.proofs.lemmas.Bool.{cases_lt}
 use Rattle.std.proofs.lemmas.List.{get_or_append_left, get_or_push, length-map, length_push}
@@ -26,9 +26,7 @@ use Rattle.bc_engine.specs.Engines.{EngineView, EngineStands, HasEmptyChunks}
 use Rattle.bc_engine.specs.EngineFacts.{with_holders, HasRoomForBirths, IsEngine, IsReadyForSurvivors}
 use Rattle.bc_engine.specs.Lanes.{of_lane, AreDone, BirthsWithin, LanesWentOn, HasSerialsLeft, HasRoomForOps}
 use Rattle.bc_engine.specs.Phases.{CutPhase, DidPhase}
-use Rattle.bc_engine.specs.Rounds.{RoundsWentOn, IfTooSmall, IsRoomFor, IsThrough, IsTooSmall, IsUnderwayOn}
-use Rattle.bc_engine.specs.declared.engines.Ended.{Ended}
-use Rattle.bc_engine.specs.declared.engines.Ended.TheVariants.{OutOfHeap}
+use Rattle.bc_engine.specs.Rounds.{RoundsWentOn, IsRoomFor, IsThrough, IsTooSmall, IsUnderwayOn}
 use Rattle.bc_model.proofs.NeedFound.{need-found}
 use Rattle.bc_model.proofs.RunStates.{length-cut_lanes}
 use Rattle.bc_engine.proofs.Attempts.{ready-going}
@@ -192,6 +190,3 @@ underway-lent e p os us vs begun fits long lanes lent =
 pub births-lent : (e f : EngineView) (p : PhaseLists) (os : List (List Op)) (us ws : List (Vec Reply Global)) → os ≡ p.lanes → BirthsWithin os e.running.serials (lists_of us) f.running.serials (lists_of ws) → (j : ℕ) → get_or f.running.serials j 0 ≤ get_or e.running.serials j 0 + length (of_lane p.lanes j)
 births-lent e f p os us ws lanes births j =
     omega (arith, births j, ap (λ (ls : List (List Op)). length (of_lane ls j)) lanes)
-
-pub small-at : (T : Type 0) (P : ℕ → Type 0) (ended : Ended) (n : ℕ) → ended ≡ OutOfHeap n → IfTooSmall {T = T} (Err ended) P → P n
-small-at T P ended n is small = subst (λ (x : Ended). IfTooSmall {T = T} (Err x) P) is small

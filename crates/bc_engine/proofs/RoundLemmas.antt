@@ -1,5 +1,5 @@
 -- A round: the lanes run, the nurseries are emptied, and the lanes that aren't at their ends do one operation more.
-use Rattle.std.proofs.Common.{Vec, Global, ◌≡◌, ◌≢◌, ℕ, ◌<◌, ◌≤◌, List, length, Option, Some, None, Err, refl, sym, ap, subst, ◌∙◌, arith}
+use Rattle.std.proofs.Common.{Vec, Global, ◌≡◌, ◌≢◌, ℕ, ◌<◌, ◌≤◌, List, length, Option, Some, None, Err, refl, sym, subst, arith}
 use Rattle.bc_cycle.specs.Causes.{IfOutOfHeap}
 use Rattle.bc_cycle.specs.Emptying.{KeepsMeaning}
 use Rattle.bc_cycle.specs.declared.emptying.CycleNo.{CycleNo}
@@ -11,12 +11,11 @@ use Rattle.bc_model.specs.declared.operations.Op.{Op}
 use Rattle.bc_model.specs.declared.operations.Reply.{Reply}
 use Rattle.bc_superpages.specs.Layout.{superpages}
 use Rattle.bc_engine.specs.Engines.{EngineView}
-use Rattle.bc_engine.specs.EngineFacts.{IsReadyForSurvivors}
 use Rattle.bc_engine.specs.Lanes.{of_lane, EachFurther, HasMore, IsUnderway, LanesRan, left}
-use Rattle.bc_engine.specs.Rounds.{ended_of, RoundsWentOn, IfTooSmall, IsTooSmall, IsUnderwayOn}
+use Rattle.bc_engine.specs.Rounds.{RoundsWentOn, IsTooSmall, IsUnderwayOn}
 use Rattle.bc_engine.specs.declared.engines.Ended.{Ended}
 use Rattle.bc_engine.specs.declared.engines.Ended.TheVariants.{OutOfHeap, NoMemory}
-use Rattle.bc_engine.proofs.EmptyingLemmas.{goes-refused, ready-refused}
+use Rattle.bc_engine.proofs.EmptyingLemmas.{goes-refused}
 use Rattle.bc_engine.proofs.GoingLemmas.{goes-then}
 use Rattle.bc_engine.proofs.RunLemmas.{runs-same, runs-then, left-le, left-less}
 use Rattle.bc_running.specs.Running.{RunningView}
@@ -36,27 +35,24 @@ ran {lanes} {e} underway runs = record { runs = runs; underway = runs.underway e
 pub ran-more : {lanes : List (List Op)} {e : EngineView} {r q : RunningView} {told mid replies : List (Vec Reply Global)} → LanesRan lanes r mid q replies → IsAt lanes e told r mid → IsAt lanes e told q replies
 ran-more {lanes} {e} runs at = record { runs = runs-then at.runs runs; underway = runs.underway e.setup at.underway }
 
--- an end for want of heap leaves the heap ready, where it is asked of survivors
-pub ready-ended : (T : Type 0) {lanes : List (List Op)} {e : EngineView} {r q : RunningView} {told replies : List (Vec Reply Global)} (cause : CycleNo) (ended : Ended) → ended ≡ ended_of cause → IfOutOfHeap {T = T} (Err cause) (λ need. KeepsMeaning r.heap q.heap) → q.holders ≡ r.holders → q.serials ≡ r.serials → IsAt lanes e told r replies → Some ended ≢ Some NoMemory → IsReadyForSurvivors e.setup q
-ready-ended T {lanes} {e} {r} {q} {told} {replies} (cycle.OutOfHeap need) ended is meaning held same at alive = ready-refused e.setup held same meaning at.underway.ready
-ready-ended T cycle.NoMemory ended is meaning held same at alive = absurd (alive (ap Some is))
+-- what is told of a heap that is too small, where it needs so many superpages
+pub refused-at : (T : Type 0) (cause : CycleNo) (need : ℕ) (P : ℕ → Type 0) → cause ≡ cycle.OutOfHeap need → IfOutOfHeap {T = T} (Err cause) P → P need
+refused-at T cause need P is told = subst (λ (x : CycleNo). IfOutOfHeap {T = T} (Err x) P) is told
 
--- and is what the phase is cut by
-pub too-small : (T U : Type 0) {lanes : List (List Op)} {e : EngineView} (f : EngineView) {r : RunningView} {told replies : List (Vec Reply Global)} (cause : CycleNo) (ended : Ended) → ended ≡ ended_of cause → IfOutOfHeap {T = T} (Err cause) (λ need. KeepsMeaning r.heap f.running.heap) → IfOutOfHeap {T = T} (Err cause) (λ need. NeedOfHeap f.running.heap.space f.running.heap.roots f.running.heap.chunks need × (superpages f.running.heap.space < need)) → f.running.holders ≡ r.holders → f.running.serials ≡ r.serials → f.ended ≡ Some ended → IsAt lanes e told r replies → IfTooSmall {T = U} (Err ended) (IsTooSmall lanes e told f replies)
-too-small T U {lanes} {e} f {r} {told} {replies} (cycle.OutOfHeap need) ended is meaning needs held same end at =
-    subst (λ (x : Ended). IfTooSmall {T = U} (Err x) (IsTooSmall lanes e told f replies)) (sym is) (record {
-      cause = end ∙ ap Some is;
-      goes = goes-then at.runs.goes (goes-refused lanes (lists_of replies) held same meaning);
-      needs = needs.0;
-      above = needs.1;
-    })
-too-small T U {lanes} {e} f {r} {told} {replies} cycle.NoMemory ended is meaning needs held same end at =
-    subst (λ (x : Ended). IfTooSmall {T = U} (Err x) (IsTooSmall lanes e told f replies)) (sym is) tt
+-- an end for want of heap is what the phase is cut by
+pub too-small : {lanes : List (List Op)} {e : EngineView} (f : EngineView) {r : RunningView} {told replies : List (Vec Reply Global)} (need : ℕ) → KeepsMeaning r.heap f.running.heap → NeedOfHeap f.running.heap.space f.running.heap.roots f.running.heap.chunks need × (superpages f.running.heap.space < need) → f.running.holders ≡ r.holders → f.running.serials ≡ r.serials → f.ended ≡ Some (OutOfHeap need) → IsAt lanes e told r replies → IsTooSmall lanes e told f replies need
+too-small {lanes} {e} f {r} {told} {replies} need meaning needs held same end at = record {
+  cause = end;
+  goes = goes-then at.runs.goes (goes-refused lanes (lists_of replies) held same meaning);
+  needs = needs.0;
+  above = needs.1;
+}
 
 -- where some lane wasn't at its end, and each such lane has done an operation more, less is to come
 pub fewer-left : (lanes : List (List Op)) (told mid replies : List (List Reply)) (n : ℕ) → n ≡ length lanes → ((j : ℕ) → length (of_lane told j) ≤ length (of_lane mid j)) → ((j : ℕ) → length (of_lane mid j) ≤ length (of_lane replies j)) → HasMore lanes mid → EachFurther n lanes mid replies → left lanes replies < left lanes told
 fewer-left lanes told mid replies n long first second some each =
-    let less = left-less lanes mid replies some.0 second some.1 some.2 (each some.0 (omega (arith, some.1, long)) some.2) in
+    let more = each some.0 (omega (arith, some.1, long)) some.2 in
+    let less = left-less lanes mid replies some.0 second some.1 some.2 (omega (arith, more)) in
     omega (arith, less, left-le lanes told mid first)
 
 -- one stretch of rounds after another
@@ -68,9 +64,8 @@ underway-then {lanes} {f} {g} {mid} {replies} setup on underway =
     subst (λ (s : Setup). IsUnderway s lanes g.running replies) (sym setup) (on.runs.underway f.setup underway)
 
 -- rounds that are cut after others are cut
-pub small-then : (T U : Type 0) {lanes : List (List Op)} {e f : EngineView} (g : EngineView) {told mid : List (Vec Reply Global)} (replies : List (Vec Reply Global)) (ended : Ended) → RoundsWentOn lanes e told f mid → IfTooSmall {T = T} (Err ended) (IsTooSmall lanes f mid g replies) → IfTooSmall {T = U} (Err ended) (IsTooSmall lanes e told g replies)
-small-then T U g replies (OutOfHeap need) first small = record { cause = small.cause; goes = goes-then first.runs.goes small.goes; needs = small.needs; above = small.above }
-small-then T U g replies NoMemory first small = tt
+pub small-then : {lanes : List (List Op)} {e f : EngineView} (g : EngineView) {told mid : List (Vec Reply Global)} (replies : List (Vec Reply Global)) (need : ℕ) → RoundsWentOn lanes e told f mid → IsTooSmall lanes f mid g replies need → IsTooSmall lanes e told g replies need
+small-then g replies need first small = record { cause = small.cause; goes = goes-then first.runs.goes small.goes; needs = small.needs; above = small.above }
 
 -- before the first round
 pub on-begun : (lanes : List (List Op)) (e : EngineView) (told : List (Vec Reply Global)) → e.ended ≡ None → RoundsWentOn lanes e told e told

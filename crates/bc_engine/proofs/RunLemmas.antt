@@ -7,6 +7,8 @@ use Rattle.std.specs.List.{AllByRecursion}
 use Rattle.bc_whole_heap.specs.Closed.{buffer_of}
 use Rattle.bc_whole_heap.specs.LaneChunks.{chunk_of}
 use Rattle.bc_running.specs.Running.{RunningView, RunningStands}
+use Rattle.bc_superpages.specs.Layout.{Layout}
+use Rattle.bc_superpages.specs.RootWords.{RootWords}
 use Rattle.bc_model.specs.Rows.{lists_of}
 use Rattle.bc_model.specs.WellFormed.{IsOp}
 use Rattle.bc_model.proofs.Runs.{at-index}
@@ -14,13 +16,9 @@ use Rattle.bc_model.specs.State.{State}
 use Rattle.bc_model.specs.declared.operations.Op.{Op}
 use Rattle.bc_model.specs.declared.operations.Reply.{Reply}
 use Rattle.bc_model.specs.declared.traces.Setup.{Setup}
-use Rattle.bc_mutator.specs.Operations.{WantsMore}
-use Rattle.bc_nursery.specs.Entries.{Entries}
-use Rattle.bc_nursery.specs.Objects.{left_of}
-use Rattle.bc_nursery.specs.Nurseries.{Nursery}
 use Rattle.bc_engine.specs.EngineFacts.{CanRunLanes}
-use Rattle.bc_engine.specs.Lanes.{of_lane, BirthsWithin, Does, EachFurther, LanesWentOn, HasSerialsLeft, IsAtEndOr, IsHeldUp, IsOneMore, LeavesOthers, LanesRan, Stops, left}
-use Rattle.bc_engine.proofs.Attempts.{IsMoved, held-up, means-moved, ready-moved}
+use Rattle.bc_engine.specs.Lanes.{of_lane, BirthsWithin, Does, EachFurther, LanesWentOn, HasSerialsLeft, IsAtEndOr, IsOneMore, LeavesCells, LeavesOthers, LanesRan, StoppedBetween, Stops, left}
+use Rattle.bc_engine.proofs.Attempts.{IsMoved, means-moved, ready-moved}
 use Rattle.bc_engine.proofs.GoingLemmas.{with_reply, goes-none, goes-then, goes-step}
 
 -- nothing was done, and the heap stands for what it stood for
@@ -162,18 +160,29 @@ left-less (ops ∷ lanes) (t ∷ ts) [] j more within some further = absurd (ome
 left-less (ops ∷ lanes) (t ∷ ts) (a ∷ bs) zero more within some further = omega (arith, left-le lanes ts bs (λ i. more (suc i)))
 left-less (ops ∷ lanes) (t ∷ ts) (a ∷ bs) (suc j) more within some further = omega (arith, more 0, left-less lanes ts bs j (λ i. more (suc i)) (omega arith) some further)
 
+-- the lanes from one on have the replies that they had
+abbrev pub AreAsBefore : ℕ → List (List Reply) → List (List Reply) → Type 0
+AreAsBefore n told mid = (j : ℕ) → n ≤ j → of_lane mid j ≡ of_lane told j
+
 -- one lane more has done an operation, unless it was at its end
-pub each-further : (lanes : List (List Op)) (told mid answers : List (List Reply)) (n : ℕ) (b : Bool) → ((j : ℕ) → length (of_lane told j) ≤ length (of_lane mid j)) → ((j : ℕ) → length (of_lane mid j) ≤ length (of_lane answers j)) → EachFurther n lanes told mid → (b ≡ true → IsOneMore (of_lane lanes n) (of_lane mid n) (of_lane answers n)) → (b ≡ false → length (of_lane lanes n) ≤ length (of_lane answers n)) → EachFurther (n + 1) lanes told answers
-each-further lanes told mid answers n b first second each one none j lt some = elim (cases_eq j n) [
+pub each-further : (lanes : List (List Op)) (told mid answers : List (List Reply)) (n : ℕ) (b : Bool) → AreAsBefore n told mid → ((j : ℕ) → j ≢ n → of_lane answers j ≡ of_lane mid j) → EachFurther n lanes told mid → (b ≡ true → IsOneMore (of_lane lanes n) (of_lane mid n) (of_lane answers n)) → (b ≡ false → length (of_lane lanes n) ≤ length (of_lane mid n)) → EachFurther (n + 1) lanes told answers
+each-further lanes told mid answers n b before others each one none j lt some = elim (cases_eq j n) [
   | inl e ↦
-      subst (λ (m : ℕ). length (of_lane told m) < length (of_lane answers m)) (sym e)
+      subst (λ (m : ℕ). length (of_lane answers m) ≡ length (of_lane told m) + 1) (sym e)
       (here b one none (subst (λ (m : ℕ). length (of_lane told m) < length (of_lane lanes m)) e some))
-  | inr ne ↦ omega (arith, each j (omega arith) some, second j)
+  | inr ne ↦ ap length (others j ne) ∙ each j (omega (arith, lt, ne)) some
 ]
   where
-    here : (t : Bool) → (t ≡ true → IsOneMore (of_lane lanes n) (of_lane mid n) (of_lane answers n)) → (t ≡ false → length (of_lane lanes n) ≤ length (of_lane answers n)) → length (of_lane told n) < length (of_lane lanes n) → length (of_lane told n) < length (of_lane answers n)
-    here true yes_one at_end less = omega (arith, (yes_one refl).1, first n)
-    here false yes_one at_end less = omega (arith, at_end refl)
+    same : length (of_lane mid n) ≡ length (of_lane told n)
+    same = ap length (before n (omega arith))
+
+    here : (t : Bool) → (t ≡ true → IsOneMore (of_lane lanes n) (of_lane mid n) (of_lane answers n)) → (t ≡ false → length (of_lane lanes n) ≤ length (of_lane mid n)) → length (of_lane told n) < length (of_lane lanes n) → length (of_lane answers n) ≡ length (of_lane told n) + 1
+    here true yes_one at_end less = (yes_one refl).1 ∙ ap (λ (k : ℕ). k + 1) same
+    here false yes_one at_end less = absurd (let end = at_end refl in omega (arith, end, less, same))
+
+-- and the lanes behind it are as before
+pub as-before : {lane : ℕ} {r q : RunningView} {mid answers : List (List Reply)} (told : List (List Reply)) → AreAsBefore lane told mid → LeavesOthers lane r mid q answers → AreAsBefore (lane + 1) told answers
+as-before {lane} told before leaves j le = leaves.replies j (omega (arith, le)) ∙ before j (omega (arith, le))
 
 -- the replies of another lane
 pub told-other : (vs : List (Vec Reply Global)) (lane l : ℕ) (w : Vec Reply Global) → l ≢ lane → of_lane (lists_of (set vs lane w)) l ≡ of_lane (lists_of vs) l
@@ -204,28 +213,32 @@ leaves-then first second = record {
   held = second.held ∙ first.held;
 }
 
--- a lane that is held up is so when another one has run
-still-held : {lane : ℕ} (l : ℕ) (op : Op) {r q : RunningView} {told answers : List (List Reply)} → LeavesOthers lane r told q answers → l ≢ lane → IsHeldUp l op r → IsHeldUp l op q
-still-held l op {r} {q} leaves ne (inl wants) =
-    inl (subst (λ (hs : List ℕ). WantsMore hs l (left_of (chunk_of q.heap.chunks l)) op) (sym leaves.held)
-    (subst (λ (c : Nursery). WantsMore r.holders l (left_of c) op) (sym (leaves.chunk l ne)) wants))
-still-held l op leaves ne (inr (inl full)) = inr (inl (subst (λ (b : Entries). length b.entries ≡ b.capacity) (sym (leaves.buffer l ne)) full))
-still-held l op leaves ne (inr (inr touches)) = inr (inr touches)
-
-weaker : (P Q : Op → Type 0) (ops : List Op) (rs : List Reply) → ((op : Op) → P op → Q op) → IsAtEndOr ops rs P → IsAtEndOr ops rs Q
-weaker P Q ops rs f (inl end) = inl end
-weaker P Q ops rs f (inr x) = inr (x.0, x.1, x.2, f x.0 x.3)
-
-still-stopped : (lanes : List (List Op)) {lane : ℕ} (l : ℕ) {r q : RunningView} {told answers : List (List Reply)} → LeavesOthers lane r told q answers → l ≢ lane → IsAtEndOr (of_lane lanes l) (of_lane told l) (λ op. IsHeldUp l op r) → IsAtEndOr (of_lane lanes l) (of_lane answers l) (λ op. IsHeldUp l op q)
-still-stopped lanes l {r} {q} {told} leaves ne stopped =
-    subst (λ (rs : List Reply). IsAtEndOr (of_lane lanes l) rs (λ op. IsHeldUp l op q)) (sym (leaves.replies l ne))
-    (weaker (λ op. IsHeldUp l op r) (λ op. IsHeldUp l op q) (of_lane lanes l) (of_lane told l) (λ op held. still-held l op leaves ne held) stopped)
-
 -- the lanes that have run so far have stopped, and so has the next one
-pub stopped-more : (lanes : List (List Op)) {lane : ℕ} {r q : RunningView} {told answers : List (List Reply)} → LeavesOthers lane r told q answers → ((j : ℕ) → j < lane → IsAtEndOr (of_lane lanes j) (of_lane told j) (λ op. IsHeldUp j op r)) → IsAtEndOr (of_lane lanes lane) (of_lane answers lane) (λ op. Stops lane op q) → (j : ℕ) → j < lane + 1 → IsAtEndOr (of_lane lanes j) (of_lane answers j) (λ op. IsHeldUp j op q)
-stopped-more lanes {lane} {r} {q} {told} {answers} leaves before here j lt = elim (cases_eq j lane) [
+pub stopped-more : (lanes : List (List Op)) {lane : ℕ} {s r q : RunningView} {begun told answers : List (Vec Reply Global)} → LanesRan lanes s begun r told → LanesRan lanes r told q answers → LeavesOthers lane r (lists_of told) q (lists_of answers) → ((j : ℕ) → j < lane → StoppedBetween lanes s begun r told j) → IsAtEndOr (of_lane lanes lane) (of_lane (lists_of answers) lane) (λ op. Stops lane op q) → (j : ℕ) → j < lane + 1 → StoppedBetween lanes s begun q answers j
+stopped-more lanes {lane} {s} {r} {q} {begun} {told} {answers} first runs leaves before here j lt = elim (cases_eq j lane) [
   | inl e ↦
-      subst (λ (l : ℕ). IsAtEndOr (of_lane lanes l) (of_lane answers l) (λ op. IsHeldUp l op q)) (sym e)
-      (weaker (λ op. Stops lane op q) (λ op. IsHeldUp lane op q) (of_lane lanes lane) (of_lane answers lane) (λ op stops. held-up lane op q stops) here)
-  | inr ne ↦ still-stopped lanes j leaves ne (before j (omega (arith, lt, ne)))
+      subst (λ (l : ℕ). StoppedBetween lanes s begun q answers l) (sym e)
+      (record { at = q; told = answers; first = runs-then first runs; later = runs-same lanes q q answers refl; same = refl; why = here })
+  | inr ne ↦
+      let stopped = before j (omega (arith, lt, ne)) in
+      record {
+        at = stopped.at;
+        told = stopped.told;
+        first = stopped.first;
+        later = runs-then stopped.later runs;
+        same = leaves.replies j ne ∙ stopped.same;
+        why = stopped.why;
+      }
 ]
+
+-- cells stay from one stretch to the next
+pub cells-same : (r : RunningView) → LeavesCells r r
+cells-same r = record { space = refl; roots = refl }
+
+pub cells-then : {r q x : RunningView} → LeavesCells r q → LeavesCells q x → LeavesCells r x
+cells-then {r} {q} {x} first second = record {
+  space =
+      second.space
+      ∙ ap (λ (s : Layout). record s { states = x.heap.space.states; pages = x.heap.space.pages; free = x.heap.space.free; bookmarks = x.heap.space.bookmarks; incoming = x.heap.space.incoming; reads = x.heap.space.reads }) first.space;
+  roots = second.roots ∙ ap (λ (s : RootWords). record s { words = x.heap.roots.words; noted = x.heap.roots.noted }) first.roots;
+}

@@ -1,8 +1,6 @@
 -- What an operation and an emptying leave as it was: the sizes of a heap, and which operations fit it.
-use Rattle.std.proofs.Common.{◌≡◌, ℕ, Bool, true, false, ◌==◌, List, [], length, None, sym, ap, subst, ◌∙◌, inl, inr, arith}
+use Rattle.std.proofs.Common.{◌≡◌, ℕ, false, List, [], length, None, sym, ap, subst, ◌∙◌, inl, inr, arith}
 use Rattle.std.proofs.lemmas.Bool.{cases_eq}
-use Rattle.std.specs.List.{find}
-use Rattle.std.specs.Option.{is_some}
 use Rattle.bc_bookmarks.specs.Moves.{MovesPages}
 use Rattle.bc_whole_heap.specs.Closed.{buffer_of}
 use Rattle.bc_whole_heap.specs.LaneChunks.{chunk_of}
@@ -17,7 +15,7 @@ use Rattle.bc_model.specs.declared.traces.Setup.{Setup}
 use Rattle.bc_mutator.specs.Operations.{IsOpOf}
 use Rattle.bc_nursery.specs.Entries.{Entries}
 use Rattle.bc_nursery.specs.Objects.{has_object}
-use Rattle.bc_nursery.specs.Nurseries.{ChunkObject, Nursery}
+use Rattle.bc_nursery.specs.Nurseries.{Nursery}
 use Rattle.bc_promotion.specs.Promises.{HasDomainsBelow}
 use Rattle.bc_superpages.specs.Layout.{Layout, superpages}
 use Rattle.bc_superpages.specs.RootWords.{RootWords}
@@ -78,18 +76,7 @@ fits-moved setup moves fits = record {
   used = subst (λ (s : Layout). HasDomainsBelow s setup.domains) (sym moves.same) fits.used;
 }
 
--- an empty chunk has no object
-pub none-young : {X : Type 0} (c : Nursery) (a : ℕ) → c.objects ≡ [] → has_object c a ≡ true → X
-none-young c a none has =
-    absurd (false_true (sym (ap (λ (os : List ChunkObject). is_some (find (λ o. nat_same o.address a) os)) none) ∙ has))
-  where
-    nat_same : ℕ → ℕ → Bool
-    nat_same x y = x == y
-
-    false_true : false ≡ true → ⊥
-    false_true e = cc
-
--- nor has a list of empty chunks
+-- an empty chunk has no object, nor has a list of empty chunks
 none-in : (c : Nursery) (a : ℕ) → c.objects ≡ [] → has_object c a ≡ false
 none-in c a none = grind (arith, none)
 

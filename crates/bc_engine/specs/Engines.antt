@@ -1,12 +1,11 @@
 -- An engine: a heap that lanes run on, and what phases rest on.
-use Rattle.std.specs.Prelude.{◌≡◌, ℕ, List, [], Option}
-use Rattle.bc_whole_heap.specs.LaneChunks.{chunk_of}
-use Rattle.bc_whole_heap.specs.Heaps.{HeapView}
+use Rattle.std.specs.Prelude.{ℕ, List, Option}
 use Rattle.bc_model.specs.State.{State}
 use Rattle.bc_model.specs.declared.traces.Setup.{Setup}
 use Rattle.bc_engine.specs.declared.answers.Answer.{Answer}
 use Rattle.bc_engine.specs.declared.engines.Ended.{Ended}
 use Rattle.bc_running.specs.Running.{RunningView, RunningStands}
+pub use Rattle.bc_running.specs.Running.{HasEmptyChunks}
 
 pub record EngineView : Type 0 where
   pub running : RunningView
@@ -17,10 +16,6 @@ pub record EngineView : Type 0 where
   pub ended : Option Ended
   -- what became of the notices of the latest phase
   pub answers : List Answer
-
--- all chunks are empty
-abbrev pub HasEmptyChunks : HeapView → Type 0
-HasEmptyChunks h = (l : ℕ) → (chunk_of h.chunks l).objects ≡ []
 
 -- the engine stands for the state
 abbrev pub EngineStands : EngineView → State → Type 0

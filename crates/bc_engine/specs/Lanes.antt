@@ -14,12 +14,11 @@ use Rattle.bc_model.specs.declared.operations.Op.{Op}
 use Rattle.bc_model.specs.declared.operations.Reply.{Reply}
 use Rattle.bc_model.specs.declared.traces.Setup.{Setup}
 use Rattle.bc_mutator.specs.Operations.{WantsMore, NeedsEntry}
-use Rattle.bc_mutator.specs.Parts.{touched_slot}
 use Rattle.bc_nursery.specs.Objects.{left_of}
 use Rattle.bc_engine.specs.Engines.{EngineView}
 use Rattle.bc_engine.specs.EngineFacts.{CanRunLanes}
 use Rattle.bc_running.specs.Running.{RunningView, RunningStands}
-use Rattle.bc_running.specs.Touching.{IsTouching}
+use Rattle.bc_running.specs.Touching.{LooksAtGone}
 
 -- the operations of a lane, or its replies
 abbrev pub of_lane : {X : Type 0} → List (List X) → ℕ → List X
@@ -80,26 +79,41 @@ abbrev pub IsOneMore : List Op → List Reply → List Reply → Type 0
 IsOneMore ops before after = (length before < length ops) × (length after ≡ length before + 1)
 
 -- an operation of a lane can't be done yet: the object takes more words than are left of the chunk, or an entry is needed and
--- the write buffer is at capacity, or it looks at an object, no frame is free and no page can leave
+-- the write buffer is at capacity, or it looks at an object on a page that is Gone, no frame is free and no page can leave
 abbrev pub Stops : ℕ → Op → RunningView → Type 0
 Stops lane op r =
     WantsMore r.holders lane (left_of (chunk_of r.heap.chunks lane)) op
     ⊎ (NeedsEntry r.holders lane r.heap.space r.heap.roots (chunk_of r.heap.chunks lane) (buffer_of r.heap.buffers lane) op
-    ⊎ (IsTouching (touched_slot op) × NoPageGoes r.heap.space))
-
--- the object takes more words than are left of the lane's chunk, or its write buffer is at capacity, or the operation looks at an
--- object: what of that no other lane changes
-abbrev pub IsHeldUp : ℕ → Op → RunningView → Type 0
-IsHeldUp lane op r =
-    WantsMore r.holders lane (left_of (chunk_of r.heap.chunks lane)) op
-    ⊎ ((length (buffer_of r.heap.buffers lane).entries ≡ (buffer_of r.heap.buffers lane).capacity)
-    ⊎ IsTouching (touched_slot op))
+    ⊎ (LooksAtGone r.holders lane r.heap.space r.heap.roots op × NoPageGoes r.heap.space))
 
 -- all of a lane's operations have replies, or this is true of the next one
 abbrev pub IsAtEndOr : List Op → List Reply → (Op → Type 0) → Type 0
 IsAtEndOr ops replies P =
     (length ops ≤ length replies)
     ⊎ ((op : Op) × (length replies < length ops) × (op ≡ slice_index_or ops (length replies) op) × P op)
+
+-- what lanes leave as it is: of the space all but states and contents of pages, free frames, bookmarks, counters and reads, so no cell
+-- is freed or moved, and of the root slots all but what they hold
+pub record LeavesCells (r q : RunningView) : Type 0 where
+  pub space : q.heap.space ≡ record r.heap.space {
+    states = q.heap.space.states;
+    pages = q.heap.space.pages;
+    free = q.heap.space.free;
+    bookmarks = q.heap.space.bookmarks;
+    incoming = q.heap.space.incoming;
+    reads = q.heap.space.reads;
+  }
+  pub roots : q.heap.roots ≡ record r.heap.roots { words = q.heap.roots.words; noted = q.heap.roots.noted }
+
+-- a lane stopped somewhere between these two: there it was at its end, or its next operation couldn't be done yet, and it did none
+-- from there on
+pub record StoppedBetween (lanes : List (List Op)) (r : RunningView) (before : List (Vec Reply Global)) (q : RunningView) (after : List (Vec Reply Global)) (lane : ℕ) : Type 0 where
+  pub at : RunningView
+  pub told : List (Vec Reply Global)
+  pub first : LanesRan lanes r before at told
+  pub later : LanesRan lanes at told q after
+  pub same : of_lane (lists_of after) lane ≡ of_lane (lists_of told) lane
+  pub why : IsAtEndOr (of_lane lanes lane) (of_lane (lists_of told) lane) (λ op. Stops lane op at)
 
 -- what isn't the lane's stays: the chunks, write buffers and replies of others, and who holds which domain
 pub record LeavesOthers (lane : ℕ) (r : RunningView) (before : List (List Reply)) (q : RunningView) (after : List (List Reply)) : Type 0 where
@@ -108,10 +122,10 @@ pub record LeavesOthers (lane : ℕ) (r : RunningView) (before : List (List Repl
   pub replies : (l : ℕ) → l ≢ lane → of_lane after l ≡ of_lane before l
   pub held : q.holders ≡ r.holders
 
--- each of the first n lanes that wasn't at its end has more replies
+-- each of the first n lanes that wasn't at its end has one reply more
 abbrev pub EachFurther : ℕ → List (List Op) → List (List Reply) → List (List Reply) → Type 0
 EachFurther n lanes before after =
-    (j : ℕ) → j < n → length (of_lane before j) < length (of_lane lanes j) → length (of_lane before j) < length (of_lane after j)
+    (j : ℕ) → j < n → length (of_lane before j) < length (of_lane lanes j) → length (of_lane after j) ≡ length (of_lane before j) + 1
 
 -- every lane is at its end, and some lane is not
 abbrev pub AreDone : List (List Op) → List (List Reply) → Type 0

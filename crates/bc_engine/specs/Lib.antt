@@ -12,4 +12,6 @@ pub mod Lanes
 pub mod Turns
 -- The rounds of a phase
 pub mod Rounds
+-- The turns of a phase, from its beginning to its end or to its cut.
+pub mod PhaseTurns
 pub mod Inside

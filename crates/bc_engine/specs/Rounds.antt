@@ -1,17 +1,19 @@
 -- The rounds of a phase: the lanes go on until each is at its end or stops, and then the nurseries are emptied.
-use Rattle.std.specs.Prelude.{◌≡◌, ℕ, ◌<◌, ◌≤◌, List, [], length, Some, None, Result, Ok, Err, Vec, vec_capacity, slice_index_or}
+use Rattle.std.specs.Prelude.{◌≡◌, ℕ, ◌<◌, ◌≤◌, List, [], length, Some, None, Vec, vec_capacity, slice_index_or}
+use Prim.Native.Nat.{zero, suc}
 use Rattle.std.specs.declared.alloc.Global.{Global}
-use Rattle.bc_cycle.specs.declared.emptying.CycleNo.{CycleNo}
-use Rattle.bc_cycle.specs.declared.emptying.CycleNo.TheVariants as cycle
+use Rattle.bc_cycle.specs.Collecting.{HasKeptWhereItFits}
+use Rattle.bc_cycle.specs.Emptying.{IsEmptied, KeepsMeaning, LeavesPages, StayInPlace, SurvivorsFit}
 use Rattle.bc_failsafe.specs.Packing.{NeedOfHeap}
 use Rattle.bc_model.specs.Rows.{lists_of}
 use Rattle.bc_model.specs.declared.operations.Op.{Op}
 use Rattle.bc_model.specs.declared.operations.Reply.{Reply}
 use Rattle.bc_superpages.specs.Layout.{superpages}
 use Rattle.bc_engine.specs.Engines.{EngineView, HasEmptyChunks}
-use Rattle.bc_engine.specs.Lanes.{of_lane, AreDone, LanesWentOn, IsUnderway, LanesRan}
-use Rattle.bc_engine.specs.declared.engines.Ended.{Ended}
-use Rattle.bc_engine.specs.declared.engines.Ended.TheVariants.{OutOfHeap, NoMemory}
+use Rattle.bc_engine.specs.Lanes.{of_lane, AreDone, EachFurther, HasMore, LanesWentOn, LeavesCells, IsUnderway, LanesRan}
+use Rattle.bc_engine.specs.Turns.{RanTurn, hints_of}
+use Rattle.bc_engine.specs.declared.engines.Ended.TheVariants.{OutOfHeap}
+use Rattle.bc_running.specs.Running.{RunningView}
 
 -- a phase is under way on the engine
 abbrev pub IsUnderwayOn : EngineView → List (List Op) → List (Vec Reply Global) → Type 0
@@ -22,22 +24,6 @@ abbrev pub IsRoomFor : List (List Op) → List (Vec Reply Global) → Type 0
 IsRoomFor lanes replies =
     (j : ℕ) → (v : Vec Reply Global) → j < length replies → v ≡ slice_index_or replies j v
     → (v.items ≡ []) × (length (of_lane lanes j) ≤ vec_capacity v)
-
--- the engine ends by what ended an emptying
-abbrev pub ended_of : CycleNo → Ended
-ended_of (cycle.OutOfHeap need) = OutOfHeap need
-ended_of cycle.NoMemory = NoMemory
-
--- of an end for want of heap, and of one for want of memory
-abbrev pub IfTooSmall : {T : Type 0} → Result T Ended → (ℕ → Type 0) → Type 0
-IfTooSmall (Ok x) P = Unit {0}
-IfTooSmall (Err (OutOfHeap need)) P = P need
-IfTooSmall (Err NoMemory) P = Unit {0}
-
-abbrev pub IsGone : {T : Type 0} → Result T Ended → Type 0
-IsGone (Ok x) = ⊥
-IsGone (Err (OutOfHeap need)) = ⊥
-IsGone (Err NoMemory) = Unit {0}
 
 -- the engine goes on: the lanes went on, nothing else changed, and the engine hasn't ended
 pub record RoundsWentOn (lanes : List (List Op)) (e : EngineView) (before : List (Vec Reply Global)) (f : EngineView) (after : List (Vec Reply Global)) : Type 0 where
@@ -55,3 +41,61 @@ pub record IsTooSmall (lanes : List (List Op)) (e : EngineView) (before : List (
   pub goes : LanesWentOn lanes e.running (lists_of before) f.running (lists_of after)
   pub needs : NeedOfHeap f.running.heap.space f.running.heap.roots f.running.heap.chunks need
   pub above : superpages f.running.heap.space < need
+
+-- the heap is another one, and holders and births are the same
+abbrev pub SameLanes : RunningView → RunningView → Type 0
+SameLanes r q = (q.holders ≡ r.holders) × (q.serials ≡ r.serials)
+
+-- the nurseries were emptied: nothing was freed, moved or read back where the survivors fit, and no page was read back where they fit what a
+-- bookmark collection keeps
+pub record EmptiesNurseries (r q : RunningView) : Type 0 where
+  pub emptied : IsEmptied r.heap q.heap
+  pub in_place : SurvivorsFit r.heap → StayInPlace r.heap q.heap
+  pub pages : SurvivorsFit r.heap → LeavesPages r.heap.space q.heap.space
+  pub kept : (SurvivorsFit r.heap → ⊥) → HasKeptWhereItFits r.heap q.heap
+  pub lanes : SameLanes r q
+
+-- a round: the lanes had their turn, in which the notices with these hints were served, and the nurseries were emptied. Some lane wasn't at its
+-- end, and each such lane did one operation more
+pub record RanRound (lanes : List (List Op)) (e : EngineView) (before : List (Vec Reply Global)) (hints : List ℕ) (f : EngineView) (after : List (Vec Reply Global)) : Type 0 where
+  pub turned : RunningView
+  pub told : List (Vec Reply Global)
+  pub turn : RanTurn lanes e.running before hints turned told
+  pub emptied : RunningView
+  pub empties : EmptiesNurseries turned emptied
+  pub more : HasMore lanes (lists_of told)
+  pub steps : LanesRan lanes emptied told f.running after
+  pub leaves : LeavesCells emptied f.running
+  pub each : EachFurther (length lanes) lanes (lists_of told) (lists_of after)
+  pub rest : f ≡ record e { running = f.running }
+
+-- the last round: in their turn all lanes came to their ends, and the nurseries were emptied
+pub record LastRound (lanes : List (List Op)) (e : EngineView) (before : List (Vec Reply Global)) (hints : List ℕ) (f : EngineView) (after : List (Vec Reply Global)) : Type 0 where
+  pub turned : RunningView
+  pub turn : RanTurn lanes e.running before hints turned after
+  pub done : AreDone lanes (lists_of after)
+  pub empties : EmptiesNurseries turned f.running
+  pub rest : f ≡ record e { running = f.running }
+
+-- a round that was cut: the lanes had their turn, and the nurseries couldn't be emptied
+pub record CutRound (lanes : List (List Op)) (e : EngineView) (before : List (Vec Reply Global)) (hints : List ℕ) (f : EngineView) (after : List (Vec Reply Global)) : Type 0 where
+  pub turned : RunningView
+  pub turn : RanTurn lanes e.running before hints turned after
+  pub refused : KeepsMeaning turned.heap f.running.heap × SameLanes turned f.running
+  pub rest : f ≡ record e { running = f.running; ended = f.ended }
+
+-- so many rounds with others to come, one after another. The notices of the n-th one are those of the n-th turn of the phase
+abbrev pub RanRounds : List (List Op) → List (List ℕ) → EngineView → List (Vec Reply Global) → ℕ → EngineView → List (Vec Reply Global) → Type 0
+RanRounds lanes lines e before zero f after = (f ≡ e) × (after ≡ before)
+RanRounds lanes lines e before (suc n) f after =
+    (mid : EngineView) × (told : List (Vec Reply Global)) × RanRounds lanes lines e before n mid told × RanRound lanes mid told (hints_of lines n) f after
+
+-- the rounds of a phase from its first turn on: so many as have others to come, and the last one
+abbrev pub RanAll : List (List Op) → List (List ℕ) → EngineView → List (Vec Reply Global) → EngineView → List (Vec Reply Global) → Type 0
+RanAll lanes lines e before f after =
+    (n : ℕ) × (mid : EngineView) × (told : List (Vec Reply Global)) × RanRounds lanes lines e before n mid told × LastRound lanes mid told (hints_of lines n) f after
+
+-- so many of them as there were before one that was cut, and that one
+abbrev pub RanToCut : List (List Op) → List (List ℕ) → EngineView → List (Vec Reply Global) → EngineView → List (Vec Reply Global) → Type 0
+RanToCut lanes lines e before f after =
+    (n : ℕ) × (mid : EngineView) × (told : List (Vec Reply Global)) × RanRounds lanes lines e before n mid told × CutRound lanes mid told (hints_of lines n) f after

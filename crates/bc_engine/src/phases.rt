@@ -6,6 +6,7 @@ ghost use Rattle.bc_engine.specs.Answers.{IfPhaseOutOfHeap, IsOutOfHeap, IsNoMem
 ghost use Rattle.bc_engine.specs.Engines.{EngineStands, HasEmptyChunks};
 ghost use Rattle.bc_engine.specs.EngineFacts.{HasRoomForBirths, IsUnrecorded, with_holders};
 ghost use Rattle.bc_engine.specs.Lanes.{of_lane, HasRoomForOps};
+ghost use Rattle.bc_engine.specs.PhaseTurns.{HadTurns, HadTurnsToCut};
 ghost use Rattle.bc_engine.specs.Phases.{DidPhase, CutPhase};
 ghost use Rattle.bc_engine.specs.Rounds.{IsRoomFor};
 ghost use Rattle.bc_model.specs.Rows.{lists_of};
@@ -27,8 +28,7 @@ pub enum PhaseNo {
     /// What the engine stands for after these replies needs this many superpages, which is more than there are. On an engine that
     /// had ended so, there are no replies.
     OutOfHeap { replies: Replies, need: u64 },
-    /// There is no memory for the replies or for an emptying of the nurseries, now or in an earlier phase. The engine may be used
-    /// only to be dropped.
+    /// There is no memory for the replies, now or in an earlier phase. The engine may be used only to be dropped.
     NoMemory,
 }
 
@@ -37,9 +37,10 @@ impl Engine {
     /// operations in the phase together are fewer than 2^32.
     ///
     /// It answers `OutOfHeap` where an emptying of the nurseries finds that the heap is too small, with the replies up to there,
-    /// and `NoMemory` where there is no memory for all replies or for an emptying. Both end the engine. One that ended for want of
-    /// heap answers the same need again with no replies, and changes nothing; one that ended for want of memory answers that
-    /// alone. After each turn of the lanes pages are given up for the hints of the turn's line, which no reply tells.
+    /// and `NoMemory` where there is no memory for all replies, before anything is done: what comes then takes none. Both end the
+    /// engine. One that ended for want of heap answers the same need again with no replies, and changes nothing; one that ended for
+    /// want of memory answers that alone. After each turn of the lanes pages are given up for the hints of the turn's line, which no
+    /// reply tells: the n-th turn has the n-th line, and behind the last line comes the first one again.
     pub fn phase<R, G>(
         &mut self,
         rt: &R,
@@ -54,11 +55,15 @@ impl Engine {
         requires births { HasRoomForOps self.old phase.now.lanes 0 }
         ensures done { self.old.ended ≡ None → IfOk result (λ replies. DidPhase self.old phase.now self.new replies) }
         ensures cut { self.old.ended ≡ None → IfPhaseOutOfHeap result (λ replies need. CutPhase self.old phase.now self.new replies need) }
+        // Notices are served turn by turn, in the order of the phase's lines.
+        ensures turns { self.old.ended ≡ None → IfOk result (λ replies. HadTurns self.old phase.now self.new replies) }
+        ensures cut_turns { self.old.ended ≡ None → IfPhaseOutOfHeap result (λ replies need. HadTurnsToCut self.old phase.now self.new replies) }
         ensures again { (need : ℕ) → self.old.ended ≡ Some (Ended.OutOfHeap need) → IsOutOfHeap result [] need }
         ensures ended { self.old.ended ≢ None → self.new ≡ self.old }
         ensures gone { self.old.ended ≡ Some Ended.NoMemory → IsNoMemory result }
         ensures setup { (self.new.setup ≡ self.old.setup) × (self.new.workers ≡ self.old.workers) }
         ensures no_memory { IsNoMemory result → self.new.ended ≡ Some Ended.NoMemory }
+        ensures undone { IsNoMemory result → self.new ≡ record self.old { ended = self.new.ended } }
         ensures births { (j : ℕ) → slice_index self.new.running.serials j ≤ slice_index self.old.running.serials j + length (of_lane phase.now.lanes j) }
         ensures room { (n : ℕ) → HasRoomForOps self.old phase.now.lanes n → HasRoomForBirths self.new n }
     {
@@ -81,7 +86,7 @@ impl Engine {
         }
     }
 
-    /// Does a phase on an engine that hasn't ended, with room for the reply to each operation.
+    /// Does a phase on an engine that hasn't ended, with room for the reply to each operation. It takes no memory.
     fn replay<R, G>(
         &mut self,
         rt: &R,
@@ -101,7 +106,9 @@ impl Engine {
         ensures done { IfOk result (λ told. DidPhase self.old phase.now self.new told) }
         ensures cut { IfPhaseOutOfHeap result (λ told need. CutPhase self.old phase.now self.new told need) }
         ensures setup { (self.new.setup ≡ self.old.setup) × (self.new.workers ≡ self.old.workers) }
-        ensures no_memory { IsNoMemory result → self.new.ended ≡ Some Ended.NoMemory }
+        ensures turns { IfOk result (λ told. HadTurns self.old phase.now self.new told) }
+        ensures cut_turns { IfPhaseOutOfHeap result (λ told need. HadTurnsToCut self.old phase.now self.new told) }
+        ensures memory { IsNoMemory result → ⊥ }
         ensures births { (j : ℕ) → slice_index self.new.running.serials j ≤ slice_index self.old.running.serials j + length (of_lane phase.now.lanes j) }
     {
         self.facts();
@@ -112,12 +119,12 @@ impl Engine {
                 self.room_facts();
                 Ok(Replies { lanes: replies })
             }
-            Err(Ended::OutOfHeap { need }) => {
+            Err(need) => {
                 self.facts();
                 let replies = Replies { lanes: replies };
+                let need = need.0;
                 Err(PhaseNo::OutOfHeap { replies, need })
             }
-            Err(Ended::NoMemory) => Err(PhaseNo::NoMemory),
         }
     }
 

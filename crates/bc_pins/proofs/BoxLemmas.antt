@@ -86,11 +86,11 @@ sum_hit m (suc n) lt = elim (cases_eq m n) [
       omega arith
 ]
 
-sum_plus : (g h : ℕ → ℕ) (n : ℕ) → sum_to (λ i. g i + h i) n ≡ sum_to g n + sum_to h n
+pub sum_plus : (g h : ℕ → ℕ) (n : ℕ) → sum_to (λ i. g i + h i) n ≡ sum_to g n + sum_to h n
 sum_plus g h zero = refl
 sum_plus g h (suc n) = let t = sum_plus g h n in omega arith
 
-boxes_sum : (bs : List (Option Homed)) (n : ℕ) → ((f : ℕ) → n ≤ f → total (λ b. one_if (uses_frame f b)) bs ≡ 0)
+pub boxes_sum : (bs : List (Option Homed)) (n : ℕ) → ((f : ℕ) → n ≤ f → total (λ b. one_if (uses_frame f b)) bs ≡ 0)
     → total (λ (b : Option Homed). one_if (is_some b)) bs ≡ sum_to (λ f. total (λ b. one_if (uses_frame f b)) bs) n
 boxes_sum [] n past = sym (sum_none (λ f. 0) n (λ i lt. refl))
 boxes_sum (None ∷ bs) n past =

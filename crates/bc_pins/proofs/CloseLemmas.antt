@@ -149,7 +149,8 @@ module _ (k : Key) (s : Table) (r : Rule k s) (id : ℕ) (v : View) (at : get_el
       let old = r.frames f in
       let views = only (λ u. frame_in_hand f u.hand + times f u.rights) (λ u i. let a : frame_in_hand f u.hand ≡ 0 = ap (frame_in_hand f) i.hand in let b : times f u.rights ≡ 0 = ap (times f) i.rights in omega arith) in
       let homes : total (frame_lodged f) s.homes ≡ total (frame_lodged f) (map some xs) = ap (total (frame_lodged f)) homes_are in
-      omega arith
+      let used = old.used in
+      record { used = omega arith; free = old.free; past = old.past }
 
   counters_closed : (q : ℕ) → q < k.supers → word s (counter_at k q) ≡ sum_to (λ p. if word s p == 4 then points k p (record_of v p) q else 0) (pages_of k)
   counters_closed q lt = r.counters q lt ∙ sum_same (adds_to k s r.rec q) (λ p. if word s p == 4 then points k p (record_of v p) q else 0) (pages_of k) (λ p _.

@@ -30,20 +30,18 @@ use Rattle.bc_superpages.specs.Contents.{contents}
 use Rattle.bc_superpages.specs.Parts.{state_in, AreParts, parts_layout}
 use Rattle.bc_superpages.proofs.HandLemmas.{state-header}
 use Rattle.bc_superpages.proofs.KeptLemmas.{IsLayout-kept}
-use Rattle.bc_bookmarks.specs.Summarised.{gone_in}
 use Rattle.bc_pins.specs.declared.views.Lodged.{Lodged}
 use Rattle.bc_pins.specs.declared.views.Lodged.TheVariants.{Nothing}
 use Rattle.bc_pins.specs.declared.views.View.{View}
 use Rattle.bc_pins.specs.declared.pins.Seat.{Seat}
-use Rattle.bc_pins.specs.Key.{Key, pages_of, owner}
+use Rattle.bc_pins.specs.Key.{Key, pages_of, owner, frame_at}
 use Rattle.bc_pins.specs.Contents.{IsContent, RefersYoung}
-use Rattle.bc_pins.specs.Views.{grips_remembered, state_word, opened_state, opened_word, opened_content, record_of}
-use Rattle.bc_pins.specs.Totals.{times}
+use Rattle.bc_pins.specs.Views.{grips_remembered, state_word, opened_state, opened_content, record_of}
 use Rattle.bc_pins.specs.Rule.{Rule}
 use Rattle.bc_pins.specs.Lodging.{Replaced, box_of, place_of}
 use Rattle.bc_pins.specs.Opening.{HasClosed, IsRest}
 use Rattle.bc_pins.specs.Resting.{RestView}
-use Rattle.bc_pins.specs.Closing.{Gathered, StatesSet, SummariesSet, HeadersSet, opens_of, ClosedState, ClosedBit, Closed}
+use Rattle.bc_pins.specs.Closing.{Gathered, StatesSet, SummariesSet, HeadersSet, PoolSet, opens_of, ClosedState, ClosedBit, Closed}
 use Rattle.bc_pins.proofs.TallyLemmas.{GoneBy, gone_word, tally, none_behind, target_in, set_bit, bit_set, bit_in, in_bit, bit_few, few_bits, number_few}
 use Rattle.bc_pins.proofs.TotalLemmas.{one_is}
 use Rattle.bc_pins.proofs.ReadLemmas.{lies_few}
@@ -72,7 +70,7 @@ pub words_few : (k : Key) (v : View) (ws : List ℕ) (xs : List Lodged) → HasC
 words_few k v ws xs c p lt = lies_few _ _ _ _ (c.pages p lt).lies
 
 -- everything that is known when the space is put together
-pub record Ended (id : TableId) (k : Key) (all : List Seat) (root : Worker Lodged View) (whole parts : SpaceParts) (words : List ℕ) (slots : List Lodged) (headers : List Header) (boxes : List (Option Homed)) (places : List (Option (List ℕ))) : Type 0 where
+pub record Ended (id : TableId) (k : Key) (all : List Seat) (root : Worker Lodged View) (whole parts : SpaceParts) (words : List ℕ) (slots : List Lodged) (headers : List Header) (boxes : List (Option Homed)) (places : List (Option (List ℕ))) (now : List Bool) : Type 0 where
   pub rest : IsRest whole parts (pages_of k)
   pub layout : parts_layout whole ≡ k.opening
   pub pool : whole.pool ≡ k.pool
@@ -83,26 +81,27 @@ pub record Ended (id : TableId) (k : Key) (all : List Seat) (root : Worker Lodge
   pub states_are : HeadersSet k whole.headers.items headers words
   pub box : Replaced None parts.boxes.items boxes (pages_of k) (λ p. box_of (get_or slots p Nothing))
   pub place : Replaced None parts.store.places places (pages_of k) (λ p. place_of (get_or slots (pages_of k + p) Nothing))
+  pub pool_set : PoolSet whole.pool now (length whole.pool) (frame_at k 0) words
 
 -- the parts of which the space is put together
-pub record Together (whole : SpaceParts) (headers : List Header) (boxes : List (Option Homed)) (places : List (Option (List ℕ))) (reads : ℕ) (f : SpaceParts) : Type 0 where
+pub record Together (whole : SpaceParts) (headers : List Header) (boxes : List (Option Homed)) (places : List (Option (List ℕ))) (now : List Bool) (reads : ℕ) (f : SpaceParts) : Type 0 where
   pub headers_are : f.headers.items ≡ headers
   pub boxes_are : f.boxes.items ≡ boxes
   pub places_are : f.store.places ≡ places
   pub reads_are : f.store.reads ≡ reads
-  pub pool : f.pool ≡ whole.pool
+  pub pool : f.pool ≡ now
   pub nursery : f.nursery.items ≡ whole.nursery.items
   pub end : f.end ≡ whole.end
 
-module _ (id : TableId) (k : Key) (all : List Seat) (root : Worker Lodged View) (whole parts : SpaceParts) (words : List ℕ) (slots : List Lodged) (headers : List Header) (boxes : List (Option Homed)) (places : List (Option (List ℕ)))
-    (e : Ended id k all root whole parts words slots headers boxes places) where
+module _ (id : TableId) (k : Key) (all : List Seat) (root : Worker Lodged View) (whole parts : SpaceParts) (words : List ℕ) (slots : List Lodged) (headers : List Header) (boxes : List (Option Homed)) (places : List (Option (List ℕ))) (now : List Bool)
+    (e : Ended id k all root whole parts words slots headers boxes places now) where
   abbrev v : View
   v = root.me.0
 
-  pub ended_parts : (reads : ℕ) (f : SpaceParts) → Together whole headers boxes places reads f → AreParts f
+  pub ended_parts : (reads : ℕ) (f : SpaceParts) → Together whole headers boxes places now reads f → AreParts f
   ended_parts reads f t = record {
-    kept = rw (t.headers_are, t.boxes_are, t.pool, t.nursery, t.places_are) (closed_kept k whole parts e.rest e.layout e.pool e.nursery e.frames v e.gathered.hand e.gathered.rights words slots e.closed headers e.states_are boxes e.box places e.place);
-    ends = rw (t.headers_are, t.end) (closed_ends k whole parts e.rest e.layout e.pool e.nursery e.frames v e.gathered.hand e.gathered.rights words slots e.closed headers e.states_are boxes e.box places e.place);
+    kept = rw (t.headers_are, t.boxes_are, t.pool, t.nursery, t.places_are) (closed_kept k whole parts e.rest e.layout e.pool e.nursery e.frames v e.gathered.hand e.gathered.rights words slots e.closed headers e.states_are boxes e.box places e.place now e.pool_set);
+    ends = rw (t.headers_are, t.end) (closed_ends k whole parts e.rest e.layout e.pool e.nursery e.frames v e.gathered.hand e.gathered.rights words slots e.closed headers e.states_are boxes e.box places e.place now e.pool_set);
   }
 
   abbrev made : ℕ → Layout
@@ -111,19 +110,20 @@ module _ (id : TableId) (k : Key) (all : List Seat) (root : Worker Lodged View) 
     pages = contents boxes places;
     bookmarks = map (λ (h : Header). h.bookmarks) headers;
     incoming = map (λ (h : Header). h.incoming) headers;
+    free = free_count now;
     reads = reads;
   }
 
-  pub ended_layout : (reads : ℕ) (f : SpaceParts) → Together whole headers boxes places reads f → parts_layout f ≡ made reads
+  pub ended_layout : (reads : ℕ) (f : SpaceParts) → Together whole headers boxes places now reads f → parts_layout f ≡ made reads
   ended_layout reads f t =
       rw (t.headers_are, t.boxes_are, t.places_are, t.reads_are, t.pool, t.nursery)
-      (closed_layout k whole parts e.rest e.layout e.pool e.nursery e.frames v e.gathered.hand e.gathered.rights words slots e.closed headers e.states_are boxes e.box places e.place reads)
+      (closed_layout k whole parts e.rest e.layout e.pool e.nursery e.frames v e.gathered.hand e.gathered.rights words slots e.closed headers e.states_are boxes e.box places e.place now e.pool_set reads)
 
   supers_are : superpages k.opening ≡ length whole.headers.items
   supers_are = ap superpages (sym e.layout) ∙ length-map whole.headers.items (λ (h : Header). h.used)
 
   near : (p : ℕ) → p < pages_of k → content_at (contents boxes places) p ≡ record_of v p
-  near = content_near k whole parts e.rest e.layout e.pool e.nursery e.frames v e.gathered.hand e.gathered.rights words slots e.closed headers e.states_are boxes e.box places e.place
+  near = content_near k whole parts e.rest e.layout e.pool e.nursery e.frames v e.gathered.hand e.gathered.rights words slots e.closed headers e.states_are boxes e.box places e.place now e.pool_set
 
   long : length boxes ≡ 4 * length whole.headers.items
   long = e.box.long ∙ e.rest.emptied.boxes.long ∙ e.rest.kept.kept.boxes_long
@@ -263,7 +263,7 @@ module _ (id : TableId) (k : Key) (all : List Seat) (root : Worker Lodged View) 
               ∙ sym (tally k (contents boxes places) (λ p. is_gone (state_at (map (λ (h : Header). h.pages) headers) p)) (record_of v) words (4 * superpages k.opening) gone_by q)
           | inr past ↦
               header_count q (omega arith) ∙ (e.states_are.behind q past).1 ∙ sym (ap (λ (h : Header). h.incoming) (opening_header q (omega arith)))
-              ∙ opened_none k (map (λ (h : Header). h.pages) headers) (contents boxes places) (map (λ (h : Header). h.bookmarks) headers) (map (λ (h : Header). h.incoming) headers) reads layout o behind fixed_now young_now q past lt
+              ∙ opened_none k (map (λ (h : Header). h.pages) headers) (contents boxes places) (map (λ (h : Header). h.bookmarks) headers) (map (λ (h : Header). h.incoming) headers) (free_count now) reads layout o behind fixed_now young_now q past lt
               ∙ sym (none_behind k (contents boxes places) (λ p. is_gone (state_at (map (λ (h : Header). h.pages) headers) p)) (record_of v) words (4 * superpages k.opening) gone_by summed q past)
         ];
       }
@@ -306,23 +306,23 @@ module _ (id : TableId) (k : Key) (all : List Seat) (root : Worker Lodged View) 
         let many = supers_are in
         let size = long in (
           state_new p (omega arith) ∙ e.states_are.far p le ∙ sym (state_old p (omega arith)),
-          content_far k whole parts e.rest e.layout e.pool e.nursery e.frames v e.gathered.hand e.gathered.rights words slots e.closed headers e.states_are boxes e.box places e.place p le (omega arith),
+          content_far k whole parts e.rest e.layout e.pool e.nursery e.frames v e.gathered.hand e.gathered.rights words slots e.closed headers e.states_are boxes e.box places e.place now e.pool_set p le (omega arith),
         );
     states_are = states_closed;
     fixed = fixed_now;
     young = young_now;
     bits = bits_closed reads;
     bits_behind = λ q le. behind_all q le;
-    openable = λ o. still_openable k _ _ _ _ reads layout o behind fixed_now young_now (summarised_now reads o);
+    openable = λ o. still_openable k _ _ _ _ (free_count now) reads layout o behind fixed_now young_now (summarised_now reads o);
   }
 
 -- it is known from what each step of a closing tells
-pub ended_from : (id : TableId) (k : Key) (all : List Seat) (root : Worker Lodged View) (r : RestView) (whole parts : SpaceParts) (n : ℕ) (ws told : List ℕ) (xs out : List Lodged) (middle headers : List Header) (sup : ℕ) (st : StoreView) (boxes : List (Option Homed)) (places : List (Option (List ℕ)))
+pub ended_from : (id : TableId) (k : Key) (all : List Seat) (root : Worker Lodged View) (r : RestView) (whole parts : SpaceParts) (n : ℕ) (ws told : List ℕ) (xs out : List Lodged) (middle headers : List Header) (sup start : ℕ) (now : List Bool) (st : StoreView) (boxes : List (Option Homed)) (places : List (Option (List ℕ)))
     → whole ≡ r.whole → n ≡ r.pages → IsRest whole parts n → r.pages ≡ pages_of k → parts_layout r.whole ≡ k.opening → r.whole.pool ≡ k.pool → r.whole.nursery.items ≡ k.nursery → k.frames ≡ length k.pool
-    → Gathered id k all [] root → Final (Seen (Rule k) root.id root.me.0) ws xs → told ≡ ws → out ≡ xs → StatesSet parts.headers.items middle n told → sup ≡ k.supers → SummariesSet middle headers sup told → st.places ≡ parts.store.places
+    → Gathered id k all [] root → Final (Seen (Rule k) root.id root.me.0) ws xs → told ≡ ws → out ≡ xs → StatesSet parts.headers.items middle n told → sup ≡ k.supers → SummariesSet middle headers sup told → start ≡ frame_at k 0 → PoolSet parts.pool now (length parts.pool) start told → st.places ≡ parts.store.places
     → Replaced None parts.boxes.items boxes n (λ p. box_of (get_or out p Nothing)) → Replaced None st.places places n (λ p. place_of (get_or out (n + p) Nothing))
-    → Ended id k all root whole parts ws xs headers boxes places
-ended_from id k all root r whole parts n ws told xs out middle headers sup st boxes places is count rest paged layout pool nursery frames gathered final words slots set supers summed stored box place =
+    → Ended id k all root whole parts ws xs headers boxes places now
+ended_from id k all root r whole parts n ws told xs out middle headers sup start now st boxes places is count rest paged layout pool nursery frames gathered final words slots set supers summed starts freed stored box place =
     let size : n ≡ pages_of k = count ∙ paged in
     let rest_now : IsRest whole parts (pages_of k) = subst (IsRest whole parts) size rest in
     record {
@@ -337,6 +337,8 @@ ended_from id k all root r whole parts n ws told xs out middle headers sup st bo
           (subst (λ (hs : List Header). StatesSet hs middle (pages_of k) ws) rest_now.emptied.headers
           (subst (λ (m : ℕ). StatesSet parts.headers.items middle m ws) size (subst (StatesSet parts.headers.items middle n) words set)))
           (subst (λ (m : ℕ). SummariesSet middle headers m ws) supers (subst (SummariesSet middle headers sup) words summed));
+      pool_set = subst (λ (l : List Bool). PoolSet l now (length l) (frame_at k 0) ws) rest_now.emptied.pool
+          (subst (λ (i : ℕ). PoolSet parts.pool now (length parts.pool) i ws) starts (subst (PoolSet parts.pool now (length parts.pool) start) words freed));
       box = subst (λ (m : ℕ). Replaced None parts.boxes.items boxes m (λ p. box_of (get_or xs p Nothing))) size
           (subst (λ (l : List Lodged). Replaced None parts.boxes.items boxes n (λ p. box_of (get_or l p Nothing))) slots box);
       place = subst (λ (m : ℕ). Replaced None parts.store.places places m (λ p. place_of (get_or xs (m + p) Nothing))) size
@@ -345,14 +347,14 @@ ended_from id k all root r whole parts n ws told xs out middle headers sup st bo
     }
 
 -- the space that is put together of the parts
-pub ended_space : (id : TableId) (k : Key) (all : List Seat) (root : Worker Lodged View) (whole parts : SpaceParts) (words : List ℕ) (slots : List Lodged) (headers : List Header) (boxes : List (Option Homed)) (places : List (Option (List ℕ)))
-    → Ended id k all root whole parts words slots headers boxes places → (united stored : StoreView) (f : SpaceParts) (s : Layout)
+pub ended_space : (id : TableId) (k : Key) (all : List Seat) (root : Worker Lodged View) (whole parts : SpaceParts) (words : List ℕ) (slots : List Lodged) (headers : List Header) (boxes : List (Option Homed)) (places : List (Option (List ℕ))) (now : List Bool)
+    → (e : Ended id k all root whole parts words slots headers boxes places now) (united stored : StoreView) (f : SpaceParts) (s : Layout)
     → united ≡ record parts.store { reads = min (parts.store.reads + opens_of all) (2 ^ 64 - 1) } → stored ≡ record united { places = places }
-    → Together whole headers boxes places stored.reads f → s ≡ parts_layout f → Closed k all s
-ended_space id k all root whole parts words slots headers boxes places e united stored f s counted put together is =
+    → Together whole headers boxes places now stored.reads f → s ≡ parts_layout f → Closed k all s
+ended_space id k all root whole parts words slots headers boxes places now e united stored f s counted put together is =
     let reads_put : stored.reads ≡ united.reads = ap (λ (x : StoreView). x.reads) put in
     let reads_counted : united.reads ≡ min (parts.store.reads + opens_of all) (2 ^ 64 - 1) = ap (λ (x : StoreView). x.reads) counted in
     let reads_left : parts.store.reads ≡ whole.store.reads = e.rest.emptied.reads in
     let reads_whole : whole.store.reads ≡ k.opening.reads = ap (λ (x : Layout). x.reads) e.layout in
-    subst (Closed k all) (sym (is ∙ ended_layout id k all root whole parts words slots headers boxes places e stored.reads f together))
-    (ended_closed id k all root whole parts words slots headers boxes places e stored.reads (omega arith))
+    subst (Closed k all) (sym (is ∙ ended_layout id k all root whole parts words slots headers boxes places now e stored.reads f together))
+    (ended_closed id k all root whole parts words slots headers boxes places now e stored.reads (omega arith))

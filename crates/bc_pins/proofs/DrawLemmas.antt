@@ -50,8 +50,8 @@ module _ (k : Key) (parts : SpaceParts) (supers : ℕ) (turn : Turn) (holders : 
   roles_are : k.roles ≡ map role_number roles
   roles_are = ap (λ (a : Key). a.roles) drawn.key
 
-  pub sized : IsSized k supers (length parts.pool) turn
-  sized = record { supers = supers_is; all = frames_are; lanes = ap (λ (a : Key). a.lanes) drawn.key }
+  pub sized : IsSized k supers parts.pool turn
+  sized = record { supers = supers_is; all = frames_are; lanes = ap (λ (a : Key). a.lanes) drawn.key; pool = pool_is }
 
   pub drawn_rule : (words : List ℕ) (slots : List Lodged) → IsFilled k parts.headers.items words → AreLodged parts (4 * supers) slots → Rule k (opened k words slots)
   drawn_rule words slots filled lodged =

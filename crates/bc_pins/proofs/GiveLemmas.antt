@@ -43,11 +43,11 @@ changed_entries : (b : Bool) (q p : ℕ) (c : List ℕ) (l : List (ℕ × List �
 changed_entries true q p c l = refl
 changed_entries false q p c l = omega arith
 
-look_other : (b : Bool) (q p : ℕ) (c d : List ℕ) (l : List (ℕ × List ℕ)) → p ≢ q → look_up q (if b then (p, c) ∷ l else l) d ≡ look_up q l d
+pub look_other : (b : Bool) (q p : ℕ) (c d : List ℕ) (l : List (ℕ × List ℕ)) → p ≢ q → look_up q (if b then (p, c) ∷ l else l) d ≡ look_up q l d
 look_other true q p c d l ne = ap (λ (b : Bool). if b then c else look_up q l d) (ne_eqb p q ne)
 look_other false q p c d l ne = refl
 
-look_here : (b : Bool) (p : ℕ) (c d : List ℕ) (l : List (ℕ × List ℕ)) → b ≡ true → look_up p (if b then (p, c) ∷ l else l) d ≡ c
+pub look_here : (b : Bool) (p : ℕ) (c d : List ℕ) (l : List (ℕ × List ℕ)) → b ≡ true → look_up p (if b then (p, c) ∷ l else l) d ≡ c
 look_here true p c d l e = ap (λ (b : Bool). if b then c else look_up p l d) (eq-eqb p p refl)
 look_here false p c d l e = absurd (cc)
 
@@ -260,6 +260,7 @@ module _ (k : Key) (s : Table) (r : Rule k s) (id x role : ℕ) (v : View) (g : 
         roles = refl;
         seated = record {
           about = facts.seated.about;
+          unfetched = facts.seated.unfetched;
           idle = λ e. let z : has_role v role ≡ 0 = ap (times role) e in absurd (omega arith);
         };
         records = records_kept;

@@ -132,6 +132,7 @@ module _ (k : Key) (s : Table) (r : Rule k s) (id other : ℕ) (v w : View) (at 
   seat_united = record {
     seated = record {
       about = mine.seated.about;
+      unfetched = none_of v.fetched w.fetched mine.seated.unfetched theirs.seated.unfetched;
       idle = λ e.
           let both = no_more v.roles w.roles e in
           let a = mine.seated.idle both.0 in
@@ -193,7 +194,7 @@ module _ (k : Key) (s : Table) (r : Rule k s) (id other : ℕ) (v w : View) (at 
 
   spent : SeatFacts k (with_views s views) r.rec nobody
   spent = record {
-    seated = record { about = λ e. absurd (not_alive e); idle = λ _. record { hand = refl; rights = refl; recorded = refl; left = refl; emptied = refl; fetched = refl; bookmarked = refl } };
+    seated = record { about = λ e. absurd (not_alive e); unfetched = refl; idle = λ _. record { hand = refl; rights = refl; recorded = refl; left = refl; emptied = refl; fetched = refl; bookmarked = refl } };
     records = record { mine = λ p lt. absurd (omega arith); others = λ p _. refl; in_hand = λ h e. absurd (no_hand h e) };
     saw = record { seen = λ p lt. absurd (omega arith); gone = λ p lt. absurd (omega arith) };
     marking = no_marking nobody refl refl;

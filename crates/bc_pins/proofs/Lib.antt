@@ -42,12 +42,16 @@ pub mod MarkedLemmas
 pub mod SideSteps
 -- Bookmark bits and counters of the page in hand
 pub mod MarkSteps
+-- Giving up rights to frames
+pub mod FrameSteps
 -- A seat's slots while a box goes into its store slot
 pub mod GivingLemmas
 -- Making the page in hand Gone or Absent
 pub mod LeaveSteps
 -- Boxes that went into slots, and came back.
 pub mod RestLemmas
+-- The space at the opening: its cells lie on pages of the table
+pub mod InsideLemmas
 -- A table that is drawn from a space's parts
 pub mod DrawLemmas
 -- Seats that are joined one by one
@@ -56,6 +60,8 @@ pub mod GatherLemmas
 pub mod DrainLemmas
 -- Boxes that come out of slots
 pub mod BoxLemmas
+-- Frames that are given back to the pool
+pub mod PoolLemmas
 -- Headers into which states, counters and bookmarks were written.
 pub mod HeaderLemmas
 -- The space that a closed table's words and boxes make.

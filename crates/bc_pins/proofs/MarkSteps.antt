@@ -1,5 +1,5 @@
 -- Setting bookmark bits for the page in hand, and counting a superpage for it.
-use Rattle.std.proofs.Common.{◌≡◌, ℕ, ◌+◌, ◌*◌, ◌/◌, ◌%◌, ◌^◌, ◌<◌, ◌≤◌, ◌≢◌, ◌==◌, ◌⊎◌, Bool, true, false, if◌then◌else◌, List, [], ◌∷◌, Option, Some, None, max, bit_or, length, get_or, inl, inr, refl, ap, sym, subst, ◌∙◌, arith, get_or-set_same, get_or-set_other}
+use Rattle.std.proofs.Common.{◌≡◌, ℕ, ◌+◌, ◌*◌, ◌/◌, ◌%◌, ◌^◌, ◌<◌, ◌≤◌, ◌≢◌, ◌==◌, Bool, true, false, if◌then◌else◌, List, [], ◌∷◌, Option, Some, None, max, bit_or, length, get_or, inl, inr, refl, ap, sym, subst, ◌∙◌, arith, get_or-set_same, get_or-set_other}
 use mathlib.Core.Option.{some}
 use mathlib.Core.Option as maybe
 use lib.ListN.{get_elem?}
@@ -14,7 +14,7 @@ use Rattle.bc_word.specs.declared.words.Word.{Word}
 use Rattle.bc_word.specs.declared.words.Word.TheVariants.{Nil, Num, Ref}
 use Rattle.bc_word.specs.Words.{word_of_bits}
 use Rattle.bc_word.specs.Heads.{fields_of_bits}
-use Rattle.bc_word.specs.Addresses.{superpage_of, page_of, offset_of, cell_number}
+use Rattle.bc_word.specs.Addresses.{superpage_of, offset_of, cell_number}
 use Rattle.bc_word.proofs.WordsLemmas.{length-words_from, get_or-words_from}
 use Rattle.bc_superpages.specs.Layout.{Layout, superpages, set_of, is_cell}
 use Rattle.bc_superpages.specs.LayoutAt.{IsAllocated}
@@ -25,8 +25,8 @@ use Rattle.bc_bookmarks.specs.Targets.{is_target}
 use Rattle.bc_bookmarks.proofs.TargetLemmas.{target-refers}
 use Rattle.bc_pins.specs.declared.views.Hand.{Hand}
 use Rattle.bc_pins.specs.declared.views.View.{View}
-use Rattle.bc_pins.specs.Key.{Key, pages_of, owner, counter_at, bookmark_at, notice_at}
-use Rattle.bc_pins.specs.Totals.{total, times, sum_to}
+use Rattle.bc_pins.specs.Key.{Key, pages_of, owner, counter_at, bookmark_at}
+use Rattle.bc_pins.specs.Totals.{times}
 use Rattle.bc_pins.specs.Contents.{IsContent, IsFieldOn, NamesFixed, field_bits, objects_in}
 use Rattle.bc_pins.specs.Views.{grips, grips_remembered, frame_in_hand, counted_for, sets_bit, marked_for, has_role, entries, look_up, opened_content}
 use Rattle.bc_pins.specs.Facts.{Table, word, RecordsContent, Seated, Marking, points, adds_to, Counters, bookmark_bit, ever_set, cell_bit, Bits}
@@ -96,9 +96,10 @@ module _ (k : Key) (s : Table) (r : Rule k s) (id role : ℕ) (v : View) (h : Ha
   content = ((r.seats id v at).records.in_hand h has_one).1
 
   -- a view that changed its hand, and not the page and its content there
-  seated_kept : (u : View) → u.about ≡ v.about → u.roles ≡ v.roles → u.alive ≡ v.alive → Seated k u
+  seated_kept : (u : View) → u.about ≡ v.about → u.roles ≡ v.roles → u.fetched ≡ v.fetched → Seated k u
   seated_kept u a b c = record {
     about = λ e. a ∙ about;
+    unfetched = c ∙ (r.seats id v at).seated.unfetched;
     idle = λ e. let z : has_role v role ≡ 0 = ap (times role) (sym b ∙ e) in absurd (omega arith);
   }
 
@@ -116,7 +117,7 @@ module _ (k : Key) (s : Table) (r : Rule k s) (id role : ℕ) (v : View) (h : Ha
       }
 
   -- bookmark bits
-  module _ (w bits : ℕ) (lt : w < 16 * k.supers) (targets : AreTargets k h w bits) (within : k.supers ≤ superpages k.opening) where
+  module _ (w bits found : ℕ) (lt : w < 16 * k.supers) (targets : AreTargets k h w bits) (within : k.supers ≤ superpages k.opening) where
     abbrev i : ℕ
     i = bookmark_at k w
 
@@ -124,7 +125,7 @@ module _ (k : Key) (s : Table) (r : Rule k s) (id role : ℕ) (v : View) (h : Ha
     x = bit_or (word s i) bits
 
     abbrev u : View
-    u = bookmarking v h w bits
+    u = bookmarking v h w bits found
 
     abbrev t : Table
     t = after s i x s.homes id u
@@ -139,7 +140,7 @@ module _ (k : Key) (s : Table) (r : Rule k s) (id role : ℕ) (v : View) (h : Ha
     bit_there j b ne = ap (λ (n : ℕ). bit_at n b) (get_or-set_other s.words i (bookmark_at k j) x 0 (λ e. ne (omega arith)))
 
     keeps_set : KeepsBits k s.words t.words
-    keeps_set j b one = elim (cases_eq j w) [
+    keeps_set j b less one = elim (cases_eq j w) [
       | inl e ↦
           let a = bit_here b in
           let c = bit_few (word s i) b in
@@ -227,14 +228,14 @@ module _ (k : Key) (s : Table) (r : Rule k s) (id role : ℕ) (v : View) (h : Ha
           set = keeps_set;
           counters = λ q less. counters_same k s r i x id v u q at (omega arith) less (λ e. omega arith) (λ p. sym (ap (counted_for p q) has_one));
           bits = bits_now;
-          frames = frames_same k s r i x id v u at (λ f. ap (λ (n : ℕ). n + times f v.rights) (sym (ap (frame_in_hand f) has_one)));
+          frames = frames_same k s r i x id v u at (λ j e. omega arith) (λ f. ap (λ (n : ℕ). n + times f v.rights) (sym (ap (frame_in_hand f) has_one)));
         }
 
     pub mark_rule : Rule k t
     mark_rule = side_step k s r i x id v u at mark_step
 
   -- counting a superpage
-  module _ (q : ℕ) (lt : q < k.supers) (uncounted : times q h.counted ≡ 0) where
+  module _ (q found : ℕ) (lt : q < k.supers) (uncounted : times q h.counted ≡ 0) where
     abbrev c_at : ℕ
     c_at = counter_at k q
 
@@ -242,7 +243,7 @@ module _ (k : Key) (s : Table) (r : Rule k s) (id role : ℕ) (v : View) (h : Ha
     y = (word s c_at + 1) % 2 ^ 64
 
     abbrev c_view : View
-    c_view = counting v h q
+    c_view = counting v h q found
 
     abbrev c_table : Table
     c_table = after s c_at y s.homes id c_view
@@ -346,10 +347,10 @@ module _ (k : Key) (s : Table) (r : Rule k s) (id role : ℕ) (v : View) (h : Ha
           seated = seated_kept c_view refl refl refl;
           records = records_kept c_view (record h { counted = q ∷ h.counted }) refl refl refl refl refl refl;
           marking = c_marking;
-          set = λ j b one. ap (λ (n : ℕ). bit_at n b) (get_or-set_other s.words c_at (bookmark_at k j) y 0 (λ e. omega arith)) ∙ one;
+          set = λ j b less one. ap (λ (n : ℕ). bit_at n b) (get_or-set_other s.words c_at (bookmark_at k j) y 0 (λ e. omega arith)) ∙ one;
           counters = counters_now;
           bits = λ j b less few. bits_same k s r c_at y id v c_view j b at less few (λ e. omega arith) refl;
-          frames = frames_same k s r c_at y id v c_view at (λ f. ap (λ (n : ℕ). n + times f v.rights) (sym (ap (frame_in_hand f) has_one)));
+          frames = frames_same k s r c_at y id v c_view at (λ j e. omega arith) (λ f. ap (λ (n : ℕ). n + times f v.rights) (sym (ap (frame_in_hand f) has_one)));
         }
 
     pub count_rule : Rule k c_table
@@ -357,31 +358,31 @@ module _ (k : Key) (s : Table) (r : Rule k s) (id role : ℕ) (v : View) (h : Ha
 
 -- whatever the table is, both keep the rule, and the view is as it says
 pub marks_from : (k : Key) (slots id role : ℕ) (me : Mine) (h : Hand) (w bits i : ℕ) → i ≡ bookmark_at k w → w < 16 * k.supers → k.supers ≤ superpages k.opening → me.0.about ≡ k → me.0.hand ≡ Some h → 0 < has_role me.0 role
-    → AreTargets k h w bits → Allows (Rule k) slots id me i (λ n. bit_or n bits) (λ _. SetBits (step slots i bits 0 maybe.none) me)
+    → AreTargets k h w bits → Allows (Rule k) slots id me i (λ n. bit_or n bits) (SetBits (step slots i bits 0 maybe.none) me)
 marks_from k slots id role me h w bits i is lt within about has_one some_role targets s r size at fits = (
-  bookmarking me.0 h w bits,
+  bookmarking me.0 h w bits (word s i),
   keeps,
   tt,
-  subst (λ (j : ℕ). Rule k (after s j (bit_or (word s j) bits) s.homes id (bookmarking me.0 h w bits))) (sym is) (mark_rule k s r id role me.0 h at about has_one some_role w bits lt targets within),
+  subst (λ (j : ℕ). Rule k (after s j (bit_or (word s j) bits) s.homes id (bookmarking me.0 h w bits (word s i)))) (sym is) (mark_rule k s r id role me.0 h at about has_one some_role w bits (word s i) lt targets within),
   record {
     view = λ g x e f.
         let same = some_hand h g (sym has_one ∙ e) in
         let word_is : w ≡ x = (let a : bookmark_at me.0.about x ≡ bookmark_at k x = ap (λ (z : Key). bookmark_at z x) about in omega arith) in
-        ap (λ (z : Hand). (bookmarking me.0 z w bits, me.1)) same ∙ ap (λ (n : ℕ). (bookmarking me.0 g n bits, me.1)) word_is;
+        ap (λ (z : Hand). (bookmarking me.0 z w bits (word s i), me.1)) same ∙ ap (λ (n : ℕ). (bookmarking me.0 g n bits (word s i), me.1)) word_is;
   },
 )
 
 pub counts_from : (k : Key) (slots id role : ℕ) (me : Mine) (h : Hand) (q i : ℕ) → i ≡ counter_at k q → q < k.supers → me.0.about ≡ k → me.0.hand ≡ Some h → 0 < has_role me.0 role → times q h.counted ≡ 0
-    → Allows (Rule k) slots id me i (λ n. (n + 1) % 2 ^ 64) (λ _. Counted (step slots i 1 0 maybe.none) me)
+    → Allows (Rule k) slots id me i (λ n. (n + 1) % 2 ^ 64) (Counted (step slots i 1 0 maybe.none) me)
 counts_from k slots id role me h q i is lt about has_one some_role uncounted s r size at fits = (
-  counting me.0 h q,
+  counting me.0 h q (word s i),
   keeps,
   tt,
-  subst (λ (j : ℕ). Rule k (after s j ((word s j + 1) % 2 ^ 64) s.homes id (counting me.0 h q))) (sym is) (count_rule k s r id role me.0 h at about has_one some_role q lt uncounted),
+  subst (λ (j : ℕ). Rule k (after s j ((word s j + 1) % 2 ^ 64) s.homes id (counting me.0 h q (word s i)))) (sym is) (count_rule k s r id role me.0 h at about has_one some_role q (word s i) lt uncounted),
   record {
     view = λ g x e f.
         let same = some_hand h g (sym has_one ∙ e) in
         let word_is : q ≡ x = (let a : counter_at me.0.about x ≡ counter_at k x = ap (λ (z : Key). counter_at z x) about in omega arith) in
-        ap (λ (z : Hand). (counting me.0 z q, me.1)) same ∙ ap (λ (n : ℕ). (counting me.0 g n, me.1)) word_is;
+        ap (λ (z : Hand). (counting me.0 z q (word s i), me.1)) same ∙ ap (λ (n : ℕ). (counting me.0 g n (word s i), me.1)) word_is;
   },
 )

@@ -1,8 +1,8 @@
 -- A table may be opened with the words and slots that a space's parts give.
-use Rattle.std.proofs.Common.{◌≡◌, ℕ, ◌+◌, ◌-◌, ◌*◌, ◌/◌, ◌%◌, ◌<◌, ◌≤◌, ◌≢◌, ◌==◌, Bool, true, false, if◌then◌else◌, List, [], length, map, get_or, slice_index, Option, Some, None, count_by, nat_lt, inl, inr, refl, ap, sym, subst, ◌∙◌, arith}
+use Rattle.std.proofs.Common.{◌≡◌, ℕ, ◌+◌, ◌-◌, ◌*◌, ◌/◌, ◌%◌, ◌<◌, ◌≤◌, ◌≢◌, ◌==◌, ◌&&◌, not, Bool, true, false, if◌then◌else◌, List, [], length, map, get_or, slice_index, Option, Some, None, count_by, nat_lt, inl, inr, refl, ap, sym, subst, ◌∙◌, arith}
 use mathlib.Core.Option.{some}
 use lib.ListN.{get_elem?}
-use Rattle.std.proofs.lemmas.List.{length-map}
+use Rattle.std.proofs.lemmas.List.{length-map, get_or_past}
 use Rattle.bc_bits.specs.Counting.{one_if}
 use Rattle.bc_frames.specs.Pool.{is_free, free_count}
 use Rattle.bc_superpages.specs.declared.headers.Header.{Header}
@@ -12,7 +12,7 @@ use Rattle.bc_superpages.specs.declared.spaces.Homed.{Homed}
 use Rattle.bc_superpages.specs.declared.parts.SpaceParts.{SpaceParts}
 use Rattle.bc_superpages.specs.Headers.{unused_header, is_resident, is_gone}
 use Rattle.std.specs.Int.{bit_at}
-use Rattle.std.proofs.lemmas.Bool.{cases_lt, eq-eqb}
+use Rattle.std.proofs.lemmas.Bool.{cases_lt, eq-eqb, lt-ltb}
 use Rattle.bc_word.specs.Addresses.{superpage_of, page_of, cell_number}
 use Rattle.bc_word.specs.CellAddresses.{cell_address}
 use Rattle.bc_superpages.specs.Calls.{class_at}
@@ -38,12 +38,16 @@ use Rattle.bc_pins.specs.Views.{state_word, opened_state, opened_word, opened_co
 use Rattle.bc_pins.specs.Facts.{frame_of, frame_lodged}
 use Rattle.bc_pins.specs.Lodging.{Lodges, home_of, away_of}
 use Rattle.bc_pins.specs.Opening.{IsReady, IsOpenable}
-use Rattle.bc_pins.specs.Facts.{Frames, Still, bookmark_bit, opened_bit, cell_bit, HasBookmarkBit, Summary, points, adds_to, Counters, Bits}
+use Rattle.bc_pins.specs.Facts.{Frames, Still, frame_bit, is_clear, bookmark_bit, opened_bit, cell_bit, HasBookmarkBit, Summary, points, adds_to, Counters, Bits}
 use Rattle.bc_pins.specs.Filling.{IsFilled}
 use Rattle.bc_pins.specs.Opening.{opened, OpensPage, MayOpen}
 use Rattle.bc_pins.proofs.SumLemmas.{sum_same, sum_none, sum_cut, total_sum, count_total, times_count, total_map}
 use Rattle.bc_pins.proofs.PartsLemmas.{content_fixed, slots_lie, slot_there, word_states, word_absent}
-use Rattle.bc_pins.proofs.TallyLemmas.{GoneBy, tally, target_in, set_bit, bit_in, in_bit, bit_few, gone_word}
+use Rattle.bc_pins.proofs.TallyLemmas.{ge-nat_lt, GoneBy, tally, target_in, set_bit, bit_in, in_bit, bit_few, gone_word}
+
+clear_flag : (b : Bool) → (one_if (not b) == 0) ≡ b
+clear_flag true = refl
+clear_flag false = refl
 
 clash : false ≡ true → ⊥
 clash e = cc
@@ -158,6 +162,7 @@ module _ (k : Key) (whole : SpaceParts) (kept : AreParts whole) (layout : parts_
       let place : w % 16 ≡ n / 64 = omega arith in
       record {
         within = within;
+        few = few;
         starts = is_cell-start k.opening.classes k.opening.bookmarks a on;
         bit = ap (λ (x : ℕ). bit_at x (n % 64)) (bookmark_word w (omega arith)
             ∙ ap (λ (q : ℕ). slice_index (set_of k.opening.bookmarks q) (w % 16)) at ∙ ap (slice_index (set_of k.opening.bookmarks (superpage_of a))) place)
@@ -229,6 +234,14 @@ module _ (k : Key) (whole : SpaceParts) (kept : AreParts whole) (layout : parts_
         bare = λ z a there on. allocated-not_absent k.opening a whole_layout there (ap (state_at k.opening.states) on ∙ word_absent (state_at k.opening.states p) z);
       }
 
+  -- a frame's bit is clear where the frame is free
+  clear_pool : (f : ℕ) → is_clear k words f ≡ is_free k.pool f
+  clear_pool f = elim (cases_lt f k.frames) [
+    | inl lt ↦
+        ap (λ (b : Bool). b && (frame_bit k words f == 0)) (lt-ltb f k.frames lt) ∙ ap (λ (n : ℕ). n == 0) (filled.frames f (omega arith)) ∙ clear_flag (is_free k.pool f)
+    | inr le ↦ ap (λ (b : Bool). b && (frame_bit k words f == 0)) (ge-nat_lt f k.frames le) ∙ sym (get_or_past k.pool f false (omega arith))
+  ]
+
   frames_open : (f : ℕ) → Frames k (opened k words slots) f
   frames_open f =
       let account = kept.kept.account.each f in
@@ -238,7 +251,8 @@ module _ (k : Key) (whole : SpaceParts) (kept : AreParts whole) (layout : parts_
       let nursery_same : times f whole.nursery.items ≡ times f k.nursery = ap (times f) nursery in
       let free_same : one_if (is_free whole.pool f) ≡ one_if (is_free k.pool f) = ap (λ (l : List Bool). one_if (is_free l f)) pool in
       let all_same : one_if (nat_lt f (length whole.pool)) ≡ one_if (nat_lt f k.frames) = ap (λ (n : ℕ). one_if (nat_lt f n)) (ap length pool ∙ sym frames) in
-      omega arith
+      let clear : one_if (is_clear k words f) ≡ one_if (is_free k.pool f) = ap one_if (clear_pool f) in
+      record { used = omega arith; free = λ e. clear_pool f ∙ e; past = λ le lt. filled.frames f lt ∙ ap (λ (b : Bool). one_if (not b)) (get_or_past k.pool f false (omega arith)) }
 
   still_open : Still k (opened k words slots)
   still_open = record {

@@ -49,7 +49,7 @@ starts k words slots may =
           let none_is : one_if (word s p == 0) ≡ one_if (opened_word k p == 0) = ap (λ (n : ℕ). one_if (n == 0)) page.word in
           record { remembered = λ lt. omega arith; recorded = λ lt. omega arith; gone = omega arith; absent = omega arith };
       seats = λ id v at. subst (SeatFacts k s (opened_content k)) (one_view first v id at) record {
-        seated = record { about = λ _. refl; idle = λ _. record { hand = refl; rights = refl; recorded = refl; left = refl; emptied = refl; fetched = refl; bookmarked = refl } };
+        seated = record { about = λ _. refl; unfetched = refl; idle = λ _. record { hand = refl; rights = refl; recorded = refl; left = refl; emptied = refl; fetched = refl; bookmarked = refl } };
         records = record { mine = λ p _. refl; others = λ p _. refl; in_hand = λ h e. absurd (no_hand h e) };
         saw = record { seen = λ p lt. absurd (omega arith); gone = λ p lt. absurd (omega arith) };
         marking = no_marking first refl refl;

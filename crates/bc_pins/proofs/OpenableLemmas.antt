@@ -12,13 +12,13 @@ use Rattle.bc_word.proofs.WordsLemmas.{length-words_from, get_or-words_from}
 use Rattle.bc_superpages.specs.declared.headers.PageState.{PageState}
 use Rattle.bc_superpages.specs.declared.headers.PageState.TheVariants as state
 use Rattle.bc_superpages.specs.Headers.{is_gone}
-use Rattle.bc_superpages.specs.Layout.{Layout, superpages, content_at, is_cell}
+use Rattle.bc_superpages.specs.Layout.{Layout, superpages, content_at}
 use Rattle.bc_superpages.specs.LayoutAt.{state_at, IsAllocated}
-use Rattle.bc_superpages.specs.Memory.{memory, cell_at, cell_on}
+use Rattle.bc_superpages.specs.Memory.{memory, cell_at}
 use Rattle.bc_superpages.specs.Calls.{fields_at, CanName, IsClosed}
 use Rattle.bc_superpages.specs.Kept.{IsLayout}
 use Rattle.bc_superpages.proofs.HandLemmas.{allocated-superpage}
-use Rattle.bc_superpages.proofs.MemoryLemmas.{memory_of-cell, memory_of-none}
+use Rattle.bc_superpages.proofs.MemoryLemmas.{memory_of-cell}
 use Rattle.bc_superpages.proofs.BringLemmas.{allocated-not_absent}
 use Rattle.bc_bookmarks.specs.Targets.{RefersTo, has_target_in}
 use Rattle.bc_bookmarks.specs.Summarised.{IsSummarised, gone_in}
@@ -78,7 +78,7 @@ pub openable_ready : (s : Layout) → IsLayout s → IsOpenable s → IsReady s
 openable_ready s l o = record { closed = o.closed; promised = o.promised; young = λ p y. remembered_young s p l o y (state_at s.states p) refl }
 
 -- a space that a closed table gives back
-module _ (k : Key) (states : List (List PageState)) (pages bits : List (List ℕ)) (counters : List ℕ) (reads : ℕ) (l : IsLayout k.opening) (o : IsOpenable k.opening)
+module _ (k : Key) (states : List (List PageState)) (pages bits : List (List ℕ)) (counters : List ℕ) (free reads : ℕ) (l : IsLayout k.opening) (o : IsOpenable k.opening)
     (bare : (p : ℕ) → pages_of k ≤ p → p < 4 * superpages k.opening → state_at k.opening.states p ≡ state.Absent)
     (fixed : (p : ℕ) → p < pages_of k → IsContent k.opening p (content_at pages p))
     (young : (p : ℕ) → p < pages_of k → RefersYoung k.opening p (content_at pages p) → state_at states p ≡ state.Remembered) where
@@ -86,7 +86,7 @@ module _ (k : Key) (states : List (List PageState)) (pages bits : List (List ℕ
   s = k.opening
 
   abbrev t : Layout
-  t = record k.opening { states = states; pages = pages; bookmarks = bits; incoming = counters; reads = reads }
+  t = record k.opening { states = states; pages = pages; bookmarks = bits; incoming = counters; free = free; reads = reads }
 
   inside : (a : ℕ) → IsAllocated s a → page_of a < pages_of k
   inside a there =

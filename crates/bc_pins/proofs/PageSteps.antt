@@ -1,5 +1,5 @@
 -- What a step on a page word owes, and that the rule then holds after it: the frame lemma of the page words.
-use Rattle.std.proofs.Common.{◌≡◌, ℕ, ◌+◌, ◌<◌, ◌≤◌, ◌*◌, ◌≢◌, ◌==◌, ◌⊎◌, List, length, set, if◌then◌else◌, Some, inl, inr, ap, sym, subst, ◌∙◌, arith, get_or-set_same, get_or-set_other}
+use Rattle.std.proofs.Common.{◌≡◌, ℕ, ◌+◌, ◌<◌, ◌≤◌, ◌*◌, ◌/◌, ◌%◌, ◌≢◌, ◌==◌, ◌&&◌, ◌⊎◌, nat_lt, List, length, set, if◌then◌else◌, Some, inl, inr, ap, sym, subst, ◌∙◌, arith, get_or-set_same, get_or-set_other}
 use mathlib.Core.Option.{some}
 use mathlib.Core.Option as maybe
 use lib.ListN.{get_elem?}
@@ -10,12 +10,12 @@ use Rattle.bc_bits.specs.Counting.{one_if}
 use Rattle.bc_pins.specs.declared.views.Lodged.{Lodged}
 use Rattle.bc_pins.specs.declared.views.Hand.{Hand}
 use Rattle.bc_pins.specs.declared.views.View.{View}
-use Rattle.bc_pins.specs.Key.{Key, pages_of, owner, counter_at, bookmark_at, mark_at, finished_at}
+use Rattle.bc_pins.specs.Key.{Key, pages_of, owner, counter_at, bookmark_at, frame_at, mark_at, finished_at}
 use Rattle.std.specs.Int.{bit_at}
 use Rattle.bc_pins.specs.Totals.{total, times}
 use Rattle.bc_pins.specs.Contents.{IsContent, RefersYoung, IsBarePage}
 use Rattle.bc_pins.specs.Views.{grips, grips_remembered, frame_in_hand, counted_for, sets_bit, has_role, opened_content}
-use Rattle.bc_pins.specs.Facts.{Table, word, Lies, Place, remembered_now, Summary, Content, Standing, RecordsContent, Saw, Seated, Marking, Roles, frame_lodged, Frames, points, adds_to, Counters, bookmark_bit, Bits, Still}
+use Rattle.bc_pins.specs.Facts.{Table, word, Lies, Place, remembered_now, Summary, Content, Standing, RecordsContent, Saw, Seated, Marking, Roles, frame_lodged, Frames, points, adds_to, Counters, bookmark_bit, is_clear, Bits, Still}
 use Rattle.bc_pins.specs.Rule.{SeatFacts, Rule}
 use Rattle.bc_pins.proofs.TotalLemmas.{total_set, total_at, total_two, one_few}
 use Rattle.bc_pins.proofs.SumLemmas.{sum_same}
@@ -115,7 +115,7 @@ module _ (k : Key) (s : Table) (r : Rule k s) (rec' : ℕ → List ℕ) (p x : �
   far i le = let near = d.near in there i (λ e. omega arith)
 
   summary_kept : (q : ℕ) (c : List ℕ) → Summary k s.words q c → Summary k t.words q c
-  summary_kept q c = summary_more k s.words t.words q c (λ i b e. ap (λ (n : ℕ). bit_at n b) (far (bookmark_at k i) (omega arith)) ∙ e)
+  summary_kept q c = summary_more k s.words t.words q c (λ i b less e. ap (λ (n : ℕ). bit_at n b) (far (bookmark_at k i) (omega arith)) ∙ e)
 
   place_there : (q : ℕ) → q ≢ p → q < pages_of k → Place k t rec' q
   place_there q ne lt =
@@ -320,7 +320,10 @@ module _ (k : Key) (s : Table) (r : Rule k s) (rec' : ℕ → List ℕ) (p x : �
       let old = r.frames f in
       let views = sum (λ u. frame_in_hand f u.hand + times f u.rights) in
       let home = d.frame f in
-      omega arith
+      let word_is = far (frame_at k (f / 64)) (omega arith) in
+      let clear : is_clear k t.words f ≡ is_clear k s.words f = ap (λ (n : ℕ). nat_lt f k.frames && (bit_at n (f % 64) == 0)) word_is in
+      let used = old.used in
+      record { used = omega (arith, ap one_if clear); free = λ e. clear ∙ old.free e; past = λ le lt. ap (λ (n : ℕ). bit_at n (f % 64)) word_is ∙ old.past le lt }
 
   still_kept : Still k t
   still_kept = record {

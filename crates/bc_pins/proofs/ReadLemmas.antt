@@ -12,6 +12,7 @@ use Rattle.bc_pins.specs.declared.views.Hand.{Hand}
 use Rattle.bc_pins.specs.declared.views.View.{View}
 use Rattle.bc_pins.specs.Key.{Key, pages_of, owner}
 use Rattle.bc_pins.specs.Totals.{times}
+use Rattle.bc_pins.specs.Contents.{IsBarePage}
 use Rattle.bc_pins.specs.Views.{grips, grips_remembered, has_role}
 use Rattle.bc_pins.specs.Facts.{Table, word, Lies, remembered_now, Saw}
 use Rattle.bc_pins.specs.Rule.{Rule}
@@ -92,12 +93,13 @@ remembered_word k s r p near ne lt =
     one_is (word s p) 2 (omega arith)
 
 -- what a word tells
-pub reads : (k : Key) (s : Table) (r : Rule k s) (p id : ℕ) (v : View) → p < pages_of k → get_elem? s.views id ≡ some v → ReadsWord v p (word s p)
-reads k s r p id v near at =
+pub reads : (k : Key) (s : Table) (r : Rule k s) (p id : ℕ) (v : View) → p < pages_of k → get_elem? s.views id ≡ some v → v.about ≡ k → ReadsWord v p (word s p)
+reads k s r p id v near at about =
     let facts = (r.seats id v at).saw in
     let place = r.place p near in
     record {
       word = lies_few _ _ _ _ place.lies;
+      bare = λ e. subst (λ (a : Key). IsBarePage a.opening p) (sym about) ((r.content p near).bare e);
       seen = λ lt ne. elim (cases_eq (word s p) 3) [
         | inl e ↦ e
         | inr other ↦ absurd (ne (remembered_word k s r p near other (facts.seen p lt).1))
@@ -190,6 +192,7 @@ look_step k s r p id v at near about =
       roles = refl;
       seated = record {
         about = facts.seated.about;
+        unfetched = facts.seated.unfetched;
         idle = λ e. let a = facts.seated.idle e in record { hand = a.hand; rights = a.rights; recorded = a.recorded; left = a.left; emptied = a.emptied; fetched = a.fetched; bookmarked = a.bookmarked };
       };
       records = record { mine = facts.records.mine; others = facts.records.others; in_hand = facts.records.in_hand };
@@ -199,4 +202,4 @@ look_step k s r p id v at near about =
 -- whatever the table is, a look keeps the rule and tells what it found
 pub looked : (k : Key) (slots p id : ℕ) (me : Mine) → p < pages_of k → me.0.about ≡ k → Allows (Rule k) slots id me p (λ n. n) (Looked (step slots p 0 0 maybe.none) me)
 looked k slots p id me near about s r size at fits =
-    (having_read me.0 p (word s p), keeps, tt, look_step k s r p id me.0 at near about, record { view = refl; reads = reads k s r p id me.0 near at })
+    (having_read me.0 p (word s p), keeps, tt, look_step k s r p id me.0 at near about, record { view = refl; reads = reads k s r p id me.0 near at about })

@@ -1,17 +1,17 @@
 -- What a step on a word that is no page's owes, and that the rule then holds after it: no box moves, and what is in hand and
 -- remembered stays. What it changes of counters, bits and frames each kind of step says itself.
-use Rattle.std.proofs.Common.{◌≡◌, ℕ, ◌+◌, ◌*◌, ◌<◌, ◌≤◌, ◌≢◌, ◌==◌, if◌then◌else◌, List, inl, inr, ap, sym, subst, ◌∙◌, arith, get_or-set_other}
+use Rattle.std.proofs.Common.{◌≡◌, ℕ, ◌+◌, ◌*◌, ◌<◌, ◌≤◌, ◌/◌, ◌%◌, ◌≢◌, ◌==◌, ◌&&◌, nat_lt, if◌then◌else◌, List, get_or, set, inl, inr, ap, sym, subst, ◌∙◌, arith, get_or-set_other}
 use mathlib.Core.Option.{some}
 use lib.ListN.{get_elem?}
 use Rattle.std.proofs.lemmas.List.{length-set}
 use Rattle.atomic_table.proofs.Lists.{at_set}
 use Rattle.bc_bits.specs.Counting.{one_if}
 use Rattle.bc_pins.specs.declared.views.View.{View}
-use Rattle.bc_pins.specs.Key.{Key, pages_of, owner, counter_at, bookmark_at, notice_at, mark_at, finished_at}
+use Rattle.bc_pins.specs.Key.{Key, pages_of, owner, counter_at, bookmark_at, frame_at, notice_at, mark_at, finished_at}
 use Rattle.std.specs.Int.{bit_at}
 use Rattle.bc_pins.specs.Totals.{total, times}
 use Rattle.bc_pins.specs.Views.{grips, grips_remembered, frame_in_hand, counted_for, sets_bit}
-use Rattle.bc_pins.specs.Facts.{Table, word, Lies, Place, remembered_now, Content, Standing, RecordsContent, Saw, Seated, Marking, Roles, Frames, points, adds_to, Counters, bookmark_bit, Bits, Still}
+use Rattle.bc_pins.specs.Facts.{Table, word, Place, remembered_now, Content, Standing, RecordsContent, Saw, Seated, Marking, Frames, points, adds_to, Counters, bookmark_bit, is_clear, Bits}
 use Rattle.bc_pins.specs.Rule.{SeatFacts, Rule}
 use Rattle.bc_pins.proofs.TotalLemmas.{total_set}
 use Rattle.bc_pins.proofs.SumLemmas.{sum_same}
@@ -170,10 +170,13 @@ bits_same k s r i x id v w j b at lt few other same =
       cell = λ lt. old.cell (omega arith);
     }
 
-pub frames_same : (k : Key) (s : Table) (r : Rule k s) (i x id : ℕ) (v w : View) → get_elem? s.views id ≡ some v → ((f : ℕ) → frame_in_hand f w.hand + times f w.rights ≡ frame_in_hand f v.hand + times f v.rights)
+pub frames_same : (k : Key) (s : Table) (r : Rule k s) (i x id : ℕ) (v w : View) → get_elem? s.views id ≡ some v → ((j : ℕ) → frame_at k j ≢ i) → ((f : ℕ) → frame_in_hand f w.hand + times f w.rights ≡ frame_in_hand f v.hand + times f v.rights)
     → (f : ℕ) → Frames k (after s i x s.homes id w) f
-frames_same k s r i x id v w at same f =
+frames_same k s r i x id v w at other same f =
     let old = r.frames f in
     let a = total_set (λ (u : View). frame_in_hand f u.hand + times f u.rights) s.views id v w at in
     let b = same f in
-    omega arith
+    let word_is : get_or (set s.words i x) (frame_at k (f / 64)) 0 ≡ get_or s.words (frame_at k (f / 64)) 0 = get_or-set_other s.words i (frame_at k (f / 64)) x 0 (other (f / 64)) in
+    let clear : is_clear k (set s.words i x) f ≡ is_clear k s.words f = ap (λ (n : ℕ). nat_lt f k.frames && (bit_at n (f % 64) == 0)) word_is in
+    let used = old.used in
+    record { used = omega (arith, ap one_if clear); free = λ e. clear ∙ old.free e; past = λ le lt. ap (λ (n : ℕ). bit_at n (f % 64)) word_is ∙ old.past le lt }

@@ -1,8 +1,8 @@
 -- The space that a closed table's words and boxes make.
-use Rattle.std.proofs.Common.{◌≡◌, ℕ, ◌+◌, ◌*◌, ◌/◌, ◌%◌, ◌<◌, ◌≤◌, ◌==◌, if◌then◌else◌, Bool, true, false, List, [], ◌∷◌, length, map, get_or, slice_index, Option, None, count_by, nat_lt, inl, inr, refl, ap, sym, subst, ◌∙◌, arith}
+use Rattle.std.proofs.Common.{◌≡◌, ℕ, ◌+◌, ◌*◌, ◌/◌, ◌%◌, ◌<◌, ◌≤◌, ◌==◌, ◌&&◌, ◌||◌, if◌then◌else◌, Bool, true, false, List, [], ◌∷◌, length, map, get_or, slice_index, Option, None, count_by, nat_lt, inl, inr, refl, ap, sym, subst, ◌∙◌, arith}
 use Prim.Native.Nat.{suc}
 use mathlib.Core.Option.{some}
-use Rattle.std.proofs.lemmas.Bool.{cases_lt, cases_Bool, ltb-true}
+use Rattle.std.proofs.lemmas.Bool.{cases_lt}
 use Rattle.std.proofs.lemmas.List.{length-map, get_or_past}
 use Rattle.bc_bits.specs.Counting.{one_if}
 use Rattle.bc_frames.specs.Pool.{is_free}
@@ -37,7 +37,6 @@ use Rattle.bc_word.specs.CellAddresses.{cell_address}
 use Rattle.bc_word.proofs.AddressLemmas.{page_of-cell_address, cell_page-within}
 use Rattle.bc_superpages.specs.LayoutAt.{layout_of}
 use Rattle.bc_superpages.specs.Kept.{IsObject, IsCellSet, IsSuperpage}
-use Rattle.bc_pins.specs.Totals.{sum_to}
 use Rattle.bc_pins.specs.Facts.{points}
 use Rattle.bc_superpages.specs.Parts.{EndsAt}
 use Rattle.bc_superpages.proofs.CellLemmas.{cell-bit}
@@ -50,19 +49,23 @@ use Rattle.bc_pins.specs.declared.views.View.{View}
 use Rattle.bc_pins.specs.Views.{frame_in_hand, record_of}
 use Rattle.bc_pins.specs.Lodging.{Replaced, box_of, place_of}
 use Rattle.bc_pins.specs.Opening.{HasClosed, IsRest}
-use Rattle.bc_pins.specs.Closing.{HeadersSet}
+use Rattle.bc_pins.specs.Closing.{HeadersSet, PoolSet}
+use Rattle.std.specs.Int.{bit_at}
+use Rattle.std.proofs.lemmas.Bool.{lt-ltb}
+use Rattle.bc_pins.specs.Key.{frame_at}
+use Rattle.bc_pins.specs.Facts.{frame_bit, is_clear}
+use Rattle.bc_pins.proofs.TallyLemmas.{ge-nat_lt}
+use Rattle.bc_pins.proofs.PoolLemmas.{account_all}
 use Rattle.bc_pins.proofs.TotalLemmas.{one_is}
 use Rattle.bc_pins.proofs.SumLemmas.{times_count, sum_few}
 use Rattle.bc_pins.proofs.TotalLemmas.{one_few}
-use Rattle.bc_pins.proofs.BoxLemmas.{BoxLies, box_lies, no_frame, frames_back, boxes_same}
+use Rattle.bc_pins.proofs.BoxLemmas.{BoxLies, box_lies, no_frame, frames_back}
 use Rattle.bc_pins.proofs.PartsLemmas.{slot_there, word_absent}
 use Rattle.bc_pins.proofs.MayOpenLemmas.{no_box}
 
-ge-nat_lt : (f m : ℕ) → m ≤ f → nat_lt f m ≡ false
-ge-nat_lt f m le = elim (cases_Bool (nat_lt f m)) [
-  | inl on ↦ let a : f < m = ltb-true f m on in absurd (omega arith)
-  | inr off ↦ off
-]
+clear_or : (x y z : Bool) → y ≡ true → (x ≡ true → (y && z) ≡ true) → (x || z) ≡ (y && z)
+clear_or true y z e so = sym (so refl)
+clear_or false y z e so = sym (ap (λ (b : Bool). b && z) e)
 
 point_few : (b c : Bool) → (if b then one_if c else 0) ≤ 1
 point_few true c = one_few c
@@ -85,7 +88,8 @@ module _ (k : Key) (whole parts : SpaceParts) (rest : IsRest whole parts (pages_
     (v : View) (nothing : v.hand ≡ None) (no_right : v.rights ≡ []) (words : List ℕ) (slots : List Lodged) (closed : HasClosed k v words slots)
     (headers : List Header) (set_states : HeadersSet k whole.headers.items headers words)
     (boxes : List (Option Homed)) (box : Replaced None parts.boxes.items boxes (pages_of k) (λ p. box_of (get_or slots p Nothing)))
-    (places : List (Option (List ℕ))) (place : Replaced None parts.store.places places (pages_of k) (λ p. place_of (get_or slots (pages_of k + p) Nothing))) where
+    (places : List (Option (List ℕ))) (place : Replaced None parts.store.places places (pages_of k) (λ p. place_of (get_or slots (pages_of k + p) Nothing)))
+    (now : List Bool) (pool_set : PoolSet whole.pool now (length whole.pool) (frame_at k 0) words) where
   abbrev n : ℕ
   n = pages_of k
 
@@ -165,27 +169,34 @@ module _ (k : Key) (whole parts : SpaceParts) (rest : IsRest whole parts (pages_
       no_frame (state_in headers p) (get_or slots p Nothing) (get_or slots (n + p) Nothing) (record_of v p) f (λ e. (closed.pages p lt).not_held (sym word ∙ e))
       (subst (λ (w : ℕ). Lies w (some (some (get_or slots p Nothing))) (some (some (get_or slots (n + p) Nothing))) (record_of v p)) (sym word) (slot_lies p lt)))
 
-  account_each : (f : ℕ) → count_by (uses_frame f) boxes + count_by (λ g. g == f) whole.nursery.items + one_if (is_free whole.pool f) ≡ one_if (nat_lt f (length whole.pool))
+  -- a frame is free where its bit is clear
+  free_now : (f : ℕ) → is_free now f ≡ is_clear k words f
+  free_now f = elim (cases_lt f k.frames) [
+    | inl lt ↦
+        let frame = closed.frames f in
+        let at : frame_at k 0 + f / 64 ≡ frame_at k (f / 64) = omega arith in
+        let size : length whole.pool ≡ length k.pool = ap length pool in
+        pool_set.near f (omega arith) ∙ ap (λ (i : ℕ). is_free whole.pool f || (bit_at (get_or words i 0) (f % 64) == 0)) at
+        ∙ clear_or (is_free whole.pool f) (nat_lt f k.frames) (frame_bit k words f == 0) (lt-ltb f k.frames lt) (λ e. frame.free (ap (λ (l : List Bool). is_free l f) (sym pool) ∙ e))
+    | inr le ↦
+        let size : length whole.pool ≡ length k.pool = ap length pool in
+        pool_set.far f (omega arith) ∙ get_or_past whole.pool f false (omega arith) ∙ sym (ap (λ (b : Bool). b && (frame_bit k words f == 0)) (ge-nat_lt f k.frames le))
+  ]
+
+  account_each : (f : ℕ) → count_by (uses_frame f) boxes + count_by (λ g. g == f) whole.nursery.items + one_if (is_free now f) ≡ one_if (nat_lt f (length now))
   account_each f =
-      let used = closed.frames f in
+      let used = (closed.frames f).used in
       let same = count_is f in
       let hand : frame_in_hand f v.hand ≡ 0 = ap (frame_in_hand f) nothing in
       let right : times f v.rights ≡ 0 = ap (times f) no_right in
       let young = times_count f whole.nursery.items in
       let nursery_same : times f whole.nursery.items ≡ times f k.nursery = ap (times f) nursery in
-      let free_same : one_if (is_free whole.pool f) ≡ one_if (is_free k.pool f) = ap (λ (l : List Bool). one_if (is_free l f)) pool in
-      let all_same : one_if (nat_lt f (length whole.pool)) ≡ one_if (nat_lt f k.frames) = ap (λ (m : ℕ). one_if (nat_lt f m)) (ap length pool ∙ sym frames) in
+      let free_same : one_if (is_free now f) ≡ one_if (is_clear k words f) = ap one_if (free_now f) in
+      let all_same : one_if (nat_lt f (length now)) ≡ one_if (nat_lt f k.frames) = ap (λ (m : ℕ). one_if (nat_lt f m)) (pool_set.long ∙ ap length pool ∙ sym frames) in
       omega arith
 
-  same_frames : (f : ℕ) → count_by (uses_frame f) boxes ≡ count_by (uses_frame f) whole.boxes.items
-  same_frames f = let a = account_each f in let b = kept.account.each f in omega arith
-
-  account : IsAccount boxes whole.nursery.items whole.pool
-  account =
-      let many = boxes_same boxes whole.boxes.items (length whole.pool) same_frames (λ f le.
-      (let a = kept.account.each f in let b : one_if (nat_lt f (length whole.pool)) ≡ 0 = ap one_if (ge-nat_lt f (length whole.pool) le) in omega arith)) in
-      let all = kept.account.all in
-      record { each = account_each; all = omega arith }
+  account : IsAccount boxes whole.nursery.items now
+  account = record { each = account_each; all = account_all boxes whole.boxes.items whole.nursery.items whole.pool now pool_set.long kept.account account_each }
 
   header_is : (q : ℕ) → get_or headers q unused_header
       ≡ record (get_or whole.headers.items q unused_header) { pages = (get_or headers q unused_header).pages; bookmarks = (get_or headers q unused_header).bookmarks; incoming = (get_or headers q unused_header).incoming }
@@ -307,7 +318,7 @@ module _ (k : Key) (whole parts : SpaceParts) (rest : IsRest whole parts (pages_
             (subst (λ (s : Layout). IsObject s.pages (cell_address q h.class b) h.domain h.class) layout (old.objects b on));
       }
 
-  pub closed_kept : IsKept headers boxes whole.pool whole.nursery.items places
+  pub closed_kept : IsKept headers boxes now whole.nursery.items places
   closed_kept = record {
     few = (let a = kept.few in let b = set_states.long in omega arith);
     boxes_long = boxes_long;
@@ -332,12 +343,13 @@ module _ (k : Key) (whole parts : SpaceParts) (rest : IsRest whole parts (pages_
   }
 
   -- but for states, contents and reads the space is as it was opened
-  pub closed_layout : (reads : ℕ) → layout_of headers (contents boxes places) (length whole.pool) (length whole.nursery.items) (free_count whole.pool) reads
-      ≡ record k.opening { states = map (λ (h : Header). h.pages) headers; pages = contents boxes places; bookmarks = map (λ (h : Header). h.bookmarks) headers; incoming = map (λ (h : Header). h.incoming) headers; reads = reads }
+  pub closed_layout : (reads : ℕ) → layout_of headers (contents boxes places) (length now) (length whole.nursery.items) (free_count now) reads
+      ≡ record k.opening { free = free_count now; states = map (λ (h : Header). h.pages) headers; pages = contents boxes places; bookmarks = map (λ (h : Header). h.bookmarks) headers; incoming = map (λ (h : Header). h.incoming) headers; reads = reads }
   closed_layout reads =
       let size = set_states.long in
       let hs : List Header = whole.headers.items in
       rw (
+        pool_set.long,
         part_same (λ (h : Header). h.used) hs headers size (λ q. ap (λ (h : Header). h.used) (header_is q)),
         part_same (λ (h : Header). h.domain) hs headers size (λ q. ap (λ (h : Header). h.domain) (header_is q)),
         part_same (λ (h : Header). h.class) hs headers size (λ q. ap (λ (h : Header). h.class) (header_is q)),
@@ -346,4 +358,4 @@ module _ (k : Key) (whole parts : SpaceParts) (rest : IsRest whole parts (pages_
         part_same (λ (h : Header). h.marks) hs headers size (λ q. ap (λ (h : Header). h.marks) (header_is q)),
         part_same (λ (h : Header). h.finished) hs headers size (λ q. ap (λ (h : Header). h.finished) (header_is q)),
       )
-      (ap (λ (s : Layout). record s { states = map (λ (h : Header). h.pages) headers; pages = contents boxes places; bookmarks = map (λ (h : Header). h.bookmarks) headers; incoming = map (λ (h : Header). h.incoming) headers; reads = reads }) layout)
+      (ap (λ (s : Layout). record s { free = free_count now; states = map (λ (h : Header). h.pages) headers; pages = contents boxes places; bookmarks = map (λ (h : Header). h.bookmarks) headers; incoming = map (λ (h : Header). h.incoming) headers; reads = reads }) layout)

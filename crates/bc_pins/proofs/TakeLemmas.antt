@@ -21,7 +21,7 @@ use Rattle.bc_pins.specs.Views.{grips, grips_remembered, frame_in_hand, counted_
 use Rattle.bc_pins.specs.Facts.{Table, word, slot, IsHomed, Lies, remembered_now, RecordsContent, Seated, Marking, frame_lodged, points}
 use Rattle.bc_pins.specs.Rule.{Rule}
 use Rattle.bc_pins.specs.Steps.{Mine, both_slots, gripping, having_read, Takes, Took}
-use Rattle.bc_pins.proofs.TotalLemmas.{total_set, total_at, one_same, one_other}
+use Rattle.bc_pins.proofs.TotalLemmas.{total_set, total_at, total_none, one_same, one_other}
 use Rattle.bc_pins.proofs.PageSteps.{after, PageStep, page_step}
 use Rattle.bc_pins.proofs.ReadLemmas.{saw_kept, remembered_word, reads, look_step}
 
@@ -116,6 +116,7 @@ module _ (k : Key) (s : Table) (r : Rule k s) (p id old role : ℕ) (v : View) (
       let old_facts = (r.seats id v at).seated in
       record {
         about = old_facts.about;
+        unfetched = old_facts.unfetched;
         idle = λ e. let z : has_role v role ≡ 0 = ap (times role) e in absurd (omega arith);
       }
 
@@ -207,6 +208,12 @@ module _ (k : Key) (s : Table) (r : Rule k s) (p id old role : ℕ) (v : View) (
             let own = total_at (λ (u : View). times p u.recorded) s.views id v at in
             let was : 0 < one_if (opened_word k p == 2) + times p v.recorded = subst (λ (a : Key). 0 < one_if (opened_word a p == 2) + times p v.recorded) about lt in
             flagged (standing.remembered (omega arith));
+        here = λ e.
+            let four = other_is 4 (λ x. omega arith) (λ x. omega arith) in
+            let none : total (λ (u : View). times p u.fetched) s.views ≡ 0 = total_none (λ (u : View). times p u.fetched) s.views (λ j u is. ap (times p) (r.seats j u is).seated.unfetched) in
+            let was : one_if (opened_word k p == 4) ≡ 1 = ap (λ (n : ℕ). one_if (n == 4)) (subst (λ (a : Key). opened_word a p ≡ 4) about e) in
+            let sum = standing.gone in
+            absurd (omega arith);
       }
 
   pub hit_rule : Rule k (after s p 3 homes id w)
@@ -242,7 +249,7 @@ taken k slots p id old role v near lo hi about nothing some_role s r size at fit
       look_step k s r p id v at near about,
       record {
         hit = λ e. absurd (ne e);
-        miss = λ _. (refl, reads k s r p id v near at);
+        miss = λ _. (refl, reads k s r p id v near at about);
       },
     ))
 

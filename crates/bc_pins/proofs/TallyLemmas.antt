@@ -1,21 +1,20 @@
 -- Counters and bookmark bits at the opening and at the closing: what the space's headers say of its Gone pages is what the
 -- table's words say of them.
-use Rattle.std.proofs.Common.{◌≡◌, ℕ, ◌+◌, ◌-◌, ◌*◌, ◌/◌, ◌%◌, ◌<◌, ◌≤◌, ◌==◌, ◌&&◌, ◌⊎◌, Bool, true, false, if◌then◌else◌, List, length, slice_index, Some, None, inl, inr, refl, ap, sym, subst, ◌∙◌, arith}
+use Rattle.std.proofs.Common.{◌≡◌, ℕ, ◌+◌, ◌-◌, ◌*◌, ◌/◌, ◌%◌, ◌<◌, ◌≤◌, ◌==◌, ◌&&◌, nat_lt, Bool, true, false, if◌then◌else◌, List, length, slice_index, Some, None, inl, inr, refl, ap, sym, ◌∙◌, arith}
 use Rattle.std.specs.Int.{bit_at}
-use Rattle.std.proofs.lemmas.Bool.{cases_Bool, cases_lt, eqb-true, eq-eqb}
+use Rattle.std.proofs.lemmas.Bool.{cases_Bool, cases_lt, eqb-true, eq-eqb, ltb-true}
 use Rattle.bc_bits.proofs.BitLemmas.{has-beyond}
 use Rattle.bc_classes.specs.ClassNumbers.{IsClass}
 use Rattle.bc_classes.proofs.ClassLemmas.{cap-few}
 use Rattle.bc_word.proofs.AddressLemmas.{cell_number-few}
 use Rattle.bc_bits.specs.Bits.{has}
 use Rattle.bc_bits.specs.Counting.{one_if, count_below}
-use Rattle.bc_word.specs.Addresses.{superpage_of, page_of, offset_of, cell_number}
+use Rattle.bc_word.specs.Addresses.{page_of, offset_of, cell_number}
 use Rattle.bc_superpages.specs.declared.headers.PageState.{PageState}
 use Rattle.bc_superpages.specs.declared.headers.PageState.TheVariants as state
 use Rattle.bc_superpages.specs.Headers.{is_gone}
-use Rattle.bc_superpages.specs.Layout.{Layout, superpages, set_of, content_at, is_cell}
+use Rattle.bc_superpages.specs.Layout.{Layout, content_at, is_cell}
 use Rattle.bc_superpages.specs.Memory.{memory_of, cell_on}
-use Rattle.bc_superpages.specs.Calls.{class_at}
 use Rattle.bc_bookmarks.specs.Targets.{names, names_in, is_target, has_target_in}
 use Rattle.bc_bookmarks.proofs.TargetLemmas.{some_on-same, in-target}
 use Rattle.bc_pins.specs.Key.{Key, pages_of}
@@ -24,6 +23,12 @@ use Rattle.bc_pins.specs.Views.{state_word}
 use Rattle.bc_pins.specs.Contents.{objects_in}
 use Rattle.bc_pins.specs.Facts.{points, Summary}
 use Rattle.bc_pins.proofs.SumLemmas.{sum_same, sum_none, sum_cut, count_sum}
+
+pub ge-nat_lt : (f m : ℕ) → m ≤ f → nat_lt f m ≡ false
+ge-nat_lt f m le = elim (cases_Bool (nat_lt f m)) [
+  | inl on ↦ let a : f < m = ltb-true f m on in absurd (omega arith)
+  | inr off ↦ off
+]
 
 -- Gone, by the word
 pub gone_word : (st : PageState) → is_gone st ≡ (state_word st == 4)

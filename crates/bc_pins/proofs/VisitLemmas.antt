@@ -1,14 +1,21 @@
 -- A seat that took pages and put them back: what it may put, and that the table takes it back.
-use Rattle.std.proofs.Common.{◌≡◌, ℕ, ◌<◌, Bool, true, false, List, [], ◌∷◌, ◌++◌, length, map, get_or, slice_index, Some, refl, ap, sym, subst, ◌∙◌, arith, length-append}
+use Rattle.std.proofs.Common.{◌≡◌, ℕ, ◌*◌, ◌/◌, ◌%◌, ◌<◌, ◌==◌, Bool, true, false, List, [], ◌∷◌, ◌++◌, length, map, get_or, replicate, slice_index, if◌then◌else◌, Some, refl, ap, sym, subst, ◌∙◌, arith, length-append}
 use Prim.Native.Nat.{zero, suc}
 use Rattle.atomic_table.specs.Seated.{TableId}
 use Rattle.bc_bits.specs.Bits.{has}
 use Rattle.bc_superpages.specs.declared.headers.Header.{Header}
-use Rattle.bc_superpages.specs.Layout.{Layout, set_of, is_cell}
-use Rattle.bc_superpages.specs.Calls.{new_space, with_page}
+use Rattle.bc_superpages.specs.declared.spaces.Homed.{Homed}
+use Rattle.bc_superpages.specs.declared.headers.PageState.{PageState}
+use Rattle.bc_superpages.specs.declared.headers.PageState.TheVariants.{Home as HomePage, Absent}
+use Rattle.bc_superpages.specs.Headers.{unused_header, is_gone}
+use Rattle.bc_superpages.specs.Layout.{Layout, superpages, set_of, is_cell}
+use Rattle.bc_superpages.specs.LayoutAt.{IsAllocated, state_at}
+use Rattle.bc_superpages.specs.Kept.{IsLayout}
+use Rattle.bc_superpages.specs.Calls.{new_space, with_page, NoPromiseNamed}
 use Rattle.bc_superpages.proofs.CellLemmas.{is_cell-bit}
 use Rattle.bc_bookmarks.specs.Summarised.{gone_in, HasNoBookmarks}
-use Rattle.bc_bookmarks.proofs.SummaryLemmas.{SummarisedOn-none}
+use Rattle.bc_bookmarks.proofs.SummaryLemmas.{SummarisedOn-none, allocated-by-memory}
+use Rattle.bc_bookmarks.proofs.StateLemmas.{gone-put}
 use Rattle.bc_pins.specs.declared.key.Role.{Role}
 use Rattle.bc_pins.specs.declared.pins.Pins.{Pins}
 use Rattle.bc_pins.specs.declared.pins.Seat.{Seat}
@@ -18,7 +25,7 @@ use Rattle.bc_pins.specs.declared.taking.Want.TheVariants.{Work, Victim}
 use Rattle.bc_pins.specs.declared.views.Hand.{Hand}
 use Rattle.bc_pins.specs.declared.views.View.{View}
 use Rattle.bc_pins.specs.declared.views.Lodged.TheVariants.{Nothing}
-use Rattle.bc_pins.specs.Key.{Key, pages_of, role_number}
+use Rattle.bc_pins.specs.Key.{Key, pages_of, owner, role_number, lane_role}
 use Rattle.bc_pins.specs.Totals.{times}
 use Rattle.bc_pins.specs.Tidy.{IsTidy}
 use Rattle.bc_pins.specs.Contents.{IsContent, RefersYoung}
@@ -59,6 +66,52 @@ module _ (v : View) (seat : Seat) (page : ℕ) (held : Held) (g : Grasps v seat 
     marked = λ hand has. ap (λ (h : Hand). h.marked) (in_hand hand has);
   }
 
+-- in a space without cells
+no_cell : (s : Layout) (a : ℕ) → ((q b : ℕ) → has (set_of s.cells q) b ≡ false) → IsAllocated s a → ⊥
+no_cell s a none_has there = clash (sym (none_has _ _) ∙ is_cell-bit s.classes s.cells a there)
+
+-- a page that was taken, and of which a word was written in a space without cells, may be put back by its lane
+module _ (v : View) (seat : Seat) (page : ℕ) (held : Held) (g : Grasps v seat page held) (c : List ℕ) where
+  abbrev written : Held
+  written = record held { homed = record held.homed { page = c } }
+
+  pub holds_written : page < pages_of v.about → HoldsPage seat written
+  holds_written lt = let h = holds_taken v seat page held g lt in record { hand = h.hand; has = h.has; page = h.page; inside = h.inside; frame = h.frame; slots = h.slots }
+
+  pub may_put_written : Takes v page held.remembered held.homed → length c ≡ 512 → 0 < has_role v (owner v.about page) → ((q b : ℕ) → has (set_of v.about.opening.cells q) b ≡ false) → MayPut seat written
+  may_put_written t long lane none_has =
+      let was = may_put_taken v seat page held g t in
+      let about : (view_of seat).about ≡ v.about = ap (λ (w : View). w.about) g.view in
+      let bare : (a : ℕ) → IsAllocated (view_of seat).about.opening a → ⊥ = λ a there. no_cell v.about.opening a none_has (subst (λ (k : Key). IsAllocated k.opening a) about there) in
+      let roles : (view_of seat).roles ≡ v.roles = ap (λ (w : View). w.roles) g.view in
+      record {
+        fixed = record { long = long; heads = λ a there on. absurd (bare a there); packed = λ a i f. absurd (bare a f.allocated); names = λ a i f. absurd (bare a f.allocated) };
+        young = λ y. absurd (bare y.cell y.is.allocated);
+        remembered = was.remembered;
+        others = λ hand has z.
+            let mine : 0 < has_role (view_of seat) (owner (view_of seat).about held.page) =
+            subst (λ (w : View). 0 < has_role w (owner w.about held.page)) (sym g.view) (subst (λ (p : ℕ). 0 < has_role v (owner v.about p)) (sym g.is) lane) in
+            absurd (omega arith);
+        counted = was.counted;
+        marked = was.marked;
+      }
+
+pub tried_about : (v : View) (page : ℕ) (want : Want) (remembered : Bool) → (tried v page want remembered).about ≡ v.about
+tried_about v page Work true = refl
+tried_about v page Work false = refl
+tried_about v page Victim remembered = refl
+
+-- what was told of a page holds of the view that tried first
+pub takes_tried : (v : View) (page : ℕ) (want : Want) (remembered flag : Bool) (homed : Homed) → Takes v page flag homed → Takes (tried v page want remembered) page flag homed
+takes_tried v page Work true flag homed t = record { mine = t.mine; fixed = t.fixed; young = t.young; recorded = t.recorded; here = t.here }
+takes_tried v page Work false flag homed t = t
+takes_tried v page Victim remembered flag homed t = t
+
+pub tried_roles : (v : View) (page : ℕ) (want : Want) (remembered : Bool) → (tried v page want remembered).roles ≡ v.roles
+tried_roles v page Work true = refl
+tried_roles v page Work false = refl
+tried_roles v page Victim remembered = refl
+
 pub tried_rights : (v : View) (page : ℕ) (want : Want) (remembered : Bool) → (tried v page want remembered).rights ≡ v.rights
 tried_rights v page Work true = refl
 tried_rights v page Work false = refl
@@ -74,6 +127,24 @@ same_after a b c x y = record {
   alive = y.alive ∙ x.alive;
   roles = y.roles ∙ x.roles;
 }
+
+-- the same for a page that was taken to work on
+module _ (pins : Pins) (old seat : Seat) (page : ℕ) (held : Held) (c : List ℕ) (at : IsAt pins old) (g : Grasps (tried (view_of old) page Work held.remembered) seat page held) where
+  abbrev v : View
+  v = tried (view_of old) page Work held.remembered
+
+  about : v.about ≡ key_of pins
+  about = tried_about (view_of old) page Work held.remembered ∙ at.about
+
+  pub holds_worked : page < pages_of (key_of pins) → HoldsPage seat (record held { homed = record held.homed { page = c } })
+  holds_worked lt = holds_written v seat page held g c (subst (λ (k : Key). page < pages_of k) (sym about) lt)
+
+  pub may_put_worked : Takes (view_of old) page held.remembered held.homed → length c ≡ 512 → 0 < has_role (view_of old) (owner (key_of pins) page)
+      → ((q b : ℕ) → has (set_of (key_of pins).opening.cells q) b ≡ false) → MayPut seat (record held { homed = record held.homed { page = c } })
+  may_put_worked t long lane none_has =
+      may_put_written v seat page held g c (takes_tried (view_of old) page Work held.remembered held.remembered held.homed t) long
+      (subst (λ (k : Key). 0 < has_role v (owner k page)) (sym about) (subst (λ (l : List ℕ). 0 < times (owner (key_of pins) page) l) (sym (tried_roles (view_of old) page Work held.remembered)) lane))
+      (λ q b. ap (λ (k : Key). has (set_of k.opening.cells q) b) about ∙ none_has q b)
 
 -- a seat that stays at its table
 pub at_after : (pins : Pins) (a b : Seat) → IsAt pins a → IsSameSeat a b → IsAt pins b
@@ -177,3 +248,70 @@ pub brought_openable : (f y : ℕ) → IsOpenable (with_page (new_space 1 f y) 0
 brought_openable f y =
     bare_openable (brought f y) (λ q b. set_bare (λ (h : Header). h.cells) 1 q b refl) (opening_ready 1 f y).promised
     record { gone = four_gone f y; bits = λ q b lt. set_bare (λ (h : Header). h.bookmarks) 1 q b refl; counters = no_count f y }
+
+none_gone : (b x : Bool) → x ≡ false → (if b then false else x) ≡ false
+none_gone true x e = refl
+none_gone false x e = e
+
+-- a page that is brought home leaves a space without bookmarks
+pub brought_none : (s : Layout) (p : ℕ) → IsLayout s → p < 4 * superpages s → HasNoBookmarks s → HasNoBookmarks (with_page s p)
+brought_none s p l lt old = record {
+  gone = λ q less. gone-put s p HomePage q l lt ∙ none_gone (q == p) (gone_in s q) (old.gone q less);
+  bits = old.bits;
+  counters = old.counters;
+}
+
+-- a new space has none, and none of a cell
+pub new_none : (n f y : ℕ) → HasNoBookmarks (new_space n f y)
+new_none n f y = record { gone = λ p lt. absent n p; bits = λ q b lt. set_bare (λ (h : Header). h.bookmarks) n q b refl; counters = λ q lt. zeros n q }
+  where
+    zeros : (m q : ℕ) → slice_index (map (λ (h : Header). h.incoming) (replicate m unused_header)) q ≡ 0
+    zeros zero q = refl
+    zeros (suc m) zero = refl
+    zeros (suc m) (suc q) = zeros m q
+
+    four : (i : ℕ) → is_gone (get_or (replicate 4 Absent) i Absent) ≡ false
+    four zero = refl
+    four (suc zero) = refl
+    four (suc (suc zero)) = refl
+    four (suc (suc (suc zero))) = refl
+    four (suc (suc (suc (suc i)))) = refl
+
+    each : (m q i : ℕ) → is_gone (get_or (get_or (map (λ (h : Header). h.pages) (replicate m unused_header)) q []) i Absent) ≡ false
+    each zero q i = refl
+    each (suc m) zero i = four i
+    each (suc m) (suc q) i = each m q i
+
+    absent : (m p : ℕ) → gone_in (new_space m f y) p ≡ false
+    absent m p = each m (p / 4) (p % 4)
+
+pub new_cells : (n f y q b : ℕ) → has (set_of (new_space n f y).cells q) b ≡ false
+new_cells n f y q b = set_bare (λ (h : Header). h.cells) n q b refl
+
+-- in a space without cells no promise is named
+pub nothing_named : (s : Layout) → ((q b : ℕ) → has (set_of s.cells q) b ≡ false) → NoPromiseNamed s
+nothing_named s none_has a c found k lt = absurd (no_cell s a none_has (allocated-by-memory s a c found))
+
+-- a space with the states, bookmarks and counters of a new one
+pub none_like : (n f y : ℕ) (t : Layout) → t.states ≡ (new_space n f y).states → t.bookmarks ≡ (new_space n f y).bookmarks → t.incoming ≡ (new_space n f y).incoming → superpages t ≡ superpages (new_space n f y) → HasNoBookmarks t
+none_like n f y t states bits counters long =
+    let old = new_none n f y in
+    record {
+      gone = λ p lt. ap (λ (ss : List (List PageState)). is_gone (state_at ss p)) states ∙ old.gone p (omega arith);
+      bits = λ q b lt. ap (λ (bs : List (List ℕ)). has (set_of bs q) b) bits ∙ old.bits q b (omega arith);
+      counters = λ q lt. ap (λ (cs : List ℕ). slice_index cs q) counters ∙ old.counters q (omega arith);
+    }
+
+-- the lane of a page's domain, where lane l holds domain l
+pub lane_has : (k : Key) (v : View) (page lane : ℕ) → k.owners ≡ map lane_role (0 ∷ 1 ∷ []) → slice_index k.opening.domains (page / 4) ≡ lane → lane < 2 → ((r : ℕ) → has_role v r ≡ times r (lane_role lane ∷ [])) → 0 < has_role v (owner k page)
+lane_has k v page lane owners domain lt roles =
+    let own : owner k page ≡ lane_role lane = ap (λ (l : List ℕ). slice_index l (slice_index k.opening.domains (page / 4))) owners ∙ ap (slice_index (map lane_role (0 ∷ 1 ∷ []))) domain ∙ each lane lt in
+    let one = one_same (lane_role lane) in
+    let r : has_role v (owner k page) ≡ has_role v (lane_role lane) = ap (has_role v) own in
+    let z = roles (lane_role lane) in
+    omega arith
+  where
+    each : (l : ℕ) → l < 2 → slice_index (map lane_role (0 ∷ 1 ∷ [])) l ≡ lane_role l
+    each zero lt = refl
+    each (suc zero) lt = refl
+    each (suc (suc l)) lt = absurd (omega arith)

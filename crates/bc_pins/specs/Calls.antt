@@ -15,7 +15,7 @@ use Rattle.bc_pins.specs.declared.taking.TakeNo.{TakeNo}
 use Rattle.bc_pins.specs.declared.taking.TakeNo.TheVariants.{Busy, Gone, Remembered, Absent}
 use Rattle.bc_pins.specs.Key.{Key, pages_of, owner, role_number}
 use Rattle.bc_pins.specs.Totals.{times}
-use Rattle.bc_pins.specs.Contents.{IsContent, RefersYoung}
+use Rattle.bc_pins.specs.Contents.{IsBarePage, IsContent, RefersYoung}
 use Rattle.bc_pins.specs.Views.{has_role}
 use Rattle.bc_pins.specs.Steps.{both_slots, gripping, having_read, released}
 
@@ -87,12 +87,13 @@ refusal_word Busy = 3
 refusal_word Gone = 4
 
 -- the refusal is what the last step on the page's word read; Remembered comes with Victim alone, and what was read as
--- Remembered before is Busy then
+-- Remembered before is Busy then. No allocated cell lies on a page that is Absent
 pub record IsTakeRefused (v : View) (page : ℕ) (want : Want) (no : TakeNo) (w : View) : Type 0 where
   pub read : (w ≡ having_read v page (refusal_word no)) ⊎ ((want ≡ Work) × (w ≡ having_read (having_read v page 2) page (refusal_word no)))
   pub victim : no ≡ Remembered → want ≡ Victim
   pub seen : 0 < times page v.seen → (no ≡ Busy) ⊎ (no ≡ Remembered)
   pub gone : 0 < times page v.gone → no ≡ Gone
+  pub bare : no ≡ Absent → IsBarePage v.about.opening page
 
 abbrev pub WasSeen : View → ℕ → Type 0
 WasSeen v page = 0 < times page v.seen

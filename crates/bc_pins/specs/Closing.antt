@@ -1,5 +1,5 @@
 -- What closing a table requires, and what it gives.
-use Rattle.std.specs.Prelude.{◌≡◌, ℕ, ◌+◌, ◌-◌, ◌*◌, ◌/◌, ◌%◌, ◌^◌, ◌<◌, ◌≤◌, ◌==◌, true, List, [], length, min, None, slice_index, slice_index_or}
+use Rattle.std.specs.Prelude.{◌≡◌, ℕ, ◌+◌, ◌-◌, ◌*◌, ◌/◌, ◌%◌, ◌^◌, ◌<◌, ◌≤◌, ◌==◌, ◌||◌, Bool, true, List, [], length, min, None, slice_index, slice_index_or}
 use Rattle.atomic_table.specs.declared.shared.Seat.{Seat as Worker}
 use Rattle.atomic_table.specs.Seated.{TableId}
 use Rattle.bc_bits.specs.Counting.{one_if}
@@ -9,6 +9,8 @@ use Rattle.bc_superpages.specs.declared.headers.PageState.{PageState}
 use Rattle.bc_superpages.specs.declared.headers.PageState.TheVariants as state
 use Rattle.bc_superpages.specs.Layout.{Layout, superpages, set_of, content_at}
 use Rattle.bc_bits.specs.Bits.{has}
+use Rattle.std.specs.Int.{bit_at}
+use Rattle.bc_frames.specs.Pool.{is_free}
 use Rattle.bc_bits.specs.BitChanges.{AreWords}
 use Rattle.bc_superpages.specs.Kept.{IsCellSet}
 use Rattle.bc_pins.specs.Facts.{opened_bit}
@@ -89,6 +91,12 @@ pub record SummariesBelow (old new : List Header) (count superpages : ℕ) (word
 abbrev pub SummariesSet : List Header → List Header → ℕ → List ℕ → Type 0
 SummariesSet old new superpages words = SummariesBelow old new superpages superpages words
 
+-- of the first frames those are free besides whose bits are clear in the words from a place on
+pub record PoolSet (old new : List Bool) (count start : ℕ) (words : List ℕ) : Type 0 where
+  pub long : length new ≡ length old
+  pub near : (f : ℕ) → f < count → is_free new f ≡ (is_free old f || (bit_at (slice_index words (start + f / 64)) (f % 64) == 0))
+  pub far : (f : ℕ) → count ≤ f → is_free new f ≡ is_free old f
+
 -- states, counters and bookmarks are those that the table's words tell, and nothing else of the headers changed
 pub record HeadersSet (k : Key) (old new : List Header) (words : List ℕ) : Type 0 where
   pub long : length new ≡ length old
@@ -118,11 +126,11 @@ pub record ClosedBit (k : Key) (seats : List Seat) (s : Layout) (w b : ℕ) : Ty
   pub only : has (set_of s.bookmarks (w / 16)) (64 * (w % 16) + b) ≡ true → 0 < opened_bit k w b + total (λ (seat : Seat). sets_bit w b (seen_by seat).bookmarked) seats
 
 -- the space that a closed table gives back: as it was opened, but for the states of pages, their contents, bookmarks and
--- counters, and the reads. Each page has the content that its lane's seat records, or else the opening's. A bookmark bit is
+-- counters, the free frames and the reads. Each page has the content that its lane's seat records, or else the opening's. A bookmark bit is
 -- set exactly where it was at the opening or a seat set it. A table may be opened over it again, as it could at the opening:
 -- so it is summarised
 pub record Closed (k : Key) (seats : List Seat) (s : Layout) : Type 0 where
-  pub same : s ≡ record k.opening { states = s.states; pages = s.pages; bookmarks = s.bookmarks; incoming = s.incoming; reads = s.reads }
+  pub same : s ≡ record k.opening { states = s.states; pages = s.pages; bookmarks = s.bookmarks; incoming = s.incoming; free = s.free; reads = s.reads }
   pub reads : s.reads ≡ min (k.opening.reads + opens_of seats) (2 ^ 64 - 1)
   pub mine : (j : ℕ) → j < length seats → (d : Seat) (p : ℕ) → p < pages_of k → 0 < has_role (seen_by (slice_index_or seats j d)) (owner k p)
       → content_at s.pages p ≡ record_of (seen_by (slice_index_or seats j d)) p

@@ -1,6 +1,6 @@
 -- The turn facts: what holds of the words, the slots and the views of a table between any two steps of a turn. Each is said
 -- of one page, one seat or one frame. A page's record is the content that its lane put back last, or else the opening's.
-use Rattle.std.specs.Prelude.{◌≡◌, ℕ, ◌+◌, ◌*◌, ◌/◌, ◌%◌, ◌<◌, ◌≤◌, ◌==◌, ◌⊎◌, true, false, if◌then◌else◌, List, [], nat_lt, slice_index, Some, None}
+use Rattle.std.specs.Prelude.{◌≡◌, ℕ, ◌+◌, ◌*◌, ◌/◌, ◌%◌, ◌<◌, ◌≤◌, ◌==◌, ◌&&◌, ◌⊎◌, Bool, true, false, if◌then◌else◌, List, [], nat_lt, slice_index, Some, None}
 use Rattle.std.specs.Int.{bit_at}
 use Prim.Native.Nat.{zero, suc}
 use mathlib.Core.Option.{some, none}
@@ -18,10 +18,10 @@ use Rattle.bc_pins.specs.declared.views.Lodged.{Lodged}
 use Rattle.bc_pins.specs.declared.views.Lodged.TheVariants.{Nothing, Home, Away}
 use Rattle.bc_pins.specs.declared.views.Hand.{Hand}
 use Rattle.bc_pins.specs.declared.views.View.{View}
-use Rattle.bc_pins.specs.Key.{Key, pages_of, owner, counter_at, bookmark_at, mark_at, finished_at, frame_slot, store_slot}
+use Rattle.bc_pins.specs.Key.{Key, pages_of, owner, counter_at, bookmark_at, mark_at, finished_at, frame_at, frame_words, frame_slot, store_slot}
 use Rattle.bc_pins.specs.Totals.{total, times, sum_to}
 use Rattle.bc_pins.specs.Contents.{IsContent, RefersYoung, IsBarePage, objects_in}
-use Rattle.bc_pins.specs.Views.{grips, grips_remembered, frame_in_hand, counted_for, sets_bit, marked_for, has_role, entries, opened_word, opened_content, record_of}
+use Rattle.bc_pins.specs.Views.{grips, grips_remembered, frame_in_hand, counted_for, sets_bit, marked_for, has_role, entries, opened_word, record_of}
 
 abbrev pub Table : Type 0
 Table = State Lodged View
@@ -74,6 +74,7 @@ cell_bit k w b = bit_at (slice_index (set_of k.opening.cells (w / 16)) (w % 16))
 -- the cell that begins at the address is bookmarked in the table
 pub record HasBookmarkBit (k : Key) (words : List ℕ) (address : ℕ) : Type 0 where
   pub within : superpage_of address < k.supers
+  pub few : cell_number (class_at k.opening address) address < 1024
   pub starts : address % class_at k.opening address ≡ 0
   pub bit : bookmark_bit k words (16 * superpage_of address + cell_number (class_at k.opening address) address / 64) (cell_number (class_at k.opening address) address % 64) ≡ 1
 
@@ -124,9 +125,10 @@ pub record IsIdle (v : View) : Type 0 where
   pub fetched : v.fetched ≡ []
   pub bookmarked : v.bookmarked ≡ []
 
--- a seat knows what the table was told, and one without a role has done nothing
+-- a seat knows what the table was told, and one without a role has done nothing. None has taken a page from Gone: no step does yet
 pub record Seated (k : Key) (v : View) : Type 0 where
   pub about : v.alive ≡ true → v.about ≡ k
+  pub unfetched : v.fetched ≡ []
   pub idle : v.roles ≡ [] → IsIdle v
 
 -- Roles: each role that was given out is in exactly one view, and none was given out twice
@@ -149,9 +151,19 @@ frame_lodged frame (maybe.some x) = frame_of x frame
 abbrev pub frame_used : Table → ℕ → ℕ
 frame_used s frame = total (frame_lodged frame) s.homes + total (λ (v : View). frame_in_hand frame v.hand + times frame v.rights) s.views
 
--- Frames: each frame is in one place: a page's at home, in hand, a right in hand, a nursery's, or free
-abbrev pub Frames : Key → Table → ℕ → Type 0
-Frames k s frame = frame_used s frame + (times frame k.nursery + one_if (is_free k.pool frame)) ≡ one_if (nat_lt frame k.frames)
+-- a bit of the frame words, and whether it is clear: then the frame is free
+abbrev pub frame_bit : Key → List ℕ → ℕ → ℕ
+frame_bit k words frame = bit_at (slice_index words (frame_at k (frame / 64))) (frame % 64)
+
+abbrev pub is_clear : Key → List ℕ → ℕ → Bool
+is_clear k words frame = nat_lt frame k.frames && (frame_bit k words frame == 0)
+
+-- Frames: each frame is in one place: a page's at home, in hand, a right in hand, a nursery's, or free. One that was free at the
+-- opening still is, since none is claimed in a turn yet. The bits beyond the last frame are set and nobody's
+pub record Frames (k : Key) (s : Table) (frame : ℕ) : Type 0 where
+  pub used : frame_used s frame + (times frame k.nursery + one_if (is_clear k s.words frame)) ≡ one_if (nat_lt frame k.frames)
+  pub free : is_free k.pool frame ≡ true → is_clear k s.words frame ≡ true
+  pub past : k.frames ≤ frame → frame < 64 * frame_words k → frame_bit k s.words frame ≡ 1
 
 -- how often a page with this content counts for a superpage: once where it has a target there, or not
 abbrev pub points : Key → ℕ → List ℕ → ℕ → ℕ

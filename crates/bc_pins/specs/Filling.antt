@@ -1,13 +1,30 @@
 -- The words of a table at its opening.
-use Rattle.std.specs.Prelude.{◌≡◌, ℕ, ◌+◌, ◌*◌, ◌/◌, ◌%◌, ◌<◌, false, List, length, slice_index, slice_index_or}
+use Rattle.std.specs.Prelude.{◌≡◌, ℕ, ◌+◌, ◌*◌, ◌/◌, ◌%◌, ◌<◌, Bool, false, not, List, length, slice_index, slice_index_or}
 use Rattle.bc_superpages.specs.declared.headers.Header.{Header}
 use Rattle.bc_superpages.specs.Headers.{unused_header}
 use Rattle.bc_superpages.specs.Parts.{state_in}
 use Rattle.bc_pins.specs.declared.key.Turn.{Turn}
-use Rattle.bc_pins.specs.Key.{Key, is_lanes, pages_of, counter_at, bookmark_at, mark_at, finished_at, all_words}
+use Rattle.bc_pins.specs.Key.{Key, is_lanes, pages_of, counter_at, bookmark_at, frame_at, frame_words, mark_at, finished_at, all_words}
+use Rattle.std.specs.Int.{bit_at}
+use Rattle.bc_bits.specs.Counting.{one_if}
+use Rattle.bc_frames.specs.Pool.{is_free}
 use Rattle.bc_pins.specs.Views.{state_word}
 use Rattle.bc_pins.specs.declared.filling.CellSet.{CellSet}
 use Rattle.bc_pins.specs.declared.filling.CellSet.TheVariants.{Bookmarks, Marks, Finished}
+
+-- the bit of a frame: set where it isn't free
+abbrev pub in_use : List Bool → ℕ → ℕ
+in_use pool frame = one_if (not (is_free pool frame))
+
+-- a word of 64 frames
+abbrev pub IsFrameWord : List Bool → ℕ → ℕ → Type 0
+IsFrameWord pool i word = (b : ℕ) → b < 64 → bit_at word b ≡ in_use pool (64 * i + b)
+
+-- so many words of frames were added
+pub record AddsFrames (pool : List Bool) (old new : List ℕ) (count : ℕ) : Type 0 where
+  pub long : length new ≡ length old + count
+  pub kept : (i : ℕ) → i < length old → slice_index new i ≡ slice_index old i
+  pub added : (i : ℕ) → i < count → IsFrameWord pool i (slice_index new (length old + i))
 
 -- so many words were added, word i of them f i
 pub record Extends (old new : List ℕ) (count : ℕ) (f : ℕ → ℕ) : Type 0 where
@@ -21,11 +38,12 @@ set_in Bookmarks h = h.bookmarks
 set_in Marks h = h.marks
 set_in Finished h = h.finished
 
--- a key of this size and turn
-pub record IsSized (k : Key) (superpages frames : ℕ) (turn : Turn) : Type 0 where
+-- a key of this size, pool and turn
+pub record IsSized (k : Key) (superpages : ℕ) (flags : List Bool) (turn : Turn) : Type 0 where
   pub supers : k.supers ≡ superpages
-  pub all : k.frames ≡ frames
+  pub all : k.frames ≡ length flags
   pub lanes : k.lanes ≡ is_lanes turn
+  pub pool : k.pool ≡ flags
 
 abbrev pub header_in : List Header → ℕ → Header
 header_in headers superpage = slice_index_or headers superpage unused_header
@@ -47,5 +65,6 @@ pub record IsFilled (k : Key) (headers : List Header) (words : List ℕ) : Type 
   pub states : (p : ℕ) → p < pages_of k → slice_index words p ≡ state_word (state_in headers p)
   pub counters : (q : ℕ) → q < k.supers → slice_index words (counter_at k q) ≡ (header_in headers q).incoming
   pub bookmarks : (w : ℕ) → w < 16 * k.supers → slice_index words (bookmark_at k w) ≡ set_word Bookmarks headers w
+  pub frames : (f : ℕ) → f < 64 * frame_words k → bit_at (slice_index words (frame_at k (f / 64))) (f % 64) ≡ in_use k.pool f
   pub marks : (w : ℕ) → k.lanes ≡ false → w < 16 * k.supers → slice_index words (mark_at k w) ≡ set_word Marks headers w
   pub finished : (w : ℕ) → k.lanes ≡ false → w < 16 * k.supers → slice_index words (finished_at k w) ≡ set_word Finished headers w

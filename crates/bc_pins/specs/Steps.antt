@@ -1,8 +1,8 @@
 -- The kinds of step: what the view is after each, and what each tells the seat that makes it.
-use Rattle.std.specs.Prelude.{◌≡◌, ◌≢◌, ℕ, ◌+◌, ◌*◌, ◌/◌, ◌%◌, ◌<◌, ◌≤◌, ◌==◌, ◌&&◌, Bool, true, false, if◌then◌else◌, nat_lt, List, [], ◌∷◌, ◌++◌, take, drop, Some, None}
+use Rattle.std.specs.Prelude.{◌≡◌, ◌≢◌, ℕ, ◌+◌, ◌*◌, ◌/◌, ◌%◌, ◌^◌, ◌<◌, ◌≤◌, ◌==◌, ◌&&◌, Bool, true, false, if◌then◌else◌, nat_lt, List, [], ◌∷◌, ◌++◌, take, drop, Some, None}
 use Rattle.atomic_table.specs.Table.{Me, Step, rest}
 use Rattle.bc_bits.specs.Counting.{one_if}
-use Rattle.std.specs.Int.{bit_at}
+use Rattle.std.specs.Int.{bit_at, bit_not, w64}
 use Rattle.bc_word.specs.Addresses.{superpage_of, cell_number}
 use Rattle.bc_superpages.specs.LayoutAt.{layout_of}
 use Rattle.bc_superpages.specs.Calls.{class_at}
@@ -12,7 +12,7 @@ use Rattle.bc_pins.specs.declared.views.Lodged.{Lodged}
 use Rattle.bc_pins.specs.declared.views.Lodged.TheVariants.{Nothing, Home}
 use Rattle.bc_pins.specs.declared.views.Hand.{Hand}
 use Rattle.bc_pins.specs.declared.views.View.{View}
-use Rattle.bc_pins.specs.Key.{Key, pages_of, owner, counter_at, bookmark_at}
+use Rattle.bc_pins.specs.Key.{Key, pages_of, owner, counter_at, bookmark_at, frame_at}
 use Rattle.bc_pins.specs.Totals.{times}
 use Rattle.bc_pins.specs.Contents.{IsContent, RefersYoung, IsBarePage, objects_in}
 use Rattle.bc_pins.specs.Facts.{points}
@@ -97,16 +97,20 @@ released v page remembered content = record v {
   recorded = if remembered then page ∷ v.recorded else v.recorded;
 }
 
--- bits of a bookmark word were set for the page in hand
-abbrev pub bookmarking : View → Hand → ℕ → ℕ → View
-bookmarking v h w bits = record v {
+-- bits of a bookmark word were set for the page in hand, and the word was read as it was before
+abbrev pub bookmarking : View → Hand → ℕ → ℕ → ℕ → View
+bookmarking v h w bits found = record v {
   hand = Some (record h { marked = (w, bits) ∷ h.marked });
   bookmarked = (h.page, w, bits) ∷ v.bookmarked;
+  read = (bookmark_at v.about w, found) ∷ v.read;
 }
 
--- a superpage was counted for the page in hand
-abbrev pub counting : View → Hand → ℕ → View
-counting v h superpage = record v { hand = Some (record h { counted = superpage ∷ h.counted }) }
+-- a superpage was counted for the page in hand, and its counter was read as it was before
+abbrev pub counting : View → Hand → ℕ → ℕ → View
+counting v h superpage found = record v {
+  hand = Some (record h { counted = superpage ∷ h.counted });
+  read = (counter_at v.about superpage, found) ∷ v.read;
+}
 
 -- the page in hand was made Gone, or Absent; its frame is a right in hand
 abbrev pub leaving : View → Hand → View
@@ -122,6 +126,18 @@ vacating v h = record v {
   emptied = h.page ∷ v.emptied;
   rights = h.frame ∷ v.rights;
 }
+
+-- rights without those to frames whose bits, in this frame word, are among these
+abbrev pub given_back : ℕ → ℕ → List ℕ → List ℕ
+given_back w bits [] = []
+given_back w bits (f ∷ fs) = if (f / 64 == w) && (bit_at bits (f % 64) == 1) then given_back w bits fs else f ∷ given_back w bits fs
+
+abbrev pub giving : View → ℕ → ℕ → ℕ → View
+giving v w bits found = record v { rights = given_back w bits v.rights; read = (frame_at v.about w, found) ∷ v.read }
+
+-- each of the bits, in this frame word, is that of a frame to which the view has the right
+abbrev pub AreRights : View → ℕ → ℕ → Type 0
+AreRights v w bits = (b : ℕ) → b < 64 → 0 < bit_at bits b → 0 < times (64 * w + b) v.rights
 
 -- the slots of a page that was taken, as the seat has them: the frame slot first
 abbrev pub both_slots : Key → ℕ → Lodged → Lodged → List (ℕ × Lodged)
@@ -160,18 +176,21 @@ pub record MayVacate (k : Key) (h : Hand) : Type 0 where
   pub uncounted : h.counted ≡ []
   pub unmarked : h.marked ≡ []
 
--- what a word tells that was read: the page's state, and what was read of it before is still so
+-- what a word tells that was read: the page's state, and what was read of it before is still so. No allocated cell lies on a page
+-- that is Absent
 pub record ReadsWord (v : View) (page found : ℕ) : Type 0 where
   pub word : found ≤ 4
+  pub bare : found ≡ 0 → IsBarePage v.about.opening page
   pub seen : 0 < times page v.seen → found ≢ 2 → found ≡ 3
   pub gone : 0 < times page v.gone → found ≡ 4
 
--- what the box tells of a page that was taken from Home, or from Home and remembered
+-- what the box tells of a page that was taken from Home, or from Home and remembered. It wasn't Gone at the opening
 pub record Takes (v : View) (page : ℕ) (remembered : Bool) (homed : Homed) : Type 0 where
   pub mine : 0 < has_role v (owner v.about page) → homed.page ≡ record_of v page
   pub fixed : IsContent v.about.opening page homed.page
   pub young : RefersYoung v.about.opening page homed.page → remembered ≡ true
   pub recorded : 0 < one_if (opened_word v.about page == 2) + times page v.recorded → remembered ≡ true
+  pub here : opened_word v.about page ≢ 4
 
 -- Take: the page is in hand with its box, or the word that was read is told
 pub record Took (st : Step Lodged) (m : Mine) (found : ℕ) (m' : Mine) : Type 0 where
@@ -186,20 +205,26 @@ pub record Gave (st : Step Lodged) (m m' : Mine) : Type 0 where
   pub view : (homed : Homed) → m.1 ≡ (st.word, Home homed) ∷ rest m.1 → m'.0 ≡ released m.0 st.word (st.first == 2) homed.page
 
 -- Bookmark bit, and counter add, of the page in hand
-pub record SetBits (st : Step Lodged) (m m' : Mine) : Type 0 where
-  pub view : (h : Hand) (w : ℕ) → m.0.hand ≡ Some h → st.word ≡ bookmark_at m.0.about w → m' ≡ (bookmarking m.0 h w st.first, m.1)
+pub record SetBits (st : Step Lodged) (m : Mine) (found : ℕ) (m' : Mine) : Type 0 where
+  pub view : (h : Hand) (w : ℕ) → m.0.hand ≡ Some h → st.word ≡ bookmark_at m.0.about w → m' ≡ (bookmarking m.0 h w st.first found, m.1)
 
-pub record Counted (st : Step Lodged) (m m' : Mine) : Type 0 where
-  pub view : (h : Hand) (q : ℕ) → m.0.hand ≡ Some h → st.word ≡ counter_at m.0.about q → m' ≡ (counting m.0 h q, m.1)
+pub record Counted (st : Step Lodged) (m : Mine) (found : ℕ) (m' : Mine) : Type 0 where
+  pub view : (h : Hand) (q : ℕ) → m.0.hand ≡ Some h → st.word ≡ counter_at m.0.about q → m' ≡ (counting m.0 h q found, m.1)
 
--- Relinquish word, and absent word: the slots are at home
+-- Frame give
+pub record GaveFrames (st : Step Lodged) (m : Mine) (found : ℕ) (m' : Mine) : Type 0 where
+  pub view : (w bits : ℕ) → st.word ≡ frame_at m.0.about w → st.first ≡ bit_not w64 bits → bits < 2 ^ 64 → m' ≡ (giving m.0 w bits found, m.1)
+
+-- Relinquish word, and absent word: the slots are at home. The frame to which there is a right is one of the heap's
 pub record Left (st : Step Lodged) (m m' : Mine) : Type 0 where
   pub slots : m'.1 ≡ rest (rest m.1)
   pub view : (h : Hand) → m.0.hand ≡ Some h → m'.0 ≡ leaving m.0 h
+  pub frame : (h : Hand) → m.0.hand ≡ Some h → h.frame < m.0.about.frames
 
 pub record Vacated (st : Step Lodged) (m m' : Mine) : Type 0 where
   pub slots : m'.1 ≡ rest (rest m.1)
   pub view : (h : Hand) → m.0.hand ≡ Some h → m'.0 ≡ vacating m.0 h
+  pub frame : (h : Hand) → m.0.hand ≡ Some h → h.frame < m.0.about.frames
 
 -- Look
 pub record Looked (st : Step Lodged) (m : Mine) (found : ℕ) (m' : Mine) : Type 0 where

@@ -5,9 +5,10 @@ ghost use Rattle.bc_superpages.specs.Headers.{unused_header};
 ghost use Rattle.bc_superpages.specs.Parts.{state_in};
 ghost use Rattle.bc_pins.specs.Views.{state_word};
 ghost use Rattle.bc_pins.specs.Key.{Key, table_words};
-ghost use Rattle.bc_pins.specs.Filling.{Extends, IsSized, IsFilled, HasMarkWords, set_in};
+ghost use Rattle.bc_pins.specs.Filling.{Extends, AddsFrames, IsFrameWord, in_use, IsSized, IsFilled, HasMarkWords, set_in};
 
 use crate::key::Turn;
+use bc_frames::FramePool;
 use bc_superpages::{Header, PageState};
 
 /// Sets of cells that a table has words for.
@@ -91,6 +92,41 @@ pub(crate) fn push_zeros(words: &mut Vec<u64>, count: usize)
     }
 }
 
+/// The bit of a frame: 1 where it isn't free.
+fn frame_bit(pool: &FramePool, frame: usize) -> u64
+    ensures bit { result ≡ in_use pool.now frame }
+{
+    if frame < pool.frames() as usize && pool.is_free(frame as u32) {
+        0
+    } else {
+        1
+    }
+}
+
+/// A word of 64 frames, a bit for each, set where the frame isn't free.
+fn frame_word(pool: &FramePool, word: usize) -> u64
+    requires { word < 2 ^ 32 }
+    ensures word { IsFrameWord pool.now word result }
+{
+    let mut bits = 0;
+    for bit in 0..64 {
+        bits |= frame_bit(pool, 64 * word + bit) << bit;
+    }
+    bits
+}
+
+/// Adds so many words of frames.
+pub(crate) fn push_frames(words: &mut Vec<u64>, pool: &FramePool, count: usize)
+    requires few { count < 2 ^ 32 }
+    requires room { length words.old.items + count ≤ vec_capacity words.old }
+    ensures added { AddsFrames pool.now words.old.items words.new.items count }
+    ensures room { vec_capacity words.new ≡ vec_capacity words.old }
+{
+    for word in 0..count {
+        words.push_reserved(frame_word(pool, word));
+    }
+}
+
 /// How many words a table has.
 pub(crate) fn word_count(superpages: usize, frames: usize, turn: Turn) -> usize
     requires { (superpages ≤ 4096) × (frames < 2 ^ 32) }
@@ -108,18 +144,20 @@ pub(crate) fn fill_words(
     words: &mut Vec<u64>,
     headers: &[Header],
     superpages: usize,
-    frames: usize,
+    pool: &FramePool,
     turn: Turn,
 )
-    requires size { (superpages ≤ 4096) × (superpages ≤ length headers.now) × (frames < 2 ^ 32) }
+    requires size { (superpages ≤ 4096) × (superpages ≤ length headers.now) × (length pool.now < 2 ^ 32) }
     requires none { words.old.items ≡ [] }
-    requires room { table_words superpages frames turn ≤ vec_capacity words.old }
-    ensures filled { (k : Key) → IsSized k superpages frames turn → IsFilled k headers.now words.new.items }
+    requires room { table_words superpages (length pool.now) turn ≤ vec_capacity words.old }
+    ensures filled { (k : Key) → IsSized k superpages pool.now turn → IsFilled k headers.now words.new.items }
 {
+    let frames = pool.frames() as usize;
     push_states(words, headers, 4 * superpages);
     push_counters(words, headers, superpages);
     push_sets(words, headers, superpages, CellSet::Bookmarks);
-    push_zeros(words, (frames + 63) / 64 + 1);
+    push_frames(words, pool, (frames + 63) / 64);
+    push_zeros(words, 1);
     match turn {
         Turn::Lanes => {}
         Turn::Mark => fill_marks(words, headers, superpages),

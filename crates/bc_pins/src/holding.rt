@@ -33,6 +33,32 @@ impl Held {
         self.remembered
     }
 
+    /// The page's number, with its box and frame. This is no step: the page's word still says Held.
+    pub fn apart(self) -> (u32, Homed)
+        ensures page { result.0 ≡ self.entry.page }
+        ensures homed { result.1 ≡ self.entry.homed }
+    {
+        let Held {
+            page,
+            remembered: _,
+            homed,
+        } = self;
+        (page, homed)
+    }
+
+    /// A page in hand, of its number, its box and frame. This is no step either.
+    pub fn of(page: u32, homed: Homed, remembered: bool) -> Held
+        ensures page { result.page ≡ page }
+        ensures homed { result.homed ≡ homed.entry }
+        ensures remembered { result.remembered ≡ remembered }
+    {
+        Held {
+            page,
+            remembered,
+            homed,
+        }
+    }
+
     /// A word of the page, by its place there.
     pub fn word(&self, offset: u32) -> u64
         requires { offset < 512 }

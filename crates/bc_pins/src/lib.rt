@@ -18,12 +18,13 @@
 //
 // A page in hand is given up in single steps: `bookmark_bit` for its targets, `counter_add` for each superpage that has one,
 // `store_in`, and `relinquish_word`, after which its word says Gone; or `store_in` and `absent_word` where no cell lies on it. The
-// word is the last of them. The right to the page's frame is then in the seat's view; the step that gives it back comes later.
+// word is the last of them. The right to the page's frame is then in the seat's view, and `frame_give` gives it back.
 //
 // `open` makes words and slots out of a space's headers and lists, and deals a seat for each role. `close` joins all seats into
 // one, puts the boxes back and makes states, counters and bookmarks of the words: the space is as it was opened, but that each
-// page has its record, and Gone pages are summarised. Words for frames, notices and, in a mark turn, marks, finished cells and
-// queues have their places too (`specs/Key.antt`); the steps on them come later.
+// page has its record, Gone pages are summarised, and frames that were given back are free. The frame words have a bit for each
+// frame, set where it is in use. Words for notices and, in a mark turn, marks, finished cells and queues have their places too
+// (`specs/Key.antt`); the steps on them come later.
 //
 // Where things are: `pins` the table and a seat, `key` what a table is told, `views` slots and views, `rule` the rule and what
 // steps tell, `taking` the calls on pages, `giving` the steps by which one is given up, `holding` a page in hand, `reading` what

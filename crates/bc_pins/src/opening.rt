@@ -111,7 +111,7 @@ impl Pins {
             &mut words,
             parts.headers.as_slice(),
             superpages,
-            frames,
+            &parts.pool,
             turn,
         );
         lodge_all(&mut parts, pages, &mut slots);

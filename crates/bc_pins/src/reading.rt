@@ -1,7 +1,10 @@
 //! What everybody may read of a table.
 
 ghost use Rattle.std.specs.Prelude.{◌≡◌, ℕ, ◌*◌, ◌<◌, slice_index};
+ghost use Rattle.bc_word.specs.Addresses.{page_of};
 ghost use Rattle.bc_superpages.specs.Layout.{superpages, set_of};
+ghost use Rattle.bc_superpages.specs.LayoutAt.{IsAllocated};
+ghost use Rattle.bc_superpages.specs.Kept.{IsLayout};
 ghost use Rattle.bc_pins.specs.Key.{pages_of, frame_words, is_lanes};
 ghost use Rattle.bc_pins.specs.Calls.{key_of};
 
@@ -10,6 +13,14 @@ use crate::pins::Pins;
 use bc_superpages::Header;
 
 impl Pins {
+    /// What holds of the space at the opening: its layout, and that each allocated cell lies on a page of the table.
+    pub fn facts(&self)
+        ensures layout { IsLayout (key_of self.now).opening }
+        ensures inside { (a : ℕ) → IsAllocated (key_of self.now).opening a → page_of a < pages_of (key_of self.now) }
+    {
+        self.rest.facts();
+    }
+
     /// The header of a superpage as it was at the opening. Its domain, class and cells don't change in a turn.
     pub fn header(&self, superpage: u32) -> &Header
         requires { superpage < superpages (key_of self.now).opening }
@@ -18,6 +29,13 @@ impl Pins {
         ensures cells { result.now.cells ≡ set_of (key_of self.now).opening.cells superpage }
     {
         &self.rest.parts.headers[superpage as usize]
+    }
+
+    /// Where the superpages end, as an address in words.
+    pub fn end(&self) -> u32
+        ensures end { result ≡ 2048 * superpages (key_of self.now).opening }
+    {
+        2048 * self.rest.parts.headers.len() as u32
     }
 
     /// How many pages the table has: four for each superpage up to the last that had a page which wasn't Absent.

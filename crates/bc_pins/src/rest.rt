@@ -32,6 +32,17 @@ impl Model for Rest {
     ghost invariant = { λ r. IsRest r.whole.value r.parts r.pages };
 }
 
+impl Rest {
+    ghost use Rattle.bc_pins.specs.Opening.{IsRest};
+
+    /// What holds of it.
+    pub(crate) fn facts(&self)
+        ensures kept { IsRest self.now.whole self.now.parts self.now.pages }
+    {
+        let _parts = &self.parts;
+    }
+}
+
 /// Moves the boxes of so many pages into slots.
 pub(crate) fn lodge_all(parts: &mut SpaceParts, pages: usize, slots: &mut Vec<Lodged>)
     requires kept { AreParts parts.old }

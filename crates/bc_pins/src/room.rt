@@ -1,7 +1,9 @@
 //! The memory that a table takes, and the seats that are dealt.
 
-ghost use Rattle.std.specs.Prelude.{◌≡◌, ℕ, ◌+◌, ◌<◌, ◌≤◌, true, [], ◌∷◌, length, map, drop, slice_get, Some, IfOk, vec_capacity};
+ghost use Rattle.std.specs.Prelude.{◌≡◌, ℕ, ◌+◌, ◌<◌, ◌≤◌, true, [], ◌∷◌, length, map, drop, slice_get, slice_index_or, Some, IfOk, vec_capacity};
+ghost use Rattle.bc_pins.specs.declared.key.Role.TheVariants.{Lane};
 ghost use Rattle.bc_pins.specs.Key.{role_number};
+ghost use Rattle.bc_pins.specs.Tidy.{IsTidy};
 ghost use Rattle.bc_pins.specs.Steps.{fresh};
 ghost use Rattle.bc_pins.specs.Seating.{AreDealt, IsRoot};
 
@@ -50,6 +52,21 @@ type Board = Shared<Lodged, View, About, TurnRule>;
 
 type Worker = atomic_table::Seat<Lodged, View>;
 
+/// A seat with the role that stands at this place.
+fn seat_of(inner: Worker, roles: &[Role], number: usize) -> Seat
+    requires number { number < length roles.now }
+    requires tidy { IsTidy inner.me.0 }
+    ensures inner { result.inner ≡ inner.entry }
+    ensures role { result.role ≡ slice_index_or roles.now number (Lane 0) }
+    ensures opens { result.opens ≡ 0 }
+{
+    Seat {
+        inner,
+        role: roles[number],
+        opens: Opens::new(),
+    }
+}
+
 /// Gives each role to a seat of its own, in their order. The last seat is the one from which the others are split.
 pub(crate) fn deal_all(board: &Board, root: Worker, roles: &[Role], seats: &mut Vec<Seat>)
     requires table { (root.table_id ≡ board.now.table_id) × (0 < board.now.table_id.words) }
@@ -63,15 +80,7 @@ pub(crate) fn deal_all(board: &Board, root: Worker, roles: &[Role], seats: &mut 
     let last = roles.len() - 1;
     for number in 0..last {
         let inner = board.split_seat::<Deal>(&mut root);
-        seats.push_reserved(Seat {
-            inner,
-            role: roles[number],
-            opens: Opens::new(),
-        });
+        seats.push_reserved(seat_of(inner, roles, number));
     }
-    seats.push_reserved(Seat {
-        inner: root,
-        role: roles[last],
-        opens: Opens::new(),
-    });
+    seats.push_reserved(seat_of(root, roles, last));
 }

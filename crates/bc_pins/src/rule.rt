@@ -40,7 +40,7 @@ pub struct BookmarkBit;
 impl Play<Lodged, View> for BookmarkBit {
     ghost use Rattle.bc_pins.specs.Steps.{SetBits};
 
-    ghost then = { λ st m _ n. SetBits st m n };
+    ghost then = { SetBits };
 }
 
 /// A superpage is counted.
@@ -49,7 +49,16 @@ pub struct CounterAdd;
 impl Play<Lodged, View> for CounterAdd {
     ghost use Rattle.bc_pins.specs.Steps.{Counted};
 
-    ghost then = { λ st m _ n. Counted st m n };
+    ghost then = { Counted };
+}
+
+/// Rights to frames are given up.
+pub struct FrameGive;
+
+impl Play<Lodged, View> for FrameGive {
+    ghost use Rattle.bc_pins.specs.Steps.{GaveFrames};
+
+    ghost then = { GaveFrames };
 }
 
 /// A page is made Gone.

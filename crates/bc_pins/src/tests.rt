@@ -4,6 +4,8 @@ ghost use Rattle.std.specs.Prelude.{◌≡◌, ℕ, ◌<◌};
 ghost use Rattle.bc_pins.specs.Key.{pages_of};
 ghost use Rattle.bc_pins.specs.Calls.{key_of, view_of, IsAt, IsSameSeat, IsFree};
 
+mod threads;
+
 use super::*;
 use bc_superpages::Space;
 use std::marker::{Send, Sync};

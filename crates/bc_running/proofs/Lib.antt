@@ -8,5 +8,7 @@ pub mod CollectedLemmas
 pub mod SoundLemmas
 -- What a run begins with is in order.
 pub mod OpeningLemmas
+-- The page of the object that an operation looks at
+pub mod BringLemmas
 -- What an operation does after the page that it touches came home
 pub mod MovingLemmas

@@ -1,7 +1,8 @@
 -- What an operation does after the page that it touches came home, told of the heap before.
 use Rattle.std.specs.Option.{IfSome, IfNone}
 use Rattle.std.specs.Prelude.{IsErrOf}
-use Rattle.std.proofs.Common.{◌≡◌, ◌↔◌, ℕ, ◌+◌, ◌*◌, ◌<◌, inl, inr, List, get_or, Some, None, Option, Err, refl, sym, ap, subst, ◌∙◌, arith}
+use Rattle.std.specs.Result.{OnErr}
+use Rattle.std.proofs.Common.{◌≡◌, ◌↔◌, ℕ, ◌+◌, ◌*◌, ◌<◌, inl, inr, List, get_or, Some, None, Option, Result, Err, refl, sym, ap, subst, ◌∙◌, arith}
 use Prim.Native.Nat.{suc}
 use Rattle.std.proofs.lemmas.List.{set-get_or}
 use Rattle.bc_bookmarks.specs.Changes.{Settled}
@@ -180,6 +181,10 @@ frame-nursery T hs lane words op stop is touches = (λ e. absurd (frame_nursery 
 
 pub frame-buffer : (T X : Type 0) (stop : Stop) → stop ≡ NoFrame → IsErrOf {T = T} (Err stop) BufferFull → X
 frame-buffer T X stop is e = absurd (frame_buffer {T = T} stop is e)
+
+-- what is told of an answer that it stopped so
+pub at_err : {T : Type 0} {P : Type 0} (r : Result T Stop) (stop : Stop) → IsErrOf r stop → OnErr r P → P
+at_err {T} {P} r stop is told = subst (λ (x : Result T Stop). OnErr x P) is told
 
 -- nothing was done
 pub stays-same : (lane : ℕ) (r : RunningView) → StaysBut lane r r

@@ -1,24 +1,27 @@
 -- A heap that lanes run on stays in order: after an operation, after a collection and after an emptying.
-use Rattle.std.proofs.Common.{◌≡◌, ◌≢◌, ℕ, ◌<◌, List, length, get_or, set, vec_capacity, Result, Ok, Err, sym, ap, subst, ◌∙◌, inl, inr, arith}
+use Rattle.std.proofs.Common.{◌≡◌, ◌≢◌, ℕ, ◌<◌, ◌==◌, Bool, true, false, List, [], ◌∷◌, length, map, get_or, set, refl, vec_capacity, Result, Ok, Err, sym, ap, subst, ◌∙◌, inl, inr, arith}
+use Rattle.std.proofs.Math.ListN.{get_or-map}
+use Rattle.std.specs.List.{find}
+use Rattle.std.specs.Option.{is_some}
 use Rattle.std.proofs.lemmas.Bool.{cases_eq}
 use Rattle.std.proofs.lemmas.List.{get_or-set_same, get_or-set_other, length-set, length-map}
 use Rattle.bc_cycle.specs.Causes.{IfOutOfHeap}
-use Rattle.bc_cycle.specs.Emptying.{HasRoomToList, IsEmptied, KeepsMeaning}
+use Rattle.bc_cycle.specs.Emptying.{outline_nursery, outline_object, HasRoomToList, IsEmptied, KeepsMeaning}
 use Rattle.bc_cycle.specs.declared.heaps.Heap.{Heap}
 use Rattle.bc_promotion.proofs.ListingLemmas.{words_in-same}
 use Rattle.bc_whole_heap.specs.LaneChunks.{chunk_of}
 use Rattle.bc_cycle.specs.declared.emptying.CycleNo.{CycleNo}
 use Rattle.bc_cycle.specs.declared.emptying.CycleNo.TheVariants.{OutOfHeap, NoMemory}
-use Rattle.bc_whole_heap.specs.Heaps.{HeapView}
+use Rattle.bc_whole_heap.specs.Heaps.{HeapView, no_chunk}
 use Rattle.bc_whole_heap.specs.HeapFacts.{HasTwoFrames}
-use Rattle.bc_whole_heap.specs.Running.{IsRunning}
+use Rattle.bc_whole_heap.specs.Running.{IsRunning, IsRunningForSurvivors}
 use Rattle.bc_whole_heap.specs.Closed.{IsSurvivorOf}
 use Rattle.bc_whole_heap.proofs.ChunkLemmas.{length-alike}
 use Rattle.bc_whole_heap.proofs.ClosedLemmas.{running-survivors}
 use Rattle.bc_mutator.specs.Operations.{NoneLater}
-use Rattle.bc_nursery.specs.Objects.{bare_nursery, emptied}
-use Rattle.bc_nursery.specs.Nurseries.{Nursery}
-use Rattle.bc_running.specs.Running.{RunningView}
+use Rattle.bc_nursery.specs.Objects.{emptied, has_object}
+use Rattle.bc_nursery.specs.Nurseries.{ChunkObject, Nursery}
+use Rattle.bc_running.specs.Running.{HasEmptyChunks, RunningView}
 use Rattle.bc_running.specs.RunningFacts.{IsSound, IsSoundOver, IsStillSound, Collects, CollectsOver, running_of}
 
 -- after a collection
@@ -85,7 +88,7 @@ refused-collects h k hs order is = record {
   running = is.order hs (running-survivors h hs order);
   born = is.born;
   frames = λ f. let frames = is.sizes.frames in let nursery = is.sizes.nursery in omega arith;
-  lanes = length-alike bare_nursery h.chunks k.chunks is.chunks;
+  lanes = length-alike outline_nursery h.chunks k.chunks is.chunks;
 }
 
 pub sound-emptied : (r : RunningView) (k : HeapView) → IsSound r → IsEmptied r.heap k → IsSound (running_of k r.holders r.serials)
@@ -93,6 +96,65 @@ sound-emptied r k h is = sound-collected r k h (emptied-collects r.heap k r.hold
 
 pub sound-refused : (r : RunningView) (k : HeapView) → IsSound r → KeepsMeaning r.heap k → IsStillSound (running_of k r.holders r.serials)
 sound-refused r k h is = sound-collected r k h (refused-collects r.heap k r.holders h.running is)
+
+-- an empty chunk has no object
+pub none-young : {X : Type 0} (c : Nursery) (a : ℕ) → c.objects ≡ [] → has_object c a ≡ true → X
+none-young c a none has =
+    absurd (false_true (sym (ap (λ (os : List ChunkObject). is_some (find (λ o. nat_same o.address a) os)) none) ∙ has))
+  where
+    nat_same : ℕ → ℕ → Bool
+    nat_same x y = x == y
+
+    false_true : false ≡ true → ⊥
+    false_true e = cc
+
+-- chunks that differ only in fields and in what is kept beside their objects are empty alike
+pub empty-alike : (cs ds : List Nursery) → map outline_nursery ds ≡ map outline_nursery cs → ((l : ℕ) → (chunk_of cs l).objects ≡ []) → (l : ℕ) → (chunk_of ds l).objects ≡ []
+empty-alike cs ds same none l = none-bare (chunk_of ds l).objects (
+    ap (λ (c : Nursery). c.objects) (sym (get_or-map outline_nursery ds l no_chunk))
+    ∙ ap (λ (xs : List Nursery). (chunk_of xs l).objects) same
+    ∙ ap (λ (c : Nursery). c.objects) (get_or-map outline_nursery cs l no_chunk)
+    ∙ ap (map outline_object) (none l)
+    )
+  where
+    some_none : (o : ChunkObject) (os : List ChunkObject) → o ∷ os ≡ [] → ⊥
+    some_none o os e = cc
+
+    none-bare : (os : List ChunkObject) → map outline_object os ≡ [] → os ≡ []
+    none-bare [] e = refl
+    none-bare (o ∷ os) e = absurd (some_none (outline_object o) (map outline_object os) e)
+
+-- where all chunks are empty there is no object of a chunk that could be asked, so a heap that runs for its survivors runs
+pub running-empty : (h : HeapView) (hs : List ℕ) → HasEmptyChunks h → IsRunningForSurvivors h hs → IsRunning h hs
+running-empty h hs none run = record {
+  summarised = run.summarised;
+  none_promised = run.none_promised;
+  laid = run.laid;
+  once = run.once;
+  closed = record {
+    lanes = run.closed.lanes;
+    domains = run.closed.domains;
+    holder = run.closed.holder;
+    root = run.closed.root;
+    noted = run.closed.noted;
+    young_domain = run.closed.young_domain;
+    young = λ l a k b lt asked is. none-young (chunk_of h.chunks l) a (none l) asked;
+    mature_domain = run.closed.mature_domain;
+    mature = run.closed.mature;
+    entries = run.closed.entries;
+  };
+}
+
+-- so lanes can run on what a bookmark collection leaves, where all chunks are empty
+pub sound-bookmarked : (r : RunningView) (k : HeapView) → HasEmptyChunks r.heap → IsSound r → KeepsMeaning r.heap k → IsSound (running_of k r.holders r.serials)
+sound-bookmarked r k none h is =
+    let left = refused-collects r.heap k r.holders h.running is in
+    sound-collected r k h (record {
+      running = running-empty k r.holders (empty-alike r.heap.chunks k.chunks is.chunks none) left.running;
+      born = left.born;
+      frames = left.frames;
+      lanes = left.lanes;
+    })
 
 -- what a heap that is too small has in one way it has in another
 pub too-small-weaker : {T : Type 0} (r : Result T CycleNo) (P Q : ℕ → Type 0) → ((need : ℕ) → P need → Q need) → IfOutOfHeap r P → IfOutOfHeap r Q

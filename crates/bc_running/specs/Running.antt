@@ -1,6 +1,7 @@
 -- A heap that lanes run on.
-use Rattle.std.specs.Prelude.{ℕ, List}
+use Rattle.std.specs.Prelude.{◌≡◌, ℕ, List, []}
 use Rattle.bc_whole_heap.specs.Heaps.{HeapView}
+use Rattle.bc_whole_heap.specs.LaneChunks.{chunk_of}
 use Rattle.bc_whole_heap.specs.LaneStates.{StandsAs}
 use Rattle.bc_model.specs.State.{State}
 
@@ -13,3 +14,7 @@ pub record RunningView : Type 0 where
 -- it stands for the state
 abbrev pub RunningStands : RunningView → State → Type 0
 RunningStands r state = StandsAs r.heap r.holders r.serials state
+
+-- all chunks are empty
+abbrev pub HasEmptyChunks : HeapView → Type 0
+HasEmptyChunks h = (l : ℕ) → (chunk_of h.chunks l).objects ≡ []

@@ -1,17 +1,22 @@
 -- What an operation touches: the page of the object that it looks at.
-use Rattle.std.specs.Prelude.{◌≡◌, ◌↔◌, ℕ, ◌<◌, false, List, Option, Some, None}
+use Rattle.std.specs.Prelude.{◌≡◌, ◌↔◌, ◌⊎◌, ℕ, ◌+◌, ◌<◌, ◌==◌, false, true, List, Option, Some, None, slice_index}
+use Rattle.std.specs.List.{list_all}
+use Rattle.bc_bookmarks.specs.Changes.{Reloaded}
+use Rattle.bc_bookmarks.specs.Choices.{MadeRoom}
 use Rattle.bc_bookmarks.specs.Moves.{MovesPages}
+use Rattle.bc_model.specs.Step.{domains_of}
 use Rattle.bc_model.specs.declared.operations.Op.{Op}
 use Rattle.bc_model.specs.declared.operations.Reply.{Reply}
 use Rattle.bc_model.specs.declared.values.Slot.{Slot}
 use Rattle.bc_mutator.specs.Effects.{IsRecordedBy}
 use Rattle.bc_mutator.specs.Objects.{slot_word}
+use Rattle.bc_mutator.specs.Parts.{touched_slot}
 use Rattle.bc_nursery.specs.Entries.{Entries}
 use Rattle.bc_nursery.specs.Nurseries.{Nursery}
-use Rattle.bc_superpages.specs.declared.headers.PageState.TheVariants.{Remembered}
+use Rattle.bc_superpages.specs.declared.headers.PageState.TheVariants.{Gone, Remembered}
 use Rattle.bc_superpages.specs.Headers.{is_gone}
 use Rattle.bc_superpages.specs.Layout.{Layout}
-use Rattle.bc_superpages.specs.LayoutAt.{state_at}
+use Rattle.bc_superpages.specs.LayoutAt.{IsAllocated, state_at}
 use Rattle.bc_superpages.specs.RootWords.{RootWords}
 use Rattle.bc_whole_heap.specs.Heaps.{end_of}
 use Rattle.bc_word.specs.Addresses.{page_of}
@@ -38,10 +43,34 @@ abbrev pub IsTouching : Option Slot → Type 0
 IsTouching None = ⊥
 IsTouching (Some p) = Unit {0}
 
--- pages moved, and from there on the operation recorded what it does
+-- the object that an operation of the lane looks at lies in a cell on a page that is Gone. The lane holds all domains that the
+-- operation names
+pub record LooksAtGone (holders : List ℕ) (lane : ℕ) (s : Layout) (roots : RootWords) (op : Op) : Type 0 where
+  pub held : list_all (λ d. slice_index holders d == lane) (domains_of op) ≡ true
+  pub slot : Slot
+  pub touched : touched_slot op ≡ Some slot
+  pub at : Address
+  pub to : slot_word roots slot ≡ Ref at
+  pub cell : IsAllocated s at.0
+  pub gone : state_at s.states (page_of at.0) ≡ Gone
+
+-- that page came home, by one read: a frame was free for it, or one other page was given up
+pub record CameHome (holders : List ℕ) (lane : ℕ) (s : Layout) (roots : RootWords) (op : Op) (t : Layout) : Type 0 where
+  pub looks : LooksAtGone holders lane s roots op
+  pub roomy : Layout
+  pub made : MadeRoom s (page_of looks.at.0 + 1) roomy
+  pub back : Reloaded roomy (page_of looks.at.0) t
+
+-- it came home where the operation looks at it, and else nothing changed
+abbrev pub BringsHome : List ℕ → ℕ → Layout → RootWords → Op → Layout → Type 0
+BringsHome holders lane s roots op t =
+    CameHome holders lane s roots op t ⊎ ((LooksAtGone holders lane s roots op → ⊥) × (t ≡ s))
+
+-- the page came home that the operation looks at, and from there on the operation recorded what it does. No other page moved
 abbrev pub RecordsAfter : List ℕ → ℕ → Layout → RootWords → Nursery → Op → Reply → Entries → Entries → Layout → Type 0
 RecordsAfter holders lane s roots chunk op reply b e t =
-    (u : Layout) × MovesPages s u × IsRecordedBy holders lane u roots chunk op reply b e t.states
+    (u : Layout) × BringsHome holders lane s roots op u × MovesPages s u × (t ≡ record u { states = t.states; pages = t.pages })
+    × IsRecordedBy holders lane u roots chunk op reply b e t.states
 
 -- the same pages are Remembered
 abbrev pub SameRemembered : Layout → Layout → Type 0

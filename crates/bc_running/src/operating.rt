@@ -7,20 +7,20 @@ ghost use Rattle.bc_model.specs.State.{State};
 ghost use Rattle.bc_model.specs.Step.{step};
 ghost use Rattle.bc_mutator.specs.Effects.{IsChangedBy};
 ghost use Rattle.bc_mutator.specs.Operations.{IsOpOf, NeedsEntry, WantsMore};
-ghost use Rattle.bc_mutator.specs.Parts.{touched_slot};
 ghost use Rattle.bc_nursery.specs.Objects.{left_of};
 ghost use Rattle.bc_whole_heap.specs.Closed.{buffer_of};
 ghost use Rattle.bc_whole_heap.specs.LaneChunks.{chunk_of};
 ghost use Rattle.bc_whole_heap.specs.Heaps.{heap_memory};
 ghost use Rattle.bc_whole_heap.specs.LaneStates.{StandsAs};
 ghost use Rattle.bc_running.specs.RunningFacts.{IsSound, StaysBut, running_of};
-ghost use Rattle.bc_running.specs.Touching.{IsTouching, RecordsAfter, SameRemembered};
+ghost use Rattle.bc_running.specs.Touching.{BringsHome, LooksAtGone, RecordsAfter, SameRemembered};
 
 use crate::touching::bring_touched;
 use crate::whole::operate_here;
 use bc_cycle::Heap;
 use bc_model::{Op, Reply};
 use bc_mutator::Stop;
+use bc_whole_heap::heap_facts;
 
 /// The lane does an operation that fits, once the page that it touches is in memory, or stops. Then at most pages have moved.
 pub(crate) fn attempt(
@@ -40,7 +40,10 @@ pub(crate) fn attempt(
     ensures stopped { OnErr result (MovesPages heap.old.space heap.new.space × (heap.new ≡ record heap.old { space = heap.new.space }) × (serials.new ≡ serials.old)) }
     ensures nursery { IsErrOf result Stop.NurseryFull ↔ WantsMore holders.now lane (left_of (chunk_of heap.old.chunks.items lane)) op.now }
     ensures buffer { IsErrOf result Stop.BufferFull → NeedsEntry holders.now lane heap.old.space heap.old.roots (chunk_of heap.old.chunks.items lane) (buffer_of heap.old.buffers.items lane) op.now }
-    ensures frame { IsErrOf result Stop.NoFrame → IsTouching (touched_slot op.now) × NoPageGoes heap.old.space × (heap.new ≡ heap.old) × (serials.new ≡ serials.old) }
+    ensures full { IsErrOf result Stop.NurseryFull → heap.new ≡ heap.old }
+    ensures brings { IsErrOf result Stop.BufferFull → BringsHome holders.now lane heap.old.space heap.old.roots op.now heap.new.space }
+    ensures frame { IsErrOf result Stop.NoFrame ↔ (LooksAtGone holders.now lane heap.old.space heap.old.roots op.now × NoPageGoes heap.old.space) }
+    ensures kept { IsErrOf result Stop.NoFrame → heap.new ≡ heap.old }
     ensures finds { IsErrOf result Stop.NoFrame → CanMakeRoom heap.old.space → ⊥ }
     ensures stays { StaysBut lane (running_of (heap_view heap.old) holders.now serials.old) (running_of (heap_view heap.new) holders.now serials.new) }
     ensures recorded { IfOk result (λ reply. RecordsAfter holders.now lane heap.old.space heap.old.roots (chunk_of heap.old.chunks.items lane) op.now
@@ -51,6 +54,7 @@ pub(crate) fn attempt(
     ensures unrecorded { (chunk_of heap.old.chunks.items lane).objects ≡ []
         → (heap.new.buffers.items ≡ heap.old.buffers.items) × SameRemembered heap.old.space heap.new.space }
 {
+    heap_facts(&heap.space, &heap.roots, &heap.chunks);
     match bring_touched(&mut heap.space, &heap.roots, holders, lane, op) {
         Ok(()) => operate_here(heap, holders, &mut serials[lane as usize], lane, op),
         Err(stop) => Err(stop),

@@ -3,9 +3,13 @@
 // It makes a heap of so many small objects, of one field each, and times one collection of all of it. In a `chain` they
 // are one long list whose objects lie on pages in an order without a pattern; in a `random` heap each refers to an object
 // anywhere, and tables refer to all. First all lie in cells when the collection begins, and then, an eighth as many, all lie
-// in the chunk of a lane with a large nursery (`young`). Its arguments are the numbers of objects, powers of 2 from 8 to
-// 1,048,576. What was collected goes to standard output, so that the gate can compare it; how long it took, in
+// in the chunk of a lane with a large nursery (`young`). There is a frame for every page. Its arguments are the numbers of objects, powers
+// of 2 from 8 to 1,048,576. What was collected goes to standard output, so that the gate can compare it; how long it took, in
 // nanoseconds, goes to standard error.
+//
+// Behind the word `frames` the objects lie in cells most of whose pages are gone: there are two frames beyond those of the nursery,
+// or 16, or half as many as pages. A third heap is there then, a chain in the order of its pages (`ordered`). What is printed
+// is how many pages were gone, and how many the collection read back.
 //
 // The objects hang on tables of 127 fields while they are linked, and those on further tables, one in each root slot.
 //
@@ -18,10 +22,65 @@ ghost use Rattle.bc_cycle.specs.Openings.{CanOpen};
 use anyhow::{Context, Result, bail, ensure};
 use bc_failsafe::Need;
 use bc_model::{Op, Reply, Setup, Slot};
-use heap_workshop::{Halt, Workshop, objects_in_cells, superpages_in_use};
+use heap_workshop::{Halt, Workshop, objects_in_cells, pages_gone, superpages_in_use};
+use std::alloc::Global;
 use std::env;
 use std::rt::Clock;
 use std::time::{Duration, Instant};
+
+/// What the objects are when they are collected: a chain in the order in which they were made, a chain in an order without a
+/// pattern, or a graph in which each refers to one anywhere.
+#[derive(Clone, Copy)]
+enum Shape {
+    Ordered,
+    Chain,
+    Random,
+}
+
+impl Shape {
+    /// Its word in what is printed.
+    fn word(self) -> &'static str {
+        match self {
+            Shape::Ordered => "ordered",
+            Shape::Chain => "chain",
+            Shape::Random => "random",
+        }
+    }
+}
+
+/// How many frames there are beyond those of the nursery.
+#[derive(Clone, Copy)]
+enum Beyond {
+    Two,
+    Sixteen,
+    Half,
+    All,
+}
+
+impl Beyond {
+    /// So many of this many pages.
+    fn of(self, pages: u32) -> u32
+        requires { 16 ≤ pages }
+        ensures { (2 ≤ result) × (result ≤ pages) }
+    {
+        match self {
+            Beyond::Two => 2,
+            Beyond::Sixteen => 16,
+            Beyond::Half => pages / 2,
+            Beyond::All => pages,
+        }
+    }
+
+    /// Its word in what is printed.
+    fn word(self) -> &'static str {
+        match self {
+            Beyond::Two => "two",
+            Beyond::Sixteen => "16",
+            Beyond::Half => "half",
+            Beyond::All => "all",
+        }
+    }
+}
 
 /// How many fields a table has.
 const FIELDS: u32 = 127;
@@ -101,15 +160,16 @@ fn after(node: u32, nodes: u32) -> u32
     node.wrapping_mul(1664525).wrapping_add(1013904223) % nodes
 }
 
-/// The objects become one chain, which HEAD refers to, and nothing else is referred to.
-fn link_chain(workshop: &mut Workshop, nodes: u32) -> Result<()>
+/// The objects become one chain, which HEAD refers to, and nothing else is referred to. It goes through them in the order in which they
+/// were made, or in one without a pattern.
+fn link_chain(workshop: &mut Workshop, nodes: u32, ordered: bool) -> Result<()>
     requires { 0 < nodes }
 {
     let mut node = 0;
     fetch(workshop, node, HEAD)?;
     fetch(workshop, node, NODE)?;
-    for _link in 1..nodes {
-        node = after(node, nodes);
+    for link in 1..nodes {
+        node = if ordered { link } else { after(node, nodes) };
         fetch(workshop, node, OTHER)?;
         act(workshop, Op::Link(NODE, 0, OTHER))?;
         act(workshop, Op::Copy(OTHER, NODE))?;
@@ -148,8 +208,19 @@ fn link_at_random(workshop: &mut Workshop, nodes: u32) -> Result<()>
     Ok(())
 }
 
-/// The setup of a heap for so many objects, all in cells or all in the nursery. There is a frame for every page.
-fn setup_for(nodes: u32, young: bool) -> Setup
+/// Links the objects in this shape.
+fn link(workshop: &mut Workshop, nodes: u32, shape: Shape) -> Result<()>
+    requires { 0 < nodes }
+{
+    match shape {
+        Shape::Ordered => link_chain(workshop, nodes, true),
+        Shape::Chain => link_chain(workshop, nodes, false),
+        Shape::Random => link_at_random(workshop, nodes),
+    }
+}
+
+/// The setup of a heap for so many objects, all in cells or all in the nursery.
+fn setup_for(nodes: u32, young: bool, beyond: Beyond) -> Setup
     requires { nodes ≤ 1048576 }
     ensures setup { CanOpen result }
     ensures lanes { result.lanes ≡ 1 }
@@ -163,7 +234,7 @@ fn setup_for(nodes: u32, young: bool) -> Setup
         superpages,
         nursery,
         buffer: 4096,
-        frames: nursery + 4 * superpages,
+        frames: nursery + beyond.of(4 * superpages),
     }
 }
 
@@ -179,34 +250,93 @@ fn nursery_for(nodes: u32, young: bool) -> u32
     }
 }
 
-/// Makes a heap of so many objects, and says how long its collection takes.
-fn measure<R>(rt: &R, nodes: u32, random: bool, young: bool) -> Result<()>
+/// Makes a heap of so many objects in cells.
+fn heap_of(alloc: Global, nodes: u32, shape: Shape, beyond: Beyond) -> Result<Workshop>
+    requires some { 0 < nodes }
+    requires few { nodes ≤ 1048576 }
+{
+    let mut workshop = Workshop::open(alloc, &setup_for(nodes, false, beyond))?;
+    for node in 0..nodes {
+        make(&mut workshop, node)?;
+    }
+    collect(&mut workshop)?;
+    link(&mut workshop, nodes, shape)?;
+    Ok(workshop)
+}
+
+/// Makes a heap of so many objects in the chunk of a lane.
+fn young_heap(alloc: Global, nodes: u32, shape: Shape) -> Result<Workshop>
+    requires some { 0 < nodes }
+    requires few { nodes ≤ 1048576 }
+{
+    let mut workshop = Workshop::open(alloc, &setup_for(nodes, true, Beyond::All))?;
+    for node in 0..nodes {
+        make(&mut workshop, node)?;
+    }
+    link(&mut workshop, nodes, shape)?;
+    Ok(workshop)
+}
+
+/// Collects the whole heap, and says how many nanoseconds that takes.
+fn time<R: Clock>(rt: &R, workshop: &mut Workshop) -> Result<u64> {
+    let start = Instant::now(rt)?;
+    collect(workshop)?;
+    Ok(nanoseconds(start.elapsed(rt)?))
+}
+
+/// Collects heaps of so many objects with a frame for every page.
+fn measure<R>(rt: &R, nodes: u32, shape: Shape, young: bool) -> Result<()>
 where
     R: Clock + AllocGlobal + Print + Eprint,
     requires some { 0 < nodes }
     requires few { nodes ≤ 1048576 }
 {
-    let mut workshop = Workshop::open(rt.alloc(), &setup_for(nodes, young))?;
-    for node in 0..nodes {
-        make(&mut workshop, node)?;
-    }
-    if !young {
-        collect(&mut workshop)?;
-    }
-    if random {
-        link_at_random(&mut workshop, nodes)?;
+    let mut workshop = if young {
+        young_heap(rt.alloc(), nodes, shape)?
     } else {
-        link_chain(&mut workshop, nodes)?;
-    }
-    let start = Instant::now(rt)?;
-    collect(&mut workshop)?;
-    let taken = nanoseconds(start.elapsed(rt)?);
+        heap_of(rt.alloc(), nodes, shape, Beyond::All)?
+    };
+    let taken = time(rt, &mut workshop)?;
     let place = if young { "young " } else { "" };
-    let kind = if random { "random" } else { "chain" };
+    let kind = shape.word();
     let objects = objects_in_cells(workshop.space());
     let superpages = superpages_in_use(workshop.space());
     println!(rt; "{place}{kind} {nodes}: {objects} objects in {superpages} superpages")?;
     eprintln!(rt; "{place}{kind} {nodes}: {taken} nanoseconds")?;
+    Ok(())
+}
+
+/// Collects a heap of so many objects most of whose pages are gone.
+fn measure_within<R>(rt: &R, nodes: u32, shape: Shape, beyond: Beyond) -> Result<()>
+where
+    R: Clock + AllocGlobal + Print + Eprint,
+    requires some { 0 < nodes }
+    requires few { nodes ≤ 1048576 }
+{
+    let mut workshop = heap_of(rt.alloc(), nodes, shape, beyond)?;
+    let gone = pages_gone(workshop.space());
+    let before = workshop.space().reads();
+    let taken = time(rt, &mut workshop)?;
+    let reads = workshop.space().reads().saturating_sub(before);
+    let kind = shape.word();
+    let frames = beyond.word();
+    println!(rt; "{kind} {nodes} in {frames}: {gone} pages gone, {reads} read")?;
+    eprintln!(rt; "{kind} {nodes} in {frames}: {taken} nanoseconds")?;
+    Ok(())
+}
+
+/// Collects the three heaps of so many objects with two frames beyond the nursery's, with 16, and with half as many as pages.
+fn measure_few<R>(rt: &R, nodes: u32) -> Result<()>
+where
+    R: Clock + AllocGlobal + Print + Eprint,
+    requires some { 0 < nodes }
+    requires few { nodes ≤ 1048576 }
+{
+    for beyond in [Beyond::Two, Beyond::Sixteen, Beyond::Half] {
+        measure_within(rt, nodes, Shape::Ordered, beyond)?;
+        measure_within(rt, nodes, Shape::Chain, beyond)?;
+        measure_within(rt, nodes, Shape::Random, beyond)?;
+    }
     Ok(())
 }
 
@@ -218,16 +348,25 @@ fn nanoseconds(taken: Duration) -> u64 {
 }
 
 fn main(rt: HostRuntime) -> Result<()> {
+    let mut few = false;
     for word in env::args(&rt)?.skip(1) {
+        if word.as_str() == "frames" {
+            few = true;
+            continue;
+        }
         let nodes = word.parse::<u32>().context("an argument")?;
         ensure!(
             nodes.is_power_of_two() && nodes >= 8 && nodes <= 1_048_576,
             "{nodes} objects"
         );
-        measure(&rt, nodes, false, false)?;
-        measure(&rt, nodes, true, false)?;
-        measure(&rt, nodes / 8, false, true)?;
-        measure(&rt, nodes / 8, true, true)?;
+        if few {
+            measure_few(&rt, nodes)?;
+            continue;
+        }
+        measure(&rt, nodes, Shape::Chain, false)?;
+        measure(&rt, nodes, Shape::Random, false)?;
+        measure(&rt, nodes / 8, Shape::Chain, true)?;
+        measure(&rt, nodes / 8, Shape::Random, true)?;
     }
     Ok(())
 }

@@ -1,9 +1,11 @@
-//! What tests and benches count of a space: superpages in use, objects in cells, pages that are gone.
+//! What tests and benches count of a space: superpages in use, objects in cells, pages that are gone. And whether chunks have objects.
 
-ghost use Rattle.std.specs.Prelude.{◌≡◌};
+ghost use Rattle.std.specs.Prelude.{◌≡◌, ◌↔◌, ℕ, [], true};
+ghost use Rattle.bc_whole_heap.specs.LaneChunks.{chunk_of};
 ghost use Rattle.heap_workshop.specs.Workshops.{superpages_in_use as count_in_use, objects_in_cells as count_objects, pages_gone as count_gone};
 
 use bc_bits::count;
+use bc_nursery::Chunk;
 use bc_superpages::Space;
 
 /// How many superpages are in use.
@@ -44,4 +46,16 @@ pub fn pages_gone(space: &Space) -> u32
         }
     }
     gone
+}
+
+/// Has no chunk an object?
+pub(crate) fn are_empty(chunks: &[Chunk]) -> bool
+    ensures { result ≡ true ↔ ((l : ℕ) → (chunk_of chunks.now l).objects ≡ []) }
+{
+    for chunk in chunks {
+        if chunk.next(None).is_some() {
+            return false;
+        }
+    }
+    true
 }

@@ -1,7 +1,7 @@
 // A heap to work on by hand, for tests and benches: it is no part of the collector.
 //
 // A `Workshop` is a heap of some lanes, which hold its domains by turns. A lane does an operation on it, the nurseries are
-// emptied, notices are served, and the fail-safe collection is done, each when the caller says so. So tests build heaps of any
+// emptied, notices are served, and the bookmark collection and the fail-safe are done, each when the caller says so. So tests build heaps of any
 // shape, in as few frames as they like, collect them, and compare replies.
 //
 // Between the calls the heap is running (`IsSound`), and a workshop whose nurseries couldn't be emptied is lost. So every condition

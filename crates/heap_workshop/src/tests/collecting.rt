@@ -76,6 +76,32 @@ fn cycles_that_are_dropped_make_room_for_others_and_nothing_is_read_back(
 }
 
 #[test]
+fn a_collection_by_hand_frees_what_is_dead_in_memory_and_reads_nothing_back(
+    rt: HostRuntime,
+) -> Result<(), Fail> {
+    let mut workshop = Workshop::open(rt.alloc(), &MOSTLY_GONE)?;
+    for page in 0..10 {
+        workshop = page_of_list(&rt, workshop, A, 1 + 4 * page);
+    }
+    for page in 10..12 {
+        workshop = page_of_list(&rt, workshop, C, 1 + 4 * page);
+    }
+    expect(&rt, &mut workshop, Op::Clear(C), Reply::Done);
+    expect(&rt, &mut workshop, Op::New(D, 127), object(49));
+    // The chunk has an object.
+    assert_eq!(rt; workshop.collect_cells(&rt, rt.alloc()), false);
+    counted(&rt, &workshop, 3, 48);
+    workshop = emptied(&rt, workshop);
+    counted(&rt, &workshop, 3, 41);
+    expect(&rt, &mut workshop, Op::Clear(D), Reply::Done);
+    assert_eq!(rt; workshop.collect_cells(&rt, rt.alloc()), true);
+    counted(&rt, &workshop, 3, 40);
+    assert_eq!(rt; workshop.space().reads(), 0);
+    follow(&rt, &mut workshop, 40);
+    Ok(())
+}
+
+#[test]
 fn where_most_of_the_heap_is_gone_what_is_dead_in_memory_is_freed_and_the_rest_kept(
     rt: HostRuntime,
 ) -> Result<(), Fail> {
@@ -96,5 +122,54 @@ fn where_most_of_the_heap_is_gone_what_is_dead_in_memory_is_freed_and_the_rest_k
     assert_eq!(rt; workshop.space().reads(), 0);
     follow(&rt, &mut workshop, 40);
     expect(&rt, &mut workshop, Op::Who(D), object(49));
+    Ok(())
+}
+
+/// Three superpages of twelve pages, of which eight are in memory.
+const ONE_GONE: Setup = Setup {
+    lanes: 1,
+    domains: 1,
+    slots: 4,
+    superpages: 3,
+    nursery: 1,
+    buffer: 4,
+    frames: 9,
+};
+
+#[test]
+fn cells_of_two_superpages_come_together_for_an_object_of_another_class_and_nothing_is_read_back(
+    rt: HostRuntime,
+) -> Result<(), Fail> {
+    let mut workshop = Workshop::open(rt.alloc(), &ONE_GONE)?;
+    for page in 0..4 {
+        workshop = page_of_list(&rt, workshop, A, 1 + 4 * page);
+    }
+    workshop = page_of_list(&rt, workshop, C, 17);
+    for page in 5..8 {
+        workshop = page_of_list(&rt, workshop, D, 1 + 4 * page);
+    }
+    workshop = page_of_list(&rt, workshop, C, 33);
+    for page in 9..12 {
+        workshop = page_of_list(&rt, workshop, D, 1 + 4 * page);
+    }
+    counted(&rt, &workshop, 3, 48);
+    paged(&rt, &workshop, 0, 4, 0);
+    // Of the second superpage and of the third one four objects are left. An object of another class wants a superpage.
+    expect(&rt, &mut workshop, Op::Clear(D), Reply::Done);
+    expect(&rt, &mut workshop, Op::New(D, 1), object(49));
+    workshop = emptied(&rt, workshop);
+    counted(&rt, &workshop, 3, 25);
+    paged(&rt, &workshop, 0, 4, 0);
+    expect(&rt, &mut workshop, Op::Who(D), object(49));
+    for passed in 0..4 {
+        expect(&rt, &mut workshop, Op::Who(C), object(36 - passed));
+        expect(&rt, &mut workshop, Op::Load(C, 0, C), Reply::Ref);
+    }
+    for passed in 0..3 {
+        expect(&rt, &mut workshop, Op::Who(C), object(20 - passed));
+        expect(&rt, &mut workshop, Op::Load(C, 0, C), Reply::Ref);
+    }
+    expect(&rt, &mut workshop, Op::Who(C), object(17));
+    follow(&rt, &mut workshop, 16);
     Ok(())
 }

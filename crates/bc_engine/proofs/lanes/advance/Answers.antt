@@ -5,7 +5,7 @@ use Rattle.bc_model.specs.declared.operations.Op.{Op}
 use Rattle.bc_model.specs.declared.operations.Reply.{Reply}
 use Rattle.bc_engine.specs.Lanes.{of_lane, Does}
 use Rattle.bc_engine.proofs.Attempts.{does-step, ready-sound, ready-step, never-stops, still-stops, unrecorded-kept, why-stopped}
-use Rattle.bc_engine.proofs.RunLemmas.{IsKept, of_lane-long, of_lane-at, op-fits, runs-step, runs-moved, runs-same, one-more, told-other, leaves-moved, leaves-same}
+use Rattle.bc_engine.proofs.RunLemmas.{IsKept, of_lane-long, of_lane-at, op-fits, runs-step, runs-moved, runs-same, one-more, told-other, cells-same, leaves-moved, leaves-same}
 use Rattle.bc_engine.proofs.Sizes.{op-of_heap}
 use Rattle.bc_engine.proofs.lanes.advance.Goals as goal
 
@@ -141,5 +141,15 @@ returns-in-Err-clause-stopped c = λ e.
       op,
       omega arith,
       of_lane-at lanes lane c.len-done.result c.index-lanes-index-2.result op lt c.index-lanes-index-2.is c.index.ensures ∙ ap (λ n. get_or (of_lane (lists_of lanes) lane) n op) (sym done),
-      still-stops lane op c.in-Err.ensures.stopped (why-stopped _ _ _ (Err c.in-Err.field-0) c.in-Err.ensures.nursery.0 c.in-Err.ensures.buffer c.in-Err.ensures.frame),
+      still-stops lane op c.in-Err.ensures.stopped (why-stopped _ _ _ (Err c.in-Err.field-0) c.in-Err.ensures.nursery.0 c.in-Err.ensures.buffer
+          (λ stopped. let wants = c.in-Err.ensures.frame.0 stopped in (wants.0, wants.1, c.in-Err.ensures.kept stopped))),
     )
+
+pub returns-then-done-len-clause-leaves : goal.returns-then-done-len-clause-leaves
+returns-then-done-len-clause-leaves c = cells-same c.args.running.now
+
+pub returns-in-Ok-clause-leaves : goal.returns-in-Ok-clause-leaves
+returns-in-Ok-clause-leaves c = record { space = c.operate.ensures.stays.space; roots = c.operate.ensures.stays.roots }
+
+pub returns-in-Err-clause-leaves : goal.returns-in-Err-clause-leaves
+returns-in-Err-clause-leaves c = record { space = c.operate.ensures.stays.space; roots = c.operate.ensures.stays.roots }

@@ -19,4 +19,4 @@ pub returns-clause-turn : goal.returns-clause-turn
 returns-clause-turn c =
     let ran = c.run_lanes.ensures in
     let served = c.serve_line.ensures in
-    turn-ran c.args.lanes.now ran.runs ran.stopped served.served served.rest
+    turn-ran c.args.lanes.now ran.runs ran.leaves ran.stopped served.served served.rest

@@ -1,4 +1,7 @@
-use Rattle.std.proofs.Common.{◌≡◌, ◌+◌, ◌<◌, ◌∙◌, refl, sym, subst, arith, length}
+use Rattle.std.proofs.Common.{◌≡◌, ◌+◌, ◌<◌, ◌∙◌, ap, sym, subst, arith, length}
+use Rattle.atomic_table.specs.declared.shared.Seat.{Seat as Worker}
+use Rattle.bc_pins.specs.declared.views.Lodged.{Lodged}
+use Rattle.bc_pins.specs.declared.views.View.{View}
 use Rattle.bc_pins.specs.Seating.{AreDealt}
 use Rattle.bc_pins.proofs.DealLemmas.{deals_from, rest_is, first_is, dealt_more, last_dealt}
 use Rattle.bc_pins.proofs.room.deal_all.Goals as goal
@@ -20,10 +23,10 @@ loop-number-preserved c =
       room = c.push_reserved.ensures.capacity ∙ inv.room;
       dealt = subst (AreDealt _ _ c.args.roles.now (c.loop-number.number + 1)) (sym c.push_reserved.ensures.items)
           (dealt_more _ _ _ _ _ _ inv.dealt (record {
-            table = split.3 ∙ inv.table;
-            me = first_is _ c.args.roles.now c.loop-number.number _ _ near inv.me split.4;
-            its_role = refl;
-            opens = c.new.ensures.none;
+            table = ap (λ (w : Worker Lodged View). w.table_id) c.seat_of.ensures.inner ∙ split.3 ∙ inv.table;
+            me = ap (λ (w : Worker Lodged View). w.me) c.seat_of.ensures.inner ∙ first_is _ c.args.roles.now c.loop-number.number _ _ near inv.me split.4;
+            its_role = c.seat_of.ensures.role;
+            opens = c.seat_of.ensures.opens;
           }));
     }
 
@@ -36,5 +39,6 @@ returns c =
     let last : c.loop-number.number + 1 ≡ length c.args.roles.now = omega arith in
     record {
       dealt = subst (AreDealt _ _ c.args.roles.now (length c.args.roles.now)) (sym c.push_reserved-2.ensures.items)
-          (last_dealt _ _ c.args.roles.now _ _ _ _ last inv.dealt inv.table inv.me refl (omega arith) c.new-2.ensures.none);
+          (last_dealt _ _ c.args.roles.now _ _ _ _ last inv.dealt (ap (λ (w : Worker Lodged View). w.table_id) c.seat_of-2.ensures.inner ∙ inv.table) (ap (λ (w : Worker Lodged View). w.me) c.seat_of-2.ensures.inner ∙ inv.me)
+          c.seat_of-2.ensures.role (omega arith) c.seat_of-2.ensures.opens);
     }

@@ -1,4 +1,4 @@
-use Rattle.std.proofs.Common.{rules, ◌<◌, ℕ, length, sym, subst, arith}
+use Rattle.std.proofs.Common.{rules, sym, subst}
 use Rattle.bc_pins.specs.Opening.{IsOpenable}
 use Rattle.bc_pins.proofs.CallerLemmas.{dealt_back, opening_openable}
 use Rattle.bc_pins.proofs.tests.a_table_of_the_largest_heap_opens_and_closes.Goals as goal

@@ -1,4 +1,4 @@
-use Rattle.std.proofs.Common.{refl, ap, sym, set, subst, get_or, List, ◌∙◌}
+use Rattle.std.proofs.Common.{Err, refl, ap, sym, set, subst, get_or, List, ◌∙◌}
 use Rattle.std.proofs.lemmas.List.{get_or-set_same, set-get_or}
 use Rattle.std.proofs.lemmas.Result.{IfOk-weaker, on_err_weaker}
 use Rattle.bc_bookmarks.specs.Moves.{MovesPages}
@@ -7,6 +7,9 @@ use Rattle.bc_cycle.specs.declared.heaps.Heap.{Heap}
 use Rattle.bc_memory.specs.Memory.{Memory}
 use Rattle.bc_model.specs.declared.operations.Reply.{Reply}
 use Rattle.bc_mutator.specs.Effects.{IsChangedBy}
+use Rattle.bc_mutator.specs.Objects.{AreWhole}
+use Rattle.bc_mutator.specs.declared.operations.Stop.TheVariants.{NurseryFull, BufferFull}
+use Rattle.bc_nursery.specs.Nurseries.{Nursery}
 use Rattle.bc_nursery.specs.Objects.{left_of}
 use Rattle.bc_superpages.specs.Layout.{Layout}
 use Rattle.bc_superpages.specs.LayoutAt.{state_at}
@@ -18,12 +21,17 @@ use Rattle.bc_whole_heap.specs.Heaps.{heap_memory}
 use Rattle.bc_whole_heap.proofs.MovingLemmas.{memory-moved, running-moved, stands-moved}
 use Rattle.bc_running.specs.Running.{RunningView}
 use Rattle.bc_running.specs.RunningFacts.{running_of, with_space}
-use Rattle.bc_running.proofs.MovingLemmas.{frame-buffer, frame-nursery, needs-moved, sound-moved, stays-moved, stays-same}
+use Rattle.bc_running.specs.Touching.{BringsHome}
+use Rattle.bc_running.proofs.BringLemmas.{looks-touching, no-want, wants-elsewhere}
+use Rattle.bc_running.proofs.MovingLemmas.{at_err, frame-buffer, frame-nursery, needs-moved, sound-moved, stays-moved, stays-same}
 use Rattle.bc_running.proofs.SoundLemmas.{room-operated, sound-operated}
 use Rattle.bc_running.proofs.operating.attempt.Goals as goal
 
 pub bring_touched-requires-clause-running : goal.bring_touched-requires-clause-running
-bring_touched-requires-clause-running c = (c.args.heap.now.chunks.items, c.args.heap.now.buffers.items, c.requires.sound.running)
+bring_touched-requires-clause-running c =
+    let h = c.args.heap.now in
+    let whole : AreWhole h.chunks.items = subst (λ (cs : List Nursery). AreWhole cs) c.deref.ensures.value c.heap_facts.ensures.whole in
+    (h.chunks.items, h.buffers.items, whole, c.requires.sound.running)
 
 pub operate_here-requires-clause-running : goal.operate_here-requires-clause-running
 operate_here-requires-clause-running c =
@@ -62,8 +70,24 @@ returns-in-Ok-clause-buffer c = λ stopped.
     needs-moved c.args.holders.now c.args.lane h.roots (chunk_of h.chunks.items c.args.lane) (buffer_of h.buffers.items c.args.lane) c.args.op.now c.bring_touched.ensures.moves
     (c.operate_here.ensures.buffer stopped)
 
+pub returns-in-Ok-clause-full : goal.returns-in-Ok-clause-full
+returns-in-Ok-clause-full c = λ stopped.
+    let h = c.args.heap.now in
+    let e = c.operate_here.ensures in
+    let same = wants-elsewhere (left_of (chunk_of h.chunks.items c.args.lane)) c.args.op.now (e.nursery.0 stopped) c.in-Ok.ensures.brings in
+    (at_err c.operate_here.result NurseryFull stopped e.same).0 ∙ ap (λ (s : Space). record h { space = s }) same
+
+pub returns-in-Ok-clause-brings : goal.returns-in-Ok-clause-brings
+returns-in-Ok-clause-brings c = λ stopped.
+    let h = c.args.heap.now in
+    let same = (at_err c.operate_here.result BufferFull stopped c.operate_here.ensures.same).0 in
+    subst (λ (x : Heap). BringsHome c.args.holders.now c.args.lane h.space h.roots c.args.op.now x.space) (sym same) c.in-Ok.ensures.brings
+
 pub returns-in-Ok-clause-frame : goal.returns-in-Ok-clause-frame
-returns-in-Ok-clause-frame c = λ stopped. absurd (c.operate_here.ensures.frame stopped)
+returns-in-Ok-clause-frame c = (λ stopped. absurd (c.operate_here.ensures.frame stopped), λ wants. absurd (no-want c.in-Ok.ensures.brings wants))
+
+pub returns-in-Ok-clause-kept : goal.returns-in-Ok-clause-kept
+returns-in-Ok-clause-kept c = λ stopped. absurd (c.operate_here.ensures.frame stopped)
 
 pub returns-in-Ok-clause-finds : goal.returns-in-Ok-clause-finds
 returns-in-Ok-clause-finds c = λ stopped. absurd (c.operate_here.ensures.frame stopped)
@@ -88,7 +112,9 @@ returns-in-Ok-clause-stays c =
 
 pub returns-in-Ok-clause-recorded : goal.returns-in-Ok-clause-recorded
 returns-in-Ok-clause-recorded c =
-    IfOk-weaker c.operate_here.result _ _ (λ reply recorded. (c.bring_touched.new.space, c.bring_touched.ensures.moves, recorded)) c.operate_here.ensures.recorded
+    IfOk-weaker c.operate_here.result _ _
+    (λ reply recorded. (c.bring_touched.new.space, c.in-Ok.ensures.brings, c.bring_touched.ensures.moves, c.operate_here.ensures.space, recorded))
+    c.operate_here.ensures.recorded
 
 pub returns-in-Ok-clause-memory : goal.returns-in-Ok-clause-memory
 returns-in-Ok-clause-memory c =
@@ -122,14 +148,22 @@ pub returns-in-Err-clause-stopped : goal.returns-in-Err-clause-stopped
 returns-in-Err-clause-stopped c = (c.bring_touched.ensures.moves, refl, refl)
 
 pub returns-in-Err-clause-nursery : goal.returns-in-Err-clause-nursery
-returns-in-Err-clause-nursery c = frame-nursery Reply c.args.holders.now c.args.lane (left_of (chunk_of c.args.heap.now.chunks.items c.args.lane)) c.args.op.now c.in-Err.stop c.in-Err.ensures.stop c.in-Err.ensures.touches
+returns-in-Err-clause-nursery c = frame-nursery Reply c.args.holders.now c.args.lane (left_of (chunk_of c.args.heap.now.chunks.items c.args.lane)) c.args.op.now c.in-Err.stop c.in-Err.ensures.stop (looks-touching c.in-Err.ensures.looks)
 
 pub returns-in-Err-clause-buffer : goal.returns-in-Err-clause-buffer
 returns-in-Err-clause-buffer c = λ e. frame-buffer Reply _ c.in-Err.stop c.in-Err.ensures.stop e
 
 pub returns-in-Err-clause-frame : goal.returns-in-Err-clause-frame
-returns-in-Err-clause-frame c = λ e.
-    (c.in-Err.ensures.touches, c.in-Err.ensures.full, ap (λ (s : Space). record c.args.heap.now { space = s }) c.in-Err.ensures.same, refl)
+returns-in-Err-clause-frame c = (λ e. (c.in-Err.ensures.looks, c.in-Err.ensures.full), λ wants. ap Err c.in-Err.ensures.stop)
+
+pub returns-in-Err-clause-kept : goal.returns-in-Err-clause-kept
+returns-in-Err-clause-kept c = λ e. ap (λ (s : Space). record c.args.heap.now { space = s }) c.in-Err.ensures.same
+
+pub returns-in-Err-clause-full : goal.returns-in-Err-clause-full
+returns-in-Err-clause-full c = λ e. ap (λ (s : Space). record c.args.heap.now { space = s }) c.in-Err.ensures.same
+
+pub returns-in-Err-clause-brings : goal.returns-in-Err-clause-brings
+returns-in-Err-clause-brings c = λ e. frame-buffer Reply _ c.in-Err.stop c.in-Err.ensures.stop e
 
 pub returns-in-Err-clause-finds : goal.returns-in-Err-clause-finds
 returns-in-Err-clause-finds c = λ e can. c.in-Err.ensures.finds can

@@ -4,8 +4,8 @@ use Rattle.bc_model.specs.Lists.{PhaseLists}
 use Rattle.bc_model.specs.Rows.{lists_of}
 use Rattle.bc_model.specs.Run.{after_gives}
 use Rattle.bc_engine.specs.Engines.{EngineView, EngineStands}
-use Rattle.bc_engine.specs.Rounds.{IsTooSmall}
-use Rattle.bc_engine.proofs.PhaseLemmas.{births-lent, cut-lent, did-lent, small-at, underway-lent}
+use Rattle.bc_engine.proofs.PhaseLemmas.{births-lent, cut-lent, did-lent, underway-lent}
+use Rattle.bc_engine.proofs.TurnLemmas.{cut-turns-lent, had-lent}
 use Rattle.bc_engine.proofs.engines.Engine.replay.Goals as goal
 
 pub rounds-requires-clause-underway : goal.rounds-requires-clause-underway
@@ -36,27 +36,41 @@ returns-in-Ok-clause-births g c = λ j.
     (ap lists_of c.deref.ensures.value ∙ ap (λ (p : PhaseLists). p.lanes) c.phase.view_is) c.rounds.ensures.births j in
     omega (arith, few, ap (λ (e : EngineView). get_or e.running.serials j 0) c.give_all.ensures.same)
 
-pub returns-in-Err-OutOfHeap-clause-cut : goal.returns-in-Err-OutOfHeap-clause-cut
-returns-in-Err-OutOfHeap-clause-cut g c =
+pub returns-in-Ok-clause-turns : goal.returns-in-Ok-clause-turns
+returns-in-Ok-clause-turns g c =
+    let phase = c.args.phase.now in
+    let same = c.rounds.auto.replies in
+    let lent = ap length c.deref_mut.ensures.value in
+    let len = c.deref_mut.ensures.len in
+    had-lent c.args.self.now c.rounds.new.self c.give_all.new.self phase (lists_of c.deref.result.now) (lists_of c.deref-2.result.now) c.deref_mut.result.now c.args.replies.items c.rounds.new.replies _ c.requires.room
+    (ap lists_of c.deref.ensures.value ∙ ap (λ (p : PhaseLists). p.lanes) c.phase.view_is)
+    (ap lists_of c.deref-2.ensures.value ∙ ap (λ (p : PhaseLists). p.turns) c.phase.view_is) c.deref_mut.ensures.value
+    (take_at c.rounds.new.replies _ c.args.replies.len (omega arith)) c.in-Ok.ensures.turns c.give_all.ensures.same
+
+pub returns-in-Err-clause-cut : goal.returns-in-Err-clause-cut
+returns-in-Err-clause-cut g c =
     let same = c.rounds.auto.replies in
     let lent = ap length c.deref_mut.ensures.value in
     let len = c.deref_mut.ensures.len in
     let os = lists_of c.deref.result.now in
-    rw c.in-Err-OutOfHeap.field-0-is
-    (cut-lent c.args.self.now c.rounds.new.self c.args.phase.now os c.deref_mut.result.now c.args.replies.items c.rounds.new.replies _ c.in-Err-OutOfHeap.need
+    cut-lent c.args.self.now c.rounds.new.self c.args.phase.now os c.deref_mut.result.now c.args.replies.items c.rounds.new.replies _ c.in-Err.need.0
     (record { engine = c.facts.ensures.engine; going = c.requires.going; phase = c.requires.phase; room = c.requires.room })
-    c.facts-in-Err-OutOfHeap.ensures.engine
+    c.facts-in-Err.ensures.engine
     (ap lists_of c.deref.ensures.value ∙ ap (λ (p : PhaseLists). p.lanes) c.phase.view_is) c.deref_mut.ensures.value
     (take_at c.rounds.new.replies _ c.args.replies.len (omega arith))
-    (omega (arith, c.requires.long))
-    (small-at (Unit {0}) (IsTooSmall os c.args.self.now c.deref_mut.result.now c.rounds.new.self c.rounds.new.replies) c.in-Err-OutOfHeap.field-0 c.in-Err-OutOfHeap.need c.in-Err-OutOfHeap.field-0-is c.in-Err-OutOfHeap.ensures.cut))
+    (omega (arith, c.requires.long)) c.in-Err.ensures.cut
 
-pub returns-in-Err-OutOfHeap-clause-births : goal.returns-in-Err-OutOfHeap-clause-births
-returns-in-Err-OutOfHeap-clause-births g c =
-    births-lent c.args.self.now c.rounds.new.self c.args.phase.now (lists_of c.deref.result.now) c.deref_mut.result.now c.rounds.new.replies
-    (ap lists_of c.deref.ensures.value ∙ ap (λ (p : PhaseLists). p.lanes) c.phase.view_is) c.rounds.ensures.births
+pub returns-in-Err-clause-cut_turns : goal.returns-in-Err-clause-cut_turns
+returns-in-Err-clause-cut_turns g c =
+    let same = c.rounds.auto.replies in
+    let lent = ap length c.deref_mut.ensures.value in
+    let len = c.deref_mut.ensures.len in
+    cut-turns-lent c.args.self.now c.rounds.new.self c.args.phase.now (lists_of c.deref.result.now) (lists_of c.deref-2.result.now) c.deref_mut.result.now c.args.replies.items c.rounds.new.replies _ c.requires.room
+    (ap lists_of c.deref.ensures.value ∙ ap (λ (p : PhaseLists). p.lanes) c.phase.view_is)
+    (ap lists_of c.deref-2.ensures.value ∙ ap (λ (p : PhaseLists). p.turns) c.phase.view_is) c.deref_mut.ensures.value
+    (take_at c.rounds.new.replies _ c.args.replies.len (omega arith)) c.in-Err.ensures.cut_turns
 
-pub returns-in-Err-NoMemory-clause-births : goal.returns-in-Err-NoMemory-clause-births
-returns-in-Err-NoMemory-clause-births g c =
+pub returns-in-Err-clause-births : goal.returns-in-Err-clause-births
+returns-in-Err-clause-births g c =
     births-lent c.args.self.now c.rounds.new.self c.args.phase.now (lists_of c.deref.result.now) c.deref_mut.result.now c.rounds.new.replies
     (ap lists_of c.deref.ensures.value ∙ ap (λ (p : PhaseLists). p.lanes) c.phase.view_is) c.rounds.ensures.births

@@ -2,6 +2,7 @@ use Rattle.std.proofs.Common.{◌≡◌}
 use Rattle.bc_model.specs.Rows.{lists_of}
 use Rattle.bc_engine.specs.Lanes.{BirthsWithin, left}
 use Rattle.bc_engine.specs.Rounds.{RoundsWentOn, IsUnderwayOn}
+use Rattle.bc_engine.proofs.TurnLemmas.{IsAtTurn}
 use Rattle.bc_engine.proofs.engines.Engine.rounds.Given as goal
 
 abbrev pub invariant-rounds : goal.invariant-rounds
@@ -10,6 +11,7 @@ invariant-rounds g l = record {
   births : BirthsWithin (lists_of l.lanes) l.initial.self.running.serials (lists_of l.initial.replies) l.self.running.serials (lists_of l.replies);
   on : RoundsWentOn (lists_of l.lanes) l.initial.self l.initial.replies l.self l.replies;
   underway : IsUnderwayOn l.self (lists_of l.lanes) l.replies;
+  turns : IsAtTurn (lists_of l.lanes) (lists_of l.lines) l.initial.self l.initial.replies l.self l.replies l.next;
 }
 
 abbrev pub decreases-rounds : goal.decreases-rounds

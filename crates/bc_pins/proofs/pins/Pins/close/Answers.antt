@@ -1,10 +1,50 @@
-use Rattle.std.proofs.Common.{ap, refl, ◌∙◌}
-use Rattle.core.specs.Mem.Slots.{slots_items}
+use Rattle.std.proofs.Common.{◌≡◌, ℕ, ◌≤◌, List, length, get_or, ap, refl, sym, subst, ◌∙◌, arith}
+use Rattle.core.specs.Mem.Slots.{slots_items, slots_len, IsFull}
 use Rattle.bc_frames.specs.Places.{StoreView}
 use Rattle.bc_superpages.specs.declared.parts.SpaceParts.{SpaceParts}
+use Rattle.bc_pins.specs.Key.{pages_of}
 use Rattle.bc_pins.specs.Resting.{RestView}
-use Rattle.bc_pins.proofs.ClosingLemmas.{ended_from, ended_parts, ended_space}
+use Rattle.bc_pins.proofs.HeaderLemmas.{sets_are}
+use Rattle.bc_pins.proofs.ClosingLemmas.{gathered_ends, words_few, ended_from, ended_parts, ended_space}
 use Rattle.bc_pins.proofs.pins.Pins.close.Goals as goal
+
+pub set_states-requires-clause-few : goal.set_states-requires-clause-few
+set_states-requires-clause-few c = λ p lt.
+    let self = c.args.self in
+    let final = c.close_with-closed.ensures.values in
+    let count : c.rest.inside.pages ≡ pages_of self.table.shared.key = ap (λ (r : RestView). r.pages) c.rest.view_is ∙ self.paged in
+    subst (λ (l : List ℕ). get_or l p 0 ≤ 4) (sym (ap slots_items c.drain.ensures.words))
+    (words_few self.table.shared.key _ _ _ (gathered_ends _ _ _ _ _ _ c.unite_all-root.ensures.gathered final.2) p (omega arith))
+
+pub set_summaries-requires-clause-words : goal.set_summaries-requires-clause-words
+set_summaries-requires-clause-words c =
+    let self = c.args.self in
+    let full = c.close_with-closed.ensures.values.0 in
+    let size = c.close_with-closed.ensures.counts.0 in
+    let all = self.words in
+    let many = self.counted in
+    let same = ap slots_len c.drain.ensures.words in
+    (subst IsFull (sym c.drain.ensures.words) full, omega arith)
+
+pub set_summaries-requires-clause-sets : goal.set_summaries-requires-clause-sets
+set_summaries-requires-clause-sets c =
+    let self = c.args.self in
+    let count : c.rest.inside.pages ≡ pages_of self.table.shared.key = ap (λ (r : RestView). r.pages) c.rest.view_is ∙ self.paged in
+    let many = self.counted in
+    sets_are _ _ _ _ _ _ c.rest.invariant c.set_states.ensures.set (omega arith)
+
+pub give_frames-requires-clause-words : goal.give_frames-requires-clause-words
+give_frames-requires-clause-words c =
+    let self = c.args.self in
+    let full = c.close_with-closed.ensures.values.0 in
+    let size = c.close_with-closed.ensures.counts.0 in
+    let all = self.words in
+    let many = self.counted in
+    let same = ap slots_len c.drain.ensures.words in
+    let pool : length c.rest.inside.parts.pool ≡ length self.table.shared.key.pool =
+    ap length (c.rest.invariant.emptied.pool ∙ ap (λ (r : RestView). r.whole.pool) c.rest.view_is ∙ self.pooled) in
+    let frames = self.frames in
+    (subst IsFull (sym c.drain.ensures.words) full, omega arith)
 
 pub close_up-requires : goal.close_up-requires
 close_up-requires c =
@@ -14,16 +54,16 @@ close_up-requires c =
     let final = c.close_with-closed.ensures.values in
     let back = c.put_boxes_back.ensures in
     let out = c.rest.invariant.emptied in
-    let ended = ended_from _ _ c.args.seats.items c.unite_all-root.result self.rest inside.whole.value inside.parts inside.pages _ _ _ _ c.set_states.new.headers.items c.set_summaries.new.headers.items _ c.unite_all-root.new.store c.put_boxes_back.new.parts.boxes.items c.put_boxes_back.new.parts.store.places
+    let ended = ended_from _ _ c.args.seats.items c.unite_all-root.result self.rest inside.whole.value inside.parts inside.pages _ _ _ _ c.set_states.new.headers.items c.set_summaries.new.headers.items _ _ c.give_frames.new.pool c.unite_all-root.new.store c.put_boxes_back.new.parts.boxes.items c.put_boxes_back.new.parts.store.places
     (ap (λ (r : RestView). r.whole) c.rest.view_is) (ap (λ (r : RestView). r.pages) c.rest.view_is) c.rest.invariant self.paged self.opened self.pooled self.young self.frames unite.gathered final.2
-    (ap slots_items c.drain.ensures.words) c.drain.ensures.items c.set_states.ensures.set self.counted c.set_summaries.ensures.set (ap (λ (s : StoreView). s.places) unite.store) back.boxes back.places in
+    (ap slots_items c.drain.ensures.words) c.drain.ensures.items c.set_states.ensures.set self.counted c.set_summaries.ensures.set (let many = self.counted in omega arith) c.give_frames.ensures.set (ap (λ (s : StoreView). s.places) unite.store) back.boxes back.places in
     record {
-      kept = ended_parts _ _ _ _ _ _ _ _ _ _ _ ended _ _ (record {
+      kept = ended_parts _ _ _ _ _ _ _ _ _ _ _ _ ended _ _ (record {
         headers_are = ap (λ (p : SpaceParts). p.headers.items) back.same;
         boxes_are = refl;
         places_are = refl;
         reads_are = refl;
-        pool = ap (λ (p : SpaceParts). p.pool) back.same ∙ out.pool;
+        pool = ap (λ (p : SpaceParts). p.pool) back.same;
         nursery = ap (λ (p : SpaceParts). p.nursery.items) back.same ∙ out.nursery;
         end = ap (λ (p : SpaceParts). p.end) back.same ∙ out.end;
       });
@@ -37,16 +77,16 @@ returns c =
     let final = c.close_with-closed.ensures.values in
     let back = c.put_boxes_back.ensures in
     let out = c.rest.invariant.emptied in
-    let ended = ended_from _ _ c.args.seats.items c.unite_all-root.result self.rest inside.whole.value inside.parts inside.pages _ _ _ _ c.set_states.new.headers.items c.set_summaries.new.headers.items _ c.unite_all-root.new.store c.put_boxes_back.new.parts.boxes.items c.put_boxes_back.new.parts.store.places
+    let ended = ended_from _ _ c.args.seats.items c.unite_all-root.result self.rest inside.whole.value inside.parts inside.pages _ _ _ _ c.set_states.new.headers.items c.set_summaries.new.headers.items _ _ c.give_frames.new.pool c.unite_all-root.new.store c.put_boxes_back.new.parts.boxes.items c.put_boxes_back.new.parts.store.places
     (ap (λ (r : RestView). r.whole) c.rest.view_is) (ap (λ (r : RestView). r.pages) c.rest.view_is) c.rest.invariant self.paged self.opened self.pooled self.young self.frames unite.gathered final.2
-    (ap slots_items c.drain.ensures.words) c.drain.ensures.items c.set_states.ensures.set self.counted c.set_summaries.ensures.set (ap (λ (s : StoreView). s.places) unite.store) back.boxes back.places in
+    (ap slots_items c.drain.ensures.words) c.drain.ensures.items c.set_states.ensures.set self.counted c.set_summaries.ensures.set (let many = self.counted in omega arith) c.give_frames.ensures.set (ap (λ (s : StoreView). s.places) unite.store) back.boxes back.places in
     record {
-      closed = ended_space _ _ _ _ _ _ _ _ _ _ _ ended c.unite_all-root.new.store c.put_boxes_back.new.parts.store c.put_boxes_back.new.parts _ unite.store (ap (λ (p : SpaceParts). p.store) back.same) (record {
+      closed = ended_space _ _ _ _ _ _ _ _ _ _ _ _ ended c.unite_all-root.new.store c.put_boxes_back.new.parts.store c.put_boxes_back.new.parts _ unite.store (ap (λ (p : SpaceParts). p.store) back.same) (record {
         headers_are = ap (λ (p : SpaceParts). p.headers.items) back.same;
         boxes_are = refl;
         places_are = refl;
         reads_are = refl;
-        pool = ap (λ (p : SpaceParts). p.pool) back.same ∙ out.pool;
+        pool = ap (λ (p : SpaceParts). p.pool) back.same;
         nursery = ap (λ (p : SpaceParts). p.nursery.items) back.same ∙ out.nursery;
         end = ap (λ (p : SpaceParts). p.end) back.same ∙ out.end;
       }) c.close_up.ensures.layout;

@@ -18,7 +18,7 @@ new-requires c =
     let size = sized _ _ _ _ _ _ drawn in
     subst (λ (words : List ℕ). Rule c.args.about (opened c.args.about words c.lodge_all.new.slots.items)) (sym c.as_slice-2.ensures.value)
     (drawn_rule c.args.about c.args.parts c.args.superpages c.args.turn c.args.room.holders.items c.args.room.roles.items drawn _ _
-    (subst (λ (hs : List Header). IsFilled c.args.about hs c.fill_words.new.words.items) c.as_slice.ensures.value (c.fill_words.ensures.filled c.args.about (record { supers = size.supers; all = size.all ∙ sym c.frames-frames.ensures.count; lanes = size.lanes })))
+    (subst (λ (hs : List Header). IsFilled c.args.about hs c.fill_words.new.words.items) c.as_slice.ensures.value (c.fill_words.ensures.filled c.args.about size))
     c.lodge_all.ensures.slots)
 
 pub returns-in-Ok-clause-opened : goal.returns-in-Ok-clause-opened

@@ -7,6 +7,9 @@ returns-in-Ok-clause-in_place g c = rw (← c.self.view_is) c.in-Ok.ensures.in_p
 pub returns-in-Ok-clause-pages : goal.returns-in-Ok-clause-pages
 returns-in-Ok-clause-pages g c = rw (← c.self.view_is) c.in-Ok.ensures.pages
 
+pub returns-in-Ok-clause-kept : goal.returns-in-Ok-clause-kept
+returns-in-Ok-clause-kept g c = rw (← c.self.view_is) c.in-Ok.ensures.kept
+
 pub returns-in-Err-OutOfHeap-clause-need : goal.returns-in-Err-OutOfHeap-clause-need
 returns-in-Err-OutOfHeap-clause-need g c =
     let refused = c.in-Err-OutOfHeap in

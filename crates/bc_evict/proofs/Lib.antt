@@ -1,0 +1,16 @@
+-- The objects of a page in hand, by its words
+pub mod ContentLemmas
+-- A walk over a page in hand, from cell to cell
+pub mod PageLemmas
+-- Bookmark bits that a walk sets
+pub mod MarkLemmas
+-- Superpages that are counted
+pub mod CountLemmas
+-- A page whose targets are bookmarked and counted may be made Gone
+pub mod BookmarkLemmas
+-- A page whose word says Gone
+pub mod GoneLemmas
+-- Rights to frames, and pages that are made Absent
+pub mod RightLemmas
+-- What the tests need
+pub mod TestLemmas

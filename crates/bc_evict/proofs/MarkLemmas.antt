@@ -1,0 +1,235 @@
+-- Bookmark bits that a walk sets, and superpages that it meets.
+use Rattle.std.proofs.Common.{◌≡◌, ◌≢◌, ℕ, ◌+◌, ◌*◌, ◌/◌, ◌%◌, ◌^◌, ◌<◌, ◌≤◌, ◌==◌, ◌&&◌, ◌||◌, Bool, true, false, if◌then◌else◌, nat_lt, inl, inr, List, [], ◌∷◌, length, replicate, slice_index, Option, Some, refl, ap, sym, subst, ◌∙◌, arith}
+use Rattle.std.specs.Int.{bit_at}
+use Rattle.std.proofs.lemmas.Bool.{cases_eq, cases_Bool, eq-eqb, ne_eqb, lt-ltb}
+use Rattle.std.proofs.lemmas.Nat.{one_shl}
+use Rattle.std.proofs.lemmas.Nat.Bits.{bit_at-pow_same, bit_at-pow_other}
+use Rattle.bc_bits.specs.Bits.{has}
+use Rattle.bc_bits.specs.BitChanges.{with_bit}
+use Rattle.bc_bits.specs.Counting.{one_if}
+use Rattle.bc_bits.proofs.BitLemmas.{has-beyond, has-zeros}
+use Rattle.bc_word.specs.declared.words.Word.{Word}
+use Rattle.bc_word.specs.declared.addresses.Address.{Address}
+use Rattle.bc_word.specs.declared.words.Word.TheVariants.{Nil, Num, Ref}
+use Rattle.bc_word.specs.Addresses.{superpage_of, page_of, cell_number}
+use Rattle.bc_superpages.specs.Layout.{Layout}
+use Rattle.bc_superpages.specs.LayoutAt.{IsAllocated}
+use Rattle.bc_superpages.specs.Kept.{IsLayout}
+use Rattle.bc_superpages.specs.Calls.{class_at}
+use Rattle.bc_superpages.proofs.HandLemmas.{allocated-is_class, allocated-superpage}
+use Rattle.bc_bookmarks.specs.Targets.{names_in, names_cell, is_target}
+use Rattle.bc_bookmarks.proofs.ReadingLemmas.{meets-inserted}
+use Rattle.bc_pins.specs.declared.views.Hand.{Hand}
+use Rattle.bc_pins.specs.declared.views.View.{View}
+use Rattle.bc_pins.specs.declared.pins.Seat.{Seat}
+use Rattle.bc_pins.specs.Key.{Key, pages_of, bookmark_at, frame_at}
+use Rattle.bc_pins.specs.Contents.{objects_in}
+use Rattle.bc_pins.specs.Views.{sets_bit}
+use Rattle.bc_pins.specs.Steps.{bookmarking, IsTargetBit}
+use Rattle.bc_pins.specs.Calls.{view_of, slots_of, IsSameSeat}
+use Rattle.bc_pins.proofs.TallyLemmas.{number_few}
+use Rattle.bc_pins.proofs.VisitLemmas.{same_after}
+use Rattle.bc_evict.specs.Evicting.{reads_of}
+use Rattle.bc_evict.specs.Marking.{sets_cell, ReadsNoPage, Marks}
+
+pub same_seat : (a : Seat) → IsSameSeat a a
+same_seat a = record { table = refl; id = refl; role = refl; opens = refl; about = refl; alive = refl; roles = refl }
+
+pub reads-then : (v w u : View) → w.about ≡ v.about → ReadsNoPage v w → ReadsNoPage w u → ReadsNoPage v u
+reads-then v w u about first next = record {
+  pages = λ i lt. next.pages i (subst (λ (k : Key). i < pages_of k) (sym about) lt) ∙ first.pages i lt;
+  frames = λ i le. next.frames i (subst (λ (k : Key). frame_at k 0 ≤ i) (sym about) le) ∙ first.frames i le;
+}
+
+-- a view with its hand as it is
+pub hand-same : (v : View) (h : Hand) → v.hand ≡ Some h → v ≡ record v { hand = Some h }
+hand-same v h has = ap (λ (o : Option Hand). record v { hand = o }) has
+
+or_assoc_right : (a b c : Bool) → (a || (b || c)) ≡ ((a || b) || c)
+or_assoc_right true b c = refl
+or_assoc_right false b c = refl
+
+-- no word was gone over yet
+pub Marks-none : (a : Seat) (met : List ℕ) (f : (Word → Bool) → Bool) → ((test : Word → Bool) → f test ≡ false) → Marks a met f a met
+Marks-none a met f none = record {
+  seat = same_seat a;
+  slots = refl;
+  same = λ h has. (h.marked, hand-same (view_of a) h has);
+  bits = λ q b few. sym (ap (λ (x : Bool). x || sets_cell (view_of a) q b) (none (names_cell (view_of a).about.opening.classes q b)));
+  meets = λ q. sym (ap (λ (x : Bool). x || has met q) (none (names_in q)));
+  reads = record { pages = λ i lt. refl; frames = λ i le. refl };
+}
+
+-- words that are told otherwise
+pub Marks-same : (a b : Seat) (met more : List ℕ) (f g : (Word → Bool) → Bool) → ((test : Word → Bool) → f test ≡ g test) → Marks a met f b more → Marks a met g b more
+Marks-same a b met more f g is m = record {
+  seat = m.seat;
+  slots = m.slots;
+  same = m.same;
+  bits = λ q c few. m.bits q c few ∙ ap (λ (x : Bool). x || sets_cell (view_of a) q c) (is (names_cell (view_of a).about.opening.classes q c));
+  meets = λ q. m.meets q ∙ ap (λ (x : Bool). x || has met q) (is (names_in q));
+  reads = m.reads;
+}
+
+-- some words, and then more
+pub Marks-then : (a b c : Seat) (met now more : List ℕ) (f g : (Word → Bool) → Bool) → Marks a met f b now → Marks b now g c more → Marks a met (λ test. g test || f test) c more
+Marks-then a b c met now more f g first next = record {
+  seat = same_after a b c first.seat next.seat;
+  slots = next.slots ∙ first.slots;
+  same = λ h has.
+      let one = first.same h has in
+      let two = next.same (record h { marked = one.0 }) (ap (λ (v : View). v.hand) one.1) in
+      (two.0, two.1 ∙ ap (λ (v : View). record v { hand = Some (record h { marked = two.0 }); bookmarked = (view_of c).bookmarked; read = (view_of c).read }) one.1);
+  bits = λ q n few.
+      next.bits q n few
+      ∙ ap (λ (k : Key). g (names_cell k.opening.classes q n) || sets_cell (view_of b) q n) first.seat.about
+      ∙ ap (λ (x : Bool). g (names_cell (view_of a).about.opening.classes q n) || x) (first.bits q n few)
+      ∙ or_assoc_right (g (names_cell (view_of a).about.opening.classes q n)) (f (names_cell (view_of a).about.opening.classes q n)) (sets_cell (view_of a) q n);
+  meets = λ q. next.meets q ∙ ap (λ (x : Bool). g (names_in q) || x) (first.meets q) ∙ or_assoc_right (g (names_in q)) (f (names_in q)) (has met q);
+  reads = reads-then (view_of a) (view_of b) (view_of c) first.seat.about first.reads next.reads;
+}
+
+-- the bit of one cell, in the word that has it, is that of another only where both are one
+if_one : (b : Bool) (n : ℕ) → b ≡ true → (if b then n else 0) ≡ n
+if_one b n e = ap (λ (x : Bool). if x then n else 0) e
+
+if_none : (b : Bool) (n : ℕ) → b ≡ false → (if b then n else 0) ≡ 0
+if_none b n e = ap (λ (x : Bool). if x then n else 0) e
+
+pub bit-of : (q n r b : ℕ) → n < 1024 → b < 1024
+    → (if 16 * q + n / 64 == 16 * r + b / 64 then bit_at (1 * 2 ^ (n % 64) % 2 ^ 64) (b % 64) else 0) ≡ one_if ((q == r) && (n == b))
+bit-of q n r b few small =
+    let x : ℕ = bit_at (1 * 2 ^ (n % 64) % 2 ^ 64) (b % 64) in
+    let shifted = one_shl (n % 64) 64 (omega arith) in
+    elim (cases_eq (16 * q + n / 64) (16 * r + b / 64)) [
+      | inl word ↦
+          let same_q : q ≡ r = omega arith in
+          let same_w : n / 64 ≡ b / 64 = omega arith in
+          if_one (16 * q + n / 64 == 16 * r + b / 64) x (eq-eqb _ _ word)
+          ∙ elim (cases_eq n b) [
+            | inl same ↦
+                let e : n % 64 ≡ b % 64 = omega arith in
+                ap (λ (m : ℕ). bit_at m (b % 64)) shifted ∙ ap (λ (m : ℕ). bit_at (2 ^ m) (b % 64)) e ∙ bit_at-pow_same (b % 64)
+                ∙ sym (ap (λ (c : Bool). one_if (c && (n == b))) (eq-eqb q r same_q) ∙ ap one_if (eq-eqb n b same))
+            | inr other ↦
+                let ne : b % 64 ≢ n % 64 = λ e. other (omega arith) in
+                ap (λ (m : ℕ). bit_at m (b % 64)) shifted ∙ bit_at-pow_other (n % 64) (b % 64) ne
+                ∙ sym (ap (λ (c : Bool). one_if (c && (n == b))) (eq-eqb q r same_q) ∙ ap one_if (ne_eqb n b other))
+          ]
+      | inr ne ↦
+          if_none (16 * q + n / 64 == 16 * r + b / 64) x (ne_eqb _ _ ne)
+          ∙ elim (cases_eq q r) [
+            | inl same ↦ sym (ap (λ (c : Bool). one_if (c && (n == b))) (eq-eqb q r same) ∙ ap one_if (ne_eqb n b (λ e. ne (omega arith))))
+            | inr other ↦ sym (ap (λ (c : Bool). one_if (c && (n == b))) (ne_eqb q r other))
+          ]
+    ]
+
+some_more : (c : Bool) (y : ℕ) → nat_lt 0 (one_if c + y) ≡ (c || nat_lt 0 y)
+some_more true y = lt-ltb 0 (1 + y) (omega arith)
+some_more false y = ap (nat_lt 0) (let e : 0 + y ≡ y = omega arith in e)
+
+class-same : (cs : List ℕ) (q r a n b : ℕ) → n ≡ cell_number (slice_index cs q) a → ((q == r) && (n == b)) ≡ ((q == r) && (cell_number (slice_index cs r) a == b))
+class-same cs q r a n b is = elim (cases_eq q r) [
+  | inl same ↦ ap (λ (m : ℕ). (q == r) && (m == b)) (is ∙ ap (λ (j : ℕ). cell_number (slice_index cs j) a) same)
+  | inr other ↦ ap (λ (x : Bool). x && (n == b)) (ne_eqb q r other) ∙ sym (ap (λ (x : Bool). x && (cell_number (slice_index cs r) a == b)) (ne_eqb q r other))
+]
+
+-- the bits of a view that set one more
+pub sets-more : (v : View) (page q n a : ℕ) (more : List (ℕ × ℕ × ℕ)) → q ≡ superpage_of a → n ≡ cell_number (slice_index v.about.opening.classes q) a → n < 1024
+    → more ≡ (page, 16 * q + n / 64, 1 * 2 ^ (n % 64) % 2 ^ 64) ∷ v.bookmarked
+    → (r b : ℕ) → b < 1024 → nat_lt 0 (sets_bit (16 * r + b / 64) (b % 64) more) ≡ (names_cell v.about.opening.classes r b (Ref (record { 0 = a })) || sets_cell v r b)
+sets-more v page q n a more is_q is_n few is r b small =
+    let y : ℕ = sets_bit (16 * r + b / 64) (b % 64) v.bookmarked in
+    ap (λ (l : List (ℕ × ℕ × ℕ)). nat_lt 0 (sets_bit (16 * r + b / 64) (b % 64) l)) is
+    ∙ ap (λ (m : ℕ). nat_lt 0 (m + y)) (bit-of q n r b few small)
+    ∙ some_more ((q == r) && (n == b)) y
+    ∙ ap (λ (x : Bool). x || nat_lt 0 y) (class-same v.about.opening.classes q r a n b is_n ∙ ap (λ (j : ℕ). (j == r) && (cell_number (slice_index v.about.opening.classes r) a == b)) is_q)
+
+-- what was read of a word stays where another was read
+pub reads-else : (i j n : ℕ) (l : List (ℕ × ℕ)) → j ≢ i → reads_of i ((j, n) ∷ l) ≡ reads_of i l
+reads-else i j n l ne = ap (λ (b : Bool). if b then n ∷ reads_of i l else reads_of i l) (ne_eqb j i ne)
+
+-- a word that is no reference
+pub marks-other : (a : Seat) (met : List ℕ) (word : Word) → ((x : Address) → word ≡ Ref x → ⊥) → Marks a met (λ test. test word) a met
+marks-other a met word none = record {
+  seat = same_seat a;
+  slots = refl;
+  same = λ h has_h. (h.marked, hand-same (view_of a) h has_h);
+  bits = λ q b few. ap (λ (x : Bool). x || sets_cell (view_of a) q b) (sym (no_cell (view_of a).about.opening.classes q b word none));
+  meets = λ q. ap (λ (x : Bool). x || has met q) (sym (no_superpage q word none));
+  reads = record { pages = λ i lt. refl; frames = λ i le. refl };
+}
+  where
+    no_cell : (cs : List ℕ) (q b : ℕ) (w : Word) → ((x : Address) → w ≡ Ref x → ⊥) → names_cell cs q b w ≡ false
+    no_cell cs q b Nil none_w = refl
+    no_cell cs q b (Num v) none_w = refl
+    no_cell cs q b (Ref x) none_w = absurd (none_w x refl)
+
+    no_superpage : (q : ℕ) (w : Word) → ((x : Address) → w ≡ Ref x → ⊥) → names_in q w ≡ false
+    no_superpage q Nil none_w = refl
+    no_superpage q (Num v) none_w = refl
+    no_superpage q (Ref x) none_w = absurd (none_w x refl)
+
+some_hand : (x y : Hand) → Some x ≡ Some y → x ≡ y
+some_hand x y e = cc
+
+-- a reference is marked by the bit of its cell
+pub marks-ref : (old new : Seat) (met more : List ℕ) (word : Word) (h : Hand) (q n w bits found a : ℕ) → IsSameSeat old new → slots_of new ≡ slots_of old
+    → (view_of old).hand ≡ Some h → view_of new ≡ bookmarking (view_of old) h w bits found → word ≡ Ref (record { 0 = a })
+    → q ≡ superpage_of a → q < (view_of old).about.supers → n ≡ cell_number (slice_index (view_of old).about.opening.classes q) a → n < 1024 → w ≡ 16 * q + n / 64 → bits ≡ 1 * 2 ^ (n % 64) % 2 ^ 64
+    → q < 64 * length met → more ≡ with_bit met q → Marks old met (λ test. test word) new more
+marks-ref old new met more word h q n w bits found a seat slots has_h view is is_q near is_n few is_w is_bits lt inserted = record {
+  seat = seat;
+  slots = slots;
+  same = λ g has_g.
+      subst (λ (z : Hand). (marked : List (ℕ × ℕ)) × (view_of new ≡ record (view_of old) { hand = Some (record z { marked = marked }); bookmarked = (view_of new).bookmarked; read = (view_of new).read })) (some_hand h g (sym has_h ∙ has_g))
+      ((w, bits) ∷ h.marked, subst (λ (x : View). x ≡ record (view_of old) { hand = Some (record h { marked = (w, bits) ∷ h.marked }); bookmarked = x.bookmarked; read = x.read }) (sym view) refl);
+  bits = λ r b small.
+      sets-more (view_of old) h.page q n a (view_of new).bookmarked is_q is_n few
+      (ap (λ (v : View). v.bookmarked) view ∙ ap (λ (j : ℕ). (h.page, j, bits) ∷ (view_of old).bookmarked) is_w ∙ ap (λ (j : ℕ). (h.page, 16 * q + n / 64, j) ∷ (view_of old).bookmarked) is_bits) r b small
+      ∙ sym (ap (λ (v : Word). names_cell (view_of old).about.opening.classes r b v || sets_cell (view_of old) r b) is);
+  meets = λ r. ap (λ (l : List ℕ). has l r) inserted ∙ meets-inserted met q r lt ∙ ap (λ (j : ℕ). (j == r) || has met r) is_q ∙ sym (ap (λ (v : Word). names_in r v || has met r) is);
+  reads = record {
+    pages = λ i lt_i. ap (λ (v : View). reads_of i v.read) view ∙ reads-else i (bookmark_at (view_of old).about w) found (view_of old).read (λ e. absurd (omega arith));
+    frames = λ i le. ap (λ (v : View). reads_of i v.read) view ∙ reads-else i (bookmark_at (view_of old).about w) found (view_of old).read (λ e. absurd (omega arith));
+  };
+}
+
+-- nothing was gone over yet, and nothing met
+pub Marks-start : (a : Seat) (more : List ℕ) (f : (Word → Bool) → Bool) → more ≡ replicate 64 0 → ((test : Word → Bool) → f test ≡ false) → Marks a [] f a more
+Marks-start a more f is none = record {
+  seat = same_seat a;
+  slots = refl;
+  same = λ h has_h. (h.marked, hand-same (view_of a) h has_h);
+  bits = λ q b few. sym (ap (λ (x : Bool). x || sets_cell (view_of a) q b) (none (names_cell (view_of a).about.opening.classes q b)));
+  meets = λ q. ap (λ (l : List ℕ). has l q) is ∙ has-zeros 64 q ∙ sym (ap (λ (x : Bool). x || has [] q) (none (names_in q)) ∙ has-beyond [] q (omega arith));
+  reads = record { pages = λ i lt. refl; frames = λ i le. refl };
+}
+
+-- each bit of the word that is set for a reference is that of its target
+pub target-bit : (k : Key) (v : View) (x : Hand) (q n a b class : ℕ) → v.about ≡ k → is_target (objects_in v.about.opening x.content) x.page a ≡ true → q ≡ superpage_of a → n ≡ cell_number class a → class ≡ slice_index k.opening.classes q → n < 1024
+    → b < 64 → 0 < bit_at (1 * 2 ^ (n % 64) % 2 ^ 64) b → IsTargetBit k x (16 * q + n / 64) b
+target-bit k v x q n a b class about on is_q is_n is_class few small set =
+    let shifted = one_shl (n % 64) 64 (omega arith) in
+    let bit : 0 < bit_at (2 ^ (n % 64)) b = subst (λ (m : ℕ). 0 < bit_at m b) shifted set in
+    let here : b ≡ n % 64 = elim (cases_eq b (n % 64)) [ inl e ↦ e | inr ne ↦ let z = bit_at-pow_other (n % 64) b ne in absurd (omega arith) ] in
+    let number : cell_number (slice_index k.opening.classes (superpage_of a)) a ≡ n = ap (λ (j : ℕ). cell_number (slice_index k.opening.classes j) a) (sym is_q) ∙ ap (λ (c : ℕ). cell_number c a) (sym is_class) ∙ sym is_n in
+    record {
+      address = a;
+      target = subst (λ (j : Key). is_target (objects_in j.opening x.content) x.page a ≡ true) about on;
+      superpage = sym is_q ∙ omega arith;
+      number = number ∙ omega arith;
+    }
+
+-- where an allocated cell lies, by its superpage's header
+pub number-few : (s : Layout) (class q n a : ℕ) → IsLayout s → IsAllocated s a → class ≡ slice_index s.classes q → q ≡ superpage_of a → n ≡ cell_number class a → n < 1024
+number-few s class q n a layout on is_class is_q is_n =
+    let few = number_few (class_at s a) a (allocated-is_class s a layout on) in
+    let e : n ≡ cell_number (class_at s a) a = is_n ∙ ap (λ (c : ℕ). cell_number c a) (is_class ∙ ap (slice_index s.classes) is_q) in
+    omega arith
+
+pub target-near : (k : Key) (q a : ℕ) → q ≡ superpage_of a → page_of a < pages_of k → q < k.supers
+target-near k q a is lt = omega arith
+
+pub superpage-few : (s : Layout) (a : ℕ) → IsLayout s → IsAllocated s a → superpage_of a < 4096
+superpage-few s a layout on = let few = layout.few in let lt = allocated-superpage s a layout on in omega arith

@@ -1,0 +1,179 @@
+-- What the tests' lane, pager and space need.
+use Rattle.std.proofs.Common.{◌≡◌, ◌≢◌, ℕ, ◌+◌, ◌*◌, ◌/◌, ◌%◌, ◌<◌, ◌≤◌, ◌==◌, Bool, true, false, if◌then◌else◌, inl, inr, List, [], ◌∷◌, length, map, set, get_or, slice_index, Some, refl, ap, sym, subst, ◌∙◌, arith, get_or-set_same, get_or-set_other}
+use Rattle.std.proofs.lemmas.Bool.{cases_eq, and_left}
+use Rattle.std.proofs.lemmas.List.{get_or_past}
+use Rattle.bc_bits.specs.Bits.{has}
+use Rattle.bc_bits.specs.BitChanges.{none_set}
+use Rattle.bc_bits.proofs.BitLemmas.{has-beyond, has-none_set}
+use Rattle.bc_word.specs.declared.words.Word.{Word}
+use Rattle.bc_word.specs.declared.words.Word.TheVariants.{Nil, Num, Ref}
+use Rattle.bc_word.specs.declared.addresses.Address.{Address}
+use Rattle.bc_word.specs.Words.{word_of_bits}
+use Rattle.bc_word.specs.Heads.{fields_of_bits}
+use Rattle.bc_word.specs.Addresses.{superpage_of, page_of, offset_of, cell_number}
+use Rattle.bc_superpages.specs.Layout.{Layout, superpages, set_of, content_at, is_cell}
+use Rattle.bc_superpages.specs.LayoutAt.{IsAllocated, word_at}
+use Rattle.bc_superpages.specs.Calls.{fields_at}
+use Rattle.bc_superpages.specs.Kept.{IsLayout}
+use Rattle.bc_bookmarks.specs.Targets.{is_target, NamesNoNursery, HasCell}
+use Rattle.bc_bookmarks.proofs.SoundLemmas.{IsSound}
+use Rattle.bc_pins.specs.declared.views.Hand.{Hand}
+use Rattle.bc_pins.specs.declared.views.View.{View}
+use Rattle.bc_pins.specs.declared.pins.Pins.{Pins}
+use Rattle.bc_pins.specs.declared.pins.Seat.{Seat}
+use Rattle.bc_pins.specs.declared.holding.Held.{Held}
+use Rattle.bc_pins.specs.declared.taking.Want.{Want}
+use Rattle.bc_pins.specs.declared.taking.Want.TheVariants.{Work}
+use Rattle.bc_pins.specs.Key.{Key, owner, pages_of, lane_role}
+use Rattle.bc_pins.specs.Totals.{times}
+use Rattle.bc_pins.specs.Contents.{IsContent, RefersYoung, IsYoung, field_bits, objects_in}
+use Rattle.bc_pins.specs.Views.{has_role}
+use Rattle.bc_pins.specs.Steps.{Takes}
+use Rattle.bc_pins.specs.Opening.{IsOpenable}
+use Rattle.bc_pins.specs.Calls.{key_of, view_of, IsAt, HoldsPage, Grasps, MayPut, tried}
+use Rattle.bc_pins.proofs.TallyLemmas.{target_in}
+use Rattle.bc_pins.proofs.TotalLemmas.{one_same, one_other}
+use Rattle.bc_pins.proofs.VisitLemmas.{may_put_taken, holds_taken, tried_about, tried_roles, takes_tried}
+use Rattle.bc_evict.specs.Evicting.{MayBookmark, HasGiven}
+use Rattle.bc_evict.specs.Objects.{HoldsObject}
+use Rattle.bc_evict.proofs.ContentLemmas.{word-target}
+
+young-ref : (s : Layout) (w : Word) → IsYoung s w → (a : Address) × (w ≡ Ref a) × (2048 * superpages s ≤ a.0)
+young-ref s Nil y = absurd y
+young-ref s (Num v) y = absurd y
+young-ref s (Ref a) y = (a, refl, y)
+
+-- a page that refers to a nursery has a target there
+young-target : (s : Layout) (page : ℕ) (c : List ℕ) → ((x : ℕ) → IsAllocated s x → page_of x ≡ page → slice_index c (offset_of x) ≡ word_at s.pages x) → RefersYoung s page c → (a : ℕ) × (is_target (objects_in s c) page a ≡ true) × (2048 * superpages s ≤ a)
+young-target s page c heads y =
+    let found = young-ref s (word_of_bits (field_bits c y.cell y.index)) y.young in
+    let on = y.is.on in
+    let few : fields_of_bits (slice_index c (offset_of y.cell)) ≡ fields_at s y.cell = ap fields_of_bits (heads y.cell y.is.allocated on) in
+    let within = y.is.within in
+    (found.0.0, word-target s page c y.cell y.index found.0.0 y.is.allocated on (omega arith) found.1, found.2)
+
+-- a space on which all calls' conditions hold is one over which a table may be opened
+pub sound-openable : (s : Layout) → IsSound s → ((a : ℕ) → is_cell s.classes s.promised a ≡ false) → IsOpenable s
+sound-openable s sound promised = record {
+  summarised = sound.0;
+  closed = sound.1;
+  promised = promised;
+  home = λ p _ y.
+      let t = young-target s p (content_at s.pages p) (λ x _ on. ap (λ (q : ℕ). slice_index (content_at s.pages q) (offset_of x)) (sym on)) y in
+      let lt = sound.2 p t.0 (sym (target_in s s.pages p t.0 (content_at s.pages p) refl) ∙ t.1) in
+      let past = t.2 in
+      absurd (omega arith);
+}
+
+-- one superpage without a promised cell
+pub none-promised : (s : Layout) (ws : List ℕ) → IsLayout s → superpages s ≡ 1 → ws ≡ set_of s.promised 0 → none_set ws ≡ true → (a : ℕ) → is_cell s.classes s.promised a ≡ false
+none-promised s ws l one is none a =
+    let n : ℕ = cell_number (slice_index s.classes (superpage_of a)) a in
+    let off : has (set_of s.promised (superpage_of a)) n ≡ false = elim (cases_eq (superpage_of a) 0) [
+      | inl e ↦ ap (λ (q : ℕ). has (set_of s.promised q) n) e ∙ ap (λ (x : List ℕ). has x n) (sym is) ∙ has-none_set ws n none
+      | inr ne ↦ ap (λ (x : List ℕ). has x n) (get_or_past s.promised (superpage_of a) [] (let long = l.long.promised in omega arith)) ∙ has-beyond [] n (omega arith)
+    ] in
+    and_left _ _ off
+
+-- a field that became a number refers to no nursery
+pub young-written : (s : Layout) (page o bits n : ℕ) (c : List ℕ) → o < length c → word_of_bits bits ≡ Num n → RefersYoung s page (set c o bits) → RefersYoung s page c
+young-written s page o bits n c lt is y = record {
+  cell = y.cell;
+  index = y.index;
+  is = y.is;
+  young = elim (cases_eq (offset_of y.cell + 1 + y.index) o) [
+    | inl e ↦ absurd (let z : IsYoung s (Num n) = subst (IsYoung s) (ap word_of_bits (ap (λ (i : ℕ). get_or (set c o bits) i 0) e ∙ get_or-set_same c o bits 0 lt) ∙ is) y.young in z)
+    | inr ne ↦ subst (λ (i : ℕ). IsYoung s (word_of_bits i)) (get_or-set_other c o (offset_of y.cell + 1 + y.index) bits 0 ne) y.young
+  ];
+}
+
+some_hand : (x y : Hand) → Some x ≡ Some y → x ≡ y
+some_hand x y e = cc
+
+-- a page that was taken may be bookmarked
+pub may-bookmark : (v : View) (seat : Seat) (page : ℕ) (held : Held) → Grasps v seat page held → Takes v page held.remembered held.homed → held.remembered ≡ false → HasCell v.about.opening page → MayBookmark seat held
+may-bookmark v seat page held g t quiet there =
+    let was = may_put_taken v seat page held g t in
+    let in_hand : (hand : Hand) → (view_of seat).hand ≡ Some hand → hand ≡ record { page = page; remembered = held.remembered; frame = held.homed.frame; content = held.homed.page; counted = []; marked = []; looked = [] } =
+    λ hand had. some_hand _ _ (sym had ∙ ap (λ (w : View). w.hand) g.view) in
+    record {
+      as_taken = record {
+        content = λ hand had. ap (λ (h : Hand). h.content) (in_hand hand had);
+        taken = λ hand had. ap (λ (h : Hand). h.remembered) (in_hand hand had) ∙ quiet;
+        quiet = quiet;
+      };
+      unmarked = record { counted = was.counted; marked = was.marked };
+      there = subst (λ (w : View). HasCell w.about.opening held.page) (sym g.view) (subst (λ (p : ℕ). HasCell v.about.opening p) (sym g.is) there);
+      fixed = was.fixed;
+      young = was.young;
+    }
+
+-- a page that a lane took and wrote may be put back
+module _ (pins : Pins) (old seat : Seat) (page : ℕ) (held : Held) (c : List ℕ) (at : IsAt pins old) (g : Grasps (tried (view_of old) page Work held.remembered) seat page held) where
+  abbrev v : View
+  v = tried (view_of old) page Work held.remembered
+
+  about : v.about ≡ key_of pins
+  about = tried_about (view_of old) page Work held.remembered ∙ at.about
+
+  pub may-put : Takes (view_of old) page held.remembered held.homed → IsContent (key_of pins).opening page c → (RefersYoung (key_of pins).opening page c → RefersYoung (key_of pins).opening page held.homed.page)
+      → 0 < has_role (view_of old) (owner (key_of pins) page) → MayPut seat (record held { homed = record held.homed { page = c } })
+  may-put t fixed young lane =
+      let taken = takes_tried (view_of old) page Work held.remembered held.remembered held.homed t in
+      let was = may_put_taken v seat page held g taken in
+      let about_now : (view_of seat).about ≡ key_of pins = ap (λ (w : View). w.about) g.view ∙ about in
+      let roles_now : (view_of seat).roles ≡ (view_of old).roles = ap (λ (w : View). w.roles) g.view ∙ tried_roles (view_of old) page Work held.remembered in
+      record {
+        fixed = subst (λ (k : Key). IsContent k.opening held.page c) (sym about_now) (subst (λ (p : ℕ). IsContent (key_of pins).opening p c) (sym g.is) fixed);
+        young = λ y.
+            let here : RefersYoung (key_of pins).opening page c = subst (λ (p : ℕ). RefersYoung (key_of pins).opening p c) g.is (subst (λ (k : Key). RefersYoung k.opening held.page c) about_now y) in
+            taken.young (subst (λ (k : Key). RefersYoung k.opening page held.homed.page) (sym about) (young here));
+        remembered = was.remembered;
+        others = λ hand had z.
+            let mine : 0 < has_role (view_of seat) (owner (view_of seat).about held.page) =
+            subst (λ (l : List ℕ). 0 < times (owner (view_of seat).about held.page) l) (sym roles_now)
+            (subst (λ (k : Key). 0 < has_role (view_of old) (owner k held.page)) (sym about_now) (subst (λ (p : ℕ). 0 < has_role (view_of old) (owner (key_of pins) p)) (sym g.is) lane)) in
+            absurd (omega arith);
+        counted = was.counted;
+        marked = was.marked;
+      }
+
+-- no right is left where each was given back
+pub no-rights : (l : List ℕ) → ((f : ℕ) → times f l ≡ 0) → l ≡ []
+no-rights [] none = refl
+no-rights (f ∷ l) none = let one = one_same f in let z = none f in absurd (omega arith)
+
+pub given-all : (f : ℕ) (l : List ℕ) → times f l ≡ 0 → ((g : ℕ) → g ≢ f → times g l ≡ times g (f ∷ [])) → l ≡ []
+given-all f l none others = no-rights l (λ g. elim (cases_eq g f) [
+  | inl e ↦ ap (λ (i : ℕ). times i l) e ∙ none
+  | inr ne ↦ let z = others g ne in let o = one-else f g (λ e. ne (sym e)) in omega arith
+])
+  where
+    one-else : (a b : ℕ) → a ≢ b → times b (a ∷ []) ≡ 0
+    one-else a b ne = let z = one_other a b ne in omega arith
+
+-- the only lane holds each page of domain 0
+pub lane-owns : (k : Key) (v : View) (page : ℕ) → k.owners ≡ map lane_role (0 ∷ []) → slice_index k.opening.domains (page / 4) ≡ 0 → ((r : ℕ) → has_role v r ≡ times r (lane_role 0 ∷ [])) → 0 < has_role v (owner k page)
+lane-owns k v page owners domain roles =
+    let own : owner k page ≡ lane_role 0 = ap (λ (l : List ℕ). slice_index l (slice_index k.opening.domains (page / 4))) owners ∙ ap (slice_index (map lane_role (0 ∷ []))) domain in
+    let one = one_same (lane_role 0) in
+    let r : has_role v (owner k page) ≡ has_role v (lane_role 0) = ap (has_role v) own in
+    let z = roles (lane_role 0) in
+    omega arith
+
+pub rights-gone : (v w : View) (f : ℕ) → HasGiven v f w → v.rights ≡ f ∷ [] → w.rights ≡ []
+rights-gone v w f h e = given-all f w.rights h.none (λ g ne. h.others g ne ∙ ap (times g) e)
+
+-- an object on a page that was taken
+pub object-in-hand : (pins : Pins) (old seat : Seat) (page cell : ℕ) (held : Held) (want : Want) → IsAt pins old → Grasps (tried (view_of old) page want held.remembered) seat page held → Takes (view_of old) page held.remembered held.homed
+    → IsLayout (key_of pins).opening → IsAllocated (key_of pins).opening cell → page ≡ page_of cell → HoldsObject (key_of pins).opening held cell
+object-in-hand pins old seat page cell held want at g t kept on is = record {
+  kept = kept;
+  allocated = on;
+  on = sym is ∙ sym g.is;
+  fixed = subst (λ (p : ℕ). IsContent (key_of pins).opening p held.homed.page) (sym g.is) (subst (λ (k : Key). IsContent k.opening page held.homed.page) at.about t.fixed);
+}
+
+-- a page with an allocated cell
+pub cell-there : (pins : Pins) (old : Seat) (page cell : ℕ) → IsAt pins old → IsAllocated (key_of pins).opening cell → page ≡ page_of cell → HasCell (view_of old).about.opening page
+cell-there pins old page cell at on is = subst (λ (k : Key). HasCell k.opening page) (sym at.about) (cell, on, sym is)

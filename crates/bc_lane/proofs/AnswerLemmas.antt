@@ -1,0 +1,124 @@
+-- An operation of a lane, once its page is in hand.
+use Rattle.std.proofs.Common.{◌≡◌, ◌⊎◌, ℕ, ◌+◌, ◌*◌, ◌/◌, ◌<◌, true, List, length, map, get_or, Option, Some, None, Result, Ok, Err, inl, inr, refl, ap, sym, subst, ◌∙◌}
+use Rattle.std.proofs.lemmas.List.{get_or-map}
+use Rattle.std.proofs.lemmas.Result.{IfOk-weaker, on_err_weaker}
+use Rattle.std.specs.Result.{IfErr, IfOk, OnErr}
+use Rattle.bc_lane.specs.declared.parts.LanePart.{LanePart}
+use Rattle.bc_lane.specs.declared.stops.Stop.{Stop}
+use Rattle.bc_lane.specs.declared.stops.Stop.TheVariants as stop
+use Rattle.bc_lane.specs.Shown.{HasPage, IsOwnPage, ShowsPages}
+use Rattle.bc_lane.specs.Turns.{DoesOne, HasInHand, LaneHoldsAll, IsLaneSeat, IsLaneTable, IsRefusedPage, IsWhole, LeadsToPageWhere, LooksForeign, LooksOn, LooksOwn, ReadLast, SlotsOf, StaysWhole, StopsOp}
+use Rattle.bc_lane.proofs.ForeignLemmas.{foreign-looked}
+use Rattle.bc_lane.proofs.HandLemmas.{hand-after}
+use Rattle.bc_lane.proofs.LookLemmas.{looking-wants, touches-more}
+use Rattle.bc_model.specs.declared.operations.Op.{Op}
+use Rattle.bc_model.specs.declared.operations.Reply.{Reply}
+use Rattle.bc_model.specs.declared.operations.Reply.TheVariants.{Foreign}
+use Rattle.bc_mutator.specs.Operations.{IsOpOf, WantsMore}
+use Rattle.bc_mutator.specs.Parts.{TouchesHand, touched_slot}
+use Rattle.bc_pins.specs.declared.holding.Held.{Held}
+use Rattle.bc_pins.specs.declared.key.Role.{Role}
+use Rattle.bc_pins.specs.declared.pins.Pins.{Pins}
+use Rattle.bc_pins.specs.declared.pins.Seat.{Seat}
+use Rattle.bc_pins.specs.declared.views.View.{View}
+use Rattle.bc_pins.specs.Calls.{IsSameSeat, key_of, view_of}
+use Rattle.bc_pins.specs.Key.{Key, lane_role, owner, role_number}
+use Rattle.bc_pins.specs.Views.{has_role}
+use Rattle.bc_superpages.specs.Layout.{Layout}
+use Rattle.bc_whole_heap.specs.Heaps.{HeapView}
+
+-- a page of a domain that the lane holds is its seat's own
+own-role : (k : Key) (hs : List ℕ) (lane page : ℕ) → k.owners ≡ map lane_role hs → get_or k.opening.domains (page / 4) 0 < length hs → get_or hs (get_or k.opening.domains (page / 4) 0) 0 ≡ lane → owner k page ≡ lane_role lane
+own-role k hs lane page owners within owned =
+    let d : ℕ = get_or k.opening.domains (page / 4) 0 in
+    ap (λ (l : List ℕ). get_or l d 0) owners ∙ get_or-map lane_role hs d 0 0 within ∙ ap lane_role owned
+
+pub own-page : (pins : Pins) (hs : List ℕ) (lane page : ℕ) (seat : Seat) (hand : Option Held) → IsLaneTable (key_of pins) hs → IsLaneSeat pins lane seat hand
+    → get_or (key_of pins).opening.domains (page / 4) 0 < length hs → get_or hs (get_or (key_of pins).opening.domains (page / 4) 0) 0 ≡ lane → IsOwnPage (view_of seat) page
+own-page pins hs lane page seat hand table seated within owned =
+    let v : View = view_of seat in
+    subst (λ (a : Key). 0 < has_role v (owner a page)) (sym seated.at.about)
+    (subst (λ (r : ℕ). 0 < has_role v r) (sym (own-role (key_of pins) hs lane page table.owners within owned))
+    (subst (λ (r : Role). 0 < has_role v (role_number r)) seated.role seated.at.role))
+
+-- the same whole heaps, with another page in hand
+pub whole-moved : (part : LanePart) (v w : View) (hand after : Option Held) (end : ℕ) (h : HeapView) → ((e : ℕ) → (s : Layout) → ShowsPages v hand e s → ShowsPages w after e s) → IsWhole part v hand end h → IsWhole part w after end h
+whole-moved part v w hand after end h shows whole = record {
+  ready = whole.ready;
+  stands = whole.stands;
+  belongs = record {
+    space = shows end h.space whole.belongs.space;
+    roots = whole.belongs.roots;
+    chunk_is = whole.belongs.chunk_is;
+    buffer_is = whole.belongs.buffer_is;
+  };
+}
+
+-- what is looked at is in hand, if it lies on the page in hand or nowhere
+pub touches-page : (part : LanePart) (end page : ℕ) (op : Op) (v : View) (hand : Option Held) → LeadsToPageWhere part end op (λ q. q ≡ page) → HasPage hand page
+    → TouchesHand (ShowsPages v hand end) (SlotsOf part) (HasPage hand) (touched_slot op)
+touches-page part end page op v hand leads has =
+    touches-more (ShowsPages v hand end) (ShowsPages v hand end) (SlotsOf part) (SlotsOf part) (λ q. q ≡ page) (HasPage hand) (touched_slot op)
+    (λ s shown. shown) (λ r shown. shown) (λ q e. subst (HasPage hand) (sym e) has) (leads v hand)
+
+pub touches-none : (part : LanePart) (end : ℕ) (op : Op) (v : View) (hand : Option Held) → LeadsToPageWhere part end op (λ q. ⊥)
+    → TouchesHand (ShowsPages v hand end) (SlotsOf part) (HasPage hand) (touched_slot op)
+touches-none part end op v hand leads =
+    touches-more (ShowsPages v hand end) (ShowsPages v hand end) (SlotsOf part) (SlotsOf part) (λ q. ⊥) (HasPage hand) (touched_slot op)
+    (λ s shown. shown) (λ r shown. shown) (λ q never. absurd never) (leads v hand)
+
+-- a page couldn't be taken
+pub refused-stops : (part : LanePart) (k : Key) (w : View) (after : Option Held) (end page : ℕ) (op : Op) (why : Stop) → w.about ≡ k → LooksOwn part k end op page → IsRefusedPage w page why → StopsOp part w after end op why
+refused-stops part k w after end page op why about looks refused = elim refused [
+  | inl busy ↦ subst (StopsOp part w after end op) (sym busy.0) (busy.1, λ h whole fits. looks.looks w after h about whole fits)
+  | inr gone ↦ subst (StopsOp part w after end op) (sym gone.0) (gone.1, λ h whole fits. looks.looks w after h about whole fits)
+]
+
+-- an operation that looks at an object wants no room in the chunk
+pub own-wants : (part : LanePart) (h : HeapView) (words page : ℕ) (op : Op) → LooksOn h op page → WantsMore part.holders.items part.lane words op → ⊥
+own-wants part h words page op looks wants = looking-wants h.roots part.holders.items part.lane words op looks.0 looks.1 wants
+
+pub foreign-wants : (part : LanePart) (h : HeapView) (words : ℕ) (op : Op) → LooksForeign h part.holders.items part.lane op → WantsMore part.holders.items part.lane words op → ⊥
+foreign-wants part h words op looks wants = looking-wants h.roots part.holders.items part.lane words op looks.at looks.looks wants
+
+-- a cell of another lane's is looked at
+pub foreign-does : (part : LanePart) (k : Key) (v : View) (hand : Option Held) (end : ℕ) (op : Op) → v.about ≡ k → LaneHoldsAll part op
+    → ((u : View) → (g : Option Held) → (h : HeapView) → u.about ≡ k → IsWhole part u g end h → IsOpOf h.roots op → LooksForeign h part.holders.items part.lane op)
+    → DoesOne part v hand part v hand end op Foreign
+foreign-does part k v hand end op about held looks = λ h whole fits.
+    (h, whole, foreign-looked h part.holders.items part.lane part.serial op whole.ready held (looks v hand h about whole fits))
+
+-- what an operation over the page in hand makes of it
+module _ (part new : LanePart) (seat : Seat) (hand after : Option Held) (end : ℕ) (op : Op) (result : Result Reply Stop)
+    (done : IfOk result (λ reply. DoesOne part (view_of seat) hand new (view_of seat) after end op reply)) (still : OnErr result ((new ≡ part) × (after ≡ hand))) where
+  either : (A : Type 0) (r : Result Reply Stop) → IfOk r (λ reply. A) → OnErr r A → A
+  either A (Ok reply) ok err = ok
+  either A (Err why) ok err = err
+
+  pub hands-operated : (h : HeapView) → IsWhole part (view_of seat) hand end h → IsOpOf h.roots op → HasInHand seat hand → ((p : ℕ) → HasPage hand p → HasPage after p) → HasInHand seat after
+  hands-operated h whole fits has pages =
+      either (HasInHand seat after) result
+      (IfOk-weaker result _ _ (λ reply does. let k = does h whole fits in hand-after seat hand after end k.0.space has pages k.1.belongs.space) done)
+      (on_err_weaker result (λ same. subst (HasInHand seat) (sym same.1) has) still)
+
+  -- which was brought before
+  pub does-brought : (v : View) (first : Option Held) → ((e : ℕ) → (s : Layout) → ShowsPages v first e s → ShowsPages (view_of seat) hand e s)
+      → IfOk result (λ reply. DoesOne part v first new (view_of seat) after end op reply)
+  does-brought v first shows =
+      IfOk-weaker result _ _ (λ reply does h whole fits. does h (whole-moved part v (view_of seat) first hand end h shows whole) fits) done
+
+  pub stays-brought : (v : View) (first : Option Held) → ((e : ℕ) → (s : Layout) → ShowsPages v first e s → ShowsPages (view_of seat) hand e s)
+      → OnErr result (StaysWhole part v first new (view_of seat) after end)
+  stays-brought v first shows =
+      on_err_weaker result
+      (λ same. (same.0, λ h whole. subst (λ (x : Option Held). IsWhole part (view_of seat) x end h) (sym same.1) (whole-moved part v (view_of seat) first hand end h shows whole)))
+      still
+
+  pub stops-operated : IfErr result (λ why. StopsOp part (view_of seat) hand end op why) → IfErr result (λ why. StopsOp new (view_of seat) after end op why)
+  stops-operated why = go result why still
+    where
+      go : (r : Result Reply Stop) → IfErr r (λ w. StopsOp part (view_of seat) hand end op w) → OnErr r ((new ≡ part) × (after ≡ hand)) → IfErr r (λ w. StopsOp new (view_of seat) after end op w)
+      go (Ok reply) stops same = tt
+      go (Err w) stops same =
+          subst (λ (p : LanePart). StopsOp p (view_of seat) after end op w) (sym same.0)
+          (subst (λ (x : Option Held). StopsOp part (view_of seat) x end op w) (sym same.1) stops)

@@ -1,0 +1,144 @@
+-- A seat that takes an own page, and puts it back.
+use Rattle.std.proofs.Common.{◌≡◌, ◌⊎◌, ℕ, ◌+◌, ◌<◌, ◌≤◌, Bool, true, false, List, [], ◌∷◌, length, Option, Some, None, inl, inr, refl, ap, sym, subst, ◌∙◌, arith}
+use Rattle.bc_lane.specs.Shown.{HasPage, IsOwnPage, ShowsPages}
+use Rattle.bc_lane.specs.Turns.{HasInHand, IsRefusedPage, ReadLast, ReadsOn}
+use Rattle.bc_lane.specs.declared.stops.Stop.TheVariants as stop
+use Rattle.bc_lane.proofs.PageLemmas.{shows-back, shows-given, shows-read, shows-taken}
+use Rattle.bc_pins.specs.declared.holding.Held.{Held}
+use Rattle.bc_pins.specs.declared.pins.Seat.{Seat}
+use Rattle.bc_pins.specs.declared.taking.TakeNo.{TakeNo}
+use Rattle.bc_pins.specs.declared.taking.TakeNo.TheVariants.{Absent, Busy, Gone, Remembered}
+use Rattle.bc_pins.specs.declared.taking.Want.{Want}
+use Rattle.bc_pins.specs.declared.taking.Want.TheVariants.{Victim, Work}
+use Rattle.bc_pins.specs.declared.views.Hand.{Hand}
+use Rattle.bc_pins.specs.declared.views.View.{View}
+use Rattle.bc_pins.specs.Calls.{Grasps, HoldsPage, IsFree, IsTakeRefused, MayPut, put_back, refusal_word, tried, view_of}
+use Rattle.bc_pins.specs.Contents.{IsBarePage}
+use Rattle.bc_pins.specs.Key.{Key, pages_of}
+use Rattle.bc_pins.specs.Steps.{Takes, both_slots, gripping, having_read}
+use Rattle.bc_pins.specs.declared.views.Lodged.TheVariants.{Nothing}
+use Rattle.bc_pins.proofs.TakeLemmas.{some_hand}
+use Rattle.bc_pins.proofs.VisitLemmas.{holds_taken, tried_rights}
+use Rattle.bc_superpages.specs.Layout.{Layout}
+
+-- the page in hand may be put back
+pub may-put : (seat : Seat) (held : Held) (end : ℕ) (s : Layout) → ShowsPages (view_of seat) (Some held) end s → MayPut seat held
+may-put seat held end s shown =
+    let x = shown.in_hand in
+    let same : (hand : Hand) → (view_of seat).hand ≡ Some hand → x.hand ≡ hand = λ hand has. some_hand x.hand hand (sym x.has ∙ has) in
+    record {
+      fixed = x.fixed;
+      young = x.young;
+      remembered = λ hand has on. x.flag (ap (λ (h : Hand). h.remembered) (same hand has) ∙ on);
+      others = λ hand has none. absurd (let own = x.own in omega arith);
+      counted = λ hand has. sym (ap (λ (h : Hand). h.counted) (same hand has)) ∙ x.counted;
+      marked = λ hand has. sym (ap (λ (h : Hand). h.marked) (same hand has)) ∙ x.marked;
+    }
+
+pub in-hand : (seat : Seat) (hand : Option Held) (held : Held) → hand ≡ Some held → HasInHand seat hand → HoldsPage seat held
+in-hand seat hand held is has = subst (HasInHand seat) is has
+
+pub in-none : (seat : Seat) (hand : Option Held) → hand ≡ None → HasInHand seat hand → IsFree seat
+in-none seat hand is has = subst (HasInHand seat) is has
+
+pub shown-none : (v : View) (hand : Option Held) (end : ℕ) (s : Layout) → hand ≡ None → ShowsPages v hand end s → ShowsPages v None end s
+shown-none v hand end s is shown = subst (λ (x : Option Held). ShowsPages v x end s) is shown
+
+-- it was put back
+pub shown-put : (seat seat' : Seat) (hand : Option Held) (held : Held) (end : ℕ) (s : Layout) → hand ≡ Some held → view_of seat' ≡ put_back (view_of seat) held → ShowsPages (view_of seat) hand end s → ShowsPages (view_of seat') None end s
+shown-put seat seat' hand held end s is view shown =
+    subst (λ (v : View). ShowsPages v None end s) (sym view)
+    (shows-given (view_of seat) held end s (subst (λ (x : Option Held). ShowsPages (view_of seat) x end s) is shown))
+
+-- and what was so then was so before
+pub shown-back : (seat seat' : Seat) (hand : Option Held) (held : Held) (end last : ℕ) (s t : Layout) → hand ≡ Some held → view_of seat' ≡ put_back (view_of seat) held → ShowsPages (view_of seat) hand last t → ShowsPages (view_of seat') None end s
+    → ShowsPages (view_of seat) hand end s
+shown-back seat seat' hand held end last s t is view first shown =
+    subst (λ (x : Option Held). ShowsPages (view_of seat) x end s) (sym is)
+    (shows-back (view_of seat) held end last s t (subst (λ (x : Option Held). ShowsPages (view_of seat) x last t) is first) (subst (λ (v : View). ShowsPages v None end s) view shown))
+
+pub some-back : (v : View) (hand : Option Held) (end : ℕ) (s : Layout) → hand ≡ None → ShowsPages v None end s → ShowsPages v hand end s
+some-back v hand end s is shown = subst (λ (x : Option Held). ShowsPages v x end s) (sym is) shown
+
+-- a page was taken
+pub tried-about : (v : View) (page : ℕ) (b : Bool) → (tried v page Work b).about ≡ v.about
+tried-about v page true = refl
+tried-about v page false = refl
+
+pub tried-read : (v : View) (page : ℕ) (b : Bool) → length v.read ≤ length (tried v page Work b).read
+tried-read v page true = omega arith
+tried-read v page false = omega arith
+
+pub holds-taken : (v : View) (seat : Seat) (page : ℕ) (held : Held) → Grasps (tried v page Work held.remembered) seat page held → page < pages_of v.about → HoldsPage seat held
+holds-taken v seat page held g lt =
+    holds_taken (tried v page Work held.remembered) seat page held g (subst (λ (a : Key). page < pages_of a) (sym (tried-about v page held.remembered)) lt)
+
+pub shown-taken : (v : View) (seat : Seat) (page : ℕ) (held : Held) (end : ℕ) (s : Layout) → Grasps (tried v page Work held.remembered) seat page held → Takes v page held.remembered held.homed → IsOwnPage v page → ShowsPages v None end s → ShowsPages (view_of seat) (Some held) end s
+shown-taken v seat page held end s g takes own shown =
+    subst (λ (w : View). ShowsPages w (Some held) end s) (sym g.view)
+    (subst (λ (p : ℕ). ShowsPages (gripping (tried v page Work held.remembered) page held.remembered held.homed) (Some (record { page = p; remembered = held.remembered; homed = held.homed })) end s) (sym g.is)
+    (shows-taken v page end held.remembered held.homed s own takes shown))
+
+pub taken-reads : (v : View) (seat : Seat) (page : ℕ) (held : Held) → Grasps (tried v page Work held.remembered) seat page held → ReadsOn v (view_of seat)
+taken-reads v seat page held g =
+    let more = tried-read v page held.remembered in
+    let long = ap (λ (w : View). length w.read) g.view in
+    record { longer = omega arith; rights = ap (λ (w : View). w.rights) g.view ∙ tried_rights v page Work held.remembered }
+
+-- or refused
+pub refused-read : (v w : View) (page : ℕ) (want : Want) (refusal : TakeNo) → IsTakeRefused v page want refusal w → ReadLast w page (refusal_word refusal)
+refused-read v w page want refusal r = elim r.read [
+  | inl e ↦ (v.read, ap (λ (x : View). x.read) e)
+  | inr e ↦ ((page, 2) ∷ v.read, ap (λ (x : View). x.read) e.1)
+]
+
+pub refused-reads : (v w : View) (page : ℕ) (want : Want) (refusal : TakeNo) → IsTakeRefused v page want refusal w → ReadsOn v w
+refused-reads v w page want refusal r = elim r.read [
+  | inl e ↦ let long = ap (λ (x : View). length x.read) e in record { longer = omega arith; rights = ap (λ (x : View). x.rights) e }
+  | inr e ↦ let long = ap (λ (x : View). length x.read) e.1 in record { longer = omega arith; rights = ap (λ (x : View). x.rights) e.1 }
+]
+
+pub put-reads : (v w : View) (held : Held) → w ≡ put_back v held → ReadsOn v w
+put-reads v w held e = let long = ap (λ (x : View). length x.read) e in record { longer = omega arith; rights = ap (λ (x : View). x.rights) e }
+
+pub none-reads : (v : View) → ReadsOn v v
+none-reads v = record { longer = omega arith; rights = refl }
+
+pub then-reads : (u v w : View) → ReadsOn u v → ReadsOn v w → ReadsOn u w
+then-reads u v w x y = let a = x.longer in let b = y.longer in record { longer = omega arith; rights = y.rights ∙ x.rights }
+
+pub refused-shown : (v w : View) (page : ℕ) (want : Want) (refusal : TakeNo) (end : ℕ) (s : Layout) → IsTakeRefused v page want refusal w → ShowsPages v None end s → ShowsPages w None end s
+refused-shown v w page want refusal end s r shown = elim r.read [
+  | inl e ↦ subst (λ (x : View). ShowsPages x None end s) (sym e) (shows-read v page (refusal_word refusal) end s shown)
+  | inr e ↦ subst (λ (x : View). ShowsPages x None end s) (sym e.1) (shows-read (having_read v page 2) page (refusal_word refusal) end s (shows-read v page 2 end s shown))
+]
+
+-- the other two refusals don't come
+work-victim : Work ≡ Victim → ⊥
+work-victim e = cc
+
+pub never-remembered : (v w : View) (page : ℕ) → IsTakeRefused v page Work Remembered w → ⊥
+never-remembered v w page r = work-victim (r.victim refl)
+
+pub never-absent : (v w : View) (page : ℕ) → (IsBarePage v.about.opening page → ⊥) → IsTakeRefused v page Work Absent w → ⊥
+never-absent v w page cell r = cell (r.bare refl)
+
+-- what is in hand after an operation is what was
+pub hand-after : (seat : Seat) (old new : Option Held) (end : ℕ) (s : Layout) → HasInHand seat old → ((p : ℕ) → HasPage old p → HasPage new p) → ShowsPages (view_of seat) new end s → HasInHand seat new
+hand-after seat None None end s has pages shown = has
+hand-after seat None (Some h) end s has pages shown = absurd (clash-hand shown.in_hand.hand (sym has.hand ∙ shown.in_hand.has))
+  where
+    clash-hand : (x : Hand) → None ≡ Some x → ⊥
+    clash-hand x e = cc
+hand-after seat (Some g) None end s has pages shown = absurd (pages g.page refl)
+hand-after seat (Some g) (Some h) end s has pages shown =
+    let same : g.page ≡ h.page = pages g.page refl in
+    let x = shown.in_hand in
+    record {
+      hand = x.hand;
+      has = x.has;
+      page = x.page_is;
+      inside = subst (λ (p : ℕ). p < pages_of (view_of seat).about) same has.inside;
+      frame = x.frame;
+      slots = has.slots ∙ ap (λ (p : ℕ). both_slots (view_of seat).about p Nothing Nothing) same;
+    }

@@ -1,0 +1,22 @@
+-- What a space has of the pages of a lane's domains, when one is taken, written, remembered or put back
+pub mod PageLemmas
+-- What root words have of a lane's slots
+pub mod SlotLemmas
+-- A seat that takes an own page, and puts it back
+pub mod HandLemmas
+-- Where an operation of a lane looks
+pub mod LookLemmas
+-- What the lane has belongs to the heap that an operation makes
+pub mod WholeLemmas
+-- An operation that looks at a cell of another lane's
+pub mod ForeignLemmas
+-- Operations of a lane, one more after those that were done
+pub mod RunLemmas
+-- Where the words of each domain's slots begin
+pub mod StartLemmas
+-- An operation of a lane, once its page is in hand
+pub mod AnswerLemmas
+-- A lane's turn, from operation to operation and to its end
+pub mod TurnLemmas
+-- What a lane has at the opening of a turn
+pub mod OpenLemmas

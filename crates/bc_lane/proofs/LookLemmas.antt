@@ -1,0 +1,291 @@
+-- Where an operation of a lane looks.
+use Rattle.std.proofs.Common.{◌≡◌, ◌≢◌, ℕ, ◌+◌, ◌*◌, ◌/◌, ◌<◌, ◌≤◌, ◌==◌, ◌&&◌, Bool, true, false, List, [], ◌∷◌, length, map, get_or, Option, Some, None, inl, inr, refl, ap, sym, subst, ◌∙◌, arith, eqb-true}
+use Rattle.std.specs.List.{list_all}
+use Rattle.std.specs.Prelude.{IfNone, IfSome, OnSome}
+use Rattle.std.proofs.lemmas.Bool.{and_parts, cases_lt}
+use Rattle.std.proofs.lemmas.List.{get_or_default}
+use Rattle.bc_lane.specs.Shown.{ShowsPages, ShowsSlots}
+use Rattle.bc_lane.specs.Turns.{LaneHoldsAll, IsLaneTable, IsWhole, LeadsToPageWhere, LooksAtObject, LooksForeign, LooksOn, LooksOwn, LooksTold, SlotsOf}
+use Rattle.bc_lane.specs.declared.looking.Looking.TheVariants.{Foreign}
+use Rattle.bc_lane.specs.declared.parts.LanePart.{LanePart}
+use Rattle.bc_lane.proofs.PageLemmas.{opened-allocated}
+use Rattle.bc_lane.proofs.SlotLemmas.{own-place, own-start, own-word}
+use Rattle.bc_memory.specs.Memory.{Cell}
+use Rattle.bc_model.specs.Step.{domains_of}
+use Rattle.bc_model.specs.WellFormed.{IsSlot}
+use Rattle.bc_model.specs.declared.operations.Op.{Op}
+use Rattle.bc_model.specs.declared.operations.Op.TheVariants.{New, Who, Len, Set, Cut, Link, Load, Copy, Clear, Same}
+use Rattle.bc_model.specs.declared.values.Slot.{Slot}
+use Rattle.bc_mutator.specs.Objects.{own_chunk, slot_word}
+use Rattle.bc_mutator.specs.Operations.{IsOpOf, WantsMore, setup_of}
+use Rattle.bc_mutator.specs.Parts.{TouchesHand, touched_slot}
+use Rattle.bc_mutator.proofs.MeaningLemmas.{own-slot}
+use Rattle.bc_mutator.proofs.ObjectLemmas.{there-below}
+use Rattle.bc_pins.specs.declared.holding.Held.{Held}
+use Rattle.bc_pins.specs.declared.views.View.{View}
+use Rattle.bc_pins.specs.Contents.{IsBarePage}
+use Rattle.bc_pins.specs.Key.{Key, pages_of}
+use Rattle.bc_superpages.specs.Kept.{IsLayout}
+use Rattle.bc_superpages.specs.Layout.{Layout, superpages}
+use Rattle.bc_superpages.specs.LayoutAt.{IsAllocated, state_at}
+use Rattle.bc_superpages.specs.Memory as space
+use Rattle.bc_superpages.specs.RootWords.{RootWords}
+use Rattle.bc_superpages.proofs.BringLemmas.{allocated-not_absent}
+use Rattle.bc_superpages.proofs.HandLemmas.{allocated-object, allocated-superpage}
+use Rattle.bc_superpages.proofs.MemoryLemmas.{memory_of-cell}
+use Rattle.bc_whole_heap.specs.Heaps.{HeapView, end_of}
+use Rattle.bc_word.specs.Addresses.{page_of, superpage_of}
+use Rattle.bc_word.specs.Words.{word_of_bits}
+use Rattle.bc_word.specs.declared.addresses.Address.{Address}
+use Rattle.bc_word.specs.declared.words.Word.{Word}
+use Rattle.bc_word.specs.declared.words.Word.TheVariants.{Ref}
+use Rattle.bc_word.proofs.AddressLemmas.{page_of-superpage}
+
+none-some : {X : Type 0} (p : Slot) → None ≡ Some p → X
+none-some p e = absurd (never e)
+  where
+    never : None ≡ Some p → ⊥
+    never f = cc
+
+some-slot : (q p : Slot) → Some q ≡ Some p → q ≡ p
+some-slot q p e = cc
+
+pub touched-slot : (r : RootWords) (op : Op) (p : Slot) → touched_slot op ≡ Some p → IsOpOf r op → IsSlot (setup_of r) p
+touched-slot r (New q n) p e fits = none-some p e
+touched-slot r (Who q) p e fits = subst (IsSlot (setup_of r)) (some-slot q p e) fits
+touched-slot r (Len q) p e fits = subst (IsSlot (setup_of r)) (some-slot q p e) fits
+touched-slot r (Set q i v) p e fits = subst (IsSlot (setup_of r)) (some-slot q p e) fits.0
+touched-slot r (Cut q i) p e fits = subst (IsSlot (setup_of r)) (some-slot q p e) fits.0
+touched-slot r (Link q i t) p e fits = subst (IsSlot (setup_of r)) (some-slot q p e) fits.0
+touched-slot r (Load q i t) p e fits = subst (IsSlot (setup_of r)) (some-slot q p e) fits.0
+touched-slot r (Copy q t) p e fits = none-some p e
+touched-slot r (Clear q) p e fits = none-some p e
+touched-slot r (Same q t) p e fits = none-some p e
+
+first-held : (hs : List ℕ) (lane d : ℕ) (rest : List ℕ) → list_all (λ x. get_or hs x 0 == lane) (d ∷ rest) ≡ true → get_or hs d 0 ≡ lane
+first-held hs lane d rest e = eqb-true (get_or hs d 0) lane (and_parts (get_or hs d 0 == lane) (list_all (λ x. get_or hs x 0 == lane) rest) e).0
+
+pub touched-own : (hs : List ℕ) (lane : ℕ) (op : Op) (p : Slot) → touched_slot op ≡ Some p → list_all (λ d. get_or hs d 0 == lane) (domains_of op) ≡ true → get_or hs p.domain 0 ≡ lane
+touched-own hs lane (New q n) p e held = none-some p e
+touched-own hs lane (Who q) p e held = subst (λ (x : Slot). get_or hs x.domain 0 ≡ lane) (some-slot q p e) (first-held hs lane q.domain [] held)
+touched-own hs lane (Len q) p e held = subst (λ (x : Slot). get_or hs x.domain 0 ≡ lane) (some-slot q p e) (first-held hs lane q.domain [] held)
+touched-own hs lane (Set q i v) p e held = subst (λ (x : Slot). get_or hs x.domain 0 ≡ lane) (some-slot q p e) (first-held hs lane q.domain [] held)
+touched-own hs lane (Cut q i) p e held = subst (λ (x : Slot). get_or hs x.domain 0 ≡ lane) (some-slot q p e) (first-held hs lane q.domain [] held)
+touched-own hs lane (Link q i t) p e held = subst (λ (x : Slot). get_or hs x.domain 0 ≡ lane) (some-slot q p e) (first-held hs lane q.domain (t.domain ∷ []) held)
+touched-own hs lane (Load q i t) p e held = subst (λ (x : Slot). get_or hs x.domain 0 ≡ lane) (some-slot q p e) (first-held hs lane q.domain (t.domain ∷ []) held)
+touched-own hs lane (Copy q t) p e held = none-some p e
+touched-own hs lane (Clear q) p e held = none-some p e
+touched-own hs lane (Same q t) p e held = none-some p e
+
+-- an operation that looks at an object makes none
+pub looking-wants : (r : RootWords) (hs : List ℕ) (lane words : ℕ) (op : Op) (at : Address) → LooksAtObject r (touched_slot op) at → WantsMore hs lane words op → ⊥
+looking-wants r hs lane words (New p n) at looks wants = looks
+looking-wants r hs lane words (Who p) at looks wants = wants
+looking-wants r hs lane words (Len p) at looks wants = wants
+looking-wants r hs lane words (Set p i v) at looks wants = wants
+looking-wants r hs lane words (Cut p i) at looks wants = wants
+looking-wants r hs lane words (Link p i q) at looks wants = wants
+looking-wants r hs lane words (Load p i q) at looks wants = wants
+looking-wants r hs lane words (Copy p q) at looks wants = wants
+looking-wants r hs lane words (Clear p) at looks wants = wants
+looking-wants r hs lane words (Same p q) at looks wants = wants
+
+-- where no object is looked at, nothing need be in hand
+pub leads-nowhere : (part : LanePart) (end : ℕ) (op : Op) (P : ℕ → Type 0) → touched_slot op ≡ None → LeadsToPageWhere part end op P
+leads-nowhere part end op P is v hand = subst (TouchesHand (ShowsPages v hand end) (SlotsOf part) P) (sym is) tt
+
+-- what is true of the pages that are looked at, and implies more
+pub touches-more : (A B : Layout → Type 0) (C D : RootWords → Type 0) (P Q : ℕ → Type 0) (o : Option Slot) → ((s : Layout) → B s → A s) → ((r : RootWords) → D r → C r) → ((p : ℕ) → P p → Q p) → TouchesHand A C P o → TouchesHand B D Q o
+touches-more A B C D P Q None cells slots pages touches = tt
+touches-more A B C D P Q (Some p) cells slots pages touches = λ r d at e s b lt. pages (page_of at.0) (touches r (slots r d) at e s (cells s b) lt)
+
+module _ (part : LanePart) (v0 : View) (hand0 : Option Held) (end : ℕ) (h : HeapView) (op : Op) (w : IsWhole part v0 hand0 end h) (fits : IsOpOf h.roots op) (p : Slot) (is : touched_slot op ≡ Some p) (own : get_or part.holders.items p.domain 0 ≡ part.lane) where
+  abbrev hs : List ℕ
+  hs = part.holders.items
+
+  abbrev starts : List ℕ
+  starts = part.starts.items
+
+  abbrev words : List ℕ
+  words = part.words.items
+
+  abbrev bits : ℕ
+  bits = get_or words (get_or starts p.domain 0 + p.slot) 0
+
+  slot : IsSlot (setup_of h.roots) p
+  slot = touched-slot h.roots op p is fits
+
+  pub looked-start : p.domain < length starts
+  looked-start = own-start hs part.lane part.slots starts words h.roots p w.belongs.roots slot own
+
+  pub looked-place : get_or starts p.domain 0 + p.slot < length words
+  looked-place = own-place hs part.lane part.slots starts words h.roots p w.belongs.roots slot own
+
+  pub looked-word : slot_word h.roots p ≡ word_of_bits bits
+  looked-word = own-word hs part.lane part.slots starts words h.roots p w.belongs.roots slot own
+
+  pub looks-at : (word : Word) (at : Address) → word ≡ word_of_bits bits → word ≡ Ref at → LooksAtObject h.roots (touched_slot op) at
+  looks-at word at read e = subst (λ (o : Option Slot). LooksAtObject h.roots o at) (sym is) (looked-word ∙ sym read ∙ e)
+
+  shown-slot : (r : RootWords) → SlotsOf part r → IsSlot (setup_of r) p
+  shown-slot r shown =
+      let here = w.belongs.roots in
+      let lt : p.domain < length hs = (let a = slot.0 in let b = here.domains_are in omega arith) in
+      let width = here.slots_are p.domain lt own in
+      let width' = shown.slots_are p.domain lt own in
+      let domains = shown.domains_are in
+      let less = slot.1 in
+      (omega arith, omega arith)
+
+  pub leads : (word : Word) → word ≡ word_of_bits bits → (P : ℕ → Type 0) → ((at : Address) → word ≡ Ref at → at.0 < end → P (page_of at.0)) → LeadsToPageWhere part end op P
+  leads word read P each v hand =
+      subst (TouchesHand (ShowsPages v hand end) (SlotsOf part) P) (sym is)
+      (λ r shown at e s pages lt.
+      each at (read ∙ sym (own-word hs part.lane part.slots starts words r p shown (shown-slot r shown) own) ∙ e) (let z = pages.end_is in omega arith))
+
+-- the cell that is looked at
+cell-domain : (s : Layout) (a : ℕ) → IsLayout s → IsAllocated s a → (space.cell_at s.pages a).head.domain ≡ get_or s.domains (superpage_of a) 0
+cell-domain s a l on = (allocated-object s a l on).of_domain
+
+looked-own : (r : RootWords) (op : Op) (at : Address) → LooksAtObject r (touched_slot op) at → (p : Slot) × (touched_slot op ≡ Some p) × (slot_word r p ≡ Ref at)
+looked-own r op at looks = go (touched_slot op) refl looks
+  where
+    go : (o : Option Slot) → touched_slot op ≡ o → LooksAtObject r o at → (p : Slot) × (touched_slot op ≡ Some p) × (slot_word r p ≡ Ref at)
+    go None e l = absurd l
+    go (Some p) e l = (p, e, l)
+
+module _ (part : LanePart) (k : Key) (v : View) (hand : Option Held) (end : ℕ) (h : HeapView) (op : Op) (about : v.about ≡ k) (w : IsWhole part v hand end h) (fits : IsOpOf h.roots op) (table : IsLaneTable k part.holders.items)
+    (held : LaneHoldsAll part op) (at : Address) (below : at.0 < end) (looks : LooksAtObject h.roots (touched_slot op) at) where
+  at-slot : (p : Slot) × (touched_slot op ≡ Some p) × (slot_word h.roots p ≡ Ref at)
+  at-slot = looked-own h.roots op at looks
+
+  pub looked-there : IsAllocated h.space at.0
+  looked-there =
+      let p = at-slot in
+      let slot = touched-slot h.roots op p.0 p.1 fits in
+      let own = touched-own part.holders.items part.lane op p.0 p.1 held in
+      there-below h.space (own_chunk h part.lane) at.0 w.ready.behind (own-slot h part.holders.items part.lane p.0 w.ready.running slot.0 slot.1 own at p.2) (let e = w.belongs.space.end_is in omega arith)
+
+  opened-same : h.space ≡ record k.opening { states = h.space.states; pages = h.space.pages }
+  opened-same = subst (λ (a : Key). h.space ≡ record a.opening { states = h.space.states; pages = h.space.pages }) about w.belongs.space.same
+
+  opened-layout : IsLayout k.opening
+  opened-layout = subst (λ (a : Key). IsLayout a.opening) about w.belongs.space.opening
+
+  pub looked-opened : IsAllocated k.opening at.0
+  looked-opened = opened-allocated h.space k.opening at.0 opened-same looked-there
+
+  pub looked-superpage : superpage_of at.0 < superpages k.opening
+  looked-superpage = allocated-superpage k.opening at.0 opened-layout looked-opened
+
+  pub looked-domains : h.space.domains ≡ k.opening.domains
+  looked-domains = ap (λ (x : Layout). x.domains) opened-same
+
+  pub looked-domain : get_or k.opening.domains (superpage_of at.0) 0 < length part.holders.items
+  looked-domain =
+      let is = cell-domain h.space at.0 w.ready.layout looked-there in
+      let lt = w.ready.running.closed.mature_domain at.0 (space.cell_at h.space.pages at.0) (memory_of-cell h.space.classes h.space.cells h.space.pages at.0 looked-there) in
+      let same = ap (λ (xs : List ℕ). get_or xs (superpage_of at.0) 0) looked-domains in
+      omega arith
+
+  pub looked-inside : page_of at.0 < pages_of k
+  looked-inside = elim (cases_lt (page_of at.0) (pages_of k)) [
+    | inl lt ↦ lt
+    | inr le ↦ absurd (allocated-not_absent k.opening at.0 opened-layout looked-opened (table.behind (page_of at.0) le))
+  ]
+
+  pub looked-cell : IsBarePage k.opening (page_of at.0) → ⊥
+  looked-cell bare = bare at.0 looked-opened refl
+
+  pub looked-on : LooksOn h op (page_of at.0)
+  looked-on = (at, looks, looked-there, refl)
+
+pub superpage-page : (a : ℕ) (ds : List ℕ) → get_or ds (superpage_of a) 0 ≡ get_or ds (page_of a / 4) 0
+superpage-page a ds = ap (λ (q : ℕ). get_or ds q 0) (page_of-superpage a)
+
+-- what is told of where an operation looks at a cell, whatever the whole heap
+module _ (part : LanePart) (k : Key) (end : ℕ) (op : Op) (at : Address) (table : IsLaneTable k part.holders.items) (held : LaneHoldsAll part op) (below : at.0 < end) (leads-on : LeadsToPageWhere part end op (λ q. q ≡ page_of at.0))
+    (at-each : (v : View) → (hand : Option Held) → (h : HeapView) → IsWhole part v hand end h → IsOpOf h.roots op → LooksAtObject h.roots (touched_slot op) at)
+    (some : (v : View) × (hand : Option Held) × (h : HeapView) × (v.about ≡ k) × IsWhole part v hand end h × IsOpOf h.roots op) where
+  one-looks : LooksAtObject (some.2).roots (touched_slot op) at
+  one-looks = at-each some.0 some.1 some.2 some.4 some.5
+
+  pub told-superpage : superpage_of at.0 < superpages k.opening
+  told-superpage = looked-superpage part k some.0 some.1 end some.2 op some.3 some.4 some.5 table held at below one-looks
+
+  pub told-domain : get_or k.opening.domains (superpage_of at.0) 0 < length part.holders.items
+  told-domain = looked-domain part k some.0 some.1 end some.2 op some.3 some.4 some.5 table held at below one-looks
+
+  -- at one of its own
+  pub told-own : get_or part.holders.items (get_or k.opening.domains (superpage_of at.0) 0) 0 ≡ part.lane → LooksOwn part k end op (page_of at.0)
+  told-own own =
+      let same = superpage-page at.0 k.opening.domains in
+      record {
+        held = held;
+        leads = leads-on;
+        inside = looked-inside part k some.0 some.1 end some.2 op some.3 some.4 some.5 table held at below one-looks;
+        domain = subst (λ (d : ℕ). d < length part.holders.items) same told-domain;
+        owned = subst (λ (d : ℕ). get_or part.holders.items d 0 ≡ part.lane) same own;
+        cell = looked-cell part k some.0 some.1 end some.2 op some.3 some.4 some.5 table held at below one-looks;
+        looks = λ v hand h about w fits. looked-on part k v hand end h op about w fits table held at below (at-each v hand h w fits);
+      }
+
+  -- or at one of another lane's
+  pub told-foreign : get_or part.holders.items (get_or k.opening.domains (superpage_of at.0) 0) 0 ≢ part.lane → LooksTold part k end op Foreign
+  told-foreign off = (
+    held,
+    λ v hand h about w fits. record {
+      at = at;
+      looks = at-each v hand h w fits;
+      there = looked-there part k v hand end h op about w fits table held at below (at-each v hand h w fits);
+      foreign = λ is. off (ap (λ (ds : List ℕ). get_or part.holders.items (get_or ds (superpage_of at.0) 0) 0) (sym (looked-domains part k v hand end h op about w fits table held at below (at-each v hand h w fits))) ∙ is);
+    },
+  )
+
+-- what an operation's slot refers to
+module _ (part : LanePart) (end : ℕ) (op : Op) (p : Slot) (is : touched_slot op ≡ Some p) (held : LaneHoldsAll part op) (word : Word)
+    (some : (v : View) × (hand : Option Held) × (h : HeapView) × IsWhole part v hand end h × IsOpOf h.roots op)
+    (read : word ≡ word_of_bits (get_or part.words.items (get_or part.starts.items p.domain 0 + p.slot) 0)) where
+  own : get_or part.holders.items p.domain 0 ≡ part.lane
+  own = touched-own part.holders.items part.lane op p is held
+
+  pub refers-leads : (P : ℕ → Type 0) → ((at : Address) → word ≡ Ref at → at.0 < end → P (page_of at.0)) → LeadsToPageWhere part end op P
+  refers-leads P each = leads part some.0 some.1 end some.2 op some.3 some.4 p is own word read P each
+
+  pub refers-at : (at : Address) → word ≡ Ref at → (v : View) → (hand : Option Held) → (h : HeapView) → IsWhole part v hand end h → IsOpOf h.roots op → LooksAtObject h.roots (touched_slot op) at
+  refers-at at e v hand h w fits = looks-at part v hand end h op w fits p is own word at read e
+
+pub one-ref : (word : Word) (a b : Address) → word ≡ Ref a → word ≡ Ref b → b ≡ a
+one-ref word a b x y = same a b (sym x ∙ y)
+  where
+    same : (a b : Address) → Ref a ≡ Ref b → b ≡ a
+    same a b e = cc
+
+-- what was read of the lane's words
+pub read-as : (starts starts' words words' : List ℕ) (word : Word) (p : Slot) → starts' ≡ starts → words' ≡ words → word ≡ word_of_bits (get_or words' (get_or starts' p.domain 0 + p.slot) 0) → word ≡ word_of_bits (get_or words (get_or starts p.domain 0 + p.slot) 0)
+read-as starts starts' words words' word p e f read =
+    subst (λ (xs : List ℕ). word ≡ word_of_bits (get_or xs (get_or starts p.domain 0 + p.slot) 0)) f
+    (subst (λ (xs : List ℕ). word ≡ word_of_bits (get_or words' (get_or xs p.domain 0 + p.slot) 0)) e read)
+
+pub held-as : (hs hs' : List ℕ) (lane : ℕ) (op : Op) (b : Bool) → hs' ≡ hs → b ≡ list_all (λ d. get_or hs' d 0 == lane) (domains_of op) → b ≡ list_all (λ d. get_or hs d 0 == lane) (domains_of op)
+held-as hs hs' lane op b e held = subst (λ (xs : List ℕ). b ≡ list_all (λ d. get_or xs d 0 == lane) (domains_of op)) e held
+
+pub not-held : (b c : Bool) → b ≡ c → b ≡ false → c ≡ true → ⊥
+not-held b c e off on = cc
+
+pub if-none : (r : Option Address) (P Q : Type 0) → (P → Q) → IfNone r P → IfNone r Q
+if-none None P Q more is = more is
+if-none (Some a) P Q more is = tt
+
+pub if-some : (r : Option Address) (P Q : Address → Type 0) → ((a : Address) → P a → Q a) → IfSome r P → IfSome r Q
+if-some None P Q more is = tt
+if-some (Some a) P Q more is = more a is
+
+pub on-some : (r : Option Address) (P : Type 0) → P → OnSome r P
+on-some None P is = tt
+on-some (Some a) P is = is
+
+-- the holder of a domain, as it was read
+pub held-by : (hs : List ℕ) (d e holder : ℕ) → d ≡ e → e < length hs → holder ≡ get_or hs d holder → get_or hs e 0 ≡ holder
+held-by hs d e holder is within read =
+    get_or_default hs e 0 holder within ∙ sym (read ∙ ap (λ (n : ℕ). get_or hs n holder) is)

@@ -1,0 +1,125 @@
+-- A lane's turn, from operation to operation and to its end.
+use Rattle.std.proofs.Common.{◌≡◌, ◌⊎◌, ℕ, ◌+◌, ◌-◌, ◌*◌, ◌^◌, ◌<◌, ◌≤◌, List, [], ◌∷◌, ◌++◌, length, get_or, Option, Some, None, Result, Ok, Err, Vec, Global, inl, inr, refl, ap, sym, subst, ◌∙◌, arith}
+use Rattle.std.proofs.lemmas.List.{get_or_default}
+use Rattle.std.specs.List.{AllByRecursion}
+use Rattle.std.specs.Result.{IfErr, OnErr}
+use Rattle.bc_lane.specs.Shown.{ShowsPages}
+use Rattle.bc_lane.specs.Turns.{DoesOne, IsGoing, IsLaneSeat, IsLaneTable, IsNextOp, IsWhole, LaneRan, ReadLast, ReadsOn, SamePart, StaysWhole, StopsOp, WhyStopped}
+use Rattle.bc_lane.specs.declared.parts.LanePart.{LanePart}
+use Rattle.bc_lane.specs.declared.stops.Stop.{Stop}
+use Rattle.bc_lane.specs.declared.stops.Stop.TheVariants as stop
+use Rattle.bc_lane.specs.declared.turns.LaneTurn.{LaneTurn}
+use Rattle.bc_lane.proofs.AnswerLemmas.{whole-moved}
+use Rattle.bc_lane.proofs.RunLemmas.{one-birth, ran-more, ran-none, ran-stopped}
+use Rattle.bc_model.specs.declared.operations.Op.{Op}
+use Rattle.bc_model.specs.declared.operations.Reply.{Reply}
+use Rattle.bc_mutator.specs.Operations.{IsOpOf, WantsMore}
+use Rattle.bc_nursery.specs.Objects.{left_of}
+use Rattle.bc_pins.specs.declared.holding.Held.{Held}
+use Rattle.bc_pins.specs.declared.pins.Pins.{Pins}
+use Rattle.bc_pins.specs.declared.pins.Seat.{Seat}
+use Rattle.bc_pins.specs.declared.views.View.{View}
+use Rattle.bc_pins.specs.Calls.{key_of, view_of}
+use Rattle.bc_pins.specs.Key.{Key}
+use Rattle.bc_superpages.specs.Layout.{Layout, superpages}
+use Rattle.bc_whole_heap.specs.Heaps.{HeapView, end_of}
+
+-- what the turn rests on stays
+pub going-on : (pins : Pins) (ops : List Op) (old new : LaneTurn) (seat after : Seat) (hand last : Option Held) → IsGoing pins ops old seat hand → SamePart old.part new.part → IsLaneSeat pins old.part.lane after last → new.count ≡ old.count
+    → new.part.serial + (length ops - new.next) < 2 ^ 32 → IsGoing pins ops new after last
+going-on pins ops old new seat after hand last going same seated count births = record {
+  table = subst (λ (hs : Vec ℕ Global). IsLaneTable (key_of pins) hs.items) (sym same.holders) going.table;
+  seated = subst (λ (l : ℕ). IsLaneSeat pins l after last) (sym same.lane) seated;
+  few = subst (λ (l : ℕ). l < 16) (sym same.lane) going.few;
+  count = going.count ∙ sym count;
+  births = births;
+}
+
+-- where a lane stops before an operation that there is, for a reason that is said of the operation alone
+pub stopped-at : (ops : List Op) (end : ℕ) (turn : LaneTurn) (v : View) (hand : Option Held) (op : Op) (why : Stop) → turn.next < length ops → op ≡ get_or ops turn.next op → StopsOp turn.part v hand end op why → WhyStopped ops end turn v hand why
+stopped-at ops end turn v hand op why less is stops = inr (op, less, is, stops)
+
+-- the end of the superpages is that of each whole heap
+pub same-end : (part : LanePart) (v : View) (hand : Option Held) (k : Key) (e end : ℕ) (h : HeapView) → v.about ≡ k → IsWhole part v hand e h → end ≡ 2048 * superpages k.opening → end ≡ end_of h.space
+same-end part v hand k e end h about w is =
+    is ∙ ap (λ (a : Key). 2048 * superpages a.opening) (sym about) ∙ sym (ap end_of w.belongs.space.same)
+
+-- the page in hand is put back at the end: the reason is the same
+stops-laid : (part : LanePart) (v w : View) (hand : Option Held) (end : ℕ) (op : Op) (why : Stop) → w.read ≡ v.read → ((e : ℕ) → (s : Layout) → ShowsPages w None e s → ShowsPages v hand e s) → StopsOp part v hand end op why → StopsOp part w None end op why
+stops-laid part v w hand end op stop.End read back stops = absurd stops
+stops-laid part v w hand end op stop.NurseryFull read back stops = stops
+stops-laid part v w hand end op stop.BufferFull read back stops = λ h whole fits. stops h (whole-moved part w v None hand end h back whole) fits
+stops-laid part v w hand end op (stop.Busy page) read back stops = ((stops.0.0, read ∙ stops.0.1), λ h whole fits. stops.1 h (whole-moved part w v None hand end h back whole) fits)
+stops-laid part v w hand end op (stop.Gone page) read back stops = ((stops.0.0, read ∙ stops.0.1), λ h whole fits. stops.1 h (whole-moved part w v None hand end h back whole) fits)
+
+pub why-laid : (ops : List Op) (turn : LaneTurn) (v w : View) (hand : Option Held) (end : ℕ) (why : Stop) → w.read ≡ v.read → ((e : ℕ) → (s : Layout) → ShowsPages w None e s → ShowsPages v hand e s) → WhyStopped ops end turn v hand why → WhyStopped ops end turn w None why
+why-laid ops turn v w hand end why read back is = elim is [
+  | inl done ↦ inl done
+  | inr next ↦ inr (next.0, next.1, next.2, stops-laid turn.part v w hand end next.0 why read back next.3)
+]
+
+pub ran-laid : (ops : List Op) (end : ℕ) (old new : LaneTurn) (v w x : View) (hand after : Option Held) → LaneRan ops end old v hand new w after → ReadsOn w x → ((e : ℕ) → (s : Layout) → ShowsPages w after e s → ShowsPages x None e s) → LaneRan ops end old v hand new x None
+ran-laid ops end old new v w x hand after ran reads shows =
+    ran-stopped ops end old new new v w x hand after None ran refl refl refl refl reads (λ h whole. whole-moved new.part w x after None end h shows whole)
+
+-- an operation was done and its reply kept
+module _ (pins : Pins) (ops : List Op) (end : ℕ) (turn new : LaneTurn) (part : LanePart) (seat after : Seat) (hand last : Option Held) (op : Op) (reply : Reply)
+    (going : IsGoing pins ops turn seat hand) (h : HeapView) (w : IsWhole turn.part (view_of seat) hand end h) (fits : AllByRecursion (IsOpOf h.roots) ops) (less : turn.next < length ops) (is : op ≡ get_or ops turn.next op)
+    (same : SamePart turn.part part) (seated : IsLaneSeat pins turn.part.lane after last) (reads : ReadsOn (view_of seat) (view_of after))
+    (does : DoesOne turn.part (view_of seat) hand part (view_of after) last end op reply) (part_is : new.part ≡ part) (next : new.next ≡ turn.next + 1) (count : new.count ≡ turn.count)
+    (kept : new.replies.items ≡ turn.replies.items ++ reply ∷ []) where
+  does-new : DoesOne turn.part (view_of seat) hand new.part (view_of after) last end op reply
+  does-new = subst (λ (p : LanePart). DoesOne turn.part (view_of seat) hand p (view_of after) last end op reply) (sym part_is) does
+
+  same-new : SamePart turn.part new.part
+  same-new = subst (λ (p : LanePart). SamePart turn.part p) (sym part_is) same
+
+  none : LaneRan ops end turn (view_of seat) hand turn (view_of seat) hand
+  none = ran-none ops end turn (view_of seat) hand
+
+  pub advanced-ran : LaneRan ops end turn (view_of seat) hand new (view_of after) last
+  advanced-ran =
+      ran-more ops end turn turn new (view_of seat) (view_of seat) (view_of after) hand hand last op reply none h w fits less is does-new same-new next count kept reads
+
+  pub advanced-going : IsGoing pins ops new after last
+  advanced-going =
+      let few = one-birth ops end turn turn new (view_of seat) (view_of seat) (view_of after) hand hand last op reply none h w fits less is does-new same-new next count kept reads in
+      let births = going.births in
+      going-on pins ops turn new seat after hand last going same-new seated count (omega arith)
+
+-- or it stopped
+module _ (pins : Pins) (ops : List Op) (end : ℕ) (turn new : LaneTurn) (part : LanePart) (seat after : Seat) (hand last : Option Held) (going : IsGoing pins ops turn seat hand) (less : turn.next < length ops)
+    (same : SamePart turn.part part) (seated : IsLaneSeat pins turn.part.lane after last) (reads : ReadsOn (view_of seat) (view_of after))
+    (still : StaysWhole turn.part (view_of seat) hand part (view_of after) last end)
+    (part_is : new.part ≡ part) (next : new.next ≡ turn.next) (count : new.count ≡ turn.count) (kept : new.replies.items ≡ turn.replies.items) where
+  stayed-part : new.part ≡ turn.part
+  stayed-part = part_is ∙ still.0
+
+  pub stayed-ran : LaneRan ops end turn (view_of seat) hand new (view_of after) last
+  stayed-ran =
+      ran-stopped ops end turn turn new (view_of seat) (view_of seat) (view_of after) hand hand last (ran-none ops end turn (view_of seat) hand)
+      stayed-part next count kept reads still.1
+
+  pub stayed-going : IsGoing pins ops new after last
+  stayed-going =
+      let births = going.births in
+      let serial = ap (λ (p : LanePart). p.serial) stayed-part in
+      going-on pins ops turn new seat after hand last going (subst (λ (p : LanePart). SamePart turn.part p) (sym part_is) same) seated count (omega arith)
+
+  pub stayed-why : (op : Op) (why : Stop) → op ≡ get_or ops turn.next op → StopsOp part (view_of after) last end op why → WhyStopped ops end new (view_of after) last why
+  stayed-why op why is stops =
+      stopped-at ops end new (view_of after) last op why (subst (λ (n : ℕ). n < length ops) (sym next) less) (subst (λ (n : ℕ). op ≡ get_or ops n op) (sym next) is)
+      (subst (λ (p : LanePart). StopsOp p (view_of after) last end op why) (sym part_is) stops)
+
+  pub stayed-nursery : (op : Op) (why : Stop) → op ≡ get_or ops turn.next op → (WantsMore turn.part.holders.items turn.part.lane (left_of turn.part.chunk) op → why ≡ stop.NurseryFull)
+      → IsNextOp ops new.next (λ o. WantsMore new.part.holders.items new.part.lane (left_of new.part.chunk) o) → why ≡ stop.NurseryFull
+  stayed-nursery op why is full more =
+      let at : more.0 ≡ get_or ops turn.next more.0 = subst (λ (n : ℕ). more.0 ≡ get_or ops n more.0) next more.2 in
+      let same_op : more.0 ≡ op = at ∙ get_or_default ops turn.next more.0 op less ∙ sym is in
+      full (subst (λ (p : LanePart). WantsMore p.holders.items p.lane (left_of p.chunk) op) stayed-part (subst (λ (o : Op). WantsMore new.part.holders.items new.part.lane (left_of new.part.chunk) o) same_op more.3))
+
+pub one-why : (r : Result Reply Stop) (a b : Stop) → r ≡ Err a → r ≡ Err b → a ≡ b
+one-why r a b x y = cc
+
+pub op-default : (ops : List Op) (n : ℕ) (d : Op) → n < length ops → get_or ops n d ≡ get_or ops n (get_or ops n d)
+op-default ops n d less = get_or_default ops n d (get_or ops n d) less

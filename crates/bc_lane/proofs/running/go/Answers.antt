@@ -1,0 +1,35 @@
+use Rattle.std.proofs.Common.{◌≡◌, ◌<◌, ◌≤◌, inl, inr, refl, sym, ◌∙◌, arith}
+use Rattle.bc_lane.proofs.RunLemmas.{fits-all, ran-none, ran-then}
+use Rattle.bc_pins.specs.Calls.{view_of}
+use Rattle.bc_pins.proofs.VisitLemmas.{same_after}
+use Rattle.bc_lane.proofs.running.go.Goals as goal
+
+pub operations-init : goal.operations-init
+operations-init g c = record {
+  ran = ran-none c.args.ops.now c.args.end c.args.turn.now (view_of c.args.seat.now) c.args.hand.now;
+  going = c.requires.going;
+  seat = record { table = refl; id = refl; role = refl; opens = refl; about = refl; alive = refl; roles = refl };
+}
+
+pub advance-requires-clause-whole : goal.advance-requires-clause-whole
+advance-requires-clause-whole g c =
+    let w = c.requires.whole in
+    let m = c.operations.invariant.ran.done w.0 w.1 w.2 in
+    (m.0, m.1, fits-all w.0 m.0 c.args.ops.now m.2 w.2)
+
+pub operations-preserved : goal.operations-preserved
+operations-preserved g c =
+    let before = c.operations.invariant in
+    let now = c.advance.ensures in
+    record {
+      ran = ran-then c.args.ops.now c.args.end c.args.turn.now c.operations.turn c.advance.new.turn (view_of c.args.seat.now) (view_of c.operations.seat) (view_of c.advance.new.seat) c.args.hand.now c.operations.hand c.advance.new.hand before.ran now.ran;
+      going = now.going;
+      seat = same_after c.args.seat.now c.operations.seat c.advance.new.seat before.seat now.seat;
+    }
+
+pub returns-in-Err-clause-ran : goal.returns-in-Err-clause-ran
+returns-in-Err-clause-ran g c =
+    ran-then c.args.ops.now c.args.end c.args.turn.now c.operations.turn c.advance.new.turn (view_of c.args.seat.now) (view_of c.operations.seat) (view_of c.advance.new.seat) c.args.hand.now c.operations.hand c.advance.new.hand c.operations.invariant.ran c.advance.ensures.ran
+
+pub returns-in-Err-clause-seat : goal.returns-in-Err-clause-seat
+returns-in-Err-clause-seat g c = same_after c.args.seat.now c.operations.seat c.advance.new.seat c.operations.invariant.seat c.advance.ensures.seat

@@ -1,0 +1,15 @@
+-- Operations of a lane, done one after another on a whole heap.
+use Rattle.std.specs.Prelude.{◌≡◌, ℕ, List, [], ◌∷◌}
+use Rattle.bc_model.specs.declared.operations.Op.{Op}
+use Rattle.bc_model.specs.declared.operations.Reply.{Reply}
+use Rattle.bc_mutator.specs.Effects.{DidOperation}
+use Rattle.bc_whole_heap.specs.Heaps.{HeapView}
+
+-- from the first heap to the last each operation was done, in order, and answered its reply. The lane had `serial` births before
+-- and has `next` after
+abbrev pub DidAll : List ℕ → ℕ → List Op → List Reply → HeapView → ℕ → HeapView → ℕ → Type 0
+DidAll holders lane [] [] h serial k next = (k ≡ h) × (next ≡ serial)
+DidAll holders lane [] (reply ∷ replies) h serial k next = ⊥
+DidAll holders lane (op ∷ ops) [] h serial k next = ⊥
+DidAll holders lane (op ∷ ops) (reply ∷ replies) h serial k next =
+    (m : HeapView) × (n : ℕ) × DidOperation h m holders lane serial n op reply × DidAll holders lane ops replies m n k next

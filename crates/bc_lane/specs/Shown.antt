@@ -1,0 +1,89 @@
+-- Which whole spaces the pages of a lane's domains may belong to in a turn, and which root words its slots. The pages lie at the
+-- table, but for one that may be in the lane's hands; what its seat knows of them is the seat's view.
+use Rattle.std.specs.Prelude.{◌≡◌, ◌≢◌, ◌⊎◌, ℕ, ◌+◌, ◌*◌, ◌<◌, ◌≤◌, ◌==◌, true, false, List, [], length, Option, Some, None, slice_index}
+use Rattle.bc_bits.specs.Counting.{one_if}
+use Rattle.bc_pins.specs.declared.holding.Held.{Held}
+use Rattle.bc_pins.specs.declared.views.Hand.{Hand}
+use Rattle.bc_pins.specs.declared.views.View.{View}
+use Rattle.bc_pins.specs.Contents.{IsContent, RefersYoung}
+use Rattle.bc_pins.specs.Key.{owner}
+use Rattle.bc_pins.specs.Totals.{times}
+use Rattle.bc_pins.specs.Views.{has_role, opened_word, record_of}
+use Rattle.bc_superpages.specs.declared.headers.PageState.TheVariants.{Remembered}
+use Rattle.bc_superpages.specs.Headers.{is_gone}
+use Rattle.bc_superpages.specs.Kept.{IsLayout}
+use Rattle.bc_superpages.specs.Layout.{Layout, content_at}
+use Rattle.bc_superpages.specs.LayoutAt.{state_at}
+use Rattle.bc_superpages.specs.RootWords.{RootWords}
+use Rattle.bc_superpages.specs.RootSlots.{root_at}
+use Rattle.bc_whole_heap.specs.Heaps.{end_of}
+use Rattle.bc_word.specs.WordBits.{IsPacked}
+
+-- the seat is that of the lane which holds the page's domain
+abbrev pub IsOwnPage : View → ℕ → Type 0
+IsOwnPage v page = 0 < has_role v (owner v.about page)
+
+-- the page is Remembered, or the seat found it so
+abbrev pub IsRememberedOrFound : View → Layout → ℕ → Type 0
+IsRememberedOrFound v s page = (state_at s.states page ≡ Remembered) ⊎ (0 < times page v.seen)
+
+-- what a space has of an own page at the table: the content that the seat records. It is Remembered only where it was so at the
+-- opening or the seat put it back so, and the seat put it back so only where it is, or where it had found it so. It is Gone
+-- only where it was at the opening
+pub record ShowsPage (v : View) (s : Layout) (page : ℕ) : Type 0 where
+  pub content : content_at s.pages page ≡ record_of v page
+  pub remembered : state_at s.states page ≡ Remembered → 0 < one_if (opened_word v.about page == 2) + times page v.recorded
+  pub recorded : 0 < times page v.recorded → IsRememberedOrFound v s page
+  pub gone : is_gone (state_at s.states page) ≡ true → opened_word v.about page ≡ 4
+
+-- and of the page in the lane's hands: the content in its box, which may be put back. It is remembered where it was so at the
+-- opening or the seat put it back so, and it wasn't Gone at the opening
+pub record ShowsHeld (v : View) (held : Held) (s : Layout) : Type 0 where
+  pub own : IsOwnPage v held.page
+  pub content : content_at s.pages held.page ≡ held.homed.page
+  pub remembered : state_at s.states held.page ≡ Remembered → held.remembered ≡ true
+  pub recorded : (0 < times held.page v.recorded) ⊎ (held.remembered ≡ true) → IsRememberedOrFound v s held.page
+  pub kept : 0 < one_if (opened_word v.about held.page == 2) + times held.page v.recorded → held.remembered ≡ true
+  pub here : is_gone (state_at s.states held.page) ≡ false
+  pub opened : opened_word v.about held.page ≢ 4
+  pub fixed : IsContent v.about.opening held.page held.homed.page
+  pub young : RefersYoung v.about.opening held.page held.homed.page → held.remembered ≡ true
+  pub hand : Hand
+  pub has : v.hand ≡ Some hand
+  pub page_is : hand.page ≡ held.page
+  pub frame : hand.frame ≡ held.homed.frame
+  pub counted : hand.counted ≡ []
+  pub marked : hand.marked ≡ []
+  pub flag : hand.remembered ≡ true → held.remembered ≡ true
+
+-- the page is in the lane's hands
+abbrev pub HasPage : Option Held → ℕ → Type 0
+HasPage None page = ⊥
+HasPage (Some held) page = page ≡ held.page
+
+abbrev pub ShowsHand : View → Option Held → Layout → Type 0
+ShowsHand v None s = Unit {0}
+ShowsHand v (Some held) s = ShowsHeld v held s
+
+-- the pages of the lane's domains may belong to this space: it is the one at the opening but for states and contents of pages,
+-- and has of each own page what is at the table or in hand
+pub record ShowsPages (v : View) (hand : Option Held) (end : ℕ) (s : Layout) : Type 0 where
+  pub same : s ≡ record v.about.opening { states = s.states; pages = s.pages }
+  pub end_is : end ≡ end_of s
+  pub opening : IsLayout v.about.opening
+  pub others : (page : ℕ) → IsOwnPage v page → (HasPage hand page → ⊥) → ShowsPage v s page
+  pub in_hand : ShowsHand v hand s
+
+-- the lane's words, a stretch for each of its domains, may belong to these root words. By domain, `starts` tells where the
+-- stretch begins, and `slots` is the number of slots of a domain
+pub record ShowsSlots (holders : List ℕ) (lane slots : ℕ) (starts words : List ℕ) (r : RootWords) : Type 0 where
+  pub domains_are : r.domains ≡ length holders
+  pub slots_are : (d : ℕ) → d < length holders → slice_index holders d ≡ lane → r.slots ≡ slots
+  pub long : length r.words ≡ r.domains * r.slots
+  pub starts_long : length starts ≡ length holders
+  pub within : (d : ℕ) → d < length holders → slice_index holders d ≡ lane → slice_index starts d + slots ≤ length words
+  pub apart : (d e : ℕ) → d < e → e < length holders → slice_index holders d ≡ lane → slice_index holders e ≡ lane
+      → slice_index starts d + slots ≤ slice_index starts e
+  pub same : (d t : ℕ) → d < length holders → slice_index holders d ≡ lane → t < slots
+      → root_at r d t ≡ slice_index words (slice_index starts d + t)
+  pub packed : (k : ℕ) → IsPacked (slice_index words k)

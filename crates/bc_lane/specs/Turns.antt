@@ -1,0 +1,214 @@
+-- A lane's turn: which whole heaps what the lane has may belong to, what its seat and the table are, and what is done.
+use Rattle.std.specs.Prelude.{◌≡◌, ◌≢◌, ◌⊎◌, ℕ, ◌+◌, ◌-◌, ◌*◌, ◌/◌, ◌^◌, ◌<◌, ◌≤◌, ◌==◌, true, List, [], ◌∷◌, ◌++◌, length, map, take, drop, Option, Some, None, slice_index, slice_index_or}
+use Rattle.std.specs.List.{AllByRecursion, list_all}
+use Rattle.bc_lane.specs.declared.looking.Looking.{Looking}
+use Rattle.bc_lane.specs.declared.looking.Looking.TheVariants.{Nowhere, Own, Foreign}
+use Rattle.bc_lane.specs.declared.parts.LanePart.{LanePart}
+use Rattle.bc_lane.specs.declared.stops.Stop.{Stop}
+use Rattle.bc_lane.specs.declared.stops.Stop.TheVariants as stop
+use Rattle.bc_lane.specs.declared.turns.LaneDone.{LaneDone}
+use Rattle.bc_lane.specs.declared.turns.LaneRoots.{LaneRoots}
+use Rattle.bc_lane.specs.declared.turns.LaneTurn.{LaneTurn}
+use Rattle.bc_nursery.specs.Entries.{Entries}
+use Rattle.bc_nursery.specs.Nurseries.{Nursery}
+use Rattle.bc_lane.specs.Doing.{DidAll}
+use Rattle.bc_lane.specs.Shown.{ShowsPages, ShowsSlots}
+use Rattle.bc_model.specs.State.{State}
+use Rattle.bc_model.specs.Step.{domains_of}
+use Rattle.bc_model.specs.declared.operations.Op.{Op}
+use Rattle.bc_model.specs.declared.operations.Reply.{Reply}
+use Rattle.bc_model.specs.declared.values.Slot.{Slot}
+use Rattle.bc_mutator.specs.Effects.{DidOperation}
+use Rattle.bc_mutator.specs.Objects.{MayOperate, slot_word}
+use Rattle.bc_mutator.specs.Operations.{IsOpOf, NeedsEntry, WantsMore}
+use Rattle.bc_mutator.specs.Parts.{IsPartOf, TouchesHand, touched_slot}
+use Rattle.bc_nursery.specs.Objects.{left_of}
+use Rattle.bc_pins.specs.declared.holding.Held.{Held}
+use Rattle.bc_pins.specs.declared.key.Role.TheVariants.{Lane}
+use Rattle.bc_pins.specs.declared.pins.Pins.{Pins}
+use Rattle.bc_pins.specs.declared.pins.Seat.{Seat}
+use Rattle.bc_pins.specs.declared.views.View.{View}
+use Rattle.bc_pins.specs.Calls.{HoldsPage, IsAt, IsFree, key_of}
+use Rattle.bc_pins.specs.Contents.{IsBarePage}
+use Rattle.bc_pins.specs.Key.{Key, lane_role, pages_of}
+use Rattle.bc_pins.specs.Views.{opened_state}
+use Rattle.bc_superpages.specs.declared.headers.PageState.TheVariants.{Absent}
+use Rattle.bc_superpages.specs.LayoutAt.{IsAllocated}
+use Rattle.bc_superpages.specs.RootWords.{RootWords}
+use Rattle.bc_whole_heap.specs.Heaps.{HeapView}
+use Rattle.bc_whole_heap.specs.LaneStates.{StandsAs}
+use Rattle.bc_word.specs.Addresses.{page_of, superpage_of}
+use Rattle.bc_word.specs.declared.addresses.Address.{Address}
+use Rattle.bc_word.specs.declared.words.Word.TheVariants.{Ref}
+
+-- the root words that the lane's slots may belong to
+abbrev pub SlotsOf : LanePart → RootWords → Type 0
+SlotsOf part r = ShowsSlots part.holders.items part.lane part.slots part.starts.items part.words.items r
+
+-- a whole heap to which belongs what the lane has, with this page in hand and a seat of this view. The lane may operate on it,
+-- and it stands for a state in which the lane has its number of births
+pub record IsWhole (part : LanePart) (v : View) (hand : Option Held) (end : ℕ) (h : HeapView) : Type 0 where
+  pub ready : MayOperate h part.holders.items part.lane
+  pub stands : (serials : List ℕ) × (state : State) × StandsAs h part.holders.items serials state × (slice_index serials part.lane ≡ part.serial)
+  pub belongs : IsPartOf (ShowsPages v hand end) (SlotsOf part) part.chunk part.buffer part.lane h
+
+-- what stays of it
+pub record SamePart (old new : LanePart) : Type 0 where
+  pub lane : new.lane ≡ old.lane
+  pub holders : new.holders ≡ old.holders
+  pub domains : new.domains ≡ old.domains
+  pub slots : new.slots ≡ old.slots
+  pub starts : new.starts ≡ old.starts
+
+-- where the words of each domain's slots begin. The list names no domain twice
+abbrev pub AreStarts : List ℕ → ℕ → ℕ → List ℕ → Type 0
+AreStarts domains slots count starts =
+    (length starts ≡ count) × (((i j : ℕ) → i < j → j < length domains → slice_index domains i < slice_index domains j)
+    → (i : ℕ) → i < length domains → slice_index starts (slice_index domains i) ≡ i * slots)
+
+-- what a lane takes into a turn
+pub record IsPreparedTurn (lane : ℕ) (holders : List ℕ) (roots : LaneRoots) (chunk : Nursery) (buffer : Entries) (serial count from : ℕ) (turn : LaneTurn) : Type 0 where
+  pub lane_is : turn.part.lane ≡ lane
+  pub holders_are : turn.part.holders.items ≡ holders
+  pub domains : turn.part.domains ≡ roots.domains
+  pub words : turn.part.words ≡ roots.words
+  pub width : 0 < length roots.domains.items → length roots.words.items ≡ length roots.domains.items * turn.part.slots
+  pub starts : AreStarts roots.domains.items turn.part.slots (length holders) turn.part.starts.items
+  pub chunk_is : turn.part.chunk ≡ chunk
+  pub buffer_is : turn.part.buffer ≡ buffer
+  pub serial_is : turn.part.serial ≡ serial
+  pub next : turn.next ≡ from
+  pub replies : turn.replies.items ≡ []
+  pub count_is : turn.count ≡ count
+
+-- and gives back after it
+pub record IsFinished (turn : LaneTurn) (done : LaneDone) : Type 0 where
+  pub domains : done.roots.domains ≡ turn.part.domains
+  pub words : done.roots.words ≡ turn.part.words
+  pub chunk : done.chunk ≡ turn.part.chunk
+  pub buffer : done.buffer ≡ turn.part.buffer
+  pub serial : done.serial ≡ turn.part.serial
+  pub next : done.next ≡ turn.next
+  pub replies : done.replies ≡ turn.replies
+
+-- the table is one for lanes, who hold the domains so. Pages behind it are Absent
+pub record IsLaneTable (k : Key) (holders : List ℕ) : Type 0 where
+  pub lanes : k.lanes ≡ true
+  pub owners : k.owners ≡ map lane_role holders
+  pub behind : (page : ℕ) → pages_of k ≤ page → opened_state k page ≡ Absent
+
+abbrev pub HasInHand : Seat → Option Held → Type 0
+HasInHand seat None = IsFree seat
+HasInHand seat (Some held) = HoldsPage seat held
+
+-- the seat is this lane's, at this table, with this page in hand
+pub record IsLaneSeat (pins : Pins) (lane : ℕ) (seat : Seat) (hand : Option Held) : Type 0 where
+  pub at : IsAt pins seat
+  pub role : seat.role ≡ Lane lane
+  pub hands : HasInHand seat hand
+
+-- the slot whose object an operation looks at, where there is one, refers to this address
+abbrev pub LooksAtObject : RootWords → Option Slot → Address → Type 0
+LooksAtObject r None at = ⊥
+LooksAtObject r (Some p) at = slot_word r p ≡ Ref at
+
+-- the operation looks at a cell on this page
+abbrev pub LooksOn : HeapView → Op → ℕ → Type 0
+LooksOn h op page = (at : Address) × LooksAtObject h.roots (touched_slot op) at × IsAllocated h.space at.0 × (page_of at.0 ≡ page)
+
+-- what the seat read last: this, of this page
+abbrev pub ReadLast : View → ℕ → ℕ → Type 0
+ReadLast v page found = (rest : List (ℕ × ℕ)) × (v.read ≡ (page, found) ∷ rest)
+
+-- a seat read on, and has the rights to frames that it had
+pub record ReadsOn (v w : View) : Type 0 where
+  pub longer : length v.read ≤ length w.read
+  pub rights : w.rights ≡ v.rights
+
+-- this is true of the operation of that number, which there is
+abbrev pub IsNextOp : List Op → ℕ → (Op → Type 0) → Type 0
+IsNextOp ops next P = (op : Op) × (next < length ops) × (op ≡ slice_index_or ops next op) × P op
+
+-- the lane holds all domains that the operation names
+abbrev pub LaneHoldsAll : LanePart → Op → Type 0
+LaneHoldsAll part op = list_all (λ d. slice_index part.holders.items d == part.lane) (domains_of op) ≡ true
+
+-- what the operation looks at, if at a cell, lies on pages of which this is true
+abbrev pub LeadsToPageWhere : LanePart → ℕ → Op → (ℕ → Type 0) → Type 0
+LeadsToPageWhere part end op P = (v : View) → (hand : Option Held) → TouchesHand (ShowsPages v hand end) (SlotsOf part) P (touched_slot op)
+
+-- the operation looks at a cell of a domain that the lane holds, on this page of the table
+pub record LooksOwn (part : LanePart) (k : Key) (end : ℕ) (op : Op) (page : ℕ) : Type 0 where
+  pub held : LaneHoldsAll part op
+  pub leads : LeadsToPageWhere part end op (λ q. q ≡ page)
+  pub inside : page < pages_of k
+  pub domain : slice_index k.opening.domains (page / 4) < length part.holders.items
+  pub owned : slice_index part.holders.items (slice_index k.opening.domains (page / 4)) ≡ part.lane
+  pub cell : IsBarePage k.opening page → ⊥
+  pub looks : (v : View) → (hand : Option Held) → (h : HeapView) → v.about ≡ k → IsWhole part v hand end h → IsOpOf h.roots op → LooksOn h op page
+
+-- or at one of a domain that another lane holds
+pub record LooksForeign (h : HeapView) (holders : List ℕ) (lane : ℕ) (op : Op) : Type 0 where
+  pub at : Address
+  pub looks : LooksAtObject h.roots (touched_slot op) at
+  pub there : IsAllocated h.space at.0
+  pub foreign : slice_index holders (slice_index h.space.domains (superpage_of at.0)) ≢ lane
+
+-- what is told of where an operation looks
+abbrev pub LooksTold : LanePart → Key → ℕ → Op → Looking → Type 0
+LooksTold part k end op Nowhere = LaneHoldsAll part op → LeadsToPageWhere part end op (λ _. ⊥)
+LooksTold part k end op (Own page) = LooksOwn part k end op page
+LooksTold part k end op Foreign = LaneHoldsAll part op × ((v : View) → (hand : Option Held) → (h : HeapView) → v.about ≡ k → IsWhole part v hand end h → IsOpOf h.roots op
+    → LooksForeign h part.holders.items part.lane op)
+
+-- a page couldn't be taken: the stop is what was read of it
+abbrev pub IsRefusedPage : View → ℕ → Stop → Type 0
+IsRefusedPage v page why = ((why ≡ stop.Busy page) × ReadLast v page 3) ⊎ ((why ≡ stop.Gone page) × ReadLast v page 4)
+
+-- an operation of the lane was done and answered, in every whole heap
+abbrev pub DoesOne : LanePart → View → Option Held → LanePart → View → Option Held → ℕ → Op → Reply → Type 0
+DoesOne old v hand new w after end op reply = (h : HeapView) → IsWhole old v hand end h → IsOpOf h.roots op
+    → (k : HeapView) × IsWhole new w after end k × DidOperation h k old.holders.items old.lane old.serial new.serial op reply
+
+-- nothing was done: what belonged to a whole heap does so still
+abbrev pub StaysWhole : LanePart → View → Option Held → LanePart → View → Option Held → ℕ → Type 0
+StaysWhole old v hand new w after end = (new ≡ old) × ((h : HeapView) → IsWhole old v hand end h → IsWhole old w after end h)
+
+-- why an operation isn't done
+abbrev pub StopsOp : LanePart → View → Option Held → ℕ → Op → Stop → Type 0
+StopsOp part v hand end op stop.End = ⊥
+StopsOp part v hand end op stop.NurseryFull = WantsMore part.holders.items part.lane (left_of part.chunk) op
+StopsOp part v hand end op stop.BufferFull = (h : HeapView) → IsWhole part v hand end h → IsOpOf h.roots op → NeedsEntry part.holders.items part.lane h.space h.roots part.chunk part.buffer op
+StopsOp part v hand end op (stop.Busy page) = ReadLast v page 3 × ((h : HeapView) → IsWhole part v hand end h → IsOpOf h.roots op → LooksOn h op page)
+StopsOp part v hand end op (stop.Gone page) = ReadLast v page 4 × ((h : HeapView) → IsWhole part v hand end h → IsOpOf h.roots op → LooksOn h op page)
+
+-- why a lane stops before the operation of this number: at its end, or since that operation isn't done
+abbrev pub WhyStopped : List Op → ℕ → LaneTurn → View → Option Held → Stop → Type 0
+WhyStopped ops end turn v hand why = ((why ≡ stop.End) × (length ops ≤ turn.next)) ⊎ IsNextOp ops turn.next (λ op. StopsOp turn.part v hand end op why)
+
+-- what the turn of a lane rests on
+pub record IsGoing (pins : Pins) (ops : List Op) (turn : LaneTurn) (seat : Seat) (hand : Option Held) : Type 0 where
+  pub table : IsLaneTable (key_of pins) turn.part.holders.items
+  pub seated : IsLaneSeat pins turn.part.lane seat hand
+  pub few : turn.part.lane < 16
+  pub count : length ops ≡ turn.count
+  pub births : turn.part.serial + (length ops - turn.next) < 2 ^ 32
+
+-- as many domains, and slots of each
+pub record SameSizes (h k : HeapView) : Type 0 where
+  pub domains : k.roots.domains ≡ h.roots.domains
+  pub slots : k.roots.slots ≡ h.roots.slots
+
+-- operations of the lane were done, in their order: whatever whole heap what the lane had belonged to, what it has now belongs to
+-- that heap with these operations done. Their replies are kept
+pub record LaneRan (ops : List Op) (end : ℕ) (old : LaneTurn) (v : View) (hand : Option Held) (new : LaneTurn) (w : View) (after : Option Held) : Type 0 where
+  pub replies : List Reply
+  pub kept : new.replies.items ≡ old.replies.items ++ replies
+  pub next : new.next ≡ old.next + length replies
+  pub count : new.count ≡ old.count
+  pub same : SamePart old.part new.part
+  pub serial : new.part.serial ≤ old.part.serial + length replies
+  pub reads : ReadsOn v w
+  pub done : (h : HeapView) → IsWhole old.part v hand end h → AllByRecursion (IsOpOf h.roots) ops
+      → (k : HeapView) × IsWhole new.part w after end k × SameSizes h k
+      × DidAll old.part.holders.items old.part.lane (take (length replies) (drop old.next ops)) replies h old.part.serial k new.part.serial

@@ -1,0 +1,37 @@
+// A lane's turn: a lane does its operations over the pages of its own domains, which lie at a table.
+//
+// Into a turn a lane takes what is its own: the words of its domains' root slots, its chunk, its write buffer and the number of
+// its births (`LanePart`). Its pages lie at the table, and it takes one when an operation looks at a cell on it, keeps it while
+// the next operations look there too, and puts it back else (`hands`). So it works without waiting and without memory. It stops
+// where the chunk or the write buffer has no room, and where a page that it wants is in another's hands or gone.
+//
+// An operation is that of `bc_mutator`, done over the page in hand (`PinnedCells`) and the lane's words (`LaneSlots`). What the
+// proofs have to know of the seat meanwhile is told by a type parameter, the station. An operation may look at a cell of another
+// lane's; then its superpage's header tells the domain, and the answer is that it is foreign (`looking`). No other lane's page is
+// ever taken.
+//
+// The theorem is the contract of `LaneTurn::run`: whatever whole heap what the lane has belonged to, it then belongs to that heap
+// with the lane's operations done, one after another, and answered so (`LaneRan`); and each stop has its cause (`WhyStopped`). What
+// other lanes have isn't among the arguments, so lanes side by side are lanes one after another.
+#![tactic(auto)]
+
+mod answering;
+mod cells;
+mod hands;
+mod laws;
+mod looking;
+mod operating;
+mod parts;
+mod preparing;
+mod running;
+mod slots;
+mod stations;
+mod stops;
+mod turns;
+
+pub use laws::law_opening;
+pub use stops::Stop;
+pub use turns::{LaneDone, LaneRoots, LaneTurn};
+
+#[cfg(test)]
+mod tests;

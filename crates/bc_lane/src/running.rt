@@ -1,0 +1,108 @@
+//! The turn of a lane.
+
+ghost use Rattle.std.specs.Prelude.{◌≡◌, ◌+◌, ◌<◌, ◌≤◌, [], ◌∷◌, ◌++◌, None, length, IfErr, OnOk, OnErr};
+ghost use Rattle.std.specs.List.{AllByRecursion};
+ghost use Rattle.bc_lane.specs.declared.stops.Stop.TheVariants as stop;
+ghost use Rattle.bc_lane.specs.Turns.{IsGoing, IsNextOp, IsWhole, LaneRan, WhyStopped};
+ghost use Rattle.bc_mutator.specs.Operations.{IsOpOf, WantsMore};
+ghost use Rattle.bc_nursery.specs.Objects.{left_of};
+ghost use Rattle.bc_pins.specs.Calls.{IsFree, IsSameSeat, view_of};
+ghost use Rattle.bc_whole_heap.specs.Heaps.{HeapView, end_of};
+
+use crate::answering::answer;
+use crate::hands::lay_down;
+use crate::stops::Stop;
+use crate::turns::LaneTurn;
+use bc_gates::Gate;
+use bc_model::{Op, Reply};
+use bc_pins::{Held, Pins, Seat};
+
+impl LaneTurn {
+    /// Does the lane's operations, from the first that isn't done, until all are done or one can't be yet. `ops` are those that
+    /// `prepare` was given. It takes no memory and doesn't wait, and has no page in hand afterwards.
+    pub fn run<G: Gate>(&mut self, pins: &Pins, seat: &mut Seat, ops: &[Op], gate: &G) -> Stop
+        requires going { IsGoing pins.now ops.now self.old seat.old None }
+        requires whole { (h : HeapView) × IsWhole self.old.part (view_of seat.old) None (end_of h.space) h × AllByRecursion (IsOpOf h.roots) ops.now }
+        ensures ran { (h : HeapView) → IsWhole self.old.part (view_of seat.old) None (end_of h.space) h
+            → LaneRan ops.now (end_of h.space) self.old (view_of seat.old) None self.new (view_of seat.new) None }
+        ensures why { (h : HeapView) → IsWhole self.old.part (view_of seat.old) None (end_of h.space) h
+            → WhyStopped ops.now (end_of h.space) self.new (view_of seat.new) None result }
+        ensures nursery { IsNextOp ops.now self.new.next (λ op. WantsMore self.new.part.holders.items self.new.part.lane (left_of self.new.part.chunk) op)
+            → result ≡ stop.NurseryFull }
+        ensures seat { IsSameSeat seat.old seat.new }
+        ensures free { IsFree seat.new }
+    {
+        let end = pins.end();
+        let mut hand = None;
+        let why = go(self, pins, seat, &mut hand, end, ops, gate);
+        lay_down(pins, seat, &mut hand);
+        why
+    }
+}
+
+/// Does operations until all are done or one can't be.
+fn go<G: Gate>(
+    turn: &mut LaneTurn,
+    pins: &Pins,
+    seat: &mut Seat,
+    hand: &mut Option<Held>,
+    end: u32,
+    ops: &[Op],
+    gate: &G,
+) -> Stop
+    requires going { IsGoing pins.now ops.now turn.old seat.old hand.old }
+    requires whole { (h : HeapView) × IsWhole turn.old.part (view_of seat.old) hand.old end h × AllByRecursion (IsOpOf h.roots) ops.now }
+    ensures ran { LaneRan ops.now end turn.old (view_of seat.old) hand.old turn.new (view_of seat.new) hand.new }
+    ensures going { IsGoing pins.now ops.now turn.new seat.new hand.new }
+    ensures why { WhyStopped ops.now end turn.new (view_of seat.new) hand.new result }
+    ensures nursery { IsNextOp ops.now turn.new.next (λ op. WantsMore turn.new.part.holders.items turn.new.part.lane (left_of turn.new.part.chunk) op)
+        → result ≡ stop.NurseryFull }
+    ensures seat { IsSameSeat seat.old seat.new }
+{
+    'operations: while turn.next < ops.len() {
+        if let Err(why) = advance(turn, pins, seat, hand, end, ops, gate) {
+            return why;
+        }
+    }
+    Stop::End
+}
+
+/// Does the next operation and keeps its reply, or tells why it isn't done.
+fn advance<G: Gate>(
+    turn: &mut LaneTurn,
+    pins: &Pins,
+    seat: &mut Seat,
+    hand: &mut Option<Held>,
+    end: u32,
+    ops: &[Op],
+    gate: &G,
+) -> Result<(), Stop>
+    requires going { IsGoing pins.now ops.now turn.old seat.old hand.old }
+    requires whole { (h : HeapView) × IsWhole turn.old.part (view_of seat.old) hand.old end h × AllByRecursion (IsOpOf h.roots) ops.now }
+    requires more { turn.old.next < length ops.now }
+    ensures ran { LaneRan ops.now end turn.old (view_of seat.old) hand.old turn.new (view_of seat.new) hand.new }
+    ensures going { IsGoing pins.now ops.now turn.new seat.new hand.new }
+    ensures further { OnOk result (turn.new.next ≡ turn.old.next + 1) }
+    ensures why { IfErr result (λ why. WhyStopped ops.now end turn.new (view_of seat.new) hand.new why) }
+    ensures nursery { OnErr result (IsNextOp ops.now turn.new.next (λ op. WantsMore turn.new.part.holders.items turn.new.part.lane (left_of turn.new.part.chunk) op))
+        → IfErr result (λ why. why ≡ stop.NurseryFull) }
+    ensures seat { IsSameSeat seat.old seat.new }
+{
+    gate.at(turn.part.lane, 1);
+    let reply = answer(&mut turn.part, pins, seat, hand, end, &ops[turn.next], gate)?;
+    keep(turn, reply);
+    gate.at(turn.part.lane, 2);
+    Ok(())
+}
+
+/// Keeps the reply to the next operation.
+fn keep(turn: &mut LaneTurn, reply: Reply)
+    requires { turn.old.next < turn.old.count }
+    ensures part { turn.new.part ≡ turn.old.part }
+    ensures next { turn.new.next ≡ turn.old.next + 1 }
+    ensures count { turn.new.count ≡ turn.old.count }
+    ensures kept { turn.new.replies.items ≡ turn.old.replies.items ++ reply ∷ [] }
+{
+    turn.replies.push_reserved(reply);
+    turn.next += 1;
+}

@@ -1,0 +1,64 @@
+-- Frames that are given back to the pool, and the account of frames after it.
+use Rattle.std.proofs.Common.{◌≡◌, ℕ, ◌+◌, ◌/◌, ◌%◌, ◌<◌, ◌≤◌, ◌≢◌, ◌==◌, ◌||◌, Bool, false, List, length, get_or, Option, None, is_some, count_by, nat_lt, inl, inr, refl, ap, sym, subst, ◌∙◌, arith}
+use Prim.Native.Nat.{zero, suc}
+use Rattle.std.specs.Int.{bit_at}
+use Rattle.std.proofs.lemmas.Bool.{cases_eq, lt-ltb}
+use Rattle.bc_bits.specs.Counting.{one_if}
+use Rattle.bc_frames.specs.Pool.{is_free, free_count}
+use Rattle.bc_superpages.specs.declared.spaces.Homed.{Homed}
+use Rattle.bc_superpages.specs.Contents.{uses_frame, IsAccount}
+use Rattle.bc_pins.specs.Totals.{total, sum_to}
+use Rattle.bc_pins.specs.Closing.{PoolSet}
+use Rattle.bc_pins.proofs.SumLemmas.{sum_same, count_total, total_sum}
+use Rattle.bc_pins.proofs.BoxLemmas.{sum_plus, boxes_sum}
+use Rattle.bc_pins.proofs.TallyLemmas.{ge-nat_lt}
+
+pub pool_none : (o : List Bool) (start : ℕ) (ws : List ℕ) → PoolSet o o 0 start ws
+pool_none o start ws = record { long = refl; near = λ f lt. absurd (omega arith); far = λ f _. refl }
+
+pub pool_more : (o n m : List Bool) (f start w : ℕ) (ws : List ℕ) → PoolSet o n f start ws → length m ≡ length n → is_free m f ≡ (is_free n f || (bit_at w (f % 64) == 0)) → ((g : ℕ) → g ≢ f → is_free m g ≡ is_free n g)
+    → w ≡ get_or ws (start + f / 64) 0 → PoolSet o m (f + 1) start ws
+pool_more o n m f start w ws s long here others is = record {
+  long = long ∙ s.long;
+  near = λ g lt. elim (cases_eq g f) [
+    | inl e ↦ subst (λ (j : ℕ). is_free m j ≡ (is_free o j || (bit_at (get_or ws (start + j / 64) 0) (j % 64) == 0))) (sym e)
+        (here ∙ ap (λ (b : Bool). b || (bit_at w (f % 64) == 0)) (s.far f (omega arith)) ∙ ap (λ (x : ℕ). is_free o f || (bit_at x (f % 64) == 0)) is)
+    | inr ne ↦ others g ne ∙ s.near g (omega arith)
+  ];
+  far = λ g le. others g (λ e. omega arith) ∙ s.far g (omega arith);
+}
+
+ones : (g : ℕ → ℕ) (n : ℕ) → ((i : ℕ) → i < n → g i ≡ 1) → sum_to g n ≡ n
+ones g zero each = refl
+ones g (suc n) each = let a = ones g n (λ i lt. each i (omega arith)) in let b = each n (omega arith) in omega arith
+
+count_boxes : (xs : List (Option Homed)) (n : ℕ) → ((f : ℕ) → n ≤ f → count_by (uses_frame f) xs ≡ 0) → count_by (λ (b : Option Homed). is_some b) xs ≡ sum_to (λ f. count_by (uses_frame f) xs) n
+count_boxes xs n past =
+    count_total (λ (b : Option Homed). is_some b) xs None ∙ boxes_sum xs n (λ f le. sym (count_total (uses_frame f) xs None) ∙ past f le)
+    ∙ sum_same (λ f. total (λ b. one_if (uses_frame f b)) xs) (λ f. count_by (uses_frame f) xs) n (λ i lt. sym (count_total (uses_frame i) xs None))
+
+free_sum : (q : List Bool) (n : ℕ) → length q ≡ n → free_count q ≡ sum_to (λ f. one_if (is_free q f)) n
+free_sum q n e = count_total (λ (x : Bool). x) q false ∙ total_sum (λ (x : Bool). one_if x) q false ∙ ap (sum_to (λ f. one_if (is_free q f))) e
+
+-- frames that are each in one place are as many as there are
+all_placed : (xs : List (Option Homed)) (nursery : List ℕ) (q : List Bool) → ((f : ℕ) → count_by (uses_frame f) xs + count_by (λ g. g == f) nursery + one_if (is_free q f) ≡ one_if (nat_lt f (length q)))
+    → count_by (λ (b : Option Homed). is_some b) xs + sum_to (λ f. count_by (λ g. g == f) nursery) (length q) + free_count q ≡ length q
+all_placed xs nursery q each =
+    let n : ℕ = length q in
+    let boxes = count_boxes xs n (λ f le. let a = each f in let b : one_if (nat_lt f n) ≡ 0 = ap one_if (ge-nat_lt f n le) in omega arith) in
+    let free = free_sum q n refl in
+    let one = ones (λ f. count_by (uses_frame f) xs + count_by (λ g. g == f) nursery + one_if (is_free q f)) n (λ f lt. each f ∙ ap one_if (lt-ltb f n lt)) in
+    let two = sum_plus (λ f. count_by (uses_frame f) xs + count_by (λ g. g == f) nursery) (λ f. one_if (is_free q f)) n in
+    let three = sum_plus (λ f. count_by (uses_frame f) xs) (λ f. count_by (λ g. g == f) nursery) n in
+    omega arith
+
+-- also where boxes and pool are others than they were
+pub account_all : (bs cs : List (Option Homed)) (nursery : List ℕ) (p q : List Bool) → length q ≡ length p → IsAccount cs nursery p
+    → ((f : ℕ) → count_by (uses_frame f) bs + count_by (λ g. g == f) nursery + one_if (is_free q f) ≡ one_if (nat_lt f (length q)))
+    → count_by (λ (b : Option Homed). is_some b) bs + length nursery + free_count q ≡ length q
+account_all bs cs nursery p q long old each =
+    let was = all_placed cs nursery p old.each in
+    let now = all_placed bs nursery q each in
+    let all = old.all in
+    let same : sum_to (λ f. count_by (λ g. g == f) nursery) (length q) ≡ sum_to (λ f. count_by (λ g. g == f) nursery) (length p) = ap (sum_to (λ f. count_by (λ g. g == f) nursery)) long in
+    omega arith
