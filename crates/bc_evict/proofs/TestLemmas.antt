@@ -35,7 +35,7 @@ use Rattle.bc_pins.proofs.TallyLemmas.{target_in}
 use Rattle.bc_pins.proofs.TotalLemmas.{one_same, one_other}
 use Rattle.bc_pins.proofs.VisitLemmas.{may_put_taken, holds_taken, tried_about, tried_roles, takes_tried}
 use Rattle.bc_evict.specs.Evicting.{MayBookmark, HasGiven}
-use Rattle.bc_evict.specs.Objects.{HoldsObject}
+use Rattle.bc_evict.specs.Objects.{HeldHasObject}
 use Rattle.bc_evict.proofs.ContentLemmas.{word-target}
 
 young-ref : (s : Layout) (w : Word) → IsYoung s w → (a : Address) × (w ≡ Ref a) × (2048 * superpages s ≤ a.0)
@@ -166,7 +166,7 @@ rights-gone v w f h e = given-all f w.rights h.none (λ g ne. h.others g ne ∙ 
 
 -- an object on a page that was taken
 pub object-in-hand : (pins : Pins) (old seat : Seat) (page cell : ℕ) (held : Held) (want : Want) → IsAt pins old → Grasps (tried (view_of old) page want held.remembered) seat page held → Takes (view_of old) page held.remembered held.homed
-    → IsLayout (key_of pins).opening → IsAllocated (key_of pins).opening cell → page ≡ page_of cell → HoldsObject (key_of pins).opening held cell
+    → IsLayout (key_of pins).opening → IsAllocated (key_of pins).opening cell → page ≡ page_of cell → HeldHasObject (key_of pins).opening held cell
 object-in-hand pins old seat page cell held want at g t kept on is = record {
   kept = kept;
   allocated = on;

@@ -8,7 +8,7 @@ use Rattle.bc_pins.specs.declared.holding.Held.{Held}
 use Rattle.bc_pins.specs.Contents.{IsContent}
 
 -- an object of the space lies on the page, whose content keeps what is fixed
-pub record HoldsObject (s : Layout) (held : Held) (cell : ℕ) : Type 0 where
+pub record HeldHasObject (s : Layout) (held : Held) (cell : ℕ) : Type 0 where
   pub kept : IsLayout s
   pub allocated : IsAllocated s cell
   pub on : page_of cell ≡ held.page

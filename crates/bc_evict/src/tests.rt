@@ -10,7 +10,7 @@ ghost use Rattle.bc_pins.specs.Contents.{RefersYoung};
 ghost use Rattle.bc_pins.specs.Opening.{IsOpenable};
 ghost use Rattle.bc_pins.specs.Calls.{key_of, view_of, IsAt, IsSameSeat, IsFree, HoldsPage};
 ghost use Rattle.bc_evict.specs.Evicting.{MayBookmark};
-ghost use Rattle.bc_evict.specs.Objects.{HoldsObject};
+ghost use Rattle.bc_evict.specs.Objects.{HeldHasObject};
 
 mod furnished;
 
@@ -81,10 +81,10 @@ fn is_written(pins: &Pins, seat: &mut Seat, cell: Address, number: u64) -> bool
 /// Writes a number into the first field of an object on a page in hand, if it has a field.
 fn write_first(held: &mut Held, cell: Address, number: u64) -> bool
     requires number { number < 2 ^ 63 }
-    requires fixed { (s : Layout) × HoldsObject s held.old cell.0 }
+    requires fixed { (s : Layout) × HeldHasObject s held.old cell.0 }
     ensures same { held.new ≡ record held.old { homed = record held.old.homed { page = held.new.homed.page } } }
-    ensures fixed { (s : Layout) → HoldsObject s held.old cell.0 → HoldsObject s held.new cell.0 }
-    ensures young { (s : Layout) → HoldsObject s held.old cell.0 → RefersYoung s held.old.page held.new.homed.page
+    ensures fixed { (s : Layout) → HeldHasObject s held.old cell.0 → HeldHasObject s held.new cell.0 }
+    ensures young { (s : Layout) → HeldHasObject s held.old cell.0 → RefersYoung s held.old.page held.new.homed.page
         → RefersYoung s held.old.page held.old.homed.page }
 {
     let offset = cell.offset();

@@ -152,13 +152,7 @@ fn try_once(workshop: &mut Workshop, op: &Op) -> Result<Result<(), Halt>> {
 }
 
 /// Makes an object of the domain, which becomes the front of the list of this slot.
-fn make<R>(
-    rt: &R,
-    mut workshop: Workshop,
-    domain: u32,
-    fields: u32,
-    list: u32,
-) -> Result<Workshop>
+fn make<R>(rt: &R, mut workshop: Workshop, domain: u32, fields: u32, list: u32) -> Result<Workshop>
 where
     R: AllocGlobal + Threads + Sync,
 {
@@ -243,7 +237,9 @@ fn print_standing<R: Print>(
 fn print_time<R: Eprint>(rt: &R, plan: &Plan, heap: &str, taken: Duration) -> Result<()> {
     let (fields, superpages, share, kept) = (plan.fields, plan.superpages, plan.share, plan.kept);
     let nanoseconds = nanoseconds(taken);
-    eprintln!(rt; "fields={fields} superpages={superpages} share={share} kept={kept} heap={heap} nanoseconds={nanoseconds}")?;
+    eprintln!(rt;
+        "fields={fields} superpages={superpages} share={share} kept={kept} heap={heap} nanoseconds={nanoseconds}"
+    )?;
     Ok(())
 }
 

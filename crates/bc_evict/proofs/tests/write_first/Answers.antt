@@ -10,7 +10,7 @@ use Rattle.bc_word.proofs.WordLemmas.{word_of_bits-word_bits}
 use Rattle.bc_superpages.specs.Layout.{Layout}
 use Rattle.bc_pins.specs.declared.holding.Held.{Held}
 use Rattle.bc_pins.specs.Contents.{IsContent, RefersYoung, NamesFixed}
-use Rattle.bc_evict.specs.Objects.{HoldsObject}
+use Rattle.bc_evict.specs.Objects.{HeldHasObject}
 use Rattle.bc_evict.proofs.ContentLemmas.{head-packed, room, field-on}
 use Rattle.bc_evict.proofs.TestLemmas.{young-written}
 use Rattle.bc_evict.proofs.tests.write_first.Goals as goal

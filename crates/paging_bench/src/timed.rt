@@ -1,0 +1,89 @@
+//! A trace is replayed by the engine itself, and nothing is counted but operations, page reads and how things stand.
+//!
+//! That a lane has births left for its operations is kept by counting: of 2^32 - 1 births each phase takes off as many as its longest lane
+//! has operations.
+
+ghost use Rattle.std.specs.Prelude.{◌≡◌, ℕ, ◌≤◌, None, length, true, IfOk};
+ghost use Rattle.bc_engine.specs.EngineFacts.{HasRoomForBirths};
+ghost use Rattle.bc_engine.specs.Lanes.{HasRoomForOps, of_lane};
+ghost use Rattle.bc_model.specs.Rows.{lists_of};
+ghost use Rattle.bc_model.specs.WellFormed.{IsPhase, IsTrace};
+
+use crate::counts::{operations, print_need, print_standing};
+use anyhow::{Result, bail};
+use bc_engine::{Engine, PhaseNo};
+use bc_gates::OpenGate;
+use bc_model::{Op, Phase, Setup, Trace};
+use std::thread::Threads;
+
+/// The most operations that some lane has.
+fn longest(lanes: &[Vec<Op>]) -> usize
+    ensures { (j : ℕ) → length (of_lane (lists_of lanes.now) j) ≤ result }
+{
+    let mut most = 0;
+    for ops in lanes {
+        if most < ops.len() {
+            most = ops.len();
+        }
+    }
+    most
+}
+
+/// Replays a phase and prints its line. It answers whether others may follow.
+fn replay_phase<R>(
+    rt: &R,
+    engine: &mut Engine,
+    setup: &Setup,
+    number: usize,
+    phase: &Phase,
+) -> Result<bool>
+where
+    R: AllocGlobal + Print + Threads + Sync,
+    requires going { engine.old.ended ≡ None }
+    requires phase { IsPhase engine.old.setup phase.now }
+    requires births { HasRoomForOps engine.old phase.now.lanes 0 }
+    ensures going { IfOk result (λ more. more ≡ true → engine.new.ended ≡ None) }
+    ensures setup { engine.new.setup ≡ engine.old.setup }
+    ensures births { (n : ℕ) → HasRoomForOps engine.old phase.now.lanes n → HasRoomForBirths engine.new n }
+{
+    let before = engine.heap().space.reads();
+    let count = operations(phase);
+    let need = match engine.phase(rt, rt.alloc(), phase, &OpenGate) {
+        Ok(_replies) => None,
+        Err(
+            PhaseNo::OutOfHeap {
+                replies: _replies,
+                need,
+            },
+        ) => Some(need),
+        Err(PhaseNo::NoMemory) => bail!("out of memory"),
+    };
+    let space = &engine.heap().space;
+    let reads = space.reads().saturating_sub(before);
+    print!(rt; "phase={number} operations={count} reads={reads}")?;
+    print_standing(rt, space, setup.frames)?;
+    print_need(rt, need)?;
+    Ok(need.is_none())
+}
+
+/// Replays a trace on a new heap. `left` is how many births each lane has left at least.
+pub(crate) fn replay<R>(rt: &R, trace: &Trace) -> Result<()>
+where
+    R: AllocGlobal + Print + Threads + Sync,
+    requires { IsTrace trace.now }
+{
+    let mut engine = Engine::open(rt.alloc(), &trace.setup, 1)?;
+    let mut left = u32::MAX as usize;
+    for index in 0..trace.phases.len() {
+        let phase = &trace.phases[index];
+        let births = longest(&phase.lanes);
+        if left < births {
+            bail!("a lane has too many operations");
+        }
+        left -= births;
+        if !replay_phase(rt, &mut engine, &trace.setup, index + 1, phase)? {
+            return Ok(());
+        }
+    }
+    Ok(())
+}
