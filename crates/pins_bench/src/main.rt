@@ -76,6 +76,17 @@ fn turn<R: Clock + AllocGlobal>(rt: &R, space: Space) -> Result<(Space, Duration
     ))
 }
 
+/// How many pages are at home.
+fn pages_home(space: &Space) -> u32 {
+    let mut home: u32 = 0;
+    for page in 0..space.pages() {
+        if space.resident(page) {
+            home = home.saturating_add(1);
+        }
+    }
+    home
+}
+
 /// Nanoseconds a call.
 fn each(taken: Duration, calls: u32) -> u64 {
     let nanoseconds = taken
@@ -85,8 +96,12 @@ fn each(taken: Duration, calls: u32) -> u64 {
     nanoseconds / u64::from(calls.max(1))
 }
 
-/// So many turns; says how long the openings and the closings took.
-fn turns<R: Clock + AllocGlobal>(rt: &R, space: Space, times: u32) -> Result<(Duration, Duration)>
+/// So many turns over a space; gives it back, and says how long the openings and the closings took.
+fn turns<R: Clock + AllocGlobal>(
+    rt: &R,
+    space: Space,
+    times: u32,
+) -> Result<(Space, Duration, Duration)>
     requires { IsOpenable space }
 {
     let mut space = space;
@@ -98,7 +113,7 @@ fn turns<R: Clock + AllocGlobal>(rt: &R, space: Space, times: u32) -> Result<(Du
         opening = opening.saturating_add(opened_in);
         closing = closing.saturating_add(closed_in);
     }
-    Ok((opening, closing))
+    Ok((space, opening, closing))
 }
 
 fn run<R>(rt: &R, times: u32, superpages: u32, counts: &[u32]) -> Result<()>
@@ -109,8 +124,9 @@ where
     for count in counts {
         let used = (*count).min(superpages);
         let space = space_with(rt, superpages, 4 * used)?;
-        let (opening, closing) = turns(rt, space, times)?;
-        println!(rt; "{used} of {superpages} superpages: {times} turns")?;
+        let (space, opening, closing) = turns(rt, space, times)?;
+        let pages = pages_home(&space);
+        println!(rt; "{used} of {superpages} superpages, {pages} pages home: {times} turns")?;
         let opening = each(opening, times);
         let closing = each(closing, times);
         eprintln!(rt;
