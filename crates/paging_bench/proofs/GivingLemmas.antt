@@ -3,7 +3,7 @@ use Rattle.std.proofs.Common.{◌≡◌, ℕ, ◌<◌, List, [], length, get_or,
 use Rattle.std.proofs.lemmas.Bool.{cases_eq}
 use Rattle.bc_engine.specs.Engines.{HasEmptyChunks}
 use Rattle.bc_engine.specs.EngineFacts.{IsUnrecorded}
-use Rattle.bc_engine.proofs.Sizes.{none-young}
+use Rattle.bc_running.proofs.SoundLemmas.{none-young}
 use Rattle.bc_nursery.specs.Entries.{Entries}
 use Rattle.bc_nursery.specs.Nurseries.{Nursery}
 use Rattle.bc_running.specs.Running.{RunningView}
