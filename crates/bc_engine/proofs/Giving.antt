@@ -22,7 +22,7 @@ use Rattle.bc_running.proofs.SoundLemmas.{none-young}
 only-cell : (s : Layout) (c : Nursery) (a : ℕ) → c.objects ≡ [] → IsCellOrYoung s c a → IsAllocated s a
 only-cell s c a none h = elim h [ inl cell ↦ cell | inr young ↦ none-young c a none young ]
 
-closed-given : {Asked : HeapView → ℕ → ℕ → Type 0} (s : Layout) (roots : RootWords) (cs : List Nursery) (bs : List Entries) (hs : List ℕ) (d l : ℕ) → ((n : ℕ) → (chunk_of cs n).objects ≡ []) → ((n : ℕ) → (buffer_of bs n).entries ≡ []) → l < length cs → IsClosedOver Asked (view_of s roots cs bs) hs → IsClosedHeap (view_of s roots cs bs) (set hs d l)
+pub closed-given : {Asked : HeapView → ℕ → ℕ → Type 0} (s : Layout) (roots : RootWords) (cs : List Nursery) (bs : List Entries) (hs : List ℕ) (d l : ℕ) → ((n : ℕ) → (chunk_of cs n).objects ≡ []) → ((n : ℕ) → (buffer_of bs n).entries ≡ []) → l < length cs → IsClosedOver Asked (view_of s roots cs bs) hs → IsClosedHeap (view_of s roots cs bs) (set hs d l)
 closed-given s roots cs bs hs d l none empty within h =
     let long : length (set hs d l) ≡ length hs = length-set hs d l in
     record {
