@@ -1,5 +1,5 @@
 -- Each operation in the whole heap that the lane's parts belong to.
-use Rattle.std.proofs.Common.{◌≡◌, ◌↔◌, ℕ, ◌+◌, ◌^◌, ◌<◌, ◌≤◌, ◌==◌, ◌⊎◌, ◌≢◌, Bool, true, false, List, [], ◌∷◌, get_or, set, Result, Ok, Err, refl, sym, ap, subst, ◌∙◌, inl, inr, eqb-true, get_or-set_same}
+use Rattle.std.proofs.Common.{◌≡◌, ◌↔◌, ℕ, ◌+◌, ◌^◌, ◌<◌, ◌≤◌, ◌==◌, ◌⊎◌, ◌≢◌, true, false, List, [], ◌∷◌, get_or, set, Result, Ok, Err, refl, sym, ap, subst, ◌∙◌, inl, inr, eqb-true, get_or-set_same}
 use Rattle.std.proofs.lemmas.Bool.{and_parts, cases_lt}
 use Rattle.std.specs.List.{list_all}
 use Rattle.std.specs.Result.{IfOk, OnOk, IsErr}

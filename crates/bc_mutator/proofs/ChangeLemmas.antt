@@ -1,5 +1,5 @@
 -- What an operation changes in the heap as one memory: the field that it writes, or nothing.
-use Rattle.std.proofs.Common.{◌≡◌, ◌≢◌, ℕ, ◌+◌, ◌<◌, true, List, length, get_or, Some, refl, sym, ap, subst, ◌∙◌, inl, inr, arith}
+use Rattle.std.proofs.Common.{◌≡◌, ◌≢◌, ℕ, ◌+◌, true, List, length, refl, sym, subst, ◌∙◌, inl, inr, arith}
 use Rattle.std.proofs.lemmas.Bool.{cases_lt}
 use Rattle.bc_memory.specs.Memory.{Cell}
 use Rattle.bc_model.specs.Refusals.{IsRefusal}
@@ -13,7 +13,6 @@ use Rattle.bc_nursery.specs.Nurseries.{ChunkObject, Nursery}
 use Rattle.bc_nursery.proofs.ObjectLemmas.{has-number, the_object-number}
 use Rattle.bc_superpages.specs.Layout.{content_at}
 use Rattle.bc_superpages.specs.LayoutAt.{word_at}
-use Rattle.bc_superpages.specs.Memory as space
 use Rattle.bc_whole_heap.specs.Closed.{IsCellOrYoung}
 use Rattle.bc_whole_heap.specs.Heaps.{HeapView, end_of}
 use Rattle.bc_word.proofs.WordsLemmas.{length-words_from}

@@ -4,7 +4,7 @@ use Prim.Native.Nat.{zero, suc}
 use Rattle.std.proofs.Math.ListN.{get_or-map}
 use Rattle.std.proofs.Math.Nat.{mul-le-mul_left}
 use Rattle.std.proofs.lemmas.Bool.{cases_Bool, cases_eq, cases_lt}
-use Rattle.std.proofs.lemmas.List.{get_or_read, map-set, length_push, set-get_or}
+use Rattle.std.proofs.lemmas.List.{map-set, length_push}
 use Rattle.std.specs.Option.{option_or}
 use Rattle.bc_classes.specs.Classes.{class_of}
 use Rattle.bc_whole_heap.specs.Heaps.{HeapView}

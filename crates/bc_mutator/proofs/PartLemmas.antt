@@ -1,5 +1,5 @@
 -- From what a lane has in hand to the whole heap that it belongs to.
-use Rattle.std.proofs.Common.{◌≡◌, ◌⊎◌, ℕ, ◌+◌, ◌<◌, ◌≤◌, true, false, List, length, get_or, set, refl, sym, ap, subst, ◌∙◌, inl, inr, arith, get_or-set_same}
+use Rattle.std.proofs.Common.{◌≡◌, ℕ, ◌+◌, ◌<◌, ◌≤◌, false, List, length, get_or, set, refl, sym, ap, subst, ◌∙◌, inl, inr, arith, get_or-set_same}
 use Rattle.bc_model.specs.WellFormed.{IsSlot}
 use Rattle.bc_model.specs.declared.operations.Op.{Op}
 use Rattle.bc_model.specs.declared.values.Slot.{Slot}
@@ -8,12 +8,9 @@ use Rattle.bc_nursery.specs.Objects.{changed, head_at, has_object}
 use Rattle.bc_nursery.specs.Nurseries.{Nursery}
 use Rattle.bc_nursery.specs.Objects as nursery
 use Rattle.bc_superpages.specs.declared.headers.PageState.TheVariants.{Remembered}
-use Rattle.bc_superpages.specs.Calls.{fields_at}
 use Rattle.bc_superpages.specs.Headers.{is_gone}
-use Rattle.bc_superpages.specs.Kept.{IsLayout}
 use Rattle.bc_superpages.specs.Layout.{Layout}
-use Rattle.bc_superpages.specs.LayoutAt.{IsAllocated, state_at, with_state, with_word, word_at}
-use Rattle.bc_superpages.specs.Memory as space
+use Rattle.bc_superpages.specs.LayoutAt.{state_at, with_state, with_word, word_at}
 use Rattle.bc_superpages.specs.RootWords.{RootWords}
 use Rattle.bc_superpages.proofs.FieldLemmas.{field-memory}
 use Rattle.bc_superpages.proofs.HandLemmas.{allocated-page}
@@ -26,14 +23,14 @@ use Rattle.bc_word.specs.WordBits.{word_bits}
 use Rattle.bc_word.specs.declared.addresses.Address.{Address}
 use Rattle.bc_word.specs.declared.heads.Head.{Head}
 use Rattle.bc_word.specs.declared.words.Word.{Word}
-use Rattle.bc_word.specs.declared.words.Word.TheVariants.{Nil, Ref}
-use Rattle.bc_mutator.specs.Effects.{RefersBehind, RefersBelow, WritesCell, StoresWord, WroteCell, Wrote, with_entry}
+use Rattle.bc_word.specs.declared.words.Word.TheVariants.{Nil}
+use Rattle.bc_mutator.specs.Effects.{RefersBehind, RefersBelow, StoresWord, WroteCell, Wrote, with_entry}
 use Rattle.bc_mutator.specs.Objects.{LieBehind, IsOfLane, IsOwn, cell_of, own_chunk, slot_word}
 use Rattle.bc_mutator.specs.Operations.{NeedsEntry, setup_of}
 use Rattle.bc_mutator.specs.Parts.{CanStore, HasAllocated, HasField, HasWord, IsCellOrBehind, IsPartOf, IsSpaceOf, MayHold, Sees, Serves, ServesField}
 use Rattle.bc_mutator.proofs.LayoutLemmas.{IsLayout-remembered}
 use Rattle.bc_mutator.proofs.MeaningLemmas.{own-slot}
-use Rattle.bc_mutator.proofs.ObjectLemmas.{cell_of-above, cell_of-below, one_address, there-above, there-below}
+use Rattle.bc_mutator.proofs.ObjectLemmas.{cell_of-above, cell_of-below, one_address, there-below}
 use Rattle.bc_mutator.proofs.StateLemmas.{remembers-home}
 use Rattle.bc_mutator.proofs.WritingLemmas.{CanWrite}
 

@@ -33,7 +33,7 @@ use Rattle.bc_superpages.specs.Layout.{Layout}
 use Rattle.bc_superpages.specs.LayoutAt.{IsAllocated}
 use Rattle.bc_superpages.specs.Memory as space
 use Rattle.bc_superpages.specs.RootWords.{RootWords}
-use Rattle.bc_superpages.specs.RootSlots.{root_place, with_note}
+use Rattle.bc_superpages.specs.RootSlots.{root_at, root_place, with_note}
 use Rattle.bc_superpages.proofs.MemoryLemmas.{memory_of-cell}
 use Rattle.bc_superpages.proofs.NoteLemmas.{Has-noted, Has-with_note}
 use Rattle.bc_word.proofs.WordLemmas.{word_of_bits-word_bits}
@@ -148,12 +148,12 @@ pub buffers-same : (bs : List Entries) (lane : ℕ) → bs ≡ set bs lane (buff
 buffers-same bs lane = sym (set-get_or bs lane no_buffer)
 
 -- a slot of a domain that another lane holds
-pub slots-other : (r : RootWords) (hs : List ℕ) (lane : ℕ) (p q : Slot) (w : Word) → get_or hs p.domain 0 ≡ lane → p.slot < r.slots → get_or hs q.domain 0 ≢ lane → q.slot < r.slots → slot_word (with_root r p w) q ≡ slot_word r q
+pub slots-other : (r : RootWords) (hs : List ℕ) (lane : ℕ) (p q : Slot) (w : Word) → get_or hs p.domain 0 ≡ lane → p.slot < r.slots → get_or hs q.domain 0 ≢ lane → q.slot < r.slots → root_at (with_root r p w) q.domain q.slot ≡ root_at r q.domain q.slot
 slots-other r hs lane p q w held within off less =
-    ap word_of_bits (get_or-set_other r.words (root_place r p.domain p.slot) (root_place r q.domain q.slot) (word_bits w) 0
-    (λ e. off (ap (λ (d : ℕ). get_or hs d 0) (same_from_place q.domain q.slot p.domain p.slot r.slots less within e).0 ∙ held)))
+    get_or-set_other r.words (root_place r p.domain p.slot) (root_place r q.domain q.slot) (word_bits w) 0
+    (λ e. off (ap (λ (d : ℕ). get_or hs d 0) (same_from_place q.domain q.slot p.domain p.slot r.slots less within e).0 ∙ held))
 
-Leaves-root : (h : HeapView) (r : RootWords) (hs : List ℕ) (lane : ℕ) → r ≡ record (h.roots) { words = r.words; noted = r.noted } → ((p : Slot) → get_or hs p.domain 0 ≢ lane → p.slot < h.roots.slots → slot_word r p ≡ slot_word h.roots p) → Leaves hs lane h (record h { roots = r })
+Leaves-root : (h : HeapView) (r : RootWords) (hs : List ℕ) (lane : ℕ) → r ≡ record (h.roots) { words = r.words; noted = r.noted } → ((p : Slot) → get_or hs p.domain 0 ≢ lane → p.slot < h.roots.slots → root_at r p.domain p.slot ≡ root_at h.roots p.domain p.slot) → Leaves hs lane h (record h { roots = r })
 Leaves-root h r hs lane same others = record {
   chunks = chunks-same h.chunks lane;
   buffers = buffers-same h.buffers lane;

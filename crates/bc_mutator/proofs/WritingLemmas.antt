@@ -1,7 +1,7 @@
 -- A field of an object is written.
-use Rattle.std.proofs.Common.{◌≡◌, ◌≢◌, ℕ, ◌+◌, ◌-◌, ◌/◌, ◌<◌, ◌==◌, true, false, List, [], length, map, get_or, set, Option, Some, is_some, refl, sym, ap, ap₂, subst, ◌∙◌, inl, inr, arith, get_or-set_same, get_or-set_other, length-set}
+use Rattle.std.proofs.Common.{◌≡◌, ◌≢◌, ℕ, ◌+◌, ◌-◌, ◌/◌, ◌<◌, ◌==◌, true, false, List, [], length, map, get_or, set, Option, Some, is_some, refl, sym, ap, subst, ◌∙◌, inl, inr, arith, get_or-set_other, length-set}
 use Rattle.std.proofs.Math.Seq.{map-set_same}
-use Rattle.std.proofs.lemmas.List.{get_or_read, set-get_or}
+use Rattle.std.proofs.lemmas.List.{set-get_or}
 use Rattle.std.specs.List.{find}
 use Rattle.bc_whole_heap.specs.Heaps.{HeapView}
 use Rattle.bc_whole_heap.specs.HeapFacts.{view_of}
@@ -37,6 +37,7 @@ use Rattle.bc_superpages.specs.Kept.{IsLayout}
 use Rattle.bc_superpages.specs.Layout.{Layout, content_at}
 use Rattle.bc_superpages.specs.LayoutAt.{IsAllocated, word_at, state_at, with_word}
 use Rattle.bc_superpages.proofs.HandLemmas.{allocated-object, field-page}
+use Rattle.bc_superpages.proofs.MemoryLemmas.{memory_of-cell}
 use Rattle.bc_superpages.specs.Memory as space
 use Rattle.bc_superpages.specs.RootWords.{RootWords}
 use Rattle.bc_word.proofs.WordsLemmas.{length-words_from}
@@ -45,7 +46,7 @@ use Rattle.bc_word.specs.Heads.{fields_of_bits}
 use Rattle.bc_word.specs.WordBits.{FitsWord, word_bits}
 use Rattle.bc_word.specs.declared.addresses.Address.{Address}
 use Rattle.bc_word.specs.declared.words.Word.{Word}
-use Rattle.bc_mutator.specs.Effects.{HasRecorded, RefersBehind, Records, WroteCell, WroteMature, WroteYoung, Wrote, Writes, HasChanged, Leaves, Answers, DidAct}
+use Rattle.bc_mutator.specs.Effects.{HasRecorded, RefersBehind, Records, WroteMature, WroteYoung, Wrote, Writes, HasChanged, Leaves, Answers, DidAct}
 use Rattle.bc_mutator.specs.Objects.{AreWhole, MayOperate, IsRead, IsOwn, IsOfLane, ActsOnField, RefusesField, whole_memory, own_chunk, cell_of, slot_word}
 use Rattle.bc_mutator.proofs.LayoutLemmas.{IsLayout-field, IsLayout-remembered}
 use Rattle.bc_mutator.proofs.MatureLemmas.{MatureWrite, mature-memory, mature-births, mature-running}
@@ -53,7 +54,7 @@ use Rattle.bc_mutator.proofs.MeaningLemmas.{read-ref}
 use Rattle.bc_mutator.proofs.ObjectLemmas.{there-below, there-above, cell_of-below, memory-there}
 use Rattle.bc_mutator.proofs.RootLemmas.{buffers-same, chunks-same, value-held, same_serials}
 use Rattle.bc_mutator.proofs.TellingLemmas.{word-read}
-use Rattle.bc_mutator.proofs.YoungLemmas.{YoungWrite, young-memory, young-births, young-running, chunk-own, chunks-whole, length-chunks}
+use Rattle.bc_mutator.proofs.YoungLemmas.{YoungWrite, young-memory, young-births, young-running, chunk-own, chunks-whole}
 
 -- a field that a lane may write
 pub record CanWrite (h : HeapView) (hs : List ℕ) (lane : ℕ) (target : Word) (at : Address) (index : ℕ) (word : Word) : Type 0 where
@@ -155,11 +156,15 @@ mature-unrecorded h k hs lane at index word ready own buffers none (inl r) = (
 mature-unrecorded h k hs lane at index word ready own buffers none (inr r) =
     absurd (none-young (own_chunk h lane) r.0.to.0 none (refers-young h hs lane word ready own r.0))
 
--- a page of a domain that another lane holds isn't the cell's
-page-apart : (h : HeapView) (hs : List ℕ) (lane : ℕ) (at : Address) (index page : ℕ) → IsLayout h.space → OwnCell h hs lane at index → get_or hs (get_or h.space.domains (page / 4) 0) 0 ≢ lane → page ≢ page_of at.0
-page-apart h hs lane at index page k own off e =
+-- a page of no domain that the lane holds isn't the cell's
+page-apart : (h : HeapView) (hs : List ℕ) (lane : ℕ) (at : Address) (index page : ℕ) → MayOperate h hs lane → OwnCell h hs lane at index
+    → (get_or h.space.domains (page / 4) 0 < length hs → get_or hs (get_or h.space.domains (page / 4) 0) 0 ≢ lane) → page ≢ page_of at.0
+page-apart h hs lane at index page ready own off e =
     let same : page / 4 ≡ superpage_of at.0 = omega arith in
-    off (ap (λ (q : ℕ). get_or hs (get_or h.space.domains q 0) 0) same ∙ sym (ap (λ (d : ℕ). get_or hs d 0) (allocated-object h.space at.0 k own.on).of_domain) ∙ own.held)
+    let domain : (space.cell_at h.space.pages at.0).head.domain ≡ get_or h.space.domains (page / 4) 0 =
+    (allocated-object h.space at.0 ready.layout own.on).of_domain ∙ sym (ap (λ (q : ℕ). get_or h.space.domains q 0) same) in
+    let within = ready.running.closed.mature_domain at.0 (space.cell_at h.space.pages at.0) (memory_of-cell h.space.classes h.space.cells h.space.pages at.0 own.on) in
+    off (subst (λ (d : ℕ). d < length hs) domain within) (sym (ap (λ (d : ℕ). get_or hs d 0) domain) ∙ own.held)
 
 own-within : (h : HeapView) (hs : List ℕ) (lane : ℕ) (at : Address) (index : ℕ) → OwnCell h hs lane at index → index < fields_at h.space at.0
 own-within h hs lane at index own =
@@ -205,7 +210,7 @@ written-leaves h k hs lane target at index word can (inl wrote) = subst (λ (x :
   space = wrote.cell.space;
   pages = λ page off.
       let own = own-cell h hs lane target at index word can wrote.below in
-      let apart = page-apart h hs lane at index page can.ready.layout own off in (
+      let apart = page-apart h hs lane at index page can.ready own off in (
         content-elsewhere h hs lane at index page k.space word can.ready.layout own apart wrote.cell.words,
         state-elsewhere h.space k.space (buffer_of h.buffers lane) (buffer_of k.buffers lane) at index page word apart wrote.cell.entry,
       );

@@ -26,7 +26,7 @@ use Rattle.bc_superpages.specs.Layout.{Layout, content_at}
 use Rattle.bc_superpages.specs.LayoutAt.{state_at, with_state, with_word}
 use Rattle.bc_superpages.specs.Memory as cells
 use Rattle.bc_superpages.specs.RootWords.{RootWords}
-use Rattle.bc_superpages.specs.RootSlots.{root_place, with_note}
+use Rattle.bc_superpages.specs.RootSlots.{root_at, root_place, with_note}
 use Rattle.bc_word.specs.Addresses.{page_of}
 use Rattle.bc_word.specs.WordBits.{word_bits}
 use Rattle.bc_word.specs.declared.addresses.Address.{Address}
@@ -51,10 +51,10 @@ pub record Leaves (holders : List ℕ) (lane : ℕ) (old new : HeapView) : Type 
   pub chunks : new.chunks ≡ slice_set old.chunks lane (own_chunk new lane)
   pub buffers : new.buffers ≡ slice_set old.buffers lane (buffer_of new.buffers lane)
   pub space : new.space ≡ record old.space { states = new.space.states; pages = new.space.pages }
-  pub pages : (page : ℕ) → slice_index holders (slice_index old.space.domains (page / 4)) ≢ lane
+  pub pages : (page : ℕ) → (slice_index old.space.domains (page / 4) < length holders → slice_index holders (slice_index old.space.domains (page / 4)) ≢ lane)
       → (content_at new.space.pages page ≡ content_at old.space.pages page) × (state_at new.space.states page ≡ state_at old.space.states page)
   pub roots : new.roots ≡ record old.roots { words = new.roots.words; noted = new.roots.noted }
-  pub slots : (p : Slot) → slice_index holders p.domain ≢ lane → p.slot < old.roots.slots → slot_word new.roots p ≡ slot_word old.roots p
+  pub slots : (p : Slot) → slice_index holders p.domain ≢ lane → p.slot < old.roots.slots → root_at new.roots p.domain p.slot ≡ root_at old.roots p.domain p.slot
   pub chunk : own_chunk new lane ≡ record (own_chunk old lane) { objects = (own_chunk new lane).objects }
   pub capacity : (buffer_of new.buffers lane).capacity ≡ (buffer_of old.buffers lane).capacity
   pub unrecorded : (own_chunk old lane).objects ≡ [] → (new.buffers ≡ old.buffers) × (new.space.states ≡ old.space.states)

@@ -1,4 +1,4 @@
-use Rattle.std.proofs.Common.{refl, sym, subst}
+use Rattle.std.proofs.Common.{refl, subst}
 use Rattle.std.proofs.lemmas.Result.{IfOk-weaker, on_err_weaker}
 use Rattle.bc_model.specs.State.{slot_of}
 use Rattle.bc_model.specs.declared.operations.Op.TheVariants.{Link}
