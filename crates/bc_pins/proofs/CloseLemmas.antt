@@ -174,6 +174,7 @@ module _ (k : Key) (s : Table) (r : Rule k s) (id : ℕ) (v : View) (at : get_el
     counters = counters_closed;
     bits = bits_closed;
     still = record { marks = r.still.marks; finished = r.still.finished };
+    gone = λ p lt. let saw = (r.seats id v at).saw.gone p lt in (saw.0, saw.2);
   }
 
 pub ends : (k : Key) (id : ℕ) (v : View) (ws : List ℕ) (xs : List Lodged) → v.about ≡ k → v.hand ≡ None → ((n : ℕ) → times n v.roles ≡ times n k.roles)

@@ -36,14 +36,15 @@ use Rattle.bc_pins.specs.declared.views.View.{View}
 use Rattle.bc_pins.specs.declared.pins.Seat.{Seat}
 use Rattle.bc_pins.specs.Key.{Key, pages_of, owner, frame_at}
 use Rattle.bc_pins.specs.Contents.{IsContent, RefersYoung}
+use Rattle.bc_pins.specs.Totals.{times}
 use Rattle.bc_pins.specs.Views.{grips_remembered, state_word, opened_state, opened_content, record_of}
 use Rattle.bc_pins.specs.Rule.{Rule}
 use Rattle.bc_pins.specs.Lodging.{Replaced, box_of, place_of}
 use Rattle.bc_pins.specs.Opening.{HasClosed, IsRest}
 use Rattle.bc_pins.specs.Resting.{RestView}
-use Rattle.bc_pins.specs.Closing.{Gathered, StatesSet, SummariesSet, HeadersSet, PoolSet, opens_of, ClosedState, ClosedBit, Closed}
+use Rattle.bc_pins.specs.Closing.{Gathered, StatesSet, SummariesSet, HeadersSet, PoolSet, seen_by, opens_of, ClosedState, ClosedBit, Closed}
 use Rattle.bc_pins.proofs.TallyLemmas.{GoneBy, gone_word, tally, none_behind, target_in, set_bit, bit_set, bit_in, in_bit, bit_few, few_bits, number_few}
-use Rattle.bc_pins.proofs.TotalLemmas.{one_is}
+use Rattle.bc_pins.proofs.TotalLemmas.{one_is, total_in}
 use Rattle.bc_pins.proofs.ReadLemmas.{lies_few}
 use Rattle.bc_pins.proofs.JoinLemmas.{look_none}
 use Rattle.bc_pins.proofs.CloseLemmas.{ends}
@@ -58,6 +59,13 @@ word_remembered state.Absent e = absurd (omega arith)
 word_remembered state.Home e = absurd (omega arith)
 word_remembered state.Held e = absurd (omega arith)
 word_remembered state.Gone e = absurd (omega arith)
+
+word_gone : (st : PageState) → state_word st ≡ 4 → st ≡ state.Gone
+word_gone state.Gone e = refl
+word_gone state.Absent e = absurd (omega arith)
+word_gone state.Home e = absurd (omega arith)
+word_gone state.Held e = absurd (omega arith)
+word_gone state.Remembered e = absurd (omega arith)
 
 clash : false ≡ true → ⊥
 clash e = cc
@@ -161,6 +169,14 @@ module _ (id : TableId) (k : Key) (all : List Seat) (root : Worker Lodged View) 
         gone = omega arith;
         absent = omega arith;
       }
+
+  -- a page that a seat read as Gone is Gone for the root, into which it was joined
+  read_gone : (j : ℕ) → j < length all → (d : Seat) (p : ℕ) → 0 < times p (seen_by (get_or all j d)).gone → state_at (map (λ (h : Header). h.pages) headers) p ≡ state.Gone
+  read_gone j lt d p some =
+      let sum = e.gathered.gone p in
+      let least = total_in (λ (s : Seat). times p (seen_by s).gone) all j d lt in
+      let gone = e.closed.gone p (omega arith) in
+      word_gone _ (word_is p gone.0 ∙ gone.1)
 
   layout : IsLayout k.opening
   layout = subst IsLayout e.layout (IsLayout-kept whole.headers.items whole.boxes.items whole.pool whole.nursery.items whole.store.places _ _ _ _ e.rest.kept.kept)
@@ -311,6 +327,7 @@ module _ (id : TableId) (k : Key) (all : List Seat) (root : Worker Lodged View) 
     states_are = states_closed;
     fixed = fixed_now;
     young = young_now;
+    read_gone = read_gone;
     bits = bits_closed reads;
     bits_behind = λ q le. behind_all q le;
     openable = λ o. still_openable k _ _ _ _ (free_count now) reads layout o behind fixed_now young_now (summarised_now reads o);

@@ -7,6 +7,7 @@ use lib.ListN.{get_elem?}
 use Rattle.std.proofs.lemmas.Bool.{cases_eq, cases_lt, cases_Bool, eqb-true, ltb-true, and_parts}
 use Rattle.atomic_table.specs.Table.{Allows, step, keeps}
 use Rattle.bc_bits.specs.Counting.{one_if}
+use Rattle.bc_bookmarks.specs.Targets.{HasCell}
 use Rattle.bc_pins.specs.declared.views.Lodged.{Lodged}
 use Rattle.bc_pins.specs.declared.views.Hand.{Hand}
 use Rattle.bc_pins.specs.declared.views.View.{View}
@@ -100,6 +101,7 @@ reads k s r p id v near at about =
     record {
       word = lies_few _ _ _ _ place.lies;
       bare = λ e. subst (λ (a : Key). IsBarePage a.opening p) (sym about) ((r.content p near).bare e);
+      there = λ e. subst (λ (a : Key). HasCell a.opening p) (sym about) ((r.content p near).gone e).there;
       seen = λ lt ne. elim (cases_eq (word s p) 3) [
         | inl e ↦ e
         | inr other ↦ absurd (ne (remembered_word k s r p near other (facts.seen p lt).1))

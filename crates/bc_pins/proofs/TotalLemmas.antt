@@ -1,5 +1,5 @@
 -- Sums over lists, when one item changes or some are added.
-use Rattle.std.proofs.Common.{◌≡◌, ℕ, ◌+◌, ◌<◌, ◌≤◌, ◌≢◌, ◌==◌, Bool, true, false, List, [], ◌∷◌, ◌++◌, set, inl, inr, refl, ap, sym, arith}
+use Rattle.std.proofs.Common.{◌≡◌, ℕ, ◌+◌, ◌<◌, ◌≤◌, ◌≢◌, ◌==◌, Bool, true, false, List, [], ◌∷◌, ◌++◌, length, get_or, set, inl, inr, refl, ap, sym, arith}
 use Prim.Native.Nat.{zero, suc}
 use mathlib.Core.Option.{some, some-injective, some-ne-none}
 use lib.ListN.{get_elem?}
@@ -20,6 +20,11 @@ pub total_at : {A : Type 0} (f : A → ℕ) (vs : List A) (j : ℕ) (v : A) → 
 total_at f [] j v e = absurd (some-ne-none v (sym e))
 total_at f (x ∷ xs) zero v e = let is : f x ≡ f v = ap f (some-injective x v e) in omega arith
 total_at f (x ∷ xs) (suc j) v e = let t = total_at f xs j v e in omega arith
+
+pub total_in : {A : Type 0} (f : A → ℕ) (vs : List A) (j : ℕ) (d : A) → j < length vs → f (get_or vs j d) ≤ total f vs
+total_in f [] j d lt = absurd (omega arith)
+total_in f (x ∷ xs) zero d lt = omega arith
+total_in f (x ∷ xs) (suc j) d lt = let t = total_in f xs j d (omega arith) in omega arith
 
 pub total_two : {A : Type 0} (f : A → ℕ) (vs : List A) (j k : ℕ) (v w : A) → j ≢ k → get_elem? vs j ≡ some v → get_elem? vs k ≡ some w → f v + f w ≤ total f vs
 total_two f [] j k v w ne e g = absurd (some-ne-none v (sym e))

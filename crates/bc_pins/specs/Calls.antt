@@ -1,5 +1,6 @@
 -- What the calls of a table require and tell.
 use Rattle.std.specs.Prelude.{◌≡◌, ℕ, ◌<◌, ◌⊎◌, Bool, true, false, if◌then◌else◌, List, [], Some, None}
+use Rattle.bc_bookmarks.specs.Targets.{HasCell}
 use Rattle.bc_pins.specs.declared.key.Role.{Role}
 use Rattle.bc_pins.specs.declared.key.Role.TheVariants.{Marker}
 use Rattle.bc_pins.specs.declared.views.Hand.{Hand}
@@ -79,6 +80,10 @@ abbrev pub tried : View → ℕ → Want → Bool → View
 tried v page Work remembered = if remembered then having_read v page 2 else v
 tried v page Victim remembered = v
 
+-- a page that is wanted as a victim isn't remembered
+abbrev pub IsPlainVictim : Want → Held → Type 0
+IsPlainVictim want held = want ≡ Victim → held.remembered ≡ false
+
 -- the word that each refusal tells
 abbrev pub refusal_word : TakeNo → ℕ
 refusal_word Absent = 0
@@ -87,13 +92,14 @@ refusal_word Busy = 3
 refusal_word Gone = 4
 
 -- the refusal is what the last step on the page's word read; Remembered comes with Victim alone, and what was read as
--- Remembered before is Busy then. No allocated cell lies on a page that is Absent
+-- Remembered before is Busy then. No allocated cell lies on a page that is Absent, and one lies on a page that is Gone
 pub record IsTakeRefused (v : View) (page : ℕ) (want : Want) (no : TakeNo) (w : View) : Type 0 where
   pub read : (w ≡ having_read v page (refusal_word no)) ⊎ ((want ≡ Work) × (w ≡ having_read (having_read v page 2) page (refusal_word no)))
   pub victim : no ≡ Remembered → want ≡ Victim
   pub seen : 0 < times page v.seen → (no ≡ Busy) ⊎ (no ≡ Remembered)
   pub gone : 0 < times page v.gone → no ≡ Gone
   pub bare : no ≡ Absent → IsBarePage v.about.opening page
+  pub there : no ≡ Gone → HasCell v.about.opening page
 
 abbrev pub WasSeen : View → ℕ → Type 0
 WasSeen v page = 0 < times page v.seen

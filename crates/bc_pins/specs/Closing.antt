@@ -60,6 +60,7 @@ pub record Gathered (id : TableId) (k : Key) (all front : List Seat) (root : Wor
   pub emptied : (p : ℕ) → times p root.me.0.emptied + total (λ (seat : Seat). times p (seen_by seat).emptied) front ≡ total (λ (seat : Seat). times p (seen_by seat).emptied) all
   pub bookmarked : (w b : ℕ) → sets_bit w b root.me.0.bookmarked + total (λ (seat : Seat). sets_bit w b (seen_by seat).bookmarked) front ≡ total (λ (seat : Seat). sets_bit w b (seen_by seat).bookmarked) all
   pub fetched : (p : ℕ) → times p root.me.0.fetched + total (λ (seat : Seat). times p (seen_by seat).fetched) front ≡ total (λ (seat : Seat). times p (seen_by seat).fetched) all
+  pub gone : (p : ℕ) → times p root.me.0.gone + total (λ (seat : Seat). times p (seen_by seat).gone) front ≡ total (λ (seat : Seat). times p (seen_by seat).gone) all
   pub mine : (j : ℕ) → length front ≤ j → j < length all → (d : Seat) (p : ℕ) → 0 < has_role (seen_by (slice_index_or all j d)) (owner k p)
       → (0 < has_role root.me.0 (owner k p)) × (record_of root.me.0 p ≡ record_of (seen_by (slice_index_or all j d)) p)
 
@@ -127,8 +128,8 @@ pub record ClosedBit (k : Key) (seats : List Seat) (s : Layout) (w b : ℕ) : Ty
 
 -- the space that a closed table gives back: as it was opened, but for the states of pages, their contents, bookmarks and
 -- counters, the free frames and the reads. Each page has the content that its lane's seat records, or else the opening's. A bookmark bit is
--- set exactly where it was at the opening or a seat set it. A table may be opened over it again, as it could at the opening:
--- so it is summarised
+-- set exactly where it was at the opening or a seat set it. A page that its lane read as Gone, and didn't take since, is Gone. A
+-- table may be opened over it again, as it could at the opening: so it is summarised
 pub record Closed (k : Key) (seats : List Seat) (s : Layout) : Type 0 where
   pub same : s ≡ record k.opening { states = s.states; pages = s.pages; bookmarks = s.bookmarks; incoming = s.incoming; free = s.free; reads = s.reads }
   pub reads : s.reads ≡ min (k.opening.reads + opens_of seats) (2 ^ 64 - 1)
@@ -137,6 +138,7 @@ pub record Closed (k : Key) (seats : List Seat) (s : Layout) : Type 0 where
   pub unowned : (p : ℕ) → p < pages_of k → times (owner k p) k.roles ≡ 0 → content_at s.pages p ≡ opened_content k p
   pub behind : (p : ℕ) → pages_of k ≤ p → p < 4 * superpages k.opening → (state_at s.states p ≡ opened_state k p) × (content_at s.pages p ≡ opened_content k p)
   pub states_are : (p : ℕ) → p < pages_of k → ClosedState k seats (state_at s.states p) p
+  pub read_gone : (j : ℕ) → j < length seats → (d : Seat) (p : ℕ) → 0 < times p (seen_by (slice_index_or seats j d)).gone → state_at s.states p ≡ state.Gone
   pub bits : (w b : ℕ) → w < 16 * k.supers → b < 64 → ClosedBit k seats s w b
   pub bits_behind : (q : ℕ) → k.supers ≤ q → set_of s.bookmarks q ≡ set_of k.opening.bookmarks q
   pub fixed : (p : ℕ) → p < pages_of k → IsContent k.opening p (content_at s.pages p)

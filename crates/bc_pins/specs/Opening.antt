@@ -70,6 +70,7 @@ pub record HasClosed (k : Key) (v : View) (words : List ℕ) (slots : List Lodge
   pub counters : (q : ℕ) → q < k.supers → slice_index words (counter_at k q) ≡ sum_to (λ p. if slice_index words p == 4 then points k p (record_of v p) q else 0) (pages_of k)
   pub bits : (w b : ℕ) → w < 16 * k.supers → b < 64 → Bits k (record { words = words; homes = map some slots; views = v ∷ [] }) w b
   pub still : Still k (record { words = words; homes = map some slots; views = v ∷ [] })
+  pub gone : (p : ℕ) → 0 < times p v.gone → (p < pages_of k) × (slice_index words p ≡ 4)
 
 -- a space over which a table may be opened: it is summarised and closed, no cell is promised, and no page that is Home refers
 -- to a nursery. A closed table gives back such a one

@@ -177,10 +177,11 @@ pub record MayVacate (k : Key) (h : Hand) : Type 0 where
   pub unmarked : h.marked ≡ []
 
 -- what a word tells that was read: the page's state, and what was read of it before is still so. No allocated cell lies on a page
--- that is Absent
+-- that is Absent, and one lies on a page that is Gone
 pub record ReadsWord (v : View) (page found : ℕ) : Type 0 where
   pub word : found ≤ 4
   pub bare : found ≡ 0 → IsBarePage v.about.opening page
+  pub there : found ≡ 4 → HasCell v.about.opening page
   pub seen : 0 < times page v.seen → found ≢ 2 → found ≡ 3
   pub gone : 0 < times page v.gone → found ≡ 4
 

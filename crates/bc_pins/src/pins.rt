@@ -50,3 +50,14 @@ pub struct Seat {
     pub(crate) opens: Opens,
     ghost tidy: { IsTidy inner.me.0 },
 }
+
+impl Seat {
+    ghost use Rattle.std.specs.Prelude.{◌≡◌};
+
+    /// What its holder may do.
+    pub fn role(&self) -> Role
+        ensures role { result ≡ self.now.role }
+    {
+        self.role
+    }
+}

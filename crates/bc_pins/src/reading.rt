@@ -1,11 +1,13 @@
 //! What everybody may read of a table.
 
-ghost use Rattle.std.specs.Prelude.{◌≡◌, ℕ, ◌*◌, ◌<◌, slice_index};
+ghost use Rattle.std.specs.Prelude.{◌≡◌, ℕ, ◌*◌, ◌<◌, ◌≤◌, slice_index};
 ghost use Rattle.bc_word.specs.Addresses.{page_of};
+ghost use Rattle.bc_superpages.specs.declared.headers.PageState.TheVariants.{Absent};
 ghost use Rattle.bc_superpages.specs.Layout.{superpages, set_of};
 ghost use Rattle.bc_superpages.specs.LayoutAt.{IsAllocated};
 ghost use Rattle.bc_superpages.specs.Kept.{IsLayout};
 ghost use Rattle.bc_pins.specs.Key.{pages_of, frame_words, is_lanes};
+ghost use Rattle.bc_pins.specs.Views.{opened_state};
 ghost use Rattle.bc_pins.specs.Calls.{key_of};
 
 use crate::key::Turn;
@@ -13,10 +15,13 @@ use crate::pins::Pins;
 use bc_superpages::Header;
 
 impl Pins {
-    /// What holds of the space at the opening: its layout, and that each allocated cell lies on a page of the table.
+    /// What holds of the space at the opening: its layout, that each allocated cell lies on a page of the table, and that each page
+    /// behind the table's is Absent.
     pub fn facts(&self)
         ensures layout { IsLayout (key_of self.now).opening }
         ensures inside { (a : ℕ) → IsAllocated (key_of self.now).opening a → page_of a < pages_of (key_of self.now) }
+        ensures behind { (p : ℕ) → pages_of (key_of self.now) ≤ p → opened_state (key_of self.now) p ≡ Absent }
+        ensures within { (key_of self.now).supers ≤ superpages (key_of self.now).opening }
     {
         self.rest.facts();
     }

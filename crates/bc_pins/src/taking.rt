@@ -5,7 +5,7 @@ ghost use Rattle.bc_pins.specs.Key.{pages_of};
 ghost use Rattle.bc_pins.specs.Views.{state_word, home_word};
 ghost use Rattle.bc_pins.specs.Steps.{having_read, gripping, ReadsWord, Takes};
 ghost use Rattle.bc_pins.specs.declared.taking.TakeNo.TheVariants.{Busy};
-ghost use Rattle.bc_pins.specs.Calls.{key_of, view_of, IsAt, IsSameSeat, IsFree, HoldsPage, Grasps, MayWork, MayPut, tried, refusal_word, IsTakeRefused, WasSeen, put_back};
+ghost use Rattle.bc_pins.specs.Calls.{key_of, view_of, IsAt, IsSameSeat, IsFree, HoldsPage, Grasps, MayWork, MayPut, tried, refusal_word, IsPlainVictim, IsTakeRefused, WasSeen, put_back};
 
 use crate::holding::Held;
 use crate::pins::{Pins, Seat};
@@ -43,7 +43,8 @@ pub enum TakeNo {
 }
 
 impl Pins {
-    /// Takes a page into the seat's hands. Each refusal tells what the last step on the page's word read.
+    /// Takes a page into the seat's hands; for a victim only one that isn't remembered. Each refusal tells what the last step on
+    /// the page's word read.
     pub fn take(&self, seat: &mut Seat, page: u32, want: Want) -> Result<Held, TakeNo>
         requires seat { IsAt self.now seat.old }
         requires free { IsFree seat.old }
@@ -52,6 +53,7 @@ impl Pins {
         ensures same { IsSameSeat seat.old seat.new }
         ensures ok { IfOk result (λ held. Grasps (tried (view_of seat.old) page want held.remembered) seat.new page held) }
         ensures taken { IfOk result (λ held. Takes (view_of seat.old) page held.remembered held.homed) }
+        ensures victim { IfOk result (λ held. IsPlainVictim want held) }
         ensures err { IfErr result (λ no. IsFree seat.new × IsTakeRefused (view_of seat.old) page want no (view_of seat.new)) }
     {
         match self.grip(seat, page, HOME) {
