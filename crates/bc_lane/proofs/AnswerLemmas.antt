@@ -1,13 +1,12 @@
 -- An operation of a lane, once its page is in hand.
-use Rattle.std.proofs.Common.{◌≡◌, ◌⊎◌, ℕ, ◌+◌, ◌*◌, ◌/◌, ◌<◌, true, List, length, map, get_or, Option, Some, None, Result, Ok, Err, inl, inr, refl, ap, sym, subst, ◌∙◌}
+use Rattle.std.proofs.Common.{◌≡◌, ℕ, ◌/◌, ◌<◌, List, length, map, get_or, Option, Result, Ok, Err, inl, inr, ap, sym, subst, ◌∙◌}
 use Rattle.std.proofs.lemmas.List.{get_or-map}
 use Rattle.std.proofs.lemmas.Result.{IfOk-weaker, on_err_weaker}
 use Rattle.std.specs.Result.{IfErr, IfOk, OnErr}
 use Rattle.bc_lane.specs.declared.parts.LanePart.{LanePart}
 use Rattle.bc_lane.specs.declared.stops.Stop.{Stop}
-use Rattle.bc_lane.specs.declared.stops.Stop.TheVariants as stop
 use Rattle.bc_lane.specs.Shown.{HasPage, IsOwnPage, ShowsPages}
-use Rattle.bc_lane.specs.Turns.{DoesOne, HasInHand, LaneHoldsAll, IsLaneSeat, IsLaneTable, IsRefusedPage, IsWhole, LeadsToPageWhere, LooksForeign, LooksOn, LooksOwn, ReadLast, SlotsOf, StaysWhole, StopsOp}
+use Rattle.bc_lane.specs.Turns.{DoesOne, HasInHand, LaneHoldsAll, IsLaneSeat, IsLaneTable, IsRefusedPage, IsWhole, LeadsToPageWhere, LooksForeign, LooksOn, LooksOwn, SlotsOf, StaysWhole, StopsOp}
 use Rattle.bc_lane.proofs.ForeignLemmas.{foreign-looked}
 use Rattle.bc_lane.proofs.HandLemmas.{hand-after}
 use Rattle.bc_lane.proofs.LookLemmas.{looking-wants, touches-more}
@@ -21,7 +20,7 @@ use Rattle.bc_pins.specs.declared.key.Role.{Role}
 use Rattle.bc_pins.specs.declared.pins.Pins.{Pins}
 use Rattle.bc_pins.specs.declared.pins.Seat.{Seat}
 use Rattle.bc_pins.specs.declared.views.View.{View}
-use Rattle.bc_pins.specs.Calls.{IsSameSeat, key_of, view_of}
+use Rattle.bc_pins.specs.Calls.{key_of, view_of}
 use Rattle.bc_pins.specs.Key.{Key, lane_role, owner, role_number}
 use Rattle.bc_pins.specs.Views.{has_role}
 use Rattle.bc_superpages.specs.Layout.{Layout}

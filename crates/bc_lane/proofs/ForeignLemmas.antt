@@ -1,10 +1,10 @@
 -- An operation that looks at a cell of another lane's is told so, and changes nothing.
-use Rattle.std.proofs.Common.{◌≡◌, ◌≢◌, ℕ, ◌<◌, ◌==◌, true, List, length, get_or, Some, None, inl, inr, refl, ap, sym, subst, ◌∙◌, arith}
+use Rattle.std.proofs.Common.{◌≡◌, ◌≢◌, ℕ, ◌==◌, true, List, get_or, Some, inl, inr, refl, ap, sym, ◌∙◌}
 use Rattle.std.specs.List.{list_all}
 use Rattle.bc_lane.specs.Turns.{LooksForeign}
 use Rattle.bc_memory.specs.Memory.{Cell}
-use Rattle.bc_model.specs.State.{State, slot_of}
-use Rattle.bc_model.specs.Step.{act, domains_of}
+use Rattle.bc_model.specs.State.{slot_of}
+use Rattle.bc_model.specs.Step.{domains_of}
 use Rattle.bc_model.specs.declared.operations.Op.{Op}
 use Rattle.bc_model.specs.declared.operations.Op.TheVariants.{New, Who, Len, Set, Cut, Link, Load, Copy, Clear, Same}
 use Rattle.bc_model.specs.declared.operations.Reply.TheVariants.{Foreign}
@@ -23,7 +23,6 @@ use Rattle.bc_superpages.specs.Memory as space
 use Rattle.bc_superpages.proofs.HandLemmas.{allocated-object}
 use Rattle.bc_superpages.proofs.MemoryLemmas.{memory_of-cell}
 use Rattle.bc_whole_heap.specs.Heaps.{HeapView}
-use Rattle.bc_whole_heap.specs.LaneStates.{StandsAs}
 use Rattle.bc_word.specs.Addresses.{superpage_of}
 use Rattle.bc_word.specs.declared.addresses.Address.{Address}
 use Rattle.bc_word.specs.declared.words.Word.TheVariants.{Ref}

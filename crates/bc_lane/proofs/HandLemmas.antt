@@ -1,13 +1,12 @@
 -- A seat that takes an own page, and puts it back.
-use Rattle.std.proofs.Common.{◌≡◌, ◌⊎◌, ℕ, ◌+◌, ◌<◌, ◌≤◌, Bool, true, false, List, [], ◌∷◌, length, Option, Some, None, inl, inr, refl, ap, sym, subst, ◌∙◌, arith}
+use Rattle.std.proofs.Common.{◌≡◌, ◌≢◌, ℕ, ◌<◌, ◌≤◌, Bool, true, false, if◌then◌else◌, List, ◌∷◌, length, Option, Some, None, inl, inr, refl, ap, sym, subst, ◌∙◌, arith}
 use Rattle.bc_lane.specs.Shown.{HasPage, IsOwnPage, ShowsPages}
-use Rattle.bc_lane.specs.Turns.{HasInHand, IsRefusedPage, ReadLast, ReadsOn}
-use Rattle.bc_lane.specs.declared.stops.Stop.TheVariants as stop
+use Rattle.bc_lane.specs.Turns.{HasInHand, ReadLast, ReadsOn}
 use Rattle.bc_lane.proofs.PageLemmas.{shows-back, shows-given, shows-read, shows-taken}
 use Rattle.bc_pins.specs.declared.holding.Held.{Held}
 use Rattle.bc_pins.specs.declared.pins.Seat.{Seat}
 use Rattle.bc_pins.specs.declared.taking.TakeNo.{TakeNo}
-use Rattle.bc_pins.specs.declared.taking.TakeNo.TheVariants.{Absent, Busy, Gone, Remembered}
+use Rattle.bc_pins.specs.declared.taking.TakeNo.TheVariants.{Absent, Remembered}
 use Rattle.bc_pins.specs.declared.taking.Want.{Want}
 use Rattle.bc_pins.specs.declared.taking.Want.TheVariants.{Victim, Work}
 use Rattle.bc_pins.specs.declared.views.Hand.{Hand}
@@ -15,9 +14,13 @@ use Rattle.bc_pins.specs.declared.views.View.{View}
 use Rattle.bc_pins.specs.Calls.{Grasps, HoldsPage, IsFree, IsTakeRefused, MayPut, put_back, refusal_word, tried, view_of}
 use Rattle.bc_pins.specs.Contents.{IsBarePage}
 use Rattle.bc_pins.specs.Key.{Key, pages_of}
-use Rattle.bc_pins.specs.Steps.{Takes, both_slots, gripping, having_read}
+use Rattle.bc_pins.specs.Steps.{Takes, both_slots, gripping, having_read, owns}
+use Rattle.bc_pins.specs.Totals.{times}
+use Rattle.bc_pins.specs.Views.{entries}
 use Rattle.bc_pins.specs.declared.views.Lodged.TheVariants.{Nothing}
-use Rattle.bc_pins.proofs.TakeLemmas.{some_hand}
+use Rattle.bc_pins.proofs.GiveLemmas.{recorded_times}
+use Rattle.bc_pins.proofs.TakeLemmas.{flag_other, some_hand}
+use Rattle.bc_pins.proofs.TotalLemmas.{one_other}
 use Rattle.bc_pins.proofs.VisitLemmas.{holds_taken, tried_rights}
 use Rattle.bc_superpages.specs.Layout.{Layout}
 
@@ -60,6 +63,24 @@ shown-back seat seat' hand held end last s t is view first shown =
 pub some-back : (v : View) (hand : Option Held) (end : ℕ) (s : Layout) → hand ≡ None → ShowsPages v None end s → ShowsPages v hand end s
 some-back v hand end s is shown = subst (λ (x : Option Held). ShowsPages v x end s) (sym is) shown
 
+-- a seat reads on
+pub none-reads : (v : View) → ReadsOn v v
+none-reads v = record { longer = omega arith; rights = refl; about = refl; behind = λ q far. (refl, refl) }
+
+pub then-reads : (u v w : View) → ReadsOn u v → ReadsOn v w → ReadsOn u w
+then-reads u v w x y =
+    let a = x.longer in
+    let b = y.longer in
+    record {
+      longer = omega arith;
+      rights = y.rights ∙ x.rights;
+      about = y.about ∙ x.about;
+      behind = λ q far.
+          let one = x.behind q far in
+          let two = y.behind q (subst (λ (k : Key). pages_of k ≤ q) (sym x.about) far) in
+          (two.0 ∙ one.0, two.1 ∙ one.1);
+    }
+
 -- a page was taken
 pub tried-about : (v : View) (page : ℕ) (b : Bool) → (tried v page Work b).about ≡ v.about
 tried-about v page true = refl
@@ -79,11 +100,22 @@ shown-taken v seat page held end s g takes own shown =
     (subst (λ (p : ℕ). ShowsPages (gripping (tried v page Work held.remembered) page held.remembered held.homed) (Some (record { page = p; remembered = held.remembered; homed = held.homed })) end s) (sym g.is)
     (shows-taken v page end held.remembered held.homed s own takes shown))
 
+tried-behind : (v : View) (page q : ℕ) (b : Bool) → (entries q (tried v page Work b).changed ≡ entries q v.changed) × (times q (tried v page Work b).recorded ≡ times q v.recorded)
+tried-behind v page q true = (refl, refl)
+tried-behind v page q false = (refl, refl)
+
 pub taken-reads : (v : View) (seat : Seat) (page : ℕ) (held : Held) → Grasps (tried v page Work held.remembered) seat page held → ReadsOn v (view_of seat)
 taken-reads v seat page held g =
     let more = tried-read v page held.remembered in
     let long = ap (λ (w : View). length w.read) g.view in
-    record { longer = omega arith; rights = ap (λ (w : View). w.rights) g.view ∙ tried_rights v page Work held.remembered }
+    record {
+      longer = omega arith;
+      rights = ap (λ (w : View). w.rights) g.view ∙ tried_rights v page Work held.remembered;
+      about = ap (λ (w : View). w.about) g.view ∙ tried-about v page held.remembered;
+      behind = λ q far.
+          let same = tried-behind v page q held.remembered in
+          (ap (λ (w : View). entries q w.changed) g.view ∙ same.0, ap (λ (w : View). times q w.recorded) g.view ∙ same.1);
+    }
 
 -- or refused
 pub refused-read : (v w : View) (page : ℕ) (want : Want) (refusal : TakeNo) → IsTakeRefused v page want refusal w → ReadLast w page (refusal_word refusal)
@@ -92,20 +124,43 @@ refused-read v w page want refusal r = elim r.read [
   | inr e ↦ ((page, 2) ∷ v.read, ap (λ (x : View). x.read) e.1)
 ]
 
+reads-word : (v w : View) (page found : ℕ) → w ≡ having_read v page found → ReadsOn v w
+reads-word v w page found e =
+    let long = ap (λ (x : View). length x.read) e in
+    record {
+      longer = omega arith;
+      rights = ap (λ (x : View). x.rights) e;
+      about = ap (λ (x : View). x.about) e;
+      behind = λ q far. (ap (λ (x : View). entries q x.changed) e, ap (λ (x : View). times q x.recorded) e);
+    }
+
 pub refused-reads : (v w : View) (page : ℕ) (want : Want) (refusal : TakeNo) → IsTakeRefused v page want refusal w → ReadsOn v w
 refused-reads v w page want refusal r = elim r.read [
-  | inl e ↦ let long = ap (λ (x : View). length x.read) e in record { longer = omega arith; rights = ap (λ (x : View). x.rights) e }
-  | inr e ↦ let long = ap (λ (x : View). length x.read) e.1 in record { longer = omega arith; rights = ap (λ (x : View). x.rights) e.1 }
+  | inl e ↦ reads-word v w page (refusal_word refusal) e
+  | inr e ↦ then-reads v (having_read v page 2) w (reads-word v (having_read v page 2) page 2 refl) (reads-word (having_read v page 2) w page (refusal_word refusal) e.1)
 ]
 
-pub put-reads : (v w : View) (held : Held) → w ≡ put_back v held → ReadsOn v w
-put-reads v w held e = let long = ap (λ (x : View). length x.read) e in record { longer = omega arith; rights = ap (λ (x : View). x.rights) e }
+-- it was put back, on a page of the table
+entries-else : (b : Bool) (q p : ℕ) (c : List ℕ) (l : List (ℕ × List ℕ)) → p ≢ q → entries q (if b then (p, c) ∷ l else l) ≡ entries q l
+entries-else true q p c l ne = let none = one_other p q ne in omega arith
+entries-else false q p c l ne = refl
 
-pub none-reads : (v : View) → ReadsOn v v
-none-reads v = record { longer = omega arith; rights = refl }
-
-pub then-reads : (u v w : View) → ReadsOn u v → ReadsOn v w → ReadsOn u w
-then-reads u v w x y = let a = x.longer in let b = y.longer in record { longer = omega arith; rights = y.rights ∙ x.rights }
+pub put-reads : (seat : Seat) (w : View) (held : Held) → HoldsPage seat held → w ≡ put_back (view_of seat) held → ReadsOn (view_of seat) w
+put-reads seat w held has e =
+    let v = view_of seat in
+    let long = ap (λ (x : View). length x.read) e in
+    record {
+      longer = omega arith;
+      rights = ap (λ (x : View). x.rights) e;
+      about = ap (λ (x : View). x.about) e;
+      behind = λ q far.
+          let inside = has.inside in
+          let other : held.page ≢ q = λ is. absurd (omega arith) in
+          let none = flag_other held.remembered held.page q other in (
+            ap (λ (x : View). entries q x.changed) e ∙ entries-else (owns v held.page) q held.page held.homed.page v.changed other,
+            ap (λ (x : View). times q x.recorded) e ∙ recorded_times held.remembered q held.page v.recorded ∙ omega arith,
+          );
+    }
 
 pub refused-shown : (v w : View) (page : ℕ) (want : Want) (refusal : TakeNo) (end : ℕ) (s : Layout) → IsTakeRefused v page want refusal w → ShowsPages v None end s → ShowsPages w None end s
 refused-shown v w page want refusal end s r shown = elim r.read [

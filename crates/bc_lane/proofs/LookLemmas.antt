@@ -1,16 +1,15 @@
 -- Where an operation of a lane looks.
-use Rattle.std.proofs.Common.{◌≡◌, ◌≢◌, ℕ, ◌+◌, ◌*◌, ◌/◌, ◌<◌, ◌≤◌, ◌==◌, ◌&&◌, Bool, true, false, List, [], ◌∷◌, length, map, get_or, Option, Some, None, inl, inr, refl, ap, sym, subst, ◌∙◌, arith, eqb-true}
+use Rattle.std.proofs.Common.{◌≡◌, ◌≢◌, ℕ, ◌+◌, ◌/◌, ◌<◌, ◌==◌, Bool, true, false, List, [], ◌∷◌, length, get_or, Option, Some, None, inl, inr, refl, ap, sym, subst, ◌∙◌, arith, eqb-true}
 use Rattle.std.specs.List.{list_all}
 use Rattle.std.specs.Prelude.{IfNone, IfSome, OnSome}
 use Rattle.std.proofs.lemmas.Bool.{and_parts, cases_lt}
 use Rattle.std.proofs.lemmas.List.{get_or_default}
-use Rattle.bc_lane.specs.Shown.{ShowsPages, ShowsSlots}
-use Rattle.bc_lane.specs.Turns.{LaneHoldsAll, IsLaneTable, IsWhole, LeadsToPageWhere, LooksAtObject, LooksForeign, LooksOn, LooksOwn, LooksTold, SlotsOf}
+use Rattle.bc_lane.specs.Shown.{ShowsPages}
+use Rattle.bc_lane.specs.Turns.{LaneHoldsAll, IsLaneTable, IsWhole, LeadsToPageWhere, LooksAtObject, LooksOn, LooksOwn, LooksTold, SlotsOf}
 use Rattle.bc_lane.specs.declared.looking.Looking.TheVariants.{Foreign}
 use Rattle.bc_lane.specs.declared.parts.LanePart.{LanePart}
 use Rattle.bc_lane.proofs.PageLemmas.{opened-allocated}
 use Rattle.bc_lane.proofs.SlotLemmas.{own-place, own-start, own-word}
-use Rattle.bc_memory.specs.Memory.{Cell}
 use Rattle.bc_model.specs.Step.{domains_of}
 use Rattle.bc_model.specs.WellFormed.{IsSlot}
 use Rattle.bc_model.specs.declared.operations.Op.{Op}
@@ -27,13 +26,13 @@ use Rattle.bc_pins.specs.Contents.{IsBarePage}
 use Rattle.bc_pins.specs.Key.{Key, pages_of}
 use Rattle.bc_superpages.specs.Kept.{IsLayout}
 use Rattle.bc_superpages.specs.Layout.{Layout, superpages}
-use Rattle.bc_superpages.specs.LayoutAt.{IsAllocated, state_at}
+use Rattle.bc_superpages.specs.LayoutAt.{IsAllocated}
 use Rattle.bc_superpages.specs.Memory as space
 use Rattle.bc_superpages.specs.RootWords.{RootWords}
 use Rattle.bc_superpages.proofs.BringLemmas.{allocated-not_absent}
 use Rattle.bc_superpages.proofs.HandLemmas.{allocated-object, allocated-superpage}
 use Rattle.bc_superpages.proofs.MemoryLemmas.{memory_of-cell}
-use Rattle.bc_whole_heap.specs.Heaps.{HeapView, end_of}
+use Rattle.bc_whole_heap.specs.Heaps.{HeapView}
 use Rattle.bc_word.specs.Addresses.{page_of, superpage_of}
 use Rattle.bc_word.specs.Words.{word_of_bits}
 use Rattle.bc_word.specs.declared.addresses.Address.{Address}
@@ -263,12 +262,12 @@ one-ref word a b x y = same a b (sym x ∙ y)
 
 -- what was read of the lane's words
 pub read-as : (starts starts' words words' : List ℕ) (word : Word) (p : Slot) → starts' ≡ starts → words' ≡ words → word ≡ word_of_bits (get_or words' (get_or starts' p.domain 0 + p.slot) 0) → word ≡ word_of_bits (get_or words (get_or starts p.domain 0 + p.slot) 0)
-read-as starts starts' words words' word p e f read =
+read-as starts starts' ws ws' word p e f read =
     subst (λ (xs : List ℕ). word ≡ word_of_bits (get_or xs (get_or starts p.domain 0 + p.slot) 0)) f
-    (subst (λ (xs : List ℕ). word ≡ word_of_bits (get_or words' (get_or xs p.domain 0 + p.slot) 0)) e read)
+    (subst (λ (xs : List ℕ). word ≡ word_of_bits (get_or ws' (get_or xs p.domain 0 + p.slot) 0)) e read)
 
 pub held-as : (hs hs' : List ℕ) (lane : ℕ) (op : Op) (b : Bool) → hs' ≡ hs → b ≡ list_all (λ d. get_or hs' d 0 == lane) (domains_of op) → b ≡ list_all (λ d. get_or hs d 0 == lane) (domains_of op)
-held-as hs hs' lane op b e held = subst (λ (xs : List ℕ). b ≡ list_all (λ d. get_or xs d 0 == lane) (domains_of op)) e held
+held-as holders holders' lane op b e held = subst (λ (xs : List ℕ). b ≡ list_all (λ d. get_or xs d 0 == lane) (domains_of op)) e held
 
 pub not-held : (b c : Bool) → b ≡ c → b ≡ false → c ≡ true → ⊥
 not-held b c e off on = cc

@@ -1,7 +1,7 @@
 -- What a lane has at the opening of a turn belongs to the whole heap.
-use Rattle.std.proofs.Common.{◌≡◌, ℕ, ◌==◌, true, List, get_or, None, refl, ap, sym, subst, ◌∙◌, arith}
+use Rattle.std.proofs.Common.{◌≡◌, ℕ, ◌==◌, true, List, get_or, None, refl, ap, sym, subst, arith}
 use Rattle.bc_bits.specs.Counting.{one_if}
-use Rattle.bc_lane.specs.Shown.{IsOwnPage, ShowsPage, ShowsPages}
+use Rattle.bc_lane.specs.Shown.{ShowsPage}
 use Rattle.bc_lane.specs.Turns.{IsWhole, SlotsOf}
 use Rattle.bc_lane.specs.declared.parts.LanePart.{LanePart}
 use Rattle.bc_model.specs.State.{State}
@@ -14,7 +14,6 @@ use Rattle.bc_superpages.specs.declared.headers.PageState.TheVariants.{Absent, G
 use Rattle.bc_superpages.specs.Headers.{is_gone}
 use Rattle.bc_superpages.specs.Kept.{IsLayout}
 use Rattle.bc_superpages.specs.Layout.{Layout}
-use Rattle.bc_superpages.specs.LayoutAt.{state_at}
 use Rattle.bc_whole_heap.specs.Closed.{buffer_of}
 use Rattle.bc_whole_heap.specs.Heaps.{HeapView, end_of}
 use Rattle.bc_whole_heap.specs.LaneStates.{StandsAs}

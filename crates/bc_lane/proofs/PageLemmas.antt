@@ -1,10 +1,10 @@
 -- What a space has of the pages of a lane's domains, when one is taken, written, remembered or put back.
-use Rattle.std.proofs.Common.{◌≡◌, ◌≢◌, ◌⊎◌, ℕ, ◌+◌, ◌*◌, ◌<◌, ◌≤◌, ◌==◌, Bool, true, false, if◌then◌else◌, List, [], ◌∷◌, length, get_or, set, Option, Some, None, inl, inr, refl, ap, sym, subst, ◌∙◌, arith, get_or-set_same, get_or-set_other, length-set}
+use Rattle.std.proofs.Common.{◌≡◌, ◌≢◌, ◌⊎◌, ℕ, ◌+◌, ◌*◌, ◌<◌, ◌==◌, Bool, true, false, if◌then◌else◌, List, [], ◌∷◌, length, get_or, set, Option, Some, None, inl, inr, refl, ap, sym, subst, ◌∙◌, arith, get_or-set_same, get_or-set_other}
 use Rattle.std.proofs.lemmas.Bool.{cases_Bool, cases_eq, lt-ltb}
 use Rattle.bc_bits.specs.Counting.{one_if}
 use Rattle.bc_lane.specs.Shown.{HasPage, IsOwnPage, IsRememberedOrFound, ShowsHeld, ShowsPage, ShowsPages}
 use Rattle.bc_mutator.specs.Effects.{Remembers}
-use Rattle.bc_mutator.specs.Parts.{HasAllocated, HasField, MayHold}
+use Rattle.bc_mutator.specs.Parts.{HasField, MayHold}
 use Rattle.bc_mutator.proofs.ObjectLemmas.{allocated-below}
 use Rattle.bc_mutator.proofs.StateLemmas.{remembers-home}
 use Rattle.bc_pins.specs.declared.holding.Held.{Held}
@@ -12,15 +12,14 @@ use Rattle.bc_pins.specs.declared.taking.Want.TheVariants.{Work}
 use Rattle.bc_pins.specs.declared.views.View.{View}
 use Rattle.bc_pins.specs.Calls.{put_back, tried}
 use Rattle.bc_pins.specs.Contents.{IsContent, IsFieldOn, IsYoung, NamesFixed, RefersYoung, field_bits}
-use Rattle.bc_pins.specs.Key.{Key, owner}
+use Rattle.bc_pins.specs.Key.{Key}
 use Rattle.bc_pins.specs.Steps.{Takes, gripping, having_read, owns}
 use Rattle.bc_pins.specs.Totals.{times}
-use Rattle.bc_pins.specs.Views.{has_role, look_up, opened_content, opened_word, record_of}
+use Rattle.bc_pins.specs.Views.{opened_content, opened_word}
 use Rattle.bc_pins.proofs.GiveLemmas.{look_here, look_other, recorded_times}
 use Rattle.bc_pins.proofs.HeldLemmas.{set_fixed}
 use Rattle.bc_pins.proofs.TakeLemmas.{flag_is, flag_other}
-use Rattle.bc_pins.proofs.TotalLemmas.{one_same, one_other}
-use Rattle.bc_superpages.specs.declared.headers.PageState.{PageState}
+use Rattle.bc_pins.proofs.TotalLemmas.{one_same}
 use Rattle.bc_superpages.specs.declared.headers.PageState.TheVariants.{Remembered}
 use Rattle.bc_superpages.specs.declared.spaces.Homed.{Homed}
 use Rattle.bc_superpages.specs.Calls.{fields_at}
@@ -31,7 +30,6 @@ use Rattle.bc_superpages.specs.LayoutAt.{IsAllocated, state_at, with_state, with
 use Rattle.bc_superpages.specs.Memory.{cell_at}
 use Rattle.bc_superpages.proofs.FieldLemmas.{field-offset, field-room}
 use Rattle.bc_superpages.proofs.HandLemmas.{allocated-page, field-page}
-use Rattle.bc_whole_heap.specs.Heaps.{end_of}
 use Rattle.bc_word.specs.Addresses.{offset_of, page_of}
 use Rattle.bc_word.specs.Heads.{fields_of_bits}
 use Rattle.bc_word.specs.WordBits.{IsPacked, word_bits}

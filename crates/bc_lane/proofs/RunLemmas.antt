@@ -1,12 +1,12 @@
 -- Operations of a lane, one more after those that were done.
-use Rattle.std.proofs.Common.{◌≡◌, ℕ, ◌+◌, ◌-◌, ◌^◌, ◌<◌, ◌≤◌, List, [], ◌∷◌, ◌++◌, length, get_or, take, drop, Option, None, refl, ap, sym, subst, ◌∙◌, arith, append_assoc, length-append, length-drop}
+use Rattle.std.proofs.Common.{◌≡◌, ℕ, ◌+◌, ◌<◌, ◌≤◌, List, [], ◌∷◌, ◌++◌, length, get_or, take, drop, Option, Vec, Global, vec_capacity, refl, ap, sym, subst, ◌∙◌, arith, append_assoc, length-append, length-drop}
 use Rattle.std.proofs.lemmas.List.{drop-drop, drop-take, get_or-drop, take-append-drop, take-take, take_more}
 use Rattle.std.specs.List.{AllByRecursion}
 use Rattle.bc_lane.specs.Doing.{DidAll}
 use Rattle.bc_lane.specs.Turns.{DoesOne, IsWhole, LaneRan, ReadsOn, SamePart, SameSizes}
 use Rattle.bc_lane.specs.declared.parts.LanePart.{LanePart}
 use Rattle.bc_lane.specs.declared.turns.LaneTurn.{LaneTurn}
-use Rattle.bc_lane.proofs.HandLemmas.{then-reads}
+use Rattle.bc_lane.proofs.HandLemmas.{none-reads, then-reads}
 use Rattle.bc_lane.proofs.WholeLemmas.{births-step}
 use Rattle.bc_model.proofs.Runs.{at-index}
 use Rattle.bc_model.specs.WellFormed.{IsOp}
@@ -63,11 +63,12 @@ pub ran-none : (ops : List Op) (end : ℕ) (turn : LaneTurn) (v : View) (hand : 
 ran-none ops end turn v hand = record {
   replies = [];
   kept = sym (nil turn.replies.items);
+  room = refl;
   next = omega arith;
   count = refl;
   same = record { lane = refl; holders = refl; domains = refl; slots = refl; starts = refl };
   serial = omega arith;
-  reads = record { longer = omega arith; rights = refl };
+  reads = none-reads v;
   done = λ h w fits. (h, w, record { domains = refl; slots = refl }, (refl, refl));
 }
   where
@@ -79,7 +80,7 @@ ran-none ops end turn v hand = record {
 module _ (ops : List Op) (end : ℕ) (old cur new : LaneTurn) (v w x : View) (hand after last : Option Held) (op : Op) (reply : Reply)
     (ran : LaneRan ops end old v hand cur w after) (h0 : HeapView) (w0 : IsWhole old.part v hand end h0) (fits0 : AllByRecursion (IsOpOf h0.roots) ops)
     (less : cur.next < length ops) (is : op ≡ get_or ops cur.next op) (does : DoesOne cur.part w after new.part x last end op reply) (same : SamePart cur.part new.part)
-    (next : new.next ≡ cur.next + 1) (count : new.count ≡ cur.count) (kept : new.replies.items ≡ cur.replies.items ++ reply ∷ []) (reads : ReadsOn w x) where
+    (next : new.next ≡ cur.next + 1) (count : new.count ≡ cur.count) (kept : new.replies.items ≡ cur.replies.items ++ reply ∷ []) (room : vec_capacity new.replies ≡ vec_capacity cur.replies) (reads : ReadsOn w x) where
   abbrev hs : List ℕ
   hs = old.part.holders.items
 
@@ -128,6 +129,7 @@ module _ (ops : List Op) (end : ℕ) (old cur new : LaneTurn) (v w x : View) (ha
       record {
         replies = ran.replies ++ reply ∷ [];
         kept = kept ∙ ap (λ (l : List Reply). l ++ reply ∷ []) ran.kept ∙ append_assoc old.replies.items ran.replies (reply ∷ []);
+        room = room ∙ ran.room;
         next = omega arith;
         count = count ∙ ran.count;
         same = same-part old.part cur.part new.part ran.same same;
@@ -137,7 +139,7 @@ module _ (ops : List Op) (end : ℕ) (old cur new : LaneTurn) (v w x : View) (ha
       }
 
 -- an operation stopped, and nothing was done
-pub ran-stopped : (ops : List Op) (end : ℕ) (old cur new : LaneTurn) (v w x : View) (hand after last : Option Held) → LaneRan ops end old v hand cur w after → new.part ≡ cur.part → new.next ≡ cur.next → new.count ≡ cur.count → new.replies.items ≡ cur.replies.items
+pub ran-stopped : (ops : List Op) (end : ℕ) (old cur new : LaneTurn) (v w x : View) (hand after last : Option Held) → LaneRan ops end old v hand cur w after → new.part ≡ cur.part → new.next ≡ cur.next → new.count ≡ cur.count → new.replies ≡ cur.replies
     → ReadsOn w x → ((h : HeapView) → IsWhole cur.part w after end h → IsWhole cur.part x last end h) → LaneRan ops end old v hand new x last
 ran-stopped ops end old cur new v w x hand after last ran part next count kept reads still =
     let serial = ap (λ (p : LanePart). p.serial) part in
@@ -145,7 +147,8 @@ ran-stopped ops end old cur new v w x hand after last ran part next count kept r
     let births = ran.serial in
     record {
       replies = ran.replies;
-      kept = kept ∙ ran.kept;
+      kept = ap (λ (xs : Vec Reply Global). xs.items) kept ∙ ran.kept;
+      room = ap (λ (xs : Vec Reply Global). vec_capacity xs) kept ∙ ran.room;
       next = next ∙ ran.next;
       count = count ∙ ran.count;
       same = subst (λ (p : LanePart). SamePart old.part p) (sym part) ran.same;
@@ -159,12 +162,12 @@ ran-stopped ops end old cur new v w x hand after last ran part next count kept r
 
 -- operations after operations
 did-then : (hs : List ℕ) (lane : ℕ) (ops more : List Op) (replies rest : List Reply) (h m k : HeapView) (s n t : ℕ) → DidAll hs lane ops replies h s m n → DidAll hs lane more rest m n k t → DidAll hs lane (ops ++ more) (replies ++ rest) h s k t
-did-then hs lane [] more [] rest h m k s n t first second =
-    subst (λ (x : HeapView). DidAll hs lane more rest x s k t) first.0 (subst (λ (x : ℕ). DidAll hs lane more rest m x k t) first.1 second)
-did-then hs lane [] more (r ∷ rs) rest h m k s n t first second = absurd first
-did-then hs lane (o ∷ ops) more [] rest h m k s n t first second = absurd first
-did-then hs lane (o ∷ ops) more (r ∷ rs) rest h m k s n t first second =
-    (first.0, first.1, first.2, did-then hs lane ops more rs rest first.0 m k first.1 n t first.3 second)
+did-then holders lane [] more [] rest h m k s n t first second =
+    subst (λ (x : HeapView). DidAll holders lane more rest x s k t) first.0 (subst (λ (x : ℕ). DidAll holders lane more rest m x k t) first.1 second)
+did-then holders lane [] more (r ∷ rs) rest h m k s n t first second = absurd first
+did-then holders lane (o ∷ ops) more [] rest h m k s n t first second = absurd first
+did-then holders lane (o ∷ ops) more (r ∷ rs) rest h m k s n t first second =
+    (first.0, first.1, first.2, did-then holders lane ops more rs rest first.0 m k first.1 n t first.3 second)
 
 -- the first operations of a list from a place on, and those behind them
 ops-then : (ops : List Op) (from a b : ℕ) → take (a + b) (drop from ops) ≡ take a (drop from ops) ++ take b (drop (from + a) ops)
@@ -191,6 +194,7 @@ ran-then ops end old cur new v w x hand after last one two =
     record {
       replies = one.replies ++ two.replies;
       kept = two.kept ∙ ap (λ (l : List Reply). l ++ two.replies) one.kept ∙ append_assoc old.replies.items one.replies two.replies;
+      room = two.room ∙ one.room;
       next = omega arith;
       count = two.count ∙ one.count;
       same = same-part old.part cur.part new.part one.same two.same;

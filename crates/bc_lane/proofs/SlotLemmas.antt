@@ -1,5 +1,5 @@
 -- What root words have of a lane's slots.
-use Rattle.std.proofs.Common.{◌≡◌, ◌≢◌, ℕ, ◌+◌, ◌*◌, ◌<◌, ◌≤◌, List, length, get_or, set, refl, ap, sym, subst, ◌∙◌, inl, inr, arith, get_or-set_same, get_or-set_other, length-set}
+use Rattle.std.proofs.Common.{◌≡◌, ◌≢◌, ℕ, ◌+◌, ◌<◌, List, length, get_or, set, ap, sym, subst, ◌∙◌, inl, inr, arith, get_or-set_same, get_or-set_other, length-set}
 use Rattle.std.proofs.lemmas.Bool.{cases_eq, cases_lt}
 use Rattle.std.proofs.lemmas.Nat.{mul-add-lt, same_from_place}
 use Rattle.bc_lane.specs.Shown.{ShowsSlots}
@@ -9,7 +9,7 @@ use Rattle.bc_mutator.specs.Effects.{with_root}
 use Rattle.bc_mutator.specs.Objects.{slot_word}
 use Rattle.bc_mutator.specs.Operations.{setup_of}
 use Rattle.bc_superpages.specs.RootWords.{RootWords}
-use Rattle.bc_superpages.specs.RootSlots.{root_at, root_place}
+use Rattle.bc_superpages.specs.RootSlots.{root_place}
 use Rattle.bc_word.specs.WordBits.{IsPacked, word_bits}
 use Rattle.bc_word.specs.Words.{word_of_bits}
 use Rattle.bc_word.specs.declared.words.Word.{Word}

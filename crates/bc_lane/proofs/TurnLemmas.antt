@@ -1,10 +1,9 @@
 -- A lane's turn, from operation to operation and to its end.
-use Rattle.std.proofs.Common.{◌≡◌, ◌⊎◌, ℕ, ◌+◌, ◌-◌, ◌*◌, ◌^◌, ◌<◌, ◌≤◌, List, [], ◌∷◌, ◌++◌, length, get_or, Option, Some, None, Result, Ok, Err, Vec, Global, inl, inr, refl, ap, sym, subst, ◌∙◌, arith}
+use Rattle.std.proofs.Common.{◌≡◌, ℕ, ◌+◌, ◌-◌, ◌*◌, ◌^◌, ◌<◌, List, [], ◌∷◌, ◌++◌, length, get_or, Option, None, Result, Err, Vec, Global, vec_capacity, inl, inr, refl, ap, sym, subst, ◌∙◌, arith}
 use Rattle.std.proofs.lemmas.List.{get_or_default}
 use Rattle.std.specs.List.{AllByRecursion}
-use Rattle.std.specs.Result.{IfErr, OnErr}
 use Rattle.bc_lane.specs.Shown.{ShowsPages}
-use Rattle.bc_lane.specs.Turns.{DoesOne, IsGoing, IsLaneSeat, IsLaneTable, IsNextOp, IsWhole, LaneRan, ReadLast, ReadsOn, SamePart, StaysWhole, StopsOp, WhyStopped}
+use Rattle.bc_lane.specs.Turns.{DoesOne, IsGoing, IsLaneSeat, IsLaneTable, IsNextOp, IsWhole, LaneRan, ReadsOn, SamePart, StaysWhole, StopsOp, WhyStopped}
 use Rattle.bc_lane.specs.declared.parts.LanePart.{LanePart}
 use Rattle.bc_lane.specs.declared.stops.Stop.{Stop}
 use Rattle.bc_lane.specs.declared.stops.Stop.TheVariants as stop
@@ -67,7 +66,7 @@ module _ (pins : Pins) (ops : List Op) (end : ℕ) (turn new : LaneTurn) (part :
     (going : IsGoing pins ops turn seat hand) (h : HeapView) (w : IsWhole turn.part (view_of seat) hand end h) (fits : AllByRecursion (IsOpOf h.roots) ops) (less : turn.next < length ops) (is : op ≡ get_or ops turn.next op)
     (same : SamePart turn.part part) (seated : IsLaneSeat pins turn.part.lane after last) (reads : ReadsOn (view_of seat) (view_of after))
     (does : DoesOne turn.part (view_of seat) hand part (view_of after) last end op reply) (part_is : new.part ≡ part) (next : new.next ≡ turn.next + 1) (count : new.count ≡ turn.count)
-    (kept : new.replies.items ≡ turn.replies.items ++ reply ∷ []) where
+    (kept : new.replies.items ≡ turn.replies.items ++ reply ∷ []) (room : vec_capacity new.replies ≡ vec_capacity turn.replies) where
   does-new : DoesOne turn.part (view_of seat) hand new.part (view_of after) last end op reply
   does-new = subst (λ (p : LanePart). DoesOne turn.part (view_of seat) hand p (view_of after) last end op reply) (sym part_is) does
 
@@ -79,11 +78,11 @@ module _ (pins : Pins) (ops : List Op) (end : ℕ) (turn new : LaneTurn) (part :
 
   pub advanced-ran : LaneRan ops end turn (view_of seat) hand new (view_of after) last
   advanced-ran =
-      ran-more ops end turn turn new (view_of seat) (view_of seat) (view_of after) hand hand last op reply none h w fits less is does-new same-new next count kept reads
+      ran-more ops end turn turn new (view_of seat) (view_of seat) (view_of after) hand hand last op reply none h w fits less is does-new same-new next count kept room reads
 
   pub advanced-going : IsGoing pins ops new after last
   advanced-going =
-      let few = one-birth ops end turn turn new (view_of seat) (view_of seat) (view_of after) hand hand last op reply none h w fits less is does-new same-new next count kept reads in
+      let few = one-birth ops end turn turn new (view_of seat) (view_of seat) (view_of after) hand hand last op reply none h w fits less is does-new same-new next count kept room reads in
       let births = going.births in
       going-on pins ops turn new seat after hand last going same-new seated count (omega arith)
 
@@ -91,7 +90,7 @@ module _ (pins : Pins) (ops : List Op) (end : ℕ) (turn new : LaneTurn) (part :
 module _ (pins : Pins) (ops : List Op) (end : ℕ) (turn new : LaneTurn) (part : LanePart) (seat after : Seat) (hand last : Option Held) (going : IsGoing pins ops turn seat hand) (less : turn.next < length ops)
     (same : SamePart turn.part part) (seated : IsLaneSeat pins turn.part.lane after last) (reads : ReadsOn (view_of seat) (view_of after))
     (still : StaysWhole turn.part (view_of seat) hand part (view_of after) last end)
-    (part_is : new.part ≡ part) (next : new.next ≡ turn.next) (count : new.count ≡ turn.count) (kept : new.replies.items ≡ turn.replies.items) where
+    (part_is : new.part ≡ part) (next : new.next ≡ turn.next) (count : new.count ≡ turn.count) (kept : new.replies ≡ turn.replies) where
   stayed-part : new.part ≡ turn.part
   stayed-part = part_is ∙ still.0
 

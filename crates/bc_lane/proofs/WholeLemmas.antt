@@ -1,5 +1,5 @@
 -- What the lane has belongs to the heap that an operation makes.
-use Rattle.std.proofs.Common.{◌≡◌, ◌≢◌, ◌↔◌, ℕ, ◌+◌, ◌<◌, ◌≤◌, ◌==◌, true, List, length, map, get_or, set, Option, Some, None, Vec, Global, refl, ap, sym, subst, ◌∙◌, arith, get_or-set_same}
+use Rattle.std.proofs.Common.{◌≡◌, ◌↔◌, ℕ, ◌+◌, ◌<◌, ◌≤◌, ◌==◌, true, List, length, get_or, set, Option, Vec, Global, refl, ap, sym, subst, ◌∙◌, arith, get_or-set_same}
 use Rattle.std.proofs.lemmas.List.{length-map}
 use Rattle.std.specs.List.{list_all}
 use Rattle.bc_lane.specs.Shown.{HasPage, ShowsPages, ShowsSlots}

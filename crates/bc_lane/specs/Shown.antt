@@ -61,6 +61,7 @@ abbrev pub HasPage : Option Held → ℕ → Type 0
 HasPage None page = ⊥
 HasPage (Some held) page = page ≡ held.page
 
+-- what a space has of the page in the lane's hands, if there is one
 abbrev pub ShowsHand : View → Option Held → Layout → Type 0
 ShowsHand v None s = Unit {0}
 ShowsHand v (Some held) s = ShowsHeld v held s

@@ -1,5 +1,6 @@
 -- A lane's turn: which whole heaps what the lane has may belong to, what its seat and the table are, and what is done.
-use Rattle.std.specs.Prelude.{◌≡◌, ◌≢◌, ◌⊎◌, ℕ, ◌+◌, ◌-◌, ◌*◌, ◌/◌, ◌^◌, ◌<◌, ◌≤◌, ◌==◌, true, List, [], ◌∷◌, ◌++◌, length, map, take, drop, Option, Some, None, slice_index, slice_index_or}
+use Rattle.std.specs.Prelude.{◌≡◌, ◌≢◌, ◌⊎◌, ℕ, ◌+◌, ◌-◌, ◌*◌, ◌/◌, ◌^◌, ◌<◌, ◌≤◌, ◌==◌, true, List, ◌∷◌, ◌++◌, length, map, take, drop, Option, Some, None, Vec, slice_index, slice_index_or, vec_capacity}
+use Rattle.std.specs.Global.{Global}
 use Rattle.std.specs.List.{AllByRecursion, list_all}
 use Rattle.bc_lane.specs.declared.looking.Looking.{Looking}
 use Rattle.bc_lane.specs.declared.looking.Looking.TheVariants.{Nowhere, Own, Foreign}
@@ -7,6 +8,7 @@ use Rattle.bc_lane.specs.declared.parts.LanePart.{LanePart}
 use Rattle.bc_lane.specs.declared.stops.Stop.{Stop}
 use Rattle.bc_lane.specs.declared.stops.Stop.TheVariants as stop
 use Rattle.bc_lane.specs.declared.turns.LaneDone.{LaneDone}
+use Rattle.bc_lane.specs.declared.turns.LaneRoom.{LaneRoom}
 use Rattle.bc_lane.specs.declared.turns.LaneRoots.{LaneRoots}
 use Rattle.bc_lane.specs.declared.turns.LaneTurn.{LaneTurn}
 use Rattle.bc_nursery.specs.Entries.{Entries}
@@ -31,7 +33,8 @@ use Rattle.bc_pins.specs.declared.views.View.{View}
 use Rattle.bc_pins.specs.Calls.{HoldsPage, IsAt, IsFree, key_of}
 use Rattle.bc_pins.specs.Contents.{IsBarePage}
 use Rattle.bc_pins.specs.Key.{Key, lane_role, pages_of}
-use Rattle.bc_pins.specs.Views.{opened_state}
+use Rattle.bc_pins.specs.Totals.{times}
+use Rattle.bc_pins.specs.Views.{entries, opened_state}
 use Rattle.bc_superpages.specs.declared.headers.PageState.TheVariants.{Absent}
 use Rattle.bc_superpages.specs.LayoutAt.{IsAllocated}
 use Rattle.bc_superpages.specs.RootWords.{RootWords}
@@ -66,19 +69,25 @@ AreStarts domains slots count starts =
     (length starts ≡ count) × (((i j : ℕ) → i < j → j < length domains → slice_index domains i < slice_index domains j)
     → (i : ℕ) → i < length domains → slice_index starts (slice_index domains i) ≡ i * slots)
 
--- what a lane takes into a turn
-pub record IsPreparedTurn (lane : ℕ) (holders : List ℕ) (roots : LaneRoots) (chunk : Nursery) (buffer : Entries) (serial count from : ℕ) (turn : LaneTurn) : Type 0 where
+-- room for what a lane takes into a turn, where it holds these domains, and each domain has so many slots
+pub record IsRoomOf (holders domains : List ℕ) (slots : ℕ) (room : LaneRoom) : Type 0 where
+  pub holders_are : room.holders.items ≡ holders
+  pub slots_are : room.slots ≡ slots
+  pub starts : AreStarts domains slots (length holders) room.starts.items
+
+-- what a lane takes into a turn, in which it is to do so many operations and has done those that have replies
+pub record IsPreparedTurn (lane : ℕ) (holders : List ℕ) (slots : ℕ) (roots : LaneRoots) (chunk : Nursery) (buffer : Entries) (serial : ℕ) (replies : Vec Reply Global) (count : ℕ) (turn : LaneTurn) : Type 0 where
   pub lane_is : turn.part.lane ≡ lane
   pub holders_are : turn.part.holders.items ≡ holders
   pub domains : turn.part.domains ≡ roots.domains
+  pub slots_are : turn.part.slots ≡ slots
   pub words : turn.part.words ≡ roots.words
-  pub width : 0 < length roots.domains.items → length roots.words.items ≡ length roots.domains.items * turn.part.slots
-  pub starts : AreStarts roots.domains.items turn.part.slots (length holders) turn.part.starts.items
+  pub starts : AreStarts roots.domains.items slots (length holders) turn.part.starts.items
   pub chunk_is : turn.part.chunk ≡ chunk
   pub buffer_is : turn.part.buffer ≡ buffer
   pub serial_is : turn.part.serial ≡ serial
-  pub next : turn.next ≡ from
-  pub replies : turn.replies.items ≡ []
+  pub next : turn.next ≡ length replies.items
+  pub replies_are : turn.replies ≡ replies
   pub count_is : turn.count ≡ count
 
 -- and gives back after it
@@ -90,6 +99,7 @@ pub record IsFinished (turn : LaneTurn) (done : LaneDone) : Type 0 where
   pub serial : done.serial ≡ turn.part.serial
   pub next : done.next ≡ turn.next
   pub replies : done.replies ≡ turn.replies
+  pub room : done.room ≡ record { holders = turn.part.holders; starts = turn.part.starts; slots = turn.part.slots }
 
 -- the table is one for lanes, who hold the domains so. Pages behind it are Absent
 pub record IsLaneTable (k : Key) (holders : List ℕ) : Type 0 where
@@ -97,6 +107,7 @@ pub record IsLaneTable (k : Key) (holders : List ℕ) : Type 0 where
   pub owners : k.owners ≡ map lane_role holders
   pub behind : (page : ℕ) → pages_of k ≤ page → opened_state k page ≡ Absent
 
+-- what a lane has in hand its seat has: this page, or none
 abbrev pub HasInHand : Seat → Option Held → Type 0
 HasInHand seat None = IsFree seat
 HasInHand seat (Some held) = HoldsPage seat held
@@ -120,10 +131,12 @@ LooksOn h op page = (at : Address) × LooksAtObject h.roots (touched_slot op) at
 abbrev pub ReadLast : View → ℕ → ℕ → Type 0
 ReadLast v page found = (rest : List (ℕ × ℕ)) × (v.read ≡ (page, found) ∷ rest)
 
--- a seat read on, and has the rights to frames that it had
+-- a seat read on at its table, and has the rights to frames that it had. It put back pages of the table alone
 pub record ReadsOn (v w : View) : Type 0 where
   pub longer : length v.read ≤ length w.read
   pub rights : w.rights ≡ v.rights
+  pub about : w.about ≡ v.about
+  pub behind : (page : ℕ) → pages_of v.about ≤ page → (entries page w.changed ≡ entries page v.changed) × (times page w.recorded ≡ times page v.recorded)
 
 -- this is true of the operation of that number, which there is
 abbrev pub IsNextOp : List Op → ℕ → (Op → Type 0) → Type 0
@@ -200,10 +213,11 @@ pub record SameSizes (h k : HeapView) : Type 0 where
   pub slots : k.roots.slots ≡ h.roots.slots
 
 -- operations of the lane were done, in their order: whatever whole heap what the lane had belonged to, what it has now belongs to
--- that heap with these operations done. Their replies are kept
+-- that heap with these operations done. Their replies are kept, where there was room for them
 pub record LaneRan (ops : List Op) (end : ℕ) (old : LaneTurn) (v : View) (hand : Option Held) (new : LaneTurn) (w : View) (after : Option Held) : Type 0 where
   pub replies : List Reply
   pub kept : new.replies.items ≡ old.replies.items ++ replies
+  pub room : vec_capacity new.replies ≡ vec_capacity old.replies
   pub next : new.next ≡ old.next + length replies
   pub count : new.count ≡ old.count
   pub same : SamePart old.part new.part

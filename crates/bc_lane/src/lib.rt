@@ -2,8 +2,9 @@
 //
 // Into a turn a lane takes what is its own: the words of its domains' root slots, its chunk, its write buffer and the number of
 // its births (`LanePart`). Its pages lie at the table, and it takes one when an operation looks at a cell on it, keeps it while
-// the next operations look there too, and puts it back else (`hands`). So it works without waiting and without memory. It stops
-// where the chunk or the write buffer has no room, and where a page that it wants is in another's hands or gone.
+// the next operations look there too, and puts it back else (`hands`). So it works without waiting, and takes no memory once it
+// has its room (`LaneRoom`). It stops where the chunk or the write buffer has no room, and where a page that it wants is in
+// another's hands or gone.
 //
 // An operation is that of `bc_mutator`, done over the page in hand (`PinnedCells`) and the lane's words (`LaneSlots`). What the
 // proofs have to know of the seat meanwhile is told by a type parameter, the station. An operation may look at a cell of another
@@ -31,7 +32,7 @@ mod turns;
 
 pub use laws::law_opening;
 pub use stops::Stop;
-pub use turns::{LaneDone, LaneRoots, LaneTurn};
+pub use turns::{LaneDone, LaneRoom, LaneRoots, LaneTurn};
 
 #[cfg(test)]
 mod tests;

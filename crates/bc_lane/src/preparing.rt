@@ -1,41 +1,65 @@
-//! What a lane takes into a turn, and gives back.
+//! What a lane takes into a turn, and gives back. What takes memory is apart from what is given.
 
-ghost use Rattle.std.specs.Prelude.{◌≡◌, ℕ, ◌*◌, ◌<◌, ◌≤◌, length, slice_index, IfOk};
-ghost use Rattle.bc_lane.specs.Turns.{AreStarts, IsFinished, IsPreparedTurn};
+ghost use Rattle.std.specs.Prelude.{◌≡◌, ℕ, ◌*◌, ◌<◌, ◌≤◌, length, slice_index, vec_capacity, IfOk};
+ghost use Rattle.bc_lane.specs.Turns.{AreStarts, IsFinished, IsPreparedTurn, IsRoomOf};
 
 use crate::parts::LanePart;
-use crate::turns::{LaneDone, LaneRoots, LaneTurn};
-use bc_model::Op;
+use crate::turns::{LaneDone, LaneRoom, LaneRoots, LaneTurn};
+use bc_model::{Op, Reply};
 use bc_nursery::{Chunk, WriteBuffer};
 use std::alloc::{AllocError, Global};
 
-impl LaneTurn {
-    /// What the lane takes into a turn, with room for the replies to all operations from `from` on. `roots` has the domains that
-    /// the lane holds, in ascending order, and a word for each of their slots; `serial` is the number of the lane's births. Where
-    /// there is no memory, what was given is dropped.
-    pub fn prepare(
+impl LaneRoom {
+    /// Room for what a lane takes into a turn. `holders` has the lane of each domain, and `domains` those that this lane holds,
+    /// in ascending order; each has `slots` root slots.
+    pub fn take(
         alloc: Global,
-        lane: u32,
         holders: &[u32],
+        domains: &[u32],
+        slots: u32,
+    ) -> Result<LaneRoom, AllocError>
+        requires domains { (i : ℕ) → i < length domains.now → slice_index domains.now i < length holders.now }
+        requires few { (length domains.now ≤ 64) × (slots ≤ 256) }
+        ensures room { IfOk result (λ room. IsRoomOf holders.now domains.now slots room) }
+    {
+        let mut starts = vec![in alloc; 0; holders.len()]?;
+        let holders = Vec::from_slice(alloc, holders)?;
+        place(&mut starts, domains, slots);
+        Ok(LaneRoom {
+            holders,
+            starts,
+            slots,
+        })
+    }
+}
+
+impl LaneTurn {
+    /// What the lane takes into a turn. `room` was taken for the domains of `roots`, which has a word for each of their slots;
+    /// `serial` is the number of the lane's births. `replies` are those to the first operations of `ops`, which are done, and has
+    /// room for those to the others. It takes no memory.
+    pub fn prepare(
+        room: LaneRoom,
+        lane: u32,
         roots: LaneRoots,
         chunk: Chunk,
         buffer: WriteBuffer,
         serial: u32,
+        replies: Vec<Reply>,
         ops: &[Op],
-        from: usize,
-    ) -> Result<LaneTurn, AllocError>
-        requires domains { (i : ℕ) → i < length roots.domains.items → slice_index roots.domains.items i < length holders.now }
-        requires words { (slots : ℕ) × (slots ≤ 256) × (length roots.words.items ≡ length roots.domains.items * slots) }
-        requires few { length roots.domains.items ≤ 64 }
-        requires from { from ≤ length ops.now }
-        ensures prepared { IfOk result (λ turn. IsPreparedTurn lane holders.now roots chunk buffer serial (length ops.now) from turn) }
+    ) -> LaneTurn
+        requires room { IsRoomOf room.holders.items roots.domains.items room.slots room }
+        requires words { length roots.words.items ≡ length roots.domains.items * room.slots }
+        requires done { length replies.items ≤ length ops.now }
+        requires capacity { length ops.now ≤ vec_capacity replies }
+        ensures prepared { IsPreparedTurn lane room.holders.items room.slots roots chunk buffer serial replies (length ops.now) result }
     {
+        let LaneRoom {
+            holders,
+            starts,
+            slots,
+        } = room;
         let LaneRoots { domains, words } = roots;
-        let slots = width_of(&domains, &words);
-        let holders = Vec::from_slice(alloc, holders)?;
-        let starts = starts_of(alloc, &domains, slots, holders.len())?;
-        let replies = Vec::with_capacity(alloc, ops.len() - from)?;
-        Ok(LaneTurn {
+        LaneTurn {
             part: LanePart {
                 lane,
                 holders,
@@ -47,10 +71,24 @@ impl LaneTurn {
                 buffer,
                 serial,
             },
-            next: from,
+            next: replies.len(),
             replies,
             count: ops.len(),
-        })
+        }
+    }
+
+    /// The number of the lane.
+    pub fn lane(&self) -> u32
+        ensures lane { result ≡ self.now.part.lane }
+    {
+        self.part.lane
+    }
+
+    /// The index of the first operation that isn't done.
+    pub fn next(&self) -> usize
+        ensures next { result ≡ self.now.next }
+    {
+        self.next
     }
 
     /// What the lane gives back after a turn.
@@ -65,10 +103,10 @@ impl LaneTurn {
         } = self;
         let LanePart {
             lane: _,
-            holders: _,
+            holders,
             domains,
-            slots: _,
-            starts: _,
+            slots,
+            starts,
             words,
             chunk,
             buffer,
@@ -81,37 +119,23 @@ impl LaneTurn {
             serial,
             next,
             replies,
+            room: LaneRoom {
+                holders,
+                starts,
+                slots,
+            },
         }
     }
 }
 
-/// How many words there are for each of the domains, if there are any.
-fn width_of(domains: &[u32], words: &[u64]) -> u32
-    requires words { (slots : ℕ) × (slots ≤ 256) × (length words.now ≡ length domains.now * slots) }
-    ensures width { 0 < length domains.now → length words.now ≡ length domains.now * result }
-    ensures few { result ≤ 256 }
-{
-    if domains.is_empty() {
-        0
-    } else {
-        (words.len() / domains.len()) as u32
-    }
-}
-
-/// By domain, where the words of its slots begin: those of the domain of number i in the list at i times the number of slots.
-fn starts_of(
-    alloc: Global,
-    domains: &[u32],
-    slots: u32,
-    count: usize,
-) -> Result<Vec<u32>, AllocError>
-    requires within { (i : ℕ) → i < length domains.now → slice_index domains.now i < count }
+/// Notes where the words of each domain's slots begin, by domain: those of the domain of number i in the list at i times the
+/// number of slots.
+fn place(starts: &mut [u32], domains: &[u32], slots: u32)
+    requires within { (i : ℕ) → i < length domains.now → slice_index domains.now i < length starts.old }
     requires few { (length domains.now ≤ 64) × (slots ≤ 256) }
-    ensures starts { IfOk result (λ starts. AreStarts domains.now slots count starts.items) }
+    ensures starts { AreStarts domains.now slots (length starts.old) starts.new }
 {
-    let mut starts = vec![in alloc; 0; count]?;
     for number in 0..domains.len() {
         starts[domains[number] as usize] = number as u32 * slots;
     }
-    Ok(starts)
 }

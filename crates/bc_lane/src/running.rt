@@ -1,6 +1,6 @@
 //! The turn of a lane.
 
-ghost use Rattle.std.specs.Prelude.{◌≡◌, ◌+◌, ◌<◌, ◌≤◌, [], ◌∷◌, ◌++◌, None, length, IfErr, OnOk, OnErr};
+ghost use Rattle.std.specs.Prelude.{◌≡◌, ◌+◌, ◌<◌, ◌≤◌, [], ◌∷◌, ◌++◌, None, length, vec_capacity, IfErr, OnOk, OnErr};
 ghost use Rattle.std.specs.List.{AllByRecursion};
 ghost use Rattle.bc_lane.specs.declared.stops.Stop.TheVariants as stop;
 ghost use Rattle.bc_lane.specs.Turns.{IsGoing, IsNextOp, IsWhole, LaneRan, WhyStopped};
@@ -102,6 +102,7 @@ fn keep(turn: &mut LaneTurn, reply: Reply)
     ensures next { turn.new.next ≡ turn.old.next + 1 }
     ensures count { turn.new.count ≡ turn.old.count }
     ensures kept { turn.new.replies.items ≡ turn.old.replies.items ++ reply ∷ [] }
+    ensures room { vec_capacity turn.new.replies ≡ vec_capacity turn.old.replies }
 {
     turn.replies.push_reserved(reply);
     turn.next += 1;

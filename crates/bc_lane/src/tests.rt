@@ -22,19 +22,21 @@ fn what_was_taken_into_a_turn_is_given_back(rt: HostRuntime) -> Result<(), Fail>
         domains: vec![in alloc; 1, 3]?,
         words: vec![in alloc; 0; 16]?,
     };
+    let room = LaneRoom::take(alloc, [0, 1, 0, 1].as_slice(), roots.domains.as_slice(), 8)?;
     let ops = [Op::Clear(Slot { domain: 1, slot: 0 })];
     let turn = LaneTurn::prepare(
-        alloc,
+        room,
         1,
-        [0, 1, 0, 1].as_slice(),
         roots,
         Chunk::new(alloc, Address(4096), 2)?,
         WriteBuffer::new(alloc, 4)?,
         7,
+        Vec::with_capacity(alloc, 1)?,
         ops.as_slice(),
-        0,
-    )?;
+    );
     may_cross(&turn);
+    assert_eq!(rt; turn.lane(), 1);
+    assert_eq!(rt; turn.next(), 0);
     let done = turn.finish();
     assert_eq!(rt; done.roots.words.len(), 16);
     assert_eq!(rt; done.chunk.left(), 1024);

@@ -15,12 +15,25 @@ pub struct LaneRoots {
     pub words: Vec<u64>,
 }
 
+/// Room for what a lane takes into a turn. It is taken before anything is, so that nothing which was given can be lost for want of
+/// memory.
+#[derive(Drop)]
+pub struct LaneRoom {
+    /// By domain, the lane that holds it.
+    pub(crate) holders: Vec<u32>,
+    /// By domain, where the words of its slots begin, if it is the lane's.
+    pub(crate) starts: Vec<u32>,
+    /// How many slots a domain has.
+    pub(crate) slots: u32,
+}
+
 /// A lane in a turn.
 #[derive(Drop)]
 pub struct LaneTurn {
     pub(crate) part: LanePart,
     /// The index of the first operation that isn't done.
     pub(crate) next: usize,
+    /// The replies to the operations that are done, with room for those to the others.
     pub(crate) replies: Vec<Reply>,
     /// How many operations there are.
     pub(crate) count: usize,
@@ -38,6 +51,8 @@ pub struct LaneDone {
     pub serial: u32,
     /// The index of the first operation that isn't done.
     pub next: usize,
-    /// The replies to the operations that were done.
+    /// The replies to the operations that were done, with the room that they had.
     pub replies: Vec<Reply>,
+    /// The room that was given. It serves the lane's next turn as well, while the lane holds the same domains.
+    pub room: LaneRoom,
 }

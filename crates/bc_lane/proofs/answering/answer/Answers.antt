@@ -1,4 +1,3 @@
-use Rattle.std.proofs.Common.{◌≡◌, refl}
 use Rattle.bc_lane.proofs.AnswerLemmas.{foreign-does, foreign-wants, hands-operated, stays-brought, stops-operated, touches-none}
 use Rattle.bc_lane.proofs.HandLemmas.{none-reads}
 use Rattle.bc_pins.specs.Calls.{key_of, view_of}

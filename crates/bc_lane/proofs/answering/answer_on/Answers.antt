@@ -1,6 +1,5 @@
-use Rattle.std.proofs.Common.{◌≡◌, true, Option, refl, sym, subst, ◌∙◌}
+use Rattle.std.proofs.Common.{◌≡◌, true, refl, sym, subst, ◌∙◌}
 use Rattle.bc_lane.proofs.AnswerLemmas.{does-brought, hands-operated, own-page, own-wants, refused-stops, stays-brought, stops-operated, touches-page, whole-moved}
-use Rattle.bc_lane.proofs.HandLemmas.{none-reads}
 use Rattle.bc_pins.specs.Calls.{key_of, view_of}
 use Rattle.bc_pins.specs.Contents.{IsBarePage}
 use Rattle.bc_pins.specs.Key.{Key}

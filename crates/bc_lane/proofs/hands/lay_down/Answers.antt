@@ -1,4 +1,4 @@
-use Rattle.std.proofs.Common.{◌≡◌, Option, Some, None, sym, ◌∙◌}
+use Rattle.std.proofs.Common.{sym, ◌∙◌}
 use Rattle.bc_lane.proofs.HandLemmas.{in-hand, in-none, may-put, none-reads, put-reads, shown-back, shown-none, shown-put, some-back}
 use Rattle.bc_lane.proofs.PageLemmas.{shown-hand}
 use Rattle.bc_pins.specs.Calls.{view_of}
@@ -22,7 +22,9 @@ returns-in-Some-clause-back c = λ end s shown.
     shown-back c.args.seat.now c.put.new.seat c.args.hand.now c.in-Some.held end first.0 s first.1 (sym c.take.ensures.value ∙ c.in-Some.is) c.put.ensures.view first.2 shown
 
 pub returns-in-Some-clause-reads : goal.returns-in-Some-clause-reads
-returns-in-Some-clause-reads c = put-reads (view_of c.args.seat.now) (view_of c.put.new.seat) c.in-Some.held c.put.ensures.view
+returns-in-Some-clause-reads c =
+    put-reads c.args.seat.now (view_of c.put.new.seat) c.in-Some.held
+    (in-hand c.args.seat.now c.args.hand.now c.in-Some.held (sym c.take.ensures.value ∙ c.in-Some.is) c.requires.hands) c.put.ensures.view
 
 pub returns-in-None-clause-free : goal.returns-in-None-clause-free
 returns-in-None-clause-free c = in-none c.args.seat.now c.args.hand.now (sym c.take.ensures.value ∙ c.in-None.is) c.requires.hands

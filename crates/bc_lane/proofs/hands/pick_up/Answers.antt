@@ -1,9 +1,8 @@
-use Rattle.std.proofs.Common.{◌≡◌, ◌<◌, inl, inr, refl, sym, subst}
+use Rattle.std.proofs.Common.{◌<◌, inl, inr, refl, sym, subst}
 use Rattle.bc_lane.proofs.HandLemmas.{holds-taken, never-absent, never-remembered, refused-read, refused-reads, refused-shown, shown-taken, taken-reads}
-use Rattle.bc_pins.specs.Calls.{IsFree, IsTakeRefused, view_of}
+use Rattle.bc_pins.specs.Calls.{view_of}
 use Rattle.bc_pins.specs.Key.{Key, pages_of}
-use Rattle.bc_pins.specs.declared.taking.TakeNo.{TakeNo}
-use Rattle.bc_pins.specs.declared.taking.TakeNo.TheVariants.{Absent, Busy, Gone, Remembered}
+use Rattle.bc_pins.specs.declared.taking.TakeNo.TheVariants.{Busy, Gone}
 use Rattle.bc_pins.specs.declared.taking.Want.TheVariants.{Work}
 use Rattle.bc_lane.proofs.hands.pick_up.Goals as goal
 

@@ -1,4 +1,4 @@
-use Rattle.std.proofs.Common.{◌≡◌, ◌<◌, ◌+◌, ℕ, List, length, get_or, refl, ap, sym, subst, ◌∙◌}
+use Rattle.std.proofs.Common.{◌≡◌, ◌<◌, ◌+◌, ℕ, List, length, get_or, ap, sym, subst, ◌∙◌}
 use Rattle.bc_lane.proofs.LookLemmas.{if-none, if-some, leads-nowhere, looked-place, looked-start, one-ref, read-as, refers-at, refers-leads, touched-own}
 use Rattle.bc_word.specs.Addresses.{page_of}
 use Rattle.bc_word.specs.WordBits.{IsPacked}

@@ -1,4 +1,4 @@
-use Rattle.std.proofs.Common.{◌≡◌, ℕ, length, ap, sym, ◌∙◌}
+use Rattle.std.proofs.Common.{length, ap, sym, ◌∙◌}
 use Rattle.bc_lane.proofs.LookLemmas.{held-as, not-held, on-some}
 use Rattle.bc_lane.proofs.looking.cell_looked_at.Goals as goal
 

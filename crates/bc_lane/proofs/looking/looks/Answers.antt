@@ -1,4 +1,4 @@
-use Rattle.std.proofs.Common.{◌≡◌, ◌≢◌, ◌<◌, ℕ, get_or, length, refl, ap, sym, subst, ◌∙◌, arith}
+use Rattle.std.proofs.Common.{◌<◌, ℕ, get_or, ap, sym, subst, ◌∙◌, arith}
 use Rattle.bc_lane.specs.Turns.{LooksOwn}
 use Rattle.bc_lane.proofs.LookLemmas.{held-by, told-domain, told-foreign, told-own, told-superpage}
 use Rattle.bc_pins.specs.Calls.{key_of}

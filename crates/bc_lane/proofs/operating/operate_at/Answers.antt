@@ -1,4 +1,4 @@
-use Rattle.std.proofs.Common.{◌≡◌, ℕ, List, Vec, Global, Option, refl, sym, ap, subst, ◌∙◌}
+use Rattle.std.proofs.Common.{ℕ, Vec, Global, Option, sym, ap, subst, ◌∙◌}
 use Rattle.std.proofs.lemmas.Result.{IfOk-weaker, on_err_weaker}
 use Rattle.bc_lane.specs.Shown.{HasPage}
 use Rattle.bc_lane.proofs.WholeLemmas.{did-at, held-at, needs-at, own-at, part-same, serves-at, touches-at, wants-at, whole-after}

@@ -1,11 +1,10 @@
-use Rattle.std.proofs.Common.{◌≡◌, ◌+◌, ◌<◌, ◌^◌, ℕ, List, Err, get_or, refl, ap, sym, subst, ◌∙◌, arith}
+use Rattle.std.proofs.Common.{ℕ, List, get_or, refl, arith}
 use Rattle.std.proofs.lemmas.Result.{err_from_is_err_and}
 use Rattle.bc_lane.proofs.TurnLemmas.{advanced-going, advanced-ran, one-why, op-default, stayed-going, stayed-nursery, stayed-ran, stayed-why}
 use Rattle.bc_model.proofs.Runs.{at-index}
 use Rattle.bc_model.specs.declared.operations.Op.{Op}
 use Rattle.bc_model.specs.declared.operations.Op.TheVariants.{New}
 use Rattle.bc_mutator.specs.Operations.{IsOpOf}
-use Rattle.bc_pins.specs.Calls.{view_of}
 use Rattle.bc_lane.proofs.running.advance.Goals as goal
 
 -- the operation that is next, as code reads it
@@ -52,10 +51,10 @@ pub returns-clause-ran : goal.returns-clause-ran
 returns-clause-ran g c =
     let w = c.requires.whole in
     advanced-ran c.args.pins.now c.args.ops.now c.args.end c.args.turn.now c.keep.new.turn c.answer.new.part c.args.seat.now c.answer.new.seat c.args.hand.now c.answer.new.hand (next-op c.args.ops.now c.args.turn.now.next) c.in_ok-reply.reply
-    c.requires.going w.0 w.1 w.2 c.requires.more (op-default c.args.ops.now c.args.turn.now.next zero c.requires.more) c.answer.ensures.part c.answer.ensures.seated c.answer.ensures.reads c.in_ok-reply.ensures.done c.keep.ensures.part c.keep.ensures.next c.keep.ensures.count c.keep.ensures.kept
+    c.requires.going w.0 w.1 w.2 c.requires.more (op-default c.args.ops.now c.args.turn.now.next zero c.requires.more) c.answer.ensures.part c.answer.ensures.seated c.answer.ensures.reads c.in_ok-reply.ensures.done c.keep.ensures.part c.keep.ensures.next c.keep.ensures.count c.keep.ensures.kept c.keep.ensures.room
 
 pub returns-clause-going : goal.returns-clause-going
 returns-clause-going g c =
     let w = c.requires.whole in
     advanced-going c.args.pins.now c.args.ops.now c.args.end c.args.turn.now c.keep.new.turn c.answer.new.part c.args.seat.now c.answer.new.seat c.args.hand.now c.answer.new.hand (next-op c.args.ops.now c.args.turn.now.next) c.in_ok-reply.reply
-    c.requires.going w.0 w.1 w.2 c.requires.more (op-default c.args.ops.now c.args.turn.now.next zero c.requires.more) c.answer.ensures.part c.answer.ensures.seated c.answer.ensures.reads c.in_ok-reply.ensures.done c.keep.ensures.part c.keep.ensures.next c.keep.ensures.count c.keep.ensures.kept
+    c.requires.going w.0 w.1 w.2 c.requires.more (op-default c.args.ops.now c.args.turn.now.next zero c.requires.more) c.answer.ensures.part c.answer.ensures.seated c.answer.ensures.reads c.in_ok-reply.ensures.done c.keep.ensures.part c.keep.ensures.next c.keep.ensures.count c.keep.ensures.kept c.keep.ensures.room

@@ -1,4 +1,4 @@
-use Rattle.std.proofs.Common.{◌≡◌, ◌<◌, ◌≤◌, inl, inr, refl, sym, ◌∙◌, arith}
+use Rattle.std.proofs.Common.{refl}
 use Rattle.bc_lane.proofs.RunLemmas.{fits-all, ran-none, ran-then}
 use Rattle.bc_pins.specs.Calls.{view_of}
 use Rattle.bc_pins.proofs.VisitLemmas.{same_after}

@@ -1,4 +1,4 @@
-use Rattle.std.proofs.Common.{◌≡◌, ℕ, ◌+◌, get_or, ap, ◌∙◌, arith}
+use Rattle.std.proofs.Common.{ℕ, ◌+◌, get_or, ap, ◌∙◌, arith}
 use Rattle.bc_lane.proofs.PageLemmas.{hand-page, read-field, shown-hand}
 use Rattle.bc_superpages.proofs.FieldLemmas.{field-room}
 use Rattle.bc_lane.proofs.cells.PinnedCellsCells.field.Goals as goal

@@ -1,4 +1,4 @@
-use Rattle.std.proofs.Common.{Option, Some, sym, subst}
+use Rattle.std.proofs.Common.{Some, sym, subst}
 use Rattle.bc_lane.specs.Shown.{ShowsPages}
 use Rattle.bc_lane.proofs.PageLemmas.{hand-page, shown-hand, shows-remembered}
 use Rattle.bc_pins.specs.declared.holding.Held.{Held}

@@ -2,7 +2,7 @@ use Rattle.std.proofs.Common.{ℕ, ◌+◌, List, get_or, set, sym, subst}
 use Rattle.bc_lane.specs.Shown.{ShowsSlots}
 use Rattle.bc_lane.proofs.SlotLemmas.{shows-set}
 use Rattle.bc_mutator.specs.Effects.{with_root}
-use Rattle.bc_word.specs.WordBits.{IsPacked, word_bits}
+use Rattle.bc_word.specs.WordBits.{IsPacked}
 use Rattle.bc_lane.proofs.slots.LaneSlotsRootSlots.set_word.Goals as goal
 
 pub returns-clause-written : goal.returns-clause-written

@@ -1,9 +1,9 @@
-use Rattle.std.proofs.Common.{◌≡◌, ℕ, None, refl, sym, subst, ◌∙◌}
+use Rattle.std.proofs.Common.{ℕ, None, sym, subst}
 use Rattle.bc_lane.specs.Turns.{IsWhole, LaneRan, WhyStopped}
 use Rattle.bc_lane.proofs.TurnLemmas.{ran-laid, same-end, why-laid}
 use Rattle.bc_pins.specs.Calls.{key_of, view_of}
-use Rattle.bc_pins.proofs.VisitLemmas.{at_after, same_after}
-use Rattle.bc_whole_heap.specs.Heaps.{HeapView, end_of}
+use Rattle.bc_pins.proofs.VisitLemmas.{same_after}
+use Rattle.bc_whole_heap.specs.Heaps.{end_of}
 use Rattle.bc_lane.proofs.turns.LaneTurn.run.Goals as goal
 
 pub go-why-requires-clause-whole : goal.go-why-requires-clause-whole
