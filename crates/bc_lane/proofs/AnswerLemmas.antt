@@ -1,12 +1,13 @@
 -- An operation of a lane, once its page is in hand.
-use Rattle.std.proofs.Common.{◌≡◌, ℕ, ◌/◌, ◌<◌, List, length, map, get_or, Option, Result, Ok, Err, inl, inr, ap, sym, subst, ◌∙◌}
+use Rattle.std.proofs.Common.{◌≡◌, ◌⊎◌, ℕ, ◌/◌, ◌<◌, List, length, map, get_or, Option, Result, Ok, Err, inl, inr, ap, sym, subst, ◌∙◌}
 use Rattle.std.proofs.lemmas.List.{get_or-map}
 use Rattle.std.proofs.lemmas.Result.{IfOk-weaker, on_err_weaker}
 use Rattle.std.specs.Result.{IfErr, IfOk, OnErr}
 use Rattle.bc_lane.specs.declared.parts.LanePart.{LanePart}
 use Rattle.bc_lane.specs.declared.stops.Stop.{Stop}
+use Rattle.bc_lane.specs.declared.stops.Stop.TheVariants as stop
 use Rattle.bc_lane.specs.Shown.{HasPage, IsOwnPage, ShowsPages}
-use Rattle.bc_lane.specs.Turns.{DoesOne, HasInHand, LaneHoldsAll, IsLaneSeat, IsLaneTable, IsRefusedPage, IsWhole, LeadsToPageWhere, LooksForeign, LooksOn, LooksOwn, SlotsOf, StaysWhole, StopsOp}
+use Rattle.bc_lane.specs.Turns.{DoesOne, HasInHand, LaneHoldsAll, IsLaneSeat, IsLaneTable, IsReadStop, IsRefusedPage, IsWhole, LeadsToPageWhere, LooksForeign, LooksOn, LooksOwn, SlotsOf, StaysWhole, StopsOp}
 use Rattle.bc_lane.proofs.ForeignLemmas.{foreign-looked}
 use Rattle.bc_lane.proofs.HandLemmas.{hand-after}
 use Rattle.bc_lane.proofs.LookLemmas.{looking-wants, touches-more}
@@ -121,3 +122,11 @@ module _ (part new : LanePart) (seat : Seat) (hand after : Option Held) (end : �
       go (Err w) stops same =
           subst (λ (p : LanePart). StopsOp p (view_of seat) after end op w) (sym same.0)
           (subst (λ (x : Option Held). StopsOp part (view_of seat) x end op w) (sym same.1) stops)
+
+-- a stop for want of room is no stop at a page
+pub room-stop : (r : Result Reply Stop) (v w : View) → IfErr r (λ why. (why ≡ stop.NurseryFull) ⊎ (why ≡ stop.BufferFull)) → IfErr r (λ why. IsReadStop v w why)
+room-stop (Ok reply) v w is = tt
+room-stop (Err why) v w is = elim is [
+  | inl full ↦ subst (IsReadStop v w) (sym full) tt
+  | inr full ↦ subst (IsReadStop v w) (sym full) tt
+]

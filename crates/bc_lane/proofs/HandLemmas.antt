@@ -1,28 +1,32 @@
 -- A seat that takes an own page, and puts it back.
-use Rattle.std.proofs.Common.{◌≡◌, ◌≢◌, ℕ, ◌<◌, ◌≤◌, Bool, true, false, if◌then◌else◌, List, ◌∷◌, length, Option, Some, None, inl, inr, refl, ap, sym, subst, ◌∙◌, arith}
+use Rattle.std.proofs.Common.{◌≡◌, ◌≢◌, ℕ, ◌<◌, ◌≤◌, Bool, true, false, if◌then◌else◌, List, [], ◌∷◌, ◌++◌, length, Option, Some, None, inl, inr, refl, ap, sym, subst, ◌∙◌, append_assoc, length-append, arith}
+use Rattle.std.proofs.lemmas.Bool.{lt-ltb}
 use Rattle.bc_lane.specs.Shown.{HasPage, IsOwnPage, ShowsPages}
-use Rattle.bc_lane.specs.Turns.{HasInHand, ReadLast, ReadsOn}
+use Rattle.bc_lane.specs.Turns.{HasInHand, IsReadStop, ReadLast, ReadsOn}
+use Rattle.bc_lane.specs.declared.stops.Stop.{Stop}
+use Rattle.bc_lane.specs.declared.stops.Stop.TheVariants as stop
 use Rattle.bc_lane.proofs.PageLemmas.{shows-back, shows-given, shows-read, shows-taken}
 use Rattle.bc_pins.specs.declared.holding.Held.{Held}
 use Rattle.bc_pins.specs.declared.pins.Seat.{Seat}
 use Rattle.bc_pins.specs.declared.taking.TakeNo.{TakeNo}
-use Rattle.bc_pins.specs.declared.taking.TakeNo.TheVariants.{Absent, Remembered}
+use Rattle.bc_pins.specs.declared.taking.TakeNo.TheVariants.{Absent, Gone, Remembered}
 use Rattle.bc_pins.specs.declared.taking.Want.{Want}
 use Rattle.bc_pins.specs.declared.taking.Want.TheVariants.{Victim, Work}
 use Rattle.bc_pins.specs.declared.views.Hand.{Hand}
 use Rattle.bc_pins.specs.declared.views.View.{View}
 use Rattle.bc_pins.specs.Calls.{Grasps, HoldsPage, IsFree, IsTakeRefused, MayPut, put_back, refusal_word, tried, view_of}
 use Rattle.bc_pins.specs.Contents.{IsBarePage}
-use Rattle.bc_pins.specs.Key.{Key, pages_of}
+use Rattle.bc_pins.specs.Key.{Key, owner, pages_of}
 use Rattle.bc_pins.specs.Steps.{Takes, both_slots, gripping, having_read, owns}
 use Rattle.bc_pins.specs.Totals.{times}
-use Rattle.bc_pins.specs.Views.{entries}
+use Rattle.bc_pins.specs.Views.{entries, has_role}
 use Rattle.bc_pins.specs.declared.views.Lodged.TheVariants.{Nothing}
 use Rattle.bc_pins.proofs.GiveLemmas.{recorded_times}
 use Rattle.bc_pins.proofs.TakeLemmas.{flag_other, some_hand}
-use Rattle.bc_pins.proofs.TotalLemmas.{one_other}
-use Rattle.bc_pins.proofs.VisitLemmas.{holds_taken, tried_rights}
+use Rattle.bc_pins.proofs.TotalLemmas.{one_other, one_same}
+use Rattle.bc_pins.proofs.VisitLemmas.{holds_taken}
 use Rattle.bc_superpages.specs.Layout.{Layout}
+use Rattle.bc_superpages.specs.declared.spaces.Homed.{Homed}
 
 -- the page in hand may be put back
 pub may-put : (seat : Seat) (held : Held) (end : ℕ) (s : Layout) → ShowsPages (view_of seat) (Some held) end s → MayPut seat held
@@ -65,30 +69,26 @@ some-back v hand end s is shown = subst (λ (x : Option Held). ShowsPages v x en
 
 -- a seat reads on
 pub none-reads : (v : View) → ReadsOn v v
-none-reads v = record { longer = omega arith; rights = refl; about = refl; behind = λ q far. (refl, refl) }
+none-reads v = record { same = refl; more = []; read = refl; behind = λ q far. (refl, refl) }
 
 pub then-reads : (u v w : View) → ReadsOn u v → ReadsOn v w → ReadsOn u w
-then-reads u v w x y =
-    let a = x.longer in
-    let b = y.longer in
-    record {
-      longer = omega arith;
-      rights = y.rights ∙ x.rights;
-      about = y.about ∙ x.about;
-      behind = λ q far.
-          let one = x.behind q far in
-          let two = y.behind q (subst (λ (k : Key). pages_of k ≤ q) (sym x.about) far) in
-          (two.0 ∙ one.0, two.1 ∙ one.1);
-    }
+then-reads u v w x y = record {
+  same = y.same ∙ ap (λ (z : View). record z { hand = w.hand; changed = w.changed; recorded = w.recorded; seen = w.seen; gone = w.gone; read = w.read }) x.same;
+  more = y.more ++ x.more;
+  read = y.read ∙ ap (λ (l : List (ℕ × ℕ)). y.more ++ l) x.read ∙ sym (append_assoc y.more x.more u.read);
+  behind = λ q far.
+      let one = x.behind q far in
+      let two = y.behind q (subst (λ (k : Key). pages_of k ≤ q) (sym (ap (λ (z : View). z.about) x.same)) far) in
+      (two.0 ∙ one.0, two.1 ∙ one.1);
+}
+
+reads-word : (v : View) (page found : ℕ) → ReadsOn v (having_read v page found)
+reads-word v page found = record { same = refl; more = (page, found) ∷ []; read = refl; behind = λ q far. (refl, refl) }
 
 -- a page was taken
 pub tried-about : (v : View) (page : ℕ) (b : Bool) → (tried v page Work b).about ≡ v.about
 tried-about v page true = refl
 tried-about v page false = refl
-
-pub tried-read : (v : View) (page : ℕ) (b : Bool) → length v.read ≤ length (tried v page Work b).read
-tried-read v page true = omega arith
-tried-read v page false = omega arith
 
 pub holds-taken : (v : View) (seat : Seat) (page : ℕ) (held : Held) → Grasps (tried v page Work held.remembered) seat page held → page < pages_of v.about → HoldsPage seat held
 holds-taken v seat page held g lt =
@@ -100,22 +100,18 @@ shown-taken v seat page held end s g takes own shown =
     (subst (λ (p : ℕ). ShowsPages (gripping (tried v page Work held.remembered) page held.remembered held.homed) (Some (record { page = p; remembered = held.remembered; homed = held.homed })) end s) (sym g.is)
     (shows-taken v page end held.remembered held.homed s own takes shown))
 
-tried-behind : (v : View) (page q : ℕ) (b : Bool) → (entries q (tried v page Work b).changed ≡ entries q v.changed) × (times q (tried v page Work b).recorded ≡ times q v.recorded)
-tried-behind v page q true = (refl, refl)
-tried-behind v page q false = (refl, refl)
+tried-reads : (v : View) (page : ℕ) (b : Bool) → ReadsOn v (tried v page Work b)
+tried-reads v page true = reads-word v page 2
+tried-reads v page false = none-reads v
+
+gripping-reads : (v : View) (page : ℕ) (remembered : Bool) (homed : Homed) → ReadsOn v (gripping v page remembered homed)
+gripping-reads v page remembered homed = record { same = refl; more = (page, if remembered then 2 else 1) ∷ []; read = refl; behind = λ q far. (refl, refl) }
 
 pub taken-reads : (v : View) (seat : Seat) (page : ℕ) (held : Held) → Grasps (tried v page Work held.remembered) seat page held → ReadsOn v (view_of seat)
 taken-reads v seat page held g =
-    let more = tried-read v page held.remembered in
-    let long = ap (λ (w : View). length w.read) g.view in
-    record {
-      longer = omega arith;
-      rights = ap (λ (w : View). w.rights) g.view ∙ tried_rights v page Work held.remembered;
-      about = ap (λ (w : View). w.about) g.view ∙ tried-about v page held.remembered;
-      behind = λ q far.
-          let same = tried-behind v page q held.remembered in
-          (ap (λ (w : View). entries q w.changed) g.view ∙ same.0, ap (λ (w : View). times q w.recorded) g.view ∙ same.1);
-    }
+    let u : View = tried v page Work held.remembered in
+    subst (λ (w : View). ReadsOn v w) (sym g.view)
+    (then-reads v u (gripping u page held.remembered held.homed) (tried-reads v page held.remembered) (gripping-reads u page held.remembered held.homed))
 
 -- or refused
 pub refused-read : (v w : View) (page : ℕ) (want : Want) (refusal : TakeNo) → IsTakeRefused v page want refusal w → ReadLast w page (refusal_word refusal)
@@ -124,20 +120,35 @@ refused-read v w page want refusal r = elim r.read [
   | inr e ↦ ((page, 2) ∷ v.read, ap (λ (x : View). x.read) e.1)
 ]
 
-reads-word : (v w : View) (page found : ℕ) → w ≡ having_read v page found → ReadsOn v w
-reads-word v w page found e =
-    let long = ap (λ (x : View). length x.read) e in
-    record {
-      longer = omega arith;
-      rights = ap (λ (x : View). x.rights) e;
-      about = ap (λ (x : View). x.about) e;
-      behind = λ q far. (ap (λ (x : View). entries q x.changed) e, ap (λ (x : View). times q x.recorded) e);
-    }
-
 pub refused-reads : (v w : View) (page : ℕ) (want : Want) (refusal : TakeNo) → IsTakeRefused v page want refusal w → ReadsOn v w
 refused-reads v w page want refusal r = elim r.read [
-  | inl e ↦ reads-word v w page (refusal_word refusal) e
-  | inr e ↦ then-reads v (having_read v page 2) w (reads-word v (having_read v page 2) page 2 refl) (reads-word (having_read v page 2) w page (refusal_word refusal) e.1)
+  | inl e ↦ subst (λ (x : View). ReadsOn v x) (sym e) (reads-word v page (refusal_word refusal))
+  | inr e ↦ subst (λ (x : View). ReadsOn v x) (sym e.1)
+      (then-reads v (having_read v page 2) (having_read (having_read v page 2) page (refusal_word refusal)) (reads-word v page 2) (reads-word (having_read v page 2) page (refusal_word refusal)))
+]
+
+-- so the page that stops the lane was read since
+read-since : (v w : View) (page found : ℕ) → w ≡ having_read v page found → length v.read < length w.read
+read-since v w page found e = let long = ap (λ (x : View). length x.read) e in omega arith
+
+pub refused-since : (v w : View) (page : ℕ) (want : Want) (refusal : TakeNo) → IsTakeRefused v page want refusal w → length v.read < length w.read
+refused-since v w page want refusal r = elim r.read [
+  | inl e ↦ read-since v w page (refusal_word refusal) e
+  | inr e ↦ let one = read-since v (having_read v page 2) page 2 refl in let two = read-since (having_read v page 2) w page (refusal_word refusal) e.1 in omega arith
+]
+
+-- and an own page that is gone is noted so
+noted-gone : (v w : View) (page : ℕ) → IsOwnPage v page → w ≡ having_read v page 4 → 0 < times page w.gone
+noted-gone v w page own e =
+    let once : times page w.gone ≡ times page (page ∷ v.gone) =
+    ap (λ (x : View). times page x.gone) e ∙ ap (λ (b : Bool). times page (if b then page ∷ v.gone else v.gone)) (lt-ltb 0 (has_role v (owner v.about page)) own) in
+    let same = one_same page in
+    omega arith
+
+pub refused-gone : (v w : View) (page : ℕ) (want : Want) → IsOwnPage v page → IsTakeRefused v page want Gone w → 0 < times page w.gone
+refused-gone v w page want own r = elim r.read [
+  | inl e ↦ noted-gone v w page own e
+  | inr e ↦ noted-gone (having_read v page 2) w page own e.1
 ]
 
 -- it was put back, on a page of the table
@@ -148,19 +159,33 @@ entries-else false q p c l ne = refl
 pub put-reads : (seat : Seat) (w : View) (held : Held) → HoldsPage seat held → w ≡ put_back (view_of seat) held → ReadsOn (view_of seat) w
 put-reads seat w held has e =
     let v = view_of seat in
-    let long = ap (λ (x : View). length x.read) e in
-    record {
-      longer = omega arith;
-      rights = ap (λ (x : View). x.rights) e;
-      about = ap (λ (x : View). x.about) e;
+    subst (λ (x : View). ReadsOn v x) (sym e)
+    (record {
+      same = refl;
+      more = [];
+      read = refl;
       behind = λ q far.
           let inside = has.inside in
           let other : held.page ≢ q = λ is. absurd (omega arith) in
-          let none = flag_other held.remembered held.page q other in (
-            ap (λ (x : View). entries q x.changed) e ∙ entries-else (owns v held.page) q held.page held.homed.page v.changed other,
-            ap (λ (x : View). times q x.recorded) e ∙ recorded_times held.remembered q held.page v.recorded ∙ omega arith,
-          );
-    }
+          let none = flag_other held.remembered held.page q other in
+          (entries-else (owns v held.page) q held.page held.homed.page v.changed other, recorded_times held.remembered q held.page v.recorded ∙ omega arith);
+    })
+
+-- a stop at a page, told of what came before and of what follows
+pub stop-since : (u v w : View) (why : Stop) → ReadsOn u v → IsReadStop v w why → IsReadStop u w why
+stop-since u v w stop.End reads is = tt
+stop-since u v w stop.NurseryFull reads is = tt
+stop-since u v w stop.BufferFull reads is = tt
+stop-since u v w (stop.Busy page) reads is = let long = ap length reads.read ∙ length-append reads.more u.read in omega arith
+stop-since u v w (stop.Gone page) reads is = (let long = ap length reads.read ∙ length-append reads.more u.read in let since = is.0 in omega arith, is.1)
+
+pub stop-laid : (u v w : View) (why : Stop) → w.read ≡ v.read → w.gone ≡ v.gone → IsReadStop u v why → IsReadStop u w why
+stop-laid u v w stop.End read gone is = tt
+stop-laid u v w stop.NurseryFull read gone is = tt
+stop-laid u v w stop.BufferFull read gone is = tt
+stop-laid u v w (stop.Busy page) read gone is = subst (λ (l : List (ℕ × ℕ)). length u.read < length l) (sym read) is
+stop-laid u v w (stop.Gone page) read gone is =
+    (subst (λ (l : List (ℕ × ℕ)). length u.read < length l) (sym read) is.0, subst (λ (l : List ℕ). 0 < times page l) (sym gone) is.1)
 
 pub refused-shown : (v w : View) (page : ℕ) (want : Want) (refusal : TakeNo) (end : ℕ) (s : Layout) → IsTakeRefused v page want refusal w → ShowsPages v None end s → ShowsPages w None end s
 refused-shown v w page want refusal end s r shown = elim r.read [

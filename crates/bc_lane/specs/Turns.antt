@@ -131,12 +131,21 @@ LooksOn h op page = (at : Address) × LooksAtObject h.roots (touched_slot op) at
 abbrev pub ReadLast : View → ℕ → ℕ → Type 0
 ReadLast v page found = (rest : List (ℕ × ℕ)) × (v.read ≡ (page, found) ∷ rest)
 
--- a seat read on at its table, and has the rights to frames that it had. It put back pages of the table alone
+-- a seat read on, and took and put back pages of the table. What else it knows is as before: so it made no page Gone or Absent,
+-- bookmarked and counted nothing, and has the rights to frames that it had
 pub record ReadsOn (v w : View) : Type 0 where
-  pub longer : length v.read ≤ length w.read
-  pub rights : w.rights ≡ v.rights
-  pub about : w.about ≡ v.about
+  pub same : w ≡ record v { hand = w.hand; changed = w.changed; recorded = w.recorded; seen = w.seen; gone = w.gone; read = w.read }
+  pub more : List (ℕ × ℕ)
+  pub read : w.read ≡ more ++ v.read
   pub behind : (page : ℕ) → pages_of v.about ≤ page → (entries page w.changed ≡ entries page v.changed) × (times page w.recorded ≡ times page v.recorded)
+
+-- a stop at a page is one that the seat read since, and where the page is gone it is noted so
+abbrev pub IsReadStop : View → View → Stop → Type 0
+IsReadStop v w stop.End = Unit {0}
+IsReadStop v w stop.NurseryFull = Unit {0}
+IsReadStop v w stop.BufferFull = Unit {0}
+IsReadStop v w (stop.Busy page) = length v.read < length w.read
+IsReadStop v w (stop.Gone page) = (length v.read < length w.read) × (0 < times page w.gone)
 
 -- this is true of the operation of that number, which there is
 abbrev pub IsNextOp : List Op → ℕ → (Op → Type 0) → Type 0

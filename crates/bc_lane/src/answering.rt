@@ -2,7 +2,7 @@
 
 ghost use Rattle.std.specs.Prelude.{◌≡◌, ◌+◌, ◌^◌, ◌<◌, Err, IfOk, IfErr, OnErr};
 ghost use Rattle.bc_lane.specs.declared.stops.Stop.TheVariants.{NurseryFull};
-ghost use Rattle.bc_lane.specs.Turns.{DoesOne, IsLaneSeat, IsLaneTable, IsWhole, LooksOwn, ReadsOn, SamePart, StaysWhole, StopsOp};
+ghost use Rattle.bc_lane.specs.Turns.{DoesOne, IsLaneSeat, IsLaneTable, IsReadStop, IsWhole, LooksOwn, ReadsOn, SamePart, StaysWhole, StopsOp};
 ghost use Rattle.bc_mutator.specs.Operations.{IsOpOf, WantsMore};
 ghost use Rattle.bc_nursery.specs.Objects.{left_of};
 ghost use Rattle.bc_pins.specs.Calls.{key_of, view_of, IsSameSeat};
@@ -40,6 +40,7 @@ pub(crate) fn answer<G: Gate>(
     ensures done { IfOk result (λ reply. DoesOne part.old (view_of seat.old) hand.old part.new (view_of seat.new) hand.new end op.now reply) }
     ensures still { OnErr result (StaysWhole part.old (view_of seat.old) hand.old part.new (view_of seat.new) hand.new end) }
     ensures why { IfErr result (λ why. StopsOp part.new (view_of seat.new) hand.new end op.now why) }
+    ensures since { IfErr result (λ why. IsReadStop (view_of seat.old) (view_of seat.new) why) }
     ensures nursery { WantsMore part.old.holders.items part.old.lane (left_of part.old.chunk) op.now → result ≡ Err NurseryFull }
 {
     match looks(part, pins, end, op) {
@@ -73,6 +74,7 @@ fn answer_on<G: Gate>(
     ensures done { IfOk result (λ reply. DoesOne part.old (view_of seat.old) hand.old part.new (view_of seat.new) hand.new end op.now reply) }
     ensures still { OnErr result (StaysWhole part.old (view_of seat.old) hand.old part.new (view_of seat.new) hand.new end) }
     ensures why { IfErr result (λ why. StopsOp part.new (view_of seat.new) hand.new end op.now why) }
+    ensures since { IfErr result (λ why. IsReadStop (view_of seat.old) (view_of seat.new) why) }
     ensures nursery { WantsMore part.old.holders.items part.old.lane (left_of part.old.chunk) op.now → result ≡ Err NurseryFull }
 {
     match bring(pins, seat, hand, page, part.lane, gate) {

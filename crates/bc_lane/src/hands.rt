@@ -3,7 +3,7 @@
 
 ghost use Rattle.std.specs.Prelude.{◌≡◌, ℕ, ◌<◌, true, Some, None, IfOk, IfErr, OnOk, OnErr};
 ghost use Rattle.bc_lane.specs.Shown.{HasPage, IsOwnPage, ShowsPages};
-ghost use Rattle.bc_lane.specs.Turns.{HasInHand, IsRefusedPage, ReadsOn};
+ghost use Rattle.bc_lane.specs.Turns.{HasInHand, IsReadStop, IsRefusedPage, ReadsOn};
 ghost use Rattle.bc_pins.specs.Calls.{HoldsPage, IsAt, IsFree, IsSameSeat, key_of, view_of};
 ghost use Rattle.bc_pins.specs.Contents.{IsBarePage};
 ghost use Rattle.bc_pins.specs.Key.{pages_of};
@@ -24,6 +24,7 @@ pub(crate) fn lay_down(pins: &Pins, seat: &mut Seat, hand: &mut Option<Held>)
     ensures shows { (end : ℕ) → (s : Layout) → ShowsPages (view_of seat.old) hand.old end s → ShowsPages (view_of seat.new) None end s }
     ensures back { (end : ℕ) → (s : Layout) → ShowsPages (view_of seat.new) None end s → ShowsPages (view_of seat.old) hand.old end s }
     ensures read { (view_of seat.new).read ≡ (view_of seat.old).read }
+    ensures gone { (view_of seat.new).gone ≡ (view_of seat.old).gone }
     ensures reads { ReadsOn (view_of seat.old) (view_of seat.new) }
 {
     match hand.take() {
@@ -47,6 +48,7 @@ fn pick_up(pins: &Pins, seat: &mut Seat, page: u32) -> Result<Held, Stop>
     ensures err { IfErr result (λ why. IsFree seat.new × IsRefusedPage (view_of seat.new) page why) }
     ensures still { OnErr result ((end : ℕ) → (s : Layout) → ShowsPages (view_of seat.old) None end s → ShowsPages (view_of seat.new) None end s) }
     ensures reads { ReadsOn (view_of seat.old) (view_of seat.new) }
+    ensures since { IfErr result (λ why. IsReadStop (view_of seat.old) (view_of seat.new) why) }
 {
     match pins.take(seat, page, Want::Work) {
         Ok(held) => Ok(held),
@@ -80,6 +82,7 @@ pub(crate) fn bring<G: Gate>(
     ensures there { OnOk result (HasPage hand.new page) }
     ensures stop { IfErr result (λ why. IsRefusedPage (view_of seat.new) page why) }
     ensures reads { ReadsOn (view_of seat.old) (view_of seat.new) }
+    ensures since { IfErr result (λ why. IsReadStop (view_of seat.old) (view_of seat.new) why) }
 {
     if has_page(hand, page) {
         return Ok(());

@@ -1,7 +1,7 @@
 //! One operation of a lane in a turn.
 
-ghost use Rattle.std.specs.Prelude.{◌≡◌, ◌↔◌, ℕ, ◌+◌, ◌^◌, ◌<◌, Err, IfOk, IfErr, OnErr, IsErrOf};
-ghost use Rattle.bc_lane.specs.declared.stops.Stop.TheVariants.{NurseryFull};
+ghost use Rattle.std.specs.Prelude.{◌≡◌, ◌↔◌, ◌⊎◌, ℕ, ◌+◌, ◌^◌, ◌<◌, Err, IfOk, IfErr, OnErr, IsErrOf};
+ghost use Rattle.bc_lane.specs.declared.stops.Stop.TheVariants.{BufferFull, NurseryFull};
 ghost use Rattle.bc_lane.specs.Shown.{HasPage, ShowsPages};
 ghost use Rattle.bc_lane.specs.Turns.{DoesOne, LaneHoldsAll, IsWhole, SamePart, SlotsOf, StopsOp};
 ghost use Rattle.bc_mutator.specs.declared.operations.Stop.TheVariants as refusal;
@@ -106,6 +106,7 @@ pub(crate) fn operate(
     ensures done { IfOk result (λ reply. DoesOne part.old (view_of seat.now) hand.old part.new (view_of seat.now) hand.new end op.now reply) }
     ensures still { OnErr result ((part.new ≡ part.old) × (hand.new ≡ hand.old)) }
     ensures why { IfErr result (λ why. StopsOp part.old (view_of seat.now) hand.old end op.now why) }
+    ensures room { IfErr result (λ why. (why ≡ NurseryFull) ⊎ (why ≡ BufferFull)) }
     ensures nursery { WantsMore part.old.holders.items part.old.lane (left_of part.old.chunk) op.now → result ≡ Err NurseryFull }
 {
     match operate_at::<Brand>(part, seat, end, hand, op) {

@@ -3,7 +3,7 @@
 ghost use Rattle.std.specs.Prelude.{◌≡◌, ◌+◌, ◌<◌, ◌≤◌, [], ◌∷◌, ◌++◌, None, length, vec_capacity, IfErr, OnOk, OnErr};
 ghost use Rattle.std.specs.List.{AllByRecursion};
 ghost use Rattle.bc_lane.specs.declared.stops.Stop.TheVariants as stop;
-ghost use Rattle.bc_lane.specs.Turns.{IsGoing, IsNextOp, IsWhole, LaneRan, WhyStopped};
+ghost use Rattle.bc_lane.specs.Turns.{IsGoing, IsNextOp, IsReadStop, IsWhole, LaneRan, WhyStopped};
 ghost use Rattle.bc_mutator.specs.Operations.{IsOpOf, WantsMore};
 ghost use Rattle.bc_nursery.specs.Objects.{left_of};
 ghost use Rattle.bc_pins.specs.Calls.{IsFree, IsSameSeat, view_of};
@@ -27,6 +27,7 @@ impl LaneTurn {
             → LaneRan ops.now (end_of h.space) self.old (view_of seat.old) None self.new (view_of seat.new) None }
         ensures why { (h : HeapView) → IsWhole self.old.part (view_of seat.old) None (end_of h.space) h
             → WhyStopped ops.now (end_of h.space) self.new (view_of seat.new) None result }
+        ensures since { IsReadStop (view_of seat.old) (view_of seat.new) result }
         ensures nursery { IsNextOp ops.now self.new.next (λ op. WantsMore self.new.part.holders.items self.new.part.lane (left_of self.new.part.chunk) op)
             → result ≡ stop.NurseryFull }
         ensures seat { IsSameSeat seat.old seat.new }
@@ -55,6 +56,7 @@ fn go<G: Gate>(
     ensures ran { LaneRan ops.now end turn.old (view_of seat.old) hand.old turn.new (view_of seat.new) hand.new }
     ensures going { IsGoing pins.now ops.now turn.new seat.new hand.new }
     ensures why { WhyStopped ops.now end turn.new (view_of seat.new) hand.new result }
+    ensures since { IsReadStop (view_of seat.old) (view_of seat.new) result }
     ensures nursery { IsNextOp ops.now turn.new.next (λ op. WantsMore turn.new.part.holders.items turn.new.part.lane (left_of turn.new.part.chunk) op)
         → result ≡ stop.NurseryFull }
     ensures seat { IsSameSeat seat.old seat.new }
@@ -84,6 +86,7 @@ fn advance<G: Gate>(
     ensures going { IsGoing pins.now ops.now turn.new seat.new hand.new }
     ensures further { OnOk result (turn.new.next ≡ turn.old.next + 1) }
     ensures why { IfErr result (λ why. WhyStopped ops.now end turn.new (view_of seat.new) hand.new why) }
+    ensures since { IfErr result (λ why. IsReadStop (view_of seat.old) (view_of seat.new) why) }
     ensures nursery { OnErr result (IsNextOp ops.now turn.new.next (λ op. WantsMore turn.new.part.holders.items turn.new.part.lane (left_of turn.new.part.chunk) op))
         → IfErr result (λ why. why ≡ stop.NurseryFull) }
     ensures seat { IsSameSeat seat.old seat.new }

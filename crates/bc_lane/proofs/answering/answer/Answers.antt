@@ -1,4 +1,4 @@
-use Rattle.bc_lane.proofs.AnswerLemmas.{foreign-does, foreign-wants, hands-operated, stays-brought, stops-operated, touches-none}
+use Rattle.bc_lane.proofs.AnswerLemmas.{foreign-does, foreign-wants, hands-operated, room-stop, stays-brought, stops-operated, touches-none}
 use Rattle.bc_lane.proofs.HandLemmas.{none-reads}
 use Rattle.bc_pins.specs.Calls.{key_of, view_of}
 use Rattle.bc_lane.proofs.answering.answer.Goals as goal
@@ -48,3 +48,6 @@ returns-in-Foreign-clause-nursery g c = λ wants.
     let w = c.requires.whole in
     let told = c.in-Foreign.ensures.told in
     absurd (foreign-wants c.args.part.now w.0 _ c.args.op.now (told.1 (view_of c.args.seat.now) c.args.hand.now w.0 c.requires.seated.at.about w.1 w.2) wants)
+
+pub returns-in-Nowhere-clause-since : goal.returns-in-Nowhere-clause-since
+returns-in-Nowhere-clause-since g c = room-stop c.operate.result (view_of c.args.seat.now) (view_of c.args.seat.now) c.operate.ensures.room

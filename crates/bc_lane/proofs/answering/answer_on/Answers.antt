@@ -1,5 +1,5 @@
 use Rattle.std.proofs.Common.{◌≡◌, true, refl, sym, subst, ◌∙◌}
-use Rattle.bc_lane.proofs.AnswerLemmas.{does-brought, hands-operated, own-page, own-wants, refused-stops, stays-brought, stops-operated, touches-page, whole-moved}
+use Rattle.bc_lane.proofs.AnswerLemmas.{does-brought, hands-operated, own-page, own-wants, refused-stops, room-stop, stays-brought, stops-operated, touches-page, whole-moved}
 use Rattle.bc_pins.specs.Calls.{key_of, view_of}
 use Rattle.bc_pins.specs.Contents.{IsBarePage}
 use Rattle.bc_pins.specs.Key.{Key}
@@ -77,3 +77,6 @@ returns-in-Err-clause-nursery g c = λ wants.
     let w = c.requires.whole in
     let looks = c.requires.looks.looks (view_of c.args.seat.now) c.args.hand.now w.0 c.requires.seated.at.about w.1 w.2 in
     absurd (own-wants c.args.part.now w.0 _ c.args.page c.args.op.now looks wants)
+
+pub returns-in-Ok-clause-since : goal.returns-in-Ok-clause-since
+returns-in-Ok-clause-since g c = room-stop c.operate.result (view_of c.args.seat.now) (view_of c.bring.new.seat) c.operate.ensures.room

@@ -1,7 +1,7 @@
 use Rattle.std.proofs.Common.{◌≡◌, ◌<◌, ℕ, true, List, Option, sym, subst}
 use Rattle.bc_lane.specs.Shown.{ShowsPages}
 use Rattle.bc_lane.specs.Turns.{HasInHand}
-use Rattle.bc_lane.proofs.HandLemmas.{none-reads, then-reads}
+use Rattle.bc_lane.proofs.HandLemmas.{none-reads, stop-since, then-reads}
 use Rattle.bc_pins.specs.Calls.{view_of}
 use Rattle.bc_pins.specs.Contents.{IsBarePage}
 use Rattle.bc_pins.specs.Key.{Key, owner}
@@ -57,3 +57,7 @@ returns-in-Err-clause-shows g c = λ end s shown.
 
 pub returns-in-Err-clause-reads : goal.returns-in-Err-clause-reads
 returns-in-Err-clause-reads g c = then-reads (view_of c.args.seat.now) (view_of c.lay_down.new.seat) (view_of c.pick_up.new.seat) c.lay_down.ensures.reads c.pick_up.ensures.reads
+
+pub returns-in-Err-clause-since : goal.returns-in-Err-clause-since
+returns-in-Err-clause-since g c =
+    stop-since (view_of c.args.seat.now) (view_of c.lay_down.new.seat) (view_of c.pick_up.new.seat) c.in-Err.why c.lay_down.ensures.reads c.in-Err.ensures.since

@@ -1,5 +1,5 @@
 use Rattle.std.proofs.Common.{◌<◌, inl, inr, refl, sym, subst}
-use Rattle.bc_lane.proofs.HandLemmas.{holds-taken, never-absent, never-remembered, refused-read, refused-reads, refused-shown, shown-taken, taken-reads}
+use Rattle.bc_lane.proofs.HandLemmas.{holds-taken, never-absent, never-remembered, refused-gone, refused-read, refused-reads, refused-shown, refused-since, shown-taken, taken-reads}
 use Rattle.bc_pins.specs.Calls.{view_of}
 use Rattle.bc_pins.specs.Key.{Key, pages_of}
 use Rattle.bc_pins.specs.declared.taking.TakeNo.TheVariants.{Busy, Gone}
@@ -59,3 +59,13 @@ pub unreachable-requires-in-Err-Absent : goal.unreachable-requires-in-Err-Absent
 unreachable-requires-in-Err-Absent c =
     let r = rw c.in-Err-Absent.field-0-is at c.in-Err-Absent.ensures.err in
     absurd (never-absent (view_of c.args.seat.now) (view_of c.take.new.seat) c.args.page c.requires.cell r.1)
+
+pub returns-in-Err-Busy-clause-since : goal.returns-in-Err-Busy-clause-since
+returns-in-Err-Busy-clause-since c =
+    let r = rw c.in-Err-Busy.field-0-is at c.in-Err-Busy.ensures.err in
+    refused-since (view_of c.args.seat.now) (view_of c.take.new.seat) c.args.page Work Busy r.1
+
+pub returns-in-Err-Gone-clause-since : goal.returns-in-Err-Gone-clause-since
+returns-in-Err-Gone-clause-since c =
+    let r = rw c.in-Err-Gone.field-0-is at c.in-Err-Gone.ensures.err in
+    (refused-since (view_of c.args.seat.now) (view_of c.take.new.seat) c.args.page Work Gone r.1, refused-gone (view_of c.args.seat.now) (view_of c.take.new.seat) c.args.page Work c.requires.own r.1)

@@ -1,4 +1,5 @@
 use Rattle.std.proofs.Common.{refl}
+use Rattle.bc_lane.proofs.HandLemmas.{stop-since}
 use Rattle.bc_lane.proofs.RunLemmas.{fits-all, ran-none, ran-then}
 use Rattle.bc_pins.specs.Calls.{view_of}
 use Rattle.bc_pins.proofs.VisitLemmas.{same_after}
@@ -33,3 +34,7 @@ returns-in-Err-clause-ran g c =
 
 pub returns-in-Err-clause-seat : goal.returns-in-Err-clause-seat
 returns-in-Err-clause-seat g c = same_after c.args.seat.now c.operations.seat c.advance.new.seat c.operations.invariant.seat c.advance.ensures.seat
+
+pub returns-in-Err-clause-since : goal.returns-in-Err-clause-since
+returns-in-Err-clause-since g c =
+    stop-since (view_of c.args.seat.now) (view_of c.operations.seat) (view_of c.advance.new.seat) c.in-Err.why c.operations.invariant.ran.reads c.in-Err.ensures.since

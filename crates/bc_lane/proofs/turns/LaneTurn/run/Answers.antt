@@ -1,5 +1,6 @@
 use Rattle.std.proofs.Common.{ℕ, None, sym, subst}
 use Rattle.bc_lane.specs.Turns.{IsWhole, LaneRan, WhyStopped}
+use Rattle.bc_lane.proofs.HandLemmas.{stop-laid}
 use Rattle.bc_lane.proofs.TurnLemmas.{ran-laid, same-end, why-laid}
 use Rattle.bc_pins.specs.Calls.{key_of, view_of}
 use Rattle.bc_pins.proofs.VisitLemmas.{same_after}
@@ -39,3 +40,7 @@ returns-clause-why g c = λ h w.
 
 pub returns-clause-seat : goal.returns-clause-seat
 returns-clause-seat g c = same_after c.args.seat.now c.go-why.new.seat c.lay_down.new.seat c.go-why.ensures.seat c.lay_down.ensures.same
+
+pub returns-clause-since : goal.returns-clause-since
+returns-clause-since g c =
+    stop-laid (view_of c.args.seat.now) (view_of c.go-why.new.seat) (view_of c.lay_down.new.seat) c.go-why.result c.lay_down.ensures.read c.lay_down.ensures.gone c.go-why.ensures.since
