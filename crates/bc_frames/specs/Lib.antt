@@ -2,7 +2,7 @@
 pub mod Pool
 -- A store has a place for each page, by its number, which holds the page's box or nothing, and a count of reads.
 pub mod Places
--- The invariant of a pool
-pub mod Listed
+-- A pool's frames as bits, and its invariant
+pub mod FrameBits
 -- What lies in a page's place of the store
 pub mod Lying

@@ -6,9 +6,9 @@
 // keep them, `FramePool` for the frames that nobody uses and `Store` for the boxes that aren't resident.
 //
 // A `Frame` can't be copied, so who has one has a frame that nobody else has. A pool is seen as a
-// flag for each frame, true where it is free. It keeps the numbers of the free frames in a list, in which
-// each stands exactly once: `claim` takes the last, and `give` adds one. The list has room for all frames
-// from the start, so `give` takes no memory. The store is seen as the boxes' contents by page.
+// flag for each frame, true where it is free. It keeps a bit for each frame in words of 64, set where the frame
+// isn't free and behind the last frame, how many are free, and the first word that may have a free one: `claim`
+// takes the first clear bit from there on. The store is seen as the boxes' contents by page.
 //
 // A page that was never used has no box yet: its place in the store says so, and contracts see zeros there (`Place`). Room for
 // the boxes of all pages is taken at once, in rows of 64, of which nothing is written before a page of it is
@@ -18,8 +18,8 @@
 // While workers share a table of pages, the boxes of pages that aren't resident lie there shut (`Shut`): `lift` takes one out
 // of the store and `lower` puts it back, and neither is a read. Who opens a shut box counts it in an `Opens`, which can't be
 // dropped and can't be read: `Store::count` spends it and adds its number to `reads`. There too a frame is a bit of a
-// table, so `Frame::number` and `Frame::of` take a right apart and make it again; that no two rights to one frame
-// are in use is then kept by who makes them.
+// table, whose words are the pool's (`word`) and give frames back to it (`give_clear`). `Frame::number` and `Frame::of`
+// take a right apart and make it again; that no two rights to one frame are in use is then kept by who makes them.
 //
 // The theorems are the contracts: `claim` gives a frame that was free and no longer is, and nothing exactly
 // where no frame is free; a place of the store gives back what was put there, and `reads` counts each

@@ -44,6 +44,55 @@ fn a_store_gives_back_what_was_put_and_counts_it_once(rt: HostRuntime) -> Result
 }
 
 #[test]
+fn words_tell_which_frames_are_not_free(rt: HostRuntime) -> Result<(), Fail> {
+    let mut pool = FramePool::new(rt.alloc(), 66)?;
+    assert_eq!(rt; pool.word(0), 0);
+    assert_eq!(rt; pool.word(1), 18446744073709551612);
+    assert_eq!(rt; pool.word(2), 18446744073709551615);
+    pool.set_free(63, false);
+    pool.set_free(64, false);
+    pool.set_free(64, false);
+    assert_eq!(rt; pool.word(0), 9223372036854775808);
+    assert_eq!(rt; pool.word(1), 18446744073709551613);
+    assert_eq!(rt; pool.free(), 64);
+    pool.set_free(63, true);
+    assert_eq!(rt; pool.word(0), 0);
+    assert!(rt; !pool.is_free(64));
+    assert!(rt; pool.is_free(65));
+    assert!(rt; !pool.is_free(66));
+    assert_eq!(rt; pool.free(), 65);
+    Ok(())
+}
+
+#[test]
+fn frames_are_given_by_words(rt: HostRuntime) -> Result<(), Fail> {
+    let mut pool = FramePool::new(rt.alloc(), 66)?;
+    for number in 0..66 {
+        assert_eq!(rt;
+            pool.claim().expect(&rt, "a frame is free").number(),
+            number
+        );
+    }
+    assert!(rt; pool.claim().is_none());
+    pool.give_clear(1, 1);
+    assert_eq!(rt; pool.word(0), 18446744073709551615);
+    assert_eq!(rt; pool.word(1), 18446744073709551613);
+    assert_eq!(rt; pool.free(), 1);
+    pool.give_clear(1, 18446744073709551615);
+    pool.give_clear(2, 0);
+    assert_eq!(rt; pool.free(), 1);
+    pool.give_clear(0, 9223372036854775807);
+    assert!(rt; pool.is_free(63));
+    assert_eq!(rt; pool.free(), 2);
+    assert_eq!(rt; pool.claim().expect(&rt, "a frame is free").number(), 63);
+    pool.give_clear(1, 0);
+    assert_eq!(rt; pool.word(1), 18446744073709551612);
+    assert!(rt; !pool.is_free(66));
+    assert_eq!(rt; pool.free(), 2);
+    Ok(())
+}
+
+#[test]
 fn a_right_to_a_frame_is_made_from_its_number(rt: HostRuntime) -> Result<(), Fail> {
     let mut pool = FramePool::new(rt.alloc(), 3)?;
     let claimed = pool.claim().expect(&rt, "a frame is free");

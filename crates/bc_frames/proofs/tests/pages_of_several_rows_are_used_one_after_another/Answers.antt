@@ -1,4 +1,4 @@
-use Rattle.std.proofs.Common.{◌≡◌, ℕ, ◌<◌, List, length, replicate, get_or, Option, Some, None, IsSome, refl, ap, sym, ◌∙◌, subst}
+use Rattle.std.proofs.Common.{ℕ, List, length, replicate, Option, Some, None, IsSome, refl, ap, sym, ◌∙◌, subst}
 use Rattle.std.proofs.lemmas.List.{length-replicate, get_or-replicate}
 use Rattle.bc_frames.specs.Places.{StoreView, place_at}
 use Rattle.bc_frames.proofs.tests.pages_of_several_rows_are_used_one_after_another.Goals as goal
