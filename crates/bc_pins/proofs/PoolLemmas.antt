@@ -1,8 +1,9 @@
 -- Frames that are given back to the pool, and the account of frames after it.
-use Rattle.std.proofs.Common.{◌≡◌, ℕ, ◌+◌, ◌/◌, ◌%◌, ◌<◌, ◌≤◌, ◌≢◌, ◌==◌, ◌||◌, Bool, false, List, length, get_or, Option, None, is_some, count_by, nat_lt, inl, inr, refl, ap, sym, subst, ◌∙◌, arith}
+use Rattle.std.proofs.Common.{◌≡◌, ℕ, ◌+◌, ◌/◌, ◌%◌, ◌<◌, ◌≤◌, ◌*◌, ◌≢◌, ◌==◌, ◌||◌, min, Bool, false, List, length, get_or, Option, None, is_some, count_by, nat_lt, inl, inr, refl, ap, sym, subst, ◌∙◌, arith}
 use Prim.Native.Nat.{zero, suc}
 use Rattle.std.specs.Int.{bit_at}
 use Rattle.std.proofs.lemmas.Bool.{cases_eq, lt-ltb}
+use Rattle.std.proofs.lemmas.List.{get_or_past}
 use Rattle.bc_bits.specs.Counting.{one_if}
 use Rattle.bc_frames.specs.Pool.{is_free, free_count}
 use Rattle.bc_superpages.specs.declared.spaces.Homed.{Homed}
@@ -16,17 +17,24 @@ use Rattle.bc_pins.proofs.TallyLemmas.{ge-nat_lt}
 pub pool_none : (o : List Bool) (start : ℕ) (ws : List ℕ) → PoolSet o o 0 start ws
 pool_none o start ws = record { long = refl; near = λ f lt. absurd (omega arith); far = λ f _. refl }
 
-pub pool_more : (o n m : List Bool) (f start w : ℕ) (ws : List ℕ) → PoolSet o n f start ws → length m ≡ length n → is_free m f ≡ (is_free n f || (bit_at w (f % 64) == 0)) → ((g : ℕ) → g ≢ f → is_free m g ≡ is_free n g)
-    → w ≡ get_or ws (start + f / 64) 0 → PoolSet o m (f + 1) start ws
-pool_more o n m f start w ws s long here others is = record {
-  long = long ∙ s.long;
-  near = λ g lt. elim (cases_eq g f) [
-    | inl e ↦ subst (λ (j : ℕ). is_free m j ≡ (is_free o j || (bit_at (get_or ws (start + j / 64) 0) (j % 64) == 0))) (sym e)
-        (here ∙ ap (λ (b : Bool). b || (bit_at w (f % 64) == 0)) (s.far f (omega arith)) ∙ ap (λ (x : ℕ). is_free o f || (bit_at x (f % 64) == 0)) is)
-    | inr ne ↦ others g ne ∙ s.near g (omega arith)
-  ];
-  far = λ g le. others g (λ e. omega arith) ∙ s.far g (omega arith);
-}
+-- the frames of one word more are given
+pub pool_more : (o n m : List Bool) (w start bits : ℕ) (ws : List ℕ) → PoolSet o n (min (64 * w) (length o)) start ws → length m ≡ length n
+    → ((f : ℕ) → f / 64 ≡ w → f < length n → is_free m f ≡ (is_free n f || (bit_at bits (f % 64) == 0))) → ((f : ℕ) → f / 64 ≢ w → is_free m f ≡ is_free n f) → bits ≡ get_or ws (start + w) 0 → PoolSet o m (min (64 * (w + 1)) (length o)) start ws
+pool_more o n m w start bits ws s long here others is =
+    let size = s.long in
+    record {
+      long = long ∙ size;
+      near = λ f lt. elim (cases_eq (f / 64) w) [
+        | inl e ↦
+            here f e (omega arith) ∙ ap (λ (b : Bool). b || (bit_at bits (f % 64) == 0)) (s.far f (omega arith))
+            ∙ ap (λ (x : ℕ). is_free o f || (bit_at x (f % 64) == 0)) (is ∙ ap (λ (i : ℕ). get_or ws (start + i) 0) (sym e))
+        | inr ne ↦ others f ne ∙ s.near f (omega arith)
+      ];
+      far = λ f le. elim (cases_eq (f / 64) w) [
+        | inl e ↦ let out : length o ≤ f = omega arith in get_or_past m f false (omega arith) ∙ sym (get_or_past o f false out)
+        | inr ne ↦ others f ne ∙ s.far f (omega arith)
+      ];
+    }
 
 ones : (g : ℕ → ℕ) (n : ℕ) → ((i : ℕ) → i < n → g i ≡ 1) → sum_to g n ≡ n
 ones g zero each = refl

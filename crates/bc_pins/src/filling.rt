@@ -5,7 +5,7 @@ ghost use Rattle.bc_superpages.specs.Headers.{unused_header};
 ghost use Rattle.bc_superpages.specs.Parts.{state_in};
 ghost use Rattle.bc_pins.specs.Views.{state_word};
 ghost use Rattle.bc_pins.specs.Key.{Key, table_words};
-ghost use Rattle.bc_pins.specs.Filling.{Extends, AddsFrames, IsFrameWord, in_use, IsSized, IsFilled, HasMarkWords, set_in};
+ghost use Rattle.bc_pins.specs.Filling.{Extends, AddsFrames, IsSized, IsFilled, HasMarkWords, set_in};
 
 use crate::key::Turn;
 use bc_frames::FramePool;
@@ -92,29 +92,6 @@ pub(crate) fn push_zeros(words: &mut Vec<u64>, count: usize)
     }
 }
 
-/// The bit of a frame: 1 where it isn't free.
-fn frame_bit(pool: &FramePool, frame: usize) -> u64
-    ensures bit { result ≡ in_use pool.now frame }
-{
-    if frame < pool.frames() as usize && pool.is_free(frame as u32) {
-        0
-    } else {
-        1
-    }
-}
-
-/// A word of 64 frames, a bit for each, set where the frame isn't free.
-fn frame_word(pool: &FramePool, word: usize) -> u64
-    requires { word < 2 ^ 32 }
-    ensures word { IsFrameWord pool.now word result }
-{
-    let mut bits = 0;
-    for bit in 0..64 {
-        bits |= frame_bit(pool, 64 * word + bit) << bit;
-    }
-    bits
-}
-
 /// Adds so many words of frames.
 pub(crate) fn push_frames(words: &mut Vec<u64>, pool: &FramePool, count: usize)
     requires few { count < 2 ^ 32 }
@@ -123,7 +100,7 @@ pub(crate) fn push_frames(words: &mut Vec<u64>, pool: &FramePool, count: usize)
     ensures room { vec_capacity words.new ≡ vec_capacity words.old }
 {
     for word in 0..count {
-        words.push_reserved(frame_word(pool, word));
+        words.push_reserved(pool.word(word as u32));
     }
 }
 

@@ -1,21 +1,19 @@
 //! All seats joined into one, and all slots taken out of a table that is closed.
 
-ghost use Rattle.std.specs.Prelude.{◌≡◌, ℕ, ◌+◌, ◌-◌, ◌*◌, ◌/◌, ◌%◌, ◌^◌, ◌<◌, ◌≤◌, ◌≢◌, ◌==◌, ◌||◌, false, [], length, min, slice_index, slice_index_or, vec_capacity};
+ghost use Rattle.std.specs.Prelude.{◌≡◌, ℕ, ◌+◌, ◌-◌, ◌*◌, ◌/◌, ◌%◌, ◌^◌, ◌<◌, ◌≤◌, false, [], length, min, slice_index, slice_index_or, vec_capacity};
 ghost use Rattle.core.specs.Mem.Slots.{slots_items, slots_filled, slots_len, IsFull};
 ghost use Rattle.bc_superpages.specs.Headers.{unused_header};
 ghost use Rattle.bc_superpages.specs.Kept.{IsCellSet};
 ghost use Rattle.bc_pins.specs.Totals.{times};
 ghost use Rattle.bc_pins.specs.Views.{state_word};
 ghost use Rattle.bc_pins.specs.Closing.{AreBack, Gathered, StatesSet, SummarySet, SummariesSet, PoolSet, opens_of};
-ghost use Rattle.bc_frames.specs.Pool.{is_free};
-ghost use Rattle.std.specs.Int.{bit_at};
 
 use crate::key::About;
 use crate::pins::Seat;
 use crate::rule::{TurnRule, Unite};
 use crate::views::{Lodged, View};
 use atomic_table::{Closed, Shared};
-use bc_frames::{Frame, FramePool, Store};
+use bc_frames::{FramePool, Store};
 use bc_superpages::{Header, PageState};
 use std::alloc::Global;
 
@@ -132,34 +130,14 @@ pub(crate) fn set_summaries(
     }
 }
 
-/// Is the bit of the word clear?
-fn is_clear(word: u64, bit: u32) -> bool
-    requires { bit < 64 }
-    ensures clear { result ≡ (bit_at word bit == 0) }
-{
-    (word >> bit) & 1 == 0
-}
-
-/// Makes a frame free where its bit in the word is clear.
-fn free_where_clear(pool: &mut FramePool, frame: u32, word: u64)
-    requires { frame < length pool.old }
-    ensures long { length pool.new ≡ length pool.old }
-    ensures here { is_free pool.new frame ≡ (is_free pool.old frame || (bit_at word (frame % 64) == 0)) }
-    ensures others { (f : ℕ) → f ≢ frame → is_free pool.new f ≡ is_free pool.old f }
-{
-    if is_clear(word, frame % 64) && !pool.is_free(frame) {
-        pool.give(Frame::of(frame));
-    }
-}
-
 /// Gives the frames back to the pool whose bits are clear in the words from a place on.
 pub(crate) fn give_frames(pool: &mut FramePool, closed: &Closed<Lodged, Global>, start: usize)
     requires start { start < 2 ^ 32 }
     requires words { IsFull closed.now.words × (start + (length pool.old + 63) / 64 ≤ slots_len closed.now.words) }
     ensures set { PoolSet pool.old pool.new (length pool.old) start (slots_items closed.now.words) }
 {
-    for frame in 0..pool.frames() {
-        let word = closed.word(start + (frame / 64) as usize);
-        free_where_clear(pool, frame, word);
+    let count = (pool.frames() as usize + 63) / 64;
+    for word in 0..count {
+        pool.give_clear(word as u32, closed.word(start + word));
     }
 }

@@ -22,9 +22,9 @@
 //
 // `open` makes words and slots out of a space's headers and lists, and deals a seat for each role. `close` joins all seats into
 // one, puts the boxes back and makes states, counters and bookmarks of the words: the space is as it was opened, but that each
-// page has its record, Gone pages are summarised, and frames that were given back are free. The frame words have a bit for each
-// frame, set where it is in use. Words for notices and, in a mark turn, marks, finished cells and queues have their places too
-// (`specs/Key.antt`); no step changes them.
+// page has its record, Gone pages are summarised, and frames that were given back are free. The frame words are the pool's own: a
+// bit for each frame, set where it is in use. Words for notices and, in a mark turn, marks, finished cells and queues have their
+// places too (`specs/Key.antt`); no step changes them.
 //
 // Where things are: `pins` the table and a seat, `key` what a table is told, `views` slots and views, `rule` the rule and what
 // steps tell, `taking` the calls on pages, `giving` the steps by which one is given up, `holding` a page in hand, `reading` what

@@ -11,5 +11,5 @@ loop-word-preserved c =
     let inv = c.loop-word.invariant in
     record {
       room = c.push_reserved.ensures.capacity ∙ inv.room;
-      added = subst (λ (l : List ℕ). AddsFrames c.args.pool.now c.args.words.now.items l (c.loop-word.word + 1)) (sym c.push_reserved.ensures.items) (frames_more c.args.pool.now c.args.words.now.items c.loop-word.words.items c.loop-word.word c.frame_word.result inv.added c.frame_word.ensures.word);
+      added = subst (λ (l : List ℕ). AddsFrames c.args.pool.now c.args.words.now.items l (c.loop-word.word + 1)) (sym c.push_reserved.ensures.items) (frames_more c.args.pool.now c.args.words.now.items c.loop-word.words.items c.loop-word.word c.word.result inv.added c.word.ensures.bits);
     }
