@@ -1,5 +1,5 @@
 -- A page whose targets were bookmarked, and which was counted in each superpage that has one, may be made Gone.
-use Rattle.std.proofs.Common.{◌≡◌, ℕ, ◌+◌, ◌*◌, ◌/◌, ◌%◌, ◌<◌, ◌≤◌, ◌||◌, ◌&&◌, Bool, true, false, nat_lt, inl, inr, List, [], length, slice_index, Some, refl, ap, sym, subst, ◌∙◌, arith}
+use Rattle.std.proofs.Common.{◌≡◌, ℕ, ◌+◌, ◌*◌, ◌/◌, ◌%◌, ◌<◌, ◌||◌, Bool, true, false, nat_lt, List, [], slice_index, Some, refl, ap, sym, subst, ◌∙◌, arith}
 use Rattle.std.proofs.lemmas.Bool.{ltb-true}
 use Rattle.bc_bits.specs.Bits.{has}
 use Rattle.bc_bits.specs.Counting.{one_if}
@@ -30,7 +30,7 @@ use Rattle.bc_pins.specs.Facts.{points}
 use Rattle.bc_pins.specs.Calls.{key_of, view_of, slots_of, IsAt, IsSameSeat, HoldsPage}
 use Rattle.bc_pins.proofs.TallyLemmas.{number_few}
 use Rattle.bc_pins.proofs.VisitLemmas.{at_after, same_after}
-use Rattle.bc_evict.specs.Evicting.{IsAsTaken, HasNoMarks, MayBookmark, MayRelinquish}
+use Rattle.bc_evict.specs.Evicting.{HasNoMarks, MayBookmark, MayRelinquish}
 use Rattle.bc_evict.specs.Marking.{sets_cell, HasBookmarked, IsWalked, IsTargetWord, Marks, Counts}
 use Rattle.bc_evict.proofs.ContentLemmas.{target-allocated, names-allocated, field-on, word-target}
 use Rattle.bc_evict.proofs.PageLemmas.{cell-named}

@@ -1,5 +1,5 @@
 -- A page whose word says Gone.
-use Rattle.std.proofs.Common.{◌≡◌, ℕ, ◌+◌, ◌<◌, ◌≤◌, ◌==◌, Bool, true, if◌then◌else◌, inl, inr, List, refl, ap, sym, subst, ◌∙◌, arith}
+use Rattle.std.proofs.Common.{◌≡◌, ℕ, ◌+◌, ◌<◌, ◌≤◌, ◌==◌, Bool, true, if◌then◌else◌, inl, inr, List, ap, subst, arith}
 use Prim.Native.Nat.{zero, suc}
 use mathlib.Core.Option.{some}
 use Rattle.std.proofs.lemmas.Bool.{cases_eq, eq-eqb}

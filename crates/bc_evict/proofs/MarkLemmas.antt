@@ -1,7 +1,7 @@
 -- Bookmark bits that a walk sets, and superpages that it meets.
-use Rattle.std.proofs.Common.{◌≡◌, ◌≢◌, ℕ, ◌+◌, ◌*◌, ◌/◌, ◌%◌, ◌^◌, ◌<◌, ◌≤◌, ◌==◌, ◌&&◌, ◌||◌, Bool, true, false, if◌then◌else◌, nat_lt, inl, inr, List, [], ◌∷◌, length, replicate, slice_index, Option, Some, refl, ap, sym, subst, ◌∙◌, arith}
+use Rattle.std.proofs.Common.{◌≡◌, ◌≢◌, ℕ, ◌+◌, ◌*◌, ◌/◌, ◌%◌, ◌^◌, ◌<◌, ◌≤◌, ◌==◌, ◌&&◌, ◌||◌, Bool, true, false, if◌then◌else◌, nat_lt, inl, inr, List, [], ◌∷◌, ◌++◌, length, replicate, slice_index, Option, Some, refl, ap, sym, subst, ◌∙◌, arith, append_assoc}
 use Rattle.std.specs.Int.{bit_at}
-use Rattle.std.proofs.lemmas.Bool.{cases_eq, cases_Bool, eq-eqb, ne_eqb, lt-ltb}
+use Rattle.std.proofs.lemmas.Bool.{cases_eq, eq-eqb, ne_eqb, lt-ltb}
 use Rattle.std.proofs.lemmas.Nat.{one_shl}
 use Rattle.std.proofs.lemmas.Nat.Bits.{bit_at-pow_same, bit_at-pow_other}
 use Rattle.bc_bits.specs.Bits.{has}
@@ -37,6 +37,10 @@ same_seat a = record { table = refl; id = refl; role = refl; opens = refl; about
 
 pub reads-then : (v w u : View) → w.about ≡ v.about → ReadsNoPage v w → ReadsNoPage w u → ReadsNoPage v u
 reads-then v w u about first next = record {
+  grows = (
+    next.grows.0 ++ first.grows.0,
+    next.grows.1 ∙ ap (λ (l : List (ℕ × ℕ)). next.grows.0 ++ l) first.grows.1 ∙ sym (append_assoc next.grows.0 first.grows.0 v.read),
+  );
   pages = λ i lt. next.pages i (subst (λ (k : Key). i < pages_of k) (sym about) lt) ∙ first.pages i lt;
   frames = λ i le. next.frames i (subst (λ (k : Key). frame_at k 0 ≤ i) (sym about) le) ∙ first.frames i le;
 }
@@ -57,7 +61,7 @@ Marks-none a met f none = record {
   same = λ h has. (h.marked, hand-same (view_of a) h has);
   bits = λ q b few. sym (ap (λ (x : Bool). x || sets_cell (view_of a) q b) (none (names_cell (view_of a).about.opening.classes q b)));
   meets = λ q. sym (ap (λ (x : Bool). x || has met q) (none (names_in q)));
-  reads = record { pages = λ i lt. refl; frames = λ i le. refl };
+  reads = record { grows = ([], refl); pages = λ i lt. refl; frames = λ i le. refl };
 }
 
 -- words that are told otherwise
@@ -157,7 +161,7 @@ marks-other a met word none = record {
   same = λ h has_h. (h.marked, hand-same (view_of a) h has_h);
   bits = λ q b few. ap (λ (x : Bool). x || sets_cell (view_of a) q b) (sym (no_cell (view_of a).about.opening.classes q b word none));
   meets = λ q. ap (λ (x : Bool). x || has met q) (sym (no_superpage q word none));
-  reads = record { pages = λ i lt. refl; frames = λ i le. refl };
+  reads = record { grows = ([], refl); pages = λ i lt. refl; frames = λ i le. refl };
 }
   where
     no_cell : (cs : List ℕ) (q b : ℕ) (w : Word) → ((x : Address) → w ≡ Ref x → ⊥) → names_cell cs q b w ≡ false
@@ -190,6 +194,7 @@ marks-ref old new met more word h q n w bits found a seat slots has_h view is is
       ∙ sym (ap (λ (v : Word). names_cell (view_of old).about.opening.classes r b v || sets_cell (view_of old) r b) is);
   meets = λ r. ap (λ (l : List ℕ). has l r) inserted ∙ meets-inserted met q r lt ∙ ap (λ (j : ℕ). (j == r) || has met r) is_q ∙ sym (ap (λ (v : Word). names_in r v || has met r) is);
   reads = record {
+    grows = ((bookmark_at (view_of old).about w, found) ∷ [], ap (λ (v : View). v.read) view);
     pages = λ i lt_i. ap (λ (v : View). reads_of i v.read) view ∙ reads-else i (bookmark_at (view_of old).about w) found (view_of old).read (λ e. absurd (omega arith));
     frames = λ i le. ap (λ (v : View). reads_of i v.read) view ∙ reads-else i (bookmark_at (view_of old).about w) found (view_of old).read (λ e. absurd (omega arith));
   };
@@ -203,7 +208,7 @@ Marks-start a more f is none = record {
   same = λ h has_h. (h.marked, hand-same (view_of a) h has_h);
   bits = λ q b few. sym (ap (λ (x : Bool). x || sets_cell (view_of a) q b) (none (names_cell (view_of a).about.opening.classes q b)));
   meets = λ q. ap (λ (l : List ℕ). has l q) is ∙ has-zeros 64 q ∙ sym (ap (λ (x : Bool). x || has [] q) (none (names_in q)) ∙ has-beyond [] q (omega arith));
-  reads = record { pages = λ i lt. refl; frames = λ i le. refl };
+  reads = record { grows = ([], refl); pages = λ i lt. refl; frames = λ i le. refl };
 }
 
 -- each bit of the word that is set for a reference is that of its target

@@ -1,5 +1,5 @@
 -- A walk over a page in hand, from cell to cell, as over a page of a space that has the same content.
-use Rattle.std.proofs.Common.{◌≡◌, ℕ, ◌+◌, ◌*◌, ◌/◌, ◌%◌, ◌<◌, ◌≤◌, ◌||◌, Bool, true, false, List, [], length, set, slice_index, refl, ap, sym, subst, ◌∙◌, arith, get_or-set_same}
+use Rattle.std.proofs.Common.{◌≡◌, ℕ, ◌+◌, ◌*◌, ◌/◌, ◌<◌, ◌≤◌, ◌||◌, Bool, true, false, List, [], set, slice_index, ap, sym, subst, ◌∙◌, arith, get_or-set_same}
 use Rattle.std.proofs.lemmas.Grind.{common_steps}
 use Rattle.bc_bits.specs.Counting.{any_below}
 use Rattle.bc_bits.proofs.AnyLemmas.{any_below-zero, any_below-same}

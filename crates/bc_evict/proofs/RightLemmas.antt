@@ -82,6 +82,7 @@ has-given v w f n found is step =
       rights = rights;
       none = ap (times f) rights ∙ given-none (f / 64) (2 ^ (f % 64)) f v.rights (hits-own f);
       others = λ g ne. ap (times g) rights ∙ given-same (f / 64) (2 ^ (f % 64)) g v.rights (hits-other f g ne);
+      grows = ((frame_at v.about (f / 64), found) ∷ [], ap (λ (x : View). x.read) view);
       reads = λ i ne. ap (λ (x : View). reads_of i x.read) view ∙ reads-else i (frame_at v.about (f / 64)) found v.read (λ e. ne (sym e));
     }
 

@@ -1,5 +1,5 @@
 -- What the tests' lane, pager and space need.
-use Rattle.std.proofs.Common.{◌≡◌, ◌≢◌, ℕ, ◌+◌, ◌*◌, ◌/◌, ◌%◌, ◌<◌, ◌≤◌, ◌==◌, Bool, true, false, if◌then◌else◌, inl, inr, List, [], ◌∷◌, length, map, set, get_or, slice_index, Some, refl, ap, sym, subst, ◌∙◌, arith, get_or-set_same, get_or-set_other}
+use Rattle.std.proofs.Common.{◌≡◌, ◌≢◌, ℕ, ◌+◌, ◌*◌, ◌/◌, ◌<◌, ◌≤◌, true, false, inl, inr, List, [], ◌∷◌, length, map, set, get_or, slice_index, Some, refl, ap, sym, subst, ◌∙◌, arith, get_or-set_same, get_or-set_other}
 use Rattle.std.proofs.lemmas.Bool.{cases_eq, and_left}
 use Rattle.std.proofs.lemmas.List.{get_or_past}
 use Rattle.bc_bits.specs.Bits.{has}
@@ -15,7 +15,7 @@ use Rattle.bc_superpages.specs.Layout.{Layout, superpages, set_of, content_at, i
 use Rattle.bc_superpages.specs.LayoutAt.{IsAllocated, word_at}
 use Rattle.bc_superpages.specs.Calls.{fields_at}
 use Rattle.bc_superpages.specs.Kept.{IsLayout}
-use Rattle.bc_bookmarks.specs.Targets.{is_target, NamesNoNursery, HasCell}
+use Rattle.bc_bookmarks.specs.Targets.{is_target, HasCell}
 use Rattle.bc_bookmarks.proofs.SoundLemmas.{IsSound}
 use Rattle.bc_pins.specs.declared.views.Hand.{Hand}
 use Rattle.bc_pins.specs.declared.views.View.{View}
@@ -24,16 +24,16 @@ use Rattle.bc_pins.specs.declared.pins.Seat.{Seat}
 use Rattle.bc_pins.specs.declared.holding.Held.{Held}
 use Rattle.bc_pins.specs.declared.taking.Want.{Want}
 use Rattle.bc_pins.specs.declared.taking.Want.TheVariants.{Work}
-use Rattle.bc_pins.specs.Key.{Key, owner, pages_of, lane_role}
+use Rattle.bc_pins.specs.Key.{Key, owner, lane_role}
 use Rattle.bc_pins.specs.Totals.{times}
 use Rattle.bc_pins.specs.Contents.{IsContent, RefersYoung, IsYoung, field_bits, objects_in}
 use Rattle.bc_pins.specs.Views.{has_role}
 use Rattle.bc_pins.specs.Steps.{Takes}
 use Rattle.bc_pins.specs.Opening.{IsOpenable}
-use Rattle.bc_pins.specs.Calls.{key_of, view_of, IsAt, HoldsPage, Grasps, MayPut, tried}
+use Rattle.bc_pins.specs.Calls.{key_of, view_of, IsAt, Grasps, MayPut, tried}
 use Rattle.bc_pins.proofs.TallyLemmas.{target_in}
 use Rattle.bc_pins.proofs.TotalLemmas.{one_same, one_other}
-use Rattle.bc_pins.proofs.VisitLemmas.{may_put_taken, holds_taken, tried_about, tried_roles, takes_tried}
+use Rattle.bc_pins.proofs.VisitLemmas.{may_put_taken, tried_about, tried_roles, takes_tried}
 use Rattle.bc_evict.specs.Evicting.{MayBookmark, HasGiven}
 use Rattle.bc_evict.specs.Objects.{HeldHasObject}
 use Rattle.bc_evict.proofs.ContentLemmas.{word-target}

@@ -1,5 +1,5 @@
 -- What a seat may give up of the page in its hands, and what it has then.
-use Rattle.std.specs.Prelude.{◌≡◌, ◌≢◌, ℕ, ◌/◌, ◌%◌, ◌^◌, ◌<◌, ◌==◌, false, true, if◌then◌else◌, List, [], ◌∷◌, Some, None}
+use Rattle.std.specs.Prelude.{◌≡◌, ◌≢◌, ℕ, ◌/◌, ◌%◌, ◌^◌, ◌<◌, ◌==◌, false, true, if◌then◌else◌, List, [], ◌∷◌, ◌++◌, Some, None}
 use Rattle.bc_bookmarks.specs.Targets.{HasCell}
 use Rattle.bc_pins.specs.declared.views.Hand.{Hand}
 use Rattle.bc_pins.specs.declared.views.View.{View}
@@ -69,3 +69,4 @@ pub record HasGiven (v : View) (frame : ℕ) (w : View) : Type 0 where
   pub none : times frame w.rights ≡ 0
   pub others : (f : ℕ) → f ≢ frame → times f w.rights ≡ times f v.rights
   pub reads : (i : ℕ) → i ≢ frame_at v.about (frame / 64) → reads_of i w.read ≡ reads_of i v.read
+  pub grows : (later : List (ℕ × ℕ)) × (w.read ≡ later ++ v.read)

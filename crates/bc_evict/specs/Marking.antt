@@ -1,5 +1,5 @@
 -- What a seat has done once the targets of its page were bookmarked, and the superpages counted in which they lie.
-use Rattle.std.specs.Prelude.{◌≡◌, ℕ, ◌+◌, ◌*◌, ◌/◌, ◌%◌, ◌<◌, ◌≤◌, Bool, true, ◌||◌, nat_lt, if◌then◌else◌, ◌==◌, List, Some}
+use Rattle.std.specs.Prelude.{◌≡◌, ℕ, ◌+◌, ◌*◌, ◌/◌, ◌%◌, ◌<◌, ◌≤◌, Bool, true, ◌||◌, nat_lt, if◌then◌else◌, ◌==◌, List, ◌++◌, Some}
 use Rattle.bc_bits.specs.Bits.{has}
 use Rattle.bc_bits.specs.Counting.{one_if}
 use Rattle.bc_word.specs.declared.words.Word.{Word}
@@ -23,8 +23,9 @@ use Rattle.bc_evict.specs.Evicting.{IsAsTaken, reads_of}
 abbrev pub sets_cell : View → ℕ → ℕ → Bool
 sets_cell v q b = nat_lt 0 (sets_bit (16 * q + b / 64) (b % 64) v.bookmarked)
 
--- of pages and frames nothing more was read
+-- of pages and frames nothing more was read, and of what was read nothing is forgotten
 pub record ReadsNoPage (v w : View) : Type 0 where
+  pub grows : (later : List (ℕ × ℕ)) × (w.read ≡ later ++ v.read)
   pub pages : (i : ℕ) → i < pages_of v.about → reads_of i w.read ≡ reads_of i v.read
   pub frames : (i : ℕ) → frame_at v.about 0 ≤ i → reads_of i w.read ≡ reads_of i v.read
 

@@ -1,7 +1,5 @@
-use Rattle.std.proofs.Common.{rules, ◌≡◌, ◌<◌, ℕ, [], ◌∷◌, ◌++◌, List, map, slice_index, ap, sym, subst, ◌∙◌}
-use Rattle.bc_superpages.specs.Layout.{Layout}
+use Rattle.std.proofs.Common.{rules, ◌≡◌, [], ◌∷◌, ◌++◌, List, map, ap, sym, subst, ◌∙◌}
 use Rattle.bc_pins.specs.declared.key.Role.TheVariants.{Lane, Pager}
-use Rattle.bc_pins.specs.declared.views.View.{View}
 use Rattle.bc_pins.specs.declared.pins.Seat.{Seat}
 use Rattle.bc_pins.specs.Key.{role_number, lane_role}
 use Rattle.bc_pins.specs.Steps.{Mine}

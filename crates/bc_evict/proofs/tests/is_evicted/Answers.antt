@@ -1,5 +1,5 @@
 -- A page that was taken is bookmarked and given up.
-use Rattle.std.proofs.Common.{◌≡◌, ◌<◌, ℕ, List, [], ◌∷◌, ap, sym, subst, ◌∙◌}
+use Rattle.std.proofs.Common.{◌<◌, ℕ, ap, sym, subst, ◌∙◌}
 use Rattle.bc_pins.specs.declared.views.View.{View}
 use Rattle.bc_pins.specs.Key.{Key, pages_of}
 use Rattle.bc_pins.specs.Calls.{key_of, view_of}

@@ -1,5 +1,5 @@
 -- The first field of an object.
-use Rattle.std.proofs.Common.{◌≡◌, ℕ, ◌+◌, ◌<◌, List, length, set, slice_index, refl, ap, sym, subst, ◌∙◌, arith}
+use Rattle.std.proofs.Common.{◌≡◌, ℕ, ◌+◌, ◌<◌, slice_index, refl, ap, sym, subst, ◌∙◌, arith}
 use Rattle.bc_word.specs.declared.heads.Head.{Head}
 use Rattle.bc_word.specs.declared.words.Word.TheVariants.{Num}
 use Rattle.bc_word.specs.Words.{word_of_bits}
@@ -7,10 +7,8 @@ use Rattle.bc_word.specs.Heads.{fields_of_bits}
 use Rattle.bc_word.specs.HeadBits.{IsPackedHead}
 use Rattle.bc_word.specs.Addresses.{offset_of}
 use Rattle.bc_word.proofs.WordLemmas.{word_of_bits-word_bits}
-use Rattle.bc_superpages.specs.Layout.{Layout}
 use Rattle.bc_pins.specs.declared.holding.Held.{Held}
 use Rattle.bc_pins.specs.Contents.{IsContent, RefersYoung, NamesFixed}
-use Rattle.bc_evict.specs.Objects.{HeldHasObject}
 use Rattle.bc_evict.proofs.ContentLemmas.{head-packed, room, field-on}
 use Rattle.bc_evict.proofs.TestLemmas.{young-written}
 use Rattle.bc_evict.proofs.tests.write_first.Goals as goal
