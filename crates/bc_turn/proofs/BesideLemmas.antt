@@ -1,0 +1,147 @@
+-- Lanes that ran side by side are lanes that ran one after another.
+use Rattle.std.proofs.Common.{◌≡◌, ℕ, ◌+◌, ◌*◌, ◌<◌, ◌≤◌, List, [], ◌∷◌, length, map, get_or, take, drop, None, inl, inr, refl, ap, sym, subst, ◌∙◌, arith}
+use Prim.Native.Nat.{suc}
+use Rattle.std.proofs.lemmas.Bool.{cases_lt}
+use Rattle.std.specs.List.{AllByRecursion}
+use Rattle.bc_lane.specs.Doing.{DidAll}
+use Rattle.bc_lane.specs.Turns.{IsWhole}
+use Rattle.bc_lane.specs.declared.turns.LaneTurn.{LaneTurn}
+use Rattle.bc_model.specs.State.{State}
+use Rattle.bc_model.specs.declared.operations.Op.{Op}
+use Rattle.bc_model.specs.declared.operations.Reply.{Reply}
+use Rattle.bc_mutator.specs.Objects.{AreWhole}
+use Rattle.bc_mutator.specs.Operations.{IsOpOf}
+use Rattle.bc_pins.specs.Calls.{key_of, view_of}
+use Rattle.bc_pins.specs.Closing.{Closed}
+use Rattle.bc_pins.specs.Key.{lane_role, pages_of, role_number}
+use Rattle.bc_pins.specs.Opened.{Opened}
+use Rattle.bc_pins.specs.Totals.{times}
+use Rattle.bc_pins.specs.Views.{entries}
+use Rattle.bc_pins.specs.declared.key.Role.TheVariants.{Lane}
+use Rattle.bc_pins.specs.declared.key.Turn.TheVariants.{Lanes}
+use Rattle.bc_pins.specs.declared.pins.Pins.{Pins}
+use Rattle.bc_pins.specs.declared.pins.Seat.{Seat}
+use Rattle.bc_pins.specs.declared.views.View.{View}
+use Rattle.bc_reach.specs.Distinct.{Has}
+use Rattle.bc_superpages.specs.Kept.{IsLayout}
+use Rattle.bc_superpages.specs.Layout.{Layout}
+use Rattle.bc_turn.proofs.HeapLemmas.{laid-back}
+use Rattle.bc_turn.proofs.OpenableLemmas.{openable}
+use Rattle.bc_turn.proofs.StageLemmas.{Link, Stage, first, first-ran, linked, new-holders, new-lane, new-seat, nothing-did, nothing-more, stages}
+use Rattle.bc_turn.proofs.TableLemmas.{AreSeatsBack, IsTurnTable, lies-back}
+use Rattle.bc_turn.specs.Begun.{AllRan, AreBegun, AreBusyLanes, lane_ops, lane_replies}
+use Rattle.bc_turn.specs.Beside.{IsAtEndOr, IsLaidBack, LiesBack, RanBeside, StopsBeside}
+use Rattle.bc_turn.specs.Laying.{AreLaidBack}
+use Rattle.bc_whole_heap.specs.Heaps.{HeapView, end_of}
+use Rattle.bc_whole_heap.specs.LaneStates.{StandsAs}
+use Rattle.bc_whole_heap.specs.Running.{IsRunning}
+
+-- the roles of these lanes, by number
+roles-of : (busy : List ℕ) → map role_number (map (λ (l : ℕ). Lane l) busy) ≡ map lane_role busy
+roles-of [] = refl
+roles-of (x ∷ xs) = ap (λ (rs : List ℕ). lane_role x ∷ rs) (roles-of xs)
+
+-- a table that was opened for the lanes
+pub turn-table : (s : Layout) (hs busy : List ℕ) (pins : Pins) (seats : List Seat) → Opened s Lanes hs (map (λ (l : ℕ). Lane l) busy) pins seats → IsTurnTable (key_of pins) s hs busy
+turn-table s hs busy pins seats opened = record {
+  opening = opened.opening;
+  owners = opened.owners;
+  roles = opened.roles_are ∙ roles-of busy;
+  behind = opened.behind;
+}
+
+module _ (pins : Pins) (h : HeapView) (hs serials : List ℕ) (lanes : List (List Op)) (before : List (List Reply)) (busy : List ℕ) (old : ℕ → LaneTurn) (seat : ℕ → Seat) (new : ℕ → LaneTurn) (after : ℕ → Seat)
+    (begun : AreBegun pins h hs serials lanes before busy old seat) (ran : AllRan lanes busy old seat new after) (state : State) (stands : StandsAs h hs serials state)
+    (words : length h.roots.words ≡ h.roots.domains * h.roots.slots) (ops : (j : ℕ) → Has busy j → AllByRecursion (IsOpOf h.roots) (lane_ops lanes j))
+    (running : IsRunning h hs) (layout : IsLayout h.space) (whole : AreWhole h.chunks) (some : 0 < length busy)
+    (seats : List Seat) (table : IsTurnTable (key_of pins) h.space hs busy) (seats_long : length seats ≡ length busy) (seats_are : (i : ℕ) → i < length busy → (d : Seat) → get_or seats i d ≡ after i)
+    (k : HeapView) (nexts : List ℕ) (told : List (List Reply)) (closed : Closed (key_of pins) seats k.space) (given : IsLayout k.space)
+    (laid : AreLaidBack hs busy new (length busy) h serials before k nexts told) where
+  abbrev stage : (n : ℕ) → Stage h hs serials busy old seat new after n
+  stage n = stages pins h hs serials lanes before busy old seat new after begun ran state stands words ops k nexts told laid n
+
+  abbrev at : ℕ → HeapView
+  at n = (stage n).heap
+
+  abbrev count : ℕ
+  count = length lanes
+
+  link : (n : ℕ) → Link hs n (lane_ops lanes n) (get_or serials n 0) (lane_replies before n) (at n) (at (suc n)) (get_or nexts n 0) (lane_replies told n)
+  link n = linked pins h hs serials lanes before busy old seat new after begun ran state stands words ops k nexts told laid n
+
+  one-more : (n : ℕ) → suc n ≡ n + 1
+  one-more n = omega arith
+
+  done-all : (i : ℕ) → i < length busy → IsWhole (new i).part (view_of (after i)) None (end_of h.space) (at count)
+  done-all i lt = (stage count).done i lt (begun.busy_are.within i lt)
+
+  back : AreSeatsBack (key_of pins) hs busy (end_of h.space) (at count) new after seats
+  back = record {
+    long = seats_long;
+    same = seats_are;
+    about = λ i lt. (ran.each i lt).seat_is.about ∙ ap (λ (v : View). v.about) (begun.each i lt).view;
+    roles = λ i lt. (new-seat pins h hs serials lanes before busy old seat new after begun ran state stands words ops i lt).roles;
+    behind = λ i lt p far.
+        let reads = (first-ran pins h hs serials lanes before busy old seat new after begun ran state stands words ops i lt).reads in
+        let view = (begun.each i lt).view in
+        let none = reads.behind p (subst (λ (v : View). pages_of v.about ≤ p) (sym view) far) in
+        (none.0 ∙ ap (λ (v : View). entries p v.changed) view, none.1 ∙ ap (λ (v : View). times p v.recorded) view);
+    whole = done-all;
+  }
+
+  lies : LiesBack (at count).space k.space
+  lies =
+      lies-back (key_of pins) h (at count) hs busy new after seats k.space table back (stage count).passes closed given (done-all 0 some).ready.layout
+      (openable h hs layout whole running)
+
+  laid-all : IsLaidBack (at count) k
+  laid-all =
+      laid-back h (at count) k hs busy serials nexts before told new (λ i. view_of (after i)) (end_of h.space) running.closed words (stage count).long
+      (new-holders pins h hs serials lanes before busy old seat new after begun ran state stands words ops)
+      (new-lane pins h hs serials lanes before busy old seat new after begun ran state stands words ops)
+      done-all (stage count).passes laid lies
+
+  pub ran-beside : RanBeside hs lanes h serials before k nexts told
+  ran-beside = record {
+    at = at;
+    first = first pins h hs serials lanes before busy old seat new after begun ran state stands words ops k nexts told laid;
+    new = λ n. (link n).new;
+    told = λ n lt. (link n).told_are;
+    did = λ n lt.
+        subst (λ (q : ℕ). DidAll hs n (take (length (link n).new) (drop (length (lane_replies before n)) (lane_ops lanes n))) (link n).new (at n) (get_or serials n 0) (at q) (get_or nexts n 0))
+        (one-more n) (link n).did;
+    births = λ n lt. (link n).births;
+    stopped = λ n lt. subst (λ (q : ℕ). IsAtEndOr (lane_ops lanes n) (lane_replies told n) (λ op. StopsBeside hs n op (at q))) (one-more n) (link n).stopped;
+    back = laid-all;
+    long = (laid.births_long, laid.replies_long);
+  }
+
+-- no lane has operations left
+module _ (h : HeapView) (hs serials : List ℕ) (lanes : List (List Op)) (before : List (List Reply)) (busy : List ℕ) (are : AreBusyLanes lanes before busy) (none : length busy ≡ 0) (running : IsRunning h hs) where
+  all-done : (n : ℕ) → length (lane_ops lanes n) ≤ length (lane_replies before n)
+  all-done n = elim (cases_lt (length (lane_replies before n)) (length (lane_ops lanes n))) [
+    | inl lt ↦ let b = are.all n lt in let there = b.1 in absurd (omega arith)
+    | inr le ↦ le
+  ]
+
+  lies-still : IsLaidBack h h
+  lies-still = record {
+    pages = record { same = refl; remembered = λ p is. is; summarised = running.summarised };
+    roots = refl;
+    noted = running.closed.noted;
+    chunks = refl;
+    buffers = refl;
+  }
+
+  pub ran-none : RanBeside hs lanes h serials before h serials before
+  ran-none = record {
+    at = λ n. h;
+    first = refl;
+    new = λ n. [];
+    told = λ n lt. nothing-more (lane_replies before n);
+    did = λ n lt. nothing-did hs n (drop (length (lane_replies before n)) (lane_ops lanes n)) h (get_or serials n 0);
+    births = λ n lt. omega arith;
+    stopped = λ n lt. inl (all-done n);
+    back = lies-still;
+    long = (refl, refl);
+  }

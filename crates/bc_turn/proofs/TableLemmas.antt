@@ -1,0 +1,206 @@
+-- What a closed table gives back is what the lanes' operations made, one lane after another.
+use Rattle.std.proofs.Common.{◌≡◌, ℕ, ◌*◌, ◌/◌, ◌<◌, ◌≤◌, ◌==◌, List, [], ◌∷◌, length, map, get_or, None, inl, inr, refl, ap, sym, subst, ◌∙◌, arith}
+use Prim.Native.Nat.{zero, suc}
+use Rattle.std.proofs.lemmas.Bool.{cases_lt}
+use Rattle.std.proofs.lemmas.List.{ext_get_or, get_or-map, get_or_past, length-map}
+use Rattle.bc_bits.specs.Counting.{one_if}
+use Rattle.bc_lane.specs.Shown.{IsOwnPage, ShowsPage}
+use Rattle.bc_lane.specs.Turns.{IsWhole}
+use Rattle.bc_lane.specs.declared.turns.LaneTurn.{LaneTurn}
+use Rattle.bc_pins.specs.Calls.{view_of}
+use Rattle.bc_pins.specs.Closing.{Closed}
+use Rattle.bc_pins.specs.Key.{Key, lane_role, owner, pages_of}
+use Rattle.bc_pins.specs.Opening.{IsOpenable}
+use Rattle.bc_pins.specs.Totals.{times, total}
+use Rattle.bc_pins.specs.Views.{entries, has_role, opened_content, opened_state, opened_word, record_of, state_word}
+use Rattle.bc_pins.specs.declared.pins.Seat.{Seat}
+use Rattle.bc_pins.specs.declared.views.View.{View}
+use Rattle.bc_pins.proofs.JoinLemmas.{look_none}
+use Rattle.bc_pins.proofs.TotalLemmas.{one_other, one_same}
+use Rattle.bc_reach.specs.Distinct.{Has}
+use Rattle.bc_superpages.specs.declared.headers.PageState.{PageState}
+use Rattle.bc_superpages.specs.declared.headers.PageState.TheVariants.{Absent, Remembered}
+use Rattle.bc_superpages.specs.Kept.{IsLayout}
+use Rattle.bc_superpages.specs.Layout.{Layout, content_at, superpages}
+use Rattle.bc_superpages.specs.LayoutAt.{state_at}
+use Rattle.bc_turn.proofs.BusyLemmas.{find-index}
+use Rattle.bc_turn.proofs.PassLemmas.{IsOthersPage, Passes}
+use Rattle.bc_turn.specs.Beside.{LiesBack}
+use Rattle.bc_whole_heap.specs.Heaps.{HeapView, end_of}
+
+-- the table is over this space, for lanes who hold the domains so, and has a role for each of these lanes
+pub record IsTurnTable (k : Key) (s : Layout) (hs busy : List ℕ) : Type 0 where
+  pub opening : k.opening ≡ s
+  pub owners : k.owners ≡ map lane_role hs
+  pub roles : k.roles ≡ map lane_role busy
+  pub behind : (p : ℕ) → pages_of k ≤ p → state_at s.states p ≡ Absent
+
+-- the lanes' seats, when they are back, and what each lane has, which belongs to this heap
+pub record AreSeatsBack (k : Key) (hs busy : List ℕ) (end : ℕ) (m : HeapView) (turn : ℕ → LaneTurn) (seat : ℕ → Seat) (seats : List Seat) : Type 0 where
+  pub long : length seats ≡ length busy
+  pub same : (i : ℕ) → i < length busy → (d : Seat) → get_or seats i d ≡ seat i
+  pub about : (i : ℕ) → i < length busy → (view_of (seat i)).about ≡ k
+  pub roles : (i : ℕ) → i < length busy → (view_of (seat i)).roles ≡ lane_role (get_or busy i 0) ∷ []
+  pub behind : (i : ℕ) → i < length busy → (p : ℕ) → pages_of k ≤ p → (entries p (view_of (seat i)).changed ≡ 0) × (times p (view_of (seat i)).recorded ≡ 0)
+  pub whole : (i : ℕ) → i < length busy → IsWhole (turn i).part (view_of (seat i)) None end m
+
+absent-remembered : Absent ≡ Remembered → ⊥
+absent-remembered e = cc
+
+total-index : {A : Type 0} (f : A → ℕ) (xs : List A) (i : ℕ) (d : A) → i < length xs → f (get_or xs i d) ≤ total f xs
+total-index f [] i d lt = absurd (omega arith)
+total-index f (x ∷ xs) zero d lt = omega arith
+total-index f (x ∷ xs) (suc i) d lt = let rest = total-index f xs i d (omega arith) in omega arith
+
+-- a role that was given to none of the lanes
+pub no-role : (busy : List ℕ) (l : ℕ) → (Has busy l → ⊥) → times (lane_role l) (map lane_role busy) ≡ 0
+no-role [] l none = refl
+no-role (x ∷ xs) l none =
+    let here = one_other (lane_role x) (lane_role l) (λ e. none (inl (omega arith))) in
+    let rest = no-role xs l (λ has. none (inr has)) in
+    omega arith
+
+nobody-role : (busy : List ℕ) → times 0 (map lane_role busy) ≡ 0
+nobody-role [] = refl
+nobody-role (x ∷ xs) =
+    let here = one_other (lane_role x) 0 (λ e. absurd (omega arith)) in
+    let rest = nobody-role xs in
+    omega arith
+
+module _ (k : Key) (h m : HeapView) (hs busy : List ℕ) (turn : ℕ → LaneTurn) (seat : ℕ → Seat) (seats : List Seat) (t : Layout)
+    (table : IsTurnTable k h.space hs busy) (back : AreSeatsBack k hs busy (end_of h.space) m turn seat seats) (passes : Passes hs (Has busy) h m) (closed : Closed k seats t) where
+  abbrev view : ℕ → View
+  view i = view_of (seat i)
+
+  abbrev domain : ℕ → ℕ
+  domain p = get_or k.opening.domains (p / 4) 0
+
+  -- a page of one of the lanes, at the table
+  module _ (p i : ℕ) (lt : i < length busy) (within : domain p < length hs) (held : get_or hs (domain p) 0 ≡ get_or busy i 0) where
+    role-is : owner k p ≡ lane_role (get_or busy i 0)
+    role-is = ap (λ (l : List ℕ). get_or l (domain p) 0) table.owners ∙ get_or-map lane_role hs (domain p) 0 0 within ∙ ap lane_role held
+
+    has : 0 < has_role (view i) (owner k p)
+    has =
+        let one = one_same (lane_role (get_or busy i 0)) in
+        subst (λ (r : ℕ). 0 < has_role (view i) r) (sym role-is)
+        (subst (λ (rs : List ℕ). 0 < times (lane_role (get_or busy i 0)) rs) (sym (back.roles i lt)) (omega arith))
+
+    own : IsOwnPage (view i) p
+    own = subst (λ (a : Key). 0 < has_role (view i) (owner a p)) (sym (back.about i lt)) has
+
+    shown : ShowsPage (view i) m.space p
+    shown = (back.whole i lt).belongs.space.others p own (λ none. none)
+
+    mine-near : p < pages_of k → content_at t.pages p ≡ content_at m.space.pages p
+    mine-near near =
+        let in_seats : i < length seats = (let long = back.long in omega arith) in
+        closed.mine i in_seats (seat i) p near (subst (λ (s : Seat). 0 < has_role (view_of s) (owner k p)) (sym (back.same i lt (seat i))) has)
+        ∙ ap (λ (s : Seat). record_of (view_of s) p) (back.same i lt (seat i)) ∙ sym shown.content
+
+    mine-far : pages_of k ≤ p → p < 4 * superpages k.opening → content_at t.pages p ≡ content_at m.space.pages p
+    mine-far far inside =
+        (closed.behind p far inside).1
+        ∙ sym (shown.content ∙ look_none p (view i).changed (opened_content (view i).about p) (back.behind i lt p far).0 ∙ ap (λ (a : Key). opened_content a p) (back.about i lt))
+
+    mine-remembered : p < pages_of k → state_at m.space.states p ≡ Remembered → state_at t.states p ≡ Remembered
+    mine-remembered near is =
+        let some = shown.remembered is in
+        let same = ap (λ (a : Key). one_if (opened_word a p == 2)) (back.about i lt) in
+        let few = total-index (λ (s : Seat). times p (view_of s).recorded) seats i (seat i) (let long = back.long in omega arith) in
+        let here = ap (λ (s : Seat). times p (view_of s).recorded) (back.same i lt (seat i)) in
+        (closed.states_are p near).remembered (omega arith)
+
+    mine-behind : pages_of k ≤ p → state_at m.space.states p ≡ Remembered → ⊥
+    mine-behind far is =
+        let some = shown.remembered is in
+        let none = (back.behind i lt p far).1 in
+        let absent : opened_state k p ≡ Absent = ap (λ (s : Layout). state_at s.states p) table.opening ∙ table.behind p far in
+        let zero_is = ap (λ (st : PageState). one_if (state_word st == 2)) absent in
+        let same = ap (λ (a : Key). one_if (opened_word a p == 2)) (back.about i lt) in
+        omega arith
+
+  -- and one of nobody who was there
+  module _ (p : ℕ) (off : domain p < length hs → Has busy (get_or hs (domain p) 0) → ⊥) where
+    off-h : IsOthersPage h.space hs (Has busy) p
+    off-h = subst (λ (s : Layout). IsOthersPage s hs (Has busy) p) table.opening off
+
+    unowned : times (owner k p) k.roles ≡ 0
+    unowned = subst (λ (rs : List ℕ). times (owner k p) rs ≡ 0) (sym table.roles) (elim (cases_lt (domain p) (length hs)) [
+      | inl within ↦
+          subst (λ (r : ℕ). times r (map lane_role busy) ≡ 0) (sym (ap (λ (l : List ℕ). get_or l (domain p) 0) table.owners ∙ get_or-map lane_role hs (domain p) 0 0 within))
+          (no-role busy (get_or hs (domain p) 0) (off within))
+      | inr out ↦
+          subst (λ (r : ℕ). times r (map lane_role busy) ≡ 0)
+          (sym (ap (λ (l : List ℕ). get_or l (domain p) 0) table.owners ∙ get_or_past (map lane_role hs) (domain p) 0 (let long = length-map hs lane_role in omega arith)))
+          (nobody-role busy)
+    ])
+
+    opened-same : content_at m.space.pages p ≡ opened_content k p
+    opened-same = (passes.pages p off-h).0 ∙ ap (λ (s : Layout). content_at s.pages p) (sym table.opening)
+
+    opened-state : state_at m.space.states p ≡ opened_state k p
+    opened-state = (passes.pages p off-h).1 ∙ ap (λ (s : Layout). state_at s.states p) (sym table.opening)
+
+    left-content : p < 4 * superpages k.opening → content_at t.pages p ≡ content_at m.space.pages p
+    left-content inside = elim (cases_lt p (pages_of k)) [
+      | inl near ↦ closed.unowned p near unowned ∙ sym opened-same
+      | inr far ↦ (closed.behind p far inside).1 ∙ sym opened-same
+    ]
+
+    left-remembered : p < pages_of k → state_at m.space.states p ≡ Remembered → state_at t.states p ≡ Remembered
+    left-remembered near is =
+        let two = ap (λ (st : PageState). one_if (state_word st == 2)) (sym opened-state ∙ is) in
+        (closed.states_are p near).remembered (omega arith)
+
+    left-behind : pages_of k ≤ p → state_at m.space.states p ≡ Remembered → ⊥
+    left-behind far is = absent-remembered (sym (opened-state ∙ ap (λ (s : Layout). state_at s.states p) table.opening ∙ table.behind p far) ∙ is)
+
+  -- every page
+  content-same : (p : ℕ) → p < 4 * superpages k.opening → content_at t.pages p ≡ content_at m.space.pages p
+  content-same p inside = elim (cases_lt (domain p) (length hs)) [
+    | inl within ↦ elim (find-index busy (get_or hs (domain p) 0)) [
+      | inl r ↦ elim (cases_lt p (pages_of k)) [
+        | inl near ↦ mine-near p r.0 r.1 within (sym r.2) near
+        | inr far ↦ mine-far p r.0 r.1 within (sym r.2) far inside
+      ]
+      | inr none ↦ left-content p (λ w. none) inside
+    ]
+    | inr out ↦ left-content p (λ w. absurd (omega arith)) inside
+  ]
+
+  remembered-still : (p : ℕ) → state_at m.space.states p ≡ Remembered → state_at t.states p ≡ Remembered
+  remembered-still p is = elim (cases_lt p (pages_of k)) [
+    | inl near ↦ elim (cases_lt (domain p) (length hs)) [
+      | inl within ↦ elim (find-index busy (get_or hs (domain p) 0)) [
+        | inl r ↦ mine-remembered p r.0 r.1 within (sym r.2) near is
+        | inr none ↦ left-remembered p (λ w. none) near is
+      ]
+      | inr out ↦ left-remembered p (λ w. absurd (omega arith)) near is
+    ]
+    | inr far ↦ absurd (elim (cases_lt (domain p) (length hs)) [
+      | inl within ↦ elim (find-index busy (get_or hs (domain p) 0)) [
+        | inl r ↦ mine-behind p r.0 r.1 within (sym r.2) far is
+        | inr none ↦ left-behind p (λ w. none) far is
+      ]
+      | inr out ↦ left-behind p (λ w. absurd (omega arith)) far is
+    ])
+  ]
+
+  -- so the pages lie back
+  pub lies-back : IsLayout t → IsLayout m.space → IsOpenable h.space → LiesBack m.space t
+  lies-back layout made openable =
+      let supers : superpages t ≡ superpages k.opening = ap superpages closed.same in
+      let supers_m : superpages m.space ≡ superpages k.opening = ap superpages passes.space ∙ sym (ap superpages table.opening) in
+      let long_t = layout.pages_long in
+      let long_m = made.pages_long in
+      let pages : t.pages ≡ m.space.pages = ext_get_or [] t.pages m.space.pages (omega arith) (λ p lt. content-same p (omega arith)) in
+      record {
+        same =
+            closed.same
+            ∙ ap (λ (s : Layout). record s { states = t.states; pages = t.pages; bookmarks = t.bookmarks; incoming = t.incoming; free = t.free; reads = t.reads }) table.opening
+            ∙ ap (λ (ps : List (List ℕ)). record (h.space) { states = t.states; pages = ps; bookmarks = t.bookmarks; incoming = t.incoming; free = t.free; reads = t.reads }) pages
+            ∙ ap (λ (s : Layout). record s { states = t.states; free = t.free; bookmarks = t.bookmarks; incoming = t.incoming; reads = t.reads }) (sym passes.space);
+        remembered = remembered-still;
+        summarised = (closed.openable (subst IsOpenable (sym table.opening) openable)).summarised;
+      }

@@ -1,0 +1,320 @@
+-- A turn put together: what its steps tell makes the lanes' begin, their runs, and what they lay back.
+use Rattle.std.proofs.Common.{◌≡◌, ◌≢◌, ◌⊎◌, ℕ, ◌+◌, ◌-◌, ◌*◌, ◌^◌, ◌<◌, ◌≤◌, ◌==◌, true, false, List, [], ◌∷◌, length, map, get_or, None, Vec, vec_capacity, inl, inr, refl, ap, sym, subst, ◌∙◌, arith}
+use Prim.Native.Nat.{zero, suc}
+use Rattle.std.specs.declared.alloc.Global.{Global}
+use Rattle.std.specs.List.{AllByRecursion}
+use Rattle.std.proofs.Math.ListN as list
+use Rattle.std.proofs.lemmas.Bool.{cases_lt, eq-eqb, eqb-true}
+use Rattle.std.proofs.lemmas.List.{get_or-map, length-map}
+use Rattle.bc_lane.specs.declared.parts.LanePart.{LanePart}
+use Rattle.bc_lane.specs.declared.stops.Stop.{Stop}
+use Rattle.bc_lane.specs.declared.stops.Stop.TheVariants as stop
+use Rattle.bc_lane.specs.declared.turns.LaneTurn.{LaneTurn}
+use Rattle.bc_lane.specs.Turns.{AreStarts, LaneRan, SlotsOf}
+use Rattle.bc_model.specs.Rows.{lists_of}
+use Rattle.bc_model.specs.State.{State}
+use Rattle.bc_model.specs.declared.operations.Op.{Op}
+use Rattle.bc_model.specs.declared.operations.Reply.{Reply}
+use Rattle.bc_mutator.specs.Objects.{AreWhole, own_chunk}
+use Rattle.bc_mutator.specs.Operations.{IsOpOf}
+use Rattle.bc_pins.specs.Calls.{key_of, view_of}
+use Rattle.bc_pins.specs.Closing.{AreBack, Closed}
+use Rattle.bc_pins.specs.Opened.{Opened}
+use Rattle.bc_pins.specs.Seating.{IsDealt}
+use Rattle.bc_pins.specs.declared.key.Role.{Role}
+use Rattle.bc_pins.specs.declared.key.Role.TheVariants.{Lane}
+use Rattle.bc_pins.specs.declared.key.Turn.TheVariants.{Lanes}
+use Rattle.bc_pins.specs.declared.pins.Pins.{Pins}
+use Rattle.bc_pins.specs.declared.pins.Seat.{Seat}
+use Rattle.bc_reach.specs.Distinct.{Has}
+use Rattle.bc_reach.proofs.Pushed.{Has-get_or, place_of}
+use Rattle.bc_superpages.specs.Kept.{IsLayout}
+use Rattle.bc_superpages.specs.Layout.{Layout}
+use Rattle.bc_superpages.specs.RootWords.{RootWords}
+use Rattle.bc_turn.specs.declared.runs.Run.{Run}
+use Rattle.bc_turn.specs.Begun.{AllRan, AreBegun, AreBusyLanes, IsBegunLane, RanLane, lane_ops, lane_replies}
+use Rattle.bc_turn.specs.Beside.{RanBeside}
+use Rattle.bc_turn.specs.Laying.{AreLaidBack}
+use Rattle.bc_turn.specs.Taking.{AreAway, AreHeldDomains, AreRunsOf, AreTaken, CanRun, HasReplyRoom, HasRoomForLane, LaneHasRun, LiesRight, TakesAlong, running_lanes, seat_at, turn_at}
+use Rattle.bc_turn.proofs.BegunLemmas.{are-back, begun-lane, may-operate, ops-each}
+use Rattle.bc_turn.proofs.BesideLemmas.{ran-beside, turn-table}
+use Rattle.bc_turn.proofs.LayingLemmas.{laid-space}
+use Rattle.bc_turn.proofs.TableLemmas.{IsTurnTable}
+use Rattle.bc_whole_heap.specs.Closed.{buffer_of}
+use Rattle.bc_whole_heap.specs.Heaps.{HeapView, end_of}
+use Rattle.bc_whole_heap.specs.LaneStates.{StandsAs}
+use Rattle.bc_whole_heap.specs.Running.{IsRunning}
+use Rattle.bc_word.specs.WordBits.{IsPacked}
+
+-- a list has an element
+pub first-of : {X : Type 0} (xs : List X) → 0 < length xs → X
+first-of [] lt = absurd (omega arith)
+first-of (x ∷ xs) lt = x
+
+-- lists with the same numbers in the same places
+pub same-numbers : (xs ys : List ℕ) → length xs ≡ length ys → ((i : ℕ) → i < length xs → get_or xs i 0 ≡ get_or ys i 0) → xs ≡ ys
+same-numbers [] [] long each = refl
+same-numbers [] (y ∷ ys) long each = absurd (omega arith)
+same-numbers (x ∷ xs) [] long each = absurd (omega arith)
+same-numbers (x ∷ xs) (y ∷ ys) long each =
+    ap (λ (a : ℕ). a ∷ xs) (each 0 (omega arith)) ∙ ap (λ (t : List ℕ). y ∷ t) (same-numbers xs ys (omega arith) (λ i lt. each (suc i) (omega arith)))
+
+-- there are words for all slots of the lane's domains
+pub words-enough : (hs : List ℕ) (part : LanePart) (r : RootWords) → SlotsOf part r → part.holders.items ≡ hs → AreHeldDomains hs part.lane part.domains.items → AreStarts part.domains.items part.slots (length hs) part.starts.items
+    → length part.domains.items * part.slots ≤ length part.words.items
+words-enough hs part r shows holders domains starts = by-count (length part.domains.items) refl
+  where
+    at : (i : ℕ) → i < length part.domains.items → i * part.slots + part.slots ≤ length part.words.items
+    at i lt =
+        let d = get_or part.domains.items i 0 in
+        let within : d < length part.holders.items = subst (λ (xs : List ℕ). d < length xs) (sym holders) (domains.within i lt) in
+        let held : get_or part.holders.items d 0 ≡ part.lane = ap (λ (xs : List ℕ). get_or xs d 0) holders ∙ domains.held i lt in
+        let fits = shows.within d within held in
+        let start = starts.1 domains.rising i lt in
+        omega arith
+
+    by-count : (n : ℕ) → n ≡ length part.domains.items → n * part.slots ≤ length part.words.items
+    by-count zero e = omega arith
+    by-count (suc m) e =
+        let fits = at m (omega arith) in
+        let one : suc m * part.slots ≡ m * part.slots + part.slots = grind arith in
+        omega arith
+
+-- the place of a number from the end, counted from the end again
+back-place : (n i : ℕ) → i < n → n - (n - (i + 1) + 1) ≡ i
+back-place n i lt = omega arith
+
+-- a turn whose lanes have taken along what is their own, at a table that was opened for them. `s` is the space that stood in the
+-- heap's meanwhile
+pub record Setting (h : HeapView) (hs serials : List ℕ) (lanes : List (List Op)) (before : List (Vec Reply Global)) (busy : List ℕ) (s : Layout) (pins : Pins) (seats : List Seat) (k : HeapView) (after : List (Vec Reply Global)) (runs : List Run) : Type 0 where
+  pub running : IsRunning h hs
+  pub state : State
+  pub stands : StandsAs h hs serials state
+  pub layout : IsLayout h.space
+  pub whole : AreWhole h.chunks
+  pub domains : h.roots.domains ≤ 64
+  pub long : length h.roots.words ≡ h.roots.domains * h.roots.slots
+  pub sizes : length lanes ≡ length h.chunks
+  pub ops : AllByRecursion (AllByRecursion (IsOpOf h.roots)) lanes
+  pub births : (j : ℕ) → get_or serials j 0 + (length (lane_ops lanes j) - length (lane_replies (lists_of before) j)) < 2 ^ 32
+  pub busy_are : AreBusyLanes lanes (lists_of before) busy
+  pub opened : Opened h.space Lanes hs (map (λ (l : ℕ). Lane l) busy) pins seats
+  pub taken : AreTaken (record h { space = s }) hs serials lanes before busy seats k after runs
+
+module _ (h : HeapView) (hs serials : List ℕ) (lanes : List (List Op)) (before : List (Vec Reply Global)) (busy : List ℕ) (s : Layout) (pins : Pins) (seats : List Seat) (k : HeapView) (after : List (Vec Reply Global)) (runs : List Run)
+    (set : Setting h hs serials lanes before busy s pins seats k after runs) where
+  busy_are : AreBusyLanes lanes (lists_of before) busy
+  busy_are = set.busy_are
+
+  taken : AreTaken (record h { space = s }) hs serials lanes before busy seats k after runs
+  taken = set.taken
+
+  sizes : length lanes ≡ length h.chunks
+  sizes = set.sizes
+
+  table : IsTurnTable (key_of pins) h.space hs busy
+  table = turn-table h.space hs busy pins seats set.opened
+
+  dealt : (i : ℕ) → i < length busy → (d : Run) → IsDealt pins.table.shared.table_id (key_of pins) (Lane (get_or busy i 0)) (seat_at d runs i)
+  dealt i lt d =
+      let e = seat_at d runs i in
+      let count = length-map busy (λ (l : ℕ). Lane l) in
+      let there = set.opened.seats_are.each i (omega arith) e in
+      subst (IsDealt pins.table.shared.table_id (key_of pins) (Lane (get_or busy i 0))) (sym (taken.seats_are i lt d e))
+      (subst (λ (r : Role). IsDealt pins.table.shared.table_id (key_of pins) r (get_or seats i e)) (list.get_or-map (λ (l : ℕ). Lane l) busy i 0) there)
+
+  begun-at : (i : ℕ) → i < length busy → (d : Run) → IsBegunLane pins h hs serials lanes (lists_of before) (turn_at d runs i) (seat_at d runs i)
+  begun-at i lt d =
+      let t = taken.each i lt d in
+      let lane = get_or busy i 0 in
+      let within = busy_are.within i lt in
+      let many = set.stands.lanes in
+      let most = set.stands.consistent.lanes in
+      let long_lanes = sizes in
+      begun-lane pins h hs serials lanes (lists_of before) busy t.roots t.told (turn_at d runs i) (seat_at d runs i) lane seats set.layout set.long (may-operate h hs lane set.running set.layout set.domains set.whole (omega arith)) (set.state, set.stands) table set.opened.lanes
+      (dealt i lt d) (record { rising = t.domains.rising; all = t.domains.all; long = t.words.long; each = t.words.each; packed = t.words.packed }) t.told_are t.prepared within (omega arith) (set.births lane)
+
+  pub begun : (d : Run) → AreBegun pins h hs serials lanes (lists_of before) busy (turn_at d runs) (seat_at d runs)
+  begun d = record {
+    busy_are = busy_are;
+    each = λ i lt. begun-at i lt d;
+    lane_is = λ i lt. (taken.each i lt d).prepared.lane_is;
+  }
+
+  ops-at : (i : ℕ) → i < length busy → (d : Run) → AllByRecursion (IsOpOf h.roots) (lane_ops lanes (turn_at d runs i).part.lane)
+  ops-at i lt d = ops-each h.roots lanes (turn_at d runs i).part.lane (begun-at i lt d).within set.ops
+
+  pub can-run : (r : ℕ) → (d : Run) → r < length runs → CanRun pins lanes (get_or runs r d)
+  can-run r d lt =
+      let all = taken.long in
+      let i = length runs - (r + 1) in
+      let inside : i < length busy = omega arith in
+      let b = begun-at i inside d in
+      subst (λ (q : ℕ). CanRun pins lanes (get_or runs q d)) (back-place (length runs) r lt) (record { within = b.within; going = b.going; heap = h; whole = b.whole; ops = ops-at i inside d })
+
+  module _ (new : List Run) (ran : (i : ℕ) → (d : Run) → i < length runs → LaneHasRun lanes (get_or runs i d) (get_or new i d)) (new_long : length new ≡ length runs) where
+    has-run : (i : ℕ) → i < length busy → (d : Run) → LaneHasRun lanes (get_or runs (length runs - (i + 1)) d) (get_or new (length new - (i + 1)) d)
+    has-run i lt d =
+        let all = taken.long in
+        subst (λ (n : ℕ). LaneHasRun lanes (get_or runs (length runs - (i + 1)) d) (get_or new (n - (i + 1)) d)) (sym new_long) (ran (length runs - (i + 1)) d (omega arith))
+
+    causes : (i : ℕ) → (d : Run) → (why : Stop) × (i < length busy → RanLane (lane_ops lanes (get_or busy i 0)) (turn_at d runs i) (seat_at d runs i) (turn_at d new i) (seat_at d new i) why)
+    causes i d = elim (cases_lt i (length busy)) [
+      | inl lt ↦ (
+        (has-run i lt d).why,
+        λ _. subst (λ (l : ℕ). RanLane (lane_ops lanes l) (turn_at d runs i) (seat_at d runs i) (turn_at d new i) (seat_at d new i) (has-run i lt d).why) (taken.each i lt d).prepared.lane_is (has-run i lt d).ran,
+      )
+      | inr out ↦ (stop.End, λ lt. absurd (omega arith))
+    ]
+
+    pub all-ran : (d : Run) → AllRan lanes busy (turn_at d runs) (seat_at d runs) (turn_at d new) (seat_at d new)
+    all-ran d = record {
+      why = λ i. (causes i d).0;
+      each = λ i lt. (causes i d).1 lt;
+    }
+
+    lane-ran : (i : ℕ) → i < length busy → (d : Run)
+        → LaneRan (lane_ops lanes (turn_at d runs i).part.lane) (end_of h.space) (turn_at d runs i) (view_of (seat_at d runs i)) None (turn_at d new i) (view_of (seat_at d new i)) None
+    lane-ran i lt d = (has-run i lt d).ran.ran h (begun-at i lt d).whole
+
+    lane-is : (i : ℕ) → i < length busy → (d : Run) → (turn_at d new i).part.lane ≡ get_or busy i 0
+    lane-is i lt d = (lane-ran i lt d).same.lane ∙ (taken.each i lt d).prepared.lane_is
+
+    holders-are : (i : ℕ) → i < length busy → (d : Run) → (turn_at d new i).part.holders.items ≡ hs
+    holders-are i lt d = ap (λ (v : Vec ℕ Global). v.items) (lane-ran i lt d).same.holders ∙ (taken.each i lt d).prepared.holders_are
+
+    roots-same : k.roots ≡ h.roots
+    roots-same = ap (λ (v : HeapView). v.roots) taken.away.same
+
+    lies-right : (i : ℕ) → i < length busy → (d : Run) → LiesRight hs k.roots (turn_at d new i).part
+    lies-right i lt d =
+        let t = taken.each i lt d in
+        let r = lane-ran i lt d in
+        let part = (turn_at d new i).part in
+        let ds : part.domains.items ≡ t.roots.domains.items = ap (λ (v : Vec ℕ Global). v.items) (r.same.domains ∙ t.prepared.domains) in
+        let ss : part.starts.items ≡ (turn_at d runs i).part.starts.items = ap (λ (v : Vec ℕ Global). v.items) r.same.starts in
+        let slots : part.slots ≡ h.roots.slots = r.same.slots ∙ t.prepared.slots_are in
+        let held : AreHeldDomains hs part.lane part.domains.items = subst (λ (l : ℕ). AreHeldDomains hs l part.domains.items) (sym (lane-is i lt d)) (subst (AreHeldDomains hs (get_or busy i 0)) (sym ds) t.domains) in
+        let starts : AreStarts part.domains.items part.slots (length hs) part.starts.items =
+        subst (λ (xs : List ℕ). AreStarts xs part.slots (length hs) part.starts.items) (sym ds)
+        (subst (λ (n : ℕ). AreStarts t.roots.domains.items n (length hs) part.starts.items) (sym slots) (subst (AreStarts t.roots.domains.items h.roots.slots (length hs)) (sym ss) t.prepared.starts)) in
+        let done = r.done h (begun-at i lt d).whole (ops-at i lt d) in
+        let shows = done.1.belongs.roots in
+        let here : part.slots ≡ k.roots.slots = slots ∙ sym (ap (λ (x : RootWords). x.slots) roots-same) in
+        record {
+          domains = held;
+          starts = starts;
+          slots = here;
+          holders_long = set.running.closed.domains ∙ sym (ap (λ (x : RootWords). x.domains) roots-same);
+          long = subst (λ (x : RootWords). length x.words ≡ x.domains * x.slots) (sym roots-same) set.long;
+          enough = subst (λ (n : ℕ). length part.domains.items * n ≤ length part.words.items) here (words-enough hs part done.0.roots shows (holders-are i lt d) held starts);
+          packed = shows.packed;
+        }
+
+    pub runs-of : AreRunsOf hs busy k new
+    runs-of = record {
+      long = new_long ∙ taken.long;
+      rising = busy_are.rising;
+      within = λ i lt. (let w = busy_are.within i lt in let c = taken.away.chunks_long in let z = sizes in omega arith);
+      lane_is = lane-is;
+      holders_are = holders-are;
+      right = lies-right;
+    }
+
+    pub room-for : (i : ℕ) → (d : Run) → i < length new → HasRoomForLane lanes (get_or new i d).turn
+    room-for r d lt =
+        let all = taken.long in
+        let i = length new - (r + 1) in
+        let inside : i < length busy = omega arith in
+        let lane : (turn_at d new i).part.lane ≡ (turn_at d runs i).part.lane = (lane-ran i inside d).same.lane in
+        let capacity : vec_capacity (turn_at d new i).replies ≡ vec_capacity (turn_at d runs i).replies = (lane-ran i inside d).room in
+        subst (λ (q : ℕ). HasRoomForLane lanes (get_or new q d).turn) (back-place (length new) r lt)
+        (subst (λ (l : ℕ). length (lane_ops lanes l) ≤ vec_capacity (turn_at d new i).replies) (sym lane)
+        (subst (λ (c : ℕ). length (lane_ops lanes (turn_at d runs i).part.lane) ≤ c) (sym capacity) (taken.enough i inside d)))
+
+    same-lanes : (d : Run) → running_lanes new ≡ running_lanes runs
+    same-lanes d =
+        let a = length-map new (λ (r : Run). r.turn.part.lane) in
+        let b = length-map runs (λ (r : Run). r.turn.part.lane) in
+        let all = taken.long in
+        same-numbers (running_lanes new) (running_lanes runs) (omega arith)
+        (λ r lt.
+        let near : r < length new = omega arith in
+        let i = length new - (r + 1) in
+        let inside : i < length busy = omega arith in
+        let place : length new - (i + 1) ≡ r = back-place (length new) r near in
+        let old : length runs - (i + 1) ≡ r = omega arith in
+        get_or-map (λ (x : Run). x.turn.part.lane) new r d 0 near ∙ ap (λ (q : ℕ). (get_or new q d).turn.part.lane) (sym place) ∙ (lane-ran i inside d).same.lane
+        ∙ ap (λ (q : ℕ). (get_or runs q d).turn.part.lane) old ∙ sym (get_or-map (λ (x : Run). x.turn.part.lane) runs r d 0 (omega arith)))
+
+    pub reply-room : (d : Run) → HasReplyRoom lanes after (running_lanes new)
+    reply-room d = subst (HasReplyRoom lanes after) (sym (same-lanes d)) taken.room
+
+    -- what is laid back against the heap that was lent is so against the heap before
+    to-busy : (d : Run) (l : ℕ) → Has (running_lanes runs) l → Has busy l
+    to-busy d l has =
+        let p = place_of (running_lanes runs) l has in
+        let b = length-map runs (λ (r : Run). r.turn.part.lane) in
+        let all = taken.long in
+        let near : p.0 < length runs = omega (arith, p.1) in
+        let i = length runs - (p.0 + 1) in
+        let inside : i < length busy = omega arith in
+        let e : get_or busy i 0 ≡ l =
+        sym (taken.each i inside d).prepared.lane_is ∙ ap (λ (q : ℕ). (get_or runs q d).turn.part.lane) (back-place (length runs) p.0 near)
+        ∙ sym (get_or-map (λ (r : Run). r.turn.part.lane) runs p.0 d 0 near) ∙ p.2 in
+        subst (Has busy) e (Has-get_or busy i inside)
+
+    module _ (d : Run) (g : HeapView) (nexts : List ℕ) (told : List (List Reply)) (laid : AreLaidBack hs busy (turn_at d new) (length busy) k serials (lists_of after) g nexts told) where
+      pub home : AreLaidBack hs busy (turn_at d new) (length busy) h serials (lists_of before) g nexts told
+      home =
+          let here = subst (λ (v : HeapView). AreLaidBack hs busy (turn_at d new) (length busy) v serials (lists_of after) g nexts told) taken.away.same laid in
+          let away = taken.away in
+          record {
+            chunks_long = laid.chunks_long ∙ away.chunks_long;
+            buffers_long = laid.buffers_long ∙ away.buffers_long;
+            births_long = laid.births_long;
+            replies_long = laid.replies_long ∙ away.replies_long;
+            words_long = here.words_long;
+            roots = here.roots;
+            chunk = laid.chunk;
+            buffer = laid.buffer;
+            births = laid.births;
+            replies = laid.replies;
+            words = here.words;
+            chunk_else = λ l off. laid.chunk_else l off ∙ away.chunk l (λ has. off (to-busy d l has));
+            buffer_else = λ l off. laid.buffer_else l off ∙ away.buffer l (λ has. off (to-busy d l has));
+            births_else = laid.births_else;
+            replies_else = λ l off. laid.replies_else l off ∙ away.replies l (λ has. off (to-busy d l has));
+            words_else = here.words_else;
+            kept = here.kept;
+            written = here.written;
+          }
+
+      module _ (back : List Seat) (back_long : length back ≡ length new) (back_are : (i : ℕ) → (d : Run) → (e : Seat) → i < length new → get_or back i e ≡ seat_at d new i) (some : 0 < length busy) where
+        seats-are : (i : ℕ) → i < length busy → (e : Seat) → get_or back i e ≡ seat_at d new i
+        seats-are i lt e = let all = taken.long in back_are i d e (omega arith)
+
+        pub all-back : AreBack pins.table.shared.table_id (key_of pins) back
+        all-back =
+            are-back pins h hs serials lanes (lists_of before) busy (turn_at d runs) (seat_at d runs) (turn_at d new) (seat_at d new) (begun d) (all-ran d) back table (back_long ∙ new_long ∙ taken.long) seats-are some
+            (λ i lt. (seat_at d new i).tidy)
+
+        pub beside : (t : Layout) → Closed (key_of pins) back t → IsLayout t → RanBeside hs lanes h serials (lists_of before) (record g { space = t }) nexts told
+        beside t closed given =
+            ran-beside pins h hs serials lanes (lists_of before) busy (turn_at d runs) (seat_at d runs) (turn_at d new) (seat_at d new) (begun d) (all-ran d) set.state set.stands set.long
+            (λ j has. (let p = place_of busy j has in ops-each h.roots lanes j (subst (λ (l : ℕ). l < length lanes) p.2 (busy_are.within p.0 p.1)) set.ops))
+            set.running set.layout set.whole some back table (back_long ∙ new_long ∙ taken.long) seats-are (record g { space = t }) nexts told closed given
+            (laid-space hs busy (turn_at d new) (length busy) h serials (lists_of before) g nexts told t home)
+
+-- whether something is left
+pub none-left : (n : ℕ) → (n == 0) ≡ true → n ≡ 0
+none-left n e = eqb-true n 0 e
+
+pub some-left : (n : ℕ) → (n == 0) ≡ false → 0 < n
+some-left n e = elim (cases_lt 0 n) [
+  | inl lt ↦ lt
+  | inr le ↦ clash (sym (eq-eqb n 0 (omega arith)) ∙ e)
+]
+  where
+    clash : true ≡ false → 0 < n
+    clash q = cc

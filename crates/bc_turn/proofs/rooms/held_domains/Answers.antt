@@ -1,0 +1,25 @@
+use Rattle.std.proofs.Common.{rules, ◌≡◌, ℕ, ◌+◌, List, [], ◌∷◌, length, refl, ap, sym, subst, ◌∙◌, arith}
+use Rattle.bc_turn.specs.Taking.{AreHeldBelow}
+use Rattle.bc_turn.proofs.TakingLemmas.{held-none, held-more, held-same, length-push}
+use Rattle.bc_turn.proofs.rooms.held_domains.Goals as goal
+
+pub loop-domain-init : goal.loop-domain-init
+loop-domain-init c =
+    let none : c.new-domains.result.items ≡ [] = search rules in
+    record { few = (let z = ap length none in omega arith); held = subst (AreHeldBelow c.args.holders.now c.args.lane 0) (sym none) (held-none c.args.holders.now c.args.lane) }
+
+pub loop-domain-preserved-then-holders-domain : goal.loop-domain-preserved-then-holders-domain
+loop-domain-preserved-then-holders-domain c =
+    let few = c.loop-domain.invariant.few in
+    record { few = omega arith; held = held-same c.args.holders.now c.args.lane c.loop-domain.domain c.loop-domain.domains.items c.loop-domain.invariant.held c.if-holders-domain.true }
+
+pub loop-domain-preserved : goal.loop-domain-preserved
+loop-domain-preserved c =
+    let few = c.loop-domain.invariant.few in
+    let items = c.in_ok-push.ensures.items in
+    let more = ap length items in
+    let long = length-push c.loop-domain.domains.items c.loop-domain.domain in
+    record {
+      few = omega arith;
+      held = subst (AreHeldBelow c.args.holders.now c.args.lane (c.loop-domain.domain + 1)) (sym items) (held-more c.args.holders.now c.args.lane c.loop-domain.domain c.loop-domain.domains.items c.loop-domain.invariant.held c.if-holders-domain.false);
+    }

@@ -1,0 +1,52 @@
+use Rattle.std.proofs.Common.{◌≡◌, ℕ, ◌<◌, List, length, get_or, refl, ap, sym, subst, ◌∙◌, arith}
+use denote.Param.Send.{IsSync, sendable}
+use Rattle.std.proofs.Crossing.{crosses}
+use Rattle.std.specs.contracts.alloc.Global as global
+use Rattle.std.specs.contracts.impls.GlobalAllocator as allocator
+use Rattle.std.specs.contracts.vec.Vec as vec
+use Rattle.bc_model.specs.Rows.{lists_of}
+use Rattle.bc_model.specs.contracts.operations.Op as op
+use Rattle.bc_pins.proofs.SharedLemmas.{pins_sync}
+use Rattle.bc_turn.specs.declared.runs.Run.{Run}
+use Rattle.bc_turn.specs.Taking.{CanRun, LaneHasRun}
+use Rattle.bc_turn.proofs.TakingLemmas.{written-back}
+use Rattle.bc_turn.proofs.runs.run_all.Goals as goal
+
+-- threads may share the lists of operations
+op_sync : IsSync op.the_row
+op_sync = search sendable depth 20
+
+ops_sync : IsSync (vec.the_row op.the_row global.the_row allocator.TheImpl.ghosts)
+ops_sync = search (sendable, crosses, op_sync) depth 20
+
+pub for_each_mut-requires-sync-F : goal.for_each_mut-requires-sync-F
+for_each_mut-requires-sync-F g c κs within = search (sendable, pins_sync, ops_sync) depth 12
+
+pub for_each_mut-requires-clause-accepts : goal.for_each_mut-requires-clause-accepts
+for_each_mut-requires-clause-accepts g c κs within i p lt e =
+    let value = c.as_mut_slice.ensures.value in
+    let long = ap length value in
+    let at : p.now ≡ get_or c.args.runs.now.items i p.now = e ∙ ap (λ (xs : List Run). get_or xs i p.now) value in
+    subst (CanRun c.args.pins.now (lists_of c.args.lanes.now)) (sym at) (c.requires.can i p.now (omega arith))
+
+pub returns-clause-long : goal.returns-clause-long
+returns-clause-long g c =
+    let value = ap length c.as_mut_slice.ensures.value in
+    let same = c.for_each_mut.auto.s in
+    let len = c.args.runs.now.ok.0 in
+    ap length (written-back c.args.runs.now.items c.for_each_mut.new.s c.args.runs.now.len (omega arith) (omega arith)) ∙ same ∙ value
+
+pub returns-clause-ran : goal.returns-clause-ran
+returns-clause-ran g c i d lt =
+    let value = c.as_mut_slice.ensures.value in
+    let long = ap length value in
+    let same = c.for_each_mut.auto.s in
+    let len = c.args.runs.now.ok.0 in
+    let back = written-back c.args.runs.now.items c.for_each_mut.new.s c.args.runs.now.len (omega arith) (omega arith) in
+    let ran = (c.for_each_mut.ensures i d (omega arith)).1 in
+    let call : LaneHasRun (lists_of c.args.lanes.now) ran.argument.now ran.after_call.now = ran.call in
+    let first : ran.argument.now ≡ get_or c.args.runs.now.items i d = ran.argument_is ∙ ap (λ (xs : List Run). get_or xs i d) value in
+    let last : ran.after_call.now ≡ get_or c.for_each_mut.new.s i d = ran.left in
+    subst (λ (xs : List Run). LaneHasRun (lists_of c.args.lanes.now) (get_or c.args.runs.now.items i d) (get_or xs i d)) (sym back)
+    (subst (λ (r : Run). LaneHasRun (lists_of c.args.lanes.now) r (get_or c.for_each_mut.new.s i d)) first
+    (subst (λ (r : Run). LaneHasRun (lists_of c.args.lanes.now) ran.argument.now r) last call))

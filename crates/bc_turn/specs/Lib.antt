@@ -1,0 +1,8 @@
+-- Lanes that ran side by side
+pub mod Beside
+-- What a turn begins with: the lanes that have operations left, each with its seat
+pub mod Begun
+-- What the lanes took into the turn, laid back
+pub mod Laying
+-- What a lane takes into a turn, and what stands in its places meanwhile
+pub mod Taking

@@ -1,0 +1,188 @@
+-- What a lane takes into a turn out of the heap, and what stands in its places meanwhile.
+use Rattle.std.specs.Prelude.{◌≡◌, ◌≢◌, ◌⊎◌, ℕ, ◌+◌, ◌-◌, ◌*◌, ◌<◌, ◌≤◌, List, [], length, map, Vec, vec_capacity, None, slice_index, slice_index_or}
+use Rattle.std.specs.List.{AllByRecursion}
+use Rattle.std.specs.declared.alloc.Global.{Global}
+use Rattle.bc_lane.specs.declared.parts.LanePart.{LanePart}
+use Rattle.bc_lane.specs.declared.turns.LaneRoots.{LaneRoots}
+use Rattle.bc_lane.specs.declared.turns.LaneTurn.{LaneTurn}
+use Rattle.bc_lane.specs.declared.stops.Stop.{Stop}
+use Rattle.bc_lane.specs.Turns.{AreStarts, IsGoing, IsPreparedTurn, IsRoomOf, IsWhole}
+use Rattle.bc_model.specs.Rows.{lists_of}
+use Rattle.bc_model.specs.declared.operations.Op.{Op}
+use Rattle.bc_model.specs.declared.operations.Reply.{Reply}
+use Rattle.bc_mutator.specs.Objects.{own_chunk}
+use Rattle.bc_mutator.specs.Operations.{IsOpOf}
+use Rattle.bc_pins.specs.Calls.{view_of}
+use Rattle.bc_pins.specs.Seating.{IsDealt}
+use Rattle.bc_pins.specs.declared.key.Role.TheVariants.{Lane}
+use Rattle.bc_pins.specs.declared.pins.Pins.{Pins}
+use Rattle.bc_pins.specs.declared.pins.Seat.{Seat}
+use Rattle.bc_reach.specs.Distinct.{Has}
+use Rattle.bc_superpages.specs.RootSlots.{root_at}
+use Rattle.bc_superpages.specs.RootWords.{RootWords}
+use Rattle.bc_turn.specs.Begun.{RanLane, lane_ops, lane_replies}
+use Rattle.bc_turn.specs.declared.rooms.Spare.{Spare}
+use Rattle.bc_turn.specs.declared.runs.Run.{Run}
+use Rattle.bc_whole_heap.specs.Closed.{buffer_of}
+use Rattle.bc_whole_heap.specs.Heaps.{HeapView, end_of}
+use Rattle.bc_word.specs.WordBits.{IsPacked}
+
+-- the domains below this one that the lane holds, in ascending order
+pub record AreHeldBelow (holders : List ℕ) (lane end : ℕ) (domains : List ℕ) : Type 0 where
+  pub rising : (i j : ℕ) → i < j → j < length domains → slice_index domains i < slice_index domains j
+  pub within : (i : ℕ) → i < length domains → slice_index domains i < end
+  pub held : (i : ℕ) → i < length domains → slice_index holders (slice_index domains i) ≡ lane
+  pub all : (d : ℕ) → d < end → slice_index holders d ≡ lane → (i : ℕ) × (i < length domains) × (slice_index domains i ≡ d)
+
+-- the domains that the lane holds, in ascending order
+abbrev pub AreHeldDomains : List ℕ → ℕ → List ℕ → Type 0
+AreHeldDomains holders lane domains = AreHeldBelow holders lane (length holders) domains
+
+-- a word for each root slot of the first of these domains, in order of domain and slot
+pub record AreFirstWords (r : RootWords) (domains : List ℕ) (count : ℕ) (words : List ℕ) : Type 0 where
+  pub long : length words ≡ count * r.slots
+  pub each : (i t : ℕ) → i < count → t < r.slots → slice_index words (i * r.slots + t) ≡ root_at r (slice_index domains i) t
+  pub packed : (k : ℕ) → IsPacked (slice_index words k)
+
+-- of all of them
+abbrev pub AreWordsOf : RootWords → List ℕ → List ℕ → Type 0
+AreWordsOf r domains words = AreFirstWords r domains (length domains) words
+
+-- words to which those of a domain's first slots were appended
+pub record HasCopied (r : RootWords) (domain count : ℕ) (old new : List ℕ) : Type 0 where
+  pub long : length new ≡ length old + count
+  pub kept : (k : ℕ) → k < length old → slice_index new k ≡ slice_index old k
+  pub each : (t : ℕ) → t < count → slice_index new (length old + t) ≡ root_at r domain t
+  pub packed : ((k : ℕ) → IsPacked (slice_index old k)) → (k : ℕ) → IsPacked (slice_index new k)
+
+-- room for the turn of a lane: the domains that it holds, and room for a word for each of their slots
+pub record IsSpareOf (holders : List ℕ) (slots : ℕ) (spare : Spare) : Type 0 where
+  pub room : IsRoomOf holders spare.roots.domains.items slots spare.room
+  pub domains : AreHeldDomains holders spare.lane spare.roots.domains.items
+  pub words : spare.roots.words.items ≡ []
+  pub capacity : length spare.roots.domains.items * slots ≤ vec_capacity spare.roots.words
+
+-- the lanes of such rooms
+abbrev pub spare_lanes : List Spare → List ℕ
+spare_lanes spares = map (λ (spare : Spare). spare.lane) spares
+
+abbrev pub AreSparesOf : List ℕ → ℕ → List Spare → Type 0
+AreSparesOf holders slots spares = (i : ℕ) → i < length spares → (d : Spare) → IsSpareOf holders slots (slice_index_or spares i d)
+
+-- what a lane takes into a turn: the words of its domains' root slots, its chunk, its write buffer, its births and its replies
+pub record TakesAlong (h : HeapView) (holders serials : List ℕ) (lanes : List (List Op)) (before : List (List Reply)) (lane : ℕ) (turn : LaneTurn) : Type 0 where
+  pub roots : LaneRoots
+  pub domains : AreHeldDomains holders lane roots.domains.items
+  pub words : AreWordsOf h.roots roots.domains.items roots.words.items
+  pub told : Vec Reply Global
+  pub told_are : told.items ≡ lane_replies before lane
+  pub prepared : IsPreparedTurn lane holders h.roots.slots roots (own_chunk h lane) (buffer_of h.buffers lane) (slice_index serials lane) told (length (lane_ops lanes lane)) turn
+
+-- the lanes that run
+abbrev pub running_lanes : List Run → List ℕ
+running_lanes runs = map (λ (run : Run). run.turn.part.lane) runs
+
+-- the last runs first: what the lane of that number took into the turn, and its seat
+abbrev pub turn_at : Run → List Run → ℕ → LaneTurn
+turn_at d runs i = (slice_index_or runs (length runs - (i + 1)) d).turn
+
+abbrev pub seat_at : Run → List Run → ℕ → Seat
+seat_at d runs i = (slice_index_or runs (length runs - (i + 1)) d).seat
+
+-- there is room for all replies of each lane but these
+abbrev pub HasReplyRoom : List (List Op) → List (Vec Reply Global) → List ℕ → Type 0
+HasReplyRoom lanes replies away =
+    (j : ℕ) → (v : Vec Reply Global) → j < length replies → (Has away j → ⊥) → v ≡ slice_index_or replies j v → length (lane_ops lanes j) ≤ vec_capacity v
+
+-- the chunks, write buffers and replies of these lanes are out of their places, and nothing else has changed
+pub record AreAway (away : List ℕ) (h : HeapView) (before : List (List Reply)) (k : HeapView) (after : List (List Reply)) : Type 0 where
+  pub same : k ≡ record h { chunks = k.chunks; buffers = k.buffers }
+  pub chunks_long : length k.chunks ≡ length h.chunks
+  pub buffers_long : length k.buffers ≡ length h.buffers
+  pub replies_long : length after ≡ length before
+  pub chunk : (l : ℕ) → (Has away l → ⊥) → own_chunk k l ≡ own_chunk h l
+  pub buffer : (l : ℕ) → (Has away l → ⊥) → buffer_of k.buffers l ≡ buffer_of h.buffers l
+  pub replies : (l : ℕ) → (Has away l → ⊥) → lane_replies after l ≡ lane_replies before l
+
+-- as many lists as lanes
+pub record FitsLanes (lanes : ℕ) (h : HeapView) (serials replies : ℕ) : Type 0 where
+  pub chunks : length h.chunks ≡ lanes
+  pub buffers : length h.buffers ≡ lanes
+  pub births : serials ≡ lanes
+  pub told : replies ≡ lanes
+
+-- where the words of a lane's domains lie among those that it took into the turn, and that there are as many
+pub record LiesRight (holders : List ℕ) (r : RootWords) (part : LanePart) : Type 0 where
+  pub domains : AreHeldDomains holders part.lane part.domains.items
+  pub starts : AreStarts part.domains.items part.slots (length holders) part.starts.items
+  pub slots : part.slots ≡ r.slots
+  pub holders_long : length holders ≡ r.domains
+  pub long : length r.words ≡ r.domains * r.slots
+  pub enough : length part.domains.items * r.slots ≤ length part.words.items
+  pub packed : (k : ℕ) → IsPacked (slice_index part.words.items k)
+
+-- the words of a domain's first slots were written, from this place of the list on, and all other slots are as they were. A slot
+-- whose word changed is noted
+pub record LaysSlots (old : RootWords) (domain : ℕ) (words : List ℕ) (start count : ℕ) (new : RootWords) : Type 0 where
+  pub same : new ≡ record old { words = new.words; noted = new.noted }
+  pub long : length new.words ≡ length old.words
+  pub own : (t : ℕ) → t < count → root_at new domain t ≡ slice_index words (start + t)
+  pub others : (d t : ℕ) → t < old.slots → (d ≢ domain) ⊎ (count ≤ t) → root_at new d t ≡ root_at old d t
+  pub kept : (i : ℕ) → Has old.noted i → Has new.noted i
+  pub written : (i : ℕ) → (slice_index new.words i ≡ slice_index old.words i) ⊎ Has new.noted i
+
+-- so were those of the first of these domains
+pub record LaysDomains (old : RootWords) (domains words : List ℕ) (count : ℕ) (new : RootWords) : Type 0 where
+  pub same : new ≡ record old { words = new.words; noted = new.noted }
+  pub long : length new.words ≡ length old.words
+  pub own : (i t : ℕ) → i < count → t < old.slots → root_at new (slice_index domains i) t ≡ slice_index words (i * old.slots + t)
+  pub others : (d t : ℕ) → t < old.slots → ((i : ℕ) → i < count → slice_index domains i ≢ d) → root_at new d t ≡ root_at old d t
+  pub kept : (i : ℕ) → Has old.noted i → Has new.noted i
+  pub written : (i : ℕ) → (slice_index new.words i ≡ slice_index old.words i) ⊎ Has new.noted i
+
+-- a lane can run: it has operations, its seat is free, and there is a whole heap to which belongs what it has
+pub record CanRun (pins : Pins) (lanes : List (List Op)) (run : Run) : Type 0 where
+  pub within : run.turn.part.lane < length lanes
+  pub going : IsGoing pins (lane_ops lanes run.turn.part.lane) run.turn run.seat None
+  pub heap : HeapView
+  pub whole : IsWhole run.turn.part (view_of run.seat) None (end_of heap.space) heap
+  pub ops : AllByRecursion (IsOpOf heap.roots) (lane_ops lanes run.turn.part.lane)
+
+-- and it has run, and stopped for some cause
+pub record LaneHasRun (lanes : List (List Op)) (old new : Run) : Type 0 where
+  pub why : Stop
+  pub ran : RanLane (lane_ops lanes old.turn.part.lane) old.turn old.seat new.turn new.seat why
+
+-- there is room for all replies of the lane
+abbrev pub HasRoomForLane : List (List Op) → LaneTurn → Type 0
+HasRoomForLane lanes turn = length (lane_ops lanes turn.part.lane) ≤ vec_capacity turn.replies
+
+-- all busy lanes took along what is their own: their turns and seats stand in the list, the last first
+pub record AreTaken (h : HeapView) (holders serials : List ℕ) (lanes : List (List Op)) (before : List (Vec Reply Global)) (busy : List ℕ) (seats : List Seat) (k : HeapView) (after : List (Vec Reply Global)) (runs : List Run) : Type 0 where
+  pub long : length runs ≡ length busy
+  pub each : (i : ℕ) → i < length busy → (d : Run) → TakesAlong h holders serials lanes (lists_of before) (slice_index busy i) (turn_at d runs i)
+  pub seats_are : (i : ℕ) → i < length busy → (d : Run) → (e : Seat) → seat_at d runs i ≡ slice_index_or seats i e
+  pub enough : (i : ℕ) → i < length busy → (d : Run) → HasRoomForLane lanes (turn_at d runs i)
+  pub away : AreAway (running_lanes runs) h (lists_of before) k (lists_of after)
+  pub room : HasReplyRoom lanes after (running_lanes runs)
+
+-- what was taken into a turn may be laid back into these root slots
+pub record MayLay (r : RootWords) (domains words : List ℕ) : Type 0 where
+  pub rising : (i j : ℕ) → i < j → j < length domains → slice_index domains i < slice_index domains j
+  pub within : (i : ℕ) → i < length domains → slice_index domains i < r.domains
+  pub enough : length domains * r.slots ≤ length words
+  pub packed : (k : ℕ) → IsPacked (slice_index words k)
+
+-- the list has the turns of the busy lanes, the last first, and they may be laid back into the heap
+pub record AreRunsOf (holders busy : List ℕ) (h : HeapView) (runs : List Run) : Type 0 where
+  pub long : length runs ≡ length busy
+  pub rising : (i j : ℕ) → i < j → j < length busy → slice_index busy i < slice_index busy j
+  pub within : (i : ℕ) → i < length busy → slice_index busy i < length h.chunks
+  pub lane_is : (i : ℕ) → i < length busy → (d : Run) → (turn_at d runs i).part.lane ≡ slice_index busy i
+  pub holders_are : (i : ℕ) → i < length busy → (d : Run) → (turn_at d runs i).part.holders.items ≡ holders
+  pub right : (i : ℕ) → i < length busy → (d : Run) → LiesRight holders h.roots (turn_at d runs i).part
+
+-- there is room for all replies of every lane
+abbrev pub HasAllReplyRoom : List (List Op) → List (Vec Reply Global) → Type 0
+HasAllReplyRoom lanes replies =
+    (j : ℕ) → (v : Vec Reply Global) → j < length replies → v ≡ slice_index_or replies j v → length (lane_ops lanes j) ≤ vec_capacity v
