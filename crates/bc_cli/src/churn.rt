@@ -1,6 +1,7 @@
 //! The replay of a workload that is drawn: its replies are counted, and the counts are written at the end.
 
-ghost use Rattle.std.specs.Prelude.{◌≡◌, ◌≢◌, ◌+◌, ◌^◌, ◌<◌, ◌≤◌, None, Some, IfOk, IfSome, OnOk, length};
+ghost use Rattle.std.specs.Prelude.{◌≡◌, ◌≢◌, ◌+◌, ◌^◌, ◌<◌, ◌≤◌, None, Some, IfOk, IfSome, IsErr, OnOk, length};
+ghost use Rattle.bc_engine.specs.declared.engines.Ended.{Ended};
 ghost use Rattle.bc_io.specs.Faults.{Rose};
 ghost use Rattle.bc_io.specs.Told.{HasRoom};
 ghost use Rattle.bc_model.specs.Run.{replies_of};
@@ -95,7 +96,8 @@ where
     Ok(Churned { engine, text })
 }
 
-/// Runs the phases of a trace whose states all fit, and counts the replies.
+/// Runs the phases of a trace whose states all fit, and counts the replies. Where it answers no counts the engine has run out of memory
+/// itself.
 fn count_phases<R, G>(
     rt: &R,
     alloc: Global,
@@ -112,6 +114,7 @@ where
     requires opened { HasRun trace.now 0 engine.old }
     ensures run { OnOk result (HasRun trace.now (length trace.now.phases) engine.new) }
     ensures counted { IfOk result (λ counts. counts ≡ run_counts (replies_of trace.now)) }
+    ensures no_memory { IsErr result → engine.new.ended ≡ Some Ended.NoMemory }
     ensures workers { engine.new.workers ≡ engine.old.workers }
 {
     let mut counts = Counts::new();
@@ -121,7 +124,7 @@ where
     Ok(counts)
 }
 
-/// Runs the phase of this index, and counts its replies too.
+/// Runs the phase of this index, and counts its replies too. Where it doesn't, the engine has run out of memory itself.
 fn count_phase<R, G>(
     rt: &R,
     alloc: Global,
@@ -142,6 +145,7 @@ where
     requires counted { counts.old ≡ run_counts (replies_before trace.now index) }
     ensures run { OnOk result (HasRun trace.now (index + 1) engine.new) }
     ensures counted { OnOk result (counts.new ≡ run_counts (replies_before trace.now (index + 1))) }
+    ensures no_memory { IsErr result → engine.new.ended ≡ Some Ended.NoMemory }
     ensures workers { engine.new.workers ≡ engine.old.workers }
 {
     let end = run_phase(rt, alloc, engine, &trace.phases[index], gate)?;

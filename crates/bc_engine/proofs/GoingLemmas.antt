@@ -45,17 +45,17 @@ abbrev pub with_reply : List (List Reply) → ℕ → Reply → List (List Reply
 with_reply told lane reply = set told lane (of_lane told lane ++ reply ∷ [])
 
 -- a lane's own step among one, and another's
-own-one : {X : Type 0} (lane : ℕ) (x : X) → (if lane == lane then x ∷ [] else []) ≡ x ∷ []
+pub own-one : {X : Type 0} (lane : ℕ) (x : X) → (if lane == lane then x ∷ [] else []) ≡ x ∷ []
 own-one lane x = ap (λ (t : Bool). if t then x ∷ [] else []) (eq-eqb lane lane refl)
 
-other-one : {X : Type 0} (lane j : ℕ) (x : X) → j ≢ lane → (if lane == j then x ∷ [] else []) ≡ []
+pub other-one : {X : Type 0} (lane j : ℕ) (x : X) → j ≢ lane → (if lane == j then x ∷ [] else []) ≡ []
 other-one lane j x ne = go (lane == j) refl
   where
     go : (t : Bool) → (lane == j) ≡ t → (if t then x ∷ [] else []) ≡ []
     go true e = absurd (ne (sym (eqb-true lane j e)))
     go false e = refl
 
-ops-one : (lane j : ℕ) (op : Op) → ops_by j (record { lane = lane; op = op } ∷ []) ≡ (if lane == j then op ∷ [] else [])
+pub ops-one : (lane j : ℕ) (op : Op) → ops_by j (record { lane = lane; op = op } ∷ []) ≡ (if lane == j then op ∷ [] else [])
 ops-one lane j op = go (lane == j)
   where
     go : (t : Bool) → map (λ (x : LaneOp). x.op) (if t then record { lane = lane; op = op } ∷ [] else []) ≡ (if t then op ∷ [] else [])

@@ -16,6 +16,8 @@ pub mod EmptyingLemmas
 pub mod CutLemmas
 -- Stretches of a phase, as the code keeps its replies.
 pub mod RunLemmas
+-- Lanes that ran side by side
+pub mod BesideLemmas
 -- A turn
 pub mod TurnLemmas
 -- A round

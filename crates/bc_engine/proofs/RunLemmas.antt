@@ -7,6 +7,7 @@ use Rattle.std.specs.List.{AllByRecursion}
 use Rattle.bc_whole_heap.specs.Closed.{buffer_of}
 use Rattle.bc_whole_heap.specs.LaneChunks.{chunk_of}
 use Rattle.bc_running.specs.Running.{RunningView, RunningStands}
+use Rattle.bc_turn.specs.Taking.{HasAllReplyRoom}
 use Rattle.bc_superpages.specs.Layout.{Layout}
 use Rattle.bc_superpages.specs.RootWords.{RootWords}
 use Rattle.bc_model.specs.Rows.{lists_of}
@@ -77,10 +78,10 @@ births-step lanes lane op {r} {q} reply told within less does j =
     ]
 
 -- serials that were enough before are enough later
-serials-later : (lanes : List (List Op)) (serials next : List ℕ) (told answers : List (List Reply)) → BirthsWithin lanes serials told next answers → HasSerialsLeft lanes serials told → HasSerialsLeft lanes next answers
+pub serials-later : (lanes : List (List Op)) (serials next : List ℕ) (told answers : List (List Reply)) → BirthsWithin lanes serials told next answers → HasSerialsLeft lanes serials told → HasSerialsLeft lanes next answers
 serials-later lanes serials next told answers births fits j = omega (arith, births j, fits j)
 
-room-step : (lanes : List (List Op)) (vs : List (Vec Reply Global)) (lane : ℕ) (v w : Vec Reply Global) → lane < length vs → v ≡ get_or vs lane v → vec_capacity w ≡ vec_capacity v → ((j : ℕ) → (x : Vec Reply Global) → j < length vs → x ≡ get_or vs j x → length (of_lane lanes j) ≤ vec_capacity x) → (j : ℕ) (x : Vec Reply Global) → j < length (set vs lane w) → x ≡ get_or (set vs lane w) j x → length (of_lane lanes j) ≤ vec_capacity x
+room-step : (lanes : List (List Op)) (vs : List (Vec Reply Global)) (lane : ℕ) (v w : Vec Reply Global) → lane < length vs → v ≡ get_or vs lane v → vec_capacity w ≡ vec_capacity v → HasAllReplyRoom lanes vs → (j : ℕ) (x : Vec Reply Global) → j < length (set vs lane w) → x ≡ get_or (set vs lane w) j x → length (of_lane lanes j) ≤ vec_capacity x
 room-step lanes vs lane v w within is capacity room j x below there = elim (cases_eq j lane) [
   | inl e ↦
       let at : x ≡ w = there ∙ ap (λ (m : ℕ). get_or (set vs lane w) m x) e ∙ get_or-set_same vs lane w x within in
@@ -213,24 +214,6 @@ leaves-then first second = record {
   held = second.held ∙ first.held;
 }
 
--- the lanes that have run so far have stopped, and so has the next one
-pub stopped-more : (lanes : List (List Op)) {lane : ℕ} {s r q : RunningView} {begun told answers : List (Vec Reply Global)} → LanesRan lanes s begun r told → LanesRan lanes r told q answers → LeavesOthers lane r (lists_of told) q (lists_of answers) → ((j : ℕ) → j < lane → StoppedBetween lanes s begun r told j) → IsAtEndOr (of_lane lanes lane) (of_lane (lists_of answers) lane) (λ op. Stops lane op q) → (j : ℕ) → j < lane + 1 → StoppedBetween lanes s begun q answers j
-stopped-more lanes {lane} {s} {r} {q} {begun} {told} {answers} first runs leaves before here j lt = elim (cases_eq j lane) [
-  | inl e ↦
-      subst (λ (l : ℕ). StoppedBetween lanes s begun q answers l) (sym e)
-      (record { at = q; told = answers; first = runs-then first runs; later = runs-same lanes q q answers refl; same = refl; why = here })
-  | inr ne ↦
-      let stopped = before j (omega (arith, lt, ne)) in
-      record {
-        at = stopped.at;
-        told = stopped.told;
-        first = stopped.first;
-        later = runs-then stopped.later runs;
-        same = leaves.replies j ne ∙ stopped.same;
-        why = stopped.why;
-      }
-]
-
 -- cells stay from one stretch to the next
 pub cells-same : (r : RunningView) → LeavesCells r r
 cells-same r = record { space = refl; roots = refl }
@@ -242,3 +225,36 @@ cells-then {r} {q} {x} first second = record {
       ∙ ap (λ (s : Layout). record s { states = x.heap.space.states; pages = x.heap.space.pages; free = x.heap.space.free; bookmarks = x.heap.space.bookmarks; incoming = x.heap.space.incoming; reads = x.heap.space.reads }) first.space;
   roots = second.roots ∙ ap (λ (s : RootWords). record s { words = x.heap.roots.words; noted = x.heap.roots.noted }) first.roots;
 }
+
+-- the lanes that have run so far have stopped, and so has the next one
+pub stopped-more : (lanes : List (List Op)) {lane : ℕ} {s r q : RunningView} {begun told answers : List (Vec Reply Global)} → LanesRan lanes s begun r told → LanesRan lanes r told q answers → LeavesCells s r → LeavesCells r q → LeavesOthers lane r (lists_of told) q (lists_of answers) → ((j : ℕ) → j < lane → StoppedBetween Stops lanes s begun r told j) → IsAtEndOr (of_lane lanes lane) (of_lane (lists_of answers) lane) (λ op. Stops lane op q) → (j : ℕ) → j < lane + 1 → StoppedBetween Stops lanes s begun q answers j
+stopped-more lanes {lane} {s} {r} {q} {begun} {told} {answers} first runs cells more leaves before here j lt = elim (cases_eq j lane) [
+  | inl e ↦
+      subst (λ (l : ℕ). StoppedBetween Stops lanes s begun q answers l) (sym e)
+      (record {
+        at = q;
+        told = answers;
+        first = runs-then first runs;
+        later = runs-same lanes q q answers refl;
+        leaves = cells-then cells more;
+        keeps = cells-same q;
+        chunk = refl;
+        buffer = refl;
+        same = refl;
+        why = here;
+      })
+  | inr ne ↦
+      let stopped = before j (omega (arith, lt, ne)) in
+      record {
+        at = stopped.at;
+        told = stopped.told;
+        first = stopped.first;
+        later = runs-then stopped.later runs;
+        leaves = stopped.leaves;
+        keeps = cells-then stopped.keeps more;
+        chunk = leaves.chunk j ne ∙ stopped.chunk;
+        buffer = leaves.buffer j ne ∙ stopped.buffer;
+        same = leaves.replies j ne ∙ stopped.same;
+        why = stopped.why;
+      }
+]

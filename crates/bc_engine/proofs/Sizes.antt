@@ -1,5 +1,5 @@
 -- What an operation and an emptying leave as it was: the sizes of a heap, and which operations fit it.
-use Rattle.std.proofs.Common.{◌≡◌, ℕ, false, List, [], length, None, sym, ap, subst, ◌∙◌, inl, inr, arith}
+use Rattle.std.proofs.Common.{◌≡◌, ℕ, false, List, [], ◌∷◌, length, None, sym, ap, subst, ◌∙◌, inl, inr, arith}
 use Rattle.std.proofs.lemmas.Bool.{cases_eq}
 use Rattle.bc_bookmarks.specs.Moves.{MovesPages}
 use Rattle.bc_whole_heap.specs.Closed.{buffer_of}
@@ -21,6 +21,8 @@ use Rattle.bc_superpages.specs.Layout.{Layout, superpages}
 use Rattle.bc_superpages.specs.RootWords.{RootWords}
 use Rattle.bc_running.specs.Running.{RunningView}
 use Rattle.bc_running.specs.RunningFacts.{StaysBut}
+use Rattle.bc_running.proofs.BesideLemmas.{KeepsSizesOf}
+use Rattle.std.specs.List.{AllByRecursion}
 use Rattle.bc_engine.specs.EngineFacts.{HasSetup}
 
 -- an operation fits whatever has as many domains and slots
@@ -35,6 +37,15 @@ op-like s d w o domains slots h =
 pub op-of_heap : (setup : Setup) (h : HeapView) (o : Op) → HasSetup h setup → IsOp setup o → IsOpOf h.roots o
 unfolding made_up
 op-of_heap setup h o fits op = op-like setup h.roots.domains h.roots.slots o fits.domains fits.slots op
+
+-- so do operations of all lanes
+ops-of_heap : (setup : Setup) (h : HeapView) (ops : List Op) → HasSetup h setup → AllByRecursion (IsOp setup) ops → AllByRecursion (IsOpOf h.roots) ops
+ops-of_heap setup h [] fits all = tt
+ops-of_heap setup h (op ∷ ops) fits all = (op-of_heap setup h op fits all.0, ops-of_heap setup h ops fits all.1)
+
+pub lanes-of_heap : (setup : Setup) (h : HeapView) (lanes : List (List Op)) → HasSetup h setup → AllByRecursion (AllByRecursion (IsOp setup)) lanes → AllByRecursion (AllByRecursion (IsOpOf h.roots)) lanes
+lanes-of_heap setup h [] fits all = tt
+lanes-of_heap setup h (ops ∷ lanes) fits all = (ops-of_heap setup h ops fits all.0, lanes-of_heap setup h lanes fits all.1)
 
 pub op-of_state : (h : HeapView) (hs serials : List ℕ) (state : State) (o : Op) → StandsAs h hs serials state → IsOpOf h.roots o → IsOp (sizes_of state) o
 unfolding made_up
@@ -74,6 +85,20 @@ fits-moved setup moves fits = record {
   nursery = ap (λ (s : Layout). s.nursery) moves.same ∙ fits.nursery;
   frames = ap (λ (s : Layout). s.frames) moves.same ∙ fits.frames;
   used = subst (λ (s : Layout). HasDomainsBelow s setup.domains) (sym moves.same) fits.used;
+}
+
+-- nor does a turn of the lanes
+pub fits-beside : (setup : Setup) {h k : HeapView} → KeepsSizesOf h k → HasSetup h setup → HasSetup k setup
+fits-beside setup sizes fits = record {
+  supers = ap (λ (s : Layout). superpages s) sizes.space ∙ fits.supers;
+  domains = ap (λ (x : RootWords). x.domains) sizes.roots ∙ fits.domains;
+  slots = ap (λ (x : RootWords). x.slots) sizes.roots ∙ fits.slots;
+  lanes = sizes.chunks ∙ fits.lanes;
+  words = λ l lt. sizes.words l ∙ fits.words l lt;
+  entries = λ l lt. sizes.capacity l ∙ fits.entries l lt;
+  nursery = ap (λ (s : Layout). s.nursery) sizes.space ∙ fits.nursery;
+  frames = ap (λ (s : Layout). s.frames) sizes.space ∙ fits.frames;
+  used = subst (λ (s : Layout). HasDomainsBelow s setup.domains) (sym sizes.space) fits.used;
 }
 
 -- an empty chunk has no object, nor has a list of empty chunks

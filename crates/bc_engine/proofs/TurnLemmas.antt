@@ -1,5 +1,5 @@
 -- A turn: the lanes run, and then the notices of its line are served.
-use Rattle.std.proofs.Common.{Vec, Global, ◌≡◌, ℕ, ◌+◌, ◌%◌, ◌<◌, ◌≤◌, Bool, true, false, if◌then◌else◌, inl, inr, List, [], ◌∷◌, length, nat_lt, refl, sym, ap, subst, ◌∙◌, arith, tests}
+use Rattle.std.proofs.Common.{Vec, Global, ◌≡◌, ◌⊎◌, ℕ, ◌+◌, ◌%◌, ◌<◌, ◌≤◌, Bool, true, false, if◌then◌else◌, inl, inr, List, [], ◌∷◌, length, nat_lt, refl, sym, ap, subst, ◌∙◌, arith, tests}
 use Prim.Native.Nat.{suc}
 use Rattle.std.proofs.Math.Nat.{mod-eq_of_lt, mod-lt, mod_self, suc-mod, zero-mod}
 use Rattle.std.proofs.lemmas.Bool.{cases_lt}
@@ -15,19 +15,17 @@ use Rattle.bc_model.specs.declared.operations.Reply.{Reply}
 use Rattle.bc_running.specs.Running.{RunningView}
 use Rattle.bc_running.specs.RunningFacts.{with_space}
 use Rattle.bc_running.specs.Serving.{Served}
-use Rattle.bc_engine.specs.Lanes.{LanesRan, LeavesCells, StoppedBetween}
+use Rattle.bc_engine.specs.Lanes.{EachStopped, LanesRan, LeavesCells, StoppedBetween, Stops, StopsInTurn}
 use Rattle.bc_engine.specs.Turns.{RanTurn, hints_at, hints_of, line_behind}
 
 -- the lanes ran, and then notices were served
-pub turn-ran : (vs : List (Vec Op Global)) {r q x : RunningView} {told answers : List (Vec Reply Global)} {hints : List ℕ} → LanesRan (lists_of vs) r told q answers → LeavesCells r q → ((j : ℕ) → j < length vs → StoppedBetween (lists_of vs) r told q answers j) → Served q.heap.space hints x.heap.space → x ≡ with_space q x.heap.space → RanTurn (lists_of vs) r told hints x answers
-turn-ran vs {r} {q} {x} {told} {answers} {hints} ran leaves stopped served rest = record {
-  mid = q;
-  ran = ran;
-  leaves = leaves;
-  stopped = λ j lt. stopped j (omega (arith, lt, length-map vs (λ (v : Vec Op Global). v.items)));
-  served = served;
-  rest = rest;
-}
+pub turn-ran : {lanes : List (List Op)} {r q x : RunningView} {told answers : List (Vec Reply Global)} {hints : List ℕ} → LanesRan lanes r told q answers → LeavesCells r q → EachStopped StopsInTurn lanes r told q answers ⊎ EachStopped Stops lanes r told q answers → Served q.heap.space hints x.heap.space → x ≡ with_space q x.heap.space → RanTurn lanes r told hints x answers
+turn-ran {lanes} {r} {q} {x} {told} {answers} {hints} ran leaves stopped served rest =
+    record { mid = q; ran = ran; leaves = leaves; stopped = stopped; served = served; rest = rest }
+
+-- each of them stopped, counted as the code counts them
+pub each-stopped : (vs : List (Vec Op Global)) {r q : RunningView} {told answers : List (Vec Reply Global)} → ((j : ℕ) → j < length vs → StoppedBetween Stops (lists_of vs) r told q answers j) → EachStopped Stops (lists_of vs) r told q answers
+each-stopped vs stopped = λ j lt. stopped j (omega (arith, lt, length-map vs (λ (v : Vec Op Global). v.items)))
 
 -- the line of the turn of this number, where there are lines
 abbrev pub IsLineOf : List (List ℕ) → ℕ → ℕ → Type 0

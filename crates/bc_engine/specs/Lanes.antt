@@ -1,5 +1,5 @@
 -- What lanes do of a phase: one operation after another, those of each lane in its order.
-use Rattle.std.specs.Prelude.{◌≡◌, ◌≢◌, ℕ, ◌+◌, ◌-◌, ◌^◌, ◌<◌, ◌≤◌, ◌⊎◌, List, [], ◌∷◌, ◌++◌, length, take, Vec, vec_capacity, slice_index, slice_index_or}
+use Rattle.std.specs.Prelude.{◌≡◌, ◌≢◌, ℕ, ◌+◌, ◌-◌, ◌^◌, ◌<◌, ◌≤◌, ◌⊎◌, List, [], ◌∷◌, ◌++◌, length, take, Vec, slice_index, slice_index_or}
 use Rattle.std.specs.List.{AllByRecursion}
 use Rattle.std.specs.declared.alloc.Global.{Global}
 use Rattle.bc_bookmarks.specs.Moves.{NoPageGoes}
@@ -19,6 +19,9 @@ use Rattle.bc_engine.specs.Engines.{EngineView}
 use Rattle.bc_engine.specs.EngineFacts.{CanRunLanes}
 use Rattle.bc_running.specs.Running.{RunningView, RunningStands}
 use Rattle.bc_running.specs.Touching.{LooksAtGone}
+use Rattle.bc_turn.specs.Beside.{StopsBeside}
+pub use Rattle.bc_turn.specs.Beside.{IsAtEndOr}
+use Rattle.bc_turn.specs.Taking.{HasAllReplyRoom}
 
 -- the operations of a lane, or its replies
 abbrev pub of_lane : {X : Type 0} → List (List X) → ℕ → List X
@@ -64,7 +67,7 @@ pub record IsUnderway (setup : Setup) (lanes : List (List Op)) (r : RunningView)
   pub each : length lanes ≡ setup.lanes
   pub ops : AllByRecursion (AllByRecursion (IsOp setup)) lanes
   pub long : length replies ≡ setup.lanes
-  pub room : (j : ℕ) → (v : Vec Reply Global) → j < length replies → v ≡ slice_index_or replies j v → length (of_lane lanes j) ≤ vec_capacity v
+  pub room : HasAllReplyRoom lanes replies
   pub births : HasSerialsLeft lanes r.serials (lists_of replies)
 
 -- what each stretch of a phase does: the lanes go on, a phase that was under way still is, and no domain changes hands
@@ -78,19 +81,19 @@ pub record LanesRan (lanes : List (List Op)) (r : RunningView) (before : List (V
 abbrev pub IsOneMore : List Op → List Reply → List Reply → Type 0
 IsOneMore ops before after = (length before < length ops) × (length after ≡ length before + 1)
 
--- an operation of a lane can't be done yet: the object takes more words than are left of the chunk, or an entry is needed and
--- the write buffer is at capacity, or it looks at an object on a page that is Gone, no frame is free and no page can leave
+-- an operation of a lane can't be done yet where the lanes run one after another on a heap that is plain data: the object takes more
+-- words than are left of the chunk, or an entry is needed and the write buffer is at capacity, or it looks at an object on a page that
+-- is Gone, no frame is free and no page can leave
 abbrev pub Stops : ℕ → Op → RunningView → Type 0
 Stops lane op r =
     WantsMore r.holders lane (left_of (chunk_of r.heap.chunks lane)) op
     ⊎ (NeedsEntry r.holders lane r.heap.space r.heap.roots (chunk_of r.heap.chunks lane) (buffer_of r.heap.buffers lane) op
     ⊎ (LooksAtGone r.holders lane r.heap.space r.heap.roots op × NoPageGoes r.heap.space))
 
--- all of a lane's operations have replies, or this is true of the next one
-abbrev pub IsAtEndOr : List Op → List Reply → (Op → Type 0) → Type 0
-IsAtEndOr ops replies P =
-    (length ops ≤ length replies)
-    ⊎ ((op : Op) × (length replies < length ops) × (op ≡ slice_index_or ops (length replies) op) × P op)
+-- an operation of a lane can't be done yet where the lanes run side by side: the object takes more words than are left of the chunk, or
+-- an entry is needed and the write buffer is at capacity, or it looks at an object in a cell, whose page was gone or in another's hands
+abbrev pub StopsInTurn : ℕ → Op → RunningView → Type 0
+StopsInTurn lane op r = StopsBeside r.holders lane op r.heap
 
 -- what lanes leave as it is: of the space all but states and contents of pages, free frames, bookmarks, counters and reads, so no cell
 -- is freed or moved, and of the root slots all but what they hold
@@ -105,15 +108,24 @@ pub record LeavesCells (r q : RunningView) : Type 0 where
   }
   pub roots : q.heap.roots ≡ record r.heap.roots { words = q.heap.roots.words; noted = q.heap.roots.noted }
 
--- a lane stopped somewhere between these two: there it was at its end, or its next operation couldn't be done yet, and it did none
--- from there on
-pub record StoppedBetween (lanes : List (List Op)) (r : RunningView) (before : List (Vec Reply Global)) (q : RunningView) (after : List (Vec Reply Global)) (lane : ℕ) : Type 0 where
+-- a lane stopped somewhere between these two: there it was at its end, or its next operation couldn't be done yet for one of these
+-- causes, and it did none from there on. Up to there and from there on no cell was freed or moved, and from there on the lane's
+-- chunk and write buffer stayed as they were
+pub record StoppedBetween (Cause : ℕ → Op → RunningView → Type 0) (lanes : List (List Op)) (r : RunningView) (before : List (Vec Reply Global)) (q : RunningView) (after : List (Vec Reply Global)) (lane : ℕ) : Type 0 where
   pub at : RunningView
   pub told : List (Vec Reply Global)
   pub first : LanesRan lanes r before at told
   pub later : LanesRan lanes at told q after
+  pub leaves : LeavesCells r at
+  pub keeps : LeavesCells at q
+  pub chunk : chunk_of q.heap.chunks lane ≡ chunk_of at.heap.chunks lane
+  pub buffer : buffer_of q.heap.buffers lane ≡ buffer_of at.heap.buffers lane
   pub same : of_lane (lists_of after) lane ≡ of_lane (lists_of told) lane
-  pub why : IsAtEndOr (of_lane lanes lane) (of_lane (lists_of told) lane) (λ op. Stops lane op at)
+  pub why : IsAtEndOr (of_lane lanes lane) (of_lane (lists_of told) lane) (λ op. Cause lane op at)
+
+-- each lane stopped somewhere between these two, for one of these causes
+abbrev pub EachStopped : (ℕ → Op → RunningView → Type 0) → List (List Op) → RunningView → List (Vec Reply Global) → RunningView → List (Vec Reply Global) → Type 0
+EachStopped Cause lanes r before q after = (j : ℕ) → j < length lanes → StoppedBetween Cause lanes r before q after j
 
 -- what isn't the lane's stays: the chunks, write buffers and replies of others, and who holds which domain
 pub record LeavesOthers (lane : ℕ) (r : RunningView) (before : List (List Reply)) (q : RunningView) (after : List (List Reply)) : Type 0 where

@@ -58,7 +58,7 @@ pub(crate) fn run_lanes(running: &mut Running, lanes: &[Vec<Op>], replies: &mut 
     ensures runs { LanesRan (lists_of lanes.now) running.old replies.old running.new replies.new }
     ensures leaves { LeavesCells running.old running.new }
     ensures stopped { (j : ℕ) → j < length lanes.now
-        → StoppedBetween (lists_of lanes.now) running.old replies.old running.new replies.new j }
+        → StoppedBetween Stops (lists_of lanes.now) running.old replies.old running.new replies.new j }
 {
     for lane in 0..lanes.len() as u32 {
         run_lane(running, lanes, replies, lane);

@@ -5,10 +5,14 @@
 // number of workers that it was opened with and, once it has ended, how: what it stands for needs more superpages than there
 // are, or memory ran out. An engine that has ended replays no other phase.
 //
-// A phase (`phases`) begins by taking room for the replies to all its operations, so that none of them takes memory. Then
-// it goes in rounds (`rounds`). A round begins with a turn of the lanes (`turns`): each does operations (`lanes`) until it
-// is at its end or one stops, since the lane's chunk or its write buffer is full, or since it looks at an object on a page
-// that has left memory, no frame is free and no other page can leave for it. An operation that stops has at most moved pages.
+// A phase (`phases`) begins by taking room for the replies to all its operations. Then it goes in rounds (`rounds`). A round
+// begins with a turn of the lanes (`turns`): each does operations until it is at its end or one stops. The lanes run side by
+// side, each on a thread of its own, over a table of the heap's pages (`bc_turn`). A lane stops where its chunk or its write
+// buffer is full, and where it looks at an object in a cell whose page is gone or in another's hands. What the lanes do so is
+// what they do one after another (`RanBeside`), so a turn is a stretch of the phase like any other. Where little is left to do,
+// or where there is no memory for a table, they do run one after another (`lanes`): then a page that is gone comes back, and
+// a lane stops for it only where no frame is free and no other page can leave. So a turn takes memory and is never refused
+// for want of it. An operation that stops has at most moved pages.
 // Then a page is given up for each hint of the turn's line, and the heap is settled. The lines of a phase are used in
 // order, one for each turn, and from the first one again when they are used up. So the heap gets by with the frames that
 // the setup gives it, and no reply tells which pages were away.

@@ -37,8 +37,8 @@ impl Engine {
     /// operations in the phase together are fewer than 2^32.
     ///
     /// It answers `OutOfHeap` where an emptying of the nurseries finds that the heap is too small, with the replies up to there,
-    /// and `NoMemory` where there is no memory for all replies, before anything is done: what comes then takes none. Both end the
-    /// engine. One that ended for want of heap answers the same need again with no replies, and changes nothing; one that ended for
+    /// and `NoMemory` where there is no memory for all replies, before anything is done: what comes then can't be refused for want of
+    /// memory. Both end the engine. One that ended for want of heap answers the same need again with no replies, and changes nothing; one that ended for
     /// want of memory answers that alone. After each turn of the lanes pages are given up for the hints of the turn's line, which no
     /// reply tells: the n-th turn has the n-th line, and behind the last line comes the first one again.
     pub fn phase<R, G>(
@@ -86,7 +86,7 @@ impl Engine {
         }
     }
 
-    /// Does a phase on an engine that hasn't ended, with room for the reply to each operation. It takes no memory.
+    /// Does a phase on an engine that hasn't ended, with room for the reply to each operation. It can't be refused for want of memory.
     fn replay<R, G>(
         &mut self,
         rt: &R,

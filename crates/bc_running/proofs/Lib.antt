@@ -12,3 +12,7 @@ pub mod OpeningLemmas
 pub mod BringLemmas
 -- What an operation does after the page that it touches came home
 pub mod MovingLemmas
+-- A list of which the first elements are those of another one.
+pub mod FirstLists
+-- Lanes that ran side by side
+pub mod BesideLemmas

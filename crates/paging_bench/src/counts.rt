@@ -6,6 +6,7 @@ use anyhow::Result;
 use bc_model::Phase;
 use bc_superpages::{PageState, Space};
 use heap_workshop::{pages_gone, superpages_in_use};
+use std::time::Duration;
 
 /// How many operations a phase has.
 pub(crate) fn operations(phase: &Phase) -> usize {
@@ -22,6 +23,18 @@ pub(crate) fn print_standing<R: Print>(rt: &R, space: &Space, all_frames: u32) -
     let superpages = superpages_in_use(space);
     let gone = pages_gone(space);
     print!(rt; " frames={frames} superpages={superpages} gone={gone}")?;
+    Ok(())
+}
+
+/// Prints how long a phase took, where that was asked for.
+pub(crate) fn print_time<R: Print>(rt: &R, clock: bool, taken: Duration) -> Result<()> {
+    if clock {
+        let nanoseconds = taken
+            .as_secs()
+            .saturating_mul(1_000_000_000)
+            .saturating_add(u64::from(taken.subsec_nanos()));
+        print!(rt; " nanoseconds={nanoseconds}")?;
+    }
     Ok(())
 }
 

@@ -21,10 +21,13 @@
 //     touch-all    an ordinary full collector in place of the bookmark collection: where the survivors find no cell, the fail-safe
 //     steps        a line beside for each emptying: its kind, and how many pages are home, gone and absent behind it
 //     timed        the engine itself does the phases, and nothing is counted but operations, reads and how things stand
+//     plain        the same, but lanes run one after another on the heap itself in each turn, and not side by side over a table
+//     clock        a phase's line tells how many `nanoseconds` it took, with `timed` or `plain`: neither reading nor printing is in it
 //
 // Without `timed` the phases are played by the calls of a running heap, in the rounds of the engine (`playing`), since an engine doesn't
 // tell what it did. What kind an emptying was is told from outside (`kinds`), and not by reads. Where the modules are: `players`
-// has the heap with its calls, `rooms` the survivors and the room for them, `counts` what is counted, `timed` the engine's way.
+// has the heap with its calls, `rooms` the survivors and the room for them, `counts` what is counted, `timed` the engine's way, `plain`
+// that of lanes one after another.
 //
 // It promises nothing: what is proved is that every condition of the calls is met.
 #![tactic(auto)]
@@ -33,6 +36,7 @@ ghost use Rattle.bc_model.specs.WellFormed.{IsTrace};
 
 mod counts;
 mod kinds;
+mod plain;
 mod players;
 mod playing;
 mod rooms;
@@ -43,6 +47,7 @@ use bc_io::{StdSource, read_all};
 use bc_model::Trace;
 use bc_trace::read;
 use std::env;
+use std::rt::Clock;
 use std::thread::Threads;
 
 /// The most bytes that a trace may have.
@@ -54,6 +59,8 @@ struct Asked {
     touch_all: bool,
     steps: bool,
     timed: bool,
+    plain: bool,
+    clock: bool,
 }
 
 /// What the words ask for.
@@ -62,13 +69,17 @@ fn words_of(rt: &HostRuntime) -> Result<Asked> {
         touch_all: false,
         steps: false,
         timed: false,
+        plain: false,
+        clock: false,
     };
     for word in env::args(rt)?.skip(1) {
         match word.as_str() {
             "touch-all" => asked.touch_all = true,
             "steps" => asked.steps = true,
             "timed" => asked.timed = true,
-            _ => bail!("the words are touch-all, steps and timed"),
+            "plain" => asked.plain = true,
+            "clock" => asked.clock = true,
+            _ => bail!("the words are touch-all, steps, timed, plain and clock"),
         }
     }
     Ok(asked)
@@ -77,11 +88,13 @@ fn words_of(rt: &HostRuntime) -> Result<Asked> {
 /// Replays a trace as it was asked for.
 fn replay<R>(rt: &R, trace: &Trace, asked: Asked) -> Result<()>
 where
-    R: AllocGlobal + Print + Threads + Sync,
+    R: AllocGlobal + Clock + Print + Threads + Sync,
     requires { IsTrace trace.now }
 {
     if asked.timed {
-        timed::replay(rt, trace)
+        timed::replay(rt, trace, asked.clock)
+    } else if asked.plain {
+        plain::replay(rt, trace, asked.clock)
     } else {
         playing::replay(rt, trace, asked.touch_all, asked.steps)
     }

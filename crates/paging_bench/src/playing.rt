@@ -250,7 +250,7 @@ impl Play {
 }
 
 /// The number of the line behind one of so many, and of the first line behind the last.
-fn behind(line: usize, lines: usize) -> usize {
+pub(crate) fn behind(line: usize, lines: usize) -> usize {
     if line < lines && line + 1 < lines {
         line + 1
     } else {

@@ -9,12 +9,14 @@ ghost use Rattle.bc_engine.specs.Lanes.{HasRoomForOps, of_lane};
 ghost use Rattle.bc_model.specs.Rows.{lists_of};
 ghost use Rattle.bc_model.specs.WellFormed.{IsPhase, IsTrace};
 
-use crate::counts::{operations, print_need, print_standing};
+use crate::counts::{operations, print_need, print_standing, print_time};
 use anyhow::{Result, bail};
 use bc_engine::{Engine, PhaseNo};
 use bc_gates::OpenGate;
 use bc_model::{Op, Phase, Setup, Trace};
+use std::rt::Clock;
 use std::thread::Threads;
+use std::time::Instant;
 
 /// The most operations that some lane has.
 fn longest(lanes: &[Vec<Op>]) -> usize
@@ -36,9 +38,10 @@ fn replay_phase<R>(
     setup: &Setup,
     number: usize,
     phase: &Phase,
+    clock: bool,
 ) -> Result<bool>
 where
-    R: AllocGlobal + Print + Threads + Sync,
+    R: AllocGlobal + Clock + Print + Threads + Sync,
     requires going { engine.old.ended ≡ None }
     requires phase { IsPhase engine.old.setup phase.now }
     requires births { HasRoomForOps engine.old phase.now.lanes 0 }
@@ -48,6 +51,7 @@ where
 {
     let before = engine.heap().space.reads();
     let count = operations(phase);
+    let start = Instant::now(rt)?;
     let need = match engine.phase(rt, rt.alloc(), phase, &OpenGate) {
         Ok(_replies) => None,
         Err(
@@ -58,18 +62,20 @@ where
         ) => Some(need),
         Err(PhaseNo::NoMemory) => bail!("out of memory"),
     };
+    let taken = start.elapsed(rt)?;
     let space = &engine.heap().space;
     let reads = space.reads().saturating_sub(before);
     print!(rt; "phase={number} operations={count} reads={reads}")?;
     print_standing(rt, space, setup.frames)?;
+    print_time(rt, clock, taken)?;
     print_need(rt, need)?;
     Ok(need.is_none())
 }
 
 /// Replays a trace on a new heap. `left` is how many births each lane has left at least.
-pub(crate) fn replay<R>(rt: &R, trace: &Trace) -> Result<()>
+pub(crate) fn replay<R>(rt: &R, trace: &Trace, clock: bool) -> Result<()>
 where
-    R: AllocGlobal + Print + Threads + Sync,
+    R: AllocGlobal + Clock + Print + Threads + Sync,
     requires { IsTrace trace.now }
 {
     let mut engine = Engine::open(rt.alloc(), &trace.setup, 1)?;
@@ -81,7 +87,7 @@ where
             bail!("a lane has too many operations");
         }
         left -= births;
-        if !replay_phase(rt, &mut engine, &trace.setup, index + 1, phase)? {
+        if !replay_phase(rt, &mut engine, &trace.setup, index + 1, phase, clock)? {
             return Ok(());
         }
     }

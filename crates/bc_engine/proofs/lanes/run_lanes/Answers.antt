@@ -14,5 +14,5 @@ pub loop-lane-preserved : goal.loop-lane-preserved
 loop-lane-preserved c = record {
   runs = runs-then c.loop-lane.invariant.runs c.run_lane.ensures.runs;
   leaves = cells-then c.loop-lane.invariant.leaves c.run_lane.ensures.leaves;
-  stopped = stopped-more (lists_of c.args.lanes.now) c.loop-lane.invariant.runs c.run_lane.ensures.runs c.run_lane.ensures.others c.loop-lane.invariant.stopped c.run_lane.ensures.stopped;
+  stopped = stopped-more (lists_of c.args.lanes.now) c.loop-lane.invariant.runs c.run_lane.ensures.runs c.loop-lane.invariant.leaves c.run_lane.ensures.leaves c.run_lane.ensures.others c.loop-lane.invariant.stopped c.run_lane.ensures.stopped;
 }

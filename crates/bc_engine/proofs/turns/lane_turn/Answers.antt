@@ -5,18 +5,16 @@ use Rattle.bc_engine.proofs.TurnLemmas.{turn-ran}
 use Rattle.bc_engine.proofs.turns.lane_turn.Goals as goal
 
 pub serve_line-requires : goal.serve_line-requires
-serve_line-requires c =
-    let underway = c.requires in
-    ready-sound (c.run_lanes.ensures.runs.underway underway.0 underway.1).ready
+serve_line-requires g c = ready-sound (c.run_all.ensures.runs.underway c.args.setup.now c.requires).ready
 
 pub returns-clause-runs : goal.returns-clause-runs
-returns-clause-runs c =
+returns-clause-runs g c =
     let served = c.serve_line.ensures in
-    runs-then c.run_lanes.ensures.runs
-    (runs-moved (lists_of c.args.lanes.now) c.run_lanes.new.running c.serve_line.new.running c.run_lanes.new.replies (served.moves, served.rest))
+    runs-then c.run_all.ensures.runs
+    (runs-moved (lists_of c.args.lanes.now) c.run_all.new.running c.serve_line.new.running c.run_all.new.replies (served.moves, served.rest))
 
 pub returns-clause-turn : goal.returns-clause-turn
-returns-clause-turn c =
-    let ran = c.run_lanes.ensures in
+returns-clause-turn g c =
+    let ran = c.run_all.ensures in
     let served = c.serve_line.ensures in
-    turn-ran c.args.lanes.now ran.runs ran.leaves ran.stopped served.served served.rest
+    turn-ran ran.runs ran.leaves ran.stopped served.served served.rest
