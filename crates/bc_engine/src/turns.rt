@@ -15,6 +15,12 @@ use bc_running::Running;
 use std::alloc::Global;
 use std::thread::Threads;
 
+/// To start a thread and to end it takes a fraction of the time that so many operations take.
+const OPERATIONS_A_THREAD: u64 = 4_096;
+
+/// No lane is looked further ahead than so many operations.
+const OPERATIONS_AHEAD: u64 = 8_192;
+
 /// A turn of the lanes: each does operations until it is at its end or stops. Then a page is given up for each hint of the turn's
 /// line, and the heap is settled. `next` is the number of the turn's line, and becomes that of the next turn. It takes memory for as
 /// long as the lanes run, and can't be refused for want of it.
@@ -71,17 +77,60 @@ where
     }
 }
 
-/// Is so much left to do that a table pays? To open one costs a look at the lanes' root slots and at the frames, so in the largest setup
-/// a turn of a few operations is done without.
+/// Does a table pay? To open one costs a look at the lanes' root slots and at the frames, and each lane more a thread. So the first turn
+/// of a phase has a table where enough is left to do, and a later one where the turn is likely to be long.
 fn is_worth_a_table(setup: &Setup, lanes: &[Vec<Op>], replies: &[Vec<Reply>]) -> bool
     requires { length replies.now ≡ length lanes.now }
 {
-    let costs = (setup.domains as u64 * setup.slots as u64 + setup.frames as u64) / 512;
-    let mut left = 0usize;
+    let costs = setup.domains as u64 * setup.slots as u64 + setup.frames as u64;
+    let mut begun = false;
+    let mut left = 0u64;
+    let mut ahead = 0u64;
+    let mut threads = 0u64;
     for lane in 0..lanes.len() {
-        left = left.saturating_add(lanes[lane].len().saturating_sub(replies[lane].len()));
+        let done = replies[lane].len();
+        begun = begun || done > 0;
+        if done < lanes[lane].len() {
+            left = left.saturating_add(lanes[lane].len().saturating_sub(done) as u64);
+            ahead = ahead.saturating_add(operations_ahead(setup, &lanes[lane], done));
+            threads = threads.saturating_add(OPERATIONS_A_THREAD);
+        }
     }
-    left as u64 > costs
+    if begun {
+        ahead > costs.saturating_add(threads.saturating_sub(OPERATIONS_A_THREAD))
+    } else {
+        left > costs / 8
+    }
+}
+
+/// About how many operations a lane does until its chunk or its write buffer is full, or all are done, from this one on. It looks no
+/// further ahead than `OPERATIONS_AHEAD`.
+fn operations_ahead(setup: &Setup, ops: &[Op], from: usize) -> u64 {
+    let mut words = setup.nursery as u64 * 512;
+    let mut entries = setup.buffer as u64;
+    for number in from..ops.len() {
+        let ahead = (number as u64).saturating_sub(from as u64);
+        if ahead >= OPERATIONS_AHEAD {
+            return ahead;
+        }
+        match &ops[number] {
+            Op::New(_, fields) => {
+                let size = *fields as u64 + 2;
+                if words < size {
+                    return ahead;
+                }
+                words -= size;
+            }
+            Op::Link(_, _, _) => {
+                if entries == 0 {
+                    return ahead;
+                }
+                entries -= 1;
+            }
+            _ => {}
+        }
+    }
+    (ops.len() as u64).saturating_sub(from as u64)
 }
 
 /// Serves the notices of a line. Where there is none, the heap is only settled.
