@@ -16,3 +16,7 @@ pub mod MovingLemmas
 pub mod FirstLists
 -- Lanes that ran side by side
 pub mod BesideLemmas
+-- A lane that begins at a table with others than lanes
+pub mod SeatLemmas
+-- A new heap stands for the opening state
+pub mod StartLemmas
