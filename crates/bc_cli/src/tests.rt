@@ -2,7 +2,6 @@
 
 mod devices;
 mod engines;
-mod gates;
 mod heaps;
 mod rows;
 mod sink;
