@@ -8,7 +8,7 @@ use Rattle.bc_pins.specs.declared.views.Lodged.TheVariants.{Away}
 use Rattle.bc_pins.specs.Key.{Key, pages_of, frame_slot, store_slot}
 use Rattle.bc_pins.specs.Totals.{total, sum_to}
 use Rattle.bc_pins.specs.Views.{counted_for}
-use Rattle.bc_pins.specs.Facts.{Table, Slot, word, slot, Lies, points, adds_to}
+use Rattle.bc_pins.specs.Facts.{Table, Slot, page_word, slot, Lies, points, adds_to}
 use Rattle.bc_pins.specs.Rule.{Rule}
 use Rattle.bc_pins.proofs.ReadLemmas.{remembered_word}
 use Rattle.bc_evict.specs.GonePages.{IsGoneSummarised}
@@ -30,20 +30,20 @@ away-at n a b c is l = (subst (λ (m : ℕ). Lies m a b c) is l).1
 two_words : (n m : ℕ) → n ≡ 4 → n ≡ m → m < 4 → ⊥
 two_words n m four e lt = omega arith
 
-pub gone-summarised : (k : Key) (s : Table) (page : ℕ) → Rule k s → page < pages_of k → word s page ≡ 4 → IsGoneSummarised k s page
+pub gone-summarised : (k : Key) (s : Table) (page : ℕ) → Rule k s → page < pages_of k → page_word s page ≡ 4 → IsGoneSummarised k s page
 gone-summarised k s page r lt is =
     let c : List ℕ = r.rec page in
     let content = r.content page lt in
     let summary = content.gone is in
     record {
       content = c;
-      lies = away-at (word s page) (slot s (frame_slot k page)) (slot s (store_slot k page)) c is (r.place page lt).lies;
+      lies = away-at (page_word s page) (slot s (frame_slot k page)) (slot s (store_slot k page)) c is (r.place page lt).lies;
       there = summary.there;
       targets = summary.targets;
       counted = λ q less.
           let sum = r.counters q less in
           let part = at_least (adds_to k s r.rec q) (pages_of k) page lt in
-          let mine = if_one (word s page == 4) (points k page c q) (total (λ (v : View). counted_for page q v.hand) s.views) (eq-eqb (word s page) 4 is) in
+          let mine = if_one (page_word s page == 4) (points k page c q) (total (λ (v : View). counted_for page q v.hand) s.views) (eq-eqb (page_word s page) 4 is) in
           omega arith;
-      old = λ y. two_words (word s page) 2 is (remembered_word k s r page lt (λ three. two_words (word s page) 3 is three (omega arith)) (content.young y)) (omega arith);
+      old = λ y. two_words (page_word s page) 2 is (remembered_word k s r page lt (λ three. two_words (page_word s page) 3 is three (omega arith)) (content.young y)) (omega arith);
     }

@@ -22,7 +22,7 @@ use Rattle.bc_bookmarks.proofs.ReadingLemmas.{meets-inserted}
 use Rattle.bc_pins.specs.declared.views.Hand.{Hand}
 use Rattle.bc_pins.specs.declared.views.View.{View}
 use Rattle.bc_pins.specs.declared.pins.Seat.{Seat}
-use Rattle.bc_pins.specs.Key.{Key, pages_of, bookmark_at, frame_at}
+use Rattle.bc_pins.specs.Key.{Key, pages_of, page_at, bookmark_at, frame_at}
 use Rattle.bc_pins.specs.Contents.{objects_in}
 use Rattle.bc_pins.specs.Views.{sets_bit}
 use Rattle.bc_pins.specs.Steps.{bookmarking, IsTargetBit}
@@ -195,7 +195,7 @@ marks-ref old new met more word h q n w bits found a seat slots has_h view is is
   meets = λ r. ap (λ (l : List ℕ). has l r) inserted ∙ meets-inserted met q r lt ∙ ap (λ (j : ℕ). (j == r) || has met r) is_q ∙ sym (ap (λ (v : Word). names_in r v || has met r) is);
   reads = record {
     grows = ((bookmark_at (view_of old).about w, found) ∷ [], ap (λ (v : View). v.read) view);
-    pages = λ i lt_i. ap (λ (v : View). reads_of i v.read) view ∙ reads-else i (bookmark_at (view_of old).about w) found (view_of old).read (λ e. absurd (omega arith));
+    pages = λ p lt. ap (λ (v : View). reads_of (page_at p) v.read) view ∙ reads-else (page_at p) (bookmark_at (view_of old).about w) found (view_of old).read (λ e. absurd (omega arith));
     frames = λ i le. ap (λ (v : View). reads_of i v.read) view ∙ reads-else i (bookmark_at (view_of old).about w) found (view_of old).read (λ e. absurd (omega arith));
   };
 }

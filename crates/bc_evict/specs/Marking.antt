@@ -11,7 +11,7 @@ use Rattle.bc_pins.specs.declared.views.View.{View}
 use Rattle.bc_pins.specs.declared.pins.Pins.{Pins}
 use Rattle.bc_pins.specs.declared.pins.Seat.{Seat}
 use Rattle.bc_pins.specs.declared.holding.Held.{Held}
-use Rattle.bc_pins.specs.Key.{pages_of, frame_at}
+use Rattle.bc_pins.specs.Key.{pages_of, page_at, frame_at}
 use Rattle.bc_pins.specs.Totals.{times}
 use Rattle.bc_pins.specs.Contents.{IsContent, RefersYoung, objects_in}
 use Rattle.bc_pins.specs.Facts.{points}
@@ -26,7 +26,7 @@ sets_cell v q b = nat_lt 0 (sets_bit (16 * q + b / 64) (b % 64) v.bookmarked)
 -- of pages and frames nothing more was read, and of what was read nothing is forgotten
 pub record ReadsNoPage (v w : View) : Type 0 where
   pub grows : (later : List (ℕ × ℕ)) × (w.read ≡ later ++ v.read)
-  pub pages : (i : ℕ) → i < pages_of v.about → reads_of i w.read ≡ reads_of i v.read
+  pub pages : (page : ℕ) → page < pages_of v.about → reads_of (page_at page) w.read ≡ reads_of (page_at page) v.read
   pub frames : (i : ℕ) → frame_at v.about 0 ≤ i → reads_of i w.read ≡ reads_of i v.read
 
 -- the page in hand was bookmarked. The bits that the view set are those that it had set and those of the page's targets; each

@@ -16,7 +16,7 @@ use Rattle.bc_pins.specs.declared.views.Hand.{Hand}
 use Rattle.bc_pins.specs.declared.views.View.{View}
 use Rattle.bc_pins.specs.Calls.{Grasps, HoldsPage, IsFree, IsTakeRefused, MayPut, put_back, refusal_word, tried, view_of}
 use Rattle.bc_pins.specs.Contents.{IsBarePage}
-use Rattle.bc_pins.specs.Key.{Key, owner, pages_of}
+use Rattle.bc_pins.specs.Key.{Key, owner, page_at, pages_of}
 use Rattle.bc_pins.specs.Steps.{Takes, both_slots, gripping, having_read, owns}
 use Rattle.bc_pins.specs.Totals.{times}
 use Rattle.bc_pins.specs.Views.{entries, has_role}
@@ -83,7 +83,7 @@ then-reads u v w x y = record {
 }
 
 reads-word : (v : View) (page found : ℕ) → ReadsOn v (having_read v page found)
-reads-word v page found = record { same = refl; more = (page, found) ∷ []; read = refl; behind = λ q far. (refl, refl) }
+reads-word v page found = record { same = refl; more = (page_at page, found) ∷ []; read = refl; behind = λ q far. (refl, refl) }
 
 -- a page was taken
 pub tried-about : (v : View) (page : ℕ) (b : Bool) → (tried v page Work b).about ≡ v.about
@@ -105,7 +105,7 @@ tried-reads v page true = reads-word v page 2
 tried-reads v page false = none-reads v
 
 gripping-reads : (v : View) (page : ℕ) (remembered : Bool) (homed : Homed) → ReadsOn v (gripping v page remembered homed)
-gripping-reads v page remembered homed = record { same = refl; more = (page, if remembered then 2 else 1) ∷ []; read = refl; behind = λ q far. (refl, refl) }
+gripping-reads v page remembered homed = record { same = refl; more = (page_at page, if remembered then 2 else 1) ∷ []; read = refl; behind = λ q far. (refl, refl) }
 
 pub taken-reads : (v : View) (seat : Seat) (page : ℕ) (held : Held) → Grasps (tried v page Work held.remembered) seat page held → ReadsOn v (view_of seat)
 taken-reads v seat page held g =
@@ -117,7 +117,7 @@ taken-reads v seat page held g =
 pub refused-read : (v w : View) (page : ℕ) (want : Want) (refusal : TakeNo) → IsTakeRefused v page want refusal w → ReadLast w page (refusal_word refusal)
 refused-read v w page want refusal r = elim r.read [
   | inl e ↦ (v.read, ap (λ (x : View). x.read) e)
-  | inr e ↦ ((page, 2) ∷ v.read, ap (λ (x : View). x.read) e.1)
+  | inr e ↦ ((page_at page, 2) ∷ v.read, ap (λ (x : View). x.read) e.1)
 ]
 
 pub refused-reads : (v w : View) (page : ℕ) (want : Want) (refusal : TakeNo) → IsTakeRefused v page want refusal w → ReadsOn v w

@@ -32,7 +32,7 @@ use Rattle.bc_pins.specs.declared.pins.Seat.{Seat}
 use Rattle.bc_pins.specs.declared.views.View.{View}
 use Rattle.bc_pins.specs.Calls.{HoldsPage, IsAt, IsFree, key_of}
 use Rattle.bc_pins.specs.Contents.{IsBarePage}
-use Rattle.bc_pins.specs.Key.{Key, lane_role, pages_of}
+use Rattle.bc_pins.specs.Key.{Key, lane_role, page_at, pages_of}
 use Rattle.bc_pins.specs.Totals.{times}
 use Rattle.bc_pins.specs.Views.{entries, opened_state}
 use Rattle.bc_superpages.specs.declared.headers.PageState.TheVariants.{Absent}
@@ -129,7 +129,7 @@ LooksOn h op page = (at : Address) × LooksAtObject h.roots (touched_slot op) at
 
 -- what the seat read last: this, of this page
 abbrev pub ReadLast : View → ℕ → ℕ → Type 0
-ReadLast v page found = (rest : List (ℕ × ℕ)) × (v.read ≡ (page, found) ∷ rest)
+ReadLast v page found = (rest : List (ℕ × ℕ)) × (v.read ≡ (page_at page, found) ∷ rest)
 
 -- a seat read on, and took and put back pages of the table. What else it knows is as before: so it made no page Gone or Absent,
 -- bookmarked and counted nothing, and has the rights to frames that it had

@@ -14,7 +14,7 @@ use Rattle.bc_pins.specs.Key.{Key, pages_of, counter_at, owner}
 use Rattle.bc_pins.specs.Totals.{total, times, sum_to}
 use Rattle.bc_pins.specs.Contents.{IsContent, RefersYoung}
 use Rattle.bc_pins.specs.Views.{grips, grips_remembered, frame_in_hand, counted_for, sets_bit, has_role, opened_content, record_of}
-use Rattle.bc_pins.specs.Facts.{Table, Slot, word, Lies, Summary, Frames, frame_lodged, points, adds_to, Bits, IsIdle}
+use Rattle.bc_pins.specs.Facts.{Table, Slot, word, Lies, Summary, Frames, frame_lodged, points, adds_to, Bits, IsIdle, page_word}
 use Rattle.bc_pins.specs.Rule.{Rule}
 use Rattle.bc_pins.specs.Opening.{ClosesPage, HasClosed}
 use Rattle.bc_pins.proofs.TotalLemmas.{total_two, one_same}
@@ -78,12 +78,12 @@ module _ (k : Key) (s : Table) (r : Rule k s) (id : ℕ) (v : View) (at : get_el
   only : (f : View → ℕ) → ((u : View) → IsIdle u → f u ≡ 0) → total f s.views ≡ f v
   only f z = total_only f s.views id v at (λ j u ne is. z u (idle_else j u ne is))
 
-  not_held : (p : ℕ) → p < pages_of k → word s p ≢ 3
+  not_held : (p : ℕ) → p < pages_of k → page_word s p ≢ 3
   not_held p lt e =
       let held = (r.place p lt).held in
       let sum = only (λ u. grips p u.hand) (λ u i. ap (grips p) i.hand) in
       let mine : grips p v.hand ≡ 0 = ap (grips p) nothing in
-      let is : one_if (word s p == 3) ≡ 1 = ap (λ (n : ℕ). one_if (n == 3)) e in
+      let is : one_if (page_word s p == 3) ≡ 1 = ap (λ (n : ℕ). one_if (n == 3)) e in
       omega arith
 
   record_is : (p : ℕ) → r.rec p ≡ record_of v p
@@ -102,12 +102,12 @@ module _ (k : Key) (s : Table) (r : Rule k s) (id : ℕ) (v : View) (at : get_el
   home_each i lt =
       let long = r.slots in
       elim (cases_lt i (pages_of k)) [
-        | inl near ↦ (lies_home (word s i) _ _ _ (not_held i near) (r.place i near).lies).0
+        | inl near ↦ (lies_home (page_word s i) _ _ _ (not_held i near) (r.place i near).lies).0
         | inr far ↦
             let p : ℕ = i - pages_of k in
             let near : p < pages_of k = omega arith in
             let is : pages_of k + p ≡ i = omega arith in
-            subst (λ (n : ℕ). (y : Lodged) × (get_elem? s.homes n ≡ some (some y))) is (lies_home (word s p) _ _ _ (not_held p near) (r.place p near).lies).1
+            subst (λ (n : ℕ). (y : Lodged) × (get_elem? s.homes n ≡ some (some y))) is (lies_home (page_word s p) _ _ _ (not_held p near) (r.place p near).lies).1
       ]
 
   homes_are : s.homes ≡ map some xs
@@ -130,8 +130,8 @@ module _ (k : Key) (s : Table) (r : Rule k s) (id : ℕ) (v : View) (at : get_el
       let absent = old.absent in
       record {
         not_held = not_held p lt;
-        lies = subst (λ (c : List ℕ). Lies (word s p) (get_elem? (map some xs) p) (get_elem? (map some xs) (pages_of k + p)) c) same
-            (subst (λ (hs : List (maybe.Option Lodged)). Lies (word s p) (get_elem? hs p) (get_elem? hs (pages_of k + p)) (r.rec p)) homes_are (r.place p lt).lies);
+        lies = subst (λ (c : List ℕ). Lies (page_word s p) (get_elem? (map some xs) p) (get_elem? (map some xs) (pages_of k + p)) c) same
+            (subst (λ (hs : List (maybe.Option Lodged)). Lies (page_word s p) (get_elem? hs p) (get_elem? hs (pages_of k + p)) (r.rec p)) homes_are (r.place p lt).lies);
         fixed = subst (IsContent k.opening p) same content.fixed;
         young = λ y. remembered_word k s r p lt (not_held p lt) (content.young (subst (RefersYoung k.opening p) (sym same) y));
         bare = content.bare;
@@ -152,11 +152,11 @@ module _ (k : Key) (s : Table) (r : Rule k s) (id : ℕ) (v : View) (at : get_el
       let used = old.used in
       record { used = omega arith; free = old.free; past = old.past }
 
-  counters_closed : (q : ℕ) → q < k.supers → word s (counter_at k q) ≡ sum_to (λ p. if word s p == 4 then points k p (record_of v p) q else 0) (pages_of k)
-  counters_closed q lt = r.counters q lt ∙ sum_same (adds_to k s r.rec q) (λ p. if word s p == 4 then points k p (record_of v p) q else 0) (pages_of k) (λ p _.
+  counters_closed : (q : ℕ) → q < k.supers → word s (counter_at k q) ≡ sum_to (λ p. if page_word s p == 4 then points k p (record_of v p) q else 0) (pages_of k)
+  counters_closed q lt = r.counters q lt ∙ sum_same (adds_to k s r.rec q) (λ p. if page_word s p == 4 then points k p (record_of v p) q else 0) (pages_of k) (λ p _.
       let none_counted = only (λ u. counted_for p q u.hand) (λ u i. ap (counted_for p q) i.hand) in
       let mine : counted_for p q v.hand ≡ 0 = ap (counted_for p q) nothing in
-      let same : (if word s p == 4 then points k p (r.rec p) q else 0) ≡ (if word s p == 4 then points k p (record_of v p) q else 0) = ap (λ (c : List ℕ). if word s p == 4 then points k p c q else 0) (record_is p) in
+      let same : (if page_word s p == 4 then points k p (r.rec p) q else 0) ≡ (if page_word s p == 4 then points k p (record_of v p) q else 0) = ap (λ (c : List ℕ). if page_word s p == 4 then points k p c q else 0) (record_is p) in
       omega arith)
 
   bits_closed : (w b : ℕ) → w < 16 * k.supers → b < 64 → Bits k last w b

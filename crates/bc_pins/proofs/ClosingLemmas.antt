@@ -34,7 +34,7 @@ use Rattle.bc_pins.specs.declared.views.Lodged.{Lodged}
 use Rattle.bc_pins.specs.declared.views.Lodged.TheVariants.{Nothing}
 use Rattle.bc_pins.specs.declared.views.View.{View}
 use Rattle.bc_pins.specs.declared.pins.Seat.{Seat}
-use Rattle.bc_pins.specs.Key.{Key, pages_of, owner, frame_at}
+use Rattle.bc_pins.specs.Key.{Key, pages_of, owner, frame_at, page_at}
 use Rattle.bc_pins.specs.Contents.{IsContent, RefersYoung}
 use Rattle.bc_pins.specs.Totals.{times}
 use Rattle.bc_pins.specs.Views.{grips_remembered, state_word, opened_state, opened_content, record_of}
@@ -74,7 +74,7 @@ clash e = cc
 pub gathered_ends : (id : TableId) (k : Key) (all : List Seat) (root : Worker Lodged View) (ws : List ℕ) (xs : List Lodged) → Gathered id k all [] root → Final (Seen (Rule k) root.id root.me.0) ws xs → HasClosed k root.me.0 ws xs
 gathered_ends id k all root ws xs g f = ends k root.id root.me.0 ws xs g.about g.hand (λ r. let a = g.roles r in omega arith) f
 
-pub words_few : (k : Key) (v : View) (ws : List ℕ) (xs : List Lodged) → HasClosed k v ws xs → (p : ℕ) → p < pages_of k → get_or ws p 0 ≤ 4
+pub words_few : (k : Key) (v : View) (ws : List ℕ) (xs : List Lodged) → HasClosed k v ws xs → (p : ℕ) → p < pages_of k → get_or ws (page_at p) 0 ≤ 4
 words_few k v ws xs c p lt = lies_few _ _ _ _ (c.pages p lt).lies
 
 -- everything that is known when the space is put together
@@ -142,7 +142,7 @@ module _ (id : TableId) (k : Key) (all : List Seat) (root : Worker Lodged View) 
   state_old : (p : ℕ) → p < 4 * length whole.headers.items → opened_state k p ≡ state_in whole.headers.items p
   state_old p lt = ap (λ (s : Layout). state_at s.states p) (sym e.layout) ∙ state-header whole.headers.items p lt
 
-  word_is : (p : ℕ) → p < pages_of k → state_word (state_at (map (λ (h : Header). h.pages) headers) p) ≡ get_or words p 0
+  word_is : (p : ℕ) → p < pages_of k → state_word (state_at (map (λ (h : Header). h.pages) headers) p) ≡ get_or words (page_at p) 0
   word_is p lt = let a = e.rest.within in ap state_word (state_new p (omega arith)) ∙ e.states_are.near p lt
 
   states_closed : (p : ℕ) → p < pages_of k → ClosedState k all (state_at (map (λ (h : Header). h.pages) headers) p) p
@@ -157,13 +157,13 @@ module _ (id : TableId) (k : Key) (all : List Seat) (root : Worker Lodged View) 
       let held = (e.closed.pages p lt).not_held in
       let gone = page.gone in
       let absent = page.absent in
-      let four : one_if (state_word (state_at (map (λ (h : Header). h.pages) headers) p) == 4) ≡ one_if (get_or words p 0 == 4) = ap (λ (n : ℕ). one_if (n == 4)) word in
-      let zeros : one_if (state_word (state_at (map (λ (h : Header). h.pages) headers) p) == 0) ≡ one_if (get_or words p 0 == 0) = ap (λ (n : ℕ). one_if (n == 0)) word in
+      let four : one_if (state_word (state_at (map (λ (h : Header). h.pages) headers) p) == 4) ≡ one_if (get_or words (page_at p) 0 == 4) = ap (λ (n : ℕ). one_if (n == 4)) word in
+      let zeros : one_if (state_word (state_at (map (λ (h : Header). h.pages) headers) p) == 0) ≡ one_if (get_or words (page_at p) 0 == 0) = ap (λ (n : ℕ). one_if (n == 0)) word in
       let hand : grips_remembered p v.hand ≡ 0 = ap (grips_remembered p) g.hand in
       record {
-        remembered = λ lt. let a = page.remembered (omega arith) in word_remembered _ (word ∙ one_is (get_or words p 0) 2 (omega arith));
+        remembered = λ lt. let a = page.remembered (omega arith) in word_remembered _ (word ∙ one_is (get_or words (page_at p) 0) 2 (omega arith));
         recorded = λ is.
-            let two : one_if (get_or words p 0 == 2) ≡ 1 = ap (λ (n : ℕ). one_if (n == 2)) (sym word ∙ ap state_word is) in
+            let two : one_if (get_or words (page_at p) 0 == 2) ≡ 1 = ap (λ (n : ℕ). one_if (n == 2)) (sym word ∙ ap state_word is) in
             let a = page.recorded (omega arith) in
             omega arith;
         gone = omega arith;
@@ -260,10 +260,10 @@ module _ (id : TableId) (k : Key) (all : List Seat) (root : Worker Lodged View) 
   summarised_now reads o =
       let many = supers_are in
       let size = e.states_are.long in
-      let summed = λ (p : ℕ) (lt : p < pages_of k) (four : get_or words p 0 ≡ 4). (e.closed.pages p lt).gone four in
-      let four : (p : ℕ) → p < 4 * superpages k.opening → is_gone (state_at (map (λ (h : Header). h.pages) headers) p) ≡ true → (p < pages_of k) × (get_or words p 0 ≡ 4) = λ p lt gone.
+      let summed = λ (p : ℕ) (lt : p < pages_of k) (four : get_or words (page_at p) 0 ≡ 4). (e.closed.pages p lt).gone four in
+      let four : (p : ℕ) → p < 4 * superpages k.opening → is_gone (state_at (map (λ (h : Header). h.pages) headers) p) ≡ true → (p < pages_of k) × (get_or words (page_at p) 0 ≡ 4) = λ p lt gone.
       elim (cases_lt p (pages_of k)) [
-        | inl less ↦ (less, eqb-true (get_or words p 0) 4 (sym (gone_by.near p less) ∙ gone))
+        | inl less ↦ (less, eqb-true (get_or words (page_at p) 0) 4 (sym (gone_by.near p less) ∙ gone))
         | inr le ↦ absurd (clash (sym (gone_by.behind p le lt) ∙ gone))
       ] in
       record {

@@ -12,6 +12,7 @@ use Rattle.bc_superpages.specs.Headers.{unused_header}
 use Rattle.bc_superpages.specs.Parts.{state_in}
 use Rattle.bc_pins.specs.Views.{state_word}
 use Rattle.bc_pins.specs.Closing.{StatesSet}
+use Rattle.bc_pins.specs.Key.{page_at}
 
 pub at_or : {A : Type 0} (xs : List A) (i : ℕ) (y d : A) → get_elem? xs i ≡ some y → get_or xs i d ≡ y
 at_or [] i y d e = absurd (some-ne-none y (sym e))
@@ -46,7 +47,7 @@ state_else hs p i h st lt is ne = elim (cases_eq (i / 4) (p / 4)) [
 ]
 
 pub states_more : (o n : List Header) (p : ℕ) (ws : List ℕ) (h : Header) (st : PageState) → StatesSet o n p ws → p < 4 * length o → h ≡ get_or n (p / 4) h → length h.pages ≡ 4
-    → state_word st ≡ get_or ws p 0 → StatesSet o (set n (p / 4) (record h { pages = set h.pages (p % 4) st })) (p + 1) ws
+    → state_word st ≡ get_or ws (page_at p) 0 → StatesSet o (set n (p / 4) (record h { pages = set h.pages (p % 4) st })) (p + 1) ws
 states_more o n p ws h st s lt is four word =
     let size = s.long in
     let within : p / 4 < length n = omega arith in
@@ -55,7 +56,7 @@ states_more o n p ws h st s lt is four word =
     record {
       long = length-set n (p / 4) new ∙ s.long;
       near = λ i less. elim (cases_eq i p) [
-        | inl e ↦ ap (λ (j : ℕ). state_word (state_in (set n (p / 4) new) j)) e ∙ ap state_word (state_written n p i h st within is four) ∙ word ∙ ap (λ (j : ℕ). get_or ws j 0) (sym e)
+        | inl e ↦ ap (λ (j : ℕ). state_word (state_in (set n (p / 4) new) j)) e ∙ ap state_word (state_written n p i h st within is four) ∙ word ∙ ap (λ (j : ℕ). get_or ws (page_at j) 0) (sym e)
         | inr ne ↦ ap state_word (state_else n p i h st within is ne) ∙ s.near i (omega arith)
       ];
       far = λ i le. state_else n p i h st within is (λ e. omega arith) ∙ s.far i (omega arith);

@@ -1,11 +1,16 @@
 -- Words that are added one by one.
-use Rattle.std.proofs.Common.{◌≡◌, ℕ, ◌+◌, ◌*◌, ◌/◌, ◌<◌, ◌≤◌, Bool, List, [], ◌∷◌, ◌++◌, length, get_or, inl, inr, refl, ap, sym, subst, ◌∙◌, arith, length-append}
+use Rattle.std.proofs.Common.{◌≡◌, ℕ, ◌+◌, ◌*◌, ◌/◌, ◌%◌, ◌<◌, ◌≤◌, if◌then◌else◌, nat_lt, Bool, List, [], ◌∷◌, ◌++◌, length, get_or, inl, inr, refl, ap, sym, subst, ◌∙◌, arith, length-append}
 use Prim.Native.Nat.{zero, suc}
-use Rattle.std.proofs.lemmas.Bool.{cases_eq}
+use Rattle.std.proofs.lemmas.Bool.{cases_eq, lt-ltb}
+use Rattle.bc_superpages.specs.declared.headers.Header.{Header}
+use Rattle.bc_superpages.specs.declared.headers.PageState.TheVariants.{Absent}
+use Rattle.bc_superpages.specs.Headers.{unused_header}
+use Rattle.bc_superpages.specs.Parts.{state_in}
 use Rattle.bc_pins.specs.declared.key.Turn.{Turn}
 use Rattle.bc_pins.specs.declared.key.Turn.TheVariants.{Lanes, Mark}
-use Rattle.bc_pins.specs.Key.{table_words}
-use Rattle.bc_pins.specs.Filling.{Extends, AddsFrames, IsFrameWord}
+use Rattle.bc_pins.specs.Key.{page_at, table_words}
+use Rattle.bc_pins.specs.Views.{state_word}
+use Rattle.bc_pins.specs.Filling.{Extends, AddsFrames, AddsStates, IsFrameWord}
 
 pub front_same : (xs : List ℕ) (y i : ℕ) → i < length xs → get_or (xs ++ y ∷ []) i 0 ≡ get_or xs i 0
 front_same [] y i lt = absurd (omega arith)
@@ -33,7 +38,7 @@ extends_more o n k v f e is =
       ];
     }
 
-pub words_at_least : (s f : ℕ) (t : Turn) → 21 * s + (f + 63) / 64 + 1 ≤ table_words s f t
+pub words_at_least : (s f : ℕ) (t : Turn) → 29 * s + (f + 63) / 64 + 1 ≤ table_words s f t
 words_at_least s f Lanes = omega arith
 words_at_least s f Mark = omega arith
 
@@ -52,3 +57,18 @@ frames_more pool o n k v e is =
         | inr ne ↦ subst (IsFrameWord pool i) (sym (front_same n v (length o + i) (omega arith))) (e.added i (omega arith))
       ];
     }
+
+-- word i of those of pages: the word of a page, or one that nobody uses
+abbrev pub filled_word : List Header → ℕ → ℕ
+filled_word hs i = if nat_lt (i % 12) 4 then state_word (get_or (get_or hs (i / 12) unused_header).pages (i % 12) Absent) else 0
+
+pub filled_at : (hs : List Header) (p : ℕ) → filled_word hs (page_at p) ≡ state_word (state_in hs p)
+filled_at hs p =
+    let place : page_at p % 12 ≡ p % 4 = omega arith in
+    let superpage : page_at p / 12 ≡ p / 4 = omega arith in
+    ap (λ (b : Bool). if b then state_word (get_or (get_or hs (page_at p / 12) unused_header).pages (page_at p % 12) Absent) else 0) (lt-ltb (page_at p % 12) 4 (omega arith))
+    ∙ ap (λ (q : ℕ). state_word (get_or (get_or hs q unused_header).pages (page_at p % 12) Absent)) superpage
+    ∙ ap (λ (i : ℕ). state_word (get_or (get_or hs (p / 4) unused_header).pages i Absent)) place
+
+pub states_added : (hs : List Header) (o n : List ℕ) (count superpages : ℕ) → count ≡ 12 * superpages → Extends o n count (filled_word hs) → AddsStates hs o n superpages
+states_added hs o n count superpages is e = record { long = e.long ∙ ap (λ (m : ℕ). length o + m) is; kept = e.kept; states = λ p lt. e.added (page_at p) (omega arith) ∙ filled_at hs p }

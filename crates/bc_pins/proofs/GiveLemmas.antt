@@ -13,17 +13,17 @@ use Rattle.bc_pins.specs.declared.views.Lodged.{Lodged}
 use Rattle.bc_pins.specs.declared.views.Lodged.TheVariants.{Nothing, Home}
 use Rattle.bc_pins.specs.declared.views.Hand.{Hand}
 use Rattle.bc_pins.specs.declared.views.View.{View}
-use Rattle.bc_pins.specs.Key.{Key, pages_of, owner}
+use Rattle.bc_pins.specs.Key.{Key, pages_of, owner, page_at}
 use Rattle.bc_pins.specs.Totals.{total, times}
 use Rattle.bc_pins.specs.Contents.{IsContent, RefersYoung}
 use Rattle.bc_pins.specs.Views.{grips, grips_remembered, frame_in_hand, counted_for, marked_for, has_role, entries, look_up, opened_content}
-use Rattle.bc_pins.specs.Facts.{Table, word, slot, IsHomed, Lies, RecordsContent, Marking, frame_lodged, points}
+use Rattle.bc_pins.specs.Facts.{Table, word, slot, IsHomed, Lies, RecordsContent, Marking, frame_lodged, points, page_word}
 use Rattle.bc_pins.specs.Tidy.{IsTidy}
 use Rattle.bc_pins.specs.Rule.{Rule}
 use Rattle.bc_pins.specs.Steps.{Mine, owns, both_slots, released, Gave}
 use Rattle.bc_pins.proofs.TotalLemmas.{total_set, total_at, one_same, one_other, one_is}
 use Rattle.bc_pins.proofs.PageSteps.{after, PageStep, page_step}
-use Rattle.bc_pins.proofs.ReadLemmas.{saw_kept}
+use Rattle.bc_pins.proofs.ReadLemmas.{same_page, saw_kept}
 use Rattle.bc_pins.proofs.TakeLemmas.{Slots, flag_is, flag_other, none_either}
 
 pub no_hand : (z : Hand) → None ≡ Some z → ⊥
@@ -84,7 +84,7 @@ module _ (k : Key) (s : Table) (r : Rule k s) (id x role : ℕ) (v : View) (g : 
   near : p < pages_of k
   near = ((r.seats id v at).records.in_hand g has).0
 
-  wide : p < length s.words
+  wide : page_at p < length s.words
   wide = let long = r.words in let n = near in omega arith
 
   grip_is : (q : ℕ) → grips q v.hand ≡ one_if (p == q)
@@ -93,18 +93,18 @@ module _ (k : Key) (s : Table) (r : Rule k s) (id x role : ℕ) (v : View) (g : 
   flag_was : (q : ℕ) → grips_remembered q v.hand ≡ (if g.remembered then one_if (p == q) else 0)
   flag_was q = ap (grips_remembered q) has
 
-  was_held : word s p ≡ 3
+  was_held : page_word s p ≡ 3
   was_held =
       let held = (r.place p near).held in
       let mine = total_at (λ (u : View). grips p u.hand) s.views id v at in
       let is = grip_is p in
       let one = one_same p in
-      one_is (word s p) 3 (omega arith)
+      one_is (page_word s p) 3 (omega arith)
 
-  word_is : (n : ℕ) → n ≢ 3 → one_if (word s p == n) ≡ 0
-  word_is n ne = one_other (word s p) n (λ e. ne (sym e ∙ was_held))
+  word_is : (n : ℕ) → n ≢ 3 → one_if (page_word s p == n) ≡ 0
+  word_is n ne = one_other (page_word s p) n (λ e. ne (sym e ∙ was_held))
 
-  three_is : one_if (word s p == 3) ≡ 1
+  three_is : one_if (page_word s p == 3) ≡ 1
   three_is = ap (λ (n : ℕ). one_if (n == 3)) was_held
 
   now_is : (n : ℕ) → n ≢ 1 → n ≢ 2 → one_if (x == n) ≡ 0
@@ -128,13 +128,13 @@ module _ (k : Key) (s : Table) (r : Rule k s) (id x role : ℕ) (v : View) (g : 
         omega arith
   ]
 
-  fewer : one_if (word s p == 2) + grips_remembered p v.hand ≤ one_if (x == 2) + grips_remembered p w.hand
+  fewer : one_if (page_word s p == 2) + grips_remembered p v.hand ≤ one_if (x == 2) + grips_remembered p w.hand
   fewer = let a = word_is 2 (λ e. omega arith) in let b = flag_now in omega arith
 
   else_flag : (q : ℕ) → q ≢ p → grips_remembered q w.hand ≡ grips_remembered q v.hand
   else_flag q ne = sym (flag_was q ∙ flag_other g.remembered p q (λ e. ne (sym e)))
 
-  not_four : word s p ≡ 4 → ⊥
+  not_four : page_word s p ≡ 4 → ⊥
   not_four e = let a = was_held in omega arith
 
   old_record : g.content ≡ r.rec p
@@ -182,8 +182,8 @@ module _ (k : Key) (s : Table) (r : Rule k s) (id x role : ℕ) (v : View) (g : 
   never_four : (n : ℕ) → (if x == 4 then n else 0) ≡ 0
   never_four n = ap (λ (b : Bool). if b then n else 0) (ne_eqb x 4 (λ e. omega arith))
 
-  was_no_four : (n : ℕ) → (if word s p == 4 then n else 0) ≡ 0
-  was_no_four n = ap (λ (b : Bool). if b then n else 0) (ne_eqb (word s p) 4 not_four)
+  was_no_four : (n : ℕ) → (if page_word s p == 4 then n else 0) ≡ 0
+  was_no_four n = ap (λ (b : Bool). if b then n else 0) (ne_eqb (page_word s p) 4 not_four)
 
   marking_kept : Marking w
   marking_kept =
@@ -277,15 +277,15 @@ second (y ∷ ys) = y.1
 home_is : (a b : Homed) → Home a ≡ Home b → a ≡ b
 home_is a b e = cc
 
-pub first_homed : (p : ℕ) (a b : Homed) (l m : List (ℕ × Lodged)) → (p, Home a) ∷ l ≡ (p, Home b) ∷ m → a ≡ b
-first_homed p a b l m e = home_is a b (ap second e)
+pub first_homed : (p q : ℕ) (a b : Homed) (l m : List (ℕ × Lodged)) → (p, Home a) ∷ l ≡ (q, Home b) ∷ m → a ≡ b
+first_homed p q a b l m e = home_is a b (ap second e)
 
 -- whatever the table is, putting a page back keeps the rule
 pub gave : (k : Key) (slots id x role : ℕ) (v : View) (g : Hand) (h : Homed) → 1 ≤ x → x ≤ 2 → v.about ≡ k → v.hand ≡ Some g → 0 < has_role v role → h.frame ≡ g.frame
     → IsContent k.opening g.page h.page → (RefersYoung k.opening g.page h.page → x ≡ 2) → (g.remembered ≡ true → x ≡ 2)
     → (has_role v (owner k g.page) ≡ 0 → h.page ≡ g.content) → g.counted ≡ [] → g.marked ≡ []
-    → Allows (Rule k) slots id (v, both_slots k g.page (Home h) Nothing) g.page (λ _. x)
-    (λ _. Gave (step slots g.page x 0 maybe.none) (v, both_slots k g.page (Home h) Nothing))
+    → Allows (Rule k) slots id (v, both_slots k g.page (Home h) Nothing) (page_at g.page) (λ _. x)
+    (λ _. Gave (step slots (page_at g.page) x 0 maybe.none) (v, both_slots k g.page (Home h) Nothing))
 gave k slots id x role v g h lo hi about has some_role frame fixed young flag others uncounted unmarked s r size at fits = (
   released v g.page (x == 2) h.page,
   chain gives gives,
@@ -293,23 +293,24 @@ gave k slots id x role v g h lo hi about has some_role frame fixed young flag ot
   give_rule k s r id x role v g h at lo hi about has some_role frame fixed young flag others uncounted unmarked,
   record {
     slots = refl;
-    view = λ z e. ap (λ (y : Homed). released v g.page (x == 2) y.page) (first_homed g.page h z _ _ e);
+    view = λ q z is e. ap (λ (y : Homed). released v g.page (x == 2) y.page) (first_homed g.page q h z _ _ e) ∙ ap (λ (n : ℕ). released v n (x == 2) z.page) (same_page g.page q is);
   },
 )
 
-pub gives_from : (k : Key) (slots id x role : ℕ) (me : Mine) (v : View) (g : Hand) (h : Homed) (p : ℕ) → me ≡ (v, both_slots k p (Home h) Nothing) → g.page ≡ p → 1 ≤ x → x ≤ 2
+pub gives_from : (k : Key) (slots id x role : ℕ) (me : Mine) (v : View) (g : Hand) (h : Homed) (p i : ℕ) → i ≡ page_at p → me ≡ (v, both_slots k p (Home h) Nothing) → g.page ≡ p → 1 ≤ x → x ≤ 2
     → v.about ≡ k → v.hand ≡ Some g → 0 < has_role v role → h.frame ≡ g.frame
     → IsContent v.about.opening p h.page → (RefersYoung v.about.opening p h.page → x ≡ 2) → (g.remembered ≡ true → x ≡ 2)
     → (has_role v (owner v.about p) ≡ 0 → h.page ≡ g.content) → g.counted ≡ [] → g.marked ≡ []
-    → Allows (Rule k) slots id me p (λ _. x) (λ _. Gave (step slots p x 0 maybe.none) me)
-gives_from k slots id x role me v g h p is page lo hi about has some_role frame fixed young flag others uncounted unmarked =
-    subst (λ (m : Mine). Allows (Rule k) slots id m p (λ _. x) (λ _. Gave (step slots p x 0 maybe.none) m)) (sym is)
-    (subst (λ (q : ℕ). Allows (Rule k) slots id (v, both_slots k q (Home h) Nothing) q (λ _. x) (λ _. Gave (step slots q x 0 maybe.none) (v, both_slots k q (Home h) Nothing))) page
+    → Allows (Rule k) slots id me i (λ _. x) (λ _. Gave (step slots i x 0 maybe.none) me)
+gives_from k slots id x role me v g h p i entry is page lo hi about has some_role frame fixed young flag others uncounted unmarked =
+    subst (λ (j : ℕ). Allows (Rule k) slots id me j (λ _. x) (λ _. Gave (step slots j x 0 maybe.none) me)) (sym entry)
+    (subst (λ (m : Mine). Allows (Rule k) slots id m (page_at p) (λ _. x) (λ _. Gave (step slots (page_at p) x 0 maybe.none) m)) (sym is)
+    (subst (λ (q : ℕ). Allows (Rule k) slots id (v, both_slots k q (Home h) Nothing) (page_at q) (λ _. x) (λ _. Gave (step slots (page_at q) x 0 maybe.none) (v, both_slots k q (Home h) Nothing))) page
     (gave k slots id x role v g h lo hi about has some_role frame
     (subst (λ (q : ℕ). IsContent k.opening q h.page) (sym page) (subst (λ (a : Key). IsContent a.opening p h.page) about fixed))
     (λ y. young (subst (λ (a : Key). RefersYoung a.opening p h.page) (sym about) (subst (λ (q : ℕ). RefersYoung k.opening q h.page) page y)))
     flag
-    (λ z. others (subst (λ (a : Key). has_role v (owner a p) ≡ 0) (sym about) (subst (λ (q : ℕ). has_role v (owner k q) ≡ 0) page z))) uncounted unmarked))
+    (λ z. others (subst (λ (a : Key). has_role v (owner a p) ≡ 0) (sym about) (subst (λ (q : ℕ). has_role v (owner k q) ≡ 0) page z))) uncounted unmarked)))
 
 -- a view that is tidy stays so when a page was put back
 pub tidy_released : (v : View) (p : ℕ) (b : Bool) (c : List ℕ) → IsTidy v → IsTidy (released v p b c)

@@ -25,11 +25,11 @@ use Rattle.bc_bookmarks.specs.Targets.{is_target}
 use Rattle.bc_bookmarks.proofs.TargetLemmas.{target-refers}
 use Rattle.bc_pins.specs.declared.views.Hand.{Hand}
 use Rattle.bc_pins.specs.declared.views.View.{View}
-use Rattle.bc_pins.specs.Key.{Key, pages_of, owner, counter_at, bookmark_at}
+use Rattle.bc_pins.specs.Key.{Key, pages_of, owner, counter_at, bookmark_at, page_at}
 use Rattle.bc_pins.specs.Totals.{times}
 use Rattle.bc_pins.specs.Contents.{IsContent, IsFieldOn, NamesFixed, field_bits, objects_in}
 use Rattle.bc_pins.specs.Views.{grips, grips_remembered, frame_in_hand, counted_for, sets_bit, marked_for, has_role, entries, look_up, opened_content}
-use Rattle.bc_pins.specs.Facts.{Table, word, RecordsContent, Seated, Marking, points, adds_to, Counters, bookmark_bit, ever_set, cell_bit, Bits}
+use Rattle.bc_pins.specs.Facts.{Table, word, RecordsContent, Seated, Marking, points, adds_to, Counters, bookmark_bit, ever_set, cell_bit, Bits, page_word}
 use Rattle.bc_pins.specs.Rule.{Rule}
 use Rattle.bc_pins.specs.Steps.{Mine, bookmarking, counting, AreTargets, SetBits, Counted}
 use Rattle.bc_pins.proofs.TotalLemmas.{total_set, total_less_at, one_same, one_other, one_few}
@@ -37,8 +37,7 @@ use Rattle.bc_pins.proofs.SumLemmas.{sum_few_below, sum_one}
 use Rattle.bc_pins.proofs.TakeLemmas.{some_hand}
 use Rattle.bc_pins.proofs.TallyLemmas.{in_bit, bit_few}
 use Rattle.bc_pins.proofs.MarkedLemmas.{KeepsBits}
-use Rattle.bc_pins.proofs.PageSteps.{after}
-use Rattle.bc_pins.proofs.SideSteps.{SideStep, side_step, counters_same, bits_same, frames_same}
+use Rattle.bc_pins.proofs.SideSteps.{aside, SideStep, side_step, counters_same, bits_same, frames_same}
 
 -- what is counted for a page is no more than that it is in hand
 hand_few : (p q : ℕ) (o : Option Hand) → ((g : Hand) → o ≡ Some g → times q g.counted ≤ 1) → counted_for p q o ≤ grips p o
@@ -128,7 +127,7 @@ module _ (k : Key) (s : Table) (r : Rule k s) (id role : ℕ) (v : View) (h : Ha
     u = bookmarking v h w bits found
 
     abbrev t : Table
-    t = after s i x s.homes id u
+    t = aside s i x id u
 
     here : word t i ≡ x
     here = let long = r.words in get_or-set_same s.words i x 0 (omega arith)
@@ -246,22 +245,22 @@ module _ (k : Key) (s : Table) (r : Rule k s) (id role : ℕ) (v : View) (h : Ha
     c_view = counting v h q found
 
     abbrev c_table : Table
-    c_table = after s c_at y s.homes id c_view
+    c_table = aside s c_at y id c_view
 
     -- a page adds at most one to a counter
     counts_few : (p : ℕ) → p < pages_of k → adds_to k s r.rec q p ≤ 1
     counts_few p less =
         let held = (r.place p less).held in
         let fewer = total_less_at (λ (z : View). counted_for p q z.hand) (λ (z : View). grips p z.hand) s.views (λ j z is. hand_few p q z.hand (λ g e. (r.seats j z is).marking.once g e q)) in
-        elim (cases_Bool (word s p == 4)) [
+        elim (cases_Bool (page_word s p == 4)) [
           | inl on ↦
-              let a : (if word s p == 4 then points k p (r.rec p) q else 0) ≤ 1 = subst (λ (b : Bool). (if b then points k p (r.rec p) q else 0) ≤ 1) (sym on) (one_few _) in
-              let four : word s p ≡ 4 = eqb-true (word s p) 4 on in
-              let b = one_other (word s p) 3 (λ e. omega arith) in
+              let a : (if page_word s p == 4 then points k p (r.rec p) q else 0) ≤ 1 = subst (λ (b : Bool). (if b then points k p (r.rec p) q else 0) ≤ 1) (sym on) (one_few _) in
+              let four : page_word s p ≡ 4 = eqb-true (page_word s p) 4 on in
+              let b = one_other (page_word s p) 3 (λ e. omega arith) in
               omega arith
           | inr off ↦
-              let a : (if word s p == 4 then points k p (r.rec p) q else 0) ≡ 0 = ap (λ (b : Bool). if b then points k p (r.rec p) q else 0) off in
-              let b = one_few (word s p == 3) in
+              let a : (if page_word s p == 4 then points k p (r.rec p) q else 0) ≡ 0 = ap (λ (b : Bool). if b then points k p (r.rec p) q else 0) off in
+              let b = one_few (page_word s p == 3) in
               omega arith
         ]
 
@@ -276,15 +275,15 @@ module _ (k : Key) (s : Table) (r : Rule k s) (id role : ℕ) (v : View) (h : Ha
     count_here : word c_table c_at ≡ y
     count_here = let long = r.words in get_or-set_same s.words c_at y 0 (omega arith)
 
-    page_word : (p : ℕ) → p < pages_of k → word c_table p ≡ word s p
-    page_word p less = get_or-set_other s.words c_at p y 0 (λ e. omega arith)
+    page_same : (p : ℕ) → p < pages_of k → page_word c_table p ≡ page_word s p
+    page_same p less = get_or-set_other s.words c_at (page_at p) y 0 (λ e. omega arith)
 
     mine_counted : (p : ℕ) → counted_for p q v.hand ≡ (if h.page == p then times q h.counted else 0)
     mine_counted p = ap (counted_for p q) has_one
 
     counts_else : (p : ℕ) → p < pages_of k → p ≢ h.page → adds_to k c_table r.rec q p ≡ adds_to k s r.rec q p
     counts_else p less ne =
-        let a : (if word c_table p == 4 then points k p (r.rec p) q else 0) ≡ (if word s p == 4 then points k p (r.rec p) q else 0) = ap (λ (n : ℕ). if n == 4 then points k p (r.rec p) q else 0) (page_word p less) in
+        let a : (if page_word c_table p == 4 then points k p (r.rec p) q else 0) ≡ (if page_word s p == 4 then points k p (r.rec p) q else 0) = ap (λ (n : ℕ). if n == 4 then points k p (r.rec p) q else 0) (page_same p less) in
         let b = total_set (λ (z : View). counted_for p q z.hand) s.views id v c_view at in
         let c : counted_for p q c_view.hand ≡ 0 = ap (λ (b : Bool). if b then times q (q ∷ h.counted) else 0) (ne_eqb h.page p (λ e. ne (sym e))) in
         let d : counted_for p q v.hand ≡ 0 = mine_counted p ∙ ap (λ (b : Bool). if b then times q h.counted else 0) (ne_eqb h.page p (λ e. ne (sym e))) in
@@ -292,7 +291,7 @@ module _ (k : Key) (s : Table) (r : Rule k s) (id role : ℕ) (v : View) (h : Ha
 
     counts_here : adds_to k c_table r.rec q h.page ≡ adds_to k s r.rec q h.page + 1
     counts_here =
-        let a : (if word c_table h.page == 4 then points k h.page (r.rec h.page) q else 0) ≡ (if word s h.page == 4 then points k h.page (r.rec h.page) q else 0) = ap (λ (n : ℕ). if n == 4 then points k h.page (r.rec h.page) q else 0) (page_word h.page near) in
+        let a : (if page_word c_table h.page == 4 then points k h.page (r.rec h.page) q else 0) ≡ (if page_word s h.page == 4 then points k h.page (r.rec h.page) q else 0) = ap (λ (n : ℕ). if n == 4 then points k h.page (r.rec h.page) q else 0) (page_same h.page near) in
         let b = total_set (λ (z : View). counted_for h.page q z.hand) s.views id v c_view at in
         let self = eq-eqb h.page h.page refl in
         let c : counted_for h.page q c_view.hand ≡ times q (q ∷ h.counted) = ap (λ (b : Bool). if b then times q (q ∷ h.counted) else 0) self in
@@ -363,7 +362,7 @@ marks_from k slots id role me h w bits i is lt within about has_one some_role ta
   bookmarking me.0 h w bits (word s i),
   keeps,
   tt,
-  subst (λ (j : ℕ). Rule k (after s j (bit_or (word s j) bits) s.homes id (bookmarking me.0 h w bits (word s i)))) (sym is) (mark_rule k s r id role me.0 h at about has_one some_role w bits (word s i) lt targets within),
+  subst (λ (j : ℕ). Rule k (aside s j (bit_or (word s j) bits) id (bookmarking me.0 h w bits (word s i)))) (sym is) (mark_rule k s r id role me.0 h at about has_one some_role w bits (word s i) lt targets within),
   record {
     view = λ g x e f.
         let same = some_hand h g (sym has_one ∙ e) in
@@ -378,7 +377,7 @@ counts_from k slots id role me h q i is lt about has_one some_role uncounted s r
   counting me.0 h q (word s i),
   keeps,
   tt,
-  subst (λ (j : ℕ). Rule k (after s j ((word s j + 1) % 2 ^ 64) s.homes id (counting me.0 h q (word s i)))) (sym is) (count_rule k s r id role me.0 h at about has_one some_role q (word s i) lt uncounted),
+  subst (λ (j : ℕ). Rule k (aside s j ((word s j + 1) % 2 ^ 64) id (counting me.0 h q (word s i)))) (sym is) (count_rule k s r id role me.0 h at about has_one some_role q (word s i) lt uncounted),
   record {
     view = λ g x e f.
         let same = some_hand h g (sym has_one ∙ e) in

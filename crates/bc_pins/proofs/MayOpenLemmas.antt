@@ -32,7 +32,7 @@ use Rattle.bc_superpages.proofs.HandLemmas.{state-header, allocated-page}
 use Rattle.bc_superpages.proofs.BringLemmas.{allocated-not_absent}
 use Rattle.bc_pins.specs.declared.views.Lodged.{Lodged}
 use Rattle.bc_pins.specs.declared.views.Lodged.TheVariants.{Nothing}
-use Rattle.bc_pins.specs.Key.{Key, pages_of, bookmark_at}
+use Rattle.bc_pins.specs.Key.{Key, pages_of, bookmark_at, page_at}
 use Rattle.bc_pins.specs.Totals.{total, times}
 use Rattle.bc_pins.specs.Views.{state_word, opened_state, opened_word, opened_content}
 use Rattle.bc_pins.specs.Facts.{frame_of, frame_lodged}
@@ -185,7 +185,7 @@ module _ (k : Key) (whole : SpaceParts) (kept : AreParts whole) (layout : parts_
       let many = supers_are in
       filled.counters q lt ∙ sym (ap (λ (h : Header). h.incoming) (header_is q (omega arith)))
       ∙ openable.summarised.incoming q (omega arith) ∙ tally k k.opening.pages (gone_in k.opening) (opened_content k) words (4 * superpages k.opening) gone_by q
-      ∙ sum_same (λ p. if slice_index words p == 4 then points k p (opened_content k p) q else 0) (adds_to k (opened k words slots) (opened_content k) q) (pages_of k) (λ p _. omega arith)
+      ∙ sum_same (λ p. if slice_index words (page_at p) == 4 then points k p (opened_content k p) q else 0) (adds_to k (opened k words slots) (opened_content k) q) (pages_of k) (λ p _. omega arith)
 
   cell_of_bit : (w b : ℕ) → w < 16 * k.supers → b < 64 → opened_bit k w b ≡ 1 → cell_bit k w b ≡ 1
   cell_of_bit w b lt few one =

@@ -9,7 +9,7 @@ use Rattle.bc_pins.specs.declared.views.Lodged.{Lodged}
 use Rattle.bc_pins.specs.declared.views.View.{View}
 use Rattle.bc_pins.specs.Key.{Key}
 use Rattle.bc_pins.specs.Views.{opened_content, opened_word}
-use Rattle.bc_pins.specs.Facts.{Table, word}
+use Rattle.bc_pins.specs.Facts.{Table, word, page_word}
 use Rattle.bc_pins.specs.Rule.{SeatFacts, Rule}
 use Rattle.bc_pins.specs.Steps.{fresh}
 use Rattle.bc_pins.specs.Opening.{opened, MayOpen}
@@ -32,21 +32,21 @@ starts k words slots may =
       place = λ p lt.
           let page = may.pages p lt in
           let a = one_other (opened_word k p) 3 page.not_held in
-          let b : one_if (word s p == 3) ≡ one_if (opened_word k p == 3) = ap (λ (n : ℕ). one_if (n == 3)) page.word in
+          let b : one_if (page_word s p == 3) ≡ one_if (opened_word k p == 3) = ap (λ (n : ℕ). one_if (n == 3)) page.word in
           record { lies = rw page.word page.lies; held = omega arith };
       content = λ p lt.
           let page = may.pages p lt in
           record {
             fixed = page.fixed;
-            young = λ y. let a : one_if (word s p == 2) ≡ 1 = ap (λ (n : ℕ). one_if (n == 2)) (page.word ∙ page.young y) in omega arith;
+            young = λ y. let a : one_if (page_word s p == 2) ≡ 1 = ap (λ (n : ℕ). one_if (n == 2)) (page.word ∙ page.young y) in omega arith;
             bare = λ z. page.bare (sym page.word ∙ z);
             gone = λ e. page.gone (sym page.word ∙ e);
           };
       standing = λ p lt.
           let page = may.pages p lt in
-          let two : one_if (word s p == 2) ≡ one_if (opened_word k p == 2) = ap (λ (n : ℕ). one_if (n == 2)) page.word in
-          let four : one_if (word s p == 4) ≡ one_if (opened_word k p == 4) = ap (λ (n : ℕ). one_if (n == 4)) page.word in
-          let none_is : one_if (word s p == 0) ≡ one_if (opened_word k p == 0) = ap (λ (n : ℕ). one_if (n == 0)) page.word in
+          let two : one_if (page_word s p == 2) ≡ one_if (opened_word k p == 2) = ap (λ (n : ℕ). one_if (n == 2)) page.word in
+          let four : one_if (page_word s p == 4) ≡ one_if (opened_word k p == 4) = ap (λ (n : ℕ). one_if (n == 4)) page.word in
+          let none_is : one_if (page_word s p == 0) ≡ one_if (opened_word k p == 0) = ap (λ (n : ℕ). one_if (n == 0)) page.word in
           record { remembered = λ lt. omega arith; recorded = λ lt. omega arith; gone = omega arith; absent = omega arith };
       seats = λ id v at. subst (SeatFacts k s (opened_content k)) (one_view first v id at) record {
         seated = record { about = λ _. refl; unfetched = refl; idle = λ _. record { hand = refl; rights = refl; recorded = refl; left = refl; emptied = refl; fetched = refl; bookmarked = refl } };

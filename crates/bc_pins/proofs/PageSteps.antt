@@ -10,12 +10,12 @@ use Rattle.bc_bits.specs.Counting.{one_if}
 use Rattle.bc_pins.specs.declared.views.Lodged.{Lodged}
 use Rattle.bc_pins.specs.declared.views.Hand.{Hand}
 use Rattle.bc_pins.specs.declared.views.View.{View}
-use Rattle.bc_pins.specs.Key.{Key, pages_of, owner, counter_at, bookmark_at, frame_at, mark_at, finished_at}
+use Rattle.bc_pins.specs.Key.{Key, pages_of, owner, counter_at, bookmark_at, frame_at, mark_at, finished_at, page_at, pages_end}
 use Rattle.std.specs.Int.{bit_at}
 use Rattle.bc_pins.specs.Totals.{total, times}
 use Rattle.bc_pins.specs.Contents.{IsContent, RefersYoung, IsBarePage}
 use Rattle.bc_pins.specs.Views.{grips, grips_remembered, frame_in_hand, counted_for, sets_bit, has_role, opened_content}
-use Rattle.bc_pins.specs.Facts.{Table, word, Lies, Place, remembered_now, Summary, Content, Standing, RecordsContent, Saw, Seated, Marking, Roles, frame_lodged, Frames, points, adds_to, Counters, bookmark_bit, is_clear, Bits, Still}
+use Rattle.bc_pins.specs.Facts.{Table, word, Lies, Place, remembered_now, Summary, Content, Standing, RecordsContent, Saw, Seated, Marking, Roles, frame_lodged, Frames, points, adds_to, Counters, bookmark_bit, is_clear, Bits, Still, page_word}
 use Rattle.bc_pins.specs.Rule.{SeatFacts, Rule}
 use Rattle.bc_pins.proofs.TotalLemmas.{total_set, total_at, total_two, one_few}
 use Rattle.bc_pins.proofs.SumLemmas.{sum_same}
@@ -23,7 +23,7 @@ use Rattle.bc_pins.proofs.MarkedLemmas.{summary_more}
 
 -- the table after a step of seat id on the word of page p
 abbrev pub after : Table → ℕ → ℕ → List (maybe.Option Lodged) → ℕ → View → Table
-after s p x homes id w = record { words = set s.words p x; homes = homes; views = set s.views id w }
+after s p x homes id w = record { words = set s.words (page_at p) x; homes = homes; views = set s.views id w }
 
 -- what such a step owes: p's word becomes x, and the seat's view v becomes w
 pub record PageStep (k : Key) (s : Table) (rec rec' : ℕ → List ℕ) (p x : ℕ) (homes : List (maybe.Option Lodged)) (id : ℕ) (v w : View) : Type 0 where
@@ -34,7 +34,7 @@ pub record PageStep (k : Key) (s : Table) (rec rec' : ℕ → List ℕ) (p x : �
   pub lies : Lies x (get_elem? homes p) (get_elem? homes (pages_of k + p)) (rec' p)
   pub frame : (f : ℕ) → total (frame_lodged f) homes + (frame_in_hand f w.hand + times f w.rights) ≡ total (frame_lodged f) s.homes + (frame_in_hand f v.hand + times f v.rights)
   -- what is in hand
-  pub grip : grips p w.hand + one_if (word s p == 3) ≡ grips p v.hand + one_if (x == 3)
+  pub grip : grips p w.hand + one_if (page_word s p == 3) ≡ grips p v.hand + one_if (x == 3)
   pub else_grip : (q : ℕ) → q ≢ p → grips q w.hand ≡ grips q v.hand
   -- records
   pub else_rec : (q : ℕ) → q ≢ p → rec' q ≡ rec q
@@ -45,21 +45,21 @@ pub record PageStep (k : Key) (s : Table) (rec rec' : ℕ → List ℕ) (p x : �
   pub bare : x ≡ 0 → IsBarePage k.opening p
   pub summarised : x ≡ 4 → Summary k s.words p (rec' p)
   -- remembered
-  pub not_fewer : one_if (word s p == 2) + grips_remembered p v.hand ≤ one_if (x == 2) + grips_remembered p w.hand
+  pub not_fewer : one_if (page_word s p == 2) + grips_remembered p v.hand ≤ one_if (x == 2) + grips_remembered p w.hand
   pub else_remembered : (q : ℕ) → q ≢ p → grips_remembered q w.hand ≡ grips_remembered q v.hand
   pub put_back : times p v.recorded ≤ times p w.recorded
-  pub noted : 0 < one_if (x == 2) + grips_remembered p w.hand → (0 < one_if (word s p == 2) + grips_remembered p v.hand) ⊎ (0 < times p w.recorded)
+  pub noted : 0 < one_if (x == 2) + grips_remembered p w.hand → (0 < one_if (page_word s p == 2) + grips_remembered p v.hand) ⊎ (0 < times p w.recorded)
   pub kept : times p v.recorded < times p w.recorded → 0 < one_if (x == 2) + grips_remembered p w.hand
   pub else_recorded : (q : ℕ) → q ≢ p → times q w.recorded ≡ times q v.recorded
   -- gone and absent
-  pub went : one_if (x == 4) + times p w.fetched + times p v.left ≡ one_if (word s p == 4) + times p v.fetched + times p w.left
-  pub emptied : one_if (x == 0) + times p v.emptied ≡ one_if (word s p == 0) + times p w.emptied
+  pub went : one_if (x == 4) + times p w.fetched + times p v.left ≡ one_if (page_word s p == 4) + times p v.fetched + times p w.left
+  pub emptied : one_if (x == 0) + times p v.emptied ≡ one_if (page_word s p == 0) + times p w.emptied
   pub else_fetched : (q : ℕ) → q ≢ p → times q w.fetched ≡ times q v.fetched
   pub else_left : (q : ℕ) → q ≢ p → times q w.left ≡ times q v.left
   pub else_emptied : (q : ℕ) → q ≢ p → times q w.emptied ≡ times q v.emptied
-  pub stays : word s p ≡ 4 → has_role v (owner k p) ≡ 0 → x ≡ 4
+  pub stays : page_word s p ≡ 4 → has_role v (owner k p) ≡ 0 → x ≡ 4
   -- counters and bits
-  pub count : (q : ℕ) → q < k.supers → (if x == 4 then points k p (rec' p) q else 0) + counted_for p q w.hand ≡ (if word s p == 4 then points k p (rec p) q else 0) + counted_for p q v.hand
+  pub count : (q : ℕ) → q < k.supers → (if x == 4 then points k p (rec' p) q else 0) + counted_for p q w.hand ≡ (if page_word s p == 4 then points k p (rec p) q else 0) + counted_for p q v.hand
   pub else_count : (r q : ℕ) → r ≢ p → counted_for r q w.hand ≡ counted_for r q v.hand
   pub bookmarked : w.bookmarked ≡ v.bookmarked
   -- the seat
@@ -76,11 +76,11 @@ module _ (k : Key) (s : Table) (r : Rule k s) (rec' : ℕ → List ℕ) (p x : �
   sum : (f : View → ℕ) → total f t.views + f v ≡ total f s.views + f w
   sum f = total_set f s.views id v w at
 
-  here : word t p ≡ x
-  here = let long = r.words in let near = d.near in get_or-set_same s.words p x 0 (omega arith)
+  here : page_word t p ≡ x
+  here = let long = r.words in let near = d.near in get_or-set_same s.words (page_at p) x 0 (omega arith)
 
-  there : (i : ℕ) → i ≢ p → word t i ≡ word s i
-  there i ne = get_or-set_other s.words p i x 0 ne
+  there : (q : ℕ) → q ≢ p → page_word t q ≡ page_word s q
+  there q ne = get_or-set_other s.words (page_at p) (page_at q) x 0 (λ e. ne (omega arith))
 
   at_page : (F : ℕ → Type 0) → F p → ((q : ℕ) → q ≢ p → F q) → (q : ℕ) → F q
   at_page F a b q = elim (cases_eq q p) [ inl e ↦ subst F (sym e) a | inr ne ↦ b q ne ]
@@ -90,13 +90,13 @@ module _ (k : Key) (s : Table) (r : Rule k s) (rec' : ℕ → List ℕ) (p x : �
 
   else_now : (q : ℕ) → q ≢ p → remembered_now t q ≡ remembered_now s q
   else_now q ne =
-      let a : one_if (word t q == 2) ≡ one_if (word s q == 2) = ap (λ (n : ℕ). one_if (n == 2)) (there q ne) in
+      let a : one_if (page_word t q == 2) ≡ one_if (page_word s q == 2) = ap (λ (n : ℕ). one_if (n == 2)) (there q ne) in
       let b = same_sum (λ u. grips_remembered q u.hand) (d.else_remembered q ne) in
       omega arith
 
   here_now : remembered_now t p + grips_remembered p v.hand ≡ one_if (x == 2) + (total (λ (u : View). grips_remembered p u.hand) s.views + grips_remembered p w.hand)
   here_now =
-      let a : one_if (word t p == 2) ≡ one_if (x == 2) = ap (λ (n : ℕ). one_if (n == 2)) here in
+      let a : one_if (page_word t p == 2) ≡ one_if (x == 2) = ap (λ (n : ℕ). one_if (n == 2)) here in
       let b = sum (λ u. grips_remembered p u.hand) in
       omega arith
 
@@ -111,8 +111,8 @@ module _ (k : Key) (s : Table) (r : Rule k s) (rec' : ℕ → List ℕ) (p x : �
       let b = total_at (λ (u : View). grips_remembered p u.hand) s.views id v at in
       omega arith
 
-  far : (i : ℕ) → pages_of k ≤ i → word t i ≡ word s i
-  far i le = let near = d.near in there i (λ e. omega arith)
+  far : (i : ℕ) → pages_end k ≤ i → word t i ≡ word s i
+  far i le = let near = d.near in get_or-set_other s.words (page_at p) i x 0 (λ e. omega arith)
 
   summary_kept : (q : ℕ) (c : List ℕ) → Summary k s.words q c → Summary k t.words q c
   summary_kept q c = summary_more k s.words t.words q c (λ i b less e. ap (λ (n : ℕ). bit_at n b) (far (bookmark_at k i) (omega arith)) ∙ e)
@@ -123,8 +123,8 @@ module _ (k : Key) (s : Table) (r : Rule k s) (rec' : ℕ → List ℕ) (p x : �
       let near = d.near in
       let first : get_elem? homes q ≡ get_elem? s.homes q = d.else_home q ne (λ e. omega arith) in
       let second : get_elem? homes (pages_of k + q) ≡ get_elem? s.homes (pages_of k + q) = d.else_home (pages_of k + q) (λ e. omega arith) (λ e. ne (omega arith)) in
-      let lies : Lies (word t q) (get_elem? homes q) (get_elem? homes (pages_of k + q)) (rec' q) = rw (there q ne, first, second, d.else_rec q ne) old.lies in
-      let a : one_if (word t q == 3) ≡ one_if (word s q == 3) = ap (λ (n : ℕ). one_if (n == 3)) (there q ne) in
+      let lies : Lies (page_word t q) (get_elem? homes q) (get_elem? homes (pages_of k + q)) (rec' q) = rw (there q ne, first, second, d.else_rec q ne) old.lies in
+      let a : one_if (page_word t q == 3) ≡ one_if (page_word s q == 3) = ap (λ (n : ℕ). one_if (n == 3)) (there q ne) in
       let b = same_sum (λ u. grips q u.hand) (d.else_grip q ne) in
       let held = old.held in
       record { lies = lies; held = omega arith }
@@ -132,7 +132,7 @@ module _ (k : Key) (s : Table) (r : Rule k s) (rec' : ℕ → List ℕ) (p x : �
   place_here : p < pages_of k → Place k t rec' p
   place_here lt =
       let old = r.place p lt in
-      let a : one_if (word t p == 3) ≡ one_if (x == 3) = ap (λ (n : ℕ). one_if (n == 3)) here in
+      let a : one_if (page_word t p == 3) ≡ one_if (x == 3) = ap (λ (n : ℕ). one_if (n == 3)) here in
       let b = sum (λ u. grips p u.hand) in
       let c = d.grip in
       let held = old.held in
@@ -166,8 +166,8 @@ module _ (k : Key) (s : Table) (r : Rule k s) (rec' : ℕ → List ℕ) (p x : �
       let f = same_sum (λ u. times q u.fetched) (d.else_fetched q ne) in
       let l = same_sum (λ u. times q u.left) (d.else_left q ne) in
       let e = same_sum (λ u. times q u.emptied) (d.else_emptied q ne) in
-      let four : one_if (word t q == 4) ≡ one_if (word s q == 4) = ap (λ (n : ℕ). one_if (n == 4)) (there q ne) in
-      let zeros : one_if (word t q == 0) ≡ one_if (word s q == 0) = ap (λ (n : ℕ). one_if (n == 0)) (there q ne) in
+      let four : one_if (page_word t q == 4) ≡ one_if (page_word s q == 4) = ap (λ (n : ℕ). one_if (n == 4)) (there q ne) in
+      let zeros : one_if (page_word t q == 0) ≡ one_if (page_word s q == 0) = ap (λ (n : ℕ). one_if (n == 0)) (there q ne) in
       let gone = old.gone in
       let absent = old.absent in
       record {
@@ -187,8 +187,8 @@ module _ (k : Key) (s : Table) (r : Rule k s) (rec' : ℕ → List ℕ) (p x : �
       let f = sum (λ u. times p u.fetched) in
       let l = sum (λ u. times p u.left) in
       let e = sum (λ u. times p u.emptied) in
-      let four : one_if (word t p == 4) ≡ one_if (x == 4) = ap (λ (n : ℕ). one_if (n == 4)) here in
-      let zeros : one_if (word t p == 0) ≡ one_if (x == 0) = ap (λ (n : ℕ). one_if (n == 0)) here in
+      let four : one_if (page_word t p == 4) ≡ one_if (x == 4) = ap (λ (n : ℕ). one_if (n == 4)) here in
+      let zeros : one_if (page_word t p == 0) ≡ one_if (x == 0) = ap (λ (n : ℕ). one_if (n == 0)) here in
       let went = d.went in
       let emptied = d.emptied in
       let gone = old.gone in
@@ -229,19 +229,19 @@ module _ (k : Key) (s : Table) (r : Rule k s) (rec' : ℕ → List ℕ) (p x : �
         let two = total_two (λ (z : View). grips p z.hand) s.views j id u v ne is at in
         let held = (r.place p d.near).held in
         let mine : grips p u.hand ≡ 1 = ap (grips p) has ∙ ap one_if (eq-eqb h.page p e) in
-        let few = one_few (word s p == 3) in
+        let few = one_few (page_word s p == 3) in
         subst (λ (n : ℕ). rec' n ≡ r.rec n) (sym e) (d.hands (omega arith))
     | inr other ↦ d.else_rec h.page other
   ]
 
-  word_four : (u : View) (j : ℕ) → j ≢ id → get_elem? s.views j ≡ some u → (q : ℕ) → q < pages_of k → 0 < has_role u (owner k q) → word s q ≡ 4 → word t q ≡ 4
+  word_four : (u : View) (j : ℕ) → j ≢ id → get_elem? s.views j ≡ some u → (q : ℕ) → q < pages_of k → 0 < has_role u (owner k q) → page_word s q ≡ 4 → page_word t q ≡ 4
   word_four u j ne is q lt mine four = elim (cases_eq q p) [
     | inl e ↦
         let two = total_two (λ (z : View). times (owner k q) z.roles) s.views j id u v ne is at in
         let each = r.roles.each (owner k q) in
         let apart = r.roles.apart (owner k q) in
         let nothing : has_role v (owner k q) ≡ 0 = omega arith in
-        ap (word t) e ∙ here ∙ d.stays (ap (word s) (sym e) ∙ four) (subst (λ (n : ℕ). has_role v (owner k n) ≡ 0) e nothing)
+        ap (page_word t) e ∙ here ∙ d.stays (ap (page_word s) (sym e) ∙ four) (subst (λ (n : ℕ). has_role v (owner k n) ≡ 0) e nothing)
     | inr other ↦ there q other ∙ four
   ]
 
@@ -289,14 +289,14 @@ module _ (k : Key) (s : Table) (r : Rule k s) (rec' : ℕ → List ℕ) (p x : �
   counts_same : (q j : ℕ) → q < k.supers → adds_to k t rec' q j ≡ adds_to k s r.rec q j
   counts_same q j lt = elim (cases_eq j p) [
     | inl e ↦
-        let a : (if word t p == 4 then points k p (rec' p) q else 0) ≡ (if x == 4 then points k p (rec' p) q else 0) = ap (λ (n : ℕ). if n == 4 then points k p (rec' p) q else 0) here in
+        let a : (if page_word t p == 4 then points k p (rec' p) q else 0) ≡ (if x == 4 then points k p (rec' p) q else 0) = ap (λ (n : ℕ). if n == 4 then points k p (rec' p) q else 0) here in
         let b = sum (λ u. counted_for p q u.hand) in
         let c = d.count q lt in
         let same : adds_to k t rec' q p ≡ adds_to k s r.rec q p = omega arith in
         subst (λ (n : ℕ). adds_to k t rec' q n ≡ adds_to k s r.rec q n) (sym e) same
     | inr ne ↦
-        let a : (if word t j == 4 then points k j (rec' j) q else 0) ≡ (if word s j == 4 then points k j (rec' j) q else 0) = ap (λ (n : ℕ). if n == 4 then points k j (rec' j) q else 0) (there j ne) in
-        let b : (if word s j == 4 then points k j (rec' j) q else 0) ≡ (if word s j == 4 then points k j (r.rec j) q else 0) = ap (λ (c : List ℕ). if word s j == 4 then points k j c q else 0) (d.else_rec j ne) in
+        let a : (if page_word t j == 4 then points k j (rec' j) q else 0) ≡ (if page_word s j == 4 then points k j (rec' j) q else 0) = ap (λ (n : ℕ). if n == 4 then points k j (rec' j) q else 0) (there j ne) in
+        let b : (if page_word s j == 4 then points k j (rec' j) q else 0) ≡ (if page_word s j == 4 then points k j (r.rec j) q else 0) = ap (λ (c : List ℕ). if page_word s j == 4 then points k j c q else 0) (d.else_rec j ne) in
         let c = same_sum (λ u. counted_for j q u.hand) (d.else_count j q ne) in
         omega arith
   ]
@@ -334,7 +334,7 @@ module _ (k : Key) (s : Table) (r : Rule k s) (rec' : ℕ → List ℕ) (p x : �
   pub page_step : Rule k t
   page_step = record {
     rec = rec';
-    words = length-set s.words p x ∙ r.words;
+    words = length-set s.words (page_at p) x ∙ r.words;
     slots = d.long ∙ r.slots;
     few = r.few;
     place = at_page (λ q. q < pages_of k → Place k t rec' q) place_here place_there;

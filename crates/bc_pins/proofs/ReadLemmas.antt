@@ -11,15 +11,19 @@ use Rattle.bc_bookmarks.specs.Targets.{HasCell}
 use Rattle.bc_pins.specs.declared.views.Lodged.{Lodged}
 use Rattle.bc_pins.specs.declared.views.Hand.{Hand}
 use Rattle.bc_pins.specs.declared.views.View.{View}
-use Rattle.bc_pins.specs.Key.{Key, pages_of, owner}
+use Rattle.bc_pins.specs.Key.{Key, pages_of, owner, page_at}
 use Rattle.bc_pins.specs.Totals.{times}
 use Rattle.bc_pins.specs.Contents.{IsBarePage}
 use Rattle.bc_pins.specs.Views.{grips, grips_remembered, has_role}
-use Rattle.bc_pins.specs.Facts.{Table, word, Lies, remembered_now, Saw}
+use Rattle.bc_pins.specs.Facts.{Table, word, Lies, remembered_now, Saw, page_word}
 use Rattle.bc_pins.specs.Rule.{Rule}
 use Rattle.bc_pins.specs.Steps.{Mine, owns, having_read, ReadsWord, Looked}
 use Rattle.bc_pins.proofs.TotalLemmas.{total_set, one_other, one_is, total_less}
 use Rattle.bc_pins.proofs.PageSteps.{after, page_step}
+
+-- no two pages have one word
+pub same_page : (p q : ℕ) → page_at p ≡ page_at q → p ≡ q
+same_page p q e = omega arith
 
 none_past : (n : ℕ) (a b : maybe.Option (maybe.Option Lodged)) (c : List ℕ) → 4 < n → Lies n a b c → ⊥
 none_past n a b c more l =
@@ -34,21 +38,21 @@ lies_few n a b c l = elim (cases_lt 4 n) [
   | inr le ↦ le
 ]
 
-module _ (k : Key) (s : Table) (p x : ℕ) (homes : List (maybe.Option Lodged)) (id : ℕ) (v w : View) (at : get_elem? s.views id ≡ some v) (near : p < length s.words)
-    (not_fewer : one_if (word s p == 2) + grips_remembered p v.hand ≤ one_if (x == 2) + grips_remembered p w.hand)
+module _ (k : Key) (s : Table) (p x : ℕ) (homes : List (maybe.Option Lodged)) (id : ℕ) (v w : View) (at : get_elem? s.views id ≡ some v) (near : page_at p < length s.words)
+    (not_fewer : one_if (page_word s p == 2) + grips_remembered p v.hand ≤ one_if (x == 2) + grips_remembered p w.hand)
     (else_remembered : (q : ℕ) → q ≢ p → grips_remembered q w.hand ≡ grips_remembered q v.hand) where
   abbrev t : Table
   t = after s p x homes id w
 
-  word_here : word t p ≡ x
-  word_here = get_or-set_same s.words p x 0 near
+  word_here : page_word t p ≡ x
+  word_here = get_or-set_same s.words (page_at p) x 0 near
 
-  word_there : (q : ℕ) → q ≢ p → word t q ≡ word s q
-  word_there q ne = get_or-set_other s.words p q x 0 ne
+  word_there : (q : ℕ) → q ≢ p → page_word t q ≡ page_word s q
+  word_there q ne = get_or-set_other s.words (page_at p) (page_at q) x 0 (λ e. ne (omega arith))
 
   grows_here : remembered_now s p ≤ remembered_now t p
   grows_here =
-      let a : one_if (word t p == 2) ≡ one_if (x == 2) = ap (λ (n : ℕ). one_if (n == 2)) word_here in
+      let a : one_if (page_word t p == 2) ≡ one_if (x == 2) = ap (λ (n : ℕ). one_if (n == 2)) word_here in
       let b = total_set (λ (u : View). grips_remembered p u.hand) s.views id v w at in
       omega arith
 
@@ -56,14 +60,14 @@ module _ (k : Key) (s : Table) (p x : ℕ) (homes : List (maybe.Option Lodged)) 
   now_grows q = elim (cases_eq q p) [
     | inl e ↦ subst (λ (n : ℕ). remembered_now s n ≤ remembered_now t n) (sym e) grows_here
     | inr ne ↦
-        let a : one_if (word t q == 2) ≡ one_if (word s q == 2) = ap (λ (n : ℕ). one_if (n == 2)) (word_there q ne) in
+        let a : one_if (page_word t q == 2) ≡ one_if (page_word s q == 2) = ap (λ (n : ℕ). one_if (n == 2)) (word_there q ne) in
         let b = total_set (λ (u : View). grips_remembered q u.hand) s.views id v w at in
         let c = else_remembered q ne in
         omega arith
   ]
 
   -- a seat that read nothing more
-  pub saw_kept : w.seen ≡ v.seen → w.gone ≡ v.gone → w.roles ≡ v.roles → (word s p ≡ 4 → x ≡ 4) → Saw k s v → Saw k t w
+  pub saw_kept : w.seen ≡ v.seen → w.gone ≡ v.gone → w.roles ≡ v.roles → (page_word s p ≡ 4 → x ≡ 4) → Saw k s v → Saw k t w
   saw_kept seen gone roles stays old = record {
     seen = λ q lt. let was = old.seen q (subst (λ l. 0 < times q l) seen lt) in let has = was.1 in let more = now_grows q in (was.0, omega arith);
     gone = λ q lt.
@@ -71,7 +75,7 @@ module _ (k : Key) (s : Table) (p x : ℕ) (homes : List (maybe.Option Lodged)) 
           was.0,
           subst (λ l. 0 < times (owner k q) l) (sym roles) was.1,
           elim (cases_eq q p) [
-            | inl e ↦ ap (word t) e ∙ word_here ∙ stays (ap (word s) (sym e) ∙ was.2)
+            | inl e ↦ ap (page_word t) e ∙ word_here ∙ stays (ap (page_word s) (sym e) ∙ was.2)
             | inr ne ↦ word_there q ne ∙ was.2
           ],
         );
@@ -86,15 +90,15 @@ flag_less p None = omega arith
 flag_less p (Some h) = choice_less h.remembered (one_if (h.page == p))
 
 -- a page that is Remembered now, where nobody has it in hand, is so by its word
-pub remembered_word : (k : Key) (s : Table) (r : Rule k s) (p : ℕ) → p < pages_of k → word s p ≢ 3 → 0 < remembered_now s p → word s p ≡ 2
+pub remembered_word : (k : Key) (s : Table) (r : Rule k s) (p : ℕ) → p < pages_of k → page_word s p ≢ 3 → 0 < remembered_now s p → page_word s p ≡ 2
 remembered_word k s r p near ne lt =
     let held = (r.place p near).held in
-    let nobody_has : one_if (word s p == 3) ≡ 0 = one_other (word s p) 3 ne in
+    let nobody_has : one_if (page_word s p == 3) ≡ 0 = one_other (page_word s p) 3 ne in
     let less = total_less (λ (u : View). grips_remembered p u.hand) (λ (u : View). grips p u.hand) s.views (λ u. flag_less p u.hand) in
-    one_is (word s p) 2 (omega arith)
+    one_is (page_word s p) 2 (omega arith)
 
 -- what a word tells
-pub reads : (k : Key) (s : Table) (r : Rule k s) (p id : ℕ) (v : View) → p < pages_of k → get_elem? s.views id ≡ some v → v.about ≡ k → ReadsWord v p (word s p)
+pub reads : (k : Key) (s : Table) (r : Rule k s) (p id : ℕ) (v : View) → p < pages_of k → get_elem? s.views id ≡ some v → v.about ≡ k → ReadsWord v p (page_word s p)
 reads k s r p id v near at about =
     let facts = (r.seats id v at).saw in
     let place = r.place p near in
@@ -102,7 +106,7 @@ reads k s r p id v near at about =
       word = lies_few _ _ _ _ place.lies;
       bare = λ e. subst (λ (a : Key). IsBarePage a.opening p) (sym about) ((r.content p near).bare e);
       there = λ e. subst (λ (a : Key). HasCell a.opening p) (sym about) ((r.content p near).gone e).there;
-      seen = λ lt ne. elim (cases_eq (word s p) 3) [
+      seen = λ lt ne. elim (cases_eq (page_word s p) 3) [
         | inl e ↦ e
         | inr other ↦ absurd (ne (remembered_word k s r p near other (facts.seen p lt).1))
       ];
@@ -126,41 +130,41 @@ gone_more true q p l lt = elim (cases_eq q p) [
 ]
 gone_more false q p l lt = inl lt
 
-pub looked_saw : (k : Key) (s : Table) (p id : ℕ) (v : View) → get_elem? s.views id ≡ some v → p < length s.words → p < pages_of k → v.about ≡ k → Saw k s v
-    → Saw k (after s p (word s p) s.homes id (having_read v p (word s p))) (having_read v p (word s p))
+pub looked_saw : (k : Key) (s : Table) (p id : ℕ) (v : View) → get_elem? s.views id ≡ some v → page_at p < length s.words → p < pages_of k → v.about ≡ k → Saw k s v
+    → Saw k (after s p (page_word s p) s.homes id (having_read v p (page_word s p))) (having_read v p (page_word s p))
 looked_saw k s p id v at long near about old =
-    let w : View = having_read v p (word s p) in
-    let grows = now_grows k s p (word s p) s.homes id v w at long (omega arith) (λ q ne. refl) in
-    let same : (q : ℕ) → word (after s p (word s p) s.homes id w) q ≡ word s q =
-    λ q. elim (cases_eq q p) [ inl e ↦ ap (word (after s p (word s p) s.homes id w)) e ∙ get_or-set_same s.words p (word s p) 0 long ∙ ap (word s) (sym e) | inr ne ↦ get_or-set_other s.words p q (word s p) 0 ne ] in
+    let w : View = having_read v p (page_word s p) in
+    let grows = now_grows k s p (page_word s p) s.homes id v w at long (omega arith) (λ q ne. refl) in
+    let same : (q : ℕ) → page_word (after s p (page_word s p) s.homes id w) q ≡ page_word s q =
+    λ q. elim (cases_eq q p) [ inl e ↦ ap (page_word (after s p (page_word s p) s.homes id w)) e ∙ get_or-set_same s.words (page_at p) (page_word s p) 0 long ∙ ap (page_word s) (sym e) | inr ne ↦ get_or-set_other s.words (page_at p) (page_at q) (page_word s p) 0 (λ e. ne (omega arith)) ] in
     record {
-      seen = λ q lt. elim (seen_more (word s p) q p v.seen lt) [
+      seen = λ q lt. elim (seen_more (page_word s p) q p v.seen lt) [
         | inl was ↦ let a = old.seen q was in let c = a.1 in let b = grows q in (a.0, omega arith)
         | inr new ↦
-            let a : one_if (word (after s p (word s p) s.homes id w) q == 2) ≡ 1 = ap (λ (n : ℕ). one_if (n == 2)) (same q ∙ ap (word s) new.0 ∙ new.1) in
+            let a : one_if (page_word (after s p (page_word s p) s.homes id w) q == 2) ≡ 1 = ap (λ (n : ℕ). one_if (n == 2)) (same q ∙ ap (page_word s) new.0 ∙ new.1) in
             (subst (λ (n : ℕ). n < pages_of k) (sym new.0) near, omega arith)
       ];
-      gone = λ q lt. elim (gone_more ((word s p == 4) && owns v p) q p v.gone lt) [
+      gone = λ q lt. elim (gone_more ((page_word s p == 4) && owns v p) q p v.gone lt) [
         | inl was ↦ let a = old.gone q was in (a.0, a.1, same q ∙ a.2)
         | inr new ↦
-            let both = and_parts (word s p == 4) (owns v p) new.1 in
+            let both = and_parts (page_word s p == 4) (owns v p) new.1 in
             let mine : 0 < has_role v (owner v.about p) = ltb-true 0 _ both.1 in (
               subst (λ (n : ℕ). n < pages_of k) (sym new.0) near,
               subst (λ (n : ℕ). 0 < has_role v (owner k n)) (sym new.0) (subst (λ (a : Key). 0 < has_role v (owner a p)) about mine),
-              same q ∙ ap (word s) new.0 ∙ eqb-true (word s p) 4 both.0,
+              same q ∙ ap (page_word s) new.0 ∙ eqb-true (page_word s p) 4 both.0,
             )
       ];
     }
 
 pub look_step : (k : Key) (s : Table) (r : Rule k s) (p id : ℕ) (v : View) → get_elem? s.views id ≡ some v → p < pages_of k → v.about ≡ k
-    → Rule k (after s p (word s p) s.homes id (having_read v p (word s p)))
+    → Rule k (after s p (page_word s p) s.homes id (having_read v p (page_word s p)))
 look_step k s r p id v at near about =
-    let w : View = having_read v p (word s p) in
+    let w : View = having_read v p (page_word s p) in
     let long = r.words in
-    let wide : p < length s.words = omega arith in
+    let wide : page_at p < length s.words = omega arith in
     let facts = r.seats id v at in
     let content = r.content p near in
-    page_step k s r r.rec p (word s p) s.homes id v w at record {
+    page_step k s r r.rec p (page_word s p) s.homes id v w at record {
       near = near;
       long = refl;
       else_home = λ i _ _. refl;
@@ -202,6 +206,17 @@ look_step k s r p id v at near about =
     }
 
 -- whatever the table is, a look keeps the rule and tells what it found
-pub looked : (k : Key) (slots p id : ℕ) (me : Mine) → p < pages_of k → me.0.about ≡ k → Allows (Rule k) slots id me p (λ n. n) (Looked (step slots p 0 0 maybe.none) me)
-looked k slots p id me near about s r size at fits =
-    (having_read me.0 p (word s p), keeps, tt, look_step k s r p id me.0 at near about, record { view = refl; reads = reads k s r p id me.0 near at about })
+looks : (k : Key) (slots p id : ℕ) (me : Mine) → p < pages_of k → me.0.about ≡ k → Allows (Rule k) slots id me (page_at p) (λ n. n) (Looked (step slots (page_at p) 0 0 maybe.none) me)
+looks k slots p id me near about s r size at fits = (
+  having_read me.0 p (page_word s p),
+  keeps,
+  tt,
+  look_step k s r p id me.0 at near about,
+  record {
+    view = λ q e. ap (λ (n : ℕ). (having_read me.0 n (page_word s p), me.1)) (same_page p q e);
+    reads = λ q e. subst (λ (n : ℕ). ReadsWord me.0 n (page_word s p)) (same_page p q e) (reads k s r p id me.0 near at about);
+  },
+)
+
+pub looked : (k : Key) (slots p i id : ℕ) (me : Mine) → i ≡ page_at p → p < pages_of k → me.0.about ≡ k → Allows (Rule k) slots id me i (λ n. n) (Looked (step slots i 0 0 maybe.none) me)
+looked k slots p i id me is near about = subst (λ (j : ℕ). Allows (Rule k) slots id me j (λ n. n) (Looked (step slots j 0 0 maybe.none) me)) (sym is) (looks k slots p id me near about)

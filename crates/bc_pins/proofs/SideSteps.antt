@@ -7,20 +7,23 @@ use Rattle.std.proofs.lemmas.List.{length-set}
 use Rattle.atomic_table.proofs.Lists.{at_set}
 use Rattle.bc_bits.specs.Counting.{one_if}
 use Rattle.bc_pins.specs.declared.views.View.{View}
-use Rattle.bc_pins.specs.Key.{Key, pages_of, owner, counter_at, bookmark_at, frame_at, notice_at, mark_at, finished_at}
+use Rattle.bc_pins.specs.Key.{Key, pages_of, owner, counter_at, bookmark_at, frame_at, notice_at, mark_at, finished_at, page_at, pages_end}
 use Rattle.std.specs.Int.{bit_at}
 use Rattle.bc_pins.specs.Totals.{total, times}
 use Rattle.bc_pins.specs.Views.{grips, grips_remembered, frame_in_hand, counted_for, sets_bit}
-use Rattle.bc_pins.specs.Facts.{Table, word, Place, remembered_now, Content, Standing, RecordsContent, Saw, Seated, Marking, Frames, points, adds_to, Counters, bookmark_bit, is_clear, Bits}
+use Rattle.bc_pins.specs.Facts.{Table, word, Place, remembered_now, Content, Standing, RecordsContent, Saw, Seated, Marking, Frames, points, adds_to, Counters, bookmark_bit, is_clear, Bits, page_word}
 use Rattle.bc_pins.specs.Rule.{SeatFacts, Rule}
 use Rattle.bc_pins.proofs.TotalLemmas.{total_set}
 use Rattle.bc_pins.proofs.SumLemmas.{sum_same}
-use Rattle.bc_pins.proofs.PageSteps.{after}
 use Rattle.bc_pins.proofs.MarkedLemmas.{KeepsBits, summary_more}
+
+-- the table after a step of seat id on the word i
+abbrev pub aside : Table → ℕ → ℕ → ℕ → View → Table
+aside s i x id w = record { words = set s.words i x; homes = s.homes; views = set s.views id w }
 
 -- what such a step owes: the word i becomes x, and the seat's view v becomes w
 pub record SideStep (k : Key) (s : Table) (rec : ℕ → List ℕ) (i x id : ℕ) (v w : View) : Type 0 where
-  pub far : pages_of k ≤ i
+  pub far : pages_end k ≤ i
   pub before : i < notice_at k
   pub grip : (p : ℕ) → grips p w.hand ≡ grips p v.hand
   pub flag : (p : ℕ) → grips_remembered p w.hand ≡ grips_remembered p v.hand
@@ -35,37 +38,37 @@ pub record SideStep (k : Key) (s : Table) (rec : ℕ → List ℕ) (i x id : ℕ
   pub records : RecordsContent k rec w
   pub marking : Marking w
   -- counters, bits and frames
-  pub set : KeepsBits k s.words (after s i x s.homes id w).words
-  pub counters : (q : ℕ) → q < k.supers → Counters k (after s i x s.homes id w) rec q
-  pub bits : (j b : ℕ) → j < 16 * k.supers → b < 64 → Bits k (after s i x s.homes id w) j b
-  pub frames : (f : ℕ) → Frames k (after s i x s.homes id w) f
+  pub set : KeepsBits k s.words (aside s i x id w).words
+  pub counters : (q : ℕ) → q < k.supers → Counters k (aside s i x id w) rec q
+  pub bits : (j b : ℕ) → j < 16 * k.supers → b < 64 → Bits k (aside s i x id w) j b
+  pub frames : (f : ℕ) → Frames k (aside s i x id w) f
 
 module _ (k : Key) (s : Table) (r : Rule k s) (i x id : ℕ) (v w : View) (at : get_elem? s.views id ≡ some v) (d : SideStep k s r.rec i x id v w) where
   abbrev t : Table
-  t = after s i x s.homes id w
+  t = aside s i x id w
 
   there : (j : ℕ) → j ≢ i → word t j ≡ word s j
   there j ne = get_or-set_other s.words i j x 0 ne
 
-  page_word : (p : ℕ) → p < pages_of k → word t p ≡ word s p
-  page_word p lt = let far = d.far in there p (λ e. omega arith)
+  page_same : (p : ℕ) → p < pages_of k → page_word t p ≡ page_word s p
+  page_same p lt = let far = d.far in there (page_at p) (λ e. omega arith)
 
   same_sum : (f : View → ℕ) → f w ≡ f v → total f t.views ≡ total f s.views
   same_sum f e = let c = total_set f s.views id v w at in omega arith
 
   now_same : (p : ℕ) → p < pages_of k → remembered_now t p ≡ remembered_now s p
   now_same p lt =
-      let a : one_if (word t p == 2) ≡ one_if (word s p == 2) = ap (λ (n : ℕ). one_if (n == 2)) (page_word p lt) in
+      let a : one_if (page_word t p == 2) ≡ one_if (page_word s p == 2) = ap (λ (n : ℕ). one_if (n == 2)) (page_same p lt) in
       let b = same_sum (λ u. grips_remembered p u.hand) (d.flag p) in
       omega arith
 
   place_kept : (p : ℕ) → p < pages_of k → Place k t r.rec p
   place_kept p lt =
       let old = r.place p lt in
-      let a : one_if (word t p == 3) ≡ one_if (word s p == 3) = ap (λ (n : ℕ). one_if (n == 3)) (page_word p lt) in
+      let a : one_if (page_word t p == 3) ≡ one_if (page_word s p == 3) = ap (λ (n : ℕ). one_if (n == 3)) (page_same p lt) in
       let b = same_sum (λ u. grips p u.hand) (d.grip p) in
       let held = old.held in
-      record { lies = rw (page_word p lt) old.lies; held = omega arith }
+      record { lies = rw (page_same p lt) old.lies; held = omega arith }
 
   content_kept : (p : ℕ) → p < pages_of k → Content k t r.rec p
   content_kept p lt =
@@ -74,8 +77,8 @@ module _ (k : Key) (s : Table) (r : Rule k s) (i x id : ℕ) (v w : View) (at : 
       record {
         fixed = old.fixed;
         young = λ y. let was = old.young y in omega arith;
-        bare = λ z. old.bare (sym (page_word p lt) ∙ z);
-        gone = λ e. summary_more k s.words t.words p (r.rec p) d.set (old.gone (sym (page_word p lt) ∙ e));
+        bare = λ z. old.bare (sym (page_same p lt) ∙ z);
+        gone = λ e. summary_more k s.words t.words p (r.rec p) d.set (old.gone (sym (page_same p lt) ∙ e));
       }
 
   standing_kept : (p : ℕ) → p < pages_of k → Standing k t p
@@ -86,8 +89,8 @@ module _ (k : Key) (s : Table) (r : Rule k s) (i x id : ℕ) (v w : View) (at : 
       let f = same_sum (λ u. times p u.fetched) (ap (times p) d.fetched) in
       let l = same_sum (λ u. times p u.left) (ap (times p) d.left) in
       let e = same_sum (λ u. times p u.emptied) (ap (times p) d.emptied) in
-      let four : one_if (word t p == 4) ≡ one_if (word s p == 4) = ap (λ (n : ℕ). one_if (n == 4)) (page_word p lt) in
-      let zeros : one_if (word t p == 0) ≡ one_if (word s p == 0) = ap (λ (n : ℕ). one_if (n == 0)) (page_word p lt) in
+      let four : one_if (page_word t p == 4) ≡ one_if (page_word s p == 4) = ap (λ (n : ℕ). one_if (n == 4)) (page_same p lt) in
+      let zeros : one_if (page_word t p == 0) ≡ one_if (page_word s p == 0) = ap (λ (n : ℕ). one_if (n == 0)) (page_same p lt) in
       let gone = old.gone in
       let absent = old.absent in
       record {
@@ -100,7 +103,7 @@ module _ (k : Key) (s : Table) (r : Rule k s) (i x id : ℕ) (v w : View) (at : 
   saw_same : (u : View) → Saw k s u → Saw k t u
   saw_same u old = record {
     seen = λ p lt. let was = old.seen p lt in let has = was.1 in let now = now_same p was.0 in (was.0, omega arith);
-    gone = λ p lt. let was = old.gone p lt in (was.0, was.1, page_word p was.0 ∙ was.2);
+    gone = λ p lt. let was = old.gone p lt in (was.0, was.1, page_same p was.0 ∙ was.2);
   }
 
   -- the seat has read nothing more
@@ -145,22 +148,22 @@ module _ (k : Key) (s : Table) (r : Rule k s) (i x id : ℕ) (v w : View) (at : 
   }
 
 -- of the three groups of words a step on one leaves the others as they are
-pub counters_same : (k : Key) (s : Table) (r : Rule k s) (i x id : ℕ) (v w : View) (q : ℕ) → get_elem? s.views id ≡ some v → pages_of k ≤ i → q < k.supers → counter_at k q ≢ i → ((p : ℕ) → counted_for p q w.hand ≡ counted_for p q v.hand)
-    → Counters k (after s i x s.homes id w) r.rec q
+pub counters_same : (k : Key) (s : Table) (r : Rule k s) (i x id : ℕ) (v w : View) (q : ℕ) → get_elem? s.views id ≡ some v → pages_end k ≤ i → q < k.supers → counter_at k q ≢ i → ((p : ℕ) → counted_for p q w.hand ≡ counted_for p q v.hand)
+    → Counters k (aside s i x id w) r.rec q
 counters_same k s r i x id v w q at far lt other same =
-    let t : Table = after s i x s.homes id w in
+    let t : Table = aside s i x id w in
     get_or-set_other s.words i (counter_at k q) x 0 other ∙ r.counters q lt
     ∙ sum_same (adds_to k s r.rec q) (adds_to k t r.rec q) (pages_of k) (λ p less.
-    let word_is : word t p ≡ word s p = get_or-set_other s.words i p x 0 (λ e. omega arith) in
-    let a : (if word t p == 4 then points k p (r.rec p) q else 0) ≡ (if word s p == 4 then points k p (r.rec p) q else 0) = ap (λ (n : ℕ). if n == 4 then points k p (r.rec p) q else 0) word_is in
+    let word_is : page_word t p ≡ page_word s p = get_or-set_other s.words i (page_at p) x 0 (λ e. omega arith) in
+    let a : (if page_word t p == 4 then points k p (r.rec p) q else 0) ≡ (if page_word s p == 4 then points k p (r.rec p) q else 0) = ap (λ (n : ℕ). if n == 4 then points k p (r.rec p) q else 0) word_is in
     let b = total_set (λ (u : View). counted_for p q u.hand) s.views id v w at in
     let c = same p in
     omega arith)
 
 pub bits_same : (k : Key) (s : Table) (r : Rule k s) (i x id : ℕ) (v w : View) (j b : ℕ) → get_elem? s.views id ≡ some v → j < 16 * k.supers → b < 64 → bookmark_at k j ≢ i → sets_bit j b w.bookmarked ≡ sets_bit j b v.bookmarked
-    → Bits k (after s i x s.homes id w) j b
+    → Bits k (aside s i x id w) j b
 bits_same k s r i x id v w j b at lt few other same =
-    let t : Table = after s i x s.homes id w in
+    let t : Table = aside s i x id w in
     let old = r.bits j b lt few in
     let bit : bookmark_bit k t.words j b ≡ bookmark_bit k s.words j b = ap (λ (n : ℕ). bit_at n b) (get_or-set_other s.words i (bookmark_at k j) x 0 other) in
     let a = total_set (λ (u : View). sets_bit j b u.bookmarked) s.views id v w at in
@@ -171,7 +174,7 @@ bits_same k s r i x id v w j b at lt few other same =
     }
 
 pub frames_same : (k : Key) (s : Table) (r : Rule k s) (i x id : ℕ) (v w : View) → get_elem? s.views id ≡ some v → ((j : ℕ) → frame_at k j ≢ i) → ((f : ℕ) → frame_in_hand f w.hand + times f w.rights ≡ frame_in_hand f v.hand + times f v.rights)
-    → (f : ℕ) → Frames k (after s i x s.homes id w) f
+    → (f : ℕ) → Frames k (aside s i x id w) f
 frames_same k s r i x id v w at other same f =
     let old = r.frames f in
     let a = total_set (λ (u : View). frame_in_hand f u.hand + times f u.rights) s.views id v w at in

@@ -25,7 +25,7 @@ use Rattle.bc_superpages.proofs.HandLemmas.{state-header}
 use Rattle.bc_superpages.proofs.BringLemmas.{allocated-not_absent}
 use Rattle.bc_pins.specs.declared.views.Lodged.{Lodged}
 use Rattle.bc_pins.specs.declared.views.Lodged.TheVariants.{Nothing}
-use Rattle.bc_pins.specs.Key.{Key, pages_of}
+use Rattle.bc_pins.specs.Key.{Key, pages_of, page_at}
 use Rattle.bc_pins.specs.Totals.{total, times}
 use Rattle.bc_pins.specs.Views.{state_word, opened_word}
 use Rattle.bc_pins.specs.Facts.{Lies, frame_lodged}
@@ -108,7 +108,7 @@ module _ (k : Key) (whole parts : SpaceParts) (rest : IsRest whole parts (pages_
   inside : n ≤ length boxes
   inside = let a = boxes_long in let b = rest.within in let c = set_states.long in omega arith
 
-  slot_lies : (p : ℕ) → p < n → Lies (get_or words p 0) (some (some (get_or slots p Nothing))) (some (some (get_or slots (n + p) Nothing))) (record_of v p)
+  slot_lies : (p : ℕ) → p < n → Lies (get_or words (page_at p) 0) (some (some (get_or slots p Nothing))) (some (some (get_or slots (n + p) Nothing))) (record_of v p)
   slot_lies p lt =
       let size = closed.slots_long in
       rw (← slot_there slots p (omega arith), ← slot_there slots (n + p) (omega arith)) ((closed.pages p lt).lies)
@@ -285,7 +285,7 @@ module _ (k : Key) (whole parts : SpaceParts) (rest : IsRest whole parts (pages_
           incoming = elim (cases_lt q k.supers) [
             | inl here ↦
                 let count = set_states.counters q here ∙ closed.counters q here in
-                let few = sum_few (λ p. if get_or words p 0 == 4 then points k p (record_of v p) q else 0) (pages_of k) (λ p. point_few (get_or words p 0 == 4) _) in
+                let few = sum_few (λ p. if get_or words (page_at p) 0 == 4 then points k p (record_of v p) q else 0) (pages_of k) (λ p. point_few (get_or words (page_at p) 0 == 4) _) in
                 let all = length-contents boxes places (let a = boxes_long in let b = places_long in omega arith) in
                 let room = inside in
                 omega arith
@@ -337,7 +337,7 @@ module _ (k : Key) (whole parts : SpaceParts) (rest : IsRest whole parts (pages_
           let opened_absent : state_at k.opening.states p ≡ Absent = (let a = rest.within in state_is p (omega arith) ∙ rest.kept.ends.absent p le) in
           let one : one_if (opened_word k p == 0) ≡ 1 = ap (λ (st : PageState). one_if (state_word st == 0)) opened_absent in
           let eq = page.standing.absent in
-          word_absent (state_in headers p) (set_states.near p near ∙ one_is (get_or words p 0) 0 (omega arith))
+          word_absent (state_in headers p) (set_states.near p near ∙ one_is (get_or words (page_at p) 0) 0 (omega arith))
       | inr far ↦ set_states.far p far ∙ rest.behind p far
     ];
   }

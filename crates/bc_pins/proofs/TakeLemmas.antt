@@ -14,16 +14,16 @@ use Rattle.bc_pins.specs.declared.views.Lodged.{Lodged}
 use Rattle.bc_pins.specs.declared.views.Lodged.TheVariants.{Nothing, Home}
 use Rattle.bc_pins.specs.declared.views.Hand.{Hand}
 use Rattle.bc_pins.specs.declared.views.View.{View}
-use Rattle.bc_pins.specs.Key.{Key, pages_of, owner}
+use Rattle.bc_pins.specs.Key.{Key, pages_of, owner, page_at}
 use Rattle.bc_pins.specs.Totals.{total, times}
 use Rattle.bc_pins.specs.Contents.{IsContent, RefersYoung}
 use Rattle.bc_pins.specs.Views.{grips, grips_remembered, frame_in_hand, counted_for, marked_for, has_role, opened_word}
-use Rattle.bc_pins.specs.Facts.{Table, word, slot, IsHomed, Lies, remembered_now, RecordsContent, Seated, Marking, frame_lodged, points}
+use Rattle.bc_pins.specs.Facts.{Table, word, slot, IsHomed, Lies, remembered_now, RecordsContent, Seated, Marking, frame_lodged, points, page_word}
 use Rattle.bc_pins.specs.Rule.{Rule}
-use Rattle.bc_pins.specs.Steps.{Mine, both_slots, gripping, having_read, Takes, Took}
+use Rattle.bc_pins.specs.Steps.{Mine, both_slots, gripping, having_read, ReadsWord, Takes, Took}
 use Rattle.bc_pins.proofs.TotalLemmas.{total_set, total_at, total_none, one_same, one_other}
 use Rattle.bc_pins.proofs.PageSteps.{after, PageStep, page_step}
-use Rattle.bc_pins.proofs.ReadLemmas.{saw_kept, remembered_word, reads, look_step}
+use Rattle.bc_pins.proofs.ReadLemmas.{same_page, saw_kept, remembered_word, reads, look_step}
 
 abbrev pub Slots : Type 0
 Slots = List (maybe.Option Lodged)
@@ -57,7 +57,7 @@ taken_frame f hs p q h ne one two =
     let b = total_set (frame_lodged f) (set hs q maybe.none) p (some (Home h)) maybe.none (set_else hs q p maybe.none ne ∙ one) in
     omega arith
 
-module _ (k : Key) (s : Table) (r : Rule k s) (p id old role : ℕ) (v : View) (at : get_elem? s.views id ≡ some v) (near : p < pages_of k) (lo : 1 ≤ old) (hi : old ≤ 2) (is : word s p ≡ old)
+module _ (k : Key) (s : Table) (r : Rule k s) (p id old role : ℕ) (v : View) (at : get_elem? s.views id ≡ some v) (near : p < pages_of k) (lo : 1 ≤ old) (hi : old ≤ 2) (is : page_word s p ≡ old)
     (about : v.about ≡ k) (nothing : v.hand ≡ None) (some_role : 0 < has_role v role) (h : Homed)
     (frame : slot s p ≡ some (some (Home h))) (store : slot s (pages_of k + p) ≡ some (some Nothing)) (content : h.page ≡ r.rec p) where
   abbrev flag : Bool
@@ -69,7 +69,7 @@ module _ (k : Key) (s : Table) (r : Rule k s) (p id old role : ℕ) (v : View) (
   abbrev homes : Slots
   homes = set (set s.homes (pages_of k + p) maybe.none) p maybe.none
 
-  wide : p < length s.words
+  wide : page_at p < length s.words
   wide = let long = r.words in omega arith
 
   no_grip : (q : ℕ) → grips q v.hand ≡ 0
@@ -78,22 +78,22 @@ module _ (k : Key) (s : Table) (r : Rule k s) (p id old role : ℕ) (v : View) (
   no_flag : (q : ℕ) → grips_remembered q v.hand ≡ 0
   no_flag q = ap (grips_remembered q) nothing
 
-  two_is : one_if (word s p == 2) ≡ one_if flag
+  two_is : one_if (page_word s p == 2) ≡ one_if flag
   two_is = ap (λ (n : ℕ). one_if (n == 2)) is
 
-  other_is : (n : ℕ) → n ≢ 1 → n ≢ 2 → one_if (word s p == n) ≡ 0
-  other_is n a b = one_other (word s p) n (λ e. absurd (elim (cases_eq old 1) [ inl one ↦ a (sym e ∙ is ∙ one) | inr ne ↦ let two : old ≡ 2 = omega arith in b (sym e ∙ is ∙ two) ]))
+  other_is : (n : ℕ) → n ≢ 1 → n ≢ 2 → one_if (page_word s p == n) ≡ 0
+  other_is n a b = one_other (page_word s p) n (λ e. absurd (elim (cases_eq old 1) [ inl one ↦ a (sym e ∙ is ∙ one) | inr ne ↦ let two : old ≡ 2 = omega arith in b (sym e ∙ is ∙ two) ]))
 
   gripped : grips_remembered p w.hand ≡ one_if flag
   gripped = flag_is flag p
 
-  fewer : one_if (word s p == 2) + grips_remembered p v.hand ≤ one_if (3 == 2) + grips_remembered p w.hand
+  fewer : one_if (page_word s p == 2) + grips_remembered p v.hand ≤ one_if (3 == 2) + grips_remembered p w.hand
   fewer = let a = two_is in let b = no_flag p in let c = gripped in omega arith
 
   else_flag : (q : ℕ) → q ≢ p → grips_remembered q w.hand ≡ grips_remembered q v.hand
   else_flag q ne = flag_other flag p q (λ e. ne (sym e)) ∙ sym (no_flag q)
 
-  not_four : word s p ≡ 4 → ⊥
+  not_four : page_word s p ≡ 4 → ⊥
   not_four e = omega arith
 
   frames_kept : (f : ℕ) → total (frame_lodged f) homes + (frame_in_hand f w.hand + times f w.rights) ≡ total (frame_lodged f) s.homes + (frame_in_hand f v.hand + times f v.rights)
@@ -126,8 +126,8 @@ module _ (k : Key) (s : Table) (r : Rule k s) (p id old role : ℕ) (v : View) (
   hand_counts : (j q : ℕ) → counted_for j q w.hand ≡ 0
   hand_counts j q = none_either (p == j) (times q []) refl
 
-  not_gone : (n : ℕ) → (if word s p == 4 then n else 0) ≡ 0
-  not_gone n = ap (λ (b : Bool). if b then n else 0) (ne_eqb (word s p) 4 not_four)
+  not_gone : (n : ℕ) → (if page_word s p == 4 then n else 0) ≡ 0
+  not_gone n = ap (λ (b : Bool). if b then n else 0) (ne_eqb (page_word s p) 4 not_four)
 
   marking_kept : Marking w
   marking_kept =
@@ -224,13 +224,13 @@ module _ (k : Key) (s : Table) (r : Rule k s) (p id old role : ℕ) (v : View) (
 
 -- whatever the table is, a try to take keeps the rule and tells what it found
 pub taken : (k : Key) (slots p id old role : ℕ) (v : View) → p < pages_of k → 1 ≤ old → old ≤ 2 → v.about ≡ k → v.hand ≡ None → 0 < has_role v role
-    → Allows (Rule k) slots id (v, []) p (λ n. either (n == old) 3 n) (Took (step slots p old 3 maybe.none) (v, []))
+    → Allows (Rule k) slots id (v, []) (page_at p) (λ n. either (n == old) 3 n) (Took (step slots (page_at p) old 3 maybe.none) (v, []))
 taken k slots p id old role v near lo hi about nothing some_role s r size at fits =
-    exchanged (word s p) old 3
-    (λ n. (w : View) × (a : Act Lodged) × Valid s.homes [] a × Rule k (stepped s p n id [] w a) × Took (step slots p old 3 maybe.none) (v, []) (word s p) (w, carried_after [] a))
+    exchanged (page_word s p) old 3
+    (λ n. (w : View) × (a : Act Lodged) × Valid s.homes [] a × Rule k (stepped s (page_at p) n id [] w a) × Took (step slots (page_at p) old 3 maybe.none) (v, []) (page_word s p) (w, carried_after [] a))
     (λ e.
     let place = (r.place p near).lies in
-    let homed = homed_lies (word s p) _ _ _ (omega arith) (omega arith) place in
+    let homed = homed_lies (page_word s p) _ _ _ (omega arith) (omega arith) place in
     let h = homed.0 in
     let rule = hit_rule k s r p id old role v at near lo hi e about nothing some_role h homed.1 homed.2 homed.3 in (
       gripping v p (old == 2) h,
@@ -238,23 +238,28 @@ taken k slots p id old role v near lo hi about nothing some_role s r size at fit
       (homed.2, set_else s.homes (pages_of k + p) p maybe.none (λ x. omega arith) ∙ homed.1),
       rule,
       record {
-        hit = λ _. (h, ap (λ (a : Key). (gripping v p (old == 2) h, both_slots a p (Home h) Nothing)) (sym about), hit_told k s r p id old role v at near lo hi e about nothing some_role h homed.1 homed.2 homed.3);
-        miss = λ ne. absurd (ne e);
+        hit = λ q is _. subst (λ (n : ℕ). (x : Homed) × ◌≡◌ {A = Mine} (gripping v p (old == 2) h, both_slots k p (Home h) Nothing) (gripping v n (old == 2) x, both_slots v.about n (Home x) Nothing) × Takes v n (old == 2) x) (same_page p q is)
+            (h, ap (λ (a : Key). (gripping v p (old == 2) h, both_slots a p (Home h) Nothing)) (sym about), hit_told k s r p id old role v at near lo hi e about nothing some_role h homed.1 homed.2 homed.3);
+        miss = λ q is ne. absurd (ne e);
       },
     ))
     (λ ne. (
-      having_read v p (word s p),
+      having_read v p (page_word s p),
       keeps,
       tt,
       look_step k s r p id v at near about,
       record {
-        hit = λ e. absurd (ne e);
-        miss = λ _. (refl, reads k s r p id v near at about);
+        hit = λ q is e. absurd (ne e);
+        miss = λ q is _. (
+          ap (λ (n : ℕ). (having_read v n (page_word s p), [])) (same_page p q is),
+          subst (λ (n : ℕ). ReadsWord v n (page_word s p)) (same_page p q is) (reads k s r p id v near at about),
+        );
       },
     ))
 
-pub takes_from : (k : Key) (slots p id old role : ℕ) (me : Mine) → p < pages_of k → 1 ≤ old → old ≤ 2 → me.0.about ≡ k → me.0.hand ≡ None → 0 < has_role me.0 role → me.1 ≡ []
-    → Allows (Rule k) slots id me p (λ n. either (n == old) 3 n) (Took (step slots p old 3 maybe.none) me)
-takes_from k slots p id old role me near lo hi about nothing some_role free =
-    subst (λ (l : List (ℕ × Lodged)). Allows (Rule k) slots id (me.0, l) p (λ n. either (n == old) 3 n) (Took (step slots p old 3 maybe.none) (me.0, l))) (sym free)
-    (taken k slots p id old role me.0 near lo hi about nothing some_role)
+pub takes_from : (k : Key) (slots p i id old role : ℕ) (me : Mine) → i ≡ page_at p → p < pages_of k → 1 ≤ old → old ≤ 2 → me.0.about ≡ k → me.0.hand ≡ None → 0 < has_role me.0 role → me.1 ≡ []
+    → Allows (Rule k) slots id me i (λ n. either (n == old) 3 n) (Took (step slots i old 3 maybe.none) me)
+takes_from k slots p i id old role me is near lo hi about nothing some_role free =
+    subst (λ (j : ℕ). Allows (Rule k) slots id me j (λ n. either (n == old) 3 n) (Took (step slots j old 3 maybe.none) me)) (sym is)
+    (subst (λ (l : List (ℕ × Lodged)). Allows (Rule k) slots id (me.0, l) (page_at p) (λ n. either (n == old) 3 n) (Took (step slots (page_at p) old 3 maybe.none) (me.0, l))) (sym free)
+    (taken k slots p id old role me.0 near lo hi about nothing some_role))

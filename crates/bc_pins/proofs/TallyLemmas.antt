@@ -17,7 +17,7 @@ use Rattle.bc_superpages.specs.Layout.{Layout, content_at, is_cell}
 use Rattle.bc_superpages.specs.Memory.{memory_of, cell_on}
 use Rattle.bc_bookmarks.specs.Targets.{names, names_in, is_target, has_target_in}
 use Rattle.bc_bookmarks.proofs.TargetLemmas.{some_on-same, in-target}
-use Rattle.bc_pins.specs.Key.{Key, pages_of}
+use Rattle.bc_pins.specs.Key.{Key, pages_of, page_at}
 use Rattle.bc_pins.specs.Totals.{sum_to}
 use Rattle.bc_pins.specs.Views.{state_word}
 use Rattle.bc_pins.specs.Contents.{objects_in}
@@ -55,32 +55,32 @@ choice false y = refl
 -- the pages of the table that are Gone by its words, and the other pages, which aren't
 pub record GoneBy (k : Key) (ps : List (List ℕ)) (gone : ℕ → Bool) (c : ℕ → List ℕ) (words : List ℕ) (all : ℕ) : Type 0 where
   pub few : pages_of k ≤ all
-  pub near : (p : ℕ) → p < pages_of k → gone p ≡ (slice_index words p == 4)
+  pub near : (p : ℕ) → p < pages_of k → gone p ≡ (slice_index words (page_at p) == 4)
   pub behind : (p : ℕ) → pages_of k ≤ p → p < all → gone p ≡ false
   pub contents : (p : ℕ) → p < pages_of k → content_at ps p ≡ c p
 
 module _ (k : Key) (ps : List (List ℕ)) (gone : ℕ → Bool) (c : ℕ → List ℕ) (words : List ℕ) (all : ℕ) (g : GoneBy k ps gone c words all) where
   -- a count of Gone pages is the sum over the table's pages
-  pub tally : (q : ℕ) → count_below (λ p. gone p && has_target_in (memory_of k.opening.classes k.opening.cells ps) p q) all ≡ sum_to (λ p. if slice_index words p == 4 then points k p (c p) q else 0) (pages_of k)
+  pub tally : (q : ℕ) → count_below (λ p. gone p && has_target_in (memory_of k.opening.classes k.opening.cells ps) p q) all ≡ sum_to (λ p. if slice_index words (page_at p) == 4 then points k p (c p) q else 0) (pages_of k)
   tally q =
       let f : ℕ → Bool = λ p. gone p && has_target_in (memory_of k.opening.classes k.opening.cells ps) p q in
       let few = g.few in
       let cut = sum_cut (λ i. one_if (f i)) (pages_of k) (all - pages_of k) all (omega arith) in
-      let front = sum_same (λ i. one_if (f i)) (λ p. if slice_index words p == 4 then points k p (c p) q else 0) (pages_of k)
+      let front = sum_same (λ i. one_if (f i)) (λ p. if slice_index words (page_at p) == 4 then points k p (c p) q else 0) (pages_of k)
       (λ p lt. ap (λ (b : Bool). one_if (b && has_target_in (memory_of k.opening.classes k.opening.cells ps) p q)) (g.near p lt)
-      ∙ ap (λ (b : Bool). one_if ((slice_index words p == 4) && b)) (superpage_in k.opening ps p q (c p) (g.contents p lt))
-      ∙ choice (slice_index words p == 4) (has_target_in (objects_in k.opening (c p)) p q)) in
+      ∙ ap (λ (b : Bool). one_if ((slice_index words (page_at p) == 4) && b)) (superpage_in k.opening ps p q (c p) (g.contents p lt))
+      ∙ choice (slice_index words (page_at p) == 4) (has_target_in (objects_in k.opening (c p)) p q)) in
       let back = sum_none (λ i. one_if (f (pages_of k + i))) (all - pages_of k)
       (λ i lt. ap (λ (b : Bool). one_if (b && has_target_in (memory_of k.opening.classes k.opening.cells ps) (pages_of k + i) q)) (g.behind (pages_of k + i) (omega arith) (omega arith))) in
       count_sum f all ∙ cut ∙ (omega arith)
 
   -- where they are summarised, none has a target behind the table's superpages
-  pub none_behind : ((p : ℕ) → p < pages_of k → slice_index words p ≡ 4 → Summary k words p (c p)) → (q : ℕ) → k.supers ≤ q
+  pub none_behind : ((p : ℕ) → p < pages_of k → slice_index words (page_at p) ≡ 4 → Summary k words p (c p)) → (q : ℕ) → k.supers ≤ q
       → count_below (λ p. gone p && has_target_in (memory_of k.opening.classes k.opening.cells ps) p q) all ≡ 0
-  none_behind summed q le = tally q ∙ sum_none (λ p. if slice_index words p == 4 then points k p (c p) q else 0) (pages_of k) (λ p lt.
-      elim (cases_Bool (slice_index words p == 4)) [
+  none_behind summed q le = tally q ∙ sum_none (λ p. if slice_index words (page_at p) == 4 then points k p (c p) q else 0) (pages_of k) (λ p lt.
+      elim (cases_Bool (slice_index words (page_at p) == 4)) [
         | inl on ↦
-            let sum = summed p lt (eqb-true (slice_index words p) 4 on) in
+            let sum = summed p lt (eqb-true (slice_index words (page_at p)) 4 on) in
             ap (λ (b : Bool). if b then points k p (c p) q else 0) on ∙ elim (cases_Bool (has_target_in (objects_in k.opening (c p)) p q)) [
               | inl has_one ↦
                   let t = in-target (objects_in k.opening (c p)) p q has_one in

@@ -20,7 +20,7 @@ use Rattle.bc_superpages.specs.Parts.{state_in}
 use Rattle.bc_pins.specs.declared.views.Lodged.{Lodged}
 use Rattle.bc_pins.specs.declared.views.View.{View}
 use Rattle.bc_pins.specs.declared.pins.Seat.{Seat}
-use Rattle.bc_pins.specs.Key.{Key, pages_of, owner, counter_at, bookmark_at}
+use Rattle.bc_pins.specs.Key.{Key, pages_of, page_at, owner, counter_at, bookmark_at}
 use Rattle.bc_pins.specs.Totals.{total, times}
 use Rattle.bc_pins.specs.Opening.{IsOpenable}
 use Rattle.bc_pins.specs.Tidy.{IsTidy}
@@ -71,17 +71,17 @@ opens_of seats = total (λ (seat : Seat). seat.opens) seats
 -- the states of the first pages are those that words tell, and nothing else of the headers changed
 pub record StatesSet (old new : List Header) (pages : ℕ) (words : List ℕ) : Type 0 where
   pub long : length new ≡ length old
-  pub near : (p : ℕ) → p < pages → state_word (state_in new p) ≡ slice_index words p
+  pub near : (p : ℕ) → p < pages → state_word (state_in new p) ≡ slice_index words (page_at p)
   pub far : (p : ℕ) → pages ≤ p → state_in new p ≡ state_in old p
   pub else_same : (q : ℕ) → slice_index_or new q unused_header ≡ record (slice_index_or old q unused_header) { pages = (slice_index_or new q unused_header).pages }
   pub states_long : (q : ℕ) → length (slice_index_or new q unused_header).pages ≡ length (slice_index_or old q unused_header).pages
 
 -- the header has the counter and the first bookmark words, of sixteen, that the table's words tell of its superpage
 pub record SummarySet (old new : Header) (superpage superpages : ℕ) (words : List ℕ) (count : ℕ) : Type 0 where
-  pub same : new ≡ record old { incoming = slice_index words (4 * superpages + superpage); bookmarks = new.bookmarks }
+  pub same : new ≡ record old { incoming = slice_index words (12 * superpages + superpage); bookmarks = new.bookmarks }
   pub long : length new.bookmarks ≡ 16
   pub fits : AreWords new.bookmarks
-  pub bits : (j : ℕ) → j < count → slice_index new.bookmarks j ≡ slice_index words (5 * superpages + (16 * superpage + j))
+  pub bits : (j : ℕ) → j < count → slice_index new.bookmarks j ≡ slice_index words (13 * superpages + (16 * superpage + j))
 
 -- the first headers have, in a table of so many superpages
 pub record SummariesBelow (old new : List Header) (count superpages : ℕ) (words : List ℕ) : Type 0 where
@@ -101,7 +101,7 @@ pub record PoolSet (old new : List Bool) (count start : ℕ) (words : List ℕ) 
 -- states, counters and bookmarks are those that the table's words tell, and nothing else of the headers changed
 pub record HeadersSet (k : Key) (old new : List Header) (words : List ℕ) : Type 0 where
   pub long : length new ≡ length old
-  pub near : (p : ℕ) → p < pages_of k → state_word (state_in new p) ≡ slice_index words p
+  pub near : (p : ℕ) → p < pages_of k → state_word (state_in new p) ≡ slice_index words (page_at p)
   pub far : (p : ℕ) → pages_of k ≤ p → state_in new p ≡ state_in old p
   pub else_same : (q : ℕ) → slice_index_or new q unused_header
       ≡ record (slice_index_or old q unused_header) { pages = (slice_index_or new q unused_header).pages; bookmarks = (slice_index_or new q unused_header).bookmarks; incoming = (slice_index_or new q unused_header).incoming }

@@ -18,7 +18,7 @@ use Rattle.bc_pins.specs.declared.views.Lodged.{Lodged}
 use Rattle.bc_pins.specs.declared.views.Lodged.TheVariants.{Nothing, Home, Away}
 use Rattle.bc_pins.specs.declared.views.Hand.{Hand}
 use Rattle.bc_pins.specs.declared.views.View.{View}
-use Rattle.bc_pins.specs.Key.{Key, pages_of, owner, counter_at, bookmark_at, mark_at, finished_at, frame_at, frame_words, frame_slot, store_slot}
+use Rattle.bc_pins.specs.Key.{Key, pages_of, owner, page_at, counter_at, bookmark_at, mark_at, finished_at, frame_at, frame_words, frame_slot, store_slot}
 use Rattle.bc_pins.specs.Totals.{total, times, sum_to}
 use Rattle.bc_pins.specs.Contents.{IsContent, RefersYoung, IsBarePage, objects_in}
 use Rattle.bc_pins.specs.Views.{grips, grips_remembered, frame_in_hand, counted_for, sets_bit, marked_for, has_role, entries, opened_word, record_of}
@@ -31,6 +31,10 @@ Slot = maybe.Option (maybe.Option Lodged)
 
 abbrev pub word : Table → ℕ → ℕ
 word s i = slice_index s.words i
+
+-- a page's word
+abbrev pub page_word : Table → ℕ → ℕ
+page_word s page = word s (page_at page)
 
 -- what lies in a slot: `some (some x)` where it is at home
 abbrev pub slot : Table → ℕ → Slot
@@ -54,12 +58,12 @@ Lies (suc (suc (suc (suc (suc n))))) frame store c = ⊥
 
 -- and a page is in hand in exactly one view where its word is Held, and in none else
 pub record Place (k : Key) (s : Table) (rec : ℕ → List ℕ) (page : ℕ) : Type 0 where
-  pub lies : Lies (word s page) (slot s (frame_slot k page)) (slot s (store_slot k page)) (rec page)
-  pub held : total (λ (v : View). grips page v.hand) s.views ≡ one_if (word s page == 3)
+  pub lies : Lies (page_word s page) (slot s (frame_slot k page)) (slot s (store_slot k page)) (rec page)
+  pub held : total (λ (v : View). grips page v.hand) s.views ≡ one_if (page_word s page == 3)
 
 -- how often the page is Remembered, or in hand with its holder's view saying so: once or not
 abbrev pub remembered_now : Table → ℕ → ℕ
-remembered_now s page = one_if (word s page == 2) + total (λ (v : View). grips_remembered page v.hand) s.views
+remembered_now s page = one_if (page_word s page == 2) + total (λ (v : View). grips_remembered page v.hand) s.views
 
 -- a bit of a bookmark word, in the table and at the opening, and whether it is that of an allocated cell
 abbrev pub bookmark_bit : Key → List ℕ → ℕ → ℕ → ℕ
@@ -88,8 +92,8 @@ pub record Summary (k : Key) (words : List ℕ) (page : ℕ) (c : List ℕ) : Ty
 pub record Content (k : Key) (s : Table) (rec : ℕ → List ℕ) (page : ℕ) : Type 0 where
   pub fixed : IsContent k.opening page (rec page)
   pub young : RefersYoung k.opening page (rec page) → 0 < remembered_now s page
-  pub bare : word s page ≡ 0 → IsBarePage k.opening page
-  pub gone : word s page ≡ 4 → Summary k s.words page (rec page)
+  pub bare : page_word s page ≡ 0 → IsBarePage k.opening page
+  pub gone : page_word s page ≡ 4 → Summary k s.words page (rec page)
 
 -- how often the page was Remembered at the opening or was put back so
 abbrev pub remembered_ever : Key → Table → ℕ → ℕ
@@ -100,8 +104,8 @@ remembered_ever k s page = one_if (opened_word k page == 2) + total (λ (v : Vie
 pub record Standing (k : Key) (s : Table) (page : ℕ) : Type 0 where
   pub remembered : 0 < remembered_ever k s page → 0 < remembered_now s page
   pub recorded : 0 < remembered_now s page → 0 < remembered_ever k s page
-  pub gone : one_if (word s page == 4) + total (λ (v : View). times page v.fetched) s.views ≡ one_if (opened_word k page == 4) + total (λ (v : View). times page v.left) s.views
-  pub absent : one_if (word s page == 0) ≡ one_if (opened_word k page == 0) + total (λ (v : View). times page v.emptied) s.views
+  pub gone : one_if (page_word s page == 4) + total (λ (v : View). times page v.fetched) s.views ≡ one_if (opened_word k page == 4) + total (λ (v : View). times page v.left) s.views
+  pub absent : one_if (page_word s page == 0) ≡ one_if (opened_word k page == 0) + total (λ (v : View). times page v.emptied) s.views
 
 -- Content, of one seat: the lane that holds a page's domain records its content, and nobody else changes it. What a seat has in
 -- hand has the content that it took
@@ -113,7 +117,7 @@ pub record RecordsContent (k : Key) (rec : ℕ → List ℕ) (v : View) : Type 0
 -- Seen: a page that was read as Remembered is Remembered or in hand so, and an own page that was read as Gone is Gone
 pub record Saw (k : Key) (s : Table) (v : View) : Type 0 where
   pub seen : (p : ℕ) → 0 < times p v.seen → (p < pages_of k) × (0 < remembered_now s p)
-  pub gone : (p : ℕ) → 0 < times p v.gone → (p < pages_of k) × (0 < has_role v (owner k p)) × (word s p ≡ 4)
+  pub gone : (p : ℕ) → 0 < times p v.gone → (p < pages_of k) × (0 < has_role v (owner k p)) × (page_word s p ≡ 4)
 
 -- a seat that has done nothing and has nothing in hand
 pub record IsIdle (v : View) : Type 0 where
@@ -172,7 +176,7 @@ points k page c q = one_if (has_target_in (objects_in k.opening c) page q)
 -- what a page adds to a superpage's counter: where it is Gone what its content adds_to, and where it is in hand what its holder
 -- counted for it
 abbrev pub adds_to : Key → Table → (ℕ → List ℕ) → ℕ → ℕ → ℕ
-adds_to k s rec q page = (if word s page == 4 then points k page (rec page) q else 0) + total (λ (v : View). counted_for page q v.hand) s.views
+adds_to k s rec q page = (if page_word s page == 4 then points k page (rec page) q else 0) + total (λ (v : View). counted_for page q v.hand) s.views
 
 -- Counters: each superpage's counter is what all pages add
 abbrev pub Counters : Key → Table → (ℕ → List ℕ) → ℕ → Type 0

@@ -4,7 +4,7 @@ use Rattle.bc_superpages.specs.declared.headers.Header.{Header}
 use Rattle.bc_superpages.specs.Headers.{unused_header}
 use Rattle.bc_superpages.specs.Parts.{state_in}
 use Rattle.bc_pins.specs.declared.key.Turn.{Turn}
-use Rattle.bc_pins.specs.Key.{Key, is_lanes, pages_of, counter_at, bookmark_at, frame_at, frame_words, mark_at, finished_at, all_words}
+use Rattle.bc_pins.specs.Key.{Key, is_lanes, pages_of, page_at, counter_at, bookmark_at, frame_at, frame_words, mark_at, finished_at, all_words}
 use Rattle.std.specs.Int.{bit_at}
 use Rattle.bc_bits.specs.Counting.{one_if}
 use Rattle.bc_frames.specs.Pool.{is_free}
@@ -31,6 +31,12 @@ pub record Extends (old new : List ℕ) (count : ℕ) (f : ℕ → ℕ) : Type 0
   pub long : length new ≡ length old + count
   pub kept : (i : ℕ) → i < length old → slice_index new i ≡ slice_index old i
   pub added : (i : ℕ) → i < count → slice_index new (length old + i) ≡ f i
+
+-- the words of the pages of so many superpages were added
+pub record AddsStates (headers : List Header) (old new : List ℕ) (superpages : ℕ) : Type 0 where
+  pub long : length new ≡ length old + 12 * superpages
+  pub kept : (i : ℕ) → i < length old → slice_index new i ≡ slice_index old i
+  pub states : (p : ℕ) → p < 4 * superpages → slice_index new (length old + page_at p) ≡ state_word (state_in headers p)
 
 -- a set of a header
 abbrev pub set_in : CellSet → Header → List ℕ
@@ -62,7 +68,7 @@ pub record HasMarkWords (headers : List Header) (superpages : ℕ) (old new : Li
 -- the words tell what the headers do
 pub record IsFilled (k : Key) (headers : List Header) (words : List ℕ) : Type 0 where
   pub long : length words ≡ all_words k
-  pub states : (p : ℕ) → p < pages_of k → slice_index words p ≡ state_word (state_in headers p)
+  pub states : (p : ℕ) → p < pages_of k → slice_index words (page_at p) ≡ state_word (state_in headers p)
   pub counters : (q : ℕ) → q < k.supers → slice_index words (counter_at k q) ≡ (header_in headers q).incoming
   pub bookmarks : (w : ℕ) → w < 16 * k.supers → slice_index words (bookmark_at k w) ≡ set_word Bookmarks headers w
   pub frames : (f : ℕ) → f < 64 * frame_words k → bit_at (slice_index words (frame_at k (f / 64))) (f % 64) ≡ in_use k.pool f

@@ -1,5 +1,5 @@
 -- What a table is told once, when it is made, and where its words lie.
-use Rattle.std.specs.Prelude.{ℕ, ◌+◌, ◌*◌, ◌/◌, Bool, true, false, if◌then◌else◌, List, slice_index}
+use Rattle.std.specs.Prelude.{ℕ, ◌+◌, ◌*◌, ◌/◌, ◌%◌, Bool, true, false, if◌then◌else◌, List, slice_index}
 use Rattle.bc_pins.specs.declared.key.Turn.{Turn}
 use Rattle.bc_pins.specs.declared.key.Turn.TheVariants.{Lanes, Mark}
 use Rattle.bc_pins.specs.declared.key.Role.{Role}
@@ -48,15 +48,24 @@ owner k page = slice_index k.owners (slice_index k.opening.domains (page / 4))
 
 -- Where the words lie: first a word for each page, then by superpage its counter, then its sixteen bookmark words, then
 -- the frame words, then the next notice. A mark turn has besides by superpage sixteen mark words, then sixteen finished
--- words, then the queue words
+-- words, then the queue words.
+-- The words of a superpage's four pages stand together, and eight that nobody uses stand between them and the next one's: so
+-- no two superpages have words of pages in one cache line of eight words, wherever the first word lies
+abbrev pub page_at : ℕ → ℕ
+page_at page = 12 * (page / 4) + page % 4
+
+-- where the words of pages end
+abbrev pub pages_end : Key → ℕ
+pages_end k = 12 * k.supers
+
 abbrev pub counter_at : Key → ℕ → ℕ
-counter_at k superpage = pages_of k + superpage
+counter_at k superpage = pages_end k + superpage
 
 abbrev pub bookmark_at : Key → ℕ → ℕ
-bookmark_at k word = pages_of k + (k.supers + word)
+bookmark_at k word = pages_end k + (k.supers + word)
 
 abbrev pub frame_at : Key → ℕ → ℕ
-frame_at k word = pages_of k + (k.supers + (16 * k.supers + word))
+frame_at k word = pages_end k + (k.supers + (16 * k.supers + word))
 
 -- how many words the frames have: a bit for each, set where the frame is in use
 abbrev pub frame_words : Key → ℕ
@@ -83,8 +92,8 @@ all_words k = notice_at k + 1 + (if k.lanes then 0 else 32 * k.supers + queue_wo
 
 -- the same by superpages, frames and turn
 abbrev pub table_words : ℕ → ℕ → Turn → ℕ
-table_words supers frames Lanes = 21 * supers + (frames + 63) / 64 + 1
-table_words supers frames Mark = 21 * supers + (frames + 63) / 64 + 1 + (32 * supers + (4 * supers + 63) / 64)
+table_words supers frames Lanes = 29 * supers + (frames + 63) / 64 + 1
+table_words supers frames Mark = 29 * supers + (frames + 63) / 64 + 1 + (32 * supers + (4 * supers + 63) / 64)
 
 -- the slots of a page
 abbrev pub frame_slot : Key → ℕ → ℕ

@@ -15,7 +15,7 @@ use Rattle.bc_pins.specs.declared.key.Turn.{Turn}
 use Rattle.bc_pins.specs.declared.key.Role.{Role}
 use Rattle.bc_pins.specs.declared.views.Lodged.{Lodged}
 use Rattle.bc_pins.specs.declared.views.View.{View}
-use Rattle.bc_pins.specs.Key.{Key, pages_of, counter_at, all_words, is_lanes, lane_role, role_number}
+use Rattle.bc_pins.specs.Key.{Key, pages_of, page_at, counter_at, all_words, is_lanes, lane_role, role_number}
 use Rattle.bc_pins.specs.Totals.{times, sum_to}
 use Rattle.bc_pins.specs.Contents.{IsContent, RefersYoung, IsBarePage}
 use Rattle.bc_pins.specs.Views.{opened_content, opened_word, record_of}
@@ -29,7 +29,7 @@ opened k words slots = opening words slots (fresh k k.roles)
 -- a page: its word tells its state and its box lies so; its content keeps what is fixed, refers to no nursery but where the page
 -- is Remembered, and where it is Absent it has no allocated cell
 pub record OpensPage (k : Key) (words : List ℕ) (slots : List Lodged) (p : ℕ) : Type 0 where
-  pub word : slice_index words p ≡ opened_word k p
+  pub word : slice_index words (page_at p) ≡ opened_word k p
   pub not_held : opened_word k p ≢ 3
   pub lies : Lies (opened_word k p) (get_elem? (map some slots) p) (get_elem? (map some slots) (pages_of k + p)) (opened_content k p)
   pub fixed : IsContent k.opening p (opened_content k p)
@@ -53,12 +53,12 @@ pub record MayOpen (k : Key) (words : List ℕ) (slots : List Lodged) : Type 0 w
 -- a page of a table that is closed, where v is the view that all others were joined into: its box lies as its word tells, with
 -- the record as its content
 pub record ClosesPage (k : Key) (v : View) (words : List ℕ) (slots : List Lodged) (p : ℕ) : Type 0 where
-  pub not_held : slice_index words p ≢ 3
-  pub lies : Lies (slice_index words p) (get_elem? (map some slots) p) (get_elem? (map some slots) (pages_of k + p)) (record_of v p)
+  pub not_held : slice_index words (page_at p) ≢ 3
+  pub lies : Lies (slice_index words (page_at p)) (get_elem? (map some slots) p) (get_elem? (map some slots) (pages_of k + p)) (record_of v p)
   pub fixed : IsContent k.opening p (record_of v p)
-  pub young : RefersYoung k.opening p (record_of v p) → slice_index words p ≡ 2
-  pub bare : slice_index words p ≡ 0 → IsBarePage k.opening p
-  pub gone : slice_index words p ≡ 4 → Summary k words p (record_of v p)
+  pub young : RefersYoung k.opening p (record_of v p) → slice_index words (page_at p) ≡ 2
+  pub bare : slice_index words (page_at p) ≡ 0 → IsBarePage k.opening p
+  pub gone : slice_index words (page_at p) ≡ 4 → Summary k words p (record_of v p)
   pub standing : Standing k (record { words = words; homes = map some slots; views = v ∷ [] }) p
 
 -- words and slots of a table that is closed
@@ -67,10 +67,10 @@ pub record HasClosed (k : Key) (v : View) (words : List ℕ) (slots : List Lodge
   pub slots_long : length slots ≡ pages_of k + pages_of k
   pub pages : (p : ℕ) → p < pages_of k → ClosesPage k v words slots p
   pub frames : (f : ℕ) → Frames k (record { words = words; homes = map some slots; views = v ∷ [] }) f
-  pub counters : (q : ℕ) → q < k.supers → slice_index words (counter_at k q) ≡ sum_to (λ p. if slice_index words p == 4 then points k p (record_of v p) q else 0) (pages_of k)
+  pub counters : (q : ℕ) → q < k.supers → slice_index words (counter_at k q) ≡ sum_to (λ p. if slice_index words (page_at p) == 4 then points k p (record_of v p) q else 0) (pages_of k)
   pub bits : (w b : ℕ) → w < 16 * k.supers → b < 64 → Bits k (record { words = words; homes = map some slots; views = v ∷ [] }) w b
   pub still : Still k (record { words = words; homes = map some slots; views = v ∷ [] })
-  pub gone : (p : ℕ) → 0 < times p v.gone → (p < pages_of k) × (slice_index words p ≡ 4)
+  pub gone : (p : ℕ) → 0 < times p v.gone → (p < pages_of k) × (slice_index words (page_at p) ≡ 4)
 
 -- a space over which a table may be opened: it is summarised and closed, no cell is promised, and no page that is Home refers
 -- to a nursery. A closed table gives back such a one

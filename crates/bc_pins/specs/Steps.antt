@@ -12,7 +12,7 @@ use Rattle.bc_pins.specs.declared.views.Lodged.{Lodged}
 use Rattle.bc_pins.specs.declared.views.Lodged.TheVariants.{Nothing, Home}
 use Rattle.bc_pins.specs.declared.views.Hand.{Hand}
 use Rattle.bc_pins.specs.declared.views.View.{View}
-use Rattle.bc_pins.specs.Key.{Key, pages_of, owner, counter_at, bookmark_at, frame_at}
+use Rattle.bc_pins.specs.Key.{Key, pages_of, owner, page_at, counter_at, bookmark_at, frame_at}
 use Rattle.bc_pins.specs.Totals.{times}
 use Rattle.bc_pins.specs.Contents.{IsContent, RefersYoung, IsBarePage, objects_in}
 use Rattle.bc_pins.specs.Facts.{points}
@@ -69,7 +69,7 @@ nobody = record (fresh no_key []) { alive = false }
 -- a word of a page was read: which, and what; a Remembered is kept by all, a Gone by the lane that holds the page's domain
 abbrev pub having_read : View → ℕ → ℕ → View
 having_read v page found = record v {
-  read = (page, found) ∷ v.read;
+  read = (page_at page, found) ∷ v.read;
   seen = if found == 2 then page ∷ v.seen else v.seen;
   gone = if (found == 4) && owns v page then page ∷ v.gone else v.gone;
 }
@@ -77,7 +77,7 @@ having_read v page found = record v {
 -- the page is in hand
 abbrev pub gripping : View → ℕ → Bool → Homed → View
 gripping v page remembered homed = record v {
-  read = (page, if remembered then 2 else 1) ∷ v.read;
+  read = (page_at page, if remembered then 2 else 1) ∷ v.read;
   hand = Some (record {
     page = page;
     remembered = remembered;
@@ -195,15 +195,15 @@ pub record Takes (v : View) (page : ℕ) (remembered : Bool) (homed : Homed) : T
 
 -- Take: the page is in hand with its box, or the word that was read is told
 pub record Took (st : Step Lodged) (m : Mine) (found : ℕ) (m' : Mine) : Type 0 where
-  pub hit : found ≡ st.first → (homed : Homed)
-      × (m' ≡ (gripping m.0 st.word (st.first == 2) homed, both_slots m.0.about st.word (Home homed) Nothing))
-      × Takes m.0 st.word (st.first == 2) homed
-  pub miss : found ≢ st.first → (m' ≡ (having_read m.0 st.word found, m.1)) × ReadsWord m.0 st.word found
+  pub hit : (page : ℕ) → st.word ≡ page_at page → found ≡ st.first → (homed : Homed)
+      × (m' ≡ (gripping m.0 page (st.first == 2) homed, both_slots m.0.about page (Home homed) Nothing))
+      × Takes m.0 page (st.first == 2) homed
+  pub miss : (page : ℕ) → st.word ≡ page_at page → found ≢ st.first → (m' ≡ (having_read m.0 page found, m.1)) × ReadsWord m.0 page found
 
 -- Release: nothing is in hand, and the slots are at home
 pub record Gave (st : Step Lodged) (m m' : Mine) : Type 0 where
   pub slots : m'.1 ≡ rest (rest m.1)
-  pub view : (homed : Homed) → m.1 ≡ (st.word, Home homed) ∷ rest m.1 → m'.0 ≡ released m.0 st.word (st.first == 2) homed.page
+  pub view : (page : ℕ) (homed : Homed) → st.word ≡ page_at page → m.1 ≡ (page, Home homed) ∷ rest m.1 → m'.0 ≡ released m.0 page (st.first == 2) homed.page
 
 -- Bookmark bit, and counter add, of the page in hand
 pub record SetBits (st : Step Lodged) (m : Mine) (found : ℕ) (m' : Mine) : Type 0 where
@@ -229,8 +229,8 @@ pub record Vacated (st : Step Lodged) (m m' : Mine) : Type 0 where
 
 -- Look
 pub record Looked (st : Step Lodged) (m : Mine) (found : ℕ) (m' : Mine) : Type 0 where
-  pub view : m' ≡ (having_read m.0 st.word found, m.1)
-  pub reads : ReadsWord m.0 st.word found
+  pub view : (page : ℕ) → st.word ≡ page_at page → m' ≡ (having_read m.0 page found, m.1)
+  pub reads : (page : ℕ) → st.word ≡ page_at page → ReadsWord m.0 page found
 
 -- Split: a new seat has the first role, and the other keeps the rest
 abbrev pub dealer : View → View

@@ -1,11 +1,11 @@
 //! The words of a table at its opening.
 
-ghost use Rattle.std.specs.Prelude.{◌≡◌, ℕ, ◌+◌, ◌*◌, ◌/◌, ◌%◌, ◌^◌, ◌<◌, ◌≤◌, [], length, slice_index, slice_index_or, vec_capacity};
+ghost use Rattle.std.specs.Prelude.{◌≡◌, ℕ, ◌+◌, ◌*◌, ◌/◌, ◌%◌, ◌^◌, ◌<◌, ◌≤◌, if◌then◌else◌, nat_lt, [], length, slice_index, slice_index_or, vec_capacity};
 ghost use Rattle.bc_superpages.specs.Headers.{unused_header};
-ghost use Rattle.bc_superpages.specs.Parts.{state_in};
+ghost use Rattle.bc_superpages.specs.declared.headers.PageState.TheVariants.{Absent};
 ghost use Rattle.bc_pins.specs.Views.{state_word};
 ghost use Rattle.bc_pins.specs.Key.{Key, table_words};
-ghost use Rattle.bc_pins.specs.Filling.{Extends, AddsFrames, IsSized, IsFilled, HasMarkWords, set_in};
+ghost use Rattle.bc_pins.specs.Filling.{Extends, AddsFrames, AddsStates, IsSized, IsFilled, HasMarkWords, set_in};
 
 use crate::key::Turn;
 use bc_frames::FramePool;
@@ -44,15 +44,28 @@ fn set_word(header: &Header, set: CellSet, word: usize) -> u64
     }
 }
 
-/// Adds the words of so many pages.
-pub(crate) fn push_states(words: &mut Vec<u64>, headers: &[Header], pages: usize)
-    requires pages { pages ≤ 4 * length headers.now }
-    requires room { length words.old.items + pages ≤ vec_capacity words.old }
-    ensures added { Extends words.old.items words.new.items pages (λ p. state_word (state_in headers.now p)) }
+/// A word of those of a superpage's pages: the word of a page, or one that nobody uses.
+fn page_word(header: &Header, place: usize) -> u64
+    requires { place < 12 }
+    ensures word { result ≡ (if nat_lt place 4 then state_word (slice_index_or header.now.pages place Absent) else 0) }
+{
+    if place < 4 {
+        word_of(header.pages[place])
+    } else {
+        0
+    }
+}
+
+/// Adds the words of the pages of so many superpages.
+pub(crate) fn push_states(words: &mut Vec<u64>, headers: &[Header], superpages: usize)
+    requires superpages { superpages ≤ length headers.now }
+    requires few { superpages ≤ 4096 }
+    requires room { length words.old.items + 12 * superpages ≤ vec_capacity words.old }
+    ensures added { AddsStates headers.now words.old.items words.new.items superpages }
     ensures room { vec_capacity words.new ≡ vec_capacity words.old }
 {
-    for page in 0..pages {
-        words.push_reserved(word_of(headers[page / 4].pages[page % 4]));
+    for entry in 0..12 * superpages {
+        words.push_reserved(page_word(&headers[entry / 12], entry % 12));
     }
 }
 
@@ -109,7 +122,7 @@ pub(crate) fn word_count(superpages: usize, frames: usize, turn: Turn) -> usize
     requires { (superpages ≤ 4096) × (frames < 2 ^ 32) }
     ensures { result ≡ table_words superpages frames turn }
 {
-    let lanes = 21 * superpages + (frames + 63) / 64 + 1;
+    let lanes = 29 * superpages + (frames + 63) / 64 + 1;
     match turn {
         Turn::Lanes => lanes,
         Turn::Mark => lanes + (32 * superpages + (4 * superpages + 63) / 64),
@@ -130,7 +143,7 @@ pub(crate) fn fill_words(
     ensures filled { (k : Key) → IsSized k superpages pool.now turn → IsFilled k headers.now words.new.items }
 {
     let frames = pool.frames() as usize;
-    push_states(words, headers, 4 * superpages);
+    push_states(words, headers, superpages);
     push_counters(words, headers, superpages);
     push_sets(words, headers, superpages, CellSet::Bookmarks);
     push_frames(words, pool, (frames + 63) / 64);

@@ -4,11 +4,12 @@ ghost use Rattle.std.specs.Prelude.{◌≡◌, ℕ, ◌+◌, ◌-◌, ◌*◌, �
 ghost use Rattle.core.specs.Mem.Slots.{slots_items, slots_filled, slots_len, IsFull};
 ghost use Rattle.bc_superpages.specs.Headers.{unused_header};
 ghost use Rattle.bc_superpages.specs.Kept.{IsCellSet};
+ghost use Rattle.bc_pins.specs.Key.{page_at};
 ghost use Rattle.bc_pins.specs.Totals.{times};
 ghost use Rattle.bc_pins.specs.Views.{state_word};
 ghost use Rattle.bc_pins.specs.Closing.{AreBack, Gathered, StatesSet, SummarySet, SummariesSet, PoolSet, opens_of};
 
-use crate::key::About;
+use crate::key::{About, page_entry};
 use crate::pins::Seat;
 use crate::rule::{TurnRule, Unite};
 use crate::views::{Lodged, View};
@@ -85,14 +86,14 @@ fn state_of(word: u64) -> PageState
 
 /// Writes into the headers what the words of so many pages tell.
 pub(crate) fn set_states(headers: &mut Vec<Header>, closed: &Closed<Lodged, Global>, pages: usize)
-    requires pages { pages ≤ 4 * length headers.old.items }
-    requires words { IsFull closed.now.words × (pages ≤ slots_len closed.now.words) }
+    requires pages { (pages ≤ 4 * length headers.old.items) × (pages < 2 ^ 32) }
+    requires words { IsFull closed.now.words × (3 * pages ≤ slots_len closed.now.words) }
     requires long { (q : ℕ) → length (slice_index_or headers.old.items q unused_header).pages ≡ 4 }
-    requires few { (p : ℕ) → p < pages → slice_index (slots_items closed.now.words) p ≤ 4 }
+    requires few { (p : ℕ) → p < pages → slice_index (slots_items closed.now.words) (page_at p) ≤ 4 }
     ensures set { StatesSet headers.old.items headers.new.items pages (slots_items closed.now.words) }
 {
     for page in 0..pages {
-        headers[page / 4].pages[page % 4] = state_of(closed.word(page));
+        headers[page / 4].pages[page % 4] = state_of(closed.word(page_entry(page)));
     }
 }
 
@@ -104,13 +105,13 @@ fn set_summary(
     superpages: usize,
 )
     requires superpage { (superpage < superpages) × (superpages ≤ 4096) }
-    requires words { IsFull closed.now.words × (21 * superpages ≤ slots_len closed.now.words) }
+    requires words { IsFull closed.now.words × (29 * superpages ≤ slots_len closed.now.words) }
     requires sixteen { IsCellSet header.old.bookmarks }
     ensures set { SummarySet header.old header.new superpage superpages (slots_items closed.now.words) 16 }
 {
-    header.incoming = closed.word(4 * superpages + superpage);
+    header.incoming = closed.word(12 * superpages + superpage);
     for word in 0..16 {
-        header.bookmarks[word] = closed.word(5 * superpages + (16 * superpage + word));
+        header.bookmarks[word] = closed.word(13 * superpages + (16 * superpage + word));
     }
 }
 
@@ -121,7 +122,7 @@ pub(crate) fn set_summaries(
     superpages: usize,
 )
     requires superpages { (superpages ≤ length headers.old.items) × (superpages ≤ 4096) }
-    requires words { IsFull closed.now.words × (21 * superpages ≤ slots_len closed.now.words) }
+    requires words { IsFull closed.now.words × (29 * superpages ≤ slots_len closed.now.words) }
     requires sets { (q : ℕ) → q < superpages → IsCellSet (slice_index_or headers.old.items q unused_header).bookmarks }
     ensures set { SummariesSet headers.old.items headers.new.items superpages (slots_items closed.now.words) }
 {

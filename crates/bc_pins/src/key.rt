@@ -1,5 +1,8 @@
 //! What a table is told once, when it is made.
 
+ghost use Rattle.std.specs.Prelude.{◌≡◌, ◌<◌, ◌^◌};
+ghost use Rattle.bc_pins.specs.Key.{page_at};
+
 use bc_frames::{Frame, FramePool};
 use bc_superpages::Space;
 use std::marker::Model;
@@ -39,6 +42,14 @@ pub struct About {
     pub holders: Snapshot<Vec<u32>>,
     pub roles: Snapshot<Vec<Role>>,
     pub nursery: Snapshot<Vec<Frame>>,
+}
+
+/// Where a page's word lies among the words of a table.
+pub(crate) fn page_entry(page: usize) -> usize
+    requires { page < 2 ^ 32 }
+    ensures { result ≡ page_at page }
+{
+    12 * (page / 4) + page % 4
 }
 
 impl Model for About {

@@ -8,6 +8,7 @@ ghost use Rattle.bc_pins.specs.declared.taking.TakeNo.TheVariants.{Busy};
 ghost use Rattle.bc_pins.specs.Calls.{key_of, view_of, IsAt, IsSameSeat, IsFree, HoldsPage, Grasps, MayWork, MayPut, tried, refusal_word, IsPlainVictim, IsTakeRefused, WasSeen, put_back};
 
 use crate::holding::Held;
+use crate::key::page_entry;
 use crate::pins::{Pins, Seat};
 use crate::rule::{Look, Release, Take};
 use crate::views::Lodged;
@@ -99,7 +100,7 @@ impl Pins {
     {
         let words = &self.table.shared;
         let slot = page as usize;
-        let found = words.compare_exchange::<Take>(&mut seat.inner, slot, old, HELD);
+        let found = words.compare_exchange::<Take>(&mut seat.inner, page_entry(slot), old, HELD);
         if found != old {
             return Err(found);
         }
@@ -130,7 +131,7 @@ impl Pins {
         let words = &self.table.shared;
         let slot = page as usize;
         words.exchange(&mut seat.inner, slot, Lodged::Home(homed));
-        words.store::<Release>(&mut seat.inner, slot, word_at_home(remembered));
+        words.store::<Release>(&mut seat.inner, page_entry(slot), word_at_home(remembered));
     }
 
     /// ReadsWord where a page is.
@@ -145,7 +146,7 @@ impl Pins {
         let found = self
             .table
             .shared
-            .load::<Look>(&mut seat.inner, page as usize);
+            .load::<Look>(&mut seat.inner, page_entry(page as usize));
         match found {
             0 => PageState::Absent,
             HOME => PageState::Home,

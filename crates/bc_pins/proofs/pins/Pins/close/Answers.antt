@@ -2,7 +2,7 @@ use Rattle.std.proofs.Common.{◌≡◌, ℕ, ◌≤◌, List, length, get_or, a
 use Rattle.core.specs.Mem.Slots.{slots_items, slots_len, IsFull}
 use Rattle.bc_frames.specs.Places.{StoreView}
 use Rattle.bc_superpages.specs.declared.parts.SpaceParts.{SpaceParts}
-use Rattle.bc_pins.specs.Key.{pages_of}
+use Rattle.bc_pins.specs.Key.{pages_of, page_at}
 use Rattle.bc_pins.specs.Resting.{RestView}
 use Rattle.bc_pins.proofs.HeaderLemmas.{sets_are}
 use Rattle.bc_pins.proofs.ClosingLemmas.{gathered_ends, words_few, ended_from, ended_parts, ended_space}
@@ -13,7 +13,7 @@ set_states-requires-clause-few c = λ p lt.
     let self = c.args.self in
     let final = c.close_with-closed.ensures.values in
     let count : c.rest.inside.pages ≡ pages_of self.table.shared.key = ap (λ (r : RestView). r.pages) c.rest.view_is ∙ self.paged in
-    subst (λ (l : List ℕ). get_or l p 0 ≤ 4) (sym (ap slots_items c.drain.ensures.words))
+    subst (λ (l : List ℕ). get_or l (page_at p) 0 ≤ 4) (sym (ap slots_items c.drain.ensures.words))
     (words_few self.table.shared.key _ _ _ (gathered_ends _ _ _ _ _ _ c.unite_all-root.ensures.gathered final.2) p (omega arith))
 
 pub set_summaries-requires-clause-words : goal.set_summaries-requires-clause-words

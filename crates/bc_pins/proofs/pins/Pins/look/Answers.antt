@@ -6,4 +6,5 @@ pub load-found-requires : goal.load-found-requires
 load-found-requires c =
     let size = c.args.self.now.words in
     let lt = c.requires.page in
-    (c.requires.seat.table, omega arith, looked _ _ _ _ _ lt c.requires.seat.about)
+    let entry = c.page_entry.ensures in
+    (c.requires.seat.table, omega arith, looked _ _ _ _ _ _ entry lt c.requires.seat.about)
