@@ -25,11 +25,11 @@ use Rattle.bc_pins.specs.Key.{Key, pages_of}
 use Rattle.bc_pins.specs.Totals.{times}
 use Rattle.bc_pins.specs.Contents.{IsContent, RefersYoung, objects_in}
 use Rattle.bc_pins.specs.Views.{sets_bit}
-use Rattle.bc_pins.specs.Steps.{IsBookmarkedBy, MayLeave, both_slots}
+use Rattle.bc_pins.specs.Steps.{Takes, IsBookmarkedBy, MayLeave, both_slots}
 use Rattle.bc_pins.specs.Facts.{points}
-use Rattle.bc_pins.specs.Calls.{key_of, view_of, slots_of, IsAt, IsSameSeat, HoldsPage}
+use Rattle.bc_pins.specs.Calls.{key_of, view_of, slots_of, IsAt, IsSameSeat, HoldsPage, Grasps}
 use Rattle.bc_pins.proofs.TallyLemmas.{number_few}
-use Rattle.bc_pins.proofs.VisitLemmas.{at_after, same_after}
+use Rattle.bc_pins.proofs.VisitLemmas.{at_after, same_after, may_put_taken}
 use Rattle.bc_evict.specs.Evicting.{HasNoMarks, MayBookmark, MayRelinquish}
 use Rattle.bc_evict.specs.Marking.{sets_cell, HasBookmarked, IsWalked, IsTargetWord, Marks, Counts}
 use Rattle.bc_evict.proofs.ContentLemmas.{target-allocated, names-allocated, field-on, word-target}
@@ -38,6 +38,24 @@ use Rattle.bc_evict.proofs.MarkLemmas.{reads-then, Marks-same}
 
 some_hand : (x y : Hand) → Some x ≡ Some y → x ≡ y
 some_hand x y e = cc
+
+-- a page that was taken may be bookmarked
+pub may-bookmark : (v : View) (seat : Seat) (page : ℕ) (held : Held) → Grasps v seat page held → Takes v page held.remembered held.homed → held.remembered ≡ false → HasCell v.about.opening page → MayBookmark seat held
+may-bookmark v seat page held g t quiet there =
+    let was = may_put_taken v seat page held g t in
+    let in_hand : (hand : Hand) → (view_of seat).hand ≡ Some hand → hand ≡ record { page = page; remembered = held.remembered; frame = held.homed.frame; content = held.homed.page; counted = []; marked = []; looked = [] } =
+    λ hand had. some_hand _ _ (sym had ∙ ap (λ (w : View). w.hand) g.view) in
+    record {
+      as_taken = record {
+        content = λ hand had. ap (λ (h : Hand). h.content) (in_hand hand had);
+        taken = λ hand had. ap (λ (h : Hand). h.remembered) (in_hand hand had) ∙ quiet;
+        quiet = quiet;
+      };
+      unmarked = record { counted = was.counted; marked = was.marked };
+      there = subst (λ (w : View). HasCell w.about.opening held.page) (sym g.view) (subst (λ (p : ℕ). HasCell v.about.opening p) (sym g.is) there);
+      fixed = was.fixed;
+      young = was.young;
+    }
 
 -- a page that may be bookmarked is one to walk over
 pub walked-at : (pins : Pins) (seat : Seat) (held : Held) → IsAt pins seat → HoldsPage seat held → MayBookmark seat held → IsWalked pins seat held

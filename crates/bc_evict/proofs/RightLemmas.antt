@@ -16,6 +16,7 @@ use Rattle.bc_pins.specs.Totals.{times}
 use Rattle.bc_pins.specs.Contents.{IsBarePage}
 use Rattle.bc_pins.specs.Steps.{given_back, giving, AreRights, MayVacate, both_slots}
 use Rattle.bc_pins.specs.Calls.{key_of, view_of, slots_of, IsAt, HoldsPage}
+use Rattle.bc_pins.proofs.TotalLemmas.{one_same, one_other}
 use Rattle.bc_evict.specs.Evicting.{HasGiven, MayDiscard, reads_of}
 use Rattle.bc_evict.proofs.MarkLemmas.{reads-else}
 
@@ -85,6 +86,24 @@ has-given v w f n found is step =
       grows = ((frame_at v.about (f / 64), found) ∷ [], ap (λ (x : View). x.read) view);
       reads = λ i ne. ap (λ (x : View). reads_of i x.read) view ∙ reads-else i (frame_at v.about (f / 64)) found v.read (λ e. ne (sym e));
     }
+
+-- no right is left where each was given back
+no-rights : (l : List ℕ) → ((f : ℕ) → times f l ≡ 0) → l ≡ []
+no-rights [] none = refl
+no-rights (f ∷ l) none = let one = one_same f in let z = none f in absurd (omega arith)
+
+given-all : (f : ℕ) (l : List ℕ) → times f l ≡ 0 → ((g : ℕ) → g ≢ f → times g l ≡ times g (f ∷ [])) → l ≡ []
+given-all f l none others = no-rights l (λ g. elim (cases_eq g f) [
+  | inl e ↦ ap (λ (i : ℕ). times i l) e ∙ none
+  | inr ne ↦ let z = others g ne in let o = one-else f g (λ e. ne (sym e)) in omega arith
+])
+  where
+    one-else : (a b : ℕ) → a ≢ b → times b (a ∷ []) ≡ 0
+    one-else a b ne = let z = one_other a b ne in omega arith
+
+-- the one right was given back
+pub rights-gone : (v w : View) (f : ℕ) → HasGiven v f w → v.rights ≡ f ∷ [] → w.rights ≡ []
+rights-gone v w f h e = given-all f w.rights h.none (λ g ne. h.others g ne ∙ ap (times g) e)
 
 -- a page without an allocated cell may be made Absent
 pub may-vacate : (pins : Pins) (a b : Seat) (held : Held) (page : ℕ) → IsAt pins a → HoldsPage a held → MayDiscard a held → page ≡ held.page → view_of b ≡ view_of a → slots_of b ≡ both_slots (key_of pins) held.page Nothing (Away held.homed.page)

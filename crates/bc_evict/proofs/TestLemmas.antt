@@ -1,5 +1,5 @@
 -- What the tests' lane, pager and space need.
-use Rattle.std.proofs.Common.{◌≡◌, ◌≢◌, ℕ, ◌+◌, ◌*◌, ◌/◌, ◌<◌, ◌≤◌, true, false, inl, inr, List, [], ◌∷◌, length, map, set, get_or, slice_index, Some, refl, ap, sym, subst, ◌∙◌, arith, get_or-set_same, get_or-set_other}
+use Rattle.std.proofs.Common.{◌≡◌, ℕ, ◌+◌, ◌*◌, ◌/◌, ◌<◌, ◌≤◌, true, false, inl, inr, List, [], ◌∷◌, length, map, set, get_or, slice_index, refl, ap, sym, subst, ◌∙◌, arith, get_or-set_same, get_or-set_other}
 use Rattle.std.proofs.lemmas.Bool.{cases_eq, and_left}
 use Rattle.std.proofs.lemmas.List.{get_or_past}
 use Rattle.bc_bits.specs.Bits.{has}
@@ -17,7 +17,6 @@ use Rattle.bc_superpages.specs.Calls.{fields_at}
 use Rattle.bc_superpages.specs.Kept.{IsLayout}
 use Rattle.bc_bookmarks.specs.Targets.{is_target, HasCell}
 use Rattle.bc_bookmarks.proofs.SoundLemmas.{IsSound}
-use Rattle.bc_pins.specs.declared.views.Hand.{Hand}
 use Rattle.bc_pins.specs.declared.views.View.{View}
 use Rattle.bc_pins.specs.declared.pins.Pins.{Pins}
 use Rattle.bc_pins.specs.declared.pins.Seat.{Seat}
@@ -32,9 +31,8 @@ use Rattle.bc_pins.specs.Steps.{Takes}
 use Rattle.bc_pins.specs.Opening.{IsOpenable}
 use Rattle.bc_pins.specs.Calls.{key_of, view_of, IsAt, Grasps, MayPut, tried}
 use Rattle.bc_pins.proofs.TallyLemmas.{target_in}
-use Rattle.bc_pins.proofs.TotalLemmas.{one_same, one_other}
+use Rattle.bc_pins.proofs.TotalLemmas.{one_same}
 use Rattle.bc_pins.proofs.VisitLemmas.{may_put_taken, tried_about, tried_roles, takes_tried}
-use Rattle.bc_evict.specs.Evicting.{MayBookmark, HasGiven}
 use Rattle.bc_evict.specs.Objects.{HeldHasObject}
 use Rattle.bc_evict.proofs.ContentLemmas.{word-target}
 
@@ -87,27 +85,6 @@ young-written s page o bits n c lt is y = record {
   ];
 }
 
-some_hand : (x y : Hand) → Some x ≡ Some y → x ≡ y
-some_hand x y e = cc
-
--- a page that was taken may be bookmarked
-pub may-bookmark : (v : View) (seat : Seat) (page : ℕ) (held : Held) → Grasps v seat page held → Takes v page held.remembered held.homed → held.remembered ≡ false → HasCell v.about.opening page → MayBookmark seat held
-may-bookmark v seat page held g t quiet there =
-    let was = may_put_taken v seat page held g t in
-    let in_hand : (hand : Hand) → (view_of seat).hand ≡ Some hand → hand ≡ record { page = page; remembered = held.remembered; frame = held.homed.frame; content = held.homed.page; counted = []; marked = []; looked = [] } =
-    λ hand had. some_hand _ _ (sym had ∙ ap (λ (w : View). w.hand) g.view) in
-    record {
-      as_taken = record {
-        content = λ hand had. ap (λ (h : Hand). h.content) (in_hand hand had);
-        taken = λ hand had. ap (λ (h : Hand). h.remembered) (in_hand hand had) ∙ quiet;
-        quiet = quiet;
-      };
-      unmarked = record { counted = was.counted; marked = was.marked };
-      there = subst (λ (w : View). HasCell w.about.opening held.page) (sym g.view) (subst (λ (p : ℕ). HasCell v.about.opening p) (sym g.is) there);
-      fixed = was.fixed;
-      young = was.young;
-    }
-
 -- a page that a lane took and wrote may be put back
 module _ (pins : Pins) (old seat : Seat) (page : ℕ) (held : Held) (c : List ℕ) (at : IsAt pins old) (g : Grasps (tried (view_of old) page Work held.remembered) seat page held) where
   abbrev v : View
@@ -138,20 +115,6 @@ module _ (pins : Pins) (old seat : Seat) (page : ℕ) (held : Held) (c : List �
         marked = was.marked;
       }
 
--- no right is left where each was given back
-pub no-rights : (l : List ℕ) → ((f : ℕ) → times f l ≡ 0) → l ≡ []
-no-rights [] none = refl
-no-rights (f ∷ l) none = let one = one_same f in let z = none f in absurd (omega arith)
-
-pub given-all : (f : ℕ) (l : List ℕ) → times f l ≡ 0 → ((g : ℕ) → g ≢ f → times g l ≡ times g (f ∷ [])) → l ≡ []
-given-all f l none others = no-rights l (λ g. elim (cases_eq g f) [
-  | inl e ↦ ap (λ (i : ℕ). times i l) e ∙ none
-  | inr ne ↦ let z = others g ne in let o = one-else f g (λ e. ne (sym e)) in omega arith
-])
-  where
-    one-else : (a b : ℕ) → a ≢ b → times b (a ∷ []) ≡ 0
-    one-else a b ne = let z = one_other a b ne in omega arith
-
 -- the only lane holds each page of domain 0
 pub lane-owns : (k : Key) (v : View) (page : ℕ) → k.owners ≡ map lane_role (0 ∷ []) → slice_index k.opening.domains (page / 4) ≡ 0 → ((r : ℕ) → has_role v r ≡ times r (lane_role 0 ∷ [])) → 0 < has_role v (owner k page)
 lane-owns k v page owners domain roles =
@@ -160,9 +123,6 @@ lane-owns k v page owners domain roles =
     let r : has_role v (owner k page) ≡ has_role v (lane_role 0) = ap (has_role v) own in
     let z = roles (lane_role 0) in
     omega arith
-
-pub rights-gone : (v w : View) (f : ℕ) → HasGiven v f w → v.rights ≡ f ∷ [] → w.rights ≡ []
-rights-gone v w f h e = given-all f w.rights h.none (λ g ne. h.others g ne ∙ ap (times g) e)
 
 -- an object on a page that was taken
 pub object-in-hand : (pins : Pins) (old seat : Seat) (page cell : ℕ) (held : Held) (want : Want) → IsAt pins old → Grasps (tried (view_of old) page want held.remembered) seat page held → Takes (view_of old) page held.remembered held.homed

@@ -22,7 +22,7 @@ use Rattle.bc_pins.specs.Calls.{refusal_word, IsTakeRefused}
 use Rattle.bc_pins.proofs.TotalLemmas.{times_append, one_same}
 use Rattle.bc_pager.specs.declared.walking.Kind.{Kind}
 use Rattle.bc_pager.specs.declared.walking.Kind.TheVariants.{Bare, Filled}
-use Rattle.bc_pager.specs.Looking.{MayStay, TookNone, WasFound, all_pages, steps_behind}
+use Rattle.bc_pager.specs.Looking.{reads_at, MayStay, TookNone, WasFound, all_pages, steps_behind}
 use Rattle.bc_pager.specs.Taking.{IsOfKind, MayStayAs, first_page, HasLooked, HasTried, HasTriedUpTo, IsTakenFor, HasTakenFirst}
 use Rattle.bc_pager.proofs.RoundLemmas.{one_place, order_kept}
 
@@ -91,9 +91,9 @@ looked-once k v w page n ne view = record {
   view = subst (λ (x : View). x ≡ record v { read = (page, n) ∷ v.read; seen = x.seen; gone = x.gone }) (sym view) refl;
 }
 
-pub found-once : (page n : ℕ) → 0 < times n (reads_of page ((page, n) ∷ []))
+pub found-once : (page n : ℕ) → 0 < times n (reads_at page ((page, n) ∷ []))
 found-once page n =
-    let e : times n (reads_of page ((page, n) ∷ [])) ≡ one_if (n == n) + 0 = ap (λ (b : Bool). times n (if b then n ∷ [] else [])) (eq-eqb page page refl) in
+    let e : times n (reads_at page ((page, n) ∷ [])) ≡ one_if (n == n) + 0 = ap (λ (b : Bool). times n (if b then n ∷ [] else [])) (eq-eqb page page refl) in
     let one = one_same n in
     omega arith
 
@@ -140,7 +140,7 @@ tried-refused k v w page kind why about r = record {
   looked = looked-once k v w page (refusal_word why) (never_one why) (refused_view v w page why r);
   found = λ is.
       let at = refused_at k v w page kind why about r is in
-      record { place = at.0; among = at.1; read = subst (λ (n : ℕ). 0 < times n (reads_of page ((page, refusal_word why) ∷ []))) (sym at.2) (found-once page (refusal_word why)) };
+      record { place = at.0; among = at.1; read = subst (λ (n : ℕ). 0 < times n (reads_at page ((page, refusal_word why) ∷ []))) (sym at.2) (found-once page (refusal_word why)) };
 }
 
 pub tried-other : (k : Key) (v : View) (page : ℕ) (kind other : Kind) → IsOfKind k other page → (other ≡ kind → ⊥) → HasTried k kind page v v

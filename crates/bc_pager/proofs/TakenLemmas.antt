@@ -11,7 +11,8 @@ use Rattle.bc_superpages.specs.LayoutAt.{IsAllocated}
 use Rattle.bc_bookmarks.specs.Targets.{HasCell}
 use Rattle.bc_evict.specs.Evicting.{MayBookmark, MayDiscard, HasGiven, given_up, discarded, reads_of}
 use Rattle.bc_evict.specs.Marking.{HasBookmarked, ReadsNoPage}
-use Rattle.bc_evict.proofs.TestLemmas.{rights-gone, may-bookmark}
+use Rattle.bc_evict.proofs.BookmarkLemmas.{may-bookmark}
+use Rattle.bc_evict.proofs.RightLemmas.{rights-gone}
 use Rattle.bc_pins.specs.declared.holding.Held.{Held}
 use Rattle.bc_pins.specs.declared.pins.Seat.{Seat}
 use Rattle.bc_pins.specs.declared.views.Hand.{Hand}

@@ -3,20 +3,19 @@
 use Rattle.std.specs.Prelude.{◌≡◌, ℕ, ◌<◌, ◌==◌, List, [], ◌∷◌, ◌++◌}
 use Rattle.bc_bits.specs.Counting.{one_if}
 use Rattle.bc_bookmarks.specs.Targets.{HasCell}
-use Rattle.bc_evict.specs.Evicting.{reads_of}
 use Rattle.bc_pins.specs.declared.views.View.{View}
 use Rattle.bc_pins.specs.Key.{Key, pages_of}
 use Rattle.bc_pins.specs.Contents.{IsBarePage}
 use Rattle.bc_pager.specs.declared.answers.Answer.{Answer}
 use Rattle.bc_pager.specs.declared.answers.Answer.TheVariants.{Discarded, Evicted, Declined}
-use Rattle.bc_pager.specs.Looking.{MayStay, MayStayBare, MayStayFilled, TookNone, IsAccountedFor, all_pages, ComesBefore}
+use Rattle.bc_pager.specs.Looking.{reads_at, MayStay, MayStayBare, MayStayFilled, TookNone, IsAccountedFor, all_pages, ComesBefore}
 
 -- of page words first the looks were made, with no page in hand, and then this page was taken from Home; after that none was read
 pub record TookAfter (k : Key) (v : View) (looks : List (ℕ × ℕ)) (page : ℕ) (w : View) : Type 0 where
   pub later : List (ℕ × ℕ)
   pub read : w.read ≡ later ++ (page, 1) ∷ looks ++ v.read
   pub none : TookNone k looks
-  pub else_none : (i : ℕ) → i < pages_of k → reads_of i later ≡ []
+  pub else_none : (other : ℕ) → other < pages_of k → reads_at other later ≡ []
 
 -- the page had no allocated cell, and it was taken from Home and made Absent
 pub record HasDiscarded (k : Key) (v : View) (page : ℕ) (w : View) : Type 0 where

@@ -30,16 +30,20 @@ MayStay state.Remembered = Unit {0}
 MayStay state.Held = Unit {0}
 MayStay state.Gone = Unit {0}
 
+-- what was read of a page's word
+abbrev pub reads_at : ℕ → List (ℕ × ℕ) → List ℕ
+reads_at page reads = reads_of page reads
+
 -- no page was read as Home. A pager gets a page into its hands only by a step that reads its word as Home; so where nothing was in
 -- its hands before these words were read, nothing was while they were
 abbrev pub TookNone : Key → List (ℕ × ℕ) → Type 0
-TookNone k looks = (page : ℕ) → page < pages_of k → times 1 (reads_of page looks) ≡ 0
+TookNone k looks = (page : ℕ) → page < pages_of k → times 1 (reads_at page looks) ≡ 0
 
 -- the page's word was read, and told one of these states
 pub record WasFound (looks : List (ℕ × ℕ)) (page : ℕ) (Where : PageState → Type 0) : Type 0 where
   pub place : PageState
   pub among : Where place
-  pub read : 0 < times (state_word place) (reads_of page looks)
+  pub read : 0 < times (state_word place) (reads_at page looks)
 
 -- the page was looked at and found so; or it lies behind the table, where every page is Absent from the opening to the close, and to
 -- look at it is to see where the table ends

@@ -3,7 +3,6 @@ use Rattle.std.specs.Prelude.{◌≡◌, ℕ, ◌%◌, ◌<◌, if◌then◌else
 use Rattle.bc_superpages.specs.declared.headers.PageState.{PageState}
 use Rattle.bc_superpages.specs.declared.spaces.Homed.{Homed}
 use Rattle.bc_bookmarks.specs.Targets.{HasCell}
-use Rattle.bc_evict.specs.Evicting.{reads_of}
 use Rattle.bc_pins.specs.declared.holding.Held.{Held}
 use Rattle.bc_pins.specs.declared.pins.Seat.{Seat}
 use Rattle.bc_pins.specs.declared.views.View.{View}
@@ -13,7 +12,7 @@ use Rattle.bc_pins.specs.Steps.{Takes}
 use Rattle.bc_pins.specs.Calls.{Grasps}
 use Rattle.bc_pager.specs.declared.walking.Kind.{Kind}
 use Rattle.bc_pager.specs.declared.walking.Kind.TheVariants.{Bare, Filled}
-use Rattle.bc_pager.specs.Looking.{MayStayBare, MayStayFilled, TookNone, WasFound, all_pages, steps_behind, ComesBefore}
+use Rattle.bc_pager.specs.Looking.{reads_at, MayStayBare, MayStayFilled, TookNone, WasFound, all_pages, steps_behind, ComesBefore}
 
 -- what lies on a page of this kind, and where one may be that can't be had
 abbrev pub IsOfKind : Key → Kind → ℕ → Type 0
@@ -71,7 +70,7 @@ pub record HasTakenFirst (k : Key) (kind : Kind) (hint : ℕ) (v : View) (seat :
 pub record ReadNoPage (k : Key) (v w : View) : Type 0 where
   pub later : List (ℕ × ℕ)
   pub read : w.read ≡ later ++ v.read
-  pub none : (i : ℕ) → i < pages_of k → reads_of i later ≡ []
+  pub none : (page : ℕ) → page < pages_of k → reads_at page later ≡ []
 
 -- the page that was in hand is Absent, or Gone, and its frame was given back
 pub record HasVacated (k : Key) (v : View) (page : ℕ) (w : View) : Type 0 where

@@ -4,7 +4,8 @@ use Rattle.bc_pins.specs.declared.views.View.{View}
 use Rattle.bc_pins.specs.Key.{Key, pages_of}
 use Rattle.bc_pins.specs.Calls.{key_of, view_of}
 use Rattle.bc_pins.proofs.VisitLemmas.{holds_taken, may_put_taken}
-use Rattle.bc_evict.proofs.TestLemmas.{may-bookmark, cell-there}
+use Rattle.bc_evict.proofs.BookmarkLemmas.{may-bookmark}
+use Rattle.bc_evict.proofs.TestLemmas.{cell-there}
 use Rattle.bc_evict.proofs.tests.is_evicted.Goals as goal
 
 pub take-requires-clause-page : goal.take-requires-clause-page
