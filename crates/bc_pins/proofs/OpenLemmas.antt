@@ -9,7 +9,7 @@ use Rattle.bc_pins.specs.declared.views.Lodged.{Lodged}
 use Rattle.bc_pins.specs.declared.views.View.{View}
 use Rattle.bc_pins.specs.Key.{Key}
 use Rattle.bc_pins.specs.Views.{opened_content, opened_word}
-use Rattle.bc_pins.specs.Facts.{Table, word, page_word}
+use Rattle.bc_pins.specs.Facts.{Table, page_word}
 use Rattle.bc_pins.specs.Rule.{SeatFacts, Rule}
 use Rattle.bc_pins.specs.Steps.{fresh}
 use Rattle.bc_pins.specs.Opening.{opened, MayOpen}
