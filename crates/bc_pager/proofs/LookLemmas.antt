@@ -1,5 +1,5 @@
 -- What was read of pages, and what a refused take tells.
-use Rattle.std.proofs.Common.{◌≡◌, ◌≢◌, ℕ, ◌+◌, ◌%◌, ◌<◌, ◌≤◌, ◌==◌, ◌⊎◌, Bool, true, false, if◌then◌else◌, List, [], ◌∷◌, ◌++◌, length, inl, inr, refl, ap, sym, subst, ◌∙◌, arith, append_assoc, length-append}
+use Rattle.std.proofs.Common.{◌≡◌, ◌≢◌, ℕ, ◌+◌, ◌%◌, ◌<◌, ◌≤◌, ◌==◌, Bool, true, false, if◌then◌else◌, List, [], ◌∷◌, ◌++◌, inl, inr, refl, ap, sym, subst, ◌∙◌, arith, append_assoc}
 use Rattle.std.proofs.lemmas.Bool.{cases_lt, cases_Bool, eq-eqb, ne_eqb}
 use Rattle.bc_bits.specs.Counting.{one_if}
 use Rattle.bc_superpages.specs.declared.headers.PageState.{PageState}
@@ -8,15 +8,14 @@ use Rattle.bc_bookmarks.specs.Targets.{HasCell}
 use Rattle.bc_evict.specs.Evicting.{reads_of}
 use Rattle.bc_pins.specs.declared.holding.Held.{Held}
 use Rattle.bc_pins.specs.declared.pins.Seat.{Seat}
-use Rattle.bc_pins.specs.declared.taking.Want.{Want}
 use Rattle.bc_pins.specs.declared.taking.Want.TheVariants.{Work, Victim}
 use Rattle.bc_pins.specs.declared.taking.TakeNo.{TakeNo}
 use Rattle.bc_pins.specs.declared.taking.TakeNo.TheVariants as refusal
 use Rattle.bc_pins.specs.declared.views.View.{View}
-use Rattle.bc_pins.specs.Key.{Key, pages_of}
+use Rattle.bc_pins.specs.Key.{Key, pages_of, page_at}
 use Rattle.bc_pins.specs.Totals.{times}
 use Rattle.bc_pins.specs.Contents.{IsBarePage}
-use Rattle.bc_pins.specs.Views.{state_word, opened_state}
+use Rattle.bc_pins.specs.Views.{state_word}
 use Rattle.bc_pins.specs.Steps.{having_read}
 use Rattle.bc_pins.specs.Calls.{refusal_word, IsTakeRefused}
 use Rattle.bc_pins.proofs.TotalLemmas.{times_append, one_same}
@@ -44,10 +43,10 @@ times-reads n i a b = ap (times n) (reads-append i a b) ∙ times_append n (read
 
 -- what was found is found among more
 pub found-first : (a b : List (ℕ × ℕ)) (q : ℕ) (Where : PageState → Type 0) → WasFound a q Where → WasFound (a ++ b) q Where
-found-first a b q Where f = record { place = f.place; among = f.among; read = let sum = times-reads (state_word f.place) q a b in let some = f.read in omega arith }
+found-first a b q Where f = record { place = f.place; among = f.among; read = let sum = times-reads (state_word f.place) (page_at q) a b in let some = f.read in omega arith }
 
 pub found-last : (a b : List (ℕ × ℕ)) (q : ℕ) (Where : PageState → Type 0) → WasFound b q Where → WasFound (a ++ b) q Where
-found-last a b q Where f = record { place = f.place; among = f.among; read = let sum = times-reads (state_word f.place) q a b in let some = f.read in omega arith }
+found-last a b q Where f = record { place = f.place; among = f.among; read = let sum = times-reads (state_word f.place) (page_at q) a b in let some = f.read in omega arith }
 
 pub found-as : (a : List (ℕ × ℕ)) (q : ℕ) (One Other : PageState → Type 0) → ((st : PageState) → One st → Other st) → WasFound a q One → WasFound a q Other
 found-as a q One Other to f = record { place = f.place; among = to f.place f.among; read = f.read }
@@ -66,7 +65,7 @@ stays-so Filled state.Held m = m
 stays-so Filled state.Gone m = m
 
 took-none : (k : Key) (a b : List (ℕ × ℕ)) → TookNone k a → TookNone k b → TookNone k (a ++ b)
-took-none k a b x y page lt = let sum = times-reads 1 page a b in let m = x page lt in let n = y page lt in omega arith
+took-none k a b x y page lt = let sum = times-reads 1 (page_at page) a b in let m = x page lt in let n = y page lt in omega arith
 
 -- no look, and some looks and then more
 pub looked-none : (k : Key) (v : View) → HasLooked k v v []
@@ -85,15 +84,15 @@ no_one : (b : Bool) (n : ℕ) → n ≢ 1 → times 1 (if b then n ∷ [] else [
 no_one true n ne = let z : one_if (n == 1) ≡ 0 = ap one_if (ne_eqb n 1 ne) in omega arith
 no_one false n ne = refl
 
-pub looked-once : (k : Key) (v w : View) (page n : ℕ) → n ≢ 1 → w ≡ having_read v page n → HasLooked k v w ((page, n) ∷ [])
+pub looked-once : (k : Key) (v w : View) (page n : ℕ) → n ≢ 1 → w ≡ having_read v page n → HasLooked k v w ((page_at page, n) ∷ [])
 looked-once k v w page n ne view = record {
-  none = λ q lt. no_one (page == q) n ne;
-  view = subst (λ (x : View). x ≡ record v { read = (page, n) ∷ v.read; seen = x.seen; gone = x.gone }) (sym view) refl;
+  none = λ q lt. no_one (page_at page == page_at q) n ne;
+  view = subst (λ (x : View). x ≡ record v { read = (page_at page, n) ∷ v.read; seen = x.seen; gone = x.gone }) (sym view) refl;
 }
 
-pub found-once : (page n : ℕ) → 0 < times n (reads_at page ((page, n) ∷ []))
+pub found-once : (page n : ℕ) → 0 < times n (reads_at page ((page_at page, n) ∷ []))
 found-once page n =
-    let e : times n (reads_at page ((page, n) ∷ [])) ≡ one_if (n == n) + 0 = ap (λ (b : Bool). times n (if b then n ∷ [] else [])) (eq-eqb page page refl) in
+    let e : times n (reads_at page ((page_at page, n) ∷ [])) ≡ one_if (n == n) + 0 = ap (λ (b : Bool). times n (if b then n ∷ [] else [])) (eq-eqb (page_at page) (page_at page) refl) in
     let one = one_same n in
     omega arith
 
@@ -136,11 +135,11 @@ refused_view v w page why r = elim r.read [
 -- a page that was tried and refused, and one that wasn't tried
 pub tried-refused : (k : Key) (v w : View) (page : ℕ) (kind : Kind) (why : TakeNo) → v.about ≡ k → IsTakeRefused v page Victim why w → HasTried k kind page v w
 tried-refused k v w page kind why about r = record {
-  looks = (page, refusal_word why) ∷ [];
+  looks = (page_at page, refusal_word why) ∷ [];
   looked = looked-once k v w page (refusal_word why) (never_one why) (refused_view v w page why r);
   found = λ is.
       let at = refused_at k v w page kind why about r is in
-      record { place = at.0; among = at.1; read = subst (λ (n : ℕ). 0 < times n (reads_at page ((page, refusal_word why) ∷ []))) (sym at.2) (found-once page (refusal_word why)) };
+      record { place = at.0; among = at.1; read = subst (λ (n : ℕ). 0 < times n (reads_at page ((page_at page, refusal_word why) ∷ []))) (sym at.2) (found-once page (refusal_word why)) };
 }
 
 pub tried-other : (k : Key) (v : View) (page : ℕ) (kind other : Kind) → IsOfKind k other page → (other ≡ kind → ⊥) → HasTried k kind page v v

@@ -4,7 +4,7 @@ use Rattle.bc_frames.specs.Places.{one_more}
 use Rattle.bc_bits.specs.Counting.{one_if}
 use Rattle.bc_pins.specs.declared.views.View.{View}
 use Rattle.bc_pins.specs.Key.{Key}
-use Rattle.bc_pins.specs.Totals.{total, times}
+use Rattle.bc_pins.specs.Totals.{times}
 use Rattle.bc_pins.proofs.TotalLemmas.{total_append}
 use Rattle.bc_pager.specs.declared.answers.Answer.{Answer}
 use Rattle.bc_pager.specs.declared.answers.Answer.TheVariants.{Discarded, Evicted, Declined}

@@ -1,10 +1,9 @@
 -- Pages that are taken and given up.
-use Rattle.std.proofs.Common.{◌≡◌, ◌≢◌, ℕ, ◌+◌, ◌-◌, ◌*◌, ◌/◌, ◌<◌, ◌≤◌, ◌⊎◌, Bool, true, false, if◌then◌else◌, List, [], ◌∷◌, ◌++◌, length, inl, inr, Option, Some, None, refl, ap, sym, subst, ◌∙◌, arith, append_assoc, length-append}
-use Rattle.std.proofs.lemmas.Bool.{cases_lt, cases_Bool, and_parts, and_from, eqb-true, eq-eqb}
+use Rattle.std.proofs.Common.{◌≡◌, ℕ, ◌+◌, ◌-◌, ◌*◌, ◌/◌, ◌<◌, ◌≤◌, ◌⊎◌, Bool, true, false, if◌then◌else◌, List, [], ◌∷◌, ◌++◌, length, inl, inr, Option, Some, None, refl, ap, sym, subst, ◌∙◌, arith, append_assoc, length-append}
+use Rattle.std.proofs.lemmas.Bool.{cases_lt, cases_Bool}
 use Rattle.bc_bits.specs.Counting.{any_below}
 use Rattle.bc_bits.proofs.AnyLemmas.{any_below-some, any_below-at}
 use Rattle.bc_word.specs.Addresses.{page_of}
-use Rattle.bc_superpages.specs.declared.headers.PageState.{PageState}
 use Rattle.bc_superpages.specs.declared.headers.PageState.TheVariants as state
 use Rattle.bc_superpages.specs.Layout.{Layout, is_cell}
 use Rattle.bc_superpages.specs.LayoutAt.{IsAllocated}
@@ -17,16 +16,16 @@ use Rattle.bc_pins.specs.declared.holding.Held.{Held}
 use Rattle.bc_pins.specs.declared.pins.Seat.{Seat}
 use Rattle.bc_pins.specs.declared.views.Hand.{Hand}
 use Rattle.bc_pins.specs.declared.views.View.{View}
-use Rattle.bc_pins.specs.Key.{Key, pages_of, frame_at}
+use Rattle.bc_pins.specs.Key.{Key, pages_of, page_at, frame_at}
 use Rattle.bc_pins.specs.Contents.{IsBarePage}
 use Rattle.bc_pins.specs.Views.{opened_state}
-use Rattle.bc_pins.specs.Steps.{gripping, Takes}
+use Rattle.bc_pins.specs.Steps.{Takes}
 use Rattle.bc_pins.specs.Calls.{view_of, HoldsPage}
 use Rattle.bc_pins.proofs.VisitLemmas.{holds_taken, may_put_taken}
 use Rattle.bc_pager.specs.declared.walking.Kind.{Kind}
 use Rattle.bc_pager.specs.declared.walking.Kind.TheVariants.{Bare, Filled}
-use Rattle.bc_pager.specs.Looking.{MayStay, MayStayBare, MayStayFilled, WasFound, IsAccountedFor, all_pages, ComesBefore}
-use Rattle.bc_pager.specs.Taking.{IsOfKind, HasLooked, HasTriedAll, IsTakenFor, HasTakenFirst, ReadNoPage, HasVacated, HasEvacuated}
+use Rattle.bc_pager.specs.Looking.{MayStay, MayStayBare, MayStayFilled}
+use Rattle.bc_pager.specs.Taking.{HasLooked, HasTriedAll, IsTakenFor, HasTakenFirst, ReadNoPage, HasVacated, HasEvacuated}
 use Rattle.bc_pager.specs.Answering.{TookAfter, HasDiscarded, HasEvicted, HasDeclined}
 use Rattle.bc_pager.proofs.LookLemmas.{reads-append, found-first, found-last, found-as, stays-so, looked-then}
 
@@ -83,7 +82,7 @@ given_reads : (k : Key) (v w : View) (frame : ℕ) → v.about ≡ k → HasGive
 given_reads k v w frame about g = record {
   later = g.grows.0;
   read = g.grows.1;
-  none = λ i lt. none_later i g.grows.0 v.read (ap (reads_of i) (sym g.grows.1) ∙ g.reads i (λ e.
+  none = λ page lt. none_later (page_at page) g.grows.0 v.read (ap (reads_of (page_at page)) (sym g.grows.1) ∙ g.reads (page_at page) (λ e.
       let at : frame_at v.about (frame / 64) ≡ frame_at k (frame / 64) = ap (λ (x : Key). frame_at x (frame / 64)) about in
       absurd (omega arith)));
 }
@@ -92,14 +91,14 @@ bookmarked_reads : (k : Key) (v w : View) → v.about ≡ k → ReadsNoPage v w 
 bookmarked_reads k v w about r = record {
   later = r.grows.0;
   read = r.grows.1;
-  none = λ i lt. none_later i r.grows.0 v.read (ap (reads_of i) (sym r.grows.1) ∙ r.pages i (subst (λ (x : Key). i < pages_of x) (sym about) lt));
+  none = λ page lt. none_later (page_at page) r.grows.0 v.read (ap (reads_of (page_at page)) (sym r.grows.1) ∙ r.pages page (subst (λ (x : Key). page < pages_of x) (sym about) lt));
 }
 
 reads_then : (k : Key) (v u w : View) → ReadNoPage k v u → ReadNoPage k u w → ReadNoPage k v w
 reads_then k v u w first next = record {
   later = next.later ++ first.later;
   read = next.read ∙ ap (λ (l : List (ℕ × ℕ)). next.later ++ l) first.read ∙ sym (append_assoc next.later first.later v.read);
-  none = λ i lt. none_both i next.later first.later (next.none i lt) (first.none i lt);
+  none = λ page lt. none_both (page_at page) next.later first.later (next.none page lt) (first.none page lt);
 }
 
 -- a page was made Absent, and its frame given back
@@ -142,9 +141,9 @@ took_after k kind v u seat held w looks looked t reads = record {
   later = reads.later;
   read = reads.read
       ∙ ap (λ (x : View). reads.later ++ x.read) t.grasps.view
-      ∙ ap (λ (b : Bool). reads.later ++ ((held.page, if b then 2 else 1) ∷ u.read)) t.quiet
-      ∙ ap (λ (x : View). reads.later ++ ((held.page, 1) ∷ x.read)) looked.view
-      ∙ sym (append_assoc reads.later ((held.page, 1) ∷ looks) v.read);
+      ∙ ap (λ (b : Bool). reads.later ++ ((page_at held.page, if b then 2 else 1) ∷ u.read)) t.quiet
+      ∙ ap (λ (x : View). reads.later ++ ((page_at held.page, 1) ∷ x.read)) looked.view
+      ∙ sym (append_assoc reads.later ((page_at held.page, 1) ∷ looks) v.read);
   none = looked.none;
   else_none = reads.none;
 }

@@ -4,7 +4,7 @@ use Rattle.std.specs.Prelude.{◌≡◌, ℕ, ◌<◌, ◌==◌, List, [], ◌�
 use Rattle.bc_bits.specs.Counting.{one_if}
 use Rattle.bc_bookmarks.specs.Targets.{HasCell}
 use Rattle.bc_pins.specs.declared.views.View.{View}
-use Rattle.bc_pins.specs.Key.{Key, pages_of}
+use Rattle.bc_pins.specs.Key.{Key, pages_of, page_at}
 use Rattle.bc_pins.specs.Contents.{IsBarePage}
 use Rattle.bc_pager.specs.declared.answers.Answer.{Answer}
 use Rattle.bc_pager.specs.declared.answers.Answer.TheVariants.{Discarded, Evicted, Declined}
@@ -13,7 +13,7 @@ use Rattle.bc_pager.specs.Looking.{reads_at, MayStay, MayStayBare, MayStayFilled
 -- of page words first the looks were made, with no page in hand, and then this page was taken from Home; after that none was read
 pub record TookAfter (k : Key) (v : View) (looks : List (ℕ × ℕ)) (page : ℕ) (w : View) : Type 0 where
   pub later : List (ℕ × ℕ)
-  pub read : w.read ≡ later ++ (page, 1) ∷ looks ++ v.read
+  pub read : w.read ≡ later ++ (page_at page, 1) ∷ looks ++ v.read
   pub none : TookNone k looks
   pub else_none : (other : ℕ) → other < pages_of k → reads_at other later ≡ []
 

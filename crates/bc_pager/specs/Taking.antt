@@ -1,7 +1,6 @@
 -- A page that is taken to be given up, those that were tried before it, and what a pager has read and done once it left.
 use Rattle.std.specs.Prelude.{◌≡◌, ℕ, ◌%◌, ◌<◌, if◌then◌else◌, nat_lt, false, List, [], ◌∷◌, ◌++◌, None}
 use Rattle.bc_superpages.specs.declared.headers.PageState.{PageState}
-use Rattle.bc_superpages.specs.declared.spaces.Homed.{Homed}
 use Rattle.bc_bookmarks.specs.Targets.{HasCell}
 use Rattle.bc_pins.specs.declared.holding.Held.{Held}
 use Rattle.bc_pins.specs.declared.pins.Seat.{Seat}

@@ -34,7 +34,7 @@ pub(crate) fn take_first(pins: &Pins, seat: &mut Seat, hint: u32, kind: Kind) ->
     let pages = pins.pages();
     let start = start_at(pins, hint);
     for steps in 0..pages {
-        let page = page_at(start, steps, pages);
+        let page = page_behind(start, steps, pages);
         if let Some(held) = take_page(pins, seat, page, kind) {
             return Some(held);
         }
@@ -57,7 +57,7 @@ fn start_at(pins: &Pins, hint: u32) -> u32
 }
 
 /// The page so many steps behind a start, going round among so many.
-fn page_at(start: u32, steps: u32, pages: u32) -> u32
+fn page_behind(start: u32, steps: u32, pages: u32) -> u32
     requires start { start < pages }
     requires steps { steps < pages }
     ensures within { result < pages }

@@ -2,7 +2,7 @@
 use Rattle.std.proofs.Common.{ℕ, ◌/◌, ◌<◌, List, ap, sym, subst, ◌∙◌, arith}
 use Rattle.bc_bits.specs.Bits.{has}
 use Rattle.bc_classes.specs.ClassNumbers.{IsClass}
-use Rattle.bc_superpages.specs.Layout.{set_of, superpages}
+use Rattle.bc_superpages.specs.Layout.{superpages}
 use Rattle.bc_bookmarks.proofs.PageCells.{cell-on_page, none-on_page, none-outside}
 use Rattle.bc_pins.specs.Calls.{key_of}
 use Rattle.bc_pager.proofs.walking.kind_of.Goals as goal

@@ -1,5 +1,5 @@
 -- Page by page, going round from the start.
-use Rattle.std.proofs.Common.{◌≡◌, ℕ, ◌<◌, ◌≤◌, ap, sym, subst, ◌∙◌, arith}
+use Rattle.std.proofs.Common.{◌≡◌, ℕ, ◌<◌, ◌≤◌, subst, arith}
 use Rattle.bc_pins.specs.Key.{pages_of}
 use Rattle.bc_pins.specs.Calls.{key_of, view_of}
 use Rattle.bc_pins.proofs.VisitLemmas.{same_after}
@@ -14,9 +14,9 @@ returns-in-Some-clause-some c =
     let within = c.facts.ensures.within in
     let few : pages_of k ≤ all_pages k = omega arith in
     let found = c.in-Some.ensures.some in
-    first-taken k c.args.kind c.args.hint c.start_at-start.result c.loop-steps.steps c.page_at-page.result (view_of c.args.seat.now) (view_of c.loop-steps.seat) c.take_page.new.seat c.in-Some.held
-    c.start_at-start.ensures.start few (subst (λ (n : ℕ). c.page_at-page.result < n) count c.page_at-page.ensures.within)
-    (subst (λ (n : ℕ). steps_behind n c.start_at-start.result c.page_at-page.result ≡ c.loop-steps.steps) count c.page_at-page.ensures.steps)
+    first-taken k c.args.kind c.args.hint c.start_at-start.result c.loop-steps.steps c.page_behind-page.result (view_of c.args.seat.now) (view_of c.loop-steps.seat) c.take_page.new.seat c.in-Some.held
+    c.start_at-start.ensures.start few (subst (λ (n : ℕ). c.page_behind-page.result < n) count c.page_behind-page.ensures.within)
+    (subst (λ (n : ℕ). steps_behind n c.start_at-start.result c.page_behind-page.result ≡ c.loop-steps.steps) count c.page_behind-page.ensures.steps)
     c.loop-steps.invariant.tried found.0 found.1
 
 pub loop-steps-preserved : goal.loop-steps-preserved
@@ -28,8 +28,8 @@ loop-steps-preserved c =
     record {
       same = same_after c.args.seat.now c.loop-steps.seat c.take_page.new.seat c.loop-steps.invariant.same c.take_page.ensures.same;
       free = refused.0;
-      tried = tried-more k c.args.kind c.start_at-start.result c.loop-steps.steps c.page_at-page.result (view_of c.args.seat.now) (view_of c.loop-steps.seat) (view_of c.take_page.new.seat)
-          (c.start_at-start.ensures.within (omega arith)) (subst (λ (n : ℕ). c.page_at-page.result < n) count c.page_at-page.ensures.within)
-          (subst (λ (n : ℕ). steps_behind n c.start_at-start.result c.page_at-page.result ≡ c.loop-steps.steps) count c.page_at-page.ensures.steps)
+      tried = tried-more k c.args.kind c.start_at-start.result c.loop-steps.steps c.page_behind-page.result (view_of c.args.seat.now) (view_of c.loop-steps.seat) (view_of c.take_page.new.seat)
+          (c.start_at-start.ensures.within (omega arith)) (subst (λ (n : ℕ). c.page_behind-page.result < n) count c.page_behind-page.ensures.within)
+          (subst (λ (n : ℕ). steps_behind n c.start_at-start.result c.page_behind-page.result ≡ c.loop-steps.steps) count c.page_behind-page.ensures.steps)
           c.loop-steps.invariant.tried refused.1;
     }

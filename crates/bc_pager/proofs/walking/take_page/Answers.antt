@@ -1,5 +1,5 @@
 -- A page of another kind isn't tried; one that was refused couldn't be had.
-use Rattle.std.proofs.Common.{◌≡◌, Bool, true, false, not, refl, ap, sym, subst, ◌∙◌}
+use Rattle.std.proofs.Common.{◌≡◌, true, false, not, refl, ap, sym, subst, ◌∙◌}
 use denote.Enum.Bare.{sameb}
 use Rattle.bc_pager.specs.contracts.walking.Kind.{the_type}
 use Rattle.bc_pager.specs.declared.walking.Kind.{Kind}
