@@ -14,7 +14,7 @@ use Rattle.bc_pins.specs.Key.{Key, pages_of, counter_at, owner}
 use Rattle.bc_pins.specs.Totals.{total, times, sum_to}
 use Rattle.bc_pins.specs.Contents.{IsContent, RefersYoung}
 use Rattle.bc_pins.specs.Views.{grips, grips_remembered, frame_in_hand, counted_for, sets_bit, has_role, opened_content, record_of}
-use Rattle.bc_pins.specs.Facts.{Table, Slot, word, Lies, Summary, Frames, frame_lodged, points, adds_to, Bits, IsIdle, page_word}
+use Rattle.bc_pins.specs.Facts.{Table, Slot, word, Lies, Summary, Frames, frame_lodged, points, adds_to, Bits, IsIdle, page_word, IsBitOfTarget}
 use Rattle.bc_pins.specs.Rule.{Rule}
 use Rattle.bc_pins.specs.Opening.{ClosesPage, HasClosed}
 use Rattle.bc_pins.proofs.TotalLemmas.{total_two, one_same}
@@ -139,6 +139,7 @@ module _ (k : Key) (s : Table) (r : Rule k s) (id : ℕ) (v : View) (at : get_el
         standing = record {
           remembered = λ lt. let a = old.remembered (omega arith) in omega arith;
           recorded = λ lt. let a = old.recorded (omega arith) in omega arith;
+          as_opened = λ turn lt. old.as_opened turn (omega arith);
           gone = omega arith;
           absent = omega arith;
         };
@@ -174,6 +175,14 @@ module _ (k : Key) (s : Table) (r : Rule k s) (id : ℕ) (v : View) (at : get_el
     counters = counters_closed;
     bits = bits_closed;
     still = record { marks = r.still.marks; finished = r.still.finished };
+    marked = λ p lt. elim ((r.seats id v at).marking.whose p lt) [
+      | inl held ↦ let z : grips p v.hand ≡ 0 = ap (grips p) nothing in absurd (omega arith)
+      | inr gone ↦ gone
+    ];
+    targets = record {
+      each = λ p w b few on. let was = (r.seats id v at).targets.each p w b few on in (was.0, subst (λ (c : List ℕ). IsBitOfTarget k p c w b) (record_is p) was.1);
+    };
+    unfetched = (r.seats id v at).seated.unfetched;
     gone = λ p lt. let saw = (r.seats id v at).saw.gone p lt in (saw.0, saw.2);
   }
 

@@ -1,5 +1,5 @@
 -- What closing a table gives.
-use Rattle.std.proofs.Common.{◌≡◌, ℕ, ◌+◌, ◌-◌, ◌*◌, ◌/◌, ◌%◌, ◌^◌, ◌<◌, ◌≤◌, ◌==◌, ◌⊎◌, List, [], length, map, get_or, slice_index, min, Option, None, refl, ap, sym, subst, ◌∙◌, arith, inl, inr, true, false, Bool}
+use Rattle.std.proofs.Common.{◌≡◌, ℕ, ◌+◌, ◌-◌, ◌*◌, ◌/◌, ◌%◌, ◌^◌, ◌<◌, ◌≤◌, ◌==◌, ◌⊎◌, List, [], length, map, get_or, slice_index, min, Option, None, refl, ap, sym, subst, ◌∙◌, arith, inl, inr, true, false, Bool, ◌&&◌, ◌∷◌, if◌then◌else◌}
 use Rattle.std.proofs.lemmas.Bool.{cases_lt, eqb-true, eq-eqb, and_from}
 use Rattle.std.proofs.lemmas.List.{length-map, get_or-map, get_or_past}
 use Rattle.atomic_table.specs.Table.{Final, Seen}
@@ -23,7 +23,7 @@ use Rattle.bc_superpages.specs.Calls.{class_at}
 use Rattle.bc_superpages.specs.Headers.{unused_header}
 use Rattle.bc_superpages.proofs.LayoutLemmas.{header_of-layout}
 use Rattle.bc_bookmarks.specs.Summarised.{IsSummarised}
-use Rattle.bc_pins.specs.Facts.{bookmark_bit, cell_bit, HasBookmarkBit}
+use Rattle.bc_pins.specs.Facts.{bookmark_bit, cell_bit, HasBookmarkBit, IsBitOfTarget}
 use Rattle.bc_pins.specs.Opening.{IsOpenable}
 use Rattle.bc_superpages.specs.LayoutAt.{state_at, header_of}
 use Rattle.bc_superpages.specs.Contents.{contents}
@@ -37,7 +37,7 @@ use Rattle.bc_pins.specs.declared.pins.Seat.{Seat}
 use Rattle.bc_pins.specs.Key.{Key, pages_of, owner, frame_at, page_at}
 use Rattle.bc_pins.specs.Contents.{IsContent, RefersYoung}
 use Rattle.bc_pins.specs.Totals.{times}
-use Rattle.bc_pins.specs.Views.{grips_remembered, state_word, opened_state, opened_content, record_of}
+use Rattle.bc_pins.specs.Views.{grips_remembered, state_word, opened_state, opened_content, record_of, sets_bit, sets_for}
 use Rattle.bc_pins.specs.Rule.{Rule}
 use Rattle.bc_pins.specs.Lodging.{Replaced, box_of, place_of}
 use Rattle.bc_pins.specs.Opening.{HasClosed, IsRest}
@@ -52,6 +52,7 @@ use Rattle.bc_pins.proofs.GatherLemmas.{entries_none}
 use Rattle.bc_pins.proofs.OpenableLemmas.{opened_none, still_openable}
 use Rattle.bc_pins.proofs.HeaderLemmas.{headers_set}
 use Rattle.bc_pins.proofs.SpaceLemmas.{content_near, content_far, closed_kept, closed_ends, closed_layout}
+use Rattle.bc_pins.proofs.PageSteps.{sets_marked}
 
 word_remembered : (st : PageState) → state_word st ≡ 2 → st ≡ state.Remembered
 word_remembered state.Remembered e = refl
@@ -66,6 +67,18 @@ word_gone state.Absent e = absurd (omega arith)
 word_gone state.Home e = absurd (omega arith)
 word_gone state.Held e = absurd (omega arith)
 word_gone state.Remembered e = absurd (omega arith)
+
+-- a bit that was set was set for some page
+set_for_some : (w b : ℕ) (l : List (ℕ × ℕ × ℕ)) → 0 < sets_bit w b l → (p : ℕ) × (0 < sets_for p w b l)
+set_for_some w b [] lt = absurd (omega arith)
+set_for_some w b (x ∷ l) lt = elim (cases_lt 0 (sets_bit w b l)) [
+  | inl more ↦ let rest = set_for_some w b l more in (rest.0, let on = rest.1 in omega arith)
+  | inr none_more ↦ (
+    x.0,
+    let here : (if (x.0 == x.0) && (x.1 == w) then bit_at x.2 b else 0) ≡ (if x.1 == w then bit_at x.2 b else 0) = ap (λ (y : Bool). if y && (x.1 == w) then bit_at x.2 b else 0) (eq-eqb x.0 x.0 refl) in
+        omega arith,
+  )
+]
 
 clash : false ≡ true → ⊥
 clash e = cc
@@ -162,6 +175,9 @@ module _ (id : TableId) (k : Key) (all : List Seat) (root : Worker Lodged View) 
       let hand : grips_remembered p v.hand ≡ 0 = ap (grips_remembered p) g.hand in
       record {
         remembered = λ lt. let a = page.remembered (omega arith) in word_remembered _ (word ∙ one_is (get_or words (page_at p) 0) 2 (omega arith));
+        as_opened = λ turn is.
+            let two : one_if (get_or words (page_at p) 0 == 2) ≡ 1 = ap (λ (n : ℕ). one_if (n == 2)) (sym word ∙ ap state_word is) in
+            page.as_opened turn (page.recorded (omega arith));
         recorded = λ is.
             let two : one_if (get_or words (page_at p) 0 == 2) ≡ 1 = ap (λ (n : ℕ). one_if (n == 2)) (sym word ∙ ap state_word is) in
             let a = page.recorded (omega arith) in
@@ -304,6 +320,22 @@ module _ (id : TableId) (k : Key) (all : List Seat) (root : Worker Lodged View) 
       bit_is (w / 16) (w % 16) b (omega arith) (omega arith) ∙ ap (λ (n : ℕ). bookmark_bit k words n b) back in
       record {
         kept = λ lt. bit_in (set_of (map (λ (h : Header). h.bookmarks) headers) (w / 16)) (w % 16) b few (is ∙ old.kept (omega arith));
+        new = λ on none_opened.
+            let one = sym is ∙ in_bit (set_of (map (λ (h : Header). h.bookmarks) headers) (w / 16)) (w % 16) b few on in
+            let a = old.only (omega arith) in
+            let entry = set_for_some w b v.bookmarked (omega arith) in
+            let target = e.closed.targets.each entry.0 w b few entry.1 in
+            let left = e.closed.marked entry.0 (sets_marked entry.0 w b v.bookmarked entry.1) in
+            let l = e.gathered.left entry.0 in
+            let standing = (e.closed.pages entry.0 target.0).standing.gone in
+            let none_fetched : times entry.0 v.fetched ≡ 0 = ap (times entry.0) e.closed.unfetched in
+            record {
+              page = entry.0;
+              inside = target.0;
+              left = omega arith;
+              gone = word_gone _ (word_is entry.0 target.0 ∙ one_is (get_or words (page_at entry.0) 0) 4 (omega arith));
+              bit = subst (λ (c : List ℕ). IsBitOfTarget k entry.0 c w b) (sym (near entry.0 target.0)) target.1;
+            };
         only = λ on.
             let one = sym is ∙ in_bit (set_of (map (λ (h : Header). h.bookmarks) headers) (w / 16)) (w % 16) b few on in
             let a = old.only (omega arith) in

@@ -1,5 +1,5 @@
 -- A table that is drawn from a space's parts meets the rule, and is what it is said to be.
-use Rattle.std.proofs.Common.{◌≡◌, ℕ, ◌*◌, ◌<◌, ◌≤◌, List, [], ◌∷◌, length, map, refl, ap, sym, subst, ◌∙◌, arith}
+use Rattle.std.proofs.Common.{◌≡◌, ℕ, ◌*◌, ◌/◌, ◌<◌, slice_index, ◌≤◌, List, [], ◌∷◌, length, map, refl, ap, sym, subst, ◌∙◌, arith}
 use Rattle.std.proofs.lemmas.List.{length-map}
 use Rattle.bc_superpages.specs.declared.headers.Header.{Header}
 use Rattle.bc_superpages.specs.declared.parts.SpaceParts.{SpaceParts}
@@ -12,7 +12,7 @@ use Rattle.bc_pins.specs.declared.key.Role.TheVariants.{Lane, Marker, Pager}
 use Rattle.bc_pins.specs.declared.pins.Pins.{Pins}
 use Rattle.bc_pins.specs.declared.pins.Seat.{Seat}
 use Rattle.bc_pins.specs.declared.views.Lodged.{Lodged}
-use Rattle.bc_pins.specs.Key.{Key, pages_of, role_number}
+use Rattle.bc_pins.specs.Key.{Key, pages_of, lane_role, role_number}
 use Rattle.bc_pins.specs.Totals.{times}
 use Rattle.bc_pins.specs.Rule.{Rule}
 use Rattle.bc_pins.specs.Filling.{IsSized, IsFilled}
@@ -23,6 +23,7 @@ use Rattle.bc_pins.proofs.TotalLemmas.{one_other}
 use Rattle.bc_pins.proofs.OpenLemmas.{starts}
 use Rattle.bc_pins.proofs.OpenableLemmas.{openable_ready}
 use Rattle.bc_pins.proofs.MayOpenLemmas.{may_open}
+use Rattle.bc_pins.specs.Facts.{IsUnheld}
 
 number_some : (r : Role) → 0 < role_number r
 number_some (Lane l) = omega arith
@@ -53,6 +54,11 @@ module _ (k : Key) (parts : SpaceParts) (supers : ℕ) (turn : Turn) (holders : 
   pub sized : IsSized k supers parts.pool turn
   sized = record { supers = supers_is; all = frames_are; lanes = ap (λ (a : Key). a.lanes) drawn.key; pool = pool_is }
 
+  pub drawn_unheld : IsUnheld k
+  drawn_unheld mark page =
+      let none_holds : k.owners ≡ [] = ap (λ (a : Key). a.owners) drawn.key ∙ ap (map lane_role) (drawn.unheld (sym (ap (λ (a : Key). a.lanes) drawn.key) ∙ mark)) in
+      ap (λ (l : List ℕ). times (slice_index l (slice_index k.opening.domains (page / 4))) k.roles) none_holds ∙ ap (times 0) roles_are ∙ nobody_has roles
+
   pub drawn_rule : (words : List ℕ) (slots : List Lodged) → IsFilled k parts.headers.items words → AreLodged parts (4 * supers) slots → Rule k (opened k words slots)
   drawn_rule words slots filled lodged =
       let size = supers_is in
@@ -62,7 +68,7 @@ module _ (k : Key) (parts : SpaceParts) (supers : ℕ) (turn : Turn) (holders : 
       starts k words slots (may_open k parts drawn.kept drawn.layout (sym pool_is) (sym (ap (λ (a : Key). a.nursery) drawn.key)) (frames_are ∙ ap length (sym pool_is))
       (omega arith) (λ p le. drawn.behind p (omega arith)) (openable_ready k.opening layout drawn.openable) drawn.openable
       (λ r. subst (λ (rs : List ℕ). times r rs ≤ 1) (sym roles_are) (drawn.apart r))
-      (ap (times 0) roles_are ∙ nobody_has roles)
+      (ap (times 0) roles_are ∙ nobody_has roles) drawn_unheld
       words filled l.first slots l.homes l.aways)
 
   pub drawn_inside : k.supers ≤ superpages k.opening

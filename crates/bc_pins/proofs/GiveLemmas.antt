@@ -3,7 +3,7 @@ use Rattle.std.proofs.Common.{◌≡◌, ℕ, ◌+◌, ◌<◌, ◌≤◌, ◌�
 use mathlib.Core.Option.{some}
 use mathlib.Core.Option as maybe
 use lib.ListN.{get_elem?}
-use Rattle.std.proofs.lemmas.Bool.{cases_eq, cases_Bool, eq-eqb, ne_eqb, ltb-true, lt-ltb}
+use Rattle.std.proofs.lemmas.Bool.{cases_eq, cases_Bool, eq-eqb, eqb-true, ne_eqb, ltb-true, lt-ltb}
 use Rattle.std.proofs.lemmas.List.{length-set}
 use Rattle.atomic_table.specs.Table.{Allows, step, gives, chain}
 use Rattle.atomic_table.proofs.Lists.{set_here, set_else}
@@ -17,12 +17,12 @@ use Rattle.bc_pins.specs.Key.{Key, pages_of, owner, page_at}
 use Rattle.bc_pins.specs.Totals.{total, times}
 use Rattle.bc_pins.specs.Contents.{IsContent, RefersYoung}
 use Rattle.bc_pins.specs.Views.{grips, grips_remembered, frame_in_hand, counted_for, marked_for, has_role, entries, look_up, opened_content}
-use Rattle.bc_pins.specs.Facts.{Table, word, slot, IsHomed, Lies, RecordsContent, Marking, frame_lodged, points, page_word}
+use Rattle.bc_pins.specs.Facts.{Table, slot, IsHomed, Lies, RecordsContent, Marking, frame_lodged, points, page_word, IsBitOfTarget, MarksTargets}
 use Rattle.bc_pins.specs.Tidy.{IsTidy}
 use Rattle.bc_pins.specs.Rule.{Rule}
 use Rattle.bc_pins.specs.Steps.{Mine, owns, both_slots, released, Gave}
 use Rattle.bc_pins.proofs.TotalLemmas.{total_set, total_at, one_same, one_other, one_is}
-use Rattle.bc_pins.proofs.PageSteps.{after, PageStep, page_step}
+use Rattle.bc_pins.proofs.PageSteps.{after, sets_marked, left_gone, PageStep, page_step}
 use Rattle.bc_pins.proofs.ReadLemmas.{same_page, saw_kept}
 use Rattle.bc_pins.proofs.TakeLemmas.{Slots, flag_is, flag_other, none_either}
 
@@ -68,7 +68,7 @@ given_frame f hs p q h ne one two =
 module _ (k : Key) (s : Table) (r : Rule k s) (id x role : ℕ) (v : View) (g : Hand) (h : Homed) (at : get_elem? s.views id ≡ some v) (lo : 1 ≤ x) (hi : x ≤ 2)
     (about : v.about ≡ k) (has : v.hand ≡ Some g) (some_role : 0 < has_role v role) (frame : h.frame ≡ g.frame)
     (fixed : IsContent k.opening g.page h.page) (young : RefersYoung k.opening g.page h.page → x ≡ 2) (flag : g.remembered ≡ true → x ≡ 2)
-    (others : has_role v (owner k g.page) ≡ 0 → h.page ≡ g.content) (uncounted : g.counted ≡ []) (unmarked : g.marked ≡ []) where
+    (others : has_role v (owner k g.page) ≡ 0 → (h.page ≡ g.content) × (x ≡ 2 → g.remembered ≡ true)) (uncounted : g.counted ≡ []) (unmarked : g.marked ≡ []) where
   abbrev p : ℕ
   p = g.page
 
@@ -144,7 +144,7 @@ module _ (k : Key) (s : Table) (r : Rule k s) (id x role : ℕ) (v : View) (g : 
   same_here = here_is p p h.page (r.rec p) refl
 
   lane_kept : has_role v (owner k p) ≡ 0 → rec' p ≡ r.rec p
-  lane_kept none_has = same_here ∙ others none_has ∙ old_record
+  lane_kept none_has = same_here ∙ (others none_has).0 ∙ old_record
 
   owning : 0 < has_role v (owner k p) → owns v p ≡ true
   owning lt = lt-ltb 0 _ (subst (λ (a : Key). 0 < has_role v (owner a p)) (sym about) lt)
@@ -199,6 +199,36 @@ module _ (k : Key) (s : Table) (r : Rule k s) (id x role : ℕ) (v : View) (g : 
         unmarked = λ z e _ lt. absurd (no_hand z e);
       }
 
+  -- what was bookmarked for other pages. This one hasn't left
+  targets_kept : MarksTargets k rec' w
+  targets_kept =
+      let facts = r.seats id v at in
+      record {
+        each = λ q y b few on.
+            let was = facts.targets.each q y b few on in
+            elim (cases_eq q p) [
+              | inl e ↦ absurd (
+                  let lt = facts.marking.unmarked g has unmarked (subst (λ (n : ℕ). 0 < marked_for n v.bookmarked) e (sets_marked q y b v.bookmarked on)) in
+                  not_four (left_gone k s r p id v at near lt))
+              | inr ne ↦ (was.0, subst (λ (c : List ℕ). IsBitOfTarget k q c y b) (sym (there_is q p h.page (r.rec q) ne)) was.1)
+            ];
+      }
+
+  -- in a mark turn it is Remembered only where it was taken so
+  again : k.lanes ≡ false → times p v.recorded < times p w.recorded → 0 < one_if (page_word s p == 2) + grips_remembered p v.hand
+  again turn more =
+      let each = r.roles.each (owner k p) in
+      let none_holds = r.unheld turn p in
+      let mine = total_at (λ (u : View). times (owner k p) u.roles) s.views id v at in
+      let two : x ≡ 2 = elim (cases_Bool (x == 2)) [
+        | inl on ↦ eqb-true x 2 on
+        | inr off ↦ let rt : times p w.recorded ≡ times p v.recorded = ap (λ (b : Bool). times p (if b then p ∷ v.recorded else v.recorded)) off in absurd (omega arith)
+      ] in
+      let on = (others (omega arith)).1 two in
+      let one : (if g.remembered then one_if (p == p) else 0) ≡ 1 = flag_is g.remembered p ∙ ap one_if on in
+      let a = flag_was p in
+      omega arith
+
   give_step : PageStep k s r.rec rec' p x homes id v w
   give_step =
       let slots = r.slots in
@@ -243,6 +273,7 @@ module _ (k : Key) (s : Table) (r : Rule k s) (id x role : ℕ) (v : View) (g : 
         summarised = λ e. absurd (omega arith);
         not_fewer = fewer;
         else_remembered = else_flag;
+        again = again;
         put_back = omega arith;
         noted = λ lt. inr (omega arith);
         kept = λ lt. omega arith;
@@ -257,6 +288,7 @@ module _ (k : Key) (s : Table) (r : Rule k s) (id x role : ℕ) (v : View) (g : 
         else_count = λ j q ne. sym (hand_counted j q);
         bookmarked = refl;
         marking = marking_kept;
+        targets = targets_kept;
         roles = refl;
         seated = record {
           about = facts.seated.about;
@@ -283,7 +315,7 @@ first_homed p q a b l m e = home_is a b (ap second e)
 -- whatever the table is, putting a page back keeps the rule
 pub gave : (k : Key) (slots id x role : ℕ) (v : View) (g : Hand) (h : Homed) → 1 ≤ x → x ≤ 2 → v.about ≡ k → v.hand ≡ Some g → 0 < has_role v role → h.frame ≡ g.frame
     → IsContent k.opening g.page h.page → (RefersYoung k.opening g.page h.page → x ≡ 2) → (g.remembered ≡ true → x ≡ 2)
-    → (has_role v (owner k g.page) ≡ 0 → h.page ≡ g.content) → g.counted ≡ [] → g.marked ≡ []
+    → (has_role v (owner k g.page) ≡ 0 → (h.page ≡ g.content) × (x ≡ 2 → g.remembered ≡ true)) → g.counted ≡ [] → g.marked ≡ []
     → Allows (Rule k) slots id (v, both_slots k g.page (Home h) Nothing) (page_at g.page) (λ _. x)
     (λ _. Gave (step slots (page_at g.page) x 0 maybe.none) (v, both_slots k g.page (Home h) Nothing))
 gave k slots id x role v g h lo hi about has some_role frame fixed young flag others uncounted unmarked s r size at fits = (
@@ -300,7 +332,7 @@ gave k slots id x role v g h lo hi about has some_role frame fixed young flag ot
 pub gives_from : (k : Key) (slots id x role : ℕ) (me : Mine) (v : View) (g : Hand) (h : Homed) (p i : ℕ) → i ≡ page_at p → me ≡ (v, both_slots k p (Home h) Nothing) → g.page ≡ p → 1 ≤ x → x ≤ 2
     → v.about ≡ k → v.hand ≡ Some g → 0 < has_role v role → h.frame ≡ g.frame
     → IsContent v.about.opening p h.page → (RefersYoung v.about.opening p h.page → x ≡ 2) → (g.remembered ≡ true → x ≡ 2)
-    → (has_role v (owner v.about p) ≡ 0 → h.page ≡ g.content) → g.counted ≡ [] → g.marked ≡ []
+    → (has_role v (owner v.about p) ≡ 0 → (h.page ≡ g.content) × (x ≡ 2 → g.remembered ≡ true)) → g.counted ≡ [] → g.marked ≡ []
     → Allows (Rule k) slots id me i (λ _. x) (λ _. Gave (step slots i x 0 maybe.none) me)
 gives_from k slots id x role me v g h p i entry is page lo hi about has some_role frame fixed young flag others uncounted unmarked =
     subst (λ (j : ℕ). Allows (Rule k) slots id me j (λ _. x) (λ _. Gave (step slots j x 0 maybe.none) me)) (sym entry)

@@ -9,12 +9,12 @@ use Rattle.bc_bits.specs.Counting.{one_if}
 use Rattle.bc_pins.specs.declared.views.View.{View}
 use Rattle.bc_pins.specs.Key.{Key, owner}
 use Rattle.bc_pins.specs.Totals.{total, times}
-use Rattle.bc_pins.specs.Views.{grips, grips_remembered, frame_in_hand, counted_for, sets_bit, marked_for, has_role, entries, look_up, opened_content, record_of}
+use Rattle.bc_pins.specs.Views.{grips, grips_remembered, frame_in_hand, counted_for, sets_bit, marked_for, has_role, entries, look_up, opened_content, record_of, sets_for}
 use Rattle.bc_pins.specs.Facts.{Table}
 use Rattle.bc_pins.specs.Rule.{SeatFacts, Rule}
 use Rattle.bc_pins.specs.Steps.{united, nobody}
 use Rattle.bc_pins.proofs.TotalLemmas.{total_set, total_two, times_append}
-use Rattle.bc_pins.proofs.SeatLemmas.{with_views, SameSums, now_same, views_step, seat_kept, no_hand, no_marking}
+use Rattle.bc_pins.proofs.SeatLemmas.{with_views, SameSums, now_same, views_step, seat_kept, no_hand, no_marking, no_targets}
 
 -- a seat is joined into another
 join_sum : (f : View → ℕ) (vs : List View) (id other : ℕ) (v w a b : View) → get_elem? vs id ≡ some v → get_elem? (set vs id a) other ≡ some w → f b ≡ 0 → f a ≡ f v + f w → total f (set (set vs id a) other b) ≡ total f vs
@@ -34,6 +34,10 @@ sets_append x b (e ∷ l) m = let a = sets_append x b l m in omega arith
 marked_append : (p : ℕ) (l m : List (ℕ × ℕ × ℕ)) → marked_for p (l ++ m) ≡ marked_for p l + marked_for p m
 marked_append p [] m = omega arith
 marked_append p (e ∷ l) m = let a = marked_append p l m in omega arith
+
+sets_for_append : (p x b : ℕ) (l m : List (ℕ × ℕ × ℕ)) → sets_for p x b (l ++ m) ≡ sets_for p x b l + sets_for p x b m
+sets_for_append p x b [] m = omega arith
+sets_for_append p x b (e ∷ l) m = let a = sets_for_append p x b l m in omega arith
 
 pub look_skips : (p : ℕ) (l m : List (ℕ × List ℕ)) (d : List ℕ) → entries p l ≡ 0 → look_up p (l ++ m) d ≡ look_up p m d
 look_skips p [] m d e = refl
@@ -190,6 +194,14 @@ module _ (k : Key) (s : Table) (r : Rule k s) (id other : ℕ) (v w : View) (at 
             | inr le ↦ let a = given_up h.page (omega arith) in omega arith
           ];
     };
+    targets = record {
+      each = λ p x b few on.
+          let c = sets_for_append p x b v.bookmarked w.bookmarked in
+          elim (cases_lt 0 (sets_for p x b v.bookmarked)) [
+            | inl has ↦ mine.targets.each p x b few has
+            | inr le ↦ theirs.targets.each p x b few (omega arith)
+          ];
+    };
   }
 
   spent : SeatFacts k (with_views s views) r.rec nobody
@@ -198,6 +210,7 @@ module _ (k : Key) (s : Table) (r : Rule k s) (id other : ℕ) (v w : View) (at 
     records = record { mine = λ p lt. absurd (omega arith); others = λ p _. refl; in_hand = λ h e. absurd (no_hand h e) };
     saw = record { seen = λ p lt. absurd (omega arith); gone = λ p lt. absurd (omega arith) };
     marking = no_marking nobody refl refl;
+    targets = no_targets k r.rec nobody refl;
   }
 
   seat_each : (j : ℕ) (u : View) → get_elem? views j ≡ some u → SeatFacts k (with_views s views) r.rec u

@@ -1,5 +1,5 @@
 -- Setting bookmark bits for the page in hand, and counting a superpage for it.
-use Rattle.std.proofs.Common.{◌≡◌, ℕ, ◌+◌, ◌*◌, ◌/◌, ◌%◌, ◌^◌, ◌<◌, ◌≤◌, ◌≢◌, ◌==◌, Bool, true, false, if◌then◌else◌, List, [], ◌∷◌, Option, Some, None, max, bit_or, length, get_or, inl, inr, refl, ap, sym, subst, ◌∙◌, arith, get_or-set_same, get_or-set_other}
+use Rattle.std.proofs.Common.{◌≡◌, ℕ, ◌+◌, ◌*◌, ◌/◌, ◌%◌, ◌^◌, ◌<◌, ◌≤◌, ◌≢◌, ◌==◌, Bool, true, false, if◌then◌else◌, List, [], ◌∷◌, Option, Some, None, max, bit_or, length, get_or, inl, inr, refl, ap, sym, subst, ◌∙◌, arith, get_or-set_same, get_or-set_other, ◌&&◌}
 use mathlib.Core.Option.{some}
 use mathlib.Core.Option as maybe
 use lib.ListN.{get_elem?}
@@ -28,8 +28,8 @@ use Rattle.bc_pins.specs.declared.views.View.{View}
 use Rattle.bc_pins.specs.Key.{Key, pages_of, owner, counter_at, bookmark_at, page_at}
 use Rattle.bc_pins.specs.Totals.{times}
 use Rattle.bc_pins.specs.Contents.{IsContent, IsFieldOn, NamesFixed, field_bits, objects_in}
-use Rattle.bc_pins.specs.Views.{grips, grips_remembered, frame_in_hand, counted_for, sets_bit, marked_for, has_role, entries, look_up, opened_content}
-use Rattle.bc_pins.specs.Facts.{Table, word, RecordsContent, Seated, Marking, points, adds_to, Counters, bookmark_bit, ever_set, cell_bit, Bits, page_word}
+use Rattle.bc_pins.specs.Views.{grips, grips_remembered, frame_in_hand, counted_for, sets_bit, marked_for, has_role, entries, look_up, opened_content, sets_for}
+use Rattle.bc_pins.specs.Facts.{Table, word, RecordsContent, Seated, Marking, points, adds_to, Counters, bookmark_bit, ever_set, cell_bit, Bits, page_word, IsBitOfTarget, MarksTargets}
 use Rattle.bc_pins.specs.Rule.{Rule}
 use Rattle.bc_pins.specs.Steps.{Mine, bookmarking, counting, AreTargets, SetBits, Counted}
 use Rattle.bc_pins.proofs.TotalLemmas.{total_set, total_less_at, one_same, one_other, one_few}
@@ -50,6 +50,12 @@ hand_few p q (Some g) once = choice_few (g.page == p) (times q g.counted) (once 
 
 some_none : (e : ℕ × ℕ) (l : List (ℕ × ℕ)) → e ∷ l ≡ [] → ⊥
 some_none e l z = cc
+
+-- a number that stands where two tests are passed
+both_are : (a b : Bool) (n : ℕ) → 0 < (if a && b then n else 0) → (a ≡ true) × (b ≡ true) × (0 < n)
+both_are true true n lt = (refl, refl, lt)
+both_are true false n lt = absurd (omega arith)
+both_are false b n lt = absurd (omega arith)
 
 cell_is : (a b : Cell) → Some a ≡ Some b → a ≡ b
 cell_is a b e = cc
@@ -206,6 +212,24 @@ module _ (k : Key) (s : Table) (r : Rule k s) (id role : ℕ) (v : View) (h : Ha
           unmarked = λ z e none_set _. absurd (some_none (w, bits) h.marked (ap (λ (y : Hand). y.marked) (some_hand _ z e) ∙ none_set));
         }
 
+    targets_now : MarksTargets k r.rec u
+    targets_now =
+        let old = (r.seats id v at).targets in
+        record {
+          each = λ p j b few on. elim (cases_lt 0 (sets_for p j b v.bookmarked)) [
+            | inl was ↦ old.each p j b few was
+            | inr none_was ↦
+                let new = both_are (h.page == p) (w == j) (bit_at bits b) (omega arith) in
+                let page : h.page ≡ p = eqb-true h.page p new.0 in
+                let word_is : w ≡ j = eqb-true w j new.1 in
+                let target : IsBitOfTarget k h.page h.content w b = targets b few new.2 in (
+                  subst (λ (n : ℕ). n < pages_of k) page near,
+                  subst (λ (n : ℕ). IsBitOfTarget k p (r.rec p) n b) word_is
+                      (subst (λ (n : ℕ). IsBitOfTarget k n (r.rec n) w b) page (subst (λ (c : List ℕ). IsBitOfTarget k h.page c w b) content target)),
+                )
+          ];
+        }
+
     mark_step : SideStep k s r.rec i x id v u
     mark_step =
         let size = r.words in
@@ -224,6 +248,7 @@ module _ (k : Key) (s : Table) (r : Rule k s) (id role : ℕ) (v : View) (h : Ha
           seated = seated_kept u refl refl refl;
           records = records_kept u (record h { marked = (w, bits) ∷ h.marked }) refl refl refl refl refl refl;
           marking = marking_now;
+          targets = targets_now;
           set = keeps_set;
           counters = λ q less. counters_same k s r i x id v u q at (omega arith) less (λ e. omega arith) (λ p. sym (ap (counted_for p q) has_one));
           bits = bits_now;
@@ -346,6 +371,7 @@ module _ (k : Key) (s : Table) (r : Rule k s) (id role : ℕ) (v : View) (h : Ha
           seated = seated_kept c_view refl refl refl;
           records = records_kept c_view (record h { counted = q ∷ h.counted }) refl refl refl refl refl refl;
           marking = c_marking;
+          targets = record { each = (r.seats id v at).targets.each };
           set = λ j b less one. ap (λ (n : ℕ). bit_at n b) (get_or-set_other s.words c_at (bookmark_at k j) y 0 (λ e. omega arith)) ∙ one;
           counters = counters_now;
           bits = λ j b less few. bits_same k s r c_at y id v c_view j b at less few (λ e. omega arith) refl;

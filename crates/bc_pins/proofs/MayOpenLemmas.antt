@@ -35,7 +35,7 @@ use Rattle.bc_pins.specs.declared.views.Lodged.TheVariants.{Nothing}
 use Rattle.bc_pins.specs.Key.{Key, pages_of, bookmark_at, page_at}
 use Rattle.bc_pins.specs.Totals.{total, times}
 use Rattle.bc_pins.specs.Views.{state_word, opened_state, opened_word, opened_content}
-use Rattle.bc_pins.specs.Facts.{frame_of, frame_lodged}
+use Rattle.bc_pins.specs.Facts.{frame_of, frame_lodged, IsUnheld}
 use Rattle.bc_pins.specs.Lodging.{Lodges, home_of, away_of}
 use Rattle.bc_pins.specs.Opening.{IsReady, IsOpenable}
 use Rattle.bc_pins.specs.Facts.{Frames, Still, frame_bit, is_clear, bookmark_bit, opened_bit, cell_bit, HasBookmarkBit, Summary, points, adds_to, Counters, Bits}
@@ -93,7 +93,7 @@ frames_same bs ps first slots n f le past one two =
 
 module _ (k : Key) (whole : SpaceParts) (kept : AreParts whole) (layout : parts_layout whole ≡ k.opening) (pool : whole.pool ≡ k.pool) (nursery : whole.nursery.items ≡ k.nursery) (frames : k.frames ≡ length k.pool)
     (within : pages_of k ≤ 4 * length whole.headers.items) (behind : (p : ℕ) → pages_of k ≤ p → state_in whole.headers.items p ≡ state.Absent) (ready : IsReady k.opening) (openable : IsOpenable k.opening)
-    (apart : (r : ℕ) → times r k.roles ≤ 1) (nobody : times 0 k.roles ≡ 0)
+    (apart : (r : ℕ) → times r k.roles ≤ 1) (nobody : times 0 k.roles ≡ 0) (unheld : IsUnheld k)
     (words : List ℕ) (filled : IsFilled k whole.headers.items words) (first slots : List Lodged)
     (one : Lodges [] first (pages_of k) (λ p. home_of (get_or whole.boxes.items p None))) (two : Lodges first slots (pages_of k) (λ p. away_of (get_or whole.store.places p None))) where
   long_boxes : length whole.boxes.items ≡ 4 * length whole.headers.items
@@ -268,6 +268,7 @@ module _ (k : Key) (whole : SpaceParts) (kept : AreParts whole) (layout : parts_
     pages = opens_page;
     apart = apart;
     nobody = nobody;
+    unheld = unheld;
     frames = frames_open;
     counters = counters_open;
     bits = bits_open;

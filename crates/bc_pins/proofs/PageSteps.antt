@@ -1,9 +1,9 @@
 -- What a step on a page word owes, and that the rule then holds after it: the frame lemma of the page words.
-use Rattle.std.proofs.Common.{◌≡◌, ℕ, ◌+◌, ◌<◌, ◌≤◌, ◌*◌, ◌/◌, ◌%◌, ◌≢◌, ◌==◌, ◌&&◌, ◌⊎◌, nat_lt, List, length, set, if◌then◌else◌, Some, inl, inr, ap, sym, subst, ◌∙◌, arith, get_or-set_same, get_or-set_other}
+use Rattle.std.proofs.Common.{◌≡◌, ℕ, ◌+◌, ◌<◌, ◌≤◌, ◌*◌, ◌/◌, ◌%◌, ◌≢◌, ◌==◌, ◌&&◌, ◌⊎◌, nat_lt, List, length, set, if◌then◌else◌, Some, inl, inr, ap, sym, subst, ◌∙◌, arith, get_or-set_same, get_or-set_other, Bool, [], ◌∷◌, false}
 use mathlib.Core.Option.{some}
 use mathlib.Core.Option as maybe
 use lib.ListN.{get_elem?}
-use Rattle.std.proofs.lemmas.Bool.{cases_eq, cases_lt, eq-eqb}
+use Rattle.std.proofs.lemmas.Bool.{cases_eq, cases_lt, eq-eqb, ne_eqb}
 use Rattle.std.proofs.lemmas.List.{length-set}
 use Rattle.atomic_table.proofs.Lists.{at_set}
 use Rattle.bc_bits.specs.Counting.{one_if}
@@ -14,10 +14,10 @@ use Rattle.bc_pins.specs.Key.{Key, pages_of, owner, counter_at, bookmark_at, fra
 use Rattle.std.specs.Int.{bit_at}
 use Rattle.bc_pins.specs.Totals.{total, times}
 use Rattle.bc_pins.specs.Contents.{IsContent, RefersYoung, IsBarePage}
-use Rattle.bc_pins.specs.Views.{grips, grips_remembered, frame_in_hand, counted_for, sets_bit, has_role, opened_content}
-use Rattle.bc_pins.specs.Facts.{Table, word, Lies, Place, remembered_now, Summary, Content, Standing, RecordsContent, Saw, Seated, Marking, Roles, frame_lodged, Frames, points, adds_to, Counters, bookmark_bit, is_clear, Bits, Still, page_word}
+use Rattle.bc_pins.specs.Views.{grips, grips_remembered, frame_in_hand, counted_for, sets_bit, has_role, opened_content, sets_for, marked_for}
+use Rattle.bc_pins.specs.Facts.{Table, word, Lies, Place, remembered_now, Summary, Content, Standing, RecordsContent, Saw, Seated, Marking, Roles, frame_lodged, Frames, points, adds_to, Counters, bookmark_bit, is_clear, Bits, Still, page_word, IsBitOfTarget, MarksTargets}
 use Rattle.bc_pins.specs.Rule.{SeatFacts, Rule}
-use Rattle.bc_pins.proofs.TotalLemmas.{total_set, total_at, total_two, one_few}
+use Rattle.bc_pins.proofs.TotalLemmas.{total_set, total_at, total_two, one_few, total_none, one_is}
 use Rattle.bc_pins.proofs.SumLemmas.{sum_same}
 use Rattle.bc_pins.proofs.MarkedLemmas.{summary_more}
 
@@ -47,6 +47,7 @@ pub record PageStep (k : Key) (s : Table) (rec rec' : ℕ → List ℕ) (p x : �
   -- remembered
   pub not_fewer : one_if (page_word s p == 2) + grips_remembered p v.hand ≤ one_if (x == 2) + grips_remembered p w.hand
   pub else_remembered : (q : ℕ) → q ≢ p → grips_remembered q w.hand ≡ grips_remembered q v.hand
+  pub again : k.lanes ≡ false → times p v.recorded < times p w.recorded → 0 < one_if (page_word s p == 2) + grips_remembered p v.hand
   pub put_back : times p v.recorded ≤ times p w.recorded
   pub noted : 0 < one_if (x == 2) + grips_remembered p w.hand → (0 < one_if (page_word s p == 2) + grips_remembered p v.hand) ⊎ (0 < times p w.recorded)
   pub kept : times p v.recorded < times p w.recorded → 0 < one_if (x == 2) + grips_remembered p w.hand
@@ -64,10 +65,30 @@ pub record PageStep (k : Key) (s : Table) (rec rec' : ℕ → List ℕ) (p x : �
   pub bookmarked : w.bookmarked ≡ v.bookmarked
   -- the seat
   pub marking : Marking w
+  pub targets : MarksTargets k rec' w
   pub roles : w.roles ≡ v.roles
   pub seated : Seated k w
   pub records : RecordsContent k rec' w
   pub saw : Saw k (after s p x homes id w) w
+
+-- a bit that was set for a page
+pub sets_marked : (p w b : ℕ) (l : List (ℕ × ℕ × ℕ)) → 0 < sets_for p w b l → 0 < marked_for p l
+sets_marked p w b [] lt = absurd (omega arith)
+sets_marked p w b (e ∷ l) lt = elim (cases_eq e.0 p) [
+  | inl is ↦ let a : one_if (e.0 == p) ≡ 1 = ap one_if (eq-eqb e.0 p is) in omega arith
+  | inr ne ↦
+      let a : (if (e.0 == p) && (e.1 == w) then bit_at e.2 b else 0) ≡ 0 = ap (λ (c : Bool). if c && (e.1 == w) then bit_at e.2 b else 0) (ne_eqb e.0 p ne) in
+      let c = sets_marked p w b l (omega arith) in
+      omega arith
+]
+
+-- a page that a seat made Gone is Gone, since none has taken one from Gone
+pub left_gone : (k : Key) (s : Table) (r : Rule k s) (p j : ℕ) (u : View) → get_elem? s.views j ≡ some u → p < pages_of k → 0 < times p u.left → page_word s p ≡ 4
+left_gone k s r p j u is near lt =
+    let gone = (r.standing p near).gone in
+    let mine = total_at (λ (z : View). times p z.left) s.views j u is in
+    let none_fetched : total (λ (z : View). times p z.fetched) s.views ≡ 0 = total_none (λ (z : View). times p z.fetched) s.views (λ i z there. ap (times p) (r.seats i z there).seated.unfetched) in
+    one_is (page_word s p) 4 (omega arith)
 
 module _ (k : Key) (s : Table) (r : Rule k s) (rec' : ℕ → List ℕ) (p x : ℕ) (homes : List (maybe.Option Lodged)) (id : ℕ) (v w : View) (at : get_elem? s.views id ≡ some v) (d : PageStep k s r.rec rec' p x homes id v w) where
   abbrev t : Table
@@ -173,6 +194,7 @@ module _ (k : Key) (s : Table) (r : Rule k s) (rec' : ℕ → List ℕ) (p x : �
       record {
         remembered = λ lt. let a = old.remembered (omega arith) in omega arith;
         recorded = λ lt. let a = old.recorded (omega arith) in omega arith;
+        as_opened = λ turn lt. old.as_opened turn (omega arith);
         gone = omega arith;
         absent = omega arith;
       }
@@ -206,6 +228,10 @@ module _ (k : Key) (s : Table) (r : Rule k s) (rec' : ℕ → List ℕ) (p x : �
             | inl a ↦ omega arith
             | inr b ↦ omega arith
           ]
+        ];
+        as_opened = λ turn lt. elim (cases_lt (times p v.recorded) (times p w.recorded)) [
+          | inl newly ↦ let flagged = d.again turn newly in let was = old.recorded (omega arith) in old.as_opened turn was
+          | inr before ↦ old.as_opened turn (omega arith)
         ];
         gone = omega arith;
         absent = omega arith;
@@ -245,6 +271,32 @@ module _ (k : Key) (s : Table) (r : Rule k s) (rec' : ℕ → List ℕ) (p x : �
     | inr other ↦ there q other ∙ four
   ]
 
+  -- a page that another seat bookmarked has left, and isn't in this one's hands
+  targets_else : (j : ℕ) (u : View) → j ≢ id → get_elem? s.views j ≡ some u → MarksTargets k rec' u
+  targets_else j u ne is = record {
+    each = λ q w b few on.
+        let was = (r.seats j u is).targets.each q w b few on in (
+          was.0,
+          subst (λ (c : List ℕ). IsBitOfTarget k q c w b) (sym (elim (cases_eq q p) [
+            | inl e ↦ subst (λ (n : ℕ). rec' n ≡ r.rec n) (sym e) (d.hands (elim (cases_lt 0 (grips p v.hand)) [
+              | inl has ↦ absurd (
+                  let held = (r.place p d.near).held in
+                  let two = total_two (λ (z : View). grips p z.hand) s.views j id u v ne is at in
+                  let few_held = one_few (page_word s p == 3) in
+                  elim ((r.seats j u is).marking.whose p (subst (λ (n : ℕ). 0 < marked_for n u.bookmarked) e (sets_marked q w b u.bookmarked on))) [
+                    | inl gripped ↦ omega arith
+                    | inr gone ↦
+                        let four = left_gone k s r p j u is d.near gone in
+                        let three : one_if (page_word s p == 3) ≡ 0 = ap (λ (n : ℕ). one_if (n == 3)) four in
+                        omega arith
+                  ])
+              | inr none_has ↦ omega arith
+            ]))
+            | inr other ↦ d.else_rec q other
+          ])) was.1,
+        );
+  }
+
   seat_else : (j : ℕ) (u : View) → j ≢ id → get_elem? s.views j ≡ some u → SeatFacts k t rec' u
   seat_else j u ne is =
       let old = r.seats j u is in
@@ -260,11 +312,12 @@ module _ (k : Key) (s : Table) (r : Rule k s) (rec' : ℕ → List ℕ) (p x : �
           gone = λ q lt. let was = old.saw.gone q lt in (was.0, was.1, word_four u j ne is q was.0 was.1 was.2);
         };
         marking = old.marking;
+        targets = targets_else j u ne is;
       }
 
   seat_each : (j : ℕ) (u : View) → get_elem? t.views j ≡ some u → SeatFacts k t rec' u
   seat_each j u is = elim (at_set s.views id j w u is) [
-    | inl e ↦ subst (SeatFacts k t rec') e.1 (record { seated = d.seated; records = d.records; saw = d.saw; marking = d.marking })
+    | inl e ↦ subst (SeatFacts k t rec') e.1 (record { seated = d.seated; records = d.records; saw = d.saw; marking = d.marking; targets = d.targets })
     | inr o ↦ seat_else j u o.0 o.1
   ]
 
@@ -342,6 +395,7 @@ module _ (k : Key) (s : Table) (r : Rule k s) (rec' : ℕ → List ℕ) (p x : �
     standing = at_page (λ q. q < pages_of k → Standing k t q) standing_here standing_there;
     seats = seat_each;
     roles = roles_kept;
+    unheld = r.unheld;
     unowned = unowned_kept;
     frames = frame_kept;
     counters = counters_kept;

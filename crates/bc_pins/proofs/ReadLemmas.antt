@@ -15,7 +15,7 @@ use Rattle.bc_pins.specs.Key.{Key, pages_of, owner, page_at}
 use Rattle.bc_pins.specs.Totals.{times}
 use Rattle.bc_pins.specs.Contents.{IsBarePage}
 use Rattle.bc_pins.specs.Views.{grips, grips_remembered, has_role}
-use Rattle.bc_pins.specs.Facts.{Table, word, Lies, remembered_now, Saw, page_word}
+use Rattle.bc_pins.specs.Facts.{Table, Lies, remembered_now, Saw, page_word}
 use Rattle.bc_pins.specs.Rule.{Rule}
 use Rattle.bc_pins.specs.Steps.{Mine, owns, having_read, ReadsWord, Looked}
 use Rattle.bc_pins.proofs.TotalLemmas.{total_set, one_other, one_is, total_less}
@@ -181,6 +181,7 @@ look_step k s r p id v at near about =
       summarised = content.gone;
       not_fewer = omega arith;
       else_remembered = λ q ne. refl;
+      again = λ turn lt. absurd (omega arith);
       put_back = omega arith;
       noted = λ lt. inl lt;
       kept = λ lt. absurd (omega arith);
@@ -195,6 +196,7 @@ look_step k s r p id v at near about =
       else_count = λ j q ne. refl;
       bookmarked = refl;
       marking = record { once = facts.marking.once; whose = facts.marking.whose; unmarked = facts.marking.unmarked };
+      targets = record { each = facts.targets.each };
       roles = refl;
       seated = record {
         about = facts.seated.about;

@@ -8,8 +8,8 @@ use Rattle.bc_pins.specs.declared.views.Hand.{Hand}
 use Rattle.bc_pins.specs.declared.views.View.{View}
 use Rattle.bc_pins.specs.Key.{Key, pages_of, owner}
 use Rattle.bc_pins.specs.Totals.{total, times}
-use Rattle.bc_pins.specs.Views.{grips, grips_remembered, frame_in_hand, counted_for, sets_bit, marked_for, entries, look_up, opened_content}
-use Rattle.bc_pins.specs.Facts.{IsIdle, Table, remembered_now, adds_to, Marking}
+use Rattle.bc_pins.specs.Views.{grips, grips_remembered, frame_in_hand, counted_for, sets_bit, marked_for, entries, look_up, opened_content, sets_for}
+use Rattle.bc_pins.specs.Facts.{IsIdle, Table, remembered_now, adds_to, Marking, MarksTargets}
 use Rattle.bc_pins.specs.Rule.{SeatFacts, Rule}
 use Rattle.bc_pins.specs.Steps.{dealer, dealt}
 use Rattle.bc_pins.proofs.TotalLemmas.{total_set, total_append}
@@ -59,11 +59,13 @@ views_step k s r views sums each = record {
       record {
         remembered = λ lt. let a = old.remembered (omega arith) in omega arith;
         recorded = λ lt. let a = old.recorded (omega arith) in omega arith;
+        as_opened = λ turn lt. old.as_opened turn (omega arith);
         gone = omega arith;
         absent = omega arith;
       };
   seats = each;
   roles = record { each = λ n. sums.roles n ∙ r.roles.each n; apart = r.roles.apart; nobody = r.roles.nobody };
+  unheld = r.unheld;
   unowned = r.unowned;
   frames = λ f. let old = r.frames f in let used = old.used in let a = sums.frame f in record { used = omega arith; free = old.free; past = old.past };
   counters = λ q lt. r.counters q lt ∙ sym (sum_same (adds_to k (with_views s views) r.rec q) (adds_to k s r.rec q) (pages_of k) (λ j _. let a = sums.count j q in omega arith));
@@ -84,6 +86,7 @@ seat_kept k s rec views sums u old = record {
     gone = old.saw.gone;
   };
   marking = old.marking;
+  targets = old.targets;
 }
 
 pub no_hand : (z : Hand) → None ≡ Some z → ⊥
@@ -96,6 +99,9 @@ no_marking v nothing none_set = record {
   whose = λ p lt. let z : marked_for p v.bookmarked ≡ 0 = ap (marked_for p) none_set in absurd (omega arith);
   unmarked = λ h e. absurd (no_hand h (sym nothing ∙ e));
 }
+
+pub no_targets : (k : Key) (rec : ℕ → List ℕ) (v : View) → v.bookmarked ≡ [] → MarksTargets k rec v
+no_targets k rec v none_set = record { each = λ p w b few on. let z : sets_for p w b v.bookmarked ≡ 0 = ap (sets_for p w b) none_set in absurd (omega arith) }
 
 -- roles cut in two
 pub cut_times : (r : ℕ) (l : List ℕ) → times r (drop 1 l) + times r (take 1 l) ≡ times r l
@@ -146,6 +152,7 @@ module _ (k : Key) (s : Table) (r : Rule k s) (id : ℕ) (v : View) (at : get_el
       gone = λ p lt. let z : times p v.gone ≡ 0 = ap (times p) no_gone in absurd (omega arith);
     };
     marking = record { once = facts.marking.once; whose = facts.marking.whose; unmarked = facts.marking.unmarked };
+    targets = record { each = facts.targets.each };
   }
 
   has_first : SeatFacts k (with_views s views) r.rec (dealt v)
@@ -158,6 +165,7 @@ module _ (k : Key) (s : Table) (r : Rule k s) (id : ℕ) (v : View) (at : get_el
     };
     saw = record { seen = λ p lt. absurd (omega arith); gone = λ p lt. absurd (omega arith) };
     marking = no_marking (dealt v) refl refl;
+    targets = no_targets k r.rec (dealt v) refl;
   }
 
   seat_each : (j : ℕ) (u : View) → get_elem? views j ≡ some u → SeatFacts k (with_views s views) r.rec u

@@ -11,7 +11,7 @@ use Rattle.bc_pins.specs.Key.{Key, pages_of, owner, counter_at, bookmark_at, fra
 use Rattle.std.specs.Int.{bit_at}
 use Rattle.bc_pins.specs.Totals.{total, times}
 use Rattle.bc_pins.specs.Views.{grips, grips_remembered, frame_in_hand, counted_for, sets_bit}
-use Rattle.bc_pins.specs.Facts.{Table, word, Place, remembered_now, Content, Standing, RecordsContent, Saw, Seated, Marking, Frames, points, adds_to, Counters, bookmark_bit, is_clear, Bits, page_word}
+use Rattle.bc_pins.specs.Facts.{Table, word, Place, remembered_now, Content, Standing, RecordsContent, Saw, Seated, Marking, Frames, points, adds_to, Counters, bookmark_bit, is_clear, Bits, page_word, MarksTargets}
 use Rattle.bc_pins.specs.Rule.{SeatFacts, Rule}
 use Rattle.bc_pins.proofs.TotalLemmas.{total_set}
 use Rattle.bc_pins.proofs.SumLemmas.{sum_same}
@@ -37,6 +37,7 @@ pub record SideStep (k : Key) (s : Table) (rec : ℕ → List ℕ) (i x id : ℕ
   pub seated : Seated k w
   pub records : RecordsContent k rec w
   pub marking : Marking w
+  pub targets : MarksTargets k rec w
   -- counters, bits and frames
   pub set : KeepsBits k s.words (aside s i x id w).words
   pub counters : (q : ℕ) → q < k.supers → Counters k (aside s i x id w) rec q
@@ -96,6 +97,7 @@ module _ (k : Key) (s : Table) (r : Rule k s) (i x id : ℕ) (v w : View) (at : 
       record {
         remembered = λ lt. let a = old.remembered (omega arith) in omega arith;
         recorded = λ lt. let a = old.recorded (omega arith) in omega arith;
+        as_opened = λ turn lt. old.as_opened turn (omega arith);
         gone = omega arith;
         absent = omega arith;
       }
@@ -118,11 +120,11 @@ module _ (k : Key) (s : Table) (r : Rule k s) (i x id : ℕ) (v w : View) (at : 
       }
 
   seat_else : (j : ℕ) (u : View) → get_elem? s.views j ≡ some u → SeatFacts k t r.rec u
-  seat_else j u is = let old = r.seats j u is in record { seated = old.seated; records = old.records; saw = saw_same u old.saw; marking = old.marking }
+  seat_else j u is = let old = r.seats j u is in record { seated = old.seated; records = old.records; saw = saw_same u old.saw; marking = old.marking; targets = old.targets }
 
   seat_each : (j : ℕ) (u : View) → get_elem? t.views j ≡ some u → SeatFacts k t r.rec u
   seat_each j u is = elim (at_set s.views id j w u is) [
-    | inl e ↦ subst (SeatFacts k t r.rec) e.1 (record { seated = d.seated; records = d.records; saw = saw_here; marking = d.marking })
+    | inl e ↦ subst (SeatFacts k t r.rec) e.1 (record { seated = d.seated; records = d.records; saw = saw_here; marking = d.marking; targets = d.targets })
     | inr o ↦ seat_else j u o.1
   ]
 
@@ -137,6 +139,7 @@ module _ (k : Key) (s : Table) (r : Rule k s) (i x id : ℕ) (v w : View) (at : 
     standing = standing_kept;
     seats = seat_each;
     roles = record { each = λ n. same_sum (λ u. times n u.roles) (ap (times n) d.roles) ∙ r.roles.each n; apart = r.roles.apart; nobody = r.roles.nobody };
+    unheld = r.unheld;
     unowned = r.unowned;
     frames = d.frames;
     counters = d.counters;

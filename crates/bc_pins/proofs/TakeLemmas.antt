@@ -17,8 +17,8 @@ use Rattle.bc_pins.specs.declared.views.View.{View}
 use Rattle.bc_pins.specs.Key.{Key, pages_of, owner, page_at}
 use Rattle.bc_pins.specs.Totals.{total, times}
 use Rattle.bc_pins.specs.Contents.{IsContent, RefersYoung}
-use Rattle.bc_pins.specs.Views.{grips, grips_remembered, frame_in_hand, counted_for, marked_for, has_role, opened_word}
-use Rattle.bc_pins.specs.Facts.{Table, word, slot, IsHomed, Lies, remembered_now, RecordsContent, Seated, Marking, frame_lodged, points, page_word}
+use Rattle.bc_pins.specs.Views.{grips, grips_remembered, frame_in_hand, counted_for, marked_for, has_role, opened_content, opened_word}
+use Rattle.bc_pins.specs.Facts.{Table, slot, IsHomed, Lies, remembered_now, RecordsContent, Seated, Marking, frame_lodged, points, page_word}
 use Rattle.bc_pins.specs.Rule.{Rule}
 use Rattle.bc_pins.specs.Steps.{Mine, both_slots, gripping, having_read, ReadsWord, Takes, Took}
 use Rattle.bc_pins.proofs.TotalLemmas.{total_set, total_at, total_none, one_same, one_other}
@@ -174,6 +174,7 @@ module _ (k : Key) (s : Table) (r : Rule k s) (p id old role : ℕ) (v : View) (
         summarised = λ e. absurd (omega arith);
         not_fewer = fewer;
         else_remembered = else_flag;
+        again = λ turn lt. absurd (omega arith);
         put_back = omega arith;
         noted = λ lt. inl (omega arith);
         kept = λ lt. absurd (omega arith);
@@ -188,6 +189,7 @@ module _ (k : Key) (s : Table) (r : Rule k s) (p id old role : ℕ) (v : View) (
         else_count = λ j q ne. hand_counts j q ∙ sym (no_count j q);
         bookmarked = refl;
         marking = marking_kept;
+        targets = record { each = (r.seats id v at).targets.each };
         roles = refl;
         seated = seated_kept;
         records = records_kept;
@@ -202,6 +204,7 @@ module _ (k : Key) (s : Table) (r : Rule k s) (p id old role : ℕ) (v : View) (
       let flagged : 0 < remembered_now s p → flag ≡ true = λ lt. eq-eqb old 2 (sym is ∙ remembered_word k s r p near (λ e. omega arith) lt) in
       record {
         mine = λ lt. content ∙ facts.records.mine p (subst (λ (a : Key). 0 < has_role v (owner a p)) about lt);
+        unowned = λ z. content ∙ r.unowned p (subst (λ (a : Key). times (owner a p) a.roles ≡ 0) about z) ∙ ap (λ (a : Key). opened_content a p) (sym about);
         fixed = subst (λ (a : Key). IsContent a.opening p h.page) (sym about) (subst (IsContent k.opening p) (sym content) place.fixed);
         young = λ y. flagged (place.young (subst (RefersYoung k.opening p) content (subst (λ (a : Key). RefersYoung a.opening p h.page) about y)));
         recorded = λ lt.

@@ -1,5 +1,5 @@
 -- What closing a table requires, and what it gives.
-use Rattle.std.specs.Prelude.{◌≡◌, ℕ, ◌+◌, ◌-◌, ◌*◌, ◌/◌, ◌%◌, ◌^◌, ◌<◌, ◌≤◌, ◌==◌, ◌||◌, Bool, true, List, [], length, min, None, slice_index, slice_index_or}
+use Rattle.std.specs.Prelude.{◌≡◌, ℕ, ◌+◌, ◌-◌, ◌*◌, ◌/◌, ◌%◌, ◌^◌, ◌<◌, ◌≤◌, ◌==◌, ◌||◌, Bool, true, false, List, [], length, min, None, slice_index, slice_index_or}
 use Rattle.atomic_table.specs.declared.shared.Seat.{Seat as Worker}
 use Rattle.atomic_table.specs.Seated.{TableId}
 use Rattle.bc_bits.specs.Counting.{one_if}
@@ -13,7 +13,7 @@ use Rattle.std.specs.Int.{bit_at}
 use Rattle.bc_frames.specs.Pool.{is_free}
 use Rattle.bc_bits.specs.BitChanges.{AreWords}
 use Rattle.bc_superpages.specs.Kept.{IsCellSet}
-use Rattle.bc_pins.specs.Facts.{opened_bit}
+use Rattle.bc_pins.specs.Facts.{opened_bit, IsBitOfTarget}
 use Rattle.bc_superpages.specs.LayoutAt.{state_at}
 use Rattle.bc_pins.specs.Contents.{IsContent, RefersYoung}
 use Rattle.bc_superpages.specs.Parts.{state_in}
@@ -113,22 +113,32 @@ pub record HeadersSet (k : Key) (old new : List Header) (words : List ℕ) : Typ
       → ((slice_index_or new q unused_header).bookmarks ≡ (slice_index_or old q unused_header).bookmarks) × ((slice_index_or new q unused_header).incoming ≡ (slice_index_or old q unused_header).incoming)
 
 -- where a page is once the table is closed: Remembered exactly where it was so at the opening or a seat put it back so; Gone and
--- Absent by the opening and by what the seats made of it
+-- Absent by the opening and by what the seats made of it. In a mark turn no page became Remembered
 pub record ClosedState (k : Key) (seats : List Seat) (st : PageState) (p : ℕ) : Type 0 where
   pub remembered : 0 < one_if (opened_word k p == 2) + total (λ (seat : Seat). times p (seen_by seat).recorded) seats → st ≡ state.Remembered
+  pub as_opened : k.lanes ≡ false → st ≡ state.Remembered → opened_word k p ≡ 2
   pub recorded : st ≡ state.Remembered → 0 < one_if (opened_word k p == 2) + total (λ (seat : Seat). times p (seen_by seat).recorded) seats
   pub gone : one_if (state_word st == 4) + total (λ (seat : Seat). times p (seen_by seat).fetched) seats
       ≡ one_if (opened_word k p == 4) + total (λ (seat : Seat). times p (seen_by seat).left) seats
   pub absent : one_if (state_word st == 0) ≡ one_if (opened_word k p == 0) + total (λ (seat : Seat). times p (seen_by seat).emptied) seats
 
+-- bit b of a bookmark word is that of a target of a page that a seat made Gone
+pub record IsOfPageLeft (k : Key) (seats : List Seat) (s : Layout) (w b : ℕ) : Type 0 where
+  pub page : ℕ
+  pub inside : page < pages_of k
+  pub left : 0 < total (λ (seat : Seat). times page (seen_by seat).left) seats
+  pub gone : state_at s.states page ≡ state.Gone
+  pub bit : IsBitOfTarget k page (content_at s.pages page) w b
+
 -- a bookmark bit once the table is closed, by its word, of which each superpage has sixteen, and its place there
 pub record ClosedBit (k : Key) (seats : List Seat) (s : Layout) (w b : ℕ) : Type 0 where
   pub kept : 0 < opened_bit k w b + total (λ (seat : Seat). sets_bit w b (seen_by seat).bookmarked) seats → has (set_of s.bookmarks (w / 16)) (64 * (w % 16) + b) ≡ true
+  pub new : has (set_of s.bookmarks (w / 16)) (64 * (w % 16) + b) ≡ true → opened_bit k w b ≡ 0 → IsOfPageLeft k seats s w b
   pub only : has (set_of s.bookmarks (w / 16)) (64 * (w % 16) + b) ≡ true → 0 < opened_bit k w b + total (λ (seat : Seat). sets_bit w b (seen_by seat).bookmarked) seats
 
 -- the space that a closed table gives back: as it was opened, but for the states of pages, their contents, bookmarks and
 -- counters, the free frames and the reads. Each page has the content that its lane's seat records, or else the opening's. A bookmark bit is
--- set exactly where it was at the opening or a seat set it. A page that its lane read as Gone, and didn't take since, is Gone. A
+-- set exactly where it was at the opening or a seat set it, and a new one is that of a target of a page which left. A page that its lane read as Gone, and didn't take since, is Gone. A
 -- table may be opened over it again, as it could at the opening: so it is summarised
 pub record Closed (k : Key) (seats : List Seat) (s : Layout) : Type 0 where
   pub same : s ≡ record k.opening { states = s.states; pages = s.pages; bookmarks = s.bookmarks; incoming = s.incoming; free = s.free; reads = s.reads }

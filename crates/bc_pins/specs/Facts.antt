@@ -21,7 +21,7 @@ use Rattle.bc_pins.specs.declared.views.View.{View}
 use Rattle.bc_pins.specs.Key.{Key, pages_of, owner, page_at, counter_at, bookmark_at, mark_at, finished_at, frame_at, frame_words, frame_slot, store_slot}
 use Rattle.bc_pins.specs.Totals.{total, times, sum_to}
 use Rattle.bc_pins.specs.Contents.{IsContent, RefersYoung, IsBarePage, objects_in}
-use Rattle.bc_pins.specs.Views.{grips, grips_remembered, frame_in_hand, counted_for, sets_bit, marked_for, has_role, entries, opened_word, record_of}
+use Rattle.bc_pins.specs.Views.{grips, grips_remembered, frame_in_hand, counted_for, sets_bit, sets_for, marked_for, has_role, entries, opened_word, record_of}
 
 abbrev pub Table : Type 0
 Table = State Lodged View
@@ -95,15 +95,20 @@ pub record Content (k : Key) (s : Table) (rec : ℕ → List ℕ) (page : ℕ) :
   pub bare : page_word s page ≡ 0 → IsBarePage k.opening page
   pub gone : page_word s page ≡ 4 → Summary k s.words page (rec page)
 
+-- nobody holds a page's domain in a mark turn
+abbrev pub IsUnheld : Key → Type 0
+IsUnheld k = k.lanes ≡ false → (page : ℕ) → times (owner k page) k.roles ≡ 0
+
 -- how often the page was Remembered at the opening or was put back so
 abbrev pub remembered_ever : Key → Table → ℕ → ℕ
 remembered_ever k s page = one_if (opened_word k page == 2) + total (λ (v : View). times page v.recorded) s.views
 
 -- Words: a page is Remembered, or in hand so, exactly where it was at the opening or some view put it back so; it is Gone, and
--- Absent, by the opening and by what the views made of it
+-- Absent, by the opening and by what the views made of it. In a mark turn no page becomes Remembered
 pub record Standing (k : Key) (s : Table) (page : ℕ) : Type 0 where
   pub remembered : 0 < remembered_ever k s page → 0 < remembered_now s page
   pub recorded : 0 < remembered_now s page → 0 < remembered_ever k s page
+  pub as_opened : k.lanes ≡ false → 0 < remembered_ever k s page → opened_word k page ≡ 2
   pub gone : one_if (page_word s page == 4) + total (λ (v : View). times page v.fetched) s.views ≡ one_if (opened_word k page == 4) + total (λ (v : View). times page v.left) s.views
   pub absent : one_if (page_word s page == 0) ≡ one_if (opened_word k page == 0) + total (λ (v : View). times page v.emptied) s.views
 
@@ -197,6 +202,17 @@ pub record Marking (v : View) : Type 0 where
   pub once : (h : Hand) → v.hand ≡ Some h → (q : ℕ) → times q h.counted ≤ 1
   pub whose : (p : ℕ) → 0 < marked_for p v.bookmarked → (0 < grips p v.hand) ⊎ (0 < times p v.left)
   pub unmarked : (h : Hand) → v.hand ≡ Some h → h.marked ≡ [] → 0 < marked_for h.page v.bookmarked → 0 < times h.page v.left
+
+-- bit b of a bookmark word is that of a target of the page, where it has this content
+pub record IsBitOfTarget (k : Key) (page : ℕ) (content : List ℕ) (w b : ℕ) : Type 0 where
+  pub address : ℕ
+  pub target : is_target (objects_in k.opening content) page address ≡ true
+  pub superpage : superpage_of address ≡ w / 16
+  pub number : cell_number (class_at k.opening address) address ≡ 64 * (w % 16) + b
+
+-- each bookmark bit that a seat set for a page is that of a target which the page has by its record
+pub record MarksTargets (k : Key) (rec : ℕ → List ℕ) (v : View) : Type 0 where
+  pub each : (p w b : ℕ) → b < 64 → 0 < sets_for p w b v.bookmarked → (p < pages_of k) × IsBitOfTarget k p (rec p) w b
 
 -- the words that no step changes before marks are words of a table: those of a mark turn
 pub record Still (k : Key) (s : Table) : Type 0 where

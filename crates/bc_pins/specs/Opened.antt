@@ -1,5 +1,5 @@
 -- What an opened table is.
-use Rattle.std.specs.Prelude.{◌≡◌, ℕ, ◌*◌, ◌<◌, ◌≤◌, List, length, map}
+use Rattle.std.specs.Prelude.{◌≡◌, ℕ, ◌*◌, ◌<◌, ◌≤◌, false, List, [], length, map}
 use Rattle.bc_superpages.specs.declared.headers.PageState.TheVariants.{Absent}
 use Rattle.bc_superpages.specs.declared.parts.SpaceParts.{SpaceParts}
 use Rattle.bc_superpages.specs.Layout.{Layout, superpages}
@@ -36,4 +36,5 @@ pub record IsKeyOf (parts : SpaceParts) (supers : ℕ) (turn : Turn) (holders : 
   pub openable : IsOpenable k.opening
   pub some : 0 < length roles
   pub apart : (r : ℕ) → times r (map role_number roles) ≤ 1
+  pub unheld : is_lanes turn ≡ false → holders ≡ []
   pub key : k ≡ key_for supers turn k.opening parts.pool parts.nursery.items holders roles

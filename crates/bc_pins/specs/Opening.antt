@@ -18,8 +18,8 @@ use Rattle.bc_pins.specs.declared.views.View.{View}
 use Rattle.bc_pins.specs.Key.{Key, pages_of, page_at, counter_at, all_words, is_lanes, lane_role, role_number}
 use Rattle.bc_pins.specs.Totals.{times, sum_to}
 use Rattle.bc_pins.specs.Contents.{IsContent, RefersYoung, IsBarePage}
-use Rattle.bc_pins.specs.Views.{opened_content, opened_word, record_of}
-use Rattle.bc_pins.specs.Facts.{Table, Lies, Summary, Frames, Counters, Bits, points, Still, Standing}
+use Rattle.bc_pins.specs.Views.{marked_for, opened_content, opened_word, record_of}
+use Rattle.bc_pins.specs.Facts.{Table, Lies, Summary, Frames, Counters, Bits, points, Still, Standing, IsUnheld, MarksTargets}
 use Rattle.bc_pins.specs.Steps.{fresh}
 
 -- the table as it is opened
@@ -45,6 +45,7 @@ pub record MayOpen (k : Key) (words : List ℕ) (slots : List Lodged) : Type 0 w
   pub pages : (p : ℕ) → p < pages_of k → OpensPage k words slots p
   pub apart : (r : ℕ) → times r k.roles ≤ 1
   pub nobody : times 0 k.roles ≡ 0
+  pub unheld : IsUnheld k
   pub frames : (f : ℕ) → Frames k (opened k words slots) f
   pub counters : (q : ℕ) → q < k.supers → Counters k (opened k words slots) (opened_content k) q
   pub bits : (w b : ℕ) → w < 16 * k.supers → b < 64 → Bits k (opened k words slots) w b
@@ -70,6 +71,9 @@ pub record HasClosed (k : Key) (v : View) (words : List ℕ) (slots : List Lodge
   pub counters : (q : ℕ) → q < k.supers → slice_index words (counter_at k q) ≡ sum_to (λ p. if slice_index words (page_at p) == 4 then points k p (record_of v p) q else 0) (pages_of k)
   pub bits : (w b : ℕ) → w < 16 * k.supers → b < 64 → Bits k (record { words = words; homes = map some slots; views = v ∷ [] }) w b
   pub still : Still k (record { words = words; homes = map some slots; views = v ∷ [] })
+  pub marked : (p : ℕ) → 0 < marked_for p v.bookmarked → 0 < times p v.left
+  pub targets : MarksTargets k (record_of v) v
+  pub unfetched : v.fetched ≡ []
   pub gone : (p : ℕ) → 0 < times p v.gone → (p < pages_of k) × (slice_index words (page_at p) ≡ 4)
 
 -- a space over which a table may be opened: it is summarised and closed, no cell is promised, and no page that is Home refers

@@ -6,7 +6,7 @@ use Rattle.bc_pins.specs.declared.views.View.{View}
 use Rattle.bc_pins.specs.Key.{Key, pages_of, owner, all_words}
 use Rattle.bc_pins.specs.Totals.{times}
 use Rattle.bc_pins.specs.Views.{opened_content}
-use Rattle.bc_pins.specs.Facts.{Table, Place, Content, Standing, RecordsContent, Saw, Seated, Marking, Roles, Frames, Counters, Bits, Still}
+use Rattle.bc_pins.specs.Facts.{Table, Place, Content, Standing, RecordsContent, Saw, Seated, Marking, MarksTargets, IsUnheld, Roles, Frames, Counters, Bits, Still}
 
 -- what holds of one seat
 pub record SeatFacts (k : Key) (s : Table) (rec : ℕ → List ℕ) (v : View) : Type 0 where
@@ -14,6 +14,7 @@ pub record SeatFacts (k : Key) (s : Table) (rec : ℕ → List ℕ) (v : View) :
   pub records : RecordsContent k rec v
   pub saw : Saw k s v
   pub marking : Marking v
+  pub targets : MarksTargets k rec v
 
 pub record Rule (k : Key) (s : Table) : Type 0 where
   -- the record of each page
@@ -26,6 +27,7 @@ pub record Rule (k : Key) (s : Table) : Type 0 where
   pub standing : (p : ℕ) → p < pages_of k → Standing k s p
   pub seats : (id : ℕ) (v : View) → get_elem? s.views id ≡ some v → SeatFacts k s rec v
   pub roles : Roles k s
+  pub unheld : IsUnheld k
   -- a page whose domain no lane holds has the opening's content
   pub unowned : (p : ℕ) → times (owner k p) k.roles ≡ 0 → rec p ≡ opened_content k p
   pub frames : (f : ℕ) → Frames k s f

@@ -15,8 +15,8 @@ use Rattle.bc_pins.specs.declared.views.View.{View}
 use Rattle.bc_pins.specs.Key.{Key, pages_of, owner, page_at, counter_at, bookmark_at, frame_at}
 use Rattle.bc_pins.specs.Totals.{times}
 use Rattle.bc_pins.specs.Contents.{IsContent, RefersYoung, IsBarePage, objects_in}
-use Rattle.bc_pins.specs.Facts.{points}
-use Rattle.bc_pins.specs.Views.{has_role, sets_bit, opened_word, record_of}
+use Rattle.bc_pins.specs.Facts.{IsBitOfTarget, points}
+use Rattle.bc_pins.specs.Views.{has_role, sets_bit, opened_content, opened_word, record_of}
 
 abbrev pub Mine : Type 0
 Mine = Me Lodged View
@@ -144,11 +144,8 @@ abbrev pub both_slots : Key → ℕ → Lodged → Lodged → List (ℕ × Lodge
 both_slots k page frame store = (page, frame) ∷ (pages_of k + page, store) ∷ []
 
 -- bit b of a bookmark word is that of a target of the page in hand
-pub record IsTargetBit (k : Key) (h : Hand) (w b : ℕ) : Type 0 where
-  pub address : ℕ
-  pub target : is_target (objects_in k.opening h.content) h.page address ≡ true
-  pub superpage : superpage_of address ≡ w / 16
-  pub number : cell_number (class_at k.opening address) address ≡ 64 * (w % 16) + b
+abbrev pub IsTargetBit : Key → Hand → ℕ → ℕ → Type 0
+IsTargetBit k h w b = IsBitOfTarget k h.page h.content w b
 
 -- each of the bits is
 abbrev pub AreTargets : Key → Hand → ℕ → ℕ → Type 0
@@ -185,9 +182,11 @@ pub record ReadsWord (v : View) (page found : ℕ) : Type 0 where
   pub seen : 0 < times page v.seen → found ≢ 2 → found ≡ 3
   pub gone : 0 < times page v.gone → found ≡ 4
 
--- what the box tells of a page that was taken from Home, or from Home and remembered. It wasn't Gone at the opening
+-- what the box tells of a page that was taken from Home, or from Home and remembered. Its content is what the lane that holds the
+-- page's domain put back last, and where none does that of the opening. It wasn't Gone at the opening
 pub record Takes (v : View) (page : ℕ) (remembered : Bool) (homed : Homed) : Type 0 where
   pub mine : 0 < has_role v (owner v.about page) → homed.page ≡ record_of v page
+  pub unowned : times (owner v.about page) v.about.roles ≡ 0 → homed.page ≡ opened_content v.about page
   pub fixed : IsContent v.about.opening page homed.page
   pub young : RefersYoung v.about.opening page homed.page → remembered ≡ true
   pub recorded : 0 < one_if (opened_word v.about page == 2) + times page v.recorded → remembered ≡ true

@@ -1,5 +1,5 @@
 -- What one view says: what it has in hand, which content it records of a page, which roles it has.
-use Rattle.std.specs.Prelude.{ℕ, ◌+◌, ◌==◌, ◌<◌, Bool, if◌then◌else◌, List, [], ◌∷◌, Option, Some, None}
+use Rattle.std.specs.Prelude.{ℕ, ◌+◌, ◌==◌, ◌&&◌, ◌<◌, Bool, if◌then◌else◌, List, [], ◌∷◌, Option, Some, None}
 use Rattle.std.specs.Int.{bit_at}
 use Rattle.bc_bits.specs.Counting.{one_if}
 use Rattle.bc_superpages.specs.declared.headers.PageState.{PageState}
@@ -34,6 +34,11 @@ counted_for page superpage (Some h) = if h.page == page then times superpage h.c
 abbrev pub sets_bit : ℕ → ℕ → List (ℕ × ℕ × ℕ) → ℕ
 sets_bit word bit [] = 0
 sets_bit word bit (e ∷ es) = (if e.1 == word then bit_at e.2 bit else 0) + sets_bit word bit es
+
+-- and how often it was set for this page
+abbrev pub sets_for : ℕ → ℕ → ℕ → List (ℕ × ℕ × ℕ) → ℕ
+sets_for page word bit [] = 0
+sets_for page word bit (e ∷ es) = (if (e.0 == page) && (e.1 == word) then bit_at e.2 bit else 0) + sets_for page word bit es
 
 abbrev pub marked_for : ℕ → List (ℕ × ℕ × ℕ) → ℕ
 marked_for page [] = 0

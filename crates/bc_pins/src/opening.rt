@@ -1,6 +1,6 @@
 //! Opening a table.
 
-ghost use Rattle.std.specs.Prelude.{◌≡◌, ℕ, ◌+◌, ◌*◌, ◌^◌, ◌<◌, ◌≤◌, [], length, map, slice_index_or, vec_capacity, IfOk, IfErr};
+ghost use Rattle.std.specs.Prelude.{◌≡◌, ℕ, ◌+◌, ◌*◌, ◌^◌, ◌<◌, ◌≤◌, false, [], length, map, slice_index_or, vec_capacity, IfOk, IfErr};
 ghost use Rattle.bc_superpages.specs.declared.headers.PageState.TheVariants.{Absent};
 ghost use Rattle.bc_superpages.specs.LayoutAt.{state_at};
 ghost use Rattle.bc_superpages.specs.Parts.{AreParts, parts_layout, state_in};
@@ -44,7 +44,7 @@ fn about_of(
 
 impl Pins {
     /// Opens a table over a space: each page up to the last that isn't Absent has its word and its slots, and each role its
-    /// seat, in their order. It takes all its memory first, and where there is none it gives the space back.
+    /// seat, in their order. In a mark turn no lane holds a domain. It takes all its memory first, and where there is none it gives the space back.
     pub fn open(
         alloc: Global,
         space: Space,
@@ -55,6 +55,7 @@ impl Pins {
         requires openable { IsOpenable space }
         requires some { 0 < length roles.now }
         requires apart { (r : ℕ) → times r (map role_number roles.now) ≤ 1 }
+        requires mark { is_lanes turn ≡ false → holders.now ≡ [] }
         ensures opened { IfOk result (λ r. Opened space turn holders.now roles.now r.0 r.1.items) }
         ensures refused { IfErr result (λ e. e.0 ≡ space) }
     {

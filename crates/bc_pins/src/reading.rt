@@ -8,6 +8,7 @@ ghost use Rattle.bc_superpages.specs.LayoutAt.{IsAllocated};
 ghost use Rattle.bc_superpages.specs.Kept.{IsLayout};
 ghost use Rattle.bc_pins.specs.Key.{pages_of, frame_words, is_lanes};
 ghost use Rattle.bc_pins.specs.Views.{opened_state};
+ghost use Rattle.bc_pins.specs.Facts.{IsUnheld};
 ghost use Rattle.bc_pins.specs.Calls.{key_of};
 
 use crate::key::Turn;
@@ -16,12 +17,13 @@ use bc_superpages::Header;
 
 impl Pins {
     /// What holds of the space at the opening: its layout, that each allocated cell lies on a page of the table, and that each page
-    /// behind the table's is Absent.
+    /// behind the table's is Absent. In a mark turn nobody holds a domain.
     pub fn facts(&self)
         ensures layout { IsLayout (key_of self.now).opening }
         ensures inside { (a : ℕ) → IsAllocated (key_of self.now).opening a → page_of a < pages_of (key_of self.now) }
         ensures behind { (p : ℕ) → pages_of (key_of self.now) ≤ p → opened_state (key_of self.now) p ≡ Absent }
         ensures within { (key_of self.now).supers ≤ superpages (key_of self.now).opening }
+        ensures unheld { IsUnheld (key_of self.now) }
     {
         self.rest.facts();
     }

@@ -1,4 +1,4 @@
-use Rattle.std.proofs.Common.{◌≡◌, ◌+◌, ◌*◌, ◌/◌, ℕ, length, min, sym, subst, arith}
+use Rattle.std.proofs.Common.{◌≡◌, ◌+◌, ◌*◌, ℕ, length, min, sym, subst, arith}
 use Rattle.core.specs.Mem.Slots.{slots_items}
 use Rattle.bc_pins.specs.Closing.{PoolSet}
 use Rattle.bc_pins.proofs.DrainLemmas.{at_or}

@@ -4,12 +4,13 @@ use Rattle.bc_pins.specs.Seating.{AreDealt}
 use Rattle.bc_superpages.specs.Layout.{superpages}
 use Rattle.bc_superpages.specs.Parts.{parts_layout}
 use Rattle.bc_pins.specs.Key.{Key}
+use Rattle.bc_pins.specs.Facts.{IsUnheld}
 use Rattle.bc_pins.specs.Totals.{times}
 use Rattle.bc_pins.specs.Rule.{Rule}
 use Rattle.bc_pins.specs.Opening.{opened}
 use Rattle.bc_superpages.specs.declared.headers.Header.{Header}
 use Rattle.bc_pins.specs.Filling.{IsFilled}
-use Rattle.bc_pins.proofs.DrawLemmas.{sized, drawn_rule, drawn_inside, drawn_apart, drawn_opened}
+use Rattle.bc_pins.proofs.DrawLemmas.{sized, drawn_rule, drawn_inside, drawn_apart, drawn_unheld, drawn_opened}
 use Rattle.bc_pins.proofs.pins.Pins.draw.Goals as goal
 
 pub new-requires : goal.new-requires
@@ -42,3 +43,9 @@ invariant_of-pins-in-Ok-clause-apart c =
 
 pub invariant_of-pins-in-Ok-clause-opened : goal.invariant_of-pins-in-Ok-clause-opened
 invariant_of-pins-in-Ok-clause-opened c = ap parts_layout c.of-whole.ensures ∙ c.requires.drawn.layout ∙ ap (λ (k : Key). k.opening) (sym c.in-Ok.ensures.ok.5)
+
+pub invariant_of-pins-in-Ok-clause-unheld : goal.invariant_of-pins-in-Ok-clause-unheld
+invariant_of-pins-in-Ok-clause-unheld c =
+    let same = c.in-Ok.ensures.ok.5 in
+    let at = drawn_unheld c.args.about c.args.parts c.args.superpages c.args.turn c.args.room.holders.items c.args.room.roles.items c.requires.drawn in
+    subst IsUnheld (sym same) at

@@ -26,6 +26,7 @@ draw-requires-clause-drawn c =
       openable = subst IsOpenable (sym opening) c.requires.openable;
       some = subst (λ (rs : List Role). 0 < length rs) (sym roles) c.requires.some;
       apart = subst (λ (rs : List Role). (r : ℕ) → times r (map role_number rs) ≤ 1) (sym roles) c.requires.apart;
+      unheld = λ e. c.in-Ok.ensures.copies.0 ∙ c.requires.mark e;
       key = told ∙ ap
           (λ (s : Layout). key_for ((parts.end + 3) / 4) c.args.turn s parts.pool parts.nursery.items c.in-Ok.room.holders.items c.in-Ok.room.roles.items)
           (sym (ap (λ (k : Key). k.opening) told));

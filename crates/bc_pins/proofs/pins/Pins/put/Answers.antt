@@ -9,6 +9,7 @@ use Rattle.bc_pins.specs.Tidy.{IsTidy}
 use Rattle.bc_pins.proofs.GiveLemmas.{gives_from, tidy_released}
 use Rattle.bc_pins.proofs.CallLemmas.{headed, is_home_word}
 use Rattle.bc_pins.proofs.pins.Pins.put.Goals as goal
+use Rattle.std.proofs.lemmas.Bool.{eq-eqb}
 
 pub store-requires : goal.store-requires
 store-requires c =
@@ -26,7 +27,7 @@ store-requires c =
       c.exchange.ensures.0 ∙ seat.table,
       omega arith,
       gives_from _ _ _ _ _ _ v holds.hand c.args.held.homed p _ c.page_entry.ensures is holds.page w.low w.high seat.about holds.has seat.role (sym holds.frame)
-          may.fixed (λ y. w.flag (may.young y)) (λ on. w.flag (may.remembered holds.hand holds.has on)) (λ z. (may.others holds.hand holds.has z).0) (may.counted holds.hand holds.has) (may.marked holds.hand holds.has),
+          may.fixed (λ y. w.flag (may.young y)) (λ on. w.flag (may.remembered holds.hand holds.has on)) (λ z. let o = may.others holds.hand holds.has z in (o.0, λ two. sym o.1 ∙ sym w.test ∙ eq-eqb _ 2 two)) (may.counted holds.hand holds.has) (may.marked holds.hand holds.has),
     )
 
 pub returns-clause-same : goal.returns-clause-same
