@@ -1,5 +1,5 @@
 -- A heap that lanes run on stays in order: after an operation, after a collection and after an emptying.
-use Rattle.std.proofs.Common.{◌≡◌, ◌≢◌, ℕ, ◌<◌, ◌==◌, Bool, true, false, List, [], ◌∷◌, length, map, get_or, set, refl, vec_capacity, Result, Ok, Err, sym, ap, subst, ◌∙◌, inl, inr, arith}
+use Rattle.std.proofs.Common.{◌≡◌, ◌≢◌, ℕ, ◌<◌, ◌==◌, Bool, true, false, List, [], ◌∷◌, length, map, get_or, set, refl, vec_capacity, Result, OnOk, Ok, Err, sym, ap, subst, ◌∙◌, inl, inr, arith}
 use Rattle.std.proofs.Math.ListN.{get_or-map}
 use Rattle.std.specs.List.{find}
 use Rattle.std.specs.Option.{is_some}
@@ -22,10 +22,10 @@ use Rattle.bc_mutator.specs.Operations.{NoneLater}
 use Rattle.bc_nursery.specs.Objects.{emptied, has_object}
 use Rattle.bc_nursery.specs.Nurseries.{ChunkObject, Nursery}
 use Rattle.bc_running.specs.Running.{HasEmptyChunks, RunningView}
-use Rattle.bc_running.specs.RunningFacts.{IsSound, IsSoundOver, IsStillSound, Collects, CollectsOver, running_of}
+use Rattle.bc_running.specs.RunningFacts.{IsSound, Collects, running_of}
 
 -- after a collection
-pub sound-collected : {Before After : HeapView → ℕ → ℕ → Type 0} (r : RunningView) (k : HeapView) → IsSoundOver Before r → CollectsOver After r.heap k r.holders → IsSoundOver After (running_of k r.holders r.serials)
+pub sound-collected : (r : RunningView) (k : HeapView) → IsSound r → Collects r.heap k r.holders → IsSound (running_of k r.holders r.serials)
 sound-collected r k h c = record {
   running = c.running;
   later = λ l lt a b there lane. let from = c.born a b there in h.later l lt from.0 b from.1 lane;
@@ -74,7 +74,7 @@ room-operated lane h k rest others own long room =
       | inr ne ↦ ap (λ (c : Nursery). c.words) (others l ne)
     ]
 
--- an emptying leaves what a collection does, and so does one that was refused, where it is asked of survivors
+-- an emptying leaves what a collection does, and so does one that was refused, since it collected cells
 emptied-collects : (h k : HeapView) (hs : List ℕ) → IsRunning h hs → IsEmptied h k → Collects h k hs
 emptied-collects h k hs order is = record {
   running = is.order hs (running-survivors h hs order);
@@ -83,9 +83,9 @@ emptied-collects h k hs order is = record {
   lanes = ap length is.cleared ∙ length-map h.chunks emptied;
 }
 
-refused-collects : (h k : HeapView) (hs : List ℕ) → IsRunning h hs → KeepsMeaning h k → CollectsOver IsSurvivorOf h k hs
-refused-collects h k hs order is = record {
-  running = is.order hs (running-survivors h hs order);
+kept-collects : (h k : HeapView) (hs : List ℕ) → KeepsMeaning h k → IsRunning k hs → Collects h k hs
+kept-collects h k hs is order = record {
+  running = order;
   born = is.born;
   frames = λ f. let frames = is.sizes.frames in let nursery = is.sizes.nursery in omega arith;
   lanes = length-alike outline_nursery h.chunks k.chunks is.chunks;
@@ -94,8 +94,15 @@ refused-collects h k hs order is = record {
 pub sound-emptied : (r : RunningView) (k : HeapView) → IsSound r → IsEmptied r.heap k → IsSound (running_of k r.holders r.serials)
 sound-emptied r k h is = sound-collected r k h (emptied-collects r.heap k r.holders h.running is)
 
-pub sound-refused : (r : RunningView) (k : HeapView) → IsSound r → KeepsMeaning r.heap k → IsStillSound (running_of k r.holders r.serials)
-sound-refused r k h is = sound-collected r k h (refused-collects r.heap k r.holders h.running is)
+pub sound-kept : (r : RunningView) (k : HeapView) → IsSound r → KeepsMeaning r.heap k → ((hs : List ℕ) → IsRunningForSurvivors r.heap hs → IsRunning k hs) → IsSound (running_of k r.holders r.serials)
+sound-kept r k h is order = sound-collected r k h (kept-collects r.heap k r.holders is (order r.holders (running-survivors r.heap r.holders h.running)))
+
+-- so lanes can run on whichever answer there is
+pub sound-answered : {T : Type 0} (result : Result T CycleNo) (r : RunningView) (k : HeapView) → IsSound r → OnOk result (IsEmptied r.heap k) → IfOutOfHeap result (λ need. KeepsMeaning r.heap k)
+    → IfOutOfHeap result (λ need. (hs : List ℕ) → IsRunningForSurvivors r.heap hs → IsRunning k hs) → result ≢ Err NoMemory → IsSound (running_of k r.holders r.serials)
+sound-answered (Ok x) r k h emptied kept order memory = sound-emptied r k h emptied
+sound-answered (Err (OutOfHeap need)) r k h emptied kept order memory = sound-kept r k h kept order
+sound-answered (Err NoMemory) r k h emptied kept order memory = absurd (memory refl)
 
 -- an empty chunk has no object
 pub none-young : {X : Type 0} (c : Nursery) (a : ℕ) → c.objects ≡ [] → has_object c a ≡ true → X
@@ -123,41 +130,3 @@ empty-alike cs ds same none l = none-bare (chunk_of ds l).objects (
     none-bare : (os : List ChunkObject) → map outline_object os ≡ [] → os ≡ []
     none-bare [] e = refl
     none-bare (o ∷ os) e = absurd (some_none (outline_object o) (map outline_object os) e)
-
--- where all chunks are empty there is no object of a chunk that could be asked, so a heap that runs for its survivors runs
-pub running-empty : (h : HeapView) (hs : List ℕ) → HasEmptyChunks h → IsRunningForSurvivors h hs → IsRunning h hs
-running-empty h hs none run = record {
-  summarised = run.summarised;
-  none_promised = run.none_promised;
-  laid = run.laid;
-  once = run.once;
-  closed = record {
-    lanes = run.closed.lanes;
-    domains = run.closed.domains;
-    holder = run.closed.holder;
-    root = run.closed.root;
-    noted = run.closed.noted;
-    young_domain = run.closed.young_domain;
-    young = λ l a k b lt asked is. none-young (chunk_of h.chunks l) a (none l) asked;
-    mature_domain = run.closed.mature_domain;
-    mature = run.closed.mature;
-    entries = run.closed.entries;
-  };
-}
-
--- so lanes can run on what a bookmark collection leaves, where all chunks are empty
-pub sound-bookmarked : (r : RunningView) (k : HeapView) → HasEmptyChunks r.heap → IsSound r → KeepsMeaning r.heap k → IsSound (running_of k r.holders r.serials)
-sound-bookmarked r k none h is =
-    let left = refused-collects r.heap k r.holders h.running is in
-    sound-collected r k h (record {
-      running = running-empty k r.holders (empty-alike r.heap.chunks k.chunks is.chunks none) left.running;
-      born = left.born;
-      frames = left.frames;
-      lanes = left.lanes;
-    })
-
--- what a heap that is too small has in one way it has in another
-pub too-small-weaker : {T : Type 0} (r : Result T CycleNo) (P Q : ℕ → Type 0) → ((need : ℕ) → P need → Q need) → IfOutOfHeap r P → IfOutOfHeap r Q
-too-small-weaker (Ok x) P Q f h = tt
-too-small-weaker (Err (OutOfHeap need)) P Q f h = f need h
-too-small-weaker (Err NoMemory) P Q f h = tt

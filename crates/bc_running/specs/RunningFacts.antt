@@ -2,11 +2,11 @@
 use Rattle.std.specs.Prelude.{◌≡◌, ◌≢◌, ℕ, ◌%◌, ◌<◌, ◌≤◌, List, length, map, replicate, slice_index, slice_set}
 use Rattle.bc_cycle.specs.Emptying.{BringsNoBirth}
 use Rattle.bc_cycle.specs.Openings.{new_heap}
-use Rattle.bc_whole_heap.specs.Closed.{buffer_of, IsSurvivorOf, IsYoungOf}
+use Rattle.bc_whole_heap.specs.Closed.{buffer_of}
 use Rattle.bc_whole_heap.specs.LaneChunks.{chunk_of}
 use Rattle.bc_whole_heap.specs.Heaps.{HeapView}
 use Rattle.bc_whole_heap.specs.HeapFacts.{HasTwoFrames}
-use Rattle.bc_whole_heap.specs.Running.{IsRunningOver}
+use Rattle.bc_whole_heap.specs.Running.{IsRunning}
 use Rattle.bc_model.specs.State.{numbers_below}
 use Rattle.bc_model.specs.declared.traces.Setup.{Setup}
 use Rattle.bc_mutator.specs.Operations.{NoneLater}
@@ -20,22 +20,14 @@ running_of heap holders serials = record { heap = heap; holders = holders; seria
 abbrev pub with_space : RunningView → Layout → RunningView
 with_space r space = record r { heap = record (r.heap) { space = space } }
 
--- the heap is running, where it is asked of these objects of chunks, no object of it has a later birth of a lane than the lane's last
--- one, and two frames aren't those of nursery pages
-pub record IsSoundOver (Asked : HeapView → ℕ → ℕ → Type 0) (r : RunningView) : Type 0 where
-  pub running : IsRunningOver Asked r.heap r.holders
+-- what is true between calls: lanes can run on the heap, no object of it has a later birth of a lane than the lane's last one, and two
+-- frames aren't those of nursery pages
+pub record IsSound (r : RunningView) : Type 0 where
+  pub running : IsRunning r.heap r.holders
   pub later : (l : ℕ) → l < length r.serials → NoneLater r.heap.space r.heap.chunks l (slice_index r.serials l)
   pub frames : HasTwoFrames r.heap.space
   pub lanes : length r.heap.chunks ≡ length r.serials
   pub few : length r.serials ≤ 16
-
--- what is true between operations and collections: lanes can run on the heap
-abbrev pub IsSound : RunningView → Type 0
-IsSound r = IsSoundOver IsYoungOf r
-
--- what is true besides where the nurseries couldn't be emptied: objects of chunks that don't survive may refer to cells that were freed
-abbrev pub IsStillSound : RunningView → Type 0
-IsStillSound r = IsSoundOver IsSurvivorOf r
 
 -- what a run of this setup begins with: a new heap, of which lane `d % lanes` holds domain d, and no birth
 abbrev pub new_running : Setup → RunningView
@@ -61,14 +53,9 @@ pub record StaysBut (lane : ℕ) (r q : RunningView) : Type 0 where
   pub buffers : length q.heap.buffers ≡ length r.heap.buffers
   pub capacity : (buffer_of q.heap.buffers lane).capacity ≡ (buffer_of r.heap.buffers lane).capacity
 
--- what a collection leaves: a heap that is running, where it is asked of these objects of chunks, in which no birth comes from nowhere, and
--- as many frames and lanes
-pub record CollectsOver (Asked : HeapView → ℕ → ℕ → Type 0) (h k : HeapView) (holders : List ℕ) : Type 0 where
-  pub running : IsRunningOver Asked k holders
+-- what a collection leaves: a heap that lanes can run on, in which no birth comes from nowhere, and as many frames and lanes
+pub record Collects (h k : HeapView) (holders : List ℕ) : Type 0 where
+  pub running : IsRunning k holders
   pub born : BringsNoBirth h k
   pub frames : HasTwoFrames h.space → HasTwoFrames k.space
   pub lanes : length k.chunks ≡ length h.chunks
-
--- lanes can run on it
-abbrev pub Collects : HeapView → HeapView → List ℕ → Type 0
-Collects h k holders = CollectsOver IsYoungOf h k holders

@@ -2,13 +2,12 @@
 //
 // A `Running` is a heap with what the lanes need beside it: the lane that holds each domain, and how many objects each lane has
 // made, by which it numbers the next one. A lane does an operation on it (`operate`), a domain changes hands (`give`), the
-// nurseries are emptied (`empty_nursery`), the whole heap is collected by the fail-safe (`collect`), and where all chunks are empty the
-// cells are collected by bookmarks (`collect_cells`).
+// nurseries are emptied (`empty_nursery`), the whole heap is collected by the fail-safe (`collect`), and the cells are collected by bookmarks
+// (`collect_cells`).
 //
 // What is true of it between calls is `IsSound`: the heap is running (`IsRunning` in `bc_whole_heap`), no object in it has a later
-// birth of a lane than the lane's count, and two frames aren't those of nursery pages. Each call asks for it and leaves it, but for
-// an emptying of the nurseries that finds the heap too small: what nothing leads to may refer to cells then that were freed
-// (`IsStillSound`), and the heap is kept for what it stands for alone.
+// birth of a lane than the lane's count, and two frames aren't those of nursery pages. Each call asks for it and leaves it,
+// also an emptying of the nurseries that finds the heap too small.
 //
 // Pages may be gone. An operation looks at one object at most (`touching`): its page is brought home first, for which one other may have
 // to leave. Where none can it stops, and is done after the nurseries were emptied: then no page is Remembered, and each can leave.
