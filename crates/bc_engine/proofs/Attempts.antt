@@ -6,7 +6,6 @@ use Rattle.bc_classes.proofs.ClassLemmas.{class_of-class}
 use Rattle.bc_whole_heap.specs.Closed.{buffer_of}
 use Rattle.bc_whole_heap.specs.LaneChunks.{chunk_of}
 use Rattle.bc_bookmarks.specs.Moves.{MovesPages, NoPageGoes}
-use Rattle.bc_whole_heap.proofs.ClosedLemmas.{running-survivors}
 use Rattle.bc_whole_heap.proofs.MovingLemmas.{running-moved, stands-moved}
 use Rattle.bc_running.specs.Running.{RunningView, RunningStands}
 use Rattle.bc_running.specs.RunningFacts.{IsSound, StaysBut, with_space}
@@ -30,7 +29,7 @@ use Rattle.bc_nursery.specs.Nurseries.{Nursery}
 use Rattle.bc_superpages.specs.Layout.{Layout, superpages}
 use Rattle.bc_superpages.specs.RootWords.{RootWords}
 use Rattle.bc_engine.specs.Engines.{EngineView}
-use Rattle.bc_engine.specs.EngineFacts.{CanRunLanes, IsEngine, IsReadyForSurvivors, IsUnrecorded}
+use Rattle.bc_engine.specs.EngineFacts.{CanRunLanes, IsUnrecorded}
 use Rattle.bc_engine.specs.Lanes.{Does, Stops}
 use Rattle.bc_engine.proofs.Sizes.{fits-moved, fits-step, op-of_state}
 
@@ -46,26 +45,6 @@ ready-sound {setup} {r} ready = record {
   frames = omega (arith, ready.fits.nursery, ready.fits.frames, ready.range.frames.0);
   lanes = ready.fits.lanes ∙ sym ready.lanes;
   few = omega (arith, ready.lanes, ready.range.lanes.1);
-}
-
--- what is true of such a heap is true of its survivors
-pub ready-survivors : {setup : Setup} {r : RunningView} → CanRunLanes setup r → IsReadyForSurvivors setup r
-ready-survivors {setup} {r} ready = record {
-  range = ready.range;
-  order = running-survivors r.heap r.holders ready.order;
-  fits = ready.fits;
-  lanes = ready.lanes;
-  meant = ready.meant;
-}
-
--- an engine that hasn't ended goes on with it
-pub ready-going : (e : EngineView) → IsEngine e → e.ended ≡ None → CanRunLanes e.setup e.running
-ready-going e engine going = record {
-  range = engine.ready.range;
-  order = engine.order going;
-  fits = engine.ready.fits;
-  lanes = engine.ready.lanes;
-  meant = engine.ready.meant;
 }
 
 pub does-step : {setup : Setup} {r q : RunningView} (lane : ℕ) (op : Op) (reply : Reply) → CanRunLanes setup r → lane < length r.serials → IsOpOf r.heap.roots op → StaysBut lane r q → IsStep lane op r q reply → Does lane op r reply q

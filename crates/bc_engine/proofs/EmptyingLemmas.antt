@@ -21,12 +21,13 @@ use Rattle.bc_superpages.specs.RootWords.{RootWords}
 use Rattle.bc_model.specs.declared.operations.Op.{Op}
 use Rattle.bc_model.specs.declared.operations.Reply.{Reply}
 use Rattle.bc_running.specs.Running.{RunningView, RunningStands}
-use Rattle.bc_running.specs.RunningFacts.{running_of}
+use Rattle.bc_running.specs.RunningFacts.{running_of, IsSound}
+use Rattle.bc_whole_heap.specs.Running.{IsRunning}
 use Rattle.bc_engine.specs.Lanes.{LanesRan, LanesWentOn}
 use Rattle.bc_engine.proofs.GoingLemmas.{goes-none}
 use Rattle.bc_engine.proofs.RunLemmas.{runs-none}
 use Rattle.bc_engine.specs.Engines.{HasEmptyChunks}
-use Rattle.bc_engine.specs.EngineFacts.{HasSetup, CanRunLanes, IsReadyForSurvivors, IsUnrecorded}
+use Rattle.bc_engine.specs.EngineFacts.{HasSetup, CanRunLanes, IsUnrecorded}
 
 -- what is true of a heap with the holders and births that there were is true with those that there are, which are the same
 through : (r q : RunningView) (P : RunningView → Type 0) → q.holders ≡ r.holders → q.serials ≡ r.serials → P (running_of q.heap r.holders r.serials) → P q
@@ -108,10 +109,10 @@ stands-refused {hs} {serials} {h} {k} state is st = record {
   lanes = length-alike outline_nursery h.chunks k.chunks is.chunks ∙ st.lanes;
 }
 
-ready-kept : {hs serials : List ℕ} {h k : HeapView} (setup : Setup) → KeepsMeaning h k → CanRunLanes setup (running_of h hs serials) → IsReadyForSurvivors setup (running_of k hs serials)
-ready-kept {hs} {serials} {h} {k} setup is ready = record {
+ready-kept : {hs serials : List ℕ} {h k : HeapView} (setup : Setup) → KeepsMeaning h k → IsRunning k hs → CanRunLanes setup (running_of h hs serials) → CanRunLanes setup (running_of k hs serials)
+ready-kept {hs} {serials} {h} {k} setup is order ready = record {
   range = ready.range;
-  order = is.order hs (running-survivors h hs ready.order);
+  order = order;
   fits = record {
     supers = is.sizes.supers ∙ ready.fits.supers;
     domains = ap (λ (x : RootWords). x.domains) is.sizes.roots ∙ ready.fits.domains;
@@ -132,6 +133,7 @@ pub goes-refused : (lanes : List (List Op)) {r q : RunningView} (told : List (Li
 goes-refused lanes {r} {q} told held same is =
     goes-none lanes r q told (λ state st. through r q (λ (x : RunningView). RunningStands x state) held same (stands-refused state is st))
 
--- and what is true of survivors is true of them
-pub ready-refused : (setup : Setup) {r q : RunningView} → q.holders ≡ r.holders → q.serials ≡ r.serials → KeepsMeaning r.heap q.heap → CanRunLanes setup r → IsReadyForSurvivors setup q
-ready-refused setup {r} {q} held same is ready = through r q (IsReadyForSurvivors setup) held same (ready-kept setup is ready)
+-- and lanes can run on it still
+pub ready-refused : (setup : Setup) {r q : RunningView} → q.holders ≡ r.holders → q.serials ≡ r.serials → KeepsMeaning r.heap q.heap → IsSound q → CanRunLanes setup r → CanRunLanes setup q
+ready-refused setup {r} {q} held same is sound ready =
+    through r q (CanRunLanes setup) held same (ready-kept setup is (subst (IsRunning q.heap) held sound.running) ready)

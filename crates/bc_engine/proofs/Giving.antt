@@ -1,10 +1,9 @@
 -- A domain changes hands while all chunks and buffers are empty: only the holders change, and no object of a chunk is there to be asked.
 use Rattle.std.proofs.Common.{◌≡◌, ℕ, ◌<◌, List, [], length, get_or, set, sym, ap, subst, ◌∙◌, inl, inr, arith, get_or-set_same, get_or-set_other, length-set}
 use Rattle.std.proofs.lemmas.Bool.{cases_eq}
-use Rattle.bc_whole_heap.specs.Closed.{buffer_of, IsCellOrYoung, IsClosedHeap, IsClosedOver}
+use Rattle.bc_whole_heap.specs.Closed.{buffer_of, IsCellOrYoung, IsClosedHeap}
 use Rattle.bc_whole_heap.specs.LaneChunks.{chunk_of}
 use Rattle.bc_whole_heap.specs.HeapFacts.{view_of}
-use Rattle.bc_whole_heap.specs.Heaps.{HeapView}
 use Rattle.bc_running.specs.Running.{RunningView, RunningStands}
 use Rattle.bc_model.specs.State.{State, given}
 use Rattle.bc_model.specs.declared.traces.Setup.{Setup}
@@ -15,14 +14,14 @@ use Rattle.bc_superpages.specs.Layout.{Layout}
 use Rattle.bc_superpages.specs.LayoutAt.{IsAllocated}
 use Rattle.bc_superpages.specs.RootWords.{RootWords}
 use Rattle.bc_engine.specs.Engines.{HasEmptyChunks}
-use Rattle.bc_engine.specs.EngineFacts.{CanRunLanes, IsReadyOver, IsUnrecorded}
+use Rattle.bc_engine.specs.EngineFacts.{CanRunLanes, IsUnrecorded}
 use Rattle.bc_running.proofs.SoundLemmas.{none-young}
 
 -- what refers to a cell or to an object of an empty chunk refers to a cell
 only-cell : (s : Layout) (c : Nursery) (a : ℕ) → c.objects ≡ [] → IsCellOrYoung s c a → IsAllocated s a
 only-cell s c a none h = elim h [ inl cell ↦ cell | inr young ↦ none-young c a none young ]
 
-pub closed-given : {Asked : HeapView → ℕ → ℕ → Type 0} (s : Layout) (roots : RootWords) (cs : List Nursery) (bs : List Entries) (hs : List ℕ) (d l : ℕ) → ((n : ℕ) → (chunk_of cs n).objects ≡ []) → ((n : ℕ) → (buffer_of bs n).entries ≡ []) → l < length cs → IsClosedOver Asked (view_of s roots cs bs) hs → IsClosedHeap (view_of s roots cs bs) (set hs d l)
+pub closed-given : (s : Layout) (roots : RootWords) (cs : List Nursery) (bs : List Entries) (hs : List ℕ) (d l : ℕ) → ((n : ℕ) → (chunk_of cs n).objects ≡ []) → ((n : ℕ) → (buffer_of bs n).entries ≡ []) → l < length cs → IsClosedHeap (view_of s roots cs bs) hs → IsClosedHeap (view_of s roots cs bs) (set hs d l)
 closed-given s roots cs bs hs d l none empty within h =
     let long : length (set hs d l) ≡ length hs = length-set hs d l in
     record {
@@ -46,7 +45,7 @@ closed-given s roots cs bs hs d l none empty within h =
       entries = λ m i lt there. absurd (omega (arith, there, ap length (empty m)));
     }
 
-pub stands-given : {Asked : HeapView → ℕ → ℕ → Type 0} {setup : Setup} {r : RunningView} (d l : ℕ) (state : State) → IsReadyOver Asked setup r → l < setup.lanes → RunningStands r state → RunningStands (record r { holders = set r.holders d l }) (given state (record { domain = d; lane = l }))
+pub stands-given : {setup : Setup} {r : RunningView} (d l : ℕ) (state : State) → CanRunLanes setup r → l < setup.lanes → RunningStands r state → RunningStands (record r { holders = set r.holders d l }) (given state (record { domain = d; lane = l }))
 stands-given d l state ready within st = record {
   consistent = IsState-given state (record { domain = d; lane = l }) st.consistent (omega (arith, within, st.lanes, ready.fits.lanes));
   stands = st.stands;
@@ -58,8 +57,8 @@ stands-given d l state ready within st = record {
   lanes = st.lanes;
 }
 
-pub ready-given : {Asked : HeapView → ℕ → ℕ → Type 0} {setup : Setup} {r : RunningView} (d l : ℕ) → HasEmptyChunks r.heap → IsUnrecorded r.heap → l < setup.lanes → IsReadyOver Asked setup r → CanRunLanes setup (record r { holders = set r.holders d l })
-ready-given {Asked} {setup} {r} d l none empty within ready =
+pub ready-given : {setup : Setup} {r : RunningView} (d l : ℕ) → HasEmptyChunks r.heap → IsUnrecorded r.heap → l < setup.lanes → CanRunLanes setup r → CanRunLanes setup (record r { holders = set r.holders d l })
+ready-given {setup} {r} d l none empty within ready =
     let order = ready.order in
     record {
       range = ready.range;

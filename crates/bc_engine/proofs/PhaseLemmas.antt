@@ -23,13 +23,12 @@ use Rattle.bc_superpages.specs.Kept.{IsLayout}
 use Rattle.bc_superpages.specs.Layout.{Layout, superpages}
 use Rattle.bc_word.specs.declared.words.Word.{Word}
 use Rattle.bc_engine.specs.Engines.{EngineView, EngineStands, HasEmptyChunks}
-use Rattle.bc_engine.specs.EngineFacts.{with_holders, HasRoomForBirths, IsEngine, IsReadyForSurvivors}
+use Rattle.bc_engine.specs.EngineFacts.{with_holders, CanRunLanes, HasRoomForBirths, IsEngine}
 use Rattle.bc_engine.specs.Lanes.{of_lane, AreDone, BirthsWithin, LanesWentOn, HasSerialsLeft, HasRoomForOps}
 use Rattle.bc_engine.specs.Phases.{CutPhase, DidPhase}
 use Rattle.bc_engine.specs.Rounds.{RoundsWentOn, IsRoomFor, IsThrough, IsTooSmall, IsUnderwayOn}
 use Rattle.bc_model.proofs.NeedFound.{need-found}
 use Rattle.bc_model.proofs.RunStates.{length-cut_lanes}
-use Rattle.bc_engine.proofs.Attempts.{ready-going}
 use Rattle.bc_engine.proofs.CutLemmas.{mixed-cut, mixed-whole, run-lanes}
 use Rattle.bc_engine.proofs.Sizes.{no-object, op-of_heap, op-of_state}
 
@@ -43,7 +42,7 @@ fits-later e f lanes births n fits j = omega (arith, births j, fits j)
 
 pub underway-begun : (e : EngineView) (p : PhaseLists) (vs : List (Vec Reply Global)) → IsEngine e → e.ended ≡ None → IsPhase e.setup p → HasRoomForOps e p.lanes 0 → length vs ≡ length p.lanes → IsRoomFor p.lanes vs → IsUnderwayOn e p.lanes vs
 underway-begun e p vs engine going phase fits long room = record {
-  ready = ready-going e engine going;
+  ready = engine.ready;
   each = phase.lanes;
   ops = phase.ops;
   long = long ∙ phase.lanes;
@@ -74,7 +73,7 @@ all-weaker : {X : Type 0} (P Q : X → Type 0) → ((x : X) → P x → Q x) →
 all-weaker P Q f [] h = tt
 all-weaker P Q f (x ∷ xs) h = (f x h.0, all-weaker P Q f xs h.1)
 
-ops-fit : (e : EngineView) (lanes : List (List Op)) (s : State) → IsReadyForSurvivors e.setup e.running → EngineStands e s → AllByRecursion (AllByRecursion (IsOp e.setup)) lanes → AllByRecursion (AllByRecursion (IsOp (sizes_of s))) lanes
+ops-fit : (e : EngineView) (lanes : List (List Op)) (s : State) → CanRunLanes e.setup e.running → EngineStands e s → AllByRecursion (AllByRecursion (IsOp e.setup)) lanes → AllByRecursion (AllByRecursion (IsOp (sizes_of s))) lanes
 ops-fit e lanes s ready st ops =
     all-weaker (AllByRecursion (IsOp e.setup)) (AllByRecursion (IsOp (sizes_of s)))
     (λ os fits. all-weaker (IsOp e.setup) (IsOp (sizes_of s)) (λ o fit. op-of_state e.running.heap e.running.holders e.running.serials s o st (op-of_heap e.setup e.running.heap o ready.fits fit)) os fits) lanes ops
@@ -84,10 +83,10 @@ pub record IsCutOf (lanes : List (List Op)) (q : RunningView) (answers : List (L
   pub replies : answers ≡ replies_to_lanes s 0 (cut_lanes (map length answers) lanes)
   pub stands : RunningStands q (after_lanes s 0 (cut_lanes (map length answers) lanes))
 
-each-lane : (e : EngineView) (p : PhaseLists) (s : State) → IsReadyForSurvivors e.setup e.running → IsPhase e.setup p → EngineStands e s → length p.lanes ≡ length s.made
+each-lane : (e : EngineView) (p : PhaseLists) (s : State) → CanRunLanes e.setup e.running → IsPhase e.setup p → EngineStands e s → length p.lanes ≡ length s.made
 each-lane e p s ready phase st = phase.lanes ∙ sym ready.fits.lanes ∙ st.lanes
 
-cut-run : (e : EngineView) {p : PhaseLists} {q : RunningView} {told answers : List (List Reply)} → IsReadyForSurvivors e.setup e.running → IsPhase e.setup p → ((j : ℕ) → of_lane told j ≡ []) → length answers ≡ length p.lanes → LanesWentOn p.lanes e.running told q answers → (s : State) → EngineStands e s → IsCutOf p.lanes q answers s
+cut-run : (e : EngineView) {p : PhaseLists} {q : RunningView} {told answers : List (List Reply)} → CanRunLanes e.setup e.running → IsPhase e.setup p → ((j : ℕ) → of_lane told j ≡ []) → length answers ≡ length p.lanes → LanesWentOn p.lanes e.running told q answers → (s : State) → EngineStands e s → IsCutOf p.lanes q answers s
 cut-run e {p} {q} {told} {answers} ready phase none long goes s st =
     let cut = map length answers in
     let mixed = mixed-cut s p.lanes answers goes.steps (each-lane e p s ready phase st) (ops-fit e p.lanes s ready st phase.ops) goes.below (ops-begun goes none) in
@@ -99,7 +98,7 @@ pub record IsWhole (lanes : List (List Op)) (q : RunningView) (answers : List (L
   pub replies : answers ≡ replies_to_lanes s 0 lanes
   pub stands : RunningStands q (after_lanes s 0 lanes)
 
-whole-run : (e : EngineView) {p : PhaseLists} {q : RunningView} {told answers : List (List Reply)} → IsReadyForSurvivors e.setup e.running → IsPhase e.setup p → ((j : ℕ) → of_lane told j ≡ []) → length answers ≡ length p.lanes → AreDone p.lanes answers → LanesWentOn p.lanes e.running told q answers → (s : State) → EngineStands e s → IsWhole p.lanes q answers s
+whole-run : (e : EngineView) {p : PhaseLists} {q : RunningView} {told answers : List (List Reply)} → CanRunLanes e.setup e.running → IsPhase e.setup p → ((j : ℕ) → of_lane told j ≡ []) → length answers ≡ length p.lanes → AreDone p.lanes answers → LanesWentOn p.lanes e.running told q answers → (s : State) → EngineStands e s → IsWhole p.lanes q answers s
 whole-run e {p} {q} {told} {answers} ready phase none long done goes s st =
     let mixed = mixed-whole s p.lanes answers goes.steps (each-lane e p s ready phase st) (ops-fit e p.lanes s ready st phase.ops) goes.below done (ops-begun goes none) in
     let run = run-lanes s p.lanes answers goes.steps st.consistent mixed long (replies-begun goes none s st) in

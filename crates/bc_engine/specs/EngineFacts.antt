@@ -1,10 +1,10 @@
 -- What is true of an engine between calls.
 use Rattle.std.specs.Prelude.{◌≡◌, ◌≢◌, ℕ, ◌+◌, ◌*◌, ◌^◌, ◌<◌, ◌≤◌, List, [], length, Some, None, slice_index}
-use Rattle.bc_whole_heap.specs.Closed.{buffer_of, IsSurvivorOf, IsYoungOf}
+use Rattle.bc_whole_heap.specs.Closed.{buffer_of}
 use Rattle.bc_whole_heap.specs.LaneChunks.{chunk_of}
 use Rattle.bc_whole_heap.specs.Heaps.{HeapView}
 use Rattle.bc_whole_heap.specs.HeapFacts.{NoneRemembered}
-use Rattle.bc_whole_heap.specs.Running.{IsRunning, IsRunningOver}
+use Rattle.bc_whole_heap.specs.Running.{IsRunning}
 use Rattle.bc_model.specs.State.{State}
 use Rattle.bc_model.specs.WellFormed.{IsSetup}
 use Rattle.bc_model.specs.declared.traces.Setup.{Setup}
@@ -35,32 +35,23 @@ pub record IsUnrecorded (h : HeapView) : Type 0 where
   pub entries : (l : ℕ) → (buffer_of h.buffers l).entries ≡ []
   pub remembered : NoneRemembered h.space
 
--- the heap is in order, where it is asked of these objects of chunks, it has the setup's sizes, and there is a state that it stands for
-pub record IsReadyOver (Asked : HeapView → ℕ → ℕ → Type 0) (setup : Setup) (r : RunningView) : Type 0 where
+-- lanes can run: the heap is in order, it has the setup's sizes, and there is a state that it stands for
+pub record CanRunLanes (setup : Setup) (r : RunningView) : Type 0 where
   pub range : IsSetup setup
-  pub order : IsRunningOver Asked r.heap r.holders
+  pub order : IsRunning r.heap r.holders
   pub fits : HasSetup r.heap setup
   pub lanes : length r.serials ≡ setup.lanes
   pub meant : (state : State) × RunningStands r state
-
--- lanes can run: every object of a chunk is asked
-abbrev pub CanRunLanes : Setup → RunningView → Type 0
-CanRunLanes setup r = IsReadyOver IsYoungOf setup r
-
--- what is true of the heap besides where its nurseries couldn't be emptied
-abbrev pub IsReadyForSurvivors : Setup → RunningView → Type 0
-IsReadyForSurvivors setup r = IsReadyOver IsSurvivorOf setup r
 
 -- a number of threads that may mark
 abbrev pub IsWorkers : ℕ → Type 0
 IsWorkers n = (1 ≤ n) × (n ≤ 16)
 
--- what is true of an engine whose heap is in order: that of one that hasn't run out of memory. As long as it hasn't ended,
--- lanes can run on the heap, and nothing is recorded
+-- what is true of an engine whose heap is in order, that of one that hasn't run out of memory: lanes can run on the heap, and as long as the
+-- engine hasn't ended nothing is recorded
 pub record IsEngine (e : EngineView) : Type 0 where
   pub workers : IsWorkers e.workers
-  pub ready : IsReadyForSurvivors e.setup e.running
-  pub order : e.ended ≡ None → IsRunning e.running.heap e.running.holders
+  pub ready : CanRunLanes e.setup e.running
   pub going : e.ended ≡ None → IsUnrecorded e.running.heap
 
 -- every lane can make n objects more, all with serials below 2 ^ 32

@@ -32,13 +32,11 @@
 // The proofs keep the list of the steps that were done, in their order (`Goes`), and turn to lane after lane at
 // the phase's end alone (proofs/CutLemmas.antt).
 //
-// What is true of every engine between calls, until memory runs out (`IsEngine`): its heap is in order, where it is asked of
-// what survives (`IsRunningForSurvivors` in `bc_whole_heap`), of which it is part that bookmarks and counters stand for the
-// pages that left; it has the sizes of the setup and its frames, of which two aren't those of nursery pages, and superpages are
+// What is true of every engine between calls, until memory runs out (`IsEngine`): its heap is in order, so that lanes can run on it
+// (`IsRunning` in `bc_whole_heap`), of which it is part that bookmarks and counters stand for the pages that left; it has the sizes of the setup and its frames, of which two aren't those of nursery pages, and superpages are
 // in use for the setup's domains alone; and there is a state of the heap that never frees, moves or pages that it stands for,
-// with just these holders and births. As long as it hasn't ended, the heap is in order whole, so that lanes can run on it
-// (`IsRunning`), write buffers are empty and no page is remembered. `facts` tells all this. An emptying that was refused may
-// have freed cells to which objects of chunks refer that nothing leads to: so no operation is done on an engine that has ended.
+// with just these holders and births. As long as it hasn't ended, write buffers are empty and no page is remembered. `facts` tells all
+// this.
 //
 // The theorem is the contract of `Engine::phase`. Done, the replies are those of the heap that never frees, to every
 // operation, the engine stands for the state after the phase, and its superpages are at least that state's need
