@@ -38,7 +38,7 @@ extends_more o n k v f e is =
       ];
     }
 
-pub words_at_least : (s f : ℕ) (t : Turn) → 29 * s + (f + 63) / 64 + 1 ≤ table_words s f t
+pub words_at_least : (s f : ℕ) (t : Turn) → 33 * s + (f + 63) / 64 + 1 ≤ table_words s f t
 words_at_least s f Lanes = omega arith
 words_at_least s f Mark = omega arith
 
@@ -60,15 +60,15 @@ frames_more pool o n k v e is =
 
 -- word i of those of pages: the word of a page, or one that nobody uses
 abbrev pub filled_word : List Header → ℕ → ℕ
-filled_word hs i = if nat_lt (i % 12) 4 then state_word (get_or (get_or hs (i / 12) unused_header).pages (i % 12) Absent) else 0
+filled_word hs i = if nat_lt (i % 16) 4 then state_word (get_or (get_or hs (i / 16) unused_header).pages (i % 16) Absent) else 0
 
 pub filled_at : (hs : List Header) (p : ℕ) → filled_word hs (page_at p) ≡ state_word (state_in hs p)
 filled_at hs p =
-    let place : page_at p % 12 ≡ p % 4 = omega arith in
-    let superpage : page_at p / 12 ≡ p / 4 = omega arith in
-    ap (λ (b : Bool). if b then state_word (get_or (get_or hs (page_at p / 12) unused_header).pages (page_at p % 12) Absent) else 0) (lt-ltb (page_at p % 12) 4 (omega arith))
-    ∙ ap (λ (q : ℕ). state_word (get_or (get_or hs q unused_header).pages (page_at p % 12) Absent)) superpage
+    let place : page_at p % 16 ≡ p % 4 = omega arith in
+    let superpage : page_at p / 16 ≡ p / 4 = omega arith in
+    ap (λ (b : Bool). if b then state_word (get_or (get_or hs (page_at p / 16) unused_header).pages (page_at p % 16) Absent) else 0) (lt-ltb (page_at p % 16) 4 (omega arith))
+    ∙ ap (λ (q : ℕ). state_word (get_or (get_or hs q unused_header).pages (page_at p % 16) Absent)) superpage
     ∙ ap (λ (i : ℕ). state_word (get_or (get_or hs (p / 4) unused_header).pages i Absent)) place
 
-pub states_added : (hs : List Header) (o n : List ℕ) (count superpages : ℕ) → count ≡ 12 * superpages → Extends o n count (filled_word hs) → AddsStates hs o n superpages
+pub states_added : (hs : List Header) (o n : List ℕ) (count superpages : ℕ) → count ≡ 16 * superpages → Extends o n count (filled_word hs) → AddsStates hs o n superpages
 states_added hs o n count superpages is e = record { long = e.long ∙ ap (λ (m : ℕ). length o + m) is; kept = e.kept; states = λ p lt. e.added (page_at p) (omega arith) ∙ filled_at hs p }

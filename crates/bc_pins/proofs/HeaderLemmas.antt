@@ -29,13 +29,13 @@ headers_set k o m n ws s t = record {
   near = λ p lt. ap state_word (state_same p) ∙ s.near p lt;
   far = λ p le. state_same p ∙ s.far p le;
   else_same = λ q. elim (cases_lt q k.supers) [
-    | inl lt ↦ joined (at o q) (at n q) (at m q).pages _ _ ((t.near q lt).same ∙ ap (λ (x : Header). record x { incoming = get_or ws (12 * k.supers + q) 0; bookmarks = (at n q).bookmarks }) (s.else_same q))
+    | inl lt ↦ joined (at o q) (at n q) (at m q).pages _ _ ((t.near q lt).same ∙ ap (λ (x : Header). record x { incoming = get_or ws (16 * k.supers + q) 0; bookmarks = (at n q).bookmarks }) (s.else_same q))
     | inr le ↦ kept (at o q) (at n q) (at m q).pages (t.far q le ∙ s.else_same q)
   ];
   states_long = λ q. ap length (pages_same q) ∙ s.states_long q;
   counters = λ q lt. ap (λ (x : Header). x.incoming) (t.near q lt).same;
   sets = λ q lt. ((t.near q lt).long, (t.near q lt).fits);
-  bookmarks = λ q j lt few. (t.near q lt).bits j few ∙ (let z : 13 * k.supers + (16 * q + j) ≡ bookmark_at k (16 * q + j) = omega arith in ap (λ (i : ℕ). get_or ws i 0) z);
+  bookmarks = λ q j lt few. (t.near q lt).bits j few ∙ (let z : 17 * k.supers + (16 * q + j) ≡ bookmark_at k (16 * q + j) = omega arith in ap (λ (i : ℕ). get_or ws i 0) z);
   behind = λ q le. (ap (λ (x : Header). x.bookmarks) (t.far q le ∙ s.else_same q), ap (λ (x : Header). x.incoming) (t.far q le ∙ s.else_same q));
 }
   where
@@ -49,7 +49,7 @@ headers_set k o m n ws s t = record {
     state_same p = ap (λ (ps : List PageState). get_or ps (p % 4) Absent) (pages_same (p / 4))
 
 -- bookmark words that are written one by one
-pub summary_start : (o : Header) (q sup w : ℕ) (ws : List ℕ) → w ≡ get_or ws (12 * sup + q) 0 → IsCellSet o.bookmarks → SummarySet o (record o { incoming = w }) q sup ws 0
+pub summary_start : (o : Header) (q sup w : ℕ) (ws : List ℕ) → w ≡ get_or ws (16 * sup + q) 0 → IsCellSet o.bookmarks → SummarySet o (record o { incoming = w }) q sup ws 0
 summary_start o q sup w ws is sixteen = record {
   same = ap (λ (n : ℕ). record o { incoming = n }) is;
   long = sixteen.0;
@@ -57,7 +57,7 @@ summary_start o q sup w ws is sixteen = record {
   bits = λ j lt. absurd (omega arith);
 }
 
-pub summary_step : (o n : Header) (q sup j w : ℕ) (ws : List ℕ) → SummarySet o n q sup ws j → j < 16 → w ≡ get_or ws (13 * sup + (16 * q + j)) 0 → w < 2 ^ 64 → SummarySet o (record n { bookmarks = set n.bookmarks j w }) q sup ws (j + 1)
+pub summary_step : (o n : Header) (q sup j w : ℕ) (ws : List ℕ) → SummarySet o n q sup ws j → j < 16 → w ≡ get_or ws (17 * sup + (16 * q + j)) 0 → w < 2 ^ 64 → SummarySet o (record n { bookmarks = set n.bookmarks j w }) q sup ws (j + 1)
 summary_step o n q sup j w ws s few is small =
     let long = s.long in
     record {
@@ -68,7 +68,7 @@ summary_step o n q sup j w ws s few is small =
         | inr ne ↦ subst (λ (x : ℕ). x < 2 ^ 64) (sym (get_or-set_other n.bookmarks j i w 0 ne)) (s.fits i)
       ];
       bits = λ i lt. elim (cases_eq i j) [
-        | inl e ↦ ap (λ (a : ℕ). get_or (set n.bookmarks j w) a 0) e ∙ get_or-set_same n.bookmarks j w 0 (omega arith) ∙ is ∙ ap (λ (a : ℕ). get_or ws (13 * sup + (16 * q + a)) 0) (sym e)
+        | inl e ↦ ap (λ (a : ℕ). get_or (set n.bookmarks j w) a 0) e ∙ get_or-set_same n.bookmarks j w 0 (omega arith) ∙ is ∙ ap (λ (a : ℕ). get_or ws (17 * sup + (16 * q + a)) 0) (sym e)
         | inr ne ↦ get_or-set_other n.bookmarks j i w 0 ne ∙ s.bits i (omega arith)
       ];
     }

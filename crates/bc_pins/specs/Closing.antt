@@ -78,10 +78,10 @@ pub record StatesSet (old new : List Header) (pages : ℕ) (words : List ℕ) : 
 
 -- the header has the counter and the first bookmark words, of sixteen, that the table's words tell of its superpage
 pub record SummarySet (old new : Header) (superpage superpages : ℕ) (words : List ℕ) (count : ℕ) : Type 0 where
-  pub same : new ≡ record old { incoming = slice_index words (12 * superpages + superpage); bookmarks = new.bookmarks }
+  pub same : new ≡ record old { incoming = slice_index words (16 * superpages + superpage); bookmarks = new.bookmarks }
   pub long : length new.bookmarks ≡ 16
   pub fits : AreWords new.bookmarks
-  pub bits : (j : ℕ) → j < count → slice_index new.bookmarks j ≡ slice_index words (13 * superpages + (16 * superpage + j))
+  pub bits : (j : ℕ) → j < count → slice_index new.bookmarks j ≡ slice_index words (17 * superpages + (16 * superpage + j))
 
 -- the first headers have, in a table of so many superpages
 pub record SummariesBelow (old new : List Header) (count superpages : ℕ) (words : List ℕ) : Type 0 where

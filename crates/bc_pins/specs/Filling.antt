@@ -34,7 +34,7 @@ pub record Extends (old new : List ℕ) (count : ℕ) (f : ℕ → ℕ) : Type 0
 
 -- the words of the pages of so many superpages were added
 pub record AddsStates (headers : List Header) (old new : List ℕ) (superpages : ℕ) : Type 0 where
-  pub long : length new ≡ length old + 12 * superpages
+  pub long : length new ≡ length old + 16 * superpages
   pub kept : (i : ℕ) → i < length old → slice_index new i ≡ slice_index old i
   pub states : (p : ℕ) → p < 4 * superpages → slice_index new (length old + page_at p) ≡ state_word (state_in headers p)
 

@@ -49,14 +49,15 @@ owner k page = slice_index k.owners (slice_index k.opening.domains (page / 4))
 -- Where the words lie: first a word for each page, then by superpage its counter, then its sixteen bookmark words, then
 -- the frame words, then the next notice. A mark turn has besides by superpage sixteen mark words, then sixteen finished
 -- words, then the queue words.
--- The words of a superpage's four pages stand together, and eight that nobody uses stand between them and the next one's: so
--- no two superpages have words of pages in one cache line of eight words, wherever the first word lies
+-- The words of a superpage's four pages stand together, and twelve that nobody uses stand behind them. So no two superpages have
+-- words of pages in one cache line of eight words, wherever the list begins, and the next one's are two lines away, since a
+-- processor may fetch lines in pairs
 abbrev pub page_at : ℕ → ℕ
-page_at page = 12 * (page / 4) + page % 4
+page_at page = 16 * (page / 4) + page % 4
 
 -- where the words of pages end
 abbrev pub pages_end : Key → ℕ
-pages_end k = 12 * k.supers
+pages_end k = 16 * k.supers
 
 abbrev pub counter_at : Key → ℕ → ℕ
 counter_at k superpage = pages_end k + superpage
@@ -92,8 +93,8 @@ all_words k = notice_at k + 1 + (if k.lanes then 0 else 32 * k.supers + queue_wo
 
 -- the same by superpages, frames and turn
 abbrev pub table_words : ℕ → ℕ → Turn → ℕ
-table_words supers frames Lanes = 29 * supers + (frames + 63) / 64 + 1
-table_words supers frames Mark = 29 * supers + (frames + 63) / 64 + 1 + (32 * supers + (4 * supers + 63) / 64)
+table_words supers frames Lanes = 33 * supers + (frames + 63) / 64 + 1
+table_words supers frames Mark = 33 * supers + (frames + 63) / 64 + 1 + (32 * supers + (4 * supers + 63) / 64)
 
 -- the slots of a page
 abbrev pub frame_slot : Key → ℕ → ℕ

@@ -33,7 +33,7 @@ impl Pins {
         drain(&mut closed, &mut slots);
         set_states(&mut parts.headers, &closed, pages);
         set_summaries(&mut parts.headers, &closed, superpages);
-        give_frames(&mut parts.pool, &closed, 29 * superpages);
+        give_frames(&mut parts.pool, &closed, 33 * superpages);
         closed.free();
         put_boxes_back(&mut parts, pages, slots);
         Space::close_up(parts)

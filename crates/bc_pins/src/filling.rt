@@ -46,7 +46,7 @@ fn set_word(header: &Header, set: CellSet, word: usize) -> u64
 
 /// A word of those of a superpage's pages: the word of a page, or one that nobody uses.
 fn page_word(header: &Header, place: usize) -> u64
-    requires { place < 12 }
+    requires { place < 16 }
     ensures word { result ≡ (if nat_lt place 4 then state_word (slice_index_or header.now.pages place Absent) else 0) }
 {
     if place < 4 {
@@ -60,12 +60,12 @@ fn page_word(header: &Header, place: usize) -> u64
 pub(crate) fn push_states(words: &mut Vec<u64>, headers: &[Header], superpages: usize)
     requires superpages { superpages ≤ length headers.now }
     requires few { superpages ≤ 4096 }
-    requires room { length words.old.items + 12 * superpages ≤ vec_capacity words.old }
+    requires room { length words.old.items + 16 * superpages ≤ vec_capacity words.old }
     ensures added { AddsStates headers.now words.old.items words.new.items superpages }
     ensures room { vec_capacity words.new ≡ vec_capacity words.old }
 {
-    for entry in 0..12 * superpages {
-        words.push_reserved(page_word(&headers[entry / 12], entry % 12));
+    for entry in 0..16 * superpages {
+        words.push_reserved(page_word(&headers[entry / 16], entry % 16));
     }
 }
 
@@ -122,7 +122,7 @@ pub(crate) fn word_count(superpages: usize, frames: usize, turn: Turn) -> usize
     requires { (superpages ≤ 4096) × (frames < 2 ^ 32) }
     ensures { result ≡ table_words superpages frames turn }
 {
-    let lanes = 29 * superpages + (frames + 63) / 64 + 1;
+    let lanes = 33 * superpages + (frames + 63) / 64 + 1;
     match turn {
         Turn::Lanes => lanes,
         Turn::Mark => lanes + (32 * superpages + (4 * superpages + 63) / 64),

@@ -87,7 +87,7 @@ fn state_of(word: u64) -> PageState
 /// Writes into the headers what the words of so many pages tell.
 pub(crate) fn set_states(headers: &mut Vec<Header>, closed: &Closed<Lodged, Global>, pages: usize)
     requires pages { (pages ≤ 4 * length headers.old.items) × (pages < 2 ^ 32) }
-    requires words { IsFull closed.now.words × (3 * pages ≤ slots_len closed.now.words) }
+    requires words { IsFull closed.now.words × (4 * pages ≤ slots_len closed.now.words) }
     requires long { (q : ℕ) → length (slice_index_or headers.old.items q unused_header).pages ≡ 4 }
     requires few { (p : ℕ) → p < pages → slice_index (slots_items closed.now.words) (page_at p) ≤ 4 }
     ensures set { StatesSet headers.old.items headers.new.items pages (slots_items closed.now.words) }
@@ -105,13 +105,13 @@ fn set_summary(
     superpages: usize,
 )
     requires superpage { (superpage < superpages) × (superpages ≤ 4096) }
-    requires words { IsFull closed.now.words × (29 * superpages ≤ slots_len closed.now.words) }
+    requires words { IsFull closed.now.words × (33 * superpages ≤ slots_len closed.now.words) }
     requires sixteen { IsCellSet header.old.bookmarks }
     ensures set { SummarySet header.old header.new superpage superpages (slots_items closed.now.words) 16 }
 {
-    header.incoming = closed.word(12 * superpages + superpage);
+    header.incoming = closed.word(16 * superpages + superpage);
     for word in 0..16 {
-        header.bookmarks[word] = closed.word(13 * superpages + (16 * superpage + word));
+        header.bookmarks[word] = closed.word(17 * superpages + (16 * superpage + word));
     }
 }
 
@@ -122,7 +122,7 @@ pub(crate) fn set_summaries(
     superpages: usize,
 )
     requires superpages { (superpages ≤ length headers.old.items) × (superpages ≤ 4096) }
-    requires words { IsFull closed.now.words × (29 * superpages ≤ slots_len closed.now.words) }
+    requires words { IsFull closed.now.words × (33 * superpages ≤ slots_len closed.now.words) }
     requires sets { (q : ℕ) → q < superpages → IsCellSet (slice_index_or headers.old.items q unused_header).bookmarks }
     ensures set { SummariesSet headers.old.items headers.new.items superpages (slots_items closed.now.words) }
 {

@@ -49,7 +49,7 @@ pub(crate) fn page_entry(page: usize) -> usize
     requires { page < 2 ^ 32 }
     ensures { result ≡ page_at page }
 {
-    12 * (page / 4) + page % 4
+    16 * (page / 4) + page % 4
 }
 
 impl Model for About {
