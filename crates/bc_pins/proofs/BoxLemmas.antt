@@ -1,5 +1,5 @@
 -- Boxes that come out of slots: where they lie, and which frames they use.
-use Rattle.std.proofs.Common.{◌≡◌, ℕ, ◌+◌, ◌-◌, ◌<◌, ◌≤◌, ◌≢◌, ◌==◌, true, false, List, [], ◌∷◌, length, map, get_or, Option, Some, None, is_some, count_by, inl, inr, refl, ap, sym, subst, ◌∙◌, arith}
+use Rattle.std.proofs.Common.{◌≡◌, ℕ, ◌+◌, ◌-◌, ◌<◌, ◌≤◌, ◌≢◌, ◌==◌, true, false, List, [], ◌∷◌, length, map, get_or, Option, Some, None, is_some, count_by, inl, inr, refl, ap, sym, subst, ◌∙◌, arith, ◌*◌}
 use Prim.Native.Nat.{zero, suc}
 use mathlib.Core.Option.{some, some-injective}
 use Rattle.std.proofs.lemmas.Bool.{cases_eq, cases_lt, eq-eqb}
@@ -16,7 +16,8 @@ use Rattle.bc_pins.specs.Views.{state_word}
 use Rattle.bc_pins.specs.Facts.{Lies, frame_of, frame_lodged}
 use Rattle.bc_pins.specs.Lodging.{box_of, place_of}
 use Rattle.bc_pins.proofs.TotalLemmas.{one_same, one_other}
-use Rattle.bc_pins.proofs.SumLemmas.{sum_same, sum_none, sum_cut, total_sum, count_total, total_map}
+use Rattle.bc_pins.proofs.SumLemmas.{sum_slots, sum_same, sum_none, sum_cut, total_sum, count_total, total_map}
+use Rattle.bc_pins.specs.Key.{home_slot}
 
 some_lodged : (a b : Lodged) → some (some a) ≡ some (some b) → a ≡ b
 some_lodged a b e = some-injective a b (some-injective (some a) (some b) e)
@@ -55,17 +56,17 @@ frame_box (Home h) f = refl
 frame_box (Away c) f = refl
 
 -- boxes that came out of slots use the frames that the slots did
-pub frames_back : (bs : List (Option Homed)) (xs : List Lodged) (n f : ℕ) → n ≤ length bs → length xs ≡ n + n
-    → ((i : ℕ) → i < n → get_or bs i None ≡ box_of (get_or xs i Nothing)) → ((i : ℕ) → n ≤ i → i < length bs → get_or bs i None ≡ None)
-    → ((i : ℕ) → i < n → frame_of (get_or xs (n + i) Nothing) f ≡ 0)
+pub frames_back : (bs : List (Option Homed)) (xs : List Lodged) (s n f : ℕ) → n ≡ 4 * s → n ≤ length bs → length xs ≡ n + n
+    → ((i : ℕ) → i < n → get_or bs i None ≡ box_of (get_or xs (home_slot i) Nothing)) → ((i : ℕ) → n ≤ i → i < length bs → get_or bs i None ≡ None)
+    → ((i : ℕ) → i < n → frame_of (get_or xs (home_slot i + 4) Nothing) f ≡ 0)
     → count_by (uses_frame f) bs ≡ total (frame_lodged f) (map some xs)
-frames_back bs xs n f le size near past store =
+frames_back bs xs s n f four le size near past store =
     let g : ℕ → ℕ = λ i. frame_of (get_or xs i Nothing) f in
     let h : ℕ → ℕ = λ i. one_if (uses_frame f (get_or bs i None)) in
     let as_sum = total_map some (frame_lodged f) xs ∙ total_sum (λ x. frame_of x f) xs Nothing in
-    let cut = sum_cut g n n (length xs) size in
-    let front = sum_same h g n (λ i lt. ap (λ (b : Option Homed). one_if (uses_frame f b)) (near i lt) ∙ sym (frame_box (get_or xs i Nothing) f)) in
-    let back = sum_none (λ i. g (n + i)) n store in
+    let cut = sum_slots g s n (length xs) four (omega arith) in
+    let front = sum_same h (λ i. g (home_slot i)) n (λ i lt. ap (λ (b : Option Homed). one_if (uses_frame f b)) (near i lt) ∙ sym (frame_box (get_or xs (home_slot i) Nothing) f)) in
+    let back = sum_none (λ i. g (home_slot i + 4)) n store in
     let boxes = count_total (uses_frame f) bs None ∙ total_sum (λ x. one_if (uses_frame f x)) bs None in
     let rest : ℕ = length bs - n in
     let cut_boxes = sum_cut h n rest (length bs) (omega arith) in

@@ -1,5 +1,5 @@
 -- What a table leaves when it is closed by a seat into which all others were joined.
-use Rattle.std.proofs.Common.{◌≡◌, ℕ, ◌+◌, ◌-◌, ◌<◌, ◌*◌, ◌≢◌, ◌==◌, if◌then◌else◌, List, [], ◌∷◌, length, map, None, inl, inr, refl, ap, sym, subst, ◌∙◌, arith}
+use Rattle.std.proofs.Common.{◌≡◌, ℕ, ◌+◌, ◌<◌, ◌*◌, ◌≢◌, ◌==◌, if◌then◌else◌, List, [], ◌∷◌, length, map, None, inl, inr, refl, ap, sym, subst, ◌∙◌, arith, ◌/◌, ◌%◌}
 use Prim.Native.Nat.{zero, suc}
 use mathlib.Core.Option.{some, some-injective, some-ne-none}
 use mathlib.Core.Option as maybe
@@ -10,7 +10,7 @@ use Rattle.bc_bits.specs.Counting.{one_if}
 use Rattle.bc_pins.specs.declared.views.Lodged.{Lodged}
 use Rattle.bc_pins.specs.declared.views.Lodged.TheVariants.{Nothing, Home, Away}
 use Rattle.bc_pins.specs.declared.views.View.{View}
-use Rattle.bc_pins.specs.Key.{Key, pages_of, counter_at, owner}
+use Rattle.bc_pins.specs.Key.{Key, pages_of, counter_at, owner, frame_slot, store_slot}
 use Rattle.bc_pins.specs.Totals.{total, times, sum_to}
 use Rattle.bc_pins.specs.Contents.{IsContent, RefersYoung}
 use Rattle.bc_pins.specs.Views.{grips, grips_remembered, frame_in_hand, counted_for, sets_bit, has_role, opened_content, record_of}
@@ -101,12 +101,14 @@ module _ (k : Key) (s : Table) (r : Rule k s) (id : ℕ) (v : View) (at : get_el
   home_each : (i : ℕ) → i < length s.homes → (y : Lodged) × (get_elem? s.homes i ≡ some (some y))
   home_each i lt =
       let long = r.slots in
-      elim (cases_lt i (pages_of k)) [
-        | inl near ↦ (lies_home (page_word s i) _ _ _ (not_held i near) (r.place i near).lies).0
-        | inr far ↦
-            let p : ℕ = i - pages_of k in
-            let near : p < pages_of k = omega arith in
-            let is : pages_of k + p ≡ i = omega arith in
+      let p : ℕ = 4 * (i / 8) + i % 4 in
+      let near : p < pages_of k = omega arith in
+      elim (cases_lt (i % 8) 4) [
+        | inl front ↦
+            let is : frame_slot k p ≡ i = omega arith in
+            subst (λ (n : ℕ). (y : Lodged) × (get_elem? s.homes n ≡ some (some y))) is (lies_home (page_word s p) _ _ _ (not_held p near) (r.place p near).lies).0
+        | inr back ↦
+            let is : store_slot k p ≡ i = omega arith in
             subst (λ (n : ℕ). (y : Lodged) × (get_elem? s.homes n ≡ some (some y))) is (lies_home (page_word s p) _ _ _ (not_held p near) (r.place p near).lies).1
       ]
 
@@ -130,8 +132,8 @@ module _ (k : Key) (s : Table) (r : Rule k s) (id : ℕ) (v : View) (at : get_el
       let absent = old.absent in
       record {
         not_held = not_held p lt;
-        lies = subst (λ (c : List ℕ). Lies (page_word s p) (get_elem? (map some xs) p) (get_elem? (map some xs) (pages_of k + p)) c) same
-            (subst (λ (hs : List (maybe.Option Lodged)). Lies (page_word s p) (get_elem? hs p) (get_elem? hs (pages_of k + p)) (r.rec p)) homes_are (r.place p lt).lies);
+        lies = subst (λ (c : List ℕ). Lies (page_word s p) (get_elem? (map some xs) (frame_slot k p)) (get_elem? (map some xs) (store_slot k p)) c) same
+            (subst (λ (hs : List (maybe.Option Lodged)). Lies (page_word s p) (get_elem? hs (frame_slot k p)) (get_elem? hs (store_slot k p)) (r.rec p)) homes_are (r.place p lt).lies);
         fixed = subst (IsContent k.opening p) same content.fixed;
         young = λ y. remembered_word k s r p lt (not_held p lt) (content.young (subst (RefersYoung k.opening p) (sym same) y));
         bare = content.bare;

@@ -34,7 +34,7 @@ use Rattle.bc_pins.specs.declared.views.Lodged.{Lodged}
 use Rattle.bc_pins.specs.declared.views.Lodged.TheVariants.{Nothing}
 use Rattle.bc_pins.specs.declared.views.View.{View}
 use Rattle.bc_pins.specs.declared.pins.Seat.{Seat}
-use Rattle.bc_pins.specs.Key.{Key, pages_of, owner, frame_at, page_at}
+use Rattle.bc_pins.specs.Key.{Key, pages_of, owner, frame_at, page_at, home_slot}
 use Rattle.bc_pins.specs.Contents.{IsContent, RefersYoung}
 use Rattle.bc_pins.specs.Totals.{times}
 use Rattle.bc_pins.specs.Views.{grips_remembered, state_word, opened_state, opened_content, record_of, sets_bit, sets_for}
@@ -100,8 +100,8 @@ pub record Ended (id : TableId) (k : Key) (all : List Seat) (root : Worker Lodge
   pub gathered : Gathered id k all [] root
   pub closed : HasClosed k root.me.0 words slots
   pub states_are : HeadersSet k whole.headers.items headers words
-  pub box : Replaced None parts.boxes.items boxes (pages_of k) (λ p. box_of (get_or slots p Nothing))
-  pub place : Replaced None parts.store.places places (pages_of k) (λ p. place_of (get_or slots (pages_of k + p) Nothing))
+  pub box : Replaced None parts.boxes.items boxes (pages_of k) (λ p. box_of (get_or slots (home_slot p) Nothing))
+  pub place : Replaced None parts.store.places places (pages_of k) (λ p. place_of (get_or slots (home_slot p + 4) Nothing))
   pub pool_set : PoolSet whole.pool now (length whole.pool) (frame_at k 0) words
 
 -- the parts of which the space is put together
@@ -369,7 +369,7 @@ module _ (id : TableId) (k : Key) (all : List Seat) (root : Worker Lodged View) 
 pub ended_from : (id : TableId) (k : Key) (all : List Seat) (root : Worker Lodged View) (r : RestView) (whole parts : SpaceParts) (n : ℕ) (ws told : List ℕ) (xs out : List Lodged) (middle headers : List Header) (sup start : ℕ) (now : List Bool) (st : StoreView) (boxes : List (Option Homed)) (places : List (Option (List ℕ)))
     → whole ≡ r.whole → n ≡ r.pages → IsRest whole parts n → r.pages ≡ pages_of k → parts_layout r.whole ≡ k.opening → r.whole.pool ≡ k.pool → r.whole.nursery.items ≡ k.nursery → k.frames ≡ length k.pool
     → Gathered id k all [] root → Final (Seen (Rule k) root.id root.me.0) ws xs → told ≡ ws → out ≡ xs → StatesSet parts.headers.items middle n told → sup ≡ k.supers → SummariesSet middle headers sup told → start ≡ frame_at k 0 → PoolSet parts.pool now (length parts.pool) start told → st.places ≡ parts.store.places
-    → Replaced None parts.boxes.items boxes n (λ p. box_of (get_or out p Nothing)) → Replaced None st.places places n (λ p. place_of (get_or out (n + p) Nothing))
+    → Replaced None parts.boxes.items boxes n (λ p. box_of (get_or out (home_slot p) Nothing)) → Replaced None st.places places n (λ p. place_of (get_or out (home_slot p + 4) Nothing))
     → Ended id k all root whole parts ws xs headers boxes places now
 ended_from id k all root r whole parts n ws told xs out middle headers sup start now st boxes places is count rest paged layout pool nursery frames gathered final words slots set supers summed starts freed stored box place =
     let size : n ≡ pages_of k = count ∙ paged in
@@ -388,11 +388,11 @@ ended_from id k all root r whole parts n ws told xs out middle headers sup start
           (subst (λ (m : ℕ). SummariesSet middle headers m ws) supers (subst (SummariesSet middle headers sup) words summed));
       pool_set = subst (λ (l : List Bool). PoolSet l now (length l) (frame_at k 0) ws) rest_now.emptied.pool
           (subst (λ (i : ℕ). PoolSet parts.pool now (length parts.pool) i ws) starts (subst (PoolSet parts.pool now (length parts.pool) start) words freed));
-      box = subst (λ (m : ℕ). Replaced None parts.boxes.items boxes m (λ p. box_of (get_or xs p Nothing))) size
-          (subst (λ (l : List Lodged). Replaced None parts.boxes.items boxes n (λ p. box_of (get_or l p Nothing))) slots box);
-      place = subst (λ (m : ℕ). Replaced None parts.store.places places m (λ p. place_of (get_or xs (m + p) Nothing))) size
-          (subst (λ (l : List Lodged). Replaced None parts.store.places places n (λ p. place_of (get_or l (n + p) Nothing))) slots
-          (subst (λ (o : List (Option (List ℕ))). Replaced None o places n (λ p. place_of (get_or out (n + p) Nothing))) stored place));
+      box = subst (λ (m : ℕ). Replaced None parts.boxes.items boxes m (λ p. box_of (get_or xs (home_slot p) Nothing))) size
+          (subst (λ (l : List Lodged). Replaced None parts.boxes.items boxes n (λ p. box_of (get_or l (home_slot p) Nothing))) slots box);
+      place = subst (λ (m : ℕ). Replaced None parts.store.places places m (λ p. place_of (get_or xs (home_slot p + 4) Nothing))) size
+          (subst (λ (l : List Lodged). Replaced None parts.store.places places n (λ p. place_of (get_or l (home_slot p + 4) Nothing))) slots
+          (subst (λ (o : List (Option (List ℕ))). Replaced None o places n (λ p. place_of (get_or out (home_slot p + 4) Nothing))) stored place));
     }
 
 -- the space that is put together of the parts

@@ -69,7 +69,7 @@ module _ (k : Key) (parts : SpaceParts) (supers : ℕ) (turn : Turn) (holders : 
       (omega arith) (λ p le. drawn.behind p (omega arith)) (openable_ready k.opening layout drawn.openable) drawn.openable
       (λ r. subst (λ (rs : List ℕ). times r rs ≤ 1) (sym roles_are) (drawn.apart r))
       (ap (times 0) roles_are ∙ nobody_has roles) drawn_unheld
-      words filled l.first slots l.homes l.aways)
+      words filled slots l)
 
   pub drawn_inside : k.supers ≤ superpages k.opening
   drawn_inside =

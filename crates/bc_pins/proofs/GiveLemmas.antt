@@ -13,7 +13,7 @@ use Rattle.bc_pins.specs.declared.views.Lodged.{Lodged}
 use Rattle.bc_pins.specs.declared.views.Lodged.TheVariants.{Nothing, Home}
 use Rattle.bc_pins.specs.declared.views.Hand.{Hand}
 use Rattle.bc_pins.specs.declared.views.View.{View}
-use Rattle.bc_pins.specs.Key.{Key, pages_of, owner, page_at}
+use Rattle.bc_pins.specs.Key.{Key, pages_of, owner, page_at, frame_slot, store_slot, home_slot}
 use Rattle.bc_pins.specs.Totals.{total, times}
 use Rattle.bc_pins.specs.Contents.{IsContent, RefersYoung}
 use Rattle.bc_pins.specs.Views.{grips, grips_remembered, frame_in_hand, counted_for, marked_for, has_role, entries, look_up, opened_content}
@@ -76,7 +76,7 @@ module _ (k : Key) (s : Table) (r : Rule k s) (id x role : ℕ) (v : View) (g : 
   w = released v p (x == 2) h.page
 
   abbrev homes : Slots
-  homes = set (set s.homes p (some (Home h))) (pages_of k + p) (some Nothing)
+  homes = set (set s.homes (frame_slot k p) (some (Home h))) (store_slot k p) (some Nothing)
 
   abbrev rec' : ℕ → List ℕ
   rec' q = if q == p then h.page else r.rec q
@@ -235,7 +235,7 @@ module _ (k : Key) (s : Table) (r : Rule k s) (id x role : ℕ) (v : View) (g : 
       let place = r.place p near in
       let inside = near in
       let facts = r.seats id v at in
-      let out = subst (λ (n : ℕ). Lies n (slot s p) (slot s (pages_of k + p)) (r.rec p)) was_held place.lies in
+      let out = subst (λ (n : ℕ). Lies n (slot s (frame_slot k p)) (slot s (store_slot k p)) (r.rec p)) was_held place.lies in
       let c = grip_is p in
       let one = one_same p in
       let three = three_is in
@@ -246,19 +246,19 @@ module _ (k : Key) (s : Table) (r : Rule k s) (id x role : ℕ) (v : View) (g : 
       let w0 = word_is 0 (λ e. omega arith) in
       let rt = recorded_times (x == 2) p p v.recorded in
       let rf = flag_is (x == 2) p in
-      let long : length (set s.homes p (some (Home h))) ≡ length s.homes = length-set s.homes p (some (Home h)) in
+      let long : length (set s.homes (frame_slot k p) (some (Home h))) ≡ length s.homes = length-set s.homes (frame_slot k p) (some (Home h)) in
       record {
         near = near;
-        long = length-set (set s.homes p (some (Home h))) (pages_of k + p) (some Nothing) ∙ long;
-        else_home = λ i a b. set_else (set s.homes p (some (Home h))) (pages_of k + p) i (some Nothing) b ∙ set_else s.homes p i (some (Home h)) a;
+        long = length-set (set s.homes (frame_slot k p) (some (Home h))) (store_slot k p) (some Nothing) ∙ long;
+        else_home = λ i a b. set_else (set s.homes (frame_slot k p) (some (Home h))) (store_slot k p) i (some Nothing) b ∙ set_else s.homes (frame_slot k p) i (some (Home h)) a;
         lies = lies_homed x _ _ _ lo hi (
           h,
-          set_else (set s.homes p (some (Home h))) (pages_of k + p) p (some Nothing) (λ e. omega arith) ∙ set_here s.homes p (some (Home h)) (omega arith),
-          set_here (set s.homes p (some (Home h))) (pages_of k + p) (some Nothing) (omega arith),
+          set_else (set s.homes (frame_slot k p) (some (Home h))) (store_slot k p) (frame_slot k p) (some Nothing) (λ e. omega arith) ∙ set_here s.homes (frame_slot k p) (some (Home h)) (omega arith),
+          set_here (set s.homes (frame_slot k p) (some (Home h))) (store_slot k p) (some Nothing) (omega arith),
           sym same_here,
         );
         frame = λ f.
-            let a = given_frame f s.homes p (pages_of k + p) h (λ e. omega arith) out.0 out.1 in
+            let a = given_frame f s.homes (frame_slot k p) (store_slot k p) h (λ e. omega arith) out.0 out.1 in
             let b : frame_in_hand f v.hand ≡ one_if (g.frame == f) = ap (frame_in_hand f) has in
             let d : one_if (h.frame == f) ≡ one_if (g.frame == f) = ap (λ (n : ℕ). one_if (n == f)) frame in
             omega arith;
@@ -325,7 +325,7 @@ gave k slots id x role v g h lo hi about has some_role frame fixed young flag ot
   give_rule k s r id x role v g h at lo hi about has some_role frame fixed young flag others uncounted unmarked,
   record {
     slots = refl;
-    view = λ q z is e. ap (λ (y : Homed). released v g.page (x == 2) y.page) (first_homed g.page q h z _ _ e) ∙ ap (λ (n : ℕ). released v n (x == 2) z.page) (same_page g.page q is);
+    view = λ q z is e. ap (λ (y : Homed). released v g.page (x == 2) y.page) (first_homed (home_slot g.page) (home_slot q) h z _ _ e) ∙ ap (λ (n : ℕ). released v n (x == 2) z.page) (same_page g.page q is);
   },
 )
 

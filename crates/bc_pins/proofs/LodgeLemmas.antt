@@ -1,11 +1,13 @@
 -- Items that are replaced or added one by one.
-use Rattle.std.proofs.Common.{◌≡◌, ℕ, ◌+◌, ◌<◌, List, [], ◌∷◌, ◌++◌, length, get_or, set, inl, inr, refl, ap, sym, ◌∙◌, arith, length-append, get_or-set_same, get_or-set_other}
+use Rattle.std.proofs.Common.{◌≡◌, ℕ, ◌+◌, ◌*◌, ◌/◌, ◌%◌, ◌<◌, ◌≤◌, Option, None, List, [], ◌∷◌, ◌++◌, length, get_or, set, inl, inr, refl, ap, sym, ◌∙◌, arith, length-append, get_or-set_same, get_or-set_other}
 use Prim.Native.Nat.{zero, suc}
 use Rattle.std.proofs.lemmas.Bool.{cases_eq}
 use Rattle.std.proofs.lemmas.List.{length-set}
 use Rattle.bc_pins.specs.declared.views.Lodged.{Lodged}
 use Rattle.bc_pins.specs.declared.views.Lodged.TheVariants.{Nothing}
-use Rattle.bc_pins.specs.Lodging.{Replaced, Lodges}
+use Rattle.bc_pins.specs.Lodging.{Replaced, AreOut, home_of, away_of}
+use Rattle.bc_pins.specs.Key.{home_slot}
+use Rattle.bc_superpages.specs.declared.spaces.Homed.{Homed}
 
 pub replaced_none : {A : Type 0} (d : A) (o : List A) (f : ℕ → A) → Replaced d o o 0 f
 replaced_none d o f = record { long = refl; near = λ i lt. absurd (omega arith); far = λ i le. refl }
@@ -33,17 +35,69 @@ end_slot [] y (suc i) e = absurd (omega arith)
 end_slot (x ∷ xs) y zero e = absurd (omega arith)
 end_slot (x ∷ xs) y (suc i) e = end_slot xs y i (omega arith)
 
-pub lodges_none : (o : List Lodged) (f : ℕ → Lodged) → Lodges o o 0 f
-lodges_none o f = record { long = omega arith; kept = λ i _. refl; added = λ i lt. absurd (omega arith) }
+pub out_none : (bs : List (Option Homed)) (ps : List (Option (List ℕ))) → AreOut bs ps bs ps [] 0
+out_none bs ps = record {
+  long = refl;
+  boxes_long = refl;
+  places_long = refl;
+  homes = λ p lt. absurd (omega arith);
+  aways = λ p lt. absurd (omega arith);
+  box_out = λ p lt. absurd (omega arith);
+  box_left = λ p le. refl;
+  place_out = λ p lt. absurd (omega arith);
+  place_left = λ p le. refl;
+}
 
-pub lodges_more : (o n : List Lodged) (k : ℕ) (v : Lodged) (f : ℕ → Lodged) → Lodges o n k f → v ≡ f k → Lodges o (n ++ v ∷ []) (k + 1) f
-lodges_more o n k v f e is =
-    let size = e.long in
-    record {
-      long = length-append n (v ∷ []) ∙ omega arith;
-      kept = λ i lt. front_slot n v i (omega arith) ∙ e.kept i lt;
-      added = λ i lt. elim (cases_eq i k) [
-        | inl same ↦ end_slot n v (length o + i) (omega arith) ∙ is ∙ ap f (sym same)
-        | inr ne ↦ front_slot n v (length o + i) (omega arith) ∙ e.added i (omega arith)
-      ];
-    }
+module _ (bs cs : List (Option Homed)) (ps qs : List (Option (List ℕ))) (slots : List Lodged) (e page : ℕ) (o : AreOut bs ps cs qs slots e) (is : page ≡ 4 * (e / 8) + e % 4) where
+  -- a box from its frame
+  pub out_home : (v : Lodged) → e % 8 < 4 → page < length bs → v ≡ home_of (get_or cs page None) → AreOut bs ps (set cs page None) qs (slots ++ v ∷ []) (e + 1)
+  out_home v front lt read =
+      let long = o.long in
+      let size = o.boxes_long in
+      record {
+        long = length-append slots (v ∷ []) ∙ omega arith;
+        boxes_long = length-set cs page None ∙ o.boxes_long;
+        places_long = o.places_long;
+        homes = λ p less. elim (cases_eq p page) [
+          | inl same ↦ end_slot slots v (home_slot p) (omega arith) ∙ read ∙ ap home_of (o.box_left page (omega arith) ∙ ap (λ (n : ℕ). get_or bs n None) (sym same))
+          | inr ne ↦ front_slot slots v (home_slot p) (omega arith) ∙ o.homes p (omega arith)
+        ];
+        aways = λ p less. front_slot slots v (home_slot p + 4) (omega arith) ∙ o.aways p (omega arith);
+        box_out = λ p less. elim (cases_eq p page) [
+          | inl same ↦ ap (λ (n : ℕ). get_or (set cs page None) n None) same ∙ get_or-set_same cs page None None (omega arith)
+          | inr ne ↦ get_or-set_other cs page p None None ne ∙ o.box_out p (omega arith)
+        ];
+        box_left = λ p le. get_or-set_other cs page p None None (λ z. omega arith) ∙ o.box_left p (omega arith);
+        place_out = λ p less. o.place_out p (omega arith);
+        place_left = λ p le. o.place_left p (omega arith);
+      }
+
+  -- and one from the store
+  pub out_away : (v : Lodged) → 4 ≤ e % 8 → page < length ps → v ≡ away_of (get_or qs page None) → AreOut bs ps cs (set qs page None) (slots ++ v ∷ []) (e + 1)
+  out_away v back lt read =
+      let long = o.long in
+      let size = o.places_long in
+      record {
+        long = length-append slots (v ∷ []) ∙ omega arith;
+        boxes_long = o.boxes_long;
+        places_long = length-set qs page None ∙ o.places_long;
+        homes = λ p less. front_slot slots v (home_slot p) (omega arith) ∙ o.homes p (omega arith);
+        aways = λ p less. elim (cases_eq p page) [
+          | inl same ↦ end_slot slots v (home_slot p + 4) (omega arith) ∙ read ∙ ap away_of (o.place_left page (omega arith) ∙ ap (λ (n : ℕ). get_or ps n None) (sym same))
+          | inr ne ↦ front_slot slots v (home_slot p + 4) (omega arith) ∙ o.aways p (omega arith)
+        ];
+        box_out = λ p less. o.box_out p (omega arith);
+        box_left = λ p le. o.box_left p (omega arith);
+        place_out = λ p less. elim (cases_eq p page) [
+          | inl same ↦ ap (λ (n : ℕ). get_or (set qs page None) n None) same ∙ get_or-set_same qs page None None (omega arith)
+          | inr ne ↦ get_or-set_other qs page p None None ne ∙ o.place_out p (omega arith)
+        ];
+        place_left = λ p le. get_or-set_other qs page p None None (λ z. omega arith) ∙ o.place_left p (omega arith);
+      }
+
+-- all of them
+pub out_boxes : (bs cs : List (Option Homed)) (ps qs : List (Option (List ℕ))) (slots : List Lodged) (n : ℕ) → n % 4 ≡ 0 → AreOut bs ps cs qs slots (2 * n) → Replaced None bs cs n (λ p. None)
+out_boxes bs cs ps qs slots n four o = record { long = o.boxes_long; near = λ p lt. o.box_out p (omega arith); far = λ p le. o.box_left p (omega arith) }
+
+pub out_places : (bs cs : List (Option Homed)) (ps qs : List (Option (List ℕ))) (slots : List Lodged) (n : ℕ) → n % 4 ≡ 0 → AreOut bs ps cs qs slots (2 * n) → Replaced None ps qs n (λ p. None)
+out_places bs cs ps qs slots n four o = record { long = o.places_long; near = λ p lt. o.place_out p (omega arith); far = λ p le. o.place_left p (omega arith) }

@@ -1,5 +1,5 @@
 -- A table may be opened with the words and slots that a space's parts give.
-use Rattle.std.proofs.Common.{◌≡◌, ℕ, ◌+◌, ◌-◌, ◌*◌, ◌/◌, ◌%◌, ◌<◌, ◌≤◌, ◌≢◌, ◌==◌, ◌&&◌, not, Bool, true, false, if◌then◌else◌, List, [], length, map, get_or, slice_index, Option, Some, None, count_by, nat_lt, inl, inr, refl, ap, sym, subst, ◌∙◌, arith}
+use Rattle.std.proofs.Common.{◌≡◌, ℕ, ◌+◌, ◌-◌, ◌*◌, ◌/◌, ◌%◌, ◌<◌, ◌≤◌, ◌≢◌, ◌==◌, ◌&&◌, not, Bool, true, false, if◌then◌else◌, List, length, map, get_or, slice_index, Option, Some, None, count_by, nat_lt, inl, inr, refl, ap, sym, subst, ◌∙◌, arith}
 use mathlib.Core.Option.{some}
 use lib.ListN.{get_elem?}
 use Rattle.std.proofs.lemmas.List.{length-map, get_or_past}
@@ -32,16 +32,16 @@ use Rattle.bc_superpages.proofs.HandLemmas.{state-header, allocated-page}
 use Rattle.bc_superpages.proofs.BringLemmas.{allocated-not_absent}
 use Rattle.bc_pins.specs.declared.views.Lodged.{Lodged}
 use Rattle.bc_pins.specs.declared.views.Lodged.TheVariants.{Nothing}
-use Rattle.bc_pins.specs.Key.{Key, pages_of, bookmark_at, page_at}
+use Rattle.bc_pins.specs.Key.{Key, pages_of, bookmark_at, page_at, home_slot, frame_slot, store_slot}
 use Rattle.bc_pins.specs.Totals.{total, times}
 use Rattle.bc_pins.specs.Views.{state_word, opened_state, opened_word, opened_content}
 use Rattle.bc_pins.specs.Facts.{frame_of, frame_lodged, IsUnheld}
-use Rattle.bc_pins.specs.Lodging.{Lodges, home_of, away_of}
-use Rattle.bc_pins.specs.Opening.{IsReady, IsOpenable}
+use Rattle.bc_pins.specs.Lodging.{home_of, away_of}
+use Rattle.bc_pins.specs.Opening.{IsReady, IsOpenable, AreLodged}
 use Rattle.bc_pins.specs.Facts.{Frames, Still, frame_bit, is_clear, bookmark_bit, opened_bit, cell_bit, HasBookmarkBit, Summary, points, adds_to, Counters, Bits}
 use Rattle.bc_pins.specs.Filling.{IsFilled}
 use Rattle.bc_pins.specs.Opening.{opened, OpensPage, MayOpen}
-use Rattle.bc_pins.proofs.SumLemmas.{sum_same, sum_none, sum_cut, total_sum, count_total, times_count, total_map}
+use Rattle.bc_pins.proofs.SumLemmas.{sum_slots, sum_same, sum_none, sum_cut, total_sum, count_total, times_count, total_map}
 use Rattle.bc_pins.proofs.PartsLemmas.{content_fixed, slots_lie, slot_there, word_states, word_absent}
 use Rattle.bc_pins.proofs.TallyLemmas.{ge-nat_lt, GoneBy, tally, target_in, set_bit, bit_in, in_bit, bit_few, gone_word}
 
@@ -67,24 +67,18 @@ none_there (Some h) c l = absurd l
 pub no_box : (st : PageState) (b : Option Homed) (c : Option (List ℕ)) → st ≡ state.Absent → LiesIn (is_resident st) b c → b ≡ None
 no_box st b c e l = none_there b c (subst (λ (x : PageState). LiesIn (is_resident x) b c) e l)
 
-first_at : (first : List Lodged) (n : ℕ) (f : ℕ → Lodged) → Lodges [] first n f → (i : ℕ) → i < n → get_or first i Nothing ≡ f i
-first_at first n f one i lt = let z : i ≡ 0 + i = omega arith in ap (λ (j : ℕ). get_or first j Nothing) z ∙ one.added i lt
-
 -- the frames that slots use are those that boxes use
-pub frames_same : (bs : List (Option Homed)) (ps : List (Option (List ℕ))) (first slots : List Lodged) (n f : ℕ) → n ≤ length bs
-    → ((i : ℕ) → n ≤ i → i < length bs → get_or bs i None ≡ None)
-    → Lodges [] first n (λ p. home_of (get_or bs p None)) → Lodges first slots n (λ p. away_of (get_or ps p None))
+pub frames_same : (bs : List (Option Homed)) (ps : List (Option (List ℕ))) (slots : List Lodged) (s n f : ℕ) → n ≡ 4 * s → n ≤ length bs
+    → ((i : ℕ) → n ≤ i → i < length bs → get_or bs i None ≡ None) → length slots ≡ n + n
+    → ((p : ℕ) → p < n → get_or slots (home_slot p) Nothing ≡ home_of (get_or bs p None)) → ((p : ℕ) → p < n → get_or slots (home_slot p + 4) Nothing ≡ away_of (get_or ps p None))
     → total (frame_lodged f) (map some slots) ≡ count_by (uses_frame f) bs
-frames_same bs ps first slots n f le past one two =
-    let long = one.long in
-    let all = two.long in
+frames_same bs ps slots s n f four le past long homes aways =
     let g : ℕ → ℕ = λ i. frame_of (get_or slots i Nothing) f in
     let h : ℕ → ℕ = λ i. one_if (uses_frame f (get_or bs i None)) in
     let as_sum = total_map some (frame_lodged f) slots ∙ total_sum (λ x. frame_of x f) slots Nothing in
-    let cut = sum_cut g n n (length slots) (omega arith) in
-    let front = sum_same g h n (λ i lt. ap (λ (x : Lodged). frame_of x f) (two.kept i (omega arith) ∙ first_at first n _ one i lt) ∙ frame_home (get_or bs i None) f) in
-    let size : length first ≡ n = omega arith in
-    let back = sum_none (λ i. g (n + i)) n (λ i lt. ap (λ (j : ℕ). frame_of (get_or slots (j + i) Nothing) f) (sym size) ∙ ap (λ (x : Lodged). frame_of x f) (two.added i lt) ∙ frame_away (get_or ps i None) f) in
+    let cut = sum_slots g s n (length slots) four (omega arith) in
+    let front = sum_same (λ i. g (home_slot i)) h n (λ i lt. ap (λ (x : Lodged). frame_of x f) (homes i lt) ∙ frame_home (get_or bs i None) f) in
+    let back = sum_none (λ i. g (home_slot i + 4)) n (λ i lt. ap (λ (x : Lodged). frame_of x f) (aways i lt) ∙ frame_away (get_or ps i None) f) in
     let boxes = count_total (uses_frame f) bs None ∙ total_sum (λ x. one_if (uses_frame f x)) bs None in
     let rest : ℕ = length bs - n in
     let cut_boxes = sum_cut h n rest (length bs) (omega arith) in
@@ -94,8 +88,7 @@ frames_same bs ps first slots n f le past one two =
 module _ (k : Key) (whole : SpaceParts) (kept : AreParts whole) (layout : parts_layout whole ≡ k.opening) (pool : whole.pool ≡ k.pool) (nursery : whole.nursery.items ≡ k.nursery) (frames : k.frames ≡ length k.pool)
     (within : pages_of k ≤ 4 * length whole.headers.items) (behind : (p : ℕ) → pages_of k ≤ p → state_in whole.headers.items p ≡ state.Absent) (ready : IsReady k.opening) (openable : IsOpenable k.opening)
     (apart : (r : ℕ) → times r k.roles ≤ 1) (nobody : times 0 k.roles ≡ 0) (unheld : IsUnheld k)
-    (words : List ℕ) (filled : IsFilled k whole.headers.items words) (first slots : List Lodged)
-    (one : Lodges [] first (pages_of k) (λ p. home_of (get_or whole.boxes.items p None))) (two : Lodges first slots (pages_of k) (λ p. away_of (get_or whole.store.places p None))) where
+    (words : List ℕ) (filled : IsFilled k whole.headers.items words) (slots : List Lodged) (lodged : AreLodged whole (pages_of k) slots) where
   long_boxes : length whole.boxes.items ≡ 4 * length whole.headers.items
   long_boxes = kept.kept.boxes_long
 
@@ -213,17 +206,13 @@ module _ (k : Key) (whole : SpaceParts) (kept : AreParts whole) (layout : parts_
   opens_page : (p : ℕ) → p < pages_of k → OpensPage k words slots p
   opens_page p lt =
       let st = state_is p lt in
-      let long = one.long in
-      let all = two.long in
+      let long = lodged.long in
       let boxes = long_boxes in
       let supers = supers_are in
-      let size : length first ≡ pages_of k = omega arith in
-      let left : get_or slots p Nothing ≡ home_of (get_or whole.boxes.items p None) = two.kept p (omega arith) ∙ first_at first (pages_of k) _ one p lt in
-      let right : get_or slots (pages_of k + p) Nothing ≡ away_of (get_or whole.store.places p None) = ap (λ (j : ℕ). get_or slots (j + p) Nothing) (sym size) ∙ two.added p lt in
       let held = not_held p lt in
-      let lies = slots_lie (state_in whole.headers.items p) (get_or whole.boxes.items p None) (get_or whole.store.places p None) (get_elem? (map some slots) p) (get_elem? (map some slots) (pages_of k + p)) held (lies_in p (omega arith))
-      (slot_there slots p (omega arith) ∙ ap (λ (x : Lodged). some (some x)) left)
-      (slot_there slots (pages_of k + p) (omega arith) ∙ ap (λ (x : Lodged). some (some x)) right) in
+      let lies = slots_lie (state_in whole.headers.items p) (get_or whole.boxes.items p None) (get_or whole.store.places p None) (get_elem? (map some slots) (frame_slot k p)) (get_elem? (map some slots) (store_slot k p)) held (lies_in p (omega arith))
+      (slot_there slots (frame_slot k p) (omega arith) ∙ ap (λ (x : Lodged). some (some x)) (lodged.homes p lt))
+      (slot_there slots (store_slot k p) (omega arith) ∙ ap (λ (x : Lodged). some (some x)) (lodged.aways p lt)) in
       record {
         word = filled.states p lt ∙ sym (ap state_word st);
         not_held = λ e. held (sym st ∙ word_states (state_at k.opening.states p) e);
@@ -245,8 +234,8 @@ module _ (k : Key) (whole : SpaceParts) (kept : AreParts whole) (layout : parts_
   frames_open : (f : ℕ) → Frames k (opened k words slots) f
   frames_open f =
       let account = kept.kept.account.each f in
-      let same = frames_same whole.boxes.items whole.store.places first slots (pages_of k) f (let a = long_boxes in omega arith)
-      (λ i le lt. no_box (state_in whole.headers.items i) _ _ (behind i le) (lies_in i lt)) one two in
+      let same = frames_same whole.boxes.items whole.store.places slots k.supers (pages_of k) f refl (let a = long_boxes in omega arith)
+      (λ i le lt. no_box (state_in whole.headers.items i) _ _ (behind i le) (lies_in i lt)) lodged.long lodged.homes lodged.aways in
       let young = times_count f whole.nursery.items in
       let nursery_same : times f whole.nursery.items ≡ times f k.nursery = ap (times f) nursery in
       let free_same : one_if (is_free whole.pool f) ≡ one_if (is_free k.pool f) = ap (λ (l : List Bool). one_if (is_free l f)) pool in
@@ -263,7 +252,7 @@ module _ (k : Key) (whole : SpaceParts) (kept : AreParts whole) (layout : parts_
   pub may_open : MayOpen k words slots
   may_open = record {
     words_long = filled.long;
-    slots_long = two.long ∙ ap (λ (n : ℕ). n + pages_of k) (one.long ∙ omega arith);
+    slots_long = lodged.long;
     few = (let a = kept.kept.few in omega arith);
     pages = opens_page;
     apart = apart;

@@ -10,7 +10,7 @@ use Rattle.bc_bits.specs.Counting.{one_if}
 use Rattle.bc_pins.specs.declared.views.Lodged.{Lodged}
 use Rattle.bc_pins.specs.declared.views.Hand.{Hand}
 use Rattle.bc_pins.specs.declared.views.View.{View}
-use Rattle.bc_pins.specs.Key.{Key, pages_of, owner, counter_at, bookmark_at, frame_at, mark_at, finished_at, page_at, pages_end}
+use Rattle.bc_pins.specs.Key.{Key, pages_of, owner, counter_at, bookmark_at, frame_at, mark_at, finished_at, page_at, pages_end, frame_slot, store_slot}
 use Rattle.std.specs.Int.{bit_at}
 use Rattle.bc_pins.specs.Totals.{total, times}
 use Rattle.bc_pins.specs.Contents.{IsContent, RefersYoung, IsBarePage}
@@ -30,8 +30,8 @@ pub record PageStep (k : Key) (s : Table) (rec rec' : ℕ → List ℕ) (p x : �
   pub near : p < pages_of k
   -- slots
   pub long : length homes ≡ length s.homes
-  pub else_home : (i : ℕ) → i ≢ p → i ≢ pages_of k + p → get_elem? homes i ≡ get_elem? s.homes i
-  pub lies : Lies x (get_elem? homes p) (get_elem? homes (pages_of k + p)) (rec' p)
+  pub else_home : (i : ℕ) → i ≢ frame_slot k p → i ≢ store_slot k p → get_elem? homes i ≡ get_elem? s.homes i
+  pub lies : Lies x (get_elem? homes (frame_slot k p)) (get_elem? homes (store_slot k p)) (rec' p)
   pub frame : (f : ℕ) → total (frame_lodged f) homes + (frame_in_hand f w.hand + times f w.rights) ≡ total (frame_lodged f) s.homes + (frame_in_hand f v.hand + times f v.rights)
   -- what is in hand
   pub grip : grips p w.hand + one_if (page_word s p == 3) ≡ grips p v.hand + one_if (x == 3)
@@ -142,9 +142,9 @@ module _ (k : Key) (s : Table) (r : Rule k s) (rec' : ℕ → List ℕ) (p x : �
   place_there q ne lt =
       let old = r.place q lt in
       let near = d.near in
-      let first : get_elem? homes q ≡ get_elem? s.homes q = d.else_home q ne (λ e. omega arith) in
-      let second : get_elem? homes (pages_of k + q) ≡ get_elem? s.homes (pages_of k + q) = d.else_home (pages_of k + q) (λ e. omega arith) (λ e. ne (omega arith)) in
-      let lies : Lies (page_word t q) (get_elem? homes q) (get_elem? homes (pages_of k + q)) (rec' q) = rw (there q ne, first, second, d.else_rec q ne) old.lies in
+      let first : get_elem? homes (frame_slot k q) ≡ get_elem? s.homes (frame_slot k q) = d.else_home (frame_slot k q) (λ e. ne (omega arith)) (λ e. omega arith) in
+      let second : get_elem? homes (store_slot k q) ≡ get_elem? s.homes (store_slot k q) = d.else_home (store_slot k q) (λ e. omega arith) (λ e. ne (omega arith)) in
+      let lies : Lies (page_word t q) (get_elem? homes (frame_slot k q)) (get_elem? homes (store_slot k q)) (rec' q) = rw (there q ne, first, second, d.else_rec q ne) old.lies in
       let a : one_if (page_word t q == 3) ≡ one_if (page_word s q == 3) = ap (λ (n : ℕ). one_if (n == 3)) (there q ne) in
       let b = same_sum (λ u. grips q u.hand) (d.else_grip q ne) in
       let held = old.held in

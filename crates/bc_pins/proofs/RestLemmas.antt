@@ -1,15 +1,13 @@
 -- Boxes that went into slots, and came back.
-use Rattle.std.proofs.Common.{◌≡◌, ℕ, ◌+◌, ◌<◌, Bool, true, false, List, length, get_or, Option, Some, None, inl, inr, refl, ap, ◌∙◌, arith}
+use Rattle.std.proofs.Common.{◌≡◌, ℕ, ◌<◌, Bool, true, false, List, get_or, Option, Some, None, inl, inr, refl, ◌∙◌}
 use Rattle.std.proofs.lemmas.Bool.{cases_lt}
 use Rattle.std.proofs.lemmas.List.{ext_get_or}
 use Rattle.bc_superpages.specs.declared.spaces.Homed.{Homed}
 use Rattle.bc_superpages.specs.declared.parts.SpaceParts.{SpaceParts}
 use Rattle.bc_superpages.specs.Contents.{LiesIn}
 use Rattle.bc_superpages.specs.Parts.{AreParts, parts_layout}
-use Rattle.bc_pins.specs.declared.views.Lodged.{Lodged}
-use Rattle.bc_pins.specs.declared.views.Lodged.TheVariants.{Nothing}
 use Rattle.bc_pins.specs.Lodging.{Replaced, LiesOnce, home_of, away_of, box_of, place_of}
-use Rattle.bc_pins.specs.Opening.{AreLodged, SameParts}
+use Rattle.bc_pins.specs.Opening.{SameParts}
 
 -- replaced by a default, and then by what was there
 pub back_again : {A : Type 0} (d : A) (o n m : List A) (k : ℕ) (f : ℕ → A) → Replaced d o n k (λ _. d) → Replaced d n m k f → ((i : ℕ) → i < k → f i ≡ get_or o i d) → m ≡ o
@@ -36,22 +34,6 @@ lies_once true None c l = absurd l
 lies_once false (Some h) c l = absurd l
 lies_once false None (Some c) l = tt
 lies_once false None None l = absurd l
-
--- slots by their places
-pub frame_slots : (whole : SpaceParts) (pages : ℕ) (slots : List Lodged) → AreLodged whole pages slots → (p : ℕ) → p < pages → get_or slots p Nothing ≡ home_of (get_or whole.boxes.items p None)
-frame_slots whole pages slots l p lt =
-    let long = l.homes.long in
-    let z : p ≡ 0 + p = omega arith in
-    l.aways.kept p (omega arith) ∙ ap (λ (j : ℕ). get_or l.first j Nothing) z ∙ l.homes.added p lt
-
-pub store_slots : (whole : SpaceParts) (pages : ℕ) (slots : List Lodged) → AreLodged whole pages slots → (p : ℕ) → p < pages → get_or slots (pages + p) Nothing ≡ away_of (get_or whole.store.places p None)
-store_slots whole pages slots l p lt =
-    let long = l.homes.long in
-    let z : pages ≡ length l.first = omega arith in
-    ap (λ (j : ℕ). get_or slots (j + p) Nothing) z ∙ l.aways.added p lt
-
-pub slots_long : (whole : SpaceParts) (pages : ℕ) (slots : List Lodged) → AreLodged whole pages slots → length slots ≡ pages + pages
-slots_long whole pages slots l = let a = l.homes.long in let b = l.aways.long in omega arith
 
 -- the same parts make the same space
 pub parts_same : (a b : SpaceParts) → SameParts a b → parts_layout b ≡ parts_layout a

@@ -25,7 +25,7 @@ use Rattle.bc_superpages.proofs.HandLemmas.{state-header}
 use Rattle.bc_superpages.proofs.BringLemmas.{allocated-not_absent}
 use Rattle.bc_pins.specs.declared.views.Lodged.{Lodged}
 use Rattle.bc_pins.specs.declared.views.Lodged.TheVariants.{Nothing}
-use Rattle.bc_pins.specs.Key.{Key, pages_of, page_at}
+use Rattle.bc_pins.specs.Key.{Key, pages_of, page_at, home_slot}
 use Rattle.bc_pins.specs.Totals.{total, times}
 use Rattle.bc_pins.specs.Views.{state_word, opened_word}
 use Rattle.bc_pins.specs.Facts.{Lies, frame_lodged}
@@ -87,8 +87,8 @@ part_same g (h ∷ hs) (k ∷ ks) size each = both_same (g k) (g h) (map g ks) (
 module _ (k : Key) (whole parts : SpaceParts) (rest : IsRest whole parts (pages_of k)) (layout : parts_layout whole ≡ k.opening) (pool : whole.pool ≡ k.pool) (nursery : whole.nursery.items ≡ k.nursery) (frames : k.frames ≡ length k.pool)
     (v : View) (nothing : v.hand ≡ None) (no_right : v.rights ≡ []) (words : List ℕ) (slots : List Lodged) (closed : HasClosed k v words slots)
     (headers : List Header) (set_states : HeadersSet k whole.headers.items headers words)
-    (boxes : List (Option Homed)) (box : Replaced None parts.boxes.items boxes (pages_of k) (λ p. box_of (get_or slots p Nothing)))
-    (places : List (Option (List ℕ))) (place : Replaced None parts.store.places places (pages_of k) (λ p. place_of (get_or slots (pages_of k + p) Nothing)))
+    (boxes : List (Option Homed)) (box : Replaced None parts.boxes.items boxes (pages_of k) (λ p. box_of (get_or slots (home_slot p) Nothing)))
+    (places : List (Option (List ℕ))) (place : Replaced None parts.store.places places (pages_of k) (λ p. place_of (get_or slots (home_slot p + 4) Nothing)))
     (now : List Bool) (pool_set : PoolSet whole.pool now (length whole.pool) (frame_at k 0) words) where
   abbrev n : ℕ
   n = pages_of k
@@ -108,18 +108,18 @@ module _ (k : Key) (whole parts : SpaceParts) (rest : IsRest whole parts (pages_
   inside : n ≤ length boxes
   inside = let a = boxes_long in let b = rest.within in let c = set_states.long in omega arith
 
-  slot_lies : (p : ℕ) → p < n → Lies (get_or words (page_at p) 0) (some (some (get_or slots p Nothing))) (some (some (get_or slots (n + p) Nothing))) (record_of v p)
+  slot_lies : (p : ℕ) → p < n → Lies (get_or words (page_at p) 0) (some (some (get_or slots (home_slot p) Nothing))) (some (some (get_or slots (home_slot p + 4) Nothing))) (record_of v p)
   slot_lies p lt =
       let size = closed.slots_long in
-      rw (← slot_there slots p (omega arith), ← slot_there slots (n + p) (omega arith)) ((closed.pages p lt).lies)
+      rw (← slot_there slots (home_slot p) (omega arith), ← slot_there slots (home_slot p + 4) (omega arith)) ((closed.pages p lt).lies)
 
   state_lies : (p : ℕ) → p < n → BoxLies (state_in headers p) (get_or boxes p None) (get_or places p None) (record_of v p)
   state_lies p lt =
       let page = closed.pages p lt in
       let word = set_states.near p lt in
       rw (box.near p lt, place.near p lt)
-      (box_lies (state_in headers p) (get_or slots p Nothing) (get_or slots (n + p) Nothing) (record_of v p) (λ e. page.not_held (sym word ∙ e)) page.fixed.long
-      (subst (λ (w : ℕ). Lies w (some (some (get_or slots p Nothing))) (some (some (get_or slots (n + p) Nothing))) (record_of v p)) (sym word) (slot_lies p lt)))
+      (box_lies (state_in headers p) (get_or slots (home_slot p) Nothing) (get_or slots (home_slot p + 4) Nothing) (record_of v p) (λ e. page.not_held (sym word ∙ e)) page.fixed.long
+      (subst (λ (w : ℕ). Lies w (some (some (get_or slots (home_slot p) Nothing))) (some (some (get_or slots (home_slot p + 4) Nothing))) (record_of v p)) (sym word) (slot_lies p lt)))
 
   far_box : (p : ℕ) → n ≤ p → get_or boxes p None ≡ get_or whole.boxes.items p None
   far_box p le = box.far p le ∙ rest.emptied.boxes.far p le
@@ -163,11 +163,11 @@ module _ (k : Key) (whole parts : SpaceParts) (rest : IsRest whole parts (pages_
       far_box p le ∙ no_box (state_in whole.headers.items p) (get_or whole.boxes.items p None) (get_or whole.store.places p None) (rest.behind p le) (kept.lies p (omega arith))
 
   count_is : (f : ℕ) → count_by (uses_frame f) boxes ≡ total (frame_lodged f) (map some slots)
-  count_is f = frames_back boxes slots n f inside closed.slots_long box.near none_past
+  count_is f = frames_back boxes slots k.supers n f refl inside closed.slots_long box.near none_past
       (λ p lt.
       let word = set_states.near p lt in
-      no_frame (state_in headers p) (get_or slots p Nothing) (get_or slots (n + p) Nothing) (record_of v p) f (λ e. (closed.pages p lt).not_held (sym word ∙ e))
-      (subst (λ (w : ℕ). Lies w (some (some (get_or slots p Nothing))) (some (some (get_or slots (n + p) Nothing))) (record_of v p)) (sym word) (slot_lies p lt)))
+      no_frame (state_in headers p) (get_or slots (home_slot p) Nothing) (get_or slots (home_slot p + 4) Nothing) (record_of v p) f (λ e. (closed.pages p lt).not_held (sym word ∙ e))
+      (subst (λ (w : ℕ). Lies w (some (some (get_or slots (home_slot p) Nothing))) (some (some (get_or slots (home_slot p + 4) Nothing))) (record_of v p)) (sym word) (slot_lies p lt)))
 
   -- a frame is free where its bit is clear
   free_now : (f : ℕ) → is_free now f ≡ is_clear k words f

@@ -1,10 +1,11 @@
 -- Sums over places: of lists, and of numbers below a bound.
-use Rattle.std.proofs.Common.{◌≡◌, ℕ, ◌+◌, ◌<◌, ◌≤◌, ◌≢◌, ◌==◌, Bool, List, [], ◌∷◌, length, map, get_or, count_by, inl, inr, refl, ap, sym, ◌∙◌, arith}
+use Rattle.std.proofs.Common.{◌≡◌, ℕ, ◌+◌, ◌<◌, ◌≤◌, ◌≢◌, ◌==◌, Bool, List, [], ◌∷◌, length, map, get_or, count_by, inl, inr, refl, ap, sym, ◌∙◌, arith, ◌*◌}
 use Prim.Native.Nat.{zero, suc}
 use Rattle.std.proofs.lemmas.Bool.{cases_eq}
 use Rattle.bc_bits.specs.Counting.{one_if, count_below}
 use Rattle.bc_superpages.proofs.AccountLemmas.{count_by-places}
 use Rattle.bc_pins.specs.Totals.{total, times, sum_to}
+use Rattle.bc_pins.specs.Key.{home_slot}
 
 pub sum_front : (g : ℕ → ℕ) (n : ℕ) → sum_to g (suc n) ≡ g 0 + sum_to (λ i. g (suc i)) n
 sum_front g zero = omega arith
@@ -46,6 +47,35 @@ sum_cut g m (suc n) k e =
     let t = sum_cut g m n (m + n) refl in
     let s : k ≡ suc (m + n) = omega arith in
     ap (sum_to g) s ∙ omega arith
+
+sum_four : (g : ℕ → ℕ) → sum_to g 4 ≡ g 0 + g 1 + g 2 + g 3
+sum_four g = omega arith
+
+sum_eight : (g : ℕ → ℕ) → sum_to g 8 ≡ g 0 + g 1 + g 2 + g 3 + (g 4 + g 5 + g 6 + g 7)
+sum_eight g = omega arith
+
+-- over the slots of so many superpages: those for frames, and those for the store
+pub sum_slots : (g : ℕ → ℕ) (s n k : ℕ) → n ≡ 4 * s → k ≡ 8 * s → sum_to g k ≡ sum_to (λ p. g (home_slot p)) n + sum_to (λ p. g (home_slot p + 4)) n
+sum_slots g zero n k e f = ap (sum_to g) f ∙ sym (ap (λ (m : ℕ). sum_to (λ p. g (home_slot p)) m + sum_to (λ p. g (home_slot p + 4)) m) e)
+sum_slots g (suc s) n k e f =
+    let t = sum_slots g s (4 * s) (8 * s) refl refl in
+    let a = sum_cut g (8 * s) 8 k (omega arith) in
+    let b = sum_cut (λ p. g (home_slot p)) (4 * s) 4 n (omega arith) in
+    let c = sum_cut (λ p. g (home_slot p + 4)) (4 * s) 4 n (omega arith) in
+    let eight = sum_eight (λ i. g (8 * s + i)) in
+    let front = sum_four (λ i. g (home_slot (4 * s + i))) in
+    let back = sum_four (λ i. g (home_slot (4 * s + i) + 4)) in
+    let home : (j : ℕ) → j < 4 → g (home_slot (4 * s + j)) ≡ g (8 * s + j) = λ j lt. (let z : home_slot (4 * s + j) ≡ 8 * s + j = omega arith in ap g z) in
+    let store : (j : ℕ) → j < 4 → g (home_slot (4 * s + j) + 4) ≡ g (8 * s + (4 + j)) = λ j lt. (let z : home_slot (4 * s + j) + 4 ≡ 8 * s + (4 + j) = omega arith in ap g z) in
+    let h0 = home 0 (omega arith) in
+    let h1 = home 1 (omega arith) in
+    let h2 = home 2 (omega arith) in
+    let h3 = home 3 (omega arith) in
+    let s0 = store 0 (omega arith) in
+    let s1 = store 1 (omega arith) in
+    let s2 = store 2 (omega arith) in
+    let s3 = store 3 (omega arith) in
+    omega arith
 
 pub total_sum : {A : Type 0} (f : A → ℕ) (xs : List A) (d : A) → total f xs ≡ sum_to (λ i. f (get_or xs i d)) (length xs)
 total_sum f [] d = refl

@@ -14,7 +14,7 @@ use Rattle.bc_pins.specs.declared.views.Lodged.{Lodged}
 use Rattle.bc_pins.specs.declared.views.Lodged.TheVariants.{Nothing, Home}
 use Rattle.bc_pins.specs.declared.views.Hand.{Hand}
 use Rattle.bc_pins.specs.declared.views.View.{View}
-use Rattle.bc_pins.specs.Key.{Key, pages_of, owner, page_at}
+use Rattle.bc_pins.specs.Key.{Key, pages_of, owner, page_at, frame_slot, store_slot}
 use Rattle.bc_pins.specs.Totals.{total, times}
 use Rattle.bc_pins.specs.Contents.{IsContent, RefersYoung}
 use Rattle.bc_pins.specs.Views.{grips, grips_remembered, frame_in_hand, counted_for, marked_for, has_role, opened_content, opened_word}
@@ -59,7 +59,7 @@ taken_frame f hs p q h ne one two =
 
 module _ (k : Key) (s : Table) (r : Rule k s) (p id old role : ℕ) (v : View) (at : get_elem? s.views id ≡ some v) (near : p < pages_of k) (lo : 1 ≤ old) (hi : old ≤ 2) (is : page_word s p ≡ old)
     (about : v.about ≡ k) (nothing : v.hand ≡ None) (some_role : 0 < has_role v role) (h : Homed)
-    (frame : slot s p ≡ some (some (Home h))) (store : slot s (pages_of k + p) ≡ some (some Nothing)) (content : h.page ≡ r.rec p) where
+    (frame : slot s (frame_slot k p) ≡ some (some (Home h))) (store : slot s (store_slot k p) ≡ some (some Nothing)) (content : h.page ≡ r.rec p) where
   abbrev flag : Bool
   flag = old == 2
 
@@ -67,7 +67,7 @@ module _ (k : Key) (s : Table) (r : Rule k s) (p id old role : ℕ) (v : View) (
   w = gripping v p flag h
 
   abbrev homes : Slots
-  homes = set (set s.homes (pages_of k + p) maybe.none) p maybe.none
+  homes = set (set s.homes (store_slot k p) maybe.none) (frame_slot k p) maybe.none
 
   wide : page_at p < length s.words
   wide = let long = r.words in omega arith
@@ -98,7 +98,7 @@ module _ (k : Key) (s : Table) (r : Rule k s) (p id old role : ℕ) (v : View) (
 
   frames_kept : (f : ℕ) → total (frame_lodged f) homes + (frame_in_hand f w.hand + times f w.rights) ≡ total (frame_lodged f) s.homes + (frame_in_hand f v.hand + times f v.rights)
   frames_kept f =
-      let a = taken_frame f s.homes p (pages_of k + p) h (λ e. omega arith) frame store in
+      let a = taken_frame f s.homes (frame_slot k p) (store_slot k p) h (λ e. omega arith) frame store in
       let b : frame_in_hand f v.hand ≡ 0 = ap (frame_in_hand f) nothing in
       omega arith
 
@@ -153,14 +153,14 @@ module _ (k : Key) (s : Table) (r : Rule k s) (p id old role : ℕ) (v : View) (
       let none_zero = other_is 0 (λ e. omega arith) (λ e. omega arith) in
       let one = one_same p in
       let e = no_flag p in
-      let long : length (set s.homes (pages_of k + p) maybe.none) ≡ length s.homes = length-set s.homes (pages_of k + p) maybe.none in
+      let long : length (set s.homes (store_slot k p) maybe.none) ≡ length s.homes = length-set s.homes (store_slot k p) maybe.none in
       record {
         near = near;
-        long = length-set (set s.homes (pages_of k + p) maybe.none) p maybe.none ∙ long;
-        else_home = λ i a b. set_else (set s.homes (pages_of k + p) maybe.none) p i maybe.none a ∙ set_else s.homes (pages_of k + p) i maybe.none b;
+        long = length-set (set s.homes (store_slot k p) maybe.none) (frame_slot k p) maybe.none ∙ long;
+        else_home = λ i a b. set_else (set s.homes (store_slot k p) maybe.none) (frame_slot k p) i maybe.none a ∙ set_else s.homes (store_slot k p) i maybe.none b;
         lies = (
-          set_here (set s.homes (pages_of k + p) maybe.none) p maybe.none (omega arith),
-          set_else (set s.homes (pages_of k + p) maybe.none) p (pages_of k + p) maybe.none (λ x. omega arith) ∙ set_here s.homes (pages_of k + p) maybe.none (omega arith),
+          set_here (set s.homes (store_slot k p) maybe.none) (frame_slot k p) maybe.none (omega arith),
+          set_else (set s.homes (store_slot k p) maybe.none) (frame_slot k p) (store_slot k p) maybe.none (λ x. omega arith) ∙ set_here s.homes (store_slot k p) maybe.none (omega arith),
         );
         frame = frames_kept;
         grip = omega arith;
@@ -237,8 +237,8 @@ taken k slots p id old role v near lo hi about nothing some_role s r size at fit
     let h = homed.0 in
     let rule = hit_rule k s r p id old role v at near lo hi e about nothing some_role h homed.1 homed.2 homed.3 in (
       gripping v p (old == 2) h,
-      chain (takes (pages_of k + p) Nothing) (takes p (Home h)),
-      (homed.2, set_else s.homes (pages_of k + p) p maybe.none (λ x. omega arith) ∙ homed.1),
+      chain (takes (store_slot k p) Nothing) (takes (frame_slot k p) (Home h)),
+      (homed.2, set_else s.homes (store_slot k p) (frame_slot k p) maybe.none (λ x. omega arith) ∙ homed.1),
       rule,
       record {
         hit = λ q is _. subst (λ (n : ℕ). (x : Homed) × ◌≡◌ {A = Mine} (gripping v p (old == 2) h, both_slots k p (Home h) Nothing) (gripping v n (old == 2) x, both_slots v.about n (Home x) Nothing) × Takes v n (old == 2) x) (same_page p q is)

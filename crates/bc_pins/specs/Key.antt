@@ -96,9 +96,13 @@ abbrev pub table_words : ℕ → ℕ → Turn → ℕ
 table_words supers frames Lanes = 33 * supers + (frames + 63) / 64 + 1
 table_words supers frames Mark = 33 * supers + (frames + 63) / 64 + 1 + (32 * supers + (4 * supers + 63) / 64)
 
--- the slots of a page
+-- the slots of a page. Those of a superpage's pages stand together, first the four for frames and then the four for the store: so
+-- frame slots of two superpages lie apart too
+abbrev pub home_slot : ℕ → ℕ
+home_slot page = 8 * (page / 4) + page % 4
+
 abbrev pub frame_slot : Key → ℕ → ℕ
-frame_slot k page = page
+frame_slot k page = home_slot page
 
 abbrev pub store_slot : Key → ℕ → ℕ
-store_slot k page = pages_of k + page
+store_slot k page = home_slot page + 4

@@ -1,6 +1,7 @@
 -- Boxes that move between a space's lists and the slots of a table.
 use Rattle.std.specs.Prelude.{◌≡◌, ℕ, ◌+◌, ◌<◌, ◌≤◌, List, length, Option, Some, None, slice_index_or}
 use Rattle.bc_superpages.specs.declared.spaces.Homed.{Homed}
+use Rattle.bc_pins.specs.Key.{home_slot}
 use Rattle.bc_pins.specs.declared.views.Lodged.{Lodged}
 use Rattle.bc_pins.specs.declared.views.Lodged.TheVariants.{Nothing, Home, Away}
 
@@ -9,12 +10,6 @@ pub record Replaced {A : Type 0} (default : A) (old new : List A) (count : ℕ) 
   pub long : length new ≡ length old
   pub near : (i : ℕ) → i < count → slice_index_or new i default ≡ f i
   pub far : (i : ℕ) → count ≤ i → slice_index_or new i default ≡ slice_index_or old i default
-
--- slots were added
-pub record Lodges (old new : List Lodged) (count : ℕ) (f : ℕ → Lodged) : Type 0 where
-  pub long : length new ≡ length old + count
-  pub kept : (i : ℕ) → i < length old → slice_index_or new i Nothing ≡ slice_index_or old i Nothing
-  pub added : (i : ℕ) → i < count → slice_index_or new (length old + i) Nothing ≡ f i
 
 abbrev pub home_of : Option Homed → Lodged
 home_of None = Nothing
@@ -41,3 +36,15 @@ LiesOnce (Home homed) (Some content) = ⊥
 LiesOnce Nothing None = ⊥
 LiesOnce Nothing (Some content) = Unit {0}
 LiesOnce (Away x) place = ⊥
+
+-- of the boxes in these lists those that belong into the first so many slots are in them, and out of the lists
+pub record AreOut (boxes : List (Option Homed)) (places : List (Option (List ℕ))) (left : List (Option Homed)) (stored : List (Option (List ℕ))) (slots : List Lodged) (count : ℕ) : Type 0 where
+  pub long : length slots ≡ count
+  pub boxes_long : length left ≡ length boxes
+  pub places_long : length stored ≡ length places
+  pub homes : (p : ℕ) → home_slot p < count → slice_index_or slots (home_slot p) Nothing ≡ home_of (slice_index_or boxes p None)
+  pub aways : (p : ℕ) → home_slot p + 4 < count → slice_index_or slots (home_slot p + 4) Nothing ≡ away_of (slice_index_or places p None)
+  pub box_out : (p : ℕ) → home_slot p < count → slice_index_or left p None ≡ None
+  pub box_left : (p : ℕ) → count ≤ home_slot p → slice_index_or left p None ≡ slice_index_or boxes p None
+  pub place_out : (p : ℕ) → home_slot p + 4 < count → slice_index_or stored p None ≡ None
+  pub place_left : (p : ℕ) → count ≤ home_slot p + 4 → slice_index_or stored p None ≡ slice_index_or places p None

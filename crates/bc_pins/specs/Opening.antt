@@ -10,12 +10,13 @@ use Rattle.bc_superpages.specs.LayoutAt.{state_at}
 use Rattle.bc_superpages.specs.Calls.{IsClosed}
 use Rattle.bc_superpages.specs.Parts.{state_in, AreParts}
 use Rattle.bc_bookmarks.specs.Summarised.{IsSummarised}
-use Rattle.bc_pins.specs.Lodging.{Replaced, Lodges, home_of, away_of}
+use Rattle.bc_pins.specs.Lodging.{Replaced, home_of, away_of}
 use Rattle.bc_pins.specs.declared.key.Turn.{Turn}
 use Rattle.bc_pins.specs.declared.key.Role.{Role}
 use Rattle.bc_pins.specs.declared.views.Lodged.{Lodged}
+use Rattle.bc_pins.specs.declared.views.Lodged.TheVariants.{Nothing}
 use Rattle.bc_pins.specs.declared.views.View.{View}
-use Rattle.bc_pins.specs.Key.{Key, pages_of, page_at, counter_at, all_words, is_lanes, lane_role, role_number}
+use Rattle.bc_pins.specs.Key.{Key, pages_of, page_at, counter_at, all_words, is_lanes, lane_role, role_number, home_slot, frame_slot, store_slot}
 use Rattle.bc_pins.specs.Totals.{times, sum_to}
 use Rattle.bc_pins.specs.Contents.{IsContent, RefersYoung, IsBarePage}
 use Rattle.bc_pins.specs.Views.{marked_for, opened_content, opened_word, record_of}
@@ -31,7 +32,7 @@ opened k words slots = opening words slots (fresh k k.roles)
 pub record OpensPage (k : Key) (words : List ℕ) (slots : List Lodged) (p : ℕ) : Type 0 where
   pub word : slice_index words (page_at p) ≡ opened_word k p
   pub not_held : opened_word k p ≢ 3
-  pub lies : Lies (opened_word k p) (get_elem? (map some slots) p) (get_elem? (map some slots) (pages_of k + p)) (opened_content k p)
+  pub lies : Lies (opened_word k p) (get_elem? (map some slots) (frame_slot k p)) (get_elem? (map some slots) (store_slot k p)) (opened_content k p)
   pub fixed : IsContent k.opening p (opened_content k p)
   pub young : RefersYoung k.opening p (opened_content k p) → opened_word k p ≡ 2
   pub bare : opened_word k p ≡ 0 → IsBarePage k.opening p
@@ -55,7 +56,7 @@ pub record MayOpen (k : Key) (words : List ℕ) (slots : List Lodged) : Type 0 w
 -- the record as its content
 pub record ClosesPage (k : Key) (v : View) (words : List ℕ) (slots : List Lodged) (p : ℕ) : Type 0 where
   pub not_held : slice_index words (page_at p) ≢ 3
-  pub lies : Lies (slice_index words (page_at p)) (get_elem? (map some slots) p) (get_elem? (map some slots) (pages_of k + p)) (record_of v p)
+  pub lies : Lies (slice_index words (page_at p)) (get_elem? (map some slots) (frame_slot k p)) (get_elem? (map some slots) (store_slot k p)) (record_of v p)
   pub fixed : IsContent k.opening p (record_of v p)
   pub young : RefersYoung k.opening p (record_of v p) → slice_index words (page_at p) ≡ 2
   pub bare : slice_index words (page_at p) ≡ 0 → IsBarePage k.opening p
@@ -109,9 +110,9 @@ pub record IsRest (whole parts : SpaceParts) (pages : ℕ) : Type 0 where
 
 -- a slot for the frame and one for the store of each page, with the boxes that lay in the lists
 pub record AreLodged (whole : SpaceParts) (pages : ℕ) (slots : List Lodged) : Type 0 where
-  pub first : List Lodged
-  pub homes : Lodges [] first pages (λ p. home_of (slice_index_or whole.boxes.items p None))
-  pub aways : Lodges first slots pages (λ p. away_of (slice_index_or whole.store.places p None))
+  pub long : length slots ≡ pages + pages
+  pub homes : (p : ℕ) → p < pages → slice_index_or slots (home_slot p) Nothing ≡ home_of (slice_index_or whole.boxes.items p None)
+  pub aways : (p : ℕ) → p < pages → slice_index_or slots (home_slot p + 4) Nothing ≡ away_of (slice_index_or whole.store.places p None)
 
 -- the same parts, as far as a space reads them
 pub record SameParts (a b : SpaceParts) : Type 0 where

@@ -12,7 +12,7 @@ use Rattle.bc_pins.specs.declared.views.Lodged.{Lodged}
 use Rattle.bc_pins.specs.declared.views.Lodged.TheVariants.{Nothing, Home}
 use Rattle.bc_pins.specs.declared.views.Hand.{Hand}
 use Rattle.bc_pins.specs.declared.views.View.{View}
-use Rattle.bc_pins.specs.Key.{Key, pages_of, owner, page_at, counter_at, bookmark_at, frame_at}
+use Rattle.bc_pins.specs.Key.{Key, owner, page_at, counter_at, bookmark_at, frame_at, home_slot, frame_slot, store_slot}
 use Rattle.bc_pins.specs.Totals.{times}
 use Rattle.bc_pins.specs.Contents.{IsContent, RefersYoung, IsBarePage, objects_in}
 use Rattle.bc_pins.specs.Facts.{IsBitOfTarget, points}
@@ -141,7 +141,7 @@ AreRights v w bits = (b : ℕ) → b < 64 → 0 < bit_at bits b → 0 < times (6
 
 -- the slots of a page that was taken, as the seat has them: the frame slot first
 abbrev pub both_slots : Key → ℕ → Lodged → Lodged → List (ℕ × Lodged)
-both_slots k page frame store = (page, frame) ∷ (pages_of k + page, store) ∷ []
+both_slots k page frame store = (frame_slot k page, frame) ∷ (store_slot k page, store) ∷ []
 
 -- bit b of a bookmark word is that of a target of the page in hand
 abbrev pub IsTargetBit : Key → Hand → ℕ → ℕ → Type 0
@@ -202,7 +202,7 @@ pub record Took (st : Step Lodged) (m : Mine) (found : ℕ) (m' : Mine) : Type 0
 -- Release: nothing is in hand, and the slots are at home
 pub record Gave (st : Step Lodged) (m m' : Mine) : Type 0 where
   pub slots : m'.1 ≡ rest (rest m.1)
-  pub view : (page : ℕ) (homed : Homed) → st.word ≡ page_at page → m.1 ≡ (page, Home homed) ∷ rest m.1 → m'.0 ≡ released m.0 page (st.first == 2) homed.page
+  pub view : (page : ℕ) (homed : Homed) → st.word ≡ page_at page → m.1 ≡ (home_slot page, Home homed) ∷ rest m.1 → m'.0 ≡ released m.0 page (st.first == 2) homed.page
 
 -- Bookmark bit, and counter add, of the page in hand
 pub record SetBits (st : Step Lodged) (m : Mine) (found : ℕ) (m' : Mine) : Type 0 where

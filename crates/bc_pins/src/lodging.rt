@@ -1,9 +1,10 @@
 //! Boxes that move from a space's lists into the slots of a table, and back.
 
-ghost use Rattle.std.specs.Prelude.{◌≡◌, ℕ, ◌+◌, ◌^◌, ◌<◌, ◌≤◌, [], Option, Some, None, length, slice_index_or, slice_set, vec_capacity};
+ghost use Rattle.std.specs.Prelude.{◌≡◌, ℕ, ◌+◌, ◌*◌, ◌%◌, ◌^◌, ◌<◌, ◌≤◌, [], Option, Some, None, length, slice_index_or, slice_set, vec_capacity};
 ghost use Rattle.bc_frames.specs.Places.{place_at};
 ghost use Rattle.bc_pins.specs.declared.views.Lodged.TheVariants.{Nothing};
-ghost use Rattle.bc_pins.specs.Lodging.{Replaced, Lodges, LiesOnce, home_of, away_of, box_of, place_of};
+ghost use Rattle.bc_pins.specs.Key.{home_slot};
+ghost use Rattle.bc_pins.specs.Lodging.{Replaced, AreOut, LiesOnce, home_of, away_of, box_of, place_of};
 
 use crate::views::Lodged;
 use bc_frames::Store;
@@ -44,35 +45,28 @@ fn lift(store: &mut Store, page: usize, frame: &Lodged) -> Lodged
     }
 }
 
-/// Moves the boxes of so many pages into slots, one for each page.
-pub(crate) fn lodge_boxes(boxes: &mut Vec<Option<Homed>>, pages: usize, slots: &mut Vec<Lodged>)
-    requires pages { pages ≤ length boxes.old.items }
-    requires room { pages ≤ vec_capacity slots.old }
-    requires none { slots.old.items ≡ [] }
-    ensures boxes { Replaced None boxes.old.items boxes.new.items pages (λ p. None) }
-    ensures slots { Lodges slots.old.items slots.new.items pages (λ p. home_of (slice_index_or boxes.old.items p None)) }
-    ensures room { vec_capacity slots.new ≡ vec_capacity slots.old }
-{
-    for page in 0..pages {
-        slots.push_reserved(lodge(boxes[page].take()));
-    }
-}
-
-/// Moves the boxes of so many pages that aren't home into slots, one more for each page.
-pub(crate) fn lodge_places(store: &mut Store, pages: usize, slots: &mut Vec<Lodged>)
-    requires pages { pages ≤ length store.old.places }
-    requires few { pages < 2 ^ 32 }
-    requires frames { length slots.old.items ≡ pages }
+/// Moves the boxes of so many pages into slots: of each superpage first the four for frames, then the four for the store.
+pub(crate) fn lodge_pages(
+    boxes: &mut Vec<Option<Homed>>,
+    store: &mut Store,
+    pages: usize,
+    slots: &mut Vec<Lodged>,
+)
+    requires pages { (pages ≤ length boxes.old.items) × (pages ≤ length store.old.places) × (pages < 2 ^ 32) × (pages % 4 ≡ 0) }
     requires room { pages + pages ≤ vec_capacity slots.old }
-    requires once { (p : ℕ) → p < pages → LiesOnce (slice_index_or slots.old.items p Nothing) (slice_index_or store.old.places p None) }
+    requires none { slots.old.items ≡ [] }
+    requires once { (p : ℕ) → p < pages → LiesOnce (home_of (slice_index_or boxes.old.items p None)) (slice_index_or store.old.places p None) }
+    ensures lodged { AreOut boxes.old.items store.old.places boxes.new.items store.new.places slots.new.items (2 * pages) }
     ensures store { store.new ≡ record store.old { places = store.new.places } }
-    ensures places { Replaced None store.old.places store.new.places pages (λ p. None) }
-    ensures slots { Lodges slots.old.items slots.new.items pages (λ p. away_of (slice_index_or store.old.places p None)) }
-    ensures room { vec_capacity slots.new ≡ vec_capacity slots.old }
 {
-    for page in 0..pages {
-        let away = lift(store, page, &slots[page]);
-        slots.push_reserved(away);
+    for entry in 0..2 * pages {
+        let page = 4 * (entry / 8) + entry % 4;
+        if entry % 8 < 4 {
+            slots.push_reserved(lodge(boxes[page].take()));
+        } else {
+            let away = lift(store, page, &slots[entry - 4]);
+            slots.push_reserved(away);
+        }
     }
 }
 
@@ -103,16 +97,17 @@ pub(crate) fn put_all_back(
     pages: usize,
     mut slots: Vec<Lodged>,
 )
-    requires pages { (pages ≤ length boxes.old.items) × (pages ≤ length store.old.places) × (pages < 2 ^ 32) }
+    requires pages { (pages ≤ length boxes.old.items) × (pages ≤ length store.old.places) × (pages < 2 ^ 32) × (pages % 4 ≡ 0) }
     requires slots { length slots.items ≡ pages + pages }
     requires empty { (p : ℕ) → p < pages → place_at store.old p ≡ None }
-    ensures boxes { Replaced None boxes.old.items boxes.new.items pages (λ p. box_of (slice_index_or slots.entry.items p Nothing)) }
+    ensures boxes { Replaced None boxes.old.items boxes.new.items pages (λ p. box_of (slice_index_or slots.entry.items (home_slot p) Nothing)) }
     ensures store { store.new ≡ record store.old { places = store.new.places } }
-    ensures places { Replaced None store.old.places store.new.places pages (λ p. place_of (slice_index_or slots.entry.items (pages + p) Nothing)) }
+    ensures places { Replaced None store.old.places store.new.places pages (λ p. place_of (slice_index_or slots.entry.items (home_slot p + 4) Nothing)) }
 {
     for page in 0..pages {
-        let frame = mem::replace(&mut slots[page], Lodged::Nothing);
-        let away = mem::replace(&mut slots[pages + page], Lodged::Nothing);
+        let slot = 8 * (page / 4) + page % 4;
+        let frame = mem::replace(&mut slots[slot], Lodged::Nothing);
+        let away = mem::replace(&mut slots[slot + 4], Lodged::Nothing);
         put_back(boxes, store, page, frame, away);
     }
 }

@@ -1,13 +1,14 @@
 //! What is left of a space's parts while its pages are in a table.
 
-ghost use Rattle.std.specs.Prelude.{◌≡◌, ℕ, ◌+◌, ◌*◌, ◌^◌, ◌<◌, ◌≤◌, [], None, length, slice_index_or, vec_capacity};
+ghost use Rattle.std.specs.Prelude.{◌≡◌, ℕ, ◌+◌, ◌*◌, ◌%◌, ◌^◌, ◌<◌, ◌≤◌, [], None, length, slice_index_or, vec_capacity};
 ghost use Rattle.bc_superpages.specs.Parts.{AreParts, parts_layout};
 ghost use Rattle.bc_frames.specs.Places.{place_at};
 ghost use Rattle.bc_pins.specs.declared.views.Lodged.TheVariants.{Nothing};
+ghost use Rattle.bc_pins.specs.Key.{home_slot};
 ghost use Rattle.bc_pins.specs.Lodging.{Replaced, box_of, place_of};
 ghost use Rattle.bc_pins.specs.Opening.{Emptied, AreLodged, SameParts};
 
-use crate::lodging::{lodge_boxes, lodge_places, put_all_back};
+use crate::lodging::{lodge_pages, put_all_back};
 use crate::views::Lodged;
 use bc_superpages::SpaceParts;
 use std::marker::Model;
@@ -46,14 +47,13 @@ impl Rest {
 /// Moves the boxes of so many pages into slots.
 pub(crate) fn lodge_all(parts: &mut SpaceParts, pages: usize, slots: &mut Vec<Lodged>)
     requires kept { AreParts parts.old }
-    requires pages { pages ≤ 4 * length parts.old.headers.items }
+    requires pages { (pages ≤ 4 * length parts.old.headers.items) × (pages % 4 ≡ 0) }
     requires none { slots.old.items ≡ [] }
     requires room { pages + pages ≤ vec_capacity slots.old }
     ensures emptied { Emptied parts.old parts.new pages }
     ensures slots { AreLodged parts.old pages slots.new.items }
 {
-    lodge_boxes(&mut parts.boxes, pages, slots);
-    lodge_places(&mut parts.store, pages, slots);
+    lodge_pages(&mut parts.boxes, &mut parts.store, pages, slots);
 }
 
 /// Moves them back, where no table could be made.
@@ -64,7 +64,7 @@ pub(crate) fn restore(
     slots: Vec<Lodged>,
 )
     requires kept { AreParts whole.now.value }
-    requires pages { pages ≤ 4 * length whole.now.value.headers.items }
+    requires pages { (pages ≤ 4 * length whole.now.value.headers.items) × (pages % 4 ≡ 0) }
     requires emptied { Emptied whole.now.value parts.old pages }
     requires slots { AreLodged whole.now.value pages slots.items }
     ensures same { SameParts whole.now.value parts.new }
@@ -75,11 +75,11 @@ pub(crate) fn restore(
 
 /// Puts the boxes of so many pages back into their lists, when the table is closed.
 pub(crate) fn put_boxes_back(parts: &mut SpaceParts, pages: usize, slots: Vec<Lodged>)
-    requires pages { (pages ≤ length parts.old.boxes.items) × (pages ≤ length parts.old.store.places) × (pages < 2 ^ 32) }
+    requires pages { (pages ≤ length parts.old.boxes.items) × (pages ≤ length parts.old.store.places) × (pages < 2 ^ 32) × (pages % 4 ≡ 0) }
     requires slots { length slots.items ≡ pages + pages }
     requires empty { (p : ℕ) → p < pages → place_at parts.old.store p ≡ None }
-    ensures boxes { Replaced None parts.old.boxes.items parts.new.boxes.items pages (λ p. box_of (slice_index_or slots.entry.items p Nothing)) }
-    ensures places { Replaced None parts.old.store.places parts.new.store.places pages (λ p. place_of (slice_index_or slots.entry.items (pages + p) Nothing)) }
+    ensures boxes { Replaced None parts.old.boxes.items parts.new.boxes.items pages (λ p. box_of (slice_index_or slots.entry.items (home_slot p) Nothing)) }
+    ensures places { Replaced None parts.old.store.places parts.new.store.places pages (λ p. place_of (slice_index_or slots.entry.items (home_slot p + 4) Nothing)) }
     ensures same { parts.new ≡ record parts.old { boxes = parts.new.boxes; store = record parts.old.store { places = parts.new.store.places } } }
 {
     put_all_back(&mut parts.boxes, &mut parts.store, pages, slots);

@@ -99,8 +99,13 @@ impl Pins {
             × ReadsWord (view_of seat.old) page found) }
     {
         let words = &self.table.shared;
-        let slot = page as usize;
-        let found = words.compare_exchange::<Take>(&mut seat.inner, page_entry(slot), old, HELD);
+        let slot = 8 * (page as usize / 4) + page as usize % 4;
+        let found = words.compare_exchange::<Take>(
+            &mut seat.inner,
+            page_entry(page as usize),
+            old,
+            HELD,
+        );
         if found != old {
             return Err(found);
         }
@@ -129,9 +134,13 @@ impl Pins {
             homed,
         } = held;
         let words = &self.table.shared;
-        let slot = page as usize;
+        let slot = 8 * (page as usize / 4) + page as usize % 4;
         words.exchange(&mut seat.inner, slot, Lodged::Home(homed));
-        words.store::<Release>(&mut seat.inner, page_entry(slot), word_at_home(remembered));
+        words.store::<Release>(
+            &mut seat.inner,
+            page_entry(page as usize),
+            word_at_home(remembered),
+        );
     }
 
     /// ReadsWord where a page is.

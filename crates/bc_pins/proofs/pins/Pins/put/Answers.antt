@@ -1,9 +1,9 @@
-use Rattle.std.proofs.Common.{ℕ, Bool, ◌+◌, ◌<◌, ◌==◌, [], ◌∷◌, ◌∙◌, List, sym, ap, subst, arith, refl}
+use Rattle.std.proofs.Common.{ℕ, Bool, ◌<◌, ◌==◌, [], ◌∷◌, ◌∙◌, List, sym, ap, subst, arith, refl}
 use Rattle.atomic_table.specs.Table.{rest}
 use Rattle.bc_pins.specs.declared.views.Lodged.{Lodged}
 use Rattle.bc_pins.specs.declared.views.Lodged.TheVariants.{Nothing, Home}
 use Rattle.bc_pins.specs.declared.views.View.{View}
-use Rattle.bc_pins.specs.Key.{Key, pages_of}
+use Rattle.bc_pins.specs.Key.{Key, pages_of, store_slot, home_slot}
 use Rattle.bc_pins.specs.Steps.{Mine, released}
 use Rattle.bc_pins.specs.Tidy.{IsTidy}
 use Rattle.bc_pins.proofs.GiveLemmas.{gives_from, tidy_released}
@@ -21,8 +21,8 @@ store-requires c =
     let w = is_home_word _ _ c.word_at_home.ensures in
     let v : View = c.args.seat.now.inner.me.0 in
     let p : ℕ = c.args.held.page in
-    let slots = ap rest holds.slots ∙ ap (λ (a : Key). (pages_of a + p, Nothing) ∷ []) seat.about in
-    let is = c.exchange.ensures.3 ∙ ap (λ (l : List (ℕ × Lodged)). (v, (p, Home c.args.held.homed) ∷ l)) slots in
+    let slots = ap rest holds.slots ∙ ap (λ (a : Key). (store_slot a p, Nothing) ∷ []) seat.about in
+    let is = c.exchange.ensures.3 ∙ ap (λ (l : List (ℕ × Lodged)). (v, (home_slot p, Home c.args.held.homed) ∷ l)) slots in
     let inside : p < pages_of c.args.self.now.table.shared.key = subst (λ (a : Key). p < pages_of a) seat.about holds.inside in (
       c.exchange.ensures.0 ∙ seat.table,
       omega arith,
