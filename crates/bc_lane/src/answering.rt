@@ -2,6 +2,7 @@
 
 ghost use Rattle.std.specs.Prelude.{◌≡◌, ◌+◌, ◌^◌, ◌<◌, Err, IfOk, IfErr, OnErr};
 ghost use Rattle.bc_lane.specs.declared.stops.Stop.TheVariants.{NurseryFull};
+ghost use Rattle.bc_lane.specs.Shown.{HasPage};
 ghost use Rattle.bc_lane.specs.Turns.{DoesOne, IsLaneSeat, IsLaneTable, IsReadStop, IsWhole, LooksOwn, ReadsOn, SamePart, StaysWhole, StopsOp};
 ghost use Rattle.bc_mutator.specs.Operations.{IsOpOf, WantsMore};
 ghost use Rattle.bc_nursery.specs.Objects.{left_of};
@@ -50,7 +51,8 @@ pub(crate) fn answer<G: Gate>(
     }
 }
 
-/// Does an operation of the lane that looks at a cell of its own on this page, or tells why it isn't done.
+/// Does an operation of the lane that looks at a cell of its own on this page, or tells why it isn't done. Where the page was in
+/// hand before, nothing is read at the table.
 fn answer_on<G: Gate>(
     part: &mut LanePart,
     pins: &Pins,
@@ -70,6 +72,7 @@ fn answer_on<G: Gate>(
     ensures part { SamePart part.old part.new }
     ensures seated { IsLaneSeat pins.now part.old.lane seat.new hand.new }
     ensures seat { IsSameSeat seat.old seat.new }
+    ensures kept { HasPage hand.old page → seat.new ≡ seat.old }
     ensures reads { ReadsOn (view_of seat.old) (view_of seat.new) }
     ensures done { IfOk result (λ reply. DoesOne part.old (view_of seat.old) hand.old part.new (view_of seat.new) hand.new end op.now reply) }
     ensures still { OnErr result (StaysWhole part.old (view_of seat.old) hand.old part.new (view_of seat.new) hand.new end) }

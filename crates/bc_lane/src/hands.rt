@@ -59,8 +59,8 @@ fn pick_up(pins: &Pins, seat: &mut Seat, page: u32) -> Result<Held, Stop>
     }
 }
 
-/// Sees to it that an own page on which an allocated cell lies is in hand. Any other page in hand is put back. Where the page
-/// can't be taken none is in hand.
+/// Sees to it that an own page on which an allocated cell lies is in hand. Where it is, nothing is done; any other page in hand
+/// is put back. Where the page can't be taken none is in hand.
 pub(crate) fn bring<G: Gate>(
     pins: &Pins,
     seat: &mut Seat,
@@ -77,6 +77,7 @@ pub(crate) fn bring<G: Gate>(
     requires cell { IsBarePage (view_of seat.old).about.opening page → ⊥ }
     requires shown { (end : ℕ) × (s : Layout) × ShowsPages (view_of seat.old) hand.old end s }
     ensures same { IsSameSeat seat.old seat.new }
+    ensures kept { HasPage hand.old page → (hand.new ≡ hand.old) × (seat.new ≡ seat.old) }
     ensures hands { HasInHand seat.new hand.new }
     ensures shows { (end : ℕ) → (s : Layout) → ShowsPages (view_of seat.old) hand.old end s → ShowsPages (view_of seat.new) hand.new end s }
     ensures there { OnOk result (HasPage hand.new page) }
@@ -100,7 +101,8 @@ pub(crate) fn bring<G: Gate>(
 
 /// Is this the page in hand?
 fn has_page(hand: &Option<Held>, page: u32) -> bool
-    ensures { result ≡ true → HasPage hand.now page }
+    ensures there { result ≡ true → HasPage hand.now page }
+    ensures all { HasPage hand.now page → result ≡ true }
 {
     match hand {
         Some(held) => held.page() == page,

@@ -80,3 +80,9 @@ returns-in-Err-clause-nursery g c = λ wants.
 
 pub returns-in-Ok-clause-since : goal.returns-in-Ok-clause-since
 returns-in-Ok-clause-since g c = room-stop c.operate.result (view_of c.args.seat.now) (view_of c.bring.new.seat) c.operate.ensures.room
+
+pub returns-in-Ok-clause-kept : goal.returns-in-Ok-clause-kept
+returns-in-Ok-clause-kept g c = λ has. (c.bring.ensures.kept has).1
+
+pub returns-in-Err-clause-kept : goal.returns-in-Err-clause-kept
+returns-in-Err-clause-kept g c = λ has. (c.bring.ensures.kept has).1

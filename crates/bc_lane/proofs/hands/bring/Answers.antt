@@ -1,4 +1,4 @@
-use Rattle.std.proofs.Common.{◌≡◌, ◌<◌, ℕ, true, List, Option, sym, subst}
+use Rattle.std.proofs.Common.{◌≡◌, ◌<◌, ℕ, true, false, List, Option, refl, sym, subst, ◌∙◌}
 use Rattle.bc_lane.specs.Shown.{ShowsPages}
 use Rattle.bc_lane.specs.Turns.{HasInHand}
 use Rattle.bc_lane.proofs.HandLemmas.{none-reads, stop-since, then-reads}
@@ -9,6 +9,19 @@ use Rattle.bc_pins.specs.Totals.{times}
 use Rattle.bc_pins.specs.declared.holding.Held.{Held}
 use Rattle.bc_pins.proofs.VisitLemmas.{at_after, same_after}
 use Rattle.bc_lane.proofs.hands.bring.Goals as goal
+
+-- a test that is sure to hold doesn't fail
+true-false : true ≡ false → ⊥
+true-false e = cc
+
+pub returns-then-has_page-clause-kept : goal.returns-then-has_page-clause-kept
+returns-then-has_page-clause-kept g c = λ has. (refl, refl)
+
+pub returns-in-Ok-clause-kept : goal.returns-in-Ok-clause-kept
+returns-in-Ok-clause-kept g c = λ has. absurd (true-false (sym (c.has_page.ensures.all has) ∙ c.if-has_page.false))
+
+pub returns-in-Err-clause-kept : goal.returns-in-Err-clause-kept
+returns-in-Err-clause-kept g c = λ has. absurd (true-false (sym (c.has_page.ensures.all has) ∙ c.if-has_page.false))
 
 pub returns-then-has_page-clause-reads : goal.returns-then-has_page-clause-reads
 returns-then-has_page-clause-reads g c = none-reads (view_of c.args.seat.now)
