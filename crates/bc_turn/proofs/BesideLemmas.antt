@@ -13,11 +13,10 @@ use Rattle.bc_mutator.specs.Objects.{AreWhole}
 use Rattle.bc_mutator.specs.Operations.{IsOpOf}
 use Rattle.bc_pins.specs.Calls.{key_of, view_of}
 use Rattle.bc_pins.specs.Closing.{Closed}
-use Rattle.bc_pins.specs.Key.{lane_role, pages_of, role_number}
+use Rattle.bc_pins.specs.Key.{Key, lane_role, pages_of}
 use Rattle.bc_pins.specs.Opened.{Opened}
 use Rattle.bc_pins.specs.Totals.{times}
 use Rattle.bc_pins.specs.Views.{entries}
-use Rattle.bc_pins.specs.declared.key.Role.TheVariants.{Lane}
 use Rattle.bc_pins.specs.declared.key.Turn.TheVariants.{Lanes}
 use Rattle.bc_pins.specs.declared.pins.Pins.{Pins}
 use Rattle.bc_pins.specs.declared.pins.Seat.{Seat}
@@ -25,28 +24,25 @@ use Rattle.bc_pins.specs.declared.views.View.{View}
 use Rattle.bc_reach.specs.Distinct.{Has}
 use Rattle.bc_superpages.specs.Kept.{IsLayout}
 use Rattle.bc_superpages.specs.Layout.{Layout}
+use Rattle.bc_superpages.specs.LayoutAt.{IsAllocated}
 use Rattle.bc_turn.proofs.HeapLemmas.{laid-back}
 use Rattle.bc_turn.proofs.OpenableLemmas.{openable}
 use Rattle.bc_turn.proofs.StageLemmas.{Link, Stage, first, first-ran, linked, new-holders, new-lane, new-seat, nothing-did, nothing-more, stages}
-use Rattle.bc_turn.proofs.TableLemmas.{AreSeatsBack, IsTurnTable, lies-back}
+use Rattle.bc_turn.proofs.TableLemmas.{AreSeatsBack, IsTurnTable, lies-back, role-numbers}
 use Rattle.bc_turn.specs.Begun.{AllRan, AreBegun, AreBusyLanes, lane_ops, lane_replies}
 use Rattle.bc_turn.specs.Beside.{IsAtEndOr, IsLaidBack, LiesBack, RanBeside, StopsBeside}
 use Rattle.bc_turn.specs.Laying.{AreLaidBack}
+use Rattle.bc_turn.specs.Taking.{turn_roles}
 use Rattle.bc_whole_heap.specs.Heaps.{HeapView, end_of}
 use Rattle.bc_whole_heap.specs.LaneStates.{StandsAs}
 use Rattle.bc_whole_heap.specs.Running.{IsRunning}
 
--- the roles of these lanes, by number
-roles-of : (busy : List ℕ) → map role_number (map (λ (l : ℕ). Lane l) busy) ≡ map lane_role busy
-roles-of [] = refl
-roles-of (x ∷ xs) = ap (λ (rs : List ℕ). lane_role x ∷ rs) (roles-of xs)
-
 -- a table that was opened for the lanes
-pub turn-table : (s : Layout) (hs busy : List ℕ) (pins : Pins) (seats : List Seat) → Opened s Lanes hs (map (λ (l : ℕ). Lane l) busy) pins seats → IsTurnTable (key_of pins) s hs busy
+pub turn-table : (s : Layout) (hs busy : List ℕ) (pins : Pins) (seats : List Seat) → Opened s Lanes hs (turn_roles busy) pins seats → IsTurnTable (key_of pins) s hs busy
 turn-table s hs busy pins seats opened = record {
   opening = opened.opening;
   owners = opened.owners;
-  roles = opened.roles_are ∙ roles-of busy;
+  roles = opened.roles_are ∙ role-numbers busy;
   behind = opened.behind;
 }
 
@@ -54,7 +50,7 @@ module _ (pins : Pins) (h : HeapView) (hs serials : List ℕ) (lanes : List (Lis
     (begun : AreBegun pins h hs serials lanes before busy old seat) (ran : AllRan lanes busy old seat new after) (state : State) (stands : StandsAs h hs serials state)
     (words : length h.roots.words ≡ h.roots.domains * h.roots.slots) (ops : (j : ℕ) → Has busy j → AllByRecursion (IsOpOf h.roots) (lane_ops lanes j))
     (running : IsRunning h hs) (layout : IsLayout h.space) (whole : AreWhole h.chunks) (some : 0 < length busy)
-    (seats : List Seat) (table : IsTurnTable (key_of pins) h.space hs busy) (seats_long : length seats ≡ length busy) (seats_are : (i : ℕ) → i < length busy → (d : Seat) → get_or seats i d ≡ after i)
+    (seats : List Seat) (table : IsTurnTable (key_of pins) h.space hs busy) (seats_long : length seats ≡ length busy + 1) (seats_are : (i : ℕ) → i < length busy → (d : Seat) → get_or seats i d ≡ after i)
     (k : HeapView) (nexts : List ℕ) (told : List (List Reply)) (closed : Closed (key_of pins) seats k.space) (given : IsLayout k.space)
     (laid : AreLaidBack hs busy new (length busy) h serials before k nexts told) where
   abbrev stage : (n : ℕ) → Stage h hs serials busy old seat new after n
@@ -75,7 +71,7 @@ module _ (pins : Pins) (h : HeapView) (hs serials : List ℕ) (lanes : List (Lis
   done-all : (i : ℕ) → i < length busy → IsWhole (new i).part (view_of (after i)) None (end_of h.space) (at count)
   done-all i lt = (stage count).done i lt (begun.busy_are.within i lt)
 
-  back : AreSeatsBack (key_of pins) hs busy (end_of h.space) (at count) new after seats
+  back : AreSeatsBack (key_of pins) hs busy (at count) after seats
   back = record {
     long = seats_long;
     same = seats_are;
@@ -86,12 +82,12 @@ module _ (pins : Pins) (h : HeapView) (hs serials : List ℕ) (lanes : List (Lis
         let view = (begun.each i lt).view in
         let none = reads.behind p (subst (λ (v : View). pages_of v.about ≤ p) (sym view) far) in
         (none.0 ∙ ap (λ (v : View). entries p v.changed) view, none.1 ∙ ap (λ (v : View). times p v.recorded) view);
-    whole = done-all;
+    shows = λ i lt p own. (done-all i lt).belongs.space.others p own (λ none. none);
   }
 
   lies : LiesBack (at count).space k.space
   lies =
-      lies-back (key_of pins) h (at count) hs busy new after seats k.space table back (stage count).passes closed given (done-all 0 some).ready.layout
+      lies-back (key_of pins) h (at count) hs busy after seats k.space table back (stage count).passes closed given (done-all 0 some).ready.layout
       (openable h hs layout whole running)
 
   laid-all : IsLaidBack (at count) k
@@ -124,24 +120,32 @@ module _ (h : HeapView) (hs serials : List ℕ) (lanes : List (List Op)) (before
     | inr le ↦ le
   ]
 
-  lies-still : IsLaidBack h h
-  lies-still = record {
-    pages = record { same = refl; remembered = λ p is. is; summarised = running.summarised };
-    roots = refl;
-    noted = running.closed.noted;
-    chunks = refl;
-    buffers = refl;
-  }
+  -- a pager may have been alone at a table
+  module _ (t : Layout) (lies : LiesBack h.space t) where
+    abbrev after-all : HeapView
+    after-all = record h { space = t }
 
-  pub ran-none : RanBeside hs lanes h serials before h serials before
-  ran-none = record {
-    at = λ n. h;
-    first = refl;
-    new = λ n. [];
-    told = λ n lt. nothing-more (lane_replies before n);
-    did = λ n lt. nothing-did hs n (drop (length (lane_replies before n)) (lane_ops lanes n)) h (get_or serials n 0);
-    births = λ n lt. omega arith;
-    stopped = λ n lt. inl (all-done n);
-    back = lies-still;
-    long = (refl, refl);
-  }
+    still-laid : IsLaidBack h after-all
+    still-laid = record {
+      pages = lies;
+      roots = refl;
+      noted = λ i a lt is. elim (running.closed.noted i a lt is) [
+        | inl on ↦ inl (subst (λ (s : Layout). IsAllocated s a.0) (sym lies.same) on)
+        | inr note ↦ inr note
+      ];
+      chunks = refl;
+      buffers = refl;
+    }
+
+    pub ran-none : RanBeside hs lanes h serials before after-all serials before
+    ran-none = record {
+      at = λ n. h;
+      first = refl;
+      new = λ n. [];
+      told = λ n lt. nothing-more (lane_replies before n);
+      did = λ n lt. nothing-did hs n (drop (length (lane_replies before n)) (lane_ops lanes n)) h (get_or serials n 0);
+      births = λ n lt. omega arith;
+      stopped = λ n lt. inl (all-done n);
+      back = still-laid;
+      long = (refl, refl);
+    }

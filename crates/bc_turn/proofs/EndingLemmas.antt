@@ -115,7 +115,7 @@ module _ (all runs left : List Run) (seats : List Seat) (is : Gathering all runs
     pub lane-within : run.turn.part.lane < length g.chunks
     lane-within = subst (λ (l : ℕ). l < length g.chunks) (sym lane-is) (are.within (length seats) there)
 
-    holders-are : run.turn.part.holders.items ≡ hs
+    pub holders-are : run.turn.part.holders.items ≡ hs
     holders-are = ap (λ (r : Run). r.turn.part.holders.items) (sym (next-run run)) ∙ are.holders_are (length seats) there run
 
     pub fits-now : (lanes n : ℕ) → FitsLanes lanes g (length serials) n → n ≡ length before → FitsLanes lanes k (length births) (length told)

@@ -28,5 +28,13 @@ pub mod LendingLemmas
 pub mod WordLemmas
 -- Lanes lay back what is their own
 pub mod EndingLemmas
+-- What a pager's answers leave as it was
+pub mod PagerLemmas
+-- What a closed table makes of the pages that answers name
+pub mod AnsweredLemmas
+-- Room that is kept from turn to turn
+pub mod RoomLemmas
+-- A pager alone at a table
+pub mod AloneLemmas
 -- A turn put together
 pub mod TurnLemmas

@@ -1,22 +1,21 @@
 -- What a closed table gives back is what the lanes' operations made, one lane after another.
-use Rattle.std.proofs.Common.{◌≡◌, ℕ, ◌*◌, ◌/◌, ◌<◌, ◌≤◌, ◌==◌, List, [], ◌∷◌, length, map, get_or, None, inl, inr, refl, ap, sym, subst, ◌∙◌, arith}
+use Rattle.std.proofs.Common.{◌≡◌, ℕ, ◌+◌, ◌*◌, ◌/◌, ◌<◌, ◌≤◌, ◌==◌, List, [], ◌∷◌, ◌++◌, length, map, get_or, inl, inr, refl, ap, sym, subst, ◌∙◌, arith}
 use Prim.Native.Nat.{zero, suc}
 use Rattle.std.proofs.lemmas.Bool.{cases_lt}
 use Rattle.std.proofs.lemmas.List.{ext_get_or, get_or-map, get_or_past, length-map}
 use Rattle.bc_bits.specs.Counting.{one_if}
 use Rattle.bc_lane.specs.Shown.{IsOwnPage, ShowsPage}
-use Rattle.bc_lane.specs.Turns.{IsWhole}
-use Rattle.bc_lane.specs.declared.turns.LaneTurn.{LaneTurn}
 use Rattle.bc_pins.specs.Calls.{view_of}
 use Rattle.bc_pins.specs.Closing.{Closed}
-use Rattle.bc_pins.specs.Key.{Key, lane_role, owner, pages_of}
+use Rattle.bc_pins.specs.Key.{Key, lane_role, owner, pages_of, role_number}
 use Rattle.bc_pins.specs.Opening.{IsOpenable}
 use Rattle.bc_pins.specs.Totals.{times, total}
 use Rattle.bc_pins.specs.Views.{entries, has_role, opened_content, opened_state, opened_word, record_of, state_word}
+use Rattle.bc_pins.specs.declared.key.Role.TheVariants.{Pager}
 use Rattle.bc_pins.specs.declared.pins.Seat.{Seat}
 use Rattle.bc_pins.specs.declared.views.View.{View}
 use Rattle.bc_pins.proofs.JoinLemmas.{look_none}
-use Rattle.bc_pins.proofs.TotalLemmas.{one_other, one_same}
+use Rattle.bc_pins.proofs.TotalLemmas.{one_other, one_same, times_append}
 use Rattle.bc_reach.specs.Distinct.{Has}
 use Rattle.bc_superpages.specs.declared.headers.PageState.{PageState}
 use Rattle.bc_superpages.specs.declared.headers.PageState.TheVariants.{Absent, Remembered}
@@ -26,23 +25,32 @@ use Rattle.bc_superpages.specs.LayoutAt.{state_at}
 use Rattle.bc_turn.proofs.BusyLemmas.{find-index}
 use Rattle.bc_turn.proofs.PassLemmas.{IsOthersPage, Passes}
 use Rattle.bc_turn.specs.Beside.{LiesBack}
-use Rattle.bc_whole_heap.specs.Heaps.{HeapView, end_of}
+use Rattle.bc_turn.specs.Taking.{turn_roles}
+use Rattle.bc_whole_heap.specs.Heaps.{HeapView}
 
--- the table is over this space, for lanes who hold the domains so, and has a role for each of these lanes
+-- the numbers of the roles of a turn: these lanes, and a pager
+abbrev pub turn_numbers : List ℕ → List ℕ
+turn_numbers busy = map lane_role busy ++ role_number (Pager 0) ∷ []
+
+pub role-numbers : (busy : List ℕ) → map role_number (turn_roles busy) ≡ turn_numbers busy
+role-numbers [] = refl
+role-numbers (x ∷ xs) = ap (λ (rs : List ℕ). lane_role x ∷ rs) (role-numbers xs)
+
+-- the table is over this space, for lanes who hold the domains so, and has a role for each of these lanes and one for a pager
 pub record IsTurnTable (k : Key) (s : Layout) (hs busy : List ℕ) : Type 0 where
   pub opening : k.opening ≡ s
   pub owners : k.owners ≡ map lane_role hs
-  pub roles : k.roles ≡ map lane_role busy
+  pub roles : k.roles ≡ turn_numbers busy
   pub behind : (p : ℕ) → pages_of k ≤ p → state_at s.states p ≡ Absent
 
--- the lanes' seats, when they are back, and what each lane has, which belongs to this heap
-pub record AreSeatsBack (k : Key) (hs busy : List ℕ) (end : ℕ) (m : HeapView) (turn : ℕ → LaneTurn) (seat : ℕ → Seat) (seats : List Seat) : Type 0 where
-  pub long : length seats ≡ length busy
+-- the seats when they are back, the lanes' first. What each lane's says of its pages is so in this heap
+pub record AreSeatsBack (k : Key) (hs busy : List ℕ) (m : HeapView) (seat : ℕ → Seat) (seats : List Seat) : Type 0 where
+  pub long : length seats ≡ length busy + 1
   pub same : (i : ℕ) → i < length busy → (d : Seat) → get_or seats i d ≡ seat i
   pub about : (i : ℕ) → i < length busy → (view_of (seat i)).about ≡ k
   pub roles : (i : ℕ) → i < length busy → (view_of (seat i)).roles ≡ lane_role (get_or busy i 0) ∷ []
   pub behind : (i : ℕ) → i < length busy → (p : ℕ) → pages_of k ≤ p → (entries p (view_of (seat i)).changed ≡ 0) × (times p (view_of (seat i)).recorded ≡ 0)
-  pub whole : (i : ℕ) → i < length busy → IsWhole (turn i).part (view_of (seat i)) None end m
+  pub shows : (i : ℕ) → i < length busy → (p : ℕ) → IsOwnPage (view_of (seat i)) p → ShowsPage (view_of (seat i)) m.space p
 
 absent-remembered : Absent ≡ Remembered → ⊥
 absent-remembered e = cc
@@ -67,8 +75,23 @@ nobody-role (x ∷ xs) =
     let rest = nobody-role xs in
     omega arith
 
-module _ (k : Key) (h m : HeapView) (hs busy : List ℕ) (turn : ℕ → LaneTurn) (seat : ℕ → Seat) (seats : List Seat) (t : Layout)
-    (table : IsTurnTable k h.space hs busy) (back : AreSeatsBack k hs busy (end_of h.space) m turn seat seats) (passes : Passes hs (Has busy) h m) (closed : Closed k seats t) where
+-- nor was it a pager's, and a pager holds no domain
+no-lane : (busy : List ℕ) (l : ℕ) → (Has busy l → ⊥) → times (lane_role l) (turn_numbers busy) ≡ 0
+no-lane busy l none =
+    let both = times_append (lane_role l) (map lane_role busy) (role_number (Pager 0) ∷ []) in
+    let lanes = no-role busy l none in
+    let pager = one_other (role_number (Pager 0)) (lane_role l) (λ e. absurd (omega arith)) in
+    omega arith
+
+no-owner : (busy : List ℕ) → times 0 (turn_numbers busy) ≡ 0
+no-owner busy =
+    let both = times_append 0 (map lane_role busy) (role_number (Pager 0) ∷ []) in
+    let lanes = nobody-role busy in
+    let pager = one_other (role_number (Pager 0)) 0 (λ e. absurd (omega arith)) in
+    omega arith
+
+module _ (k : Key) (h m : HeapView) (hs busy : List ℕ) (seat : ℕ → Seat) (seats : List Seat) (t : Layout)
+    (table : IsTurnTable k h.space hs busy) (back : AreSeatsBack k hs busy m seat seats) (passes : Passes hs (Has busy) h m) (closed : Closed k seats t) where
   abbrev view : ℕ → View
   view i = view_of (seat i)
 
@@ -90,7 +113,7 @@ module _ (k : Key) (h m : HeapView) (hs busy : List ℕ) (turn : ℕ → LaneTur
     own = subst (λ (a : Key). 0 < has_role (view i) (owner a p)) (sym (back.about i lt)) has
 
     shown : ShowsPage (view i) m.space p
-    shown = (back.whole i lt).belongs.space.others p own (λ none. none)
+    shown = back.shows i lt p own
 
     mine-near : p < pages_of k → content_at t.pages p ≡ content_at m.space.pages p
     mine-near near =
@@ -128,12 +151,12 @@ module _ (k : Key) (h m : HeapView) (hs busy : List ℕ) (turn : ℕ → LaneTur
     unowned : times (owner k p) k.roles ≡ 0
     unowned = subst (λ (rs : List ℕ). times (owner k p) rs ≡ 0) (sym table.roles) (elim (cases_lt (domain p) (length hs)) [
       | inl within ↦
-          subst (λ (r : ℕ). times r (map lane_role busy) ≡ 0) (sym (ap (λ (l : List ℕ). get_or l (domain p) 0) table.owners ∙ get_or-map lane_role hs (domain p) 0 0 within))
-          (no-role busy (get_or hs (domain p) 0) (off within))
+          subst (λ (r : ℕ). times r (turn_numbers busy) ≡ 0) (sym (ap (λ (l : List ℕ). get_or l (domain p) 0) table.owners ∙ get_or-map lane_role hs (domain p) 0 0 within))
+          (no-lane busy (get_or hs (domain p) 0) (off within))
       | inr out ↦
-          subst (λ (r : ℕ). times r (map lane_role busy) ≡ 0)
+          subst (λ (r : ℕ). times r (turn_numbers busy) ≡ 0)
           (sym (ap (λ (l : List ℕ). get_or l (domain p) 0) table.owners ∙ get_or_past (map lane_role hs) (domain p) 0 (let long = length-map hs lane_role in omega arith)))
-          (nobody-role busy)
+          (no-owner busy)
     ])
 
     opened-same : content_at m.space.pages p ≡ opened_content k p

@@ -1,11 +1,11 @@
 -- A turn put together: what its steps tell makes the lanes' begin, their runs, and what they lay back.
-use Rattle.std.proofs.Common.{◌≡◌, ◌≢◌, ◌⊎◌, ℕ, ◌+◌, ◌-◌, ◌*◌, ◌^◌, ◌<◌, ◌≤◌, ◌==◌, true, false, List, [], ◌∷◌, length, map, get_or, None, Vec, vec_capacity, inl, inr, refl, ap, sym, subst, ◌∙◌, arith}
+use Rattle.std.proofs.Common.{◌≡◌, ◌≢◌, ◌⊎◌, ℕ, ◌+◌, ◌-◌, ◌*◌, ◌^◌, ◌<◌, ◌≤◌, ◌==◌, true, false, List, [], ◌∷◌, ◌++◌, length, map, get_or, None, Vec, vec_capacity, inl, inr, refl, ap, sym, subst, ◌∙◌, arith}
 use Prim.Native.Nat.{zero, suc}
 use Rattle.std.specs.declared.alloc.Global.{Global}
 use Rattle.std.specs.List.{AllByRecursion}
 use Rattle.std.proofs.Math.ListN as list
 use Rattle.std.proofs.lemmas.Bool.{cases_lt, eq-eqb, eqb-true}
-use Rattle.std.proofs.lemmas.List.{get_or-map, length-map}
+use Rattle.std.proofs.lemmas.List.{get_or-map, get_or_append_left, get_or_push, length-map}
 use Rattle.bc_lane.specs.declared.parts.LanePart.{LanePart}
 use Rattle.bc_lane.specs.declared.stops.Stop.{Stop}
 use Rattle.bc_lane.specs.declared.stops.Stop.TheVariants as stop
@@ -17,12 +17,16 @@ use Rattle.bc_model.specs.declared.operations.Op.{Op}
 use Rattle.bc_model.specs.declared.operations.Reply.{Reply}
 use Rattle.bc_mutator.specs.Objects.{AreWhole, own_chunk}
 use Rattle.bc_mutator.specs.Operations.{IsOpOf}
+use Rattle.bc_pager.specs.Answering.{AreAnswered}
+use Rattle.bc_pager.specs.declared.answers.Answer.{Answer}
 use Rattle.bc_pins.specs.Calls.{key_of, view_of}
 use Rattle.bc_pins.specs.Closing.{AreBack, Closed}
+use Rattle.bc_pins.specs.Key.{role_number}
 use Rattle.bc_pins.specs.Opened.{Opened}
 use Rattle.bc_pins.specs.Seating.{IsDealt}
+use Rattle.bc_pins.specs.Steps.{fresh}
 use Rattle.bc_pins.specs.declared.key.Role.{Role}
-use Rattle.bc_pins.specs.declared.key.Role.TheVariants.{Lane}
+use Rattle.bc_pins.specs.declared.key.Role.TheVariants.{Lane, Pager}
 use Rattle.bc_pins.specs.declared.key.Turn.TheVariants.{Lanes}
 use Rattle.bc_pins.specs.declared.pins.Pins.{Pins}
 use Rattle.bc_pins.specs.declared.pins.Seat.{Seat}
@@ -31,15 +35,22 @@ use Rattle.bc_reach.proofs.Pushed.{Has-get_or, place_of}
 use Rattle.bc_superpages.specs.Kept.{IsLayout}
 use Rattle.bc_superpages.specs.Layout.{Layout}
 use Rattle.bc_superpages.specs.RootWords.{RootWords}
+use Rattle.bc_turn.specs.declared.paging.Paging.{Paging}
+use Rattle.bc_turn.specs.declared.rooms.TurnRoom.{TurnRoom}
 use Rattle.bc_turn.specs.declared.runs.Run.{Run}
+use Rattle.bc_turn.specs.Answered.{AnsweredBeside}
 use Rattle.bc_turn.specs.Begun.{AllRan, AreBegun, AreBusyLanes, IsBegunLane, RanLane, lane_ops, lane_replies}
 use Rattle.bc_turn.specs.Beside.{RanBeside}
 use Rattle.bc_turn.specs.Laying.{AreLaidBack}
-use Rattle.bc_turn.specs.Taking.{AreAway, AreHeldDomains, AreRunsOf, AreTaken, CanRun, HasReplyRoom, HasRoomForLane, LaneHasRun, LiesRight, TakesAlong, running_lanes, seat_at, turn_at}
-use Rattle.bc_turn.proofs.BegunLemmas.{are-back, begun-lane, may-operate, ops-each}
+use Rattle.bc_turn.specs.Paging.{HasPaged}
+use Rattle.bc_turn.specs.Taking.{AreAway, AreHeldDomains, AreRunsOf, AreSparesOf, AreTaken, CanRun, HasBusyAmong, HasReplyRoom, HasRoomForLane, LaneHasRun, IsRoomKept, LiesRight, TakesAlong, running_lanes, seat_at, spare_lanes, turn_at, turn_roles}
+use Rattle.bc_turn.proofs.AnsweredLemmas.{answered}
+use Rattle.bc_turn.proofs.BegunLemmas.{IsPagerBack, are-back, are-pagers, begun-lane, may-operate, ops-each, paged-back}
 use Rattle.bc_turn.proofs.BesideLemmas.{ran-beside, turn-table}
 use Rattle.bc_turn.proofs.LayingLemmas.{laid-space}
+use Rattle.bc_turn.proofs.RoomLemmas.{beside-longer, busy-among, busy-later, same-numbers}
 use Rattle.bc_turn.proofs.TableLemmas.{IsTurnTable}
+use Rattle.bc_turn.proofs.TakingLemmas.{length-push}
 use Rattle.bc_whole_heap.specs.Closed.{buffer_of}
 use Rattle.bc_whole_heap.specs.Heaps.{HeapView, end_of}
 use Rattle.bc_whole_heap.specs.LaneStates.{StandsAs}
@@ -50,14 +61,6 @@ use Rattle.bc_word.specs.WordBits.{IsPacked}
 pub first-of : {X : Type 0} (xs : List X) → 0 < length xs → X
 first-of [] lt = absurd (omega arith)
 first-of (x ∷ xs) lt = x
-
--- lists with the same numbers in the same places
-pub same-numbers : (xs ys : List ℕ) → length xs ≡ length ys → ((i : ℕ) → i < length xs → get_or xs i 0 ≡ get_or ys i 0) → xs ≡ ys
-same-numbers [] [] long each = refl
-same-numbers [] (y ∷ ys) long each = absurd (omega arith)
-same-numbers (x ∷ xs) [] long each = absurd (omega arith)
-same-numbers (x ∷ xs) (y ∷ ys) long each =
-    ap (λ (a : ℕ). a ∷ xs) (each 0 (omega arith)) ∙ ap (λ (t : List ℕ). y ∷ t) (same-numbers xs ys (omega arith) (λ i lt. each (suc i) (omega arith)))
 
 -- there are words for all slots of the lane's domains
 pub words-enough : (hs : List ℕ) (part : LanePart) (r : RootWords) → SlotsOf part r → part.holders.items ≡ hs → AreHeldDomains hs part.lane part.domains.items → AreStarts part.domains.items part.slots (length hs) part.starts.items
@@ -84,9 +87,21 @@ words-enough hs part r shows holders domains starts = by-count (length part.doma
 back-place : (n i : ℕ) → i < n → n - (n - (i + 1) + 1) ≡ i
 back-place n i lt = omega arith
 
--- a turn whose lanes have taken along what is their own, at a table that was opened for them. `s` is the space that stood in the
+-- the roles of a turn: each lane's, and the pager's behind them
+pub roles-long : (busy : List ℕ) → length (turn_roles busy) ≡ length busy + 1
+roles-long busy = length-push (map (λ (l : ℕ). Lane l) busy) (Pager 0) ∙ ap (λ (n : ℕ). n + 1) (length-map busy (λ (l : ℕ). Lane l))
+
+lane-role-at : (busy : List ℕ) (i : ℕ) → i < length busy → get_or (turn_roles busy) i (Lane 0) ≡ Lane (get_or busy i 0)
+lane-role-at busy i lt =
+    let count = length-map busy (λ (l : ℕ). Lane l) in
+    get_or_append_left (map (λ (l : ℕ). Lane l) busy) (Pager 0 ∷ []) (Lane 0) i (omega arith) ∙ list.get_or-map (λ (l : ℕ). Lane l) busy i 0
+
+pager-role : (busy : List ℕ) → get_or (turn_roles busy) (length busy) (Lane 0) ≡ Pager 0
+pager-role busy = get_or_push (map (λ (l : ℕ). Lane l) busy) (Pager 0) (Lane 0) (length busy) (length-map busy (λ (l : ℕ). Lane l))
+
+-- a turn whose lanes have taken along what is their own, at a table that was opened for them and a pager. `s` is the space that stood in the
 -- heap's meanwhile
-pub record Setting (h : HeapView) (hs serials : List ℕ) (lanes : List (List Op)) (before : List (Vec Reply Global)) (busy : List ℕ) (s : Layout) (pins : Pins) (seats : List Seat) (k : HeapView) (after : List (Vec Reply Global)) (runs : List Run) : Type 0 where
+pub record Setting (h : HeapView) (hs serials : List ℕ) (lanes : List (List Op)) (before : List (Vec Reply Global)) (busy : List ℕ) (s : Layout) (pins : Pins) (seats : List Seat) (pager : Seat) (k : HeapView) (after : List (Vec Reply Global)) (runs : List Run) : Type 0 where
   pub running : IsRunning h hs
   pub state : State
   pub stands : StandsAs h hs serials state
@@ -98,11 +113,11 @@ pub record Setting (h : HeapView) (hs serials : List ℕ) (lanes : List (List Op
   pub ops : AllByRecursion (AllByRecursion (IsOpOf h.roots)) lanes
   pub births : (j : ℕ) → get_or serials j 0 + (length (lane_ops lanes j) - length (lane_replies (lists_of before) j)) < 2 ^ 32
   pub busy_are : AreBusyLanes lanes (lists_of before) busy
-  pub opened : Opened h.space Lanes hs (map (λ (l : ℕ). Lane l) busy) pins seats
+  pub opened : Opened h.space Lanes hs (turn_roles busy) pins (seats ++ pager ∷ [])
   pub taken : AreTaken (record h { space = s }) hs serials lanes before busy seats k after runs
 
-module _ (h : HeapView) (hs serials : List ℕ) (lanes : List (List Op)) (before : List (Vec Reply Global)) (busy : List ℕ) (s : Layout) (pins : Pins) (seats : List Seat) (k : HeapView) (after : List (Vec Reply Global)) (runs : List Run)
-    (set : Setting h hs serials lanes before busy s pins seats k after runs) where
+module _ (h : HeapView) (hs serials : List ℕ) (lanes : List (List Op)) (before : List (Vec Reply Global)) (busy : List ℕ) (s : Layout) (pins : Pins) (seats : List Seat) (pager : Seat) (k : HeapView) (after : List (Vec Reply Global)) (runs : List Run)
+    (set : Setting h hs serials lanes before busy s pins seats pager k after runs) where
   busy_are : AreBusyLanes lanes (lists_of before) busy
   busy_are = set.busy_are
 
@@ -113,15 +128,27 @@ module _ (h : HeapView) (hs serials : List ℕ) (lanes : List (List Op)) (before
   sizes = set.sizes
 
   table : IsTurnTable (key_of pins) h.space hs busy
-  table = turn-table h.space hs busy pins seats set.opened
+  table = turn-table h.space hs busy pins (seats ++ pager ∷ []) set.opened
+
+  lane-seats : length seats ≡ length busy
+  lane-seats = let all = set.opened.seats_are.long in let roles = roles-long busy in let long = length-push seats pager in omega arith
+
+  -- the pager's seat, which is the last
+  pub pager-dealt : IsDealt pins.table.shared.table_id (key_of pins) (Pager 0) pager
+  pager-dealt =
+      let roles = roles-long busy in
+      let there = set.opened.seats_are.each (length busy) (omega arith) pager in
+      subst (λ (r : Role). IsDealt pins.table.shared.table_id (key_of pins) r pager) (pager-role busy)
+      (subst (IsDealt pins.table.shared.table_id (key_of pins) (get_or (turn_roles busy) (length busy) (Lane 0))) (get_or_push seats pager pager (length busy) lane-seats) there)
 
   dealt : (i : ℕ) → i < length busy → (d : Run) → IsDealt pins.table.shared.table_id (key_of pins) (Lane (get_or busy i 0)) (seat_at d runs i)
   dealt i lt d =
       let e = seat_at d runs i in
-      let count = length-map busy (λ (l : ℕ). Lane l) in
+      let count = roles-long busy in
+      let long = lane-seats in
       let there = set.opened.seats_are.each i (omega arith) e in
-      subst (IsDealt pins.table.shared.table_id (key_of pins) (Lane (get_or busy i 0))) (sym (taken.seats_are i lt d e))
-      (subst (λ (r : Role). IsDealt pins.table.shared.table_id (key_of pins) r (get_or seats i e)) (list.get_or-map (λ (l : ℕ). Lane l) busy i 0) there)
+      subst (IsDealt pins.table.shared.table_id (key_of pins) (Lane (get_or busy i 0))) (get_or_append_left seats (pager ∷ []) e i (omega arith) ∙ sym (taken.seats_are i lt d e))
+      (subst (λ (r : Role). IsDealt pins.table.shared.table_id (key_of pins) r (get_or (seats ++ pager ∷ []) i e)) (lane-role-at busy i lt) there)
 
   begun-at : (i : ℕ) → i < length busy → (d : Run) → IsBegunLane pins h hs serials lanes (lists_of before) (turn_at d runs i) (seat_at d runs i)
   begun-at i lt d =
@@ -290,21 +317,55 @@ module _ (h : HeapView) (hs serials : List ℕ) (lanes : List (List Op)) (before
             written = here.written;
           }
 
-      module _ (back : List Seat) (back_long : length back ≡ length new) (back_are : (i : ℕ) → (d : Run) → (e : Seat) → i < length new → get_or back i e ≡ seat_at d new i) (some : 0 < length busy) where
-        seats-are : (i : ℕ) → i < length busy → (e : Seat) → get_or back i e ≡ seat_at d new i
-        seats-are i lt e = let all = taken.long in back_are i d e (omega arith)
+      module _ (old later : Paging) (seat_is : old.seat ≡ pager) (paged : HasPaged pins old later) where
+        pager-back : IsPagerBack pins later.seat
+        pager-back = paged-back pins old later (subst (IsDealt pins.table.shared.table_id (key_of pins) (Pager 0)) (sym seat_is) pager-dealt) paged
 
-        pub all-back : AreBack pins.table.shared.table_id (key_of pins) back
-        all-back =
-            are-back pins h hs serials lanes (lists_of before) busy (turn_at d runs) (seat_at d runs) (turn_at d new) (seat_at d new) (begun d) (all-ran d) back table (back_long ∙ new_long ∙ taken.long) seats-are some
-            (λ i lt. (seat_at d new i).tidy)
+        module _ (back : List Seat) (back_long : length back ≡ length new) (back_are : (i : ℕ) → (d : Run) → (e : Seat) → i < length new → get_or back i e ≡ seat_at d new i) where
+          seats-are : (i : ℕ) → i < length busy → (e : Seat) → get_or back i e ≡ seat_at d new i
+          seats-are i lt e = let all = taken.long in back_are i d e (omega arith)
 
-        pub beside : (t : Layout) → Closed (key_of pins) back t → IsLayout t → RanBeside hs lanes h serials (lists_of before) (record g { space = t }) nexts told
-        beside t closed given =
-            ran-beside pins h hs serials lanes (lists_of before) busy (turn_at d runs) (seat_at d runs) (turn_at d new) (seat_at d new) (begun d) (all-ran d) set.state set.stands set.long
-            (λ j has. (let p = place_of busy j has in ops-each h.roots lanes j (subst (λ (l : ℕ). l < length lanes) p.2 (busy_are.within p.0 p.1)) set.ops))
-            set.running set.layout set.whole some back table (back_long ∙ new_long ∙ taken.long) seats-are (record g { space = t }) nexts told closed given
-            (laid-space hs busy (turn_at d new) (length busy) h serials (lists_of before) g nexts told t home)
+          seats-long : length back ≡ length busy
+          seats-long = back_long ∙ new_long ∙ taken.long
+
+          abbrev whole-list : List Seat
+          whole-list = back ++ later.seat ∷ []
+
+          all-are : (i : ℕ) → i < length busy → (e : Seat) → get_or whole-list i e ≡ seat_at d new i
+          all-are i lt e = let long = seats-long in get_or_append_left back (later.seat ∷ []) e i (omega arith) ∙ seats-are i lt e
+
+          all-long : length whole-list ≡ length busy + 1
+          all-long = length-push back later.seat ∙ ap (λ (n : ℕ). n + 1) seats-long
+
+          pub all-back : AreBack pins.table.shared.table_id (key_of pins) whole-list
+          all-back =
+              are-back pins h hs serials lanes (lists_of before) busy (turn_at d runs) (seat_at d runs) (turn_at d new) (seat_at d new) (begun d) (all-ran d) back later.seat table seats-long seats-are pager-back
+              (λ i lt. (seat_at d new i).tidy)
+
+          pub beside : (t : Layout) → 0 < length busy → Closed (key_of pins) whole-list t → IsLayout t → RanBeside hs lanes h serials (lists_of before) (record g { space = t }) nexts told
+          beside t some closed given =
+              ran-beside pins h hs serials lanes (lists_of before) busy (turn_at d runs) (seat_at d runs) (turn_at d new) (seat_at d new) (begun d) (all-ran d) set.state set.stands set.long
+              (λ j has. (let p = place_of busy j has in ops-each h.roots lanes j (subst (λ (l : ℕ). l < length lanes) p.2 (busy_are.within p.0 p.1)) set.ops))
+              set.running set.layout set.whole some whole-list table all-long all-are (record g { space = t }) nexts told closed given
+              (laid-space hs busy (turn_at d new) (length busy) h serials (lists_of before) g nexts told t home)
+
+          pub answered-beside : (t : Layout) → Closed (key_of pins) whole-list t → IsLayout t → (hints : List ℕ) (kept all : List Answer) → old.notices.hints ≡ hints → old.answers.list ≡ kept → all ≡ later.answers.list
+              → AnsweredBeside h.space hints kept all t
+          answered-beside t closed given hints kept all hints_are kept_are all_are =
+              answered (key_of pins) h.space t whole-list hints kept all paged.told (view_of later.seat) set.opened.opening closed set.layout given
+              (are-pagers pins h hs serials lanes (lists_of before) busy (turn_at d runs) (seat_at d runs) (turn_at d new) (seat_at d new) (begun d) (all-ran d) back later.seat table seats-long seats-are pager-back
+              paged.told paged.left paged.emptied) (all_are ∙ paged.kept ∙ ap (λ (list_before : List Answer). list_before ++ paged.told) kept_are)
+              (subst (λ (hs : List ℕ). AreAnswered (key_of pins) hs paged.told (fresh (key_of pins) (role_number (Pager 0) ∷ [])) (view_of later.seat)) hints_are paged.each)
+
+-- room that came back is kept for the next turn
+pub room-returned : (hs : List ℕ) (slots : ℕ) (lanes : List (List Op)) (h : HeapView) (serials : List ℕ) (before : List (List Reply)) (k : HeapView) (nexts : List ℕ) (after : List (List Reply)) (busy : List ℕ) (room : TurnRoom)
+    → AreSparesOf hs slots room.spares.items → spare_lanes room.spares.items ≡ busy → AreBusyLanes lanes before busy → length before ≡ length lanes → RanBeside hs lanes h serials before k nexts after → IsRoomKept hs slots lanes after room
+room-returned hs slots lanes h serials before k nexts after busy room spares lanes_are busy_are sizes ran =
+    inr (
+      spares,
+      subst (HasBusyAmong lanes after) (sym lanes_are)
+          (busy-later lanes before after busy (beside-longer hs lanes h serials before k nexts after sizes ran) (busy-among lanes before busy busy_are)),
+    )
 
 -- whether something is left
 pub none-left : (n : ℕ) → (n == 0) ≡ true → n ≡ 0

@@ -6,3 +6,7 @@ pub mod Begun
 pub mod Laying
 -- What a lane takes into a turn, and what stands in its places meanwhile
 pub mod Taking
+-- Notices that were answered beside the lanes
+pub mod Answered
+-- A pager at work
+pub mod Paging

@@ -1,5 +1,5 @@
 -- What a lane takes into a turn out of the heap, and what stands in its places meanwhile.
-use Rattle.std.specs.Prelude.{◌≡◌, ◌≢◌, ◌⊎◌, ℕ, ◌+◌, ◌-◌, ◌*◌, ◌<◌, ◌≤◌, List, [], length, map, Vec, vec_capacity, None, slice_index, slice_index_or}
+use Rattle.std.specs.Prelude.{◌≡◌, ◌≢◌, ◌⊎◌, ℕ, ◌+◌, ◌-◌, ◌*◌, ◌<◌, ◌≤◌, List, [], ◌∷◌, ◌++◌, length, map, Vec, vec_capacity, None, slice_index, slice_index_or}
 use Rattle.std.specs.List.{AllByRecursion}
 use Rattle.std.specs.declared.alloc.Global.{Global}
 use Rattle.bc_lane.specs.declared.parts.LanePart.{LanePart}
@@ -14,14 +14,16 @@ use Rattle.bc_mutator.specs.Objects.{own_chunk}
 use Rattle.bc_mutator.specs.Operations.{IsOpOf}
 use Rattle.bc_pins.specs.Calls.{view_of}
 use Rattle.bc_pins.specs.Seating.{IsDealt}
-use Rattle.bc_pins.specs.declared.key.Role.TheVariants.{Lane}
+use Rattle.bc_pins.specs.declared.key.Role.{Role}
+use Rattle.bc_pins.specs.declared.key.Role.TheVariants.{Lane, Pager}
 use Rattle.bc_pins.specs.declared.pins.Pins.{Pins}
 use Rattle.bc_pins.specs.declared.pins.Seat.{Seat}
 use Rattle.bc_reach.specs.Distinct.{Has}
 use Rattle.bc_superpages.specs.RootSlots.{root_at}
 use Rattle.bc_superpages.specs.RootWords.{RootWords}
-use Rattle.bc_turn.specs.Begun.{RanLane, lane_ops, lane_replies}
+use Rattle.bc_turn.specs.Begun.{HasLeft, RanLane, lane_ops, lane_replies}
 use Rattle.bc_turn.specs.declared.rooms.Spare.{Spare}
+use Rattle.bc_turn.specs.declared.rooms.TurnRoom.{TurnRoom}
 use Rattle.bc_turn.specs.declared.runs.Run.{Run}
 use Rattle.bc_whole_heap.specs.Closed.{buffer_of}
 use Rattle.bc_whole_heap.specs.Heaps.{HeapView, end_of}
@@ -68,6 +70,21 @@ spare_lanes spares = map (λ (spare : Spare). spare.lane) spares
 
 abbrev pub AreSparesOf : List ℕ → ℕ → List Spare → Type 0
 AreSparesOf holders slots spares = (i : ℕ) → i < length spares → (d : Spare) → IsSpareOf holders slots (slice_index_or spares i d)
+
+-- lanes in ascending order, with each that has operations left among them
+pub record HasBusyAmong (lanes : List (List Op)) (replies : List (List Reply)) (kept : List ℕ) : Type 0 where
+  pub rising : (i j : ℕ) → i < j → j < length kept → slice_index kept i < slice_index kept j
+  pub within : (i : ℕ) → i < length kept → slice_index kept i < length lanes
+  pub all : (lane : ℕ) → HasLeft lanes replies lane → (i : ℕ) × (i < length kept) × (slice_index kept i ≡ lane)
+
+-- no room is kept, or that of lanes with each among them that has operations left
+abbrev pub IsRoomKept : List ℕ → ℕ → List (List Op) → List (List Reply) → TurnRoom → Type 0
+IsRoomKept holders slots lanes replies room =
+    (room.spares.items ≡ []) ⊎ (AreSparesOf holders slots room.spares.items × HasBusyAmong lanes replies (spare_lanes room.spares.items))
+
+-- the roles of a turn: these lanes, in their order, and a pager
+abbrev pub turn_roles : List ℕ → List Role
+turn_roles busy = map (λ (lane : ℕ). Lane lane) busy ++ Pager 0 ∷ []
 
 -- what a lane takes into a turn: the words of its domains' root slots, its chunk, its write buffer, its births and its replies
 pub record TakesAlong (h : HeapView) (holders serials : List ℕ) (lanes : List (List Op)) (before : List (List Reply)) (lane : ℕ) (turn : LaneTurn) : Type 0 where
@@ -152,6 +169,15 @@ pub record CanRun (pins : Pins) (lanes : List (List Op)) (run : Run) : Type 0 wh
 pub record LaneHasRun (lanes : List (List Op)) (old new : Run) : Type 0 where
   pub why : Stop
   pub ran : RanLane (lane_ops lanes old.turn.part.lane) old.turn old.seat new.turn new.seat why
+
+-- so have all of a list
+pub record HaveRun (lanes : List (List Op)) (old new : List Run) : Type 0 where
+  pub long : length new ≡ length old
+  pub each : (i : ℕ) → (d : Run) → i < length old → LaneHasRun lanes (slice_index_or old i d) (slice_index_or new i d)
+
+-- each of a list of lanes can run
+abbrev pub CanAllRun : Pins → List (List Op) → List Run → Type 0
+CanAllRun pins lanes runs = (i : ℕ) → (d : Run) → i < length runs → CanRun pins lanes (slice_index_or runs i d)
 
 -- there is room for all replies of the lane
 abbrev pub HasRoomForLane : List (List Op) → LaneTurn → Type 0

@@ -36,7 +36,7 @@ pub(crate) fn begin_all(
     ensures taken { (holders : List ℕ) → AreSparesOf holders heap.old.roots.slots spares.old.items
         → AreTaken (heap_view heap.old) holders serials.now (lists_of lanes.now) replies.old (spare_lanes spares.old.items) seats.old.items (heap_view heap.new) replies.new runs.new.items }
     ensures same { heap.new ≡ record heap.old { chunks = heap.new.chunks; buffers = heap.new.buffers } }
-    ensures spares { spares.new.items ≡ [] }
+    ensures spares { (spares.new.items ≡ []) × (vec_capacity spares.new ≡ vec_capacity spares.old) }
     ensures seats { (seats.new.items ≡ []) × (vec_capacity seats.new ≡ vec_capacity seats.old) }
 {
     while let Some(seat) = seats.pop() {

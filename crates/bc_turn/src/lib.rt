@@ -26,9 +26,11 @@
 mod beginning;
 mod ending;
 mod laws;
+mod paging;
 mod rooms;
 mod runs;
 mod turns;
 
 pub use laws::law_back;
+pub use rooms::TurnRoom;
 pub use turns::take_turn;

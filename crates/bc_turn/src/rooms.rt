@@ -1,11 +1,11 @@
 //! The memory of a turn, which is taken before anything is done: room for what each lane takes with it, and what stands in its
 //! places of the heap meanwhile.
 
-ghost use Rattle.std.specs.Prelude.{◌≡◌, ◌<◌, ◌≤◌, length, map, IfOk};
+ghost use Rattle.std.specs.Prelude.{◌≡◌, ◌<◌, ◌≤◌, [], length, nat_lt, slice_index_or, IfOk, OnOk, OnErr};
+ghost use Rattle.std.specs.List.{filter};
 ghost use Rattle.bc_model.specs.Rows.{lists_of};
-ghost use Rattle.bc_pins.specs.declared.key.Role.TheVariants.{Lane};
-ghost use Rattle.bc_turn.specs.Begun.{AreBusyLanes};
-ghost use Rattle.bc_turn.specs.Taking.{AreHeldDomains, AreSparesOf, IsSpareOf, spare_lanes};
+ghost use Rattle.bc_turn.specs.Begun.{AreBusyLanes, lane_ops, lane_replies};
+ghost use Rattle.bc_turn.specs.Taking.{AreHeldDomains, AreSparesOf, IsRoomKept, IsSpareOf, spare_lanes, turn_roles};
 
 use bc_lane::{LaneRoom, LaneRoots};
 use bc_model::{Op, Reply};
@@ -27,9 +27,78 @@ pub(crate) struct Spare {
     pub(crate) replies: Vec<Reply>,
 }
 
+/// Room that turns take for their lanes, kept from one turn to the next: for the lanes of a phase, whose operations don't change.
+#[derive(Drop)]
+pub struct TurnRoom {
+    /// In the order of the lanes.
+    pub(crate) spares: Vec<Spare>,
+}
+
+impl TurnRoom {
+    ghost use Rattle.std.specs.Prelude.{◌≡◌, []};
+
+    /// No room is taken yet.
+    pub fn new(alloc: Global) -> TurnRoom
+        ensures none { result.spares.items ≡ [] }
+    {
+        TurnRoom {
+            spares: Vec::new(alloc),
+        }
+    }
+}
+
+/// Has room ready for each lane that has operations left, and for no other. What was kept for it is there already: memory is taken only
+/// where nothing was.
+pub(crate) fn fit_room(
+    alloc: Global,
+    room: &mut TurnRoom,
+    holders: &[u32],
+    slots: u32,
+    lanes: &[Vec<Op>],
+    replies: &[Vec<Reply>],
+) -> Result<(), AllocError>
+    requires sizes { (length replies.now ≡ length lanes.now) × (length lanes.now ≤ 16) }
+    requires few { (length holders.now ≤ 64) × (slots ≤ 256) }
+    requires kept { IsRoomKept holders.now slots (lists_of lanes.now) (lists_of replies.now) room.old }
+    ensures busy { OnOk result (AreBusyLanes (lists_of lanes.now) (lists_of replies.now) (spare_lanes room.new.spares.items)) }
+    ensures spares { OnOk result (AreSparesOf holders.now slots room.new.spares.items) }
+    ensures refused { OnErr result (room.new ≡ room.old) }
+{
+    if room.spares.is_empty() {
+        room.spares = take_spares(alloc, holders, slots, lanes, replies)?;
+    } else {
+        drop_idle(&mut room.spares, lanes, replies);
+    }
+    Ok(())
+}
+
+/// Drops the room of lanes that have no operations left.
+fn drop_idle(spares: &mut Vec<Spare>, lanes: &[Vec<Op>], replies: &[Vec<Reply>])
+    ensures kept { spares.new.items ≡ filter (λ (spare : Spare). nat_lt (length (lane_replies (lists_of replies.now) spare.lane)) (length (lane_ops (lists_of lanes.now) spare.lane))) spares.old.items }
+{
+    spares.retain(|spare| has_left(lanes, replies, spare.lane));
+}
+
+/// Has the lane operations left?
+fn has_left(lanes: &[Vec<Op>], replies: &[Vec<Reply>], lane: u32) -> bool
+    ensures { result ≡ nat_lt (length (lane_replies (lists_of replies.now) lane)) (length (lane_ops (lists_of lanes.now) lane)) }
+{
+    count_of(replies, lane) < count_of(lanes, lane)
+}
+
+/// How long the list of that number is; one past the last has nothing.
+fn count_of<T>(lists: &[Vec<T>], number: u32) -> usize
+    ensures { result ≡ length (slice_index_or (lists_of lists.now) number []) }
+{
+    match lists.get(number as usize) {
+        Some(list) => list.len(),
+        None => 0,
+    }
+}
+
 /// Room for the turn of each lane that has operations left, in the order of the lanes. `slots` is the number of root slots of a
 /// domain.
-pub(crate) fn take_spares(
+fn take_spares(
     alloc: Global,
     holders: &[u32],
     slots: u32,
@@ -86,13 +155,14 @@ fn held_domains(alloc: Global, lane: u32, holders: &[u32]) -> Result<Vec<u32>, A
     Ok(domains)
 }
 
-/// The roles of the lanes that have room for a turn, in their order.
+/// The roles of a turn: the lanes that have room for it, in their order, and a pager.
 pub(crate) fn roles_of(alloc: Global, spares: &[Spare]) -> Result<Vec<Role>, AllocError>
-    ensures roles { IfOk result (λ roles. roles.items ≡ map Lane (spare_lanes spares.now)) }
+    ensures roles { IfOk result (λ roles. roles.items ≡ turn_roles (spare_lanes spares.now)) }
 {
-    let mut roles = Vec::with_capacity(alloc, spares.len())?;
+    let mut roles = Vec::with_capacity(alloc, spares.len() + 1)?;
     for spare in spares {
         roles.push_reserved(Role::Lane(spare.lane));
     }
+    roles.push_reserved(Role::Pager(0));
     Ok(roles)
 }

@@ -1,6 +1,7 @@
-//! Lanes at work, each on a thread of its own.
+//! Lanes at work, each on a thread of its own, and a pager beside them.
 
-ghost use Rattle.std.specs.Prelude.{◌≡◌, ℕ, ◌<◌, length, None, slice_index_or};
+ghost use Rattle.std.specs.Prelude.{◌<◌, length, None};
+ghost use Rattle.std.specs.Thread.{IsSync};
 ghost use Rattle.std.specs.List.{AllByRecursion};
 ghost use Rattle.bc_lane.specs.declared.stops.Stop.{Stop};
 ghost use Rattle.bc_lane.specs.Turns.{IsGoing, IsWhole};
@@ -8,9 +9,11 @@ ghost use Rattle.bc_model.specs.Rows.{lists_of};
 ghost use Rattle.bc_mutator.specs.Operations.{IsOpOf};
 ghost use Rattle.bc_pins.specs.Calls.{view_of};
 ghost use Rattle.bc_turn.specs.Begun.{RanLane, lane_ops};
-ghost use Rattle.bc_turn.specs.Taking.{CanRun, LaneHasRun};
+ghost use Rattle.bc_turn.specs.Paging.{HasPaged, IsPagerReady};
+ghost use Rattle.bc_turn.specs.Taking.{CanAllRun, CanRun, HaveRun, LaneHasRun};
 ghost use Rattle.bc_whole_heap.specs.Heaps.{HeapView, end_of};
 
+use crate::paging::{Paging, serve_all};
 use bc_gates::Gate;
 use bc_lane::LaneTurn;
 use bc_model::Op;
@@ -24,8 +27,42 @@ pub(crate) struct Run {
     pub(crate) turn: LaneTurn,
 }
 
+/// Runs all lanes side by side, and the pager beside them. Where there is no notice (`asked` is false) the pager has no thread of its own.
+pub(crate) fn run_beside<R: Threads + Sync, G: Gate + Sync>(
+    rt: &R,
+    pins: &Pins,
+    lanes: &[Vec<Op>],
+    gate: &G,
+    runs: &mut Vec<Run>,
+    paging: &mut Paging,
+    asked: bool,
+)
+    requires some { 0 < length runs.old.items }
+    requires can { CanAllRun pins.now (lists_of lanes.now) runs.old.items }
+    requires ready { IsPagerReady pins.now paging.old }
+    ensures ran { HaveRun (lists_of lanes.now) runs.old.items runs.new.items }
+    ensures paged { HasPaged pins.now paging.old paging.new }
+{
+    if !asked {
+        serve_all(pins, gate, paging);
+        run_all(rt, pins, lanes, gate, runs);
+        return;
+    }
+    thread::join_mut(
+        rt,
+        &mut ||
+            requires { IsPagerReady pins.now paging.now }
+            ensures { HasPaged pins.entry.now paging.entry.now paging.exit.now }
+        { serve_all(pins, gate, paging) },
+        &mut ||
+            requires { IsSync R.row × (0 < length runs.now.items) × CanAllRun pins.now (lists_of lanes.now) runs.now.items }
+            ensures { HaveRun (lists_of lanes.entry.now) runs.entry.now.items runs.exit.now.items }
+        { run_all(rt, pins, lanes, gate, runs) },
+    );
+}
+
 /// Runs all lanes side by side. A lane that is alone runs on the caller's thread.
-pub(crate) fn run_all<R: Threads + Sync, G: Gate + Sync>(
+fn run_all<R: Threads + Sync, G: Gate + Sync>(
     rt: &R,
     pins: &Pins,
     lanes: &[Vec<Op>],
@@ -33,10 +70,8 @@ pub(crate) fn run_all<R: Threads + Sync, G: Gate + Sync>(
     runs: &mut Vec<Run>,
 )
     requires some { 0 < length runs.old.items }
-    requires can { (i : ℕ) → (d : Run) → i < length runs.old.items → CanRun pins.now (lists_of lanes.now) (slice_index_or runs.old.items i d) }
-    ensures ran { (i : ℕ) → (d : Run) → i < length runs.old.items
-        → LaneHasRun (lists_of lanes.now) (slice_index_or runs.old.items i d) (slice_index_or runs.new.items i d) }
-    ensures long { length runs.new.items ≡ length runs.old.items }
+    requires can { CanAllRun pins.now (lists_of lanes.now) runs.old.items }
+    ensures ran { HaveRun (lists_of lanes.now) runs.old.items runs.new.items }
 {
     let count = runs.len();
     thread::for_each_mut(

@@ -22,6 +22,7 @@ loop-seat-init c = record {
   same = refl;
   room = refl;
   capacity = refl;
+  spare_capacity = refl;
 }
 
 lanes-long : {X : Type 0} (vs : List (Vec X Global)) → length (lists_of vs) ≡ length vs
@@ -92,6 +93,7 @@ loop-seat-preserved c = record {
   same = c.begin_lane.ensures.same ∙ ap (λ (h : Heap). record h { chunks = c.begin_lane.new.heap.chunks; buffers = c.begin_lane.new.heap.buffers }) c.loop-seat.invariant.same;
   room = c.push_reserved.ensures.capacity ∙ c.loop-seat.invariant.room;
   capacity = c.pop.ensures.capacity ∙ c.loop-seat.invariant.capacity;
+  spare_capacity = c.pop-in-Some.ensures.capacity ∙ c.loop-seat.invariant.spare_capacity;
 }
 
 pub unreachable-requires : goal.unreachable-requires
@@ -126,8 +128,10 @@ pub returns-clause-spares : goal.returns-clause-spares
 returns-clause-spares c =
     let none = c.in_default.ensures.cases.0 in
     let long = c.loop-seat.seats.ok.0 in
-    let even = (c.loop-seat.invariant.lending c.requires.spares.0 c.requires.spares.2).even in
-    no-items c.loop-seat.spares.items (omega arith)
+    let even = (c.loop-seat.invariant.lending c.requires.spares.0 c.requires.spares.2).even in (
+      no-items c.loop-seat.spares.items (omega arith),
+      c.loop-seat.invariant.spare_capacity,
+    )
 
 pub returns-clause-seats : goal.returns-clause-seats
 returns-clause-seats c =

@@ -12,6 +12,7 @@ invariant-loop-seat l = record {
   same : l.heap ≡ record l.fn.heap { chunks = l.heap.chunks; buffers = l.heap.buffers };
   room : vec_capacity l.runs ≡ vec_capacity l.fn.runs;
   capacity : vec_capacity l.seats ≡ vec_capacity l.fn.seats;
+  spare_capacity : vec_capacity l.spares ≡ vec_capacity l.fn.spares;
 }
 
 abbrev pub decreases-loop-seat : goal.decreases-loop-seat

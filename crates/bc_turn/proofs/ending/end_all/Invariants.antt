@@ -5,6 +5,7 @@ use Rattle.bc_model.specs.declared.operations.Op.{Op}
 use Rattle.bc_turn.specs.declared.runs.Run.{Run}
 use Rattle.bc_turn.specs.Taking.{AreRunsOf, HasReplyRoom, HasRoomForLane, running_lanes}
 use Rattle.bc_turn.proofs.EndingLemmas.{Ending, Gathering}
+use Rattle.bc_turn.proofs.RoomLemmas.{AreReturned}
 use Rattle.bc_turn.proofs.ending.end_all.Given as goal
 
 abbrev pub invariant-loop-run : goal.invariant-loop-run
@@ -16,6 +17,9 @@ invariant-loop-run l = record {
       → ((i : ℕ) → (d : Run) → i < length l.fn.runs.items → HasRoomForLane lanes (get_or l.fn.runs.items i d).turn) → HasReplyRoom lanes l.replies (running_lanes l.runs.items);
   same : l.heap ≡ record l.fn.heap { roots = l.heap.roots; chunks = l.heap.chunks; buffers = l.heap.buffers };
   capacity : vec_capacity l.seats ≡ vec_capacity l.fn.seats;
+  returned : (holders busy : List ℕ) → AreRunsOf holders busy (heap_view l.fn.heap) l.fn.runs.items → AreReturned holders l.fn.heap.roots.slots busy l.spares.items;
+  even : length l.spares.items ≡ length l.seats.items;
+  spare_capacity : vec_capacity l.spares ≡ vec_capacity l.fn.spares;
 }
 
 abbrev pub decreases-loop-run : goal.decreases-loop-run

@@ -29,24 +29,23 @@ for_each_mut-requires-clause-accepts g c κs within i p lt e =
     let at : p.now ≡ get_or c.args.runs.now.items i p.now = e ∙ ap (λ (xs : List Run). get_or xs i p.now) value in
     subst (CanRun c.args.pins.now (lists_of c.args.lanes.now)) (sym at) (c.requires.can i p.now (omega arith))
 
-pub returns-clause-long : goal.returns-clause-long
-returns-clause-long g c =
-    let value = ap length c.as_mut_slice.ensures.value in
-    let same = c.for_each_mut.auto.s in
-    let len = c.args.runs.now.ok.0 in
-    ap length (written-back c.args.runs.now.items c.for_each_mut.new.s c.args.runs.now.len (omega arith) (omega arith)) ∙ same ∙ value
-
-pub returns-clause-ran : goal.returns-clause-ran
-returns-clause-ran g c i d lt =
+pub returns : goal.returns
+returns g c =
     let value = c.as_mut_slice.ensures.value in
     let long = ap length value in
     let same = c.for_each_mut.auto.s in
     let len = c.args.runs.now.ok.0 in
     let back = written-back c.args.runs.now.items c.for_each_mut.new.s c.args.runs.now.len (omega arith) (omega arith) in
-    let ran = (c.for_each_mut.ensures i d (omega arith)).1 in
-    let call : LaneHasRun (lists_of c.args.lanes.now) ran.argument.now ran.after_call.now = ran.call in
-    let first : ran.argument.now ≡ get_or c.args.runs.now.items i d = ran.argument_is ∙ ap (λ (xs : List Run). get_or xs i d) value in
-    let last : ran.after_call.now ≡ get_or c.for_each_mut.new.s i d = ran.left in
-    subst (λ (xs : List Run). LaneHasRun (lists_of c.args.lanes.now) (get_or c.args.runs.now.items i d) (get_or xs i d)) (sym back)
-    (subst (λ (r : Run). LaneHasRun (lists_of c.args.lanes.now) r (get_or c.for_each_mut.new.s i d)) first
-    (subst (λ (r : Run). LaneHasRun (lists_of c.args.lanes.now) ran.argument.now r) last call))
+    record {
+      ran = record {
+        long = ap length back ∙ same ∙ long;
+        each = λ i d lt.
+            let ran = (c.for_each_mut.ensures i d (omega arith)).1 in
+            let call : LaneHasRun (lists_of c.args.lanes.now) ran.argument.now ran.after_call.now = ran.call in
+            let first : ran.argument.now ≡ get_or c.args.runs.now.items i d = ran.argument_is ∙ ap (λ (xs : List Run). get_or xs i d) value in
+            let last : ran.after_call.now ≡ get_or c.for_each_mut.new.s i d = ran.left in
+            subst (λ (xs : List Run). LaneHasRun (lists_of c.args.lanes.now) (get_or c.args.runs.now.items i d) (get_or xs i d)) (sym back)
+            (subst (λ (r : Run). LaneHasRun (lists_of c.args.lanes.now) r (get_or c.for_each_mut.new.s i d)) first
+            (subst (λ (r : Run). LaneHasRun (lists_of c.args.lanes.now) ran.argument.now r) last call));
+      };
+    }

@@ -1,0 +1,101 @@
+-- A pager alone at a table: no lane has operations left.
+use Rattle.std.proofs.Common.{◌≡◌, ℕ, ◌+◌, ◌<◌, ◌≤◌, List, [], ◌∷◌, ◌++◌, length, get_or, inl, inr, refl, ap, sym, subst, ◌∙◌, arith}
+use Rattle.std.proofs.lemmas.Bool.{cases_lt}
+use Rattle.std.proofs.lemmas.List.{get_or_push}
+use Rattle.bc_pager.specs.Answering.{AreAnswered}
+use Rattle.bc_pager.specs.declared.answers.Answer.{Answer}
+use Rattle.bc_pins.specs.Calls.{key_of, view_of}
+use Rattle.bc_pins.specs.Closing.{AreBack, Closed, IsBack, seen_by}
+use Rattle.bc_pins.specs.Key.{role_number}
+use Rattle.bc_pins.specs.Opened.{Opened}
+use Rattle.bc_pins.specs.Opening.{IsOpenable}
+use Rattle.bc_pins.specs.Seating.{IsDealt}
+use Rattle.bc_pins.specs.Steps.{fresh}
+use Rattle.bc_pins.specs.Totals.{times}
+use Rattle.bc_pins.specs.Views.{has_role}
+use Rattle.bc_pins.specs.declared.key.Role.TheVariants.{Pager}
+use Rattle.bc_pins.specs.declared.key.Turn.TheVariants.{Lanes}
+use Rattle.bc_pins.specs.declared.pins.Pins.{Pins}
+use Rattle.bc_pins.specs.declared.pins.Seat.{Seat}
+use Rattle.bc_reach.specs.Distinct.{Has}
+use Rattle.bc_superpages.specs.Kept.{IsLayout}
+use Rattle.bc_superpages.specs.Layout.{Layout}
+use Rattle.bc_turn.specs.declared.paging.Paging.{Paging}
+use Rattle.bc_turn.specs.Answered.{AnsweredBeside}
+use Rattle.bc_turn.specs.Beside.{LiesBack}
+use Rattle.bc_turn.specs.Paging.{HasPaged, IsPagerReady}
+use Rattle.bc_turn.specs.Taking.{turn_roles}
+use Rattle.bc_turn.proofs.AnsweredLemmas.{ArePagers, answered}
+use Rattle.bc_turn.proofs.BegunLemmas.{IsPagerBack, paged-back}
+use Rattle.bc_turn.proofs.BesideLemmas.{turn-table}
+use Rattle.bc_turn.proofs.PassLemmas.{passes-none}
+use Rattle.bc_turn.proofs.TableLemmas.{AreSeatsBack, IsTurnTable, lies-back}
+use Rattle.bc_turn.proofs.TakingLemmas.{length-push, no-items}
+use Rattle.bc_whole_heap.specs.Heaps.{HeapView}
+
+-- a space that was neither opened nor changed lies as it did
+pub lies-still : (s : Layout) → IsOpenable s → LiesBack s s
+lies-still s openable = record { same = refl; remembered = λ p is. is; summarised = openable.summarised }
+
+-- the only seat is the pager's
+module _ (pins : Pins) (h : HeapView) (hs : List ℕ) (seats : List Seat) (pager : Seat) (opened : Opened h.space Lanes hs (turn_roles []) pins (seats ++ pager ∷ [])) where
+  none-else : seats ≡ []
+  none-else = let all = opened.seats_are.long in let long = length-push seats pager in no-items seats (omega arith)
+
+  pub alone-dealt : IsDealt pins.table.shared.table_id (key_of pins) (Pager 0) pager
+  alone-dealt =
+      let zero = ap length none-else in
+      subst (IsDealt pins.table.shared.table_id (key_of pins) (Pager 0)) (get_or_push seats pager pager 0 (omega arith)) (opened.seats_are.each 0 (omega arith) pager)
+
+  table : IsTurnTable (key_of pins) h.space hs []
+  table = turn-table h.space hs [] pins (seats ++ pager ∷ []) opened
+
+  module _ (old later : Paging) (seat_is : old.seat ≡ pager) (paged : HasPaged pins old later) where
+    back : IsPagerBack pins later.seat
+    back = paged-back pins old later (subst (IsDealt pins.table.shared.table_id (key_of pins) (Pager 0)) (sym seat_is) alone-dealt) paged
+
+    one-back : IsBack pins.table.shared.table_id (key_of pins) later.seat
+    one-back = record { table = back.table; about = back.about; hand = back.free.hand; slots = back.free.slots; rights = back.rights; tidy = later.seat.tidy }
+
+    abbrev all : List Seat
+    all = seats ++ later.seat ∷ []
+
+    only : all ≡ later.seat ∷ []
+    only = ap (λ (ss : List Seat). ss ++ later.seat ∷ []) none-else
+
+    -- the table may be closed
+    pub alone-back : AreBack pins.table.shared.table_id (key_of pins) all
+    alone-back = subst (AreBack pins.table.shared.table_id (key_of pins)) (sym only) (record {
+      some = omega arith;
+      each = λ i lt d.
+          let first : i ≡ 0 = omega arith in
+          subst (λ (n : ℕ). IsBack pins.table.shared.table_id (key_of pins) (get_or (later.seat ∷ []) n d)) (sym first) one-back;
+      roles = λ r. let one = ap (times r) back.roles in let given = ap (times r) table.roles in omega arith;
+    })
+
+    module _ (t : Layout) (closed : Closed (key_of pins) all t) (before : IsLayout h.space) (given : IsLayout t) where
+      seats-back : AreSeatsBack (key_of pins) hs [] h (λ i. pager) all
+      seats-back = record {
+        long = ap length only;
+        same = λ i lt. absurd (omega arith);
+        about = λ i lt. absurd (omega arith);
+        roles = λ i lt. absurd (omega arith);
+        behind = λ i lt. absurd (omega arith);
+        shows = λ i lt. absurd (omega arith);
+      }
+
+      pub alone-lies : IsOpenable h.space → LiesBack h.space t
+      alone-lies openable = lies-back (key_of pins) h h hs [] (λ i. pager) all t table seats-back (passes-none hs (Has []) h) closed given before openable
+
+      pagers : ArePagers all paged.told
+      pagers = subst (λ (ss : List Seat). ArePagers ss paged.told) (sym only) (record {
+        fetched = λ p. let one = ap (times p) back.fetched in omega arith;
+        left = λ p. let one = paged.left p in omega arith;
+        emptied = λ p. let one = paged.emptied p in omega arith;
+      })
+
+      pub alone-answered : (hints : List ℕ) (kept told : List Answer) → old.notices.hints ≡ hints → old.answers.list ≡ kept → told ≡ later.answers.list → AnsweredBeside h.space hints kept told t
+      alone-answered hints kept told hints_are kept_are all_are =
+          answered (key_of pins) h.space t all hints kept told paged.told (view_of later.seat) opened.opening closed before given pagers
+          (all_are ∙ paged.kept ∙ ap (λ (list_before : List Answer). list_before ++ paged.told) kept_are)
+          (subst (λ (xs : List ℕ). AreAnswered (key_of pins) xs paged.told (fresh (key_of pins) (role_number (Pager 0) ∷ [])) (view_of later.seat)) hints_are paged.each)
