@@ -1,26 +1,40 @@
-// A turn of the lanes: those that have operations left run side by side over a table, and the heap is then what it would be had they
-// run one after another.
+// A turn of the lanes: those that have operations left run side by side over a table, and a pager beside them answers the turn's
+// notices. The heap is then what it would be had the lanes run one after another, but for pages that moved.
 //
 // Between turns a heap lies in one value. For a turn it is taken apart: the space becomes a table (`bc_pins`), at which each lane that
-// runs has a seat, and each of these lanes takes what is its own out of the heap (`bc_lane`): the words of its domains' root slots, its
-// chunk, its write buffer, the number of its births and its replies so far. Then they run, each on a thread of its own but for one,
-// which runs on the caller's; a lane that is alone starts no thread. Each runs until it is at its end or its next operation can't be
-// done in this turn: its chunk or its write buffer has no room, or the operation looks at an object whose page is gone or in other
-// hands. When all have stopped each lays back what it took, the table is closed, and the heap is one value again.
+// runs has a seat and a pager has the last one, and each of these lanes takes what is its own out of the heap (`bc_lane`): the words of
+// its domains' root slots, its chunk, its write buffer, the number of its births and its replies so far. Then they work, on threads that
+// the call joins (`run_beside`). A lane runs until it is at its end or its next operation can't be done in this turn: its chunk or its
+// write buffer has no room, or the operation looks at an object whose page is gone or in other hands. When all are through each lane
+// lays back what it took, the table is closed, and the heap is one value again.
 //
-// What takes memory comes first (`rooms`, `open_table`): room for what each lane takes along, a chunk and a write buffer without
-// words that stand in the heap's places meanwhile, the lists of roles, seats and runs, the table. Where there is none the space is
-// given back and nothing has changed. From then on nothing takes memory, so what has left the heap always comes back
-// (`begin_all`, `run_all`, `end_all`, none of which has an allocator). A slot whose word is as it was isn't written back, since a slot
-// that is written is noted.
+// The pager (`bc_pager`) takes the notices with the turn's hints, in order, and gives up a page for each, or declines it. Who comes first
+// has a page, and nobody waits: a lane that has it in hand keeps it, and the pager goes on to another; a page that the pager got first is
+// in other hands and then gone, and a lane that looks there stops. A pager has its seat in every turn. Where no notice came it
+// is through before the lanes begin, and starts no thread; then a lane that is alone starts none either. Where notices came and no lane
+// has operations left, the pager is alone at a table. Where there is neither, nothing is done.
+//
+// Each notice has one answer (`AnsweredBeside`): by what the pager did and read, behind the answers that the caller's list had. Lanes
+// make no page Gone or Absent, so the pages that are so at the close and weren't before are those that the answers name.
+//
+// What takes memory comes first: room for what each lane takes along (`fit_room`), with a chunk, a write buffer and a list of replies
+// without words that stand in the heap's places meanwhile; the roles, the notices and the list of runs; and the table (`open_table`).
+// Where there is none the space is given back, and nothing has changed but the room that is kept. The list of answers has its room from
+// the caller. From then on nothing takes memory, so what has left the heap always comes back (`begin_all`, `run_beside` and `end_all`
+// have no allocator). A slot whose word is as it was isn't written back, since a slot that is written is noted.
+//
+// Room is kept from turn to turn (`TurnRoom`), for the lanes of a phase, whose operations don't change. At the end of a turn a lane's
+// room comes back with what stood in the heap's places, in the order of the lanes. The next turn drops that of lanes that are through
+// by then, and takes no memory for the others. Roles, notices, runs and the table are made anew.
 //
 // What holds meanwhile, of each lane that runs: what it has belongs to the heap that was, before it runs, and after it to that heap with
 // its operations done; and what another lane does changes nothing of what belongs to it. So the lanes may be put one behind another,
 // in the order of their numbers: lane j finds the heap `at j` and leaves the heap `at (j + 1)`, though no heap was ever like that, and
-// the heap after the turn is the last of them, but for pages that moved (`RanBeside`, `IsLaidBack`).
+// the heap after the turn is the last of them, but for pages that moved (`RanBeside`, `IsLaidBack`). A pager changes where pages lie, and
+// nothing of what they hold, so none of that speaks of it.
 //
-// The theorem is the contract of `take_turn`, clause `ran`. That lanes can run on the heap afterwards, and that it stands for what the
-// last of those heaps stands for, is `law_back`.
+// The theorem is the contract of `take_turn`: clause `ran` tells of the lanes, clause `answered` of the notices. That lanes can run on the
+// heap afterwards, and that it stands for what the last of those heaps stands for, is `law_back`.
 #![tactic(auto)]
 
 mod beginning;
