@@ -1,5 +1,5 @@
 -- What an operation that is done or stops means to the lanes.
-use Rattle.std.proofs.Common.{◌≡◌, ◌⊎◌, ℕ, ◌*◌, ◌<◌, ◌≤◌, List, [], length, get_or, None, Result, Ok, Err, refl, sym, ap, subst, ◌∙◌, arith, get_or-set_other, length-set, inl, inr}
+use Rattle.std.proofs.Common.{◌≡◌, ◌⊎◌, ℕ, ◌*◌, ◌<◌, ◌≤◌, List, [], length, get_or, Result, Ok, Err, refl, sym, ap, subst, ◌∙◌, arith, get_or-set_other, length-set, inl, inr}
 use Rattle.std.specs.Result.{IfOk, OnErr}
 use Rattle.std.specs.Prelude.{IsErrOf}
 use Rattle.bc_classes.proofs.ClassLemmas.{class_of-class}
@@ -28,7 +28,6 @@ use Rattle.bc_nursery.specs.Objects.{left_of, words_of}
 use Rattle.bc_nursery.specs.Nurseries.{Nursery}
 use Rattle.bc_superpages.specs.Layout.{Layout, superpages}
 use Rattle.bc_superpages.specs.RootWords.{RootWords}
-use Rattle.bc_engine.specs.Engines.{EngineView}
 use Rattle.bc_engine.specs.EngineFacts.{CanRunLanes, IsUnrecorded}
 use Rattle.bc_engine.specs.Lanes.{Does, Stops}
 use Rattle.bc_engine.proofs.Sizes.{fits-moved, fits-step, op-of_state}

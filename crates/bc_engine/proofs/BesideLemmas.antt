@@ -178,7 +178,7 @@ runs-made {lanes} {r} {q} {told} {answers} goes ready long room births held = re
 }
 
 -- the lanes of a turn ran side by side
-pub record RanTogether (lanes : List (List Op)) (r : RunningView) (before : List (Vec Reply Global)) (q : RunningView) (after : List (Vec Reply Global)) : Type 0 where
+pub record RanAbreast (lanes : List (List Op)) (r : RunningView) (before : List (Vec Reply Global)) (q : RunningView) (after : List (Vec Reply Global)) : Type 0 where
   pub ran : RanBeside r.holders lanes r.heap r.serials (lists_of before) q.heap q.serials (lists_of after)
   pub held : q.holders ≡ r.holders
   pub roomy : HasAllReplyRoom lanes before
@@ -187,7 +187,7 @@ pub record RanTogether (lanes : List (List Op)) (r : RunningView) (before : List
   pub long : length before ≡ length lanes
 
 -- as if the first n lanes had run: the heap, and the replies
-abbrev run_to : {lanes : List (List Op)} {r q : RunningView} {before after : List (Vec Reply Global)} → RanTogether lanes r before q after → ℕ → RunningView
+abbrev run_to : {lanes : List (List Op)} {r q : RunningView} {before after : List (Vec Reply Global)} → RanAbreast lanes r before q after → ℕ → RunningView
 run_to {lanes} {r} {q} b n = running_of (b.ran.at n) r.holders (with_first n q.serials r.serials)
 
 abbrev told_to : List (Vec Reply Global) → List (Vec Reply Global) → ℕ → List (Vec Reply Global)
@@ -197,11 +197,11 @@ lists-to : (before after : List (Vec Reply Global)) (n : ℕ) → lists_of (told
 lists-to before after n = with_first-map (λ (v : Vec Reply Global). v.items) n after before
 
 -- as many lists of replies, and each has room
-long-of : {lanes : List (List Op)} {r q : RunningView} {before after : List (Vec Reply Global)} → RanTogether lanes r before q after → length after ≡ length before
+long-of : {lanes : List (List Op)} {r q : RunningView} {before after : List (Vec Reply Global)} → RanAbreast lanes r before q after → length after ≡ length before
 long-of {lanes} {r} {q} {before} {after} b =
     sym (length-map after (λ (v : Vec Reply Global). v.items)) ∙ b.ran.long.1 ∙ length-map before (λ (v : Vec Reply Global). v.items)
 
-room-to : {lanes : List (List Op)} {r q : RunningView} {before after : List (Vec Reply Global)} → RanTogether lanes r before q after → (n : ℕ) → HasAllReplyRoom lanes (told_to before after n)
+room-to : {lanes : List (List Op)} {r q : RunningView} {before after : List (Vec Reply Global)} → RanAbreast lanes r before q after → (n : ℕ) → HasAllReplyRoom lanes (told_to before after n)
 room-to {lanes} {r} {q} {before} {after} b n j v lt is =
     let within : j < length before = omega (arith, lt, with_first-long n after before) in
     elim (cases_lt j n) [
@@ -237,7 +237,7 @@ births-to {hs} {lanes} {h} {k} {serials} {nexts} {told} {answers} ran n lt each 
 ]
 
 -- its operations are a stretch of the phase
-lane-ran : {lanes : List (List Op)} {r q : RunningView} {before after : List (Vec Reply Global)} (b : RanTogether lanes r before q after) (n : ℕ) → n < length lanes → LanesRan lanes (run_to b n) (told_to before after n) (run_to b (suc n)) (told_to before after (suc n))
+lane-ran : {lanes : List (List Op)} {r q : RunningView} {before after : List (Vec Reply Global)} (b : RanAbreast lanes r before q after) (n : ℕ) → n < length lanes → LanesRan lanes (run_to b n) (told_to before after n) (run_to b (suc n)) (told_to before after (suc n))
 lane-ran {lanes} {r} {q} {before} {after} b n lt =
     let ran = b.ran in
     let hs = r.holders in
@@ -270,12 +270,12 @@ lane-ran {lanes} {r} {q} {before} {after} b n lt =
     refl
 
 -- so are those of the first n lanes
-first-ran : {lanes : List (List Op)} {r q : RunningView} {before after : List (Vec Reply Global)} (b : RanTogether lanes r before q after) (n : ℕ) → n ≤ length lanes → LanesRan lanes r before (run_to b n) (told_to before after n)
+first-ran : {lanes : List (List Op)} {r q : RunningView} {before after : List (Vec Reply Global)} (b : RanAbreast lanes r before q after) (n : ℕ) → n ≤ length lanes → LanesRan lanes r before (run_to b n) (told_to before after n)
 first-ran {lanes} {r} {q} {before} {after} b zero le = runs-same lanes r (run_to b 0) before (ap (λ (h : HeapView). running_of h r.holders r.serials) b.ran.first)
 first-ran b (suc n) le = runs-then (first-ran b n (omega arith)) (lane-ran b n (omega arith))
 
 -- then pages and notes of root slots go back to where they belong
-last-ran : {lanes : List (List Op)} {r q : RunningView} {before after : List (Vec Reply Global)} (b : RanTogether lanes r before q after) (n : ℕ) → n ≡ length lanes → LanesRan lanes (run_to b n) (told_to before after n) q after
+last-ran : {lanes : List (List Op)} {r q : RunningView} {before after : List (Vec Reply Global)} (b : RanAbreast lanes r before q after) (n : ℕ) → n ≡ length lanes → LanesRan lanes (run_to b n) (told_to before after n) q after
 last-ran {lanes} {r} {q} {before} {after} b n all =
     let hs = r.holders in
     let serials = with_first n q.serials r.serials in
@@ -299,19 +299,19 @@ last-ran {lanes} {r} {q} {before} {after} b n all =
     (subst (λ (vs : List (Vec Reply Global)). LanesRan lanes (run_to b n) vs end after) (sym told) runs)
 
 -- and the lanes behind the first n
-later-ran : {lanes : List (List Op)} {r q : RunningView} {before after : List (Vec Reply Global)} (b : RanTogether lanes r before q after) (m n : ℕ) → n + m ≡ length lanes → LanesRan lanes (run_to b n) (told_to before after n) q after
+later-ran : {lanes : List (List Op)} {r q : RunningView} {before after : List (Vec Reply Global)} (b : RanAbreast lanes r before q after) (m n : ℕ) → n + m ≡ length lanes → LanesRan lanes (run_to b n) (told_to before after n) q after
 later-ran b zero n all = last-ran b n (omega arith)
 later-ran b (suc m) n all = runs-then (lane-ran b n (omega arith)) (later-ran b m (suc n) (omega arith))
 
 -- the turn as a whole
-pub together-runs : {lanes : List (List Op)} {r q : RunningView} {before after : List (Vec Reply Global)} → RanTogether lanes r before q after → LanesRan lanes r before q after
+pub together-runs : {lanes : List (List Op)} {r q : RunningView} {before after : List (Vec Reply Global)} → RanAbreast lanes r before q after → LanesRan lanes r before q after
 together-runs {lanes} b = runs-then (first-ran b 0 (omega arith)) (later-ran b (length lanes) 0 (omega arith))
 
 -- cells stay where sizes are kept
 leaves-sizes : (r q : RunningView) → KeepsSizesOf r.heap q.heap → LeavesCells r q
 leaves-sizes r q sizes = record { space = sizes.space; roots = sizes.roots }
 
-pub together-leaves : {lanes : List (List Op)} {r q : RunningView} {before after : List (Vec Reply Global)} → RanTogether lanes r before q after → LeavesCells r q
+pub together-leaves : {lanes : List (List Op)} {r q : RunningView} {before after : List (Vec Reply Global)} → RanAbreast lanes r before q after → LeavesCells r q
 together-leaves {lanes} {r} {q} b = leaves-sizes r q (sizes-beside b.ran)
 
 -- what a lane does leaves the chunk and the write buffer of another one
@@ -352,7 +352,7 @@ sizes-from {hs} {lanes} {h} {k} {serials} {nexts} {told} ran (suc m) n all =
     (sizes-from ran m (suc n) (omega arith))
 
 -- each lane stopped where it left the heap to the next one
-pub together-stopped : {lanes : List (List Op)} {r q : RunningView} {before after : List (Vec Reply Global)} → RanTogether lanes r before q after → EachStopped StopsInTurn lanes r before q after
+pub together-stopped : {lanes : List (List Op)} {r q : RunningView} {before after : List (Vec Reply Global)} → RanAbreast lanes r before q after → EachStopped StopsInTurn lanes r before q after
 together-stopped {lanes} {r} {q} {before} {after} b j lt =
     let one : j + 1 ≡ suc j = omega arith in
     let own = own-from b.ran (length lanes - suc j) (suc j) j (omega arith) (omega arith) in

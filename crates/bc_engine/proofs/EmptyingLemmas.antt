@@ -45,6 +45,9 @@ words-alike cs ds l e =
 pub empty-chunks : {h k : HeapView} → IsEmptied h k → HasEmptyChunks k
 empty-chunks {h} is l = ap (λ (cs : List Nursery). (chunk_of cs l).objects) is.cleared ∙ ap (λ (c : Nursery). c.objects) (chunk-emptied h.chunks l)
 
+pub slots-emptied : {h k : HeapView} → IsEmptied h k → k.roots.slots ≡ h.roots.slots
+slots-emptied is = ap (λ (x : RootWords). x.slots) is.sizes.roots
+
 pub empty-buffers : {h k : HeapView} → IsEmptied h k → IsUnrecorded k
 empty-buffers {h} is = record {
   entries = λ l. ap (λ (bs : List Entries). (buffer_of bs l).entries) is.unrecorded ∙ ap (λ (b : Entries). b.entries) (buffer-emptied h.buffers l);

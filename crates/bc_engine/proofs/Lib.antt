@@ -26,3 +26,5 @@ pub mod RoundLemmas
 pub mod PhaseLemmas
 -- An engine that was opened has made nothing, so each lane has all its births left.
 pub mod Births
+-- There is an answer to each notice.
+pub mod AnswerLemmas

@@ -1,11 +1,12 @@
 -- A phase: what its rounds and gives do to the states that the engine stands for.
-use Rattle.std.proofs.Common.{Vec, Global, vec_capacity, ◌≡◌, ℕ, ◌+◌, ◌<◌, ◌≤◌, List, [], ◌∷◌, ◌++◌, length, take, map, get_or, None, refl, sym, ap, subst, ◌∙◌, inl, inr, arith}
+use Rattle.std.proofs.Common.{Vec, Global, vec_capacity, ◌≡◌, ℕ, ◌+◌, ◌<◌, ◌≤◌, List, [], ◌∷◌, ◌++◌, length, take, map, get_or, None, Result, Ok, Err, refl, sym, ap, subst, ◌∙◌, inl, inr, arith}
 use Prim.Native.Nat.{zero, suc}
 use Rattle.std.proofs.lemmas.Bool.{cases_lt}
 use Rattle.std.proofs.lemmas.List.{get_or_append_left, get_or_push, length-map, length_push}
 use Rattle.std.specs.List.{AllByRecursion}
 use Rattle.bc_whole_heap.specs.LaneChunks.{chunk_of}
 use Rattle.bc_whole_heap.specs.Heaps.{heap_memory, object_in, root_words}
+use Rattle.bc_pager.specs.declared.answers.Answer.{Answer}
 use Rattle.bc_running.specs.Running.{RunningView, RunningStands}
 use Rattle.bc_model.specs.StateSizes.{sizes_of}
 use Rattle.bc_model.specs.Interleaving.{replies_by, ops_by}
@@ -22,10 +23,13 @@ use Rattle.bc_standing.specs.Standing.{StandsFor}
 use Rattle.bc_superpages.specs.Kept.{IsLayout}
 use Rattle.bc_superpages.specs.Layout.{Layout, superpages}
 use Rattle.bc_word.specs.declared.words.Word.{Word}
+use Rattle.bc_engine.specs.Answers.{IfPhaseOutOfHeap}
 use Rattle.bc_engine.specs.Engines.{EngineView, EngineStands, HasEmptyChunks}
-use Rattle.bc_engine.specs.EngineFacts.{with_holders, CanRunLanes, HasRoomForBirths, IsEngine}
+use Rattle.bc_engine.specs.EngineFacts.{with_answers, with_holders, CanRunLanes, HasRoomForBirths, IsEngine}
 use Rattle.bc_engine.specs.Lanes.{of_lane, AreDone, BirthsWithin, LanesWentOn, HasSerialsLeft, HasRoomForOps}
 use Rattle.bc_engine.specs.Phases.{CutPhase, DidPhase}
+use Rattle.bc_engine.specs.declared.phases.PhaseNo.{PhaseNo}
+use Rattle.bc_engine.specs.declared.phases.PhaseNo.TheVariants.{OutOfHeap, NoMemory}
 use Rattle.bc_engine.specs.Rounds.{RoundsWentOn, IsRoomFor, IsThrough, IsTooSmall, IsUnderwayOn}
 use Rattle.bc_model.proofs.NeedFound.{need-found}
 use Rattle.bc_model.proofs.RunStates.{length-cut_lanes}
@@ -189,3 +193,20 @@ underway-lent e p os us vs begun fits long lanes lent =
 pub births-lent : (e f : EngineView) (p : PhaseLists) (os : List (List Op)) (us ws : List (Vec Reply Global)) → os ≡ p.lanes → BirthsWithin os e.running.serials (lists_of us) f.running.serials (lists_of ws) → (j : ℕ) → get_or f.running.serials j 0 ≤ get_or e.running.serials j 0 + length (of_lane p.lanes j)
 births-lent e f p os us ws lanes births j =
     omega (arith, births j, ap (λ (ls : List (List Op)). length (of_lane ls j)) lanes)
+
+-- with the list of answers taken out before, and put back behind
+pub did-answers : {e x f y : EngineView} {p : PhaseLists} {replies : List (List Reply)} (asked answers : List Answer) → x ≡ with_answers e asked → f ≡ with_answers y answers → DidPhase x p y replies → DidPhase e p f replies
+did-answers {e} {x} {f} {y} {p} {replies} asked answers taken kept did =
+    let did = subst (λ (z : EngineView). DidPhase z p y replies) taken did in
+    subst (λ (z : EngineView). DidPhase e p z replies) (sym kept) (record { going = did.going; empty = did.empty; stands = did.stands; need = did.need })
+
+pub cut-answers : {e x f y : EngineView} {p : PhaseLists} (asked answers : List Answer) → x ≡ with_answers e asked → f ≡ with_answers y answers → (replies : List (List Reply)) (need : ℕ) → CutPhase x p y replies need → CutPhase e p f replies need
+cut-answers {e} {x} {f} {y} {p} asked answers taken kept replies need cut =
+    let cut = subst (λ (z : EngineView). CutPhase z p y replies need) taken cut in
+    subst (λ (z : EngineView). CutPhase e p z replies need) (sym kept) (record { cause = cut.cause; stands = cut.stands; above = cut.above })
+
+-- what is told of a phase that ended in its midst
+pub ended-weaker : {T : Type 0} (x : Result T PhaseNo) (P Q : List (List Reply) → ℕ → Type 0) → ((replies : List (List Reply)) (need : ℕ) → P replies need → Q replies need) → IfPhaseOutOfHeap x P → IfPhaseOutOfHeap x Q
+ended-weaker (Ok y) P Q f told = tt
+ended-weaker (Err (OutOfHeap replies need)) P Q f told = f replies need told
+ended-weaker (Err NoMemory) P Q f told = tt

@@ -10,11 +10,14 @@ use Rattle.bc_model.specs.declared.traces.Setup.{Setup}
 use Rattle.bc_model.specs.declared.operations.Op.{Op}
 use Rattle.bc_model.specs.declared.operations.Reply.{Reply}
 use Rattle.bc_superpages.specs.Layout.{superpages}
+use Rattle.bc_engine.specs.Answers.{IfNoRoom, IfTooSmall}
 use Rattle.bc_engine.specs.Engines.{EngineView}
 use Rattle.bc_engine.specs.Lanes.{of_lane, EachFurther, HasMore, IsUnderway, LanesRan, left}
 use Rattle.bc_engine.specs.Rounds.{RoundsWentOn, IsTooSmall, IsUnderwayOn}
 use Rattle.bc_engine.specs.declared.engines.Ended.{Ended}
 use Rattle.bc_engine.specs.declared.engines.Ended.TheVariants.{OutOfHeap, NoMemory}
+use Rattle.bc_engine.specs.declared.rounds.RoundsNo.{RoundsNo}
+use Rattle.bc_engine.specs.declared.rounds.RoundsNo.TheVariants.{TooSmall, NoRoom}
 use Rattle.bc_engine.proofs.EmptyingLemmas.{goes-refused}
 use Rattle.bc_engine.proofs.GoingLemmas.{goes-then}
 use Rattle.bc_engine.proofs.RunLemmas.{runs-same, runs-then, left-le, left-less}
@@ -38,6 +41,22 @@ ran-more {lanes} {e} runs at = record { runs = runs-then at.runs runs; underway 
 -- what is told of a heap that is too small, where it needs so many superpages
 pub refused-at : (T : Type 0) (cause : CycleNo) (need : ℕ) (P : ℕ → Type 0) → cause ≡ cycle.OutOfHeap need → IfOutOfHeap {T = T} (Err cause) P → P need
 refused-at T cause need P is told = subst (λ (x : CycleNo). IfOutOfHeap {T = T} (Err x) P) is told
+
+-- what is told of rounds that ended for want of heap, or for want of room for answers
+pub small-at : (T : Type 0) (stop : RoundsNo) (need : ℕ) (P : ℕ → Type 0) → stop ≡ TooSmall need → IfTooSmall {T = T} (Err stop) P → P need
+small-at T stop need P is told = subst (λ (x : RoundsNo). IfTooSmall {T = T} (Err x) P) is told
+
+pub room-at : (T : Type 0) (stop : RoundsNo) (P : Type 0) → stop ≡ NoRoom → IfNoRoom {T = T} (Err stop) P → P
+room-at T stop P is told = subst (λ (x : RoundsNo). IfNoRoom {T = T} (Err x) P) is told
+
+-- of the same end of a longer stretch of rounds
+pub small-weaker : (T U : Type 0) (stop : RoundsNo) (P Q : ℕ → Type 0) → ((need : ℕ) → P need → Q need) → IfTooSmall {T = T} (Err stop) P → IfTooSmall {T = U} (Err stop) Q
+small-weaker T U (TooSmall need) P Q f told = f need told
+small-weaker T U NoRoom P Q f told = tt
+
+pub room-both : (T U : Type 0) (stop : RoundsNo) (P Q R : Type 0) → (P → Q → R) → IfNoRoom {T = T} (Err stop) P → IfNoRoom {T = T} (Err stop) Q → IfNoRoom {T = U} (Err stop) R
+room-both T U (TooSmall need) P Q R f told more = tt
+room-both T U NoRoom P Q R f told more = f told more
 
 -- an end for want of heap is what the phase is cut by
 pub too-small : {lanes : List (List Op)} {e : EngineView} (f : EngineView) {r : RunningView} {told replies : List (Vec Reply Global)} (need : ℕ) → KeepsMeaning r.heap f.running.heap → NeedOfHeap f.running.heap.space f.running.heap.roots f.running.heap.chunks need × (superpages f.running.heap.space < need) → f.running.holders ≡ r.holders → f.running.serials ≡ r.serials → f.ended ≡ Some (OutOfHeap need) → IsAt lanes e told r replies → IsTooSmall lanes e told f replies need

@@ -1,7 +1,9 @@
--- Answers of a phase.
+-- How a phase ends, and how its rounds do.
 use Rattle.std.specs.Prelude.{◌≡◌, ℕ, List, Result, Ok, Err}
 use Rattle.bc_engine.specs.declared.phases.PhaseNo.{PhaseNo}
 use Rattle.bc_engine.specs.declared.phases.PhaseNo.TheVariants.{OutOfHeap, NoMemory}
+use Rattle.bc_engine.specs.declared.rounds.RoundsNo.{RoundsNo}
+use Rattle.bc_engine.specs.declared.rounds.RoundsNo.TheVariants.{TooSmall, NoRoom}
 use Rattle.bc_model.specs.declared.operations.Reply.{Reply}
 
 -- of an answer that the heap is too small: its replies and the need
@@ -20,3 +22,15 @@ abbrev pub IsNoMemory : {T : Type 0} → Result T PhaseNo → Type 0
 IsNoMemory (Ok x) = ⊥
 IsNoMemory (Err (OutOfHeap replies need)) = ⊥
 IsNoMemory (Err NoMemory) = Unit {0}
+
+-- of rounds that end since the heap is too small: the need
+abbrev pub IfTooSmall : {T : Type 0} → Result T RoundsNo → (ℕ → Type 0) → Type 0
+IfTooSmall (Ok x) P = Unit {0}
+IfTooSmall (Err (TooSmall need)) P = P need
+IfTooSmall (Err NoRoom) P = Unit {0}
+
+-- of rounds that end since there is no room for answers
+abbrev pub IfNoRoom : {T : Type 0} → Result T RoundsNo → Type 0 → Type 0
+IfNoRoom (Ok x) P = Unit {0}
+IfNoRoom (Err (TooSmall need)) P = Unit {0}
+IfNoRoom (Err NoRoom) P = P

@@ -8,6 +8,7 @@ use Rattle.bc_whole_heap.specs.Running.{IsRunning}
 use Rattle.bc_model.specs.State.{State}
 use Rattle.bc_model.specs.WellFormed.{IsSetup}
 use Rattle.bc_model.specs.declared.traces.Setup.{Setup}
+use Rattle.bc_pager.specs.declared.answers.Answer.{Answer}
 use Rattle.bc_promotion.specs.Promises.{HasDomainsBelow}
 use Rattle.bc_superpages.specs.Layout.{superpages}
 use Rattle.bc_engine.specs.declared.engines.Ended.TheVariants.{NoMemory}
@@ -17,6 +18,10 @@ use Rattle.bc_engine.specs.Engines.{EngineView}
 -- the engine with these holders of the domains
 abbrev pub with_holders : EngineView → List ℕ → EngineView
 with_holders e holders = record e { running = record (e.running) { holders = holders } }
+
+-- the engine with these answers to notices
+abbrev pub with_answers : EngineView → List Answer → EngineView
+with_answers e answers = record e { answers = answers }
 
 -- the heap has the setup's superpages, root slots, chunks, buffers and frames. Superpages are in use for the setup's domains
 pub record HasSetup (h : HeapView) (setup : Setup) : Type 0 where
@@ -58,7 +63,6 @@ pub record IsEngine (e : EngineView) : Type 0 where
 abbrev pub HasRoomForBirths : EngineView → ℕ → Type 0
 HasRoomForBirths e n = (j : ℕ) → slice_index e.running.serials j + n < 2 ^ 32
 
--- what the type keeps: until it runs out of memory an engine's heap is in order. What became of notices isn't kept yet
+-- what the type keeps: until it runs out of memory an engine's heap is in order
 pub record IsSoundEngine (e : EngineView) : Type 0 where
   pub alive : e.ended ≢ Some NoMemory → IsEngine e
-  pub unanswered : e.answers ≡ []

@@ -2,8 +2,8 @@
 use Rattle.std.specs.Prelude.{ℕ, List, Option}
 use Rattle.bc_model.specs.State.{State}
 use Rattle.bc_model.specs.declared.traces.Setup.{Setup}
-use Rattle.bc_engine.specs.declared.answers.Answer.{Answer}
 use Rattle.bc_engine.specs.declared.engines.Ended.{Ended}
+use Rattle.bc_pager.specs.declared.answers.Answer.{Answer}
 use Rattle.bc_running.specs.Running.{RunningView, RunningStands}
 pub use Rattle.bc_running.specs.Running.{HasEmptyChunks}
 

@@ -1,20 +1,25 @@
--- The turns of a phase, from its beginning to its end or to its cut.
-use Rattle.std.specs.Prelude.{◌≡◌, List, Vec}
+-- The turns of a phase, from its beginning to its end, to its cut or to a want of room for answers.
+use Rattle.std.specs.Prelude.{◌≡◌, ℕ, ◌+◌, List, [], length, Some, Vec}
+use Prim.Native.Nat.{zero, suc}
 use Rattle.std.specs.declared.alloc.Global.{Global}
 use Rattle.bc_model.specs.Lists.{PhaseLists}
 use Rattle.bc_model.specs.Rows.{lists_of}
 use Rattle.bc_model.specs.declared.operations.Reply.{Reply}
-use Rattle.bc_engine.specs.EngineFacts.{with_holders}
+use Rattle.bc_pager.specs.declared.answers.Answer.{Answer}
+use Rattle.bc_engine.specs.EngineFacts.{with_answers, with_holders}
 use Rattle.bc_engine.specs.Engines.{EngineView}
-use Rattle.bc_engine.specs.Rounds.{IsRoomFor, RanAll, RanToCut}
+use Rattle.bc_engine.specs.Rounds.{IsRoomFor, RanAll, RanToCut, RanToWant}
+use Rattle.bc_engine.specs.Turns.{hints_at, hints_of}
+use Rattle.bc_engine.specs.declared.engines.Ended.TheVariants.{NoMemory}
 
--- room for the replies was taken, the rounds of the phase were run with its lines, and then domains changed hands
+-- room for the replies was taken, the rounds of the phase were run with its lines, and then domains changed hands. There was no answer
+-- before the first round, and those after the last are the engine's
 pub record HadTurns (e : EngineView) (p : PhaseLists) (f : EngineView) (replies : List (List Reply)) : Type 0 where
   pub room : List (Vec Reply Global)
   pub begun : IsRoomFor p.lanes room
   pub last : EngineView
   pub told : List (Vec Reply Global)
-  pub rounds : RanAll p.lanes p.turns e room last told
+  pub rounds : RanAll p.lanes p.turns (with_answers e []) room last told
   pub given : f ≡ with_holders last f.running.holders
   pub replied : replies ≡ lists_of told
 
@@ -23,5 +28,25 @@ pub record HadTurnsToCut (e : EngineView) (p : PhaseLists) (f : EngineView) (rep
   pub room : List (Vec Reply Global)
   pub begun : IsRoomFor p.lanes room
   pub told : List (Vec Reply Global)
-  pub rounds : RanToCut p.lanes p.turns e room f told
+  pub rounds : RanToCut p.lanes p.turns (with_answers e []) room f told
   pub replied : replies ≡ lists_of told
+
+-- the same up to a turn for whose answers there was no memory
+pub record HadTurnsToWant (e : EngineView) (p : PhaseLists) (f : EngineView) : Type 0 where
+  pub room : List (Vec Reply Global)
+  pub begun : IsRoomFor p.lanes room
+  pub last : EngineView
+  pub told : List (Vec Reply Global)
+  pub kept : Vec Answer Global
+  pub answers : kept.items ≡ f.answers
+  pub rounds : RanToWant p.lanes p.turns (with_answers e []) room last told kept
+  pub wants : f ≡ record last { ended = Some NoMemory }
+
+-- no turn has a notice: each line is empty
+abbrev pub HasNoHints : List (List ℕ) → Type 0
+HasNoHints lines = (n : ℕ) → hints_at lines n ≡ []
+
+-- how many notices the first n turns of a phase have
+abbrev pub hints_before : List (List ℕ) → ℕ → ℕ
+hints_before lines zero = 0
+hints_before lines (suc n) = hints_before lines n + length (hints_of lines n)

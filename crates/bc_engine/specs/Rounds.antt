@@ -1,5 +1,5 @@
 -- The rounds of a phase: the lanes go on until each is at its end or stops, and then the nurseries are emptied.
-use Rattle.std.specs.Prelude.{◌≡◌, ℕ, ◌<◌, ◌≤◌, List, [], length, Some, None, Vec, vec_capacity, slice_index_or}
+use Rattle.std.specs.Prelude.{◌≡◌, ℕ, ◌+◌, ◌<◌, ◌≤◌, List, [], length, Some, None, Vec, vec_capacity, slice_index_or}
 use Prim.Native.Nat.{zero, suc}
 use Rattle.std.specs.declared.alloc.Global.{Global}
 use Rattle.bc_cycle.specs.Collecting.{HasKeptWhereItFits}
@@ -8,6 +8,7 @@ use Rattle.bc_failsafe.specs.Packing.{NeedOfHeap}
 use Rattle.bc_model.specs.Rows.{lists_of}
 use Rattle.bc_model.specs.declared.operations.Op.{Op}
 use Rattle.bc_model.specs.declared.operations.Reply.{Reply}
+use Rattle.bc_pager.specs.declared.answers.Answer.{Answer}
 use Rattle.bc_superpages.specs.Layout.{superpages}
 use Rattle.bc_engine.specs.Engines.{EngineView, HasEmptyChunks}
 use Rattle.bc_engine.specs.Lanes.{of_lane, AreDone, EachFurther, HasMore, LanesWentOn, LeavesCells, IsUnderway, LanesRan}
@@ -55,34 +56,34 @@ pub record EmptiesNurseries (r q : RunningView) : Type 0 where
   pub kept : (SurvivorsFit r.heap → ⊥) → HasKeptWhereItFits r.heap q.heap
   pub lanes : SameLanes r q
 
--- a round: the lanes had their turn, in which the notices with these hints were served, and the nurseries were emptied. Some lane wasn't at its
--- end, and each such lane did one operation more
+-- a round: the lanes had their turn, in which the notices with these hints were answered, and the nurseries were emptied. Some lane wasn't at
+-- its end, and each such lane did one operation more. The answers are the engine's
 pub record RanRound (lanes : List (List Op)) (e : EngineView) (before : List (Vec Reply Global)) (hints : List ℕ) (f : EngineView) (after : List (Vec Reply Global)) : Type 0 where
   pub turned : RunningView
   pub told : List (Vec Reply Global)
-  pub turn : RanTurn lanes e.running before hints turned told
+  pub turn : RanTurn lanes e.running before e.answers hints turned told f.answers
   pub emptied : RunningView
   pub empties : EmptiesNurseries turned emptied
   pub more : HasMore lanes (lists_of told)
   pub steps : LanesRan lanes emptied told f.running after
   pub leaves : LeavesCells emptied f.running
   pub each : EachFurther (length lanes) lanes (lists_of told) (lists_of after)
-  pub rest : f ≡ record e { running = f.running }
+  pub rest : f ≡ record e { running = f.running; answers = f.answers }
 
 -- the last round: in their turn all lanes came to their ends, and the nurseries were emptied
 pub record LastRound (lanes : List (List Op)) (e : EngineView) (before : List (Vec Reply Global)) (hints : List ℕ) (f : EngineView) (after : List (Vec Reply Global)) : Type 0 where
   pub turned : RunningView
-  pub turn : RanTurn lanes e.running before hints turned after
+  pub turn : RanTurn lanes e.running before e.answers hints turned after f.answers
   pub done : AreDone lanes (lists_of after)
   pub empties : EmptiesNurseries turned f.running
-  pub rest : f ≡ record e { running = f.running }
+  pub rest : f ≡ record e { running = f.running; answers = f.answers }
 
 -- a round that was cut: the lanes had their turn, and the nurseries couldn't be emptied
 pub record CutRound (lanes : List (List Op)) (e : EngineView) (before : List (Vec Reply Global)) (hints : List ℕ) (f : EngineView) (after : List (Vec Reply Global)) : Type 0 where
   pub turned : RunningView
-  pub turn : RanTurn lanes e.running before hints turned after
+  pub turn : RanTurn lanes e.running before e.answers hints turned after f.answers
   pub refused : KeepsMeaning turned.heap f.running.heap × SameLanes turned f.running
-  pub rest : f ≡ record e { running = f.running; ended = f.ended }
+  pub rest : f ≡ record e { running = f.running; ended = f.ended; answers = f.answers }
 
 -- so many rounds with others to come, one after another. The notices of the n-th one are those of the n-th turn of the phase
 abbrev pub RanRounds : List (List Op) → List (List ℕ) → EngineView → List (Vec Reply Global) → ℕ → EngineView → List (Vec Reply Global) → Type 0
@@ -99,3 +100,12 @@ RanAll lanes lines e before f after =
 abbrev pub RanToCut : List (List Op) → List (List ℕ) → EngineView → List (Vec Reply Global) → EngineView → List (Vec Reply Global) → Type 0
 RanToCut lanes lines e before f after =
     (n : ℕ) × (mid : EngineView) × (told : List (Vec Reply Global)) × RanRounds lanes lines e before n mid told × CutRound lanes mid told (hints_of lines n) f after
+
+-- the list has no room for so many answers more
+abbrev pub HasNoRoomFor : Vec Answer Global → ℕ → Type 0
+HasNoRoomFor kept more = vec_capacity kept < length kept.items + more
+
+-- so many of them as there were before a turn for whose answers the list has no room
+abbrev pub RanToWant : List (List Op) → List (List ℕ) → EngineView → List (Vec Reply Global) → EngineView → List (Vec Reply Global) → Vec Answer Global → Type 0
+RanToWant lanes lines e before f after kept =
+    (n : ℕ) × RanRounds lanes lines e before n f after × HasNoRoomFor kept (length (hints_of lines n))

@@ -1,11 +1,15 @@
--- The turns of a phase: lanes run, and then the notices of the turn's line are served.
+-- The turns of a phase: lanes run, and the notices of the turn's line are answered.
 use Rattle.std.specs.Prelude.{◌≡◌, ◌⊎◌, ℕ, ◌+◌, ◌%◌, List, [], length, Vec, slice_index_or, nat_lt, if◌then◌else◌}
 use Rattle.std.specs.declared.alloc.Global.{Global}
+use Rattle.bc_bookmarks.specs.Changes.{Settled}
 use Rattle.bc_model.specs.declared.operations.Op.{Op}
 use Rattle.bc_model.specs.declared.operations.Reply.{Reply}
+use Rattle.bc_pager.specs.declared.answers.Answer.{Answer}
 use Rattle.bc_running.specs.Running.{RunningView}
 use Rattle.bc_running.specs.RunningFacts.{with_space}
-use Rattle.bc_running.specs.Serving.{Served}
+use Rattle.bc_running.specs.Serving.{AnsweredAlone}
+use Rattle.bc_superpages.specs.Layout.{Layout}
+use Rattle.bc_turn.specs.Answered.{AnsweredBeside}
 use Rattle.bc_engine.specs.Lanes.{EachStopped, LanesRan, LeavesCells, Stops, StopsInTurn}
 
 -- the hints of a line. Where there is none, there are no hints
@@ -21,12 +25,25 @@ line_behind lines n = if nat_lt (n + 1) (length lines) then n + 1 else 0
 abbrev pub hints_of : List (List ℕ) → ℕ → List ℕ
 hints_of lines turn = hints_at lines (turn % length lines)
 
--- the lanes ran until each was at its end or stopped, and then the notices with these hints were served, each once, and the heap was
--- settled. The lanes ran side by side, or one after another, and each stop has a cause of that way
-pub record RanTurn (lanes : List (List Op)) (r : RunningView) (before : List (Vec Reply Global)) (hints : List ℕ) (q : RunningView) (after : List (Vec Reply Global)) : Type 0 where
+-- the lanes ran side by side, and beside them a pager answered the notices with these hints. Each stop has a cause of that way. Then the
+-- heap was settled
+abbrev pub RanTogether : List (List Op) → RunningView → List (Vec Reply Global) → List Answer → List ℕ → RunningView → RunningView → List (Vec Reply Global) → List Answer → Type 0
+RanTogether lanes r before asked hints mid q after told =
+    EachStopped StopsInTurn lanes r before mid after
+    × AnsweredBeside r.heap.space hints asked told mid.heap.space
+    × Settled mid.heap.space q.heap.space
+
+-- the lanes ran one after another, and then the notices were answered where nobody worked beside. Then the heap was settled
+abbrev pub RanAlone : List (List Op) → RunningView → List (Vec Reply Global) → List Answer → List ℕ → RunningView → RunningView → List (Vec Reply Global) → List Answer → Type 0
+RanAlone lanes r before asked hints mid q after told =
+    EachStopped Stops lanes r before mid after
+    × ((u : Layout) × AnsweredAlone mid.heap.space hints asked told u × Settled u q.heap.space)
+
+-- the lanes ran until each was at its end or stopped, the notices with these hints were answered, each once, behind the answers that were
+-- kept before, and the heap was settled: side by side, lanes and a pager, or one lane after another, and then the notices
+pub record RanTurn (lanes : List (List Op)) (r : RunningView) (before : List (Vec Reply Global)) (asked : List Answer) (hints : List ℕ) (q : RunningView) (after : List (Vec Reply Global)) (told : List Answer) : Type 0 where
   pub mid : RunningView
   pub ran : LanesRan lanes r before mid after
   pub leaves : LeavesCells r mid
-  pub stopped : EachStopped StopsInTurn lanes r before mid after ⊎ EachStopped Stops lanes r before mid after
-  pub served : Served mid.heap.space hints q.heap.space
+  pub way : RanTogether lanes r before asked hints mid q after told ⊎ RanAlone lanes r before asked hints mid q after told
   pub rest : q ≡ with_space mid q.heap.space

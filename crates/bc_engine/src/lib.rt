@@ -7,15 +7,17 @@
 //
 // A phase (`phases`) begins by taking room for the replies to all its operations. Then it goes in rounds (`rounds`). A round
 // begins with a turn of the lanes (`turns`): each does operations until it is at its end or one stops. The lanes run side by
-// side, each on a thread of its own, over a table of the heap's pages (`bc_turn`). A lane stops where its chunk or its write
+// side, each on a thread of its own, over a table of the heap's pages (`bc_turn`), and beside them a pager answers the notices of
+// the turn's line, for each of which it gives up a page if it gets one (`bc_pager`). A lane stops where its chunk or its write
 // buffer is full, and where it looks at an object in a cell whose page is gone or in another's hands. What the lanes do so is
-// what they do one after another (`RanBeside`), so a turn is a stretch of the phase like any other. Where little is left to do,
-// or where there is no memory for a table, they do run one after another (`lanes`): then a page that is gone comes back, and
-// a lane stops for it only where no frame is free and no other page can leave. So a turn takes memory and is never refused
-// for want of it. An operation that stops has at most moved pages.
-// Then a page is given up for each hint of the turn's line, and the heap is settled. The lines of a phase are used in
-// order, one for each turn, and from the first one again when they are used up. So the heap gets by with the frames that
-// the setup gives it, and no reply tells which pages were away.
+// what they do one after another (`RanBeside`), so a turn is a stretch of the phase like any other. Where little is left to do
+// and no notice came, or where there is no memory for a table, they do run one after another (`lanes`), and then the notices are
+// answered: then a page that is gone comes back, and a lane stops for it only where no frame is free and no other page can
+// leave. So a turn takes memory and is never refused for want of it. An operation that stops has at most moved pages.
+// Then the heap is settled. The lines of a phase are used in order, one for each turn, and from the first one again when they
+// are used up. So the heap gets by with the frames that the setup gives it, and no reply tells which pages were away; but what
+// became of each notice is kept, in order (`Engine::answers`). Room for the answers of a turn is taken before it, and only where
+// there is none does a phase end in its midst for want of memory.
 //
 // Then the nurseries are emptied, and if all lanes are at their ends the rounds are through. If not, each lane that has
 // operations left does one more on empty chunks. That one can't stop: an empty chunk has room for any object, where a
@@ -45,13 +47,14 @@
 // say the same of the opening state, of one give and of one operation.
 #![tactic(auto)]
 
-mod answers;
 mod engines;
 mod lanes;
+mod laws;
 mod phases;
 mod rounds;
 mod turns;
 
-pub use answers::Answer;
+pub use bc_pager::Answer;
 pub use engines::Engine;
+pub use laws::law_answers;
 pub use phases::PhaseNo;

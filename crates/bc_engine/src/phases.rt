@@ -1,12 +1,12 @@
 //! A phase: room for the replies is taken, the rounds are run, and domains change hands.
 
-ghost use Rattle.std.specs.Prelude.{◌≡◌, ◌≢◌, ℕ, ◌+◌, ◌<◌, ◌≤◌, [], length, Some, None, Result, Ok, Err, IfOk, slice_index};
+ghost use Rattle.std.specs.Prelude.{◌≡◌, ◌≢◌, ◌⊎◌, ℕ, ◌+◌, ◌<◌, ◌≤◌, [], length, Some, None, Result, Ok, Err, IfOk, slice_index};
 ghost use Rattle.std.specs.List.{AllByRecursion};
 ghost use Rattle.bc_engine.specs.Answers.{IfPhaseOutOfHeap, IsOutOfHeap, IsNoMemory};
 ghost use Rattle.bc_engine.specs.Engines.{EngineStands, HasEmptyChunks};
-ghost use Rattle.bc_engine.specs.EngineFacts.{HasRoomForBirths, IsUnrecorded, with_holders};
+ghost use Rattle.bc_engine.specs.EngineFacts.{HasRoomForBirths, IsUnrecorded, with_answers, with_holders};
 ghost use Rattle.bc_engine.specs.Lanes.{of_lane, HasRoomForOps};
-ghost use Rattle.bc_engine.specs.PhaseTurns.{HadTurns, HadTurnsToCut};
+ghost use Rattle.bc_engine.specs.PhaseTurns.{HadTurns, HadTurnsToCut, HadTurnsToWant, HasNoHints};
 ghost use Rattle.bc_engine.specs.Phases.{DidPhase, CutPhase};
 ghost use Rattle.bc_engine.specs.Rounds.{IsRoomFor};
 ghost use Rattle.bc_model.specs.Rows.{lists_of};
@@ -16,9 +16,12 @@ ghost use Rattle.bc_model.specs.State.{State};
 ghost use Rattle.bc_model.specs.WellFormed.{IsGive, IsPhase};
 
 use crate::engines::{Ended, Engine};
+use crate::rounds::RoundsNo;
 use bc_failsafe::law_room;
 use bc_gates::Gate;
 use bc_model::{Give, Op, Phase, Replies, Reply};
+use bc_pager::Answer;
+use bc_turn::TurnRoom;
 use std::alloc::{AllocError, Global};
 use std::thread::Threads;
 
@@ -37,10 +40,11 @@ impl Engine {
     /// operations in the phase together are fewer than 2^32.
     ///
     /// It answers `OutOfHeap` where an emptying of the nurseries finds that the heap is too small, with the replies up to there,
-    /// and `NoMemory` where there is no memory for all replies, before anything is done: what comes then can't be refused for want of
-    /// memory. Both end the engine. One that ended for want of heap answers the same need again with no replies, and changes nothing; one that ended for
-    /// want of memory answers that alone. After each turn of the lanes pages are given up for the hints of the turn's line, which no
-    /// reply tells: the n-th turn has the n-th line, and behind the last line comes the first one again.
+    /// and `NoMemory` where there is no memory for all replies, before anything is done, or for the answers to the notices of a turn, before that
+    /// turn: nothing else can be refused for want of memory. Both end the engine. One that ended for want of heap answers the same need
+    /// again with no replies, and changes nothing; one that ended for want of memory answers that alone. In each turn of the lanes a page is given
+    /// up for each hint of the turn's line, where one can leave, which no reply tells, but the engine's answers do: the n-th turn has the n-th
+    /// line, and behind the last line comes the first one again.
     pub fn phase<R, G>(
         &mut self,
         rt: &R,
@@ -55,7 +59,7 @@ impl Engine {
         requires births { HasRoomForOps self.old phase.now.lanes 0 }
         ensures done { self.old.ended ≡ None → IfOk result (λ replies. DidPhase self.old phase.now self.new replies) }
         ensures cut { self.old.ended ≡ None → IfPhaseOutOfHeap result (λ replies need. CutPhase self.old phase.now self.new replies need) }
-        // Notices are served turn by turn, in the order of the phase's lines.
+        // Notices are answered turn by turn, in the order of the phase's lines, and the answers are the engine's.
         ensures turns { self.old.ended ≡ None → IfOk result (λ replies. HadTurns self.old phase.now self.new replies) }
         ensures cut_turns { self.old.ended ≡ None → IfPhaseOutOfHeap result (λ replies need. HadTurnsToCut self.old phase.now self.new replies) }
         ensures again { (need : ℕ) → self.old.ended ≡ Some (Ended.OutOfHeap need) → IsOutOfHeap result [] need }
@@ -63,7 +67,10 @@ impl Engine {
         ensures gone { self.old.ended ≡ Some Ended.NoMemory → IsNoMemory result }
         ensures setup { (self.new.setup ≡ self.old.setup) × (self.new.workers ≡ self.old.workers) }
         ensures no_memory { IsNoMemory result → self.new.ended ≡ Some Ended.NoMemory }
-        ensures undone { IsNoMemory result → self.new ≡ record self.old { ended = self.new.ended } }
+        // Without notices memory runs out before anything is done, and else it may also before a turn.
+        ensures undone { IsNoMemory result → HasNoHints phase.now.turns → self.new ≡ record self.old { ended = self.new.ended } }
+        ensures want { IsNoMemory result → self.old.ended ≡ None
+            → (self.new ≡ record self.old { ended = self.new.ended }) ⊎ HadTurnsToWant self.old phase.now self.new }
         ensures births { (j : ℕ) → slice_index self.new.running.serials j ≤ slice_index self.old.running.serials j + length (of_lane phase.now.lanes j) }
         ensures room { (n : ℕ) → HasRoomForOps self.old phase.now.lanes n → HasRoomForBirths self.new n }
     {
@@ -80,19 +87,26 @@ impl Engine {
         match room_for(alloc, &phase.lanes) {
             Ok(replies) => self.replay(rt, alloc, phase, replies, gate),
             Err(_) => {
-                self.ended = Some(Ended::NoMemory);
+                self.end_for_want();
                 Err(PhaseNo::NoMemory)
             }
         }
     }
 
-    /// Does a phase on an engine that hasn't ended, with room for the reply to each operation. It can't be refused for want of memory.
+    /// Ends the engine for want of memory.
+    fn end_for_want(&mut self)
+        ensures { self.new ≡ record self.old { ended = Some Ended.NoMemory } }
+    {
+        self.ended = Some(Ended::NoMemory);
+    }
+
+    /// Does a phase on an engine that hasn't ended, with room for the reply to each operation.
     fn replay<R, G>(
         &mut self,
         rt: &R,
         alloc: Global,
         phase: &Phase,
-        mut replies: Vec<Vec<Reply>>,
+        replies: Vec<Vec<Reply>>,
         gate: &G,
     ) -> Result<Replies, PhaseNo>
     where
@@ -108,22 +122,68 @@ impl Engine {
         ensures setup { (self.new.setup ≡ self.old.setup) × (self.new.workers ≡ self.old.workers) }
         ensures turns { IfOk result (λ told. HadTurns self.old phase.now self.new told) }
         ensures cut_turns { IfPhaseOutOfHeap result (λ told need. HadTurnsToCut self.old phase.now self.new told) }
-        ensures memory { IsNoMemory result → ⊥ }
+        ensures want { IsNoMemory result → HadTurnsToWant self.old phase.now self.new }
+        ensures births { (j : ℕ) → slice_index self.new.running.serials j ≤ slice_index self.old.running.serials j + length (of_lane phase.now.lanes j) }
+    {
+        let mut answers = self.take_answers(alloc);
+        let told = self.run_phase(rt, alloc, phase, replies, &mut answers, gate);
+        self.keep_answers(answers);
+        told
+    }
+
+    /// Does such a phase, and keeps what became of its notices in this list, in which there is nothing yet.
+    fn run_phase<R, G>(
+        &mut self,
+        rt: &R,
+        alloc: Global,
+        phase: &Phase,
+        mut replies: Vec<Vec<Reply>>,
+        answers: &mut Vec<Answer>,
+        gate: &G,
+    ) -> Result<Replies, PhaseNo>
+    where
+        R: Threads + Sync,
+        G: Gate + Sync,
+        requires going { self.old.ended ≡ None }
+        requires phase { IsPhase self.old.setup phase.now }
+        requires births { HasRoomForOps self.old phase.now.lanes 0 }
+        requires long { length replies.items ≡ length phase.now.lanes }
+        requires room { IsRoomFor phase.now.lanes replies.items }
+        requires none { answers.old.items ≡ [] }
+        ensures done { IfOk result (λ told. DidPhase self.old phase.now self.new told) }
+        ensures cut { IfPhaseOutOfHeap result (λ told need. CutPhase self.old phase.now self.new told need) }
+        ensures setup { (self.new.setup ≡ self.old.setup) × (self.new.workers ≡ self.old.workers) }
+        ensures turns { IfOk result (λ told. HadTurns self.old phase.now (with_answers self.new answers.new.items) told) }
+        ensures cut_turns { IfPhaseOutOfHeap result (λ told need. HadTurnsToCut self.old phase.now (with_answers self.new answers.new.items) told) }
+        ensures want { IsNoMemory result → HadTurnsToWant self.old phase.now (with_answers self.new answers.new.items) }
         ensures births { (j : ℕ) → slice_index self.new.running.serials j ≤ slice_index self.old.running.serials j + length (of_lane phase.now.lanes j) }
     {
         self.facts();
-        match self.rounds(rt, alloc, &phase.lanes, &phase.turns, &mut replies, gate) {
+        let mut room = TurnRoom::new(alloc);
+        match self.rounds(
+            rt,
+            alloc,
+            &mut room,
+            &phase.lanes,
+            &phase.turns,
+            &mut replies,
+            answers,
+            gate,
+        ) {
             Ok(()) => {
                 self.facts();
                 self.give_all(&phase.gives);
                 self.room_facts();
                 Ok(Replies { lanes: replies })
             }
-            Err(need) => {
+            Err(RoundsNo::TooSmall { need }) => {
                 self.facts();
                 let replies = Replies { lanes: replies };
-                let need = need.0;
                 Err(PhaseNo::OutOfHeap { replies, need })
+            }
+            Err(RoundsNo::NoRoom) => {
+                self.end_for_want();
+                Err(PhaseNo::NoMemory)
             }
         }
     }

@@ -1,17 +1,18 @@
-//! A turn of the lanes: they run, and then the notices of the turn's line are served.
+//! A turn of the lanes: they run, the notices of the turn's line are answered, and the heap is settled.
 
-ghost use Rattle.std.specs.Prelude.{◌≡◌, ◌⊎◌, length};
-ghost use Rattle.bc_bookmarks.specs.Moves.{MovesPages};
-ghost use Rattle.bc_engine.specs.Lanes.{EachStopped, IsUnderway, LanesRan, LeavesCells, Stops, StopsInTurn};
-ghost use Rattle.bc_engine.specs.Turns.{RanTurn, hints_at, line_behind};
+ghost use Rattle.std.specs.Prelude.{◌≡◌, ◌+◌, ◌≤◌, length, vec_capacity};
+ghost use Rattle.bc_engine.specs.Lanes.{IsUnderway, LanesRan};
+ghost use Rattle.bc_engine.specs.Turns.{RanTurn};
 ghost use Rattle.bc_model.specs.Rows.{lists_of};
-ghost use Rattle.bc_running.specs.RunningFacts.{IsSound, with_space};
-ghost use Rattle.bc_running.specs.Serving.{Served};
+ghost use Rattle.bc_model.specs.declared.traces.Setup.{Setup};
+ghost use Rattle.bc_turn.specs.Taking.{IsRoomKept};
 
 use crate::lanes::run_lanes;
 use bc_gates::Gate;
 use bc_model::{Op, Reply, Setup};
+use bc_pager::Answer;
 use bc_running::Running;
+use bc_turn::TurnRoom;
 use std::alloc::Global;
 use std::thread::Threads;
 
@@ -21,67 +22,68 @@ const OPERATIONS_A_THREAD: u64 = 4_096;
 /// No lane is looked further ahead than so many operations.
 const OPERATIONS_AHEAD: u64 = 8_192;
 
-/// A turn of the lanes: each does operations until it is at its end or stops. Then a page is given up for each hint of the turn's
-/// line, and the heap is settled. `next` is the number of the turn's line, and becomes that of the next turn. It takes memory for as
-/// long as the lanes run, and can't be refused for want of it.
+/// A turn of the lanes: each does operations until it is at its end or stops, the notices with these hints are answered, and the heap is
+/// settled. Lanes and a pager work side by side, or, where there is little to do or no memory for that, one lane after another, and
+/// then the notices are answered. Answers are kept behind those that there are, for which there is room. `room` is what turns take for the
+/// lanes. A turn takes memory and can't be refused for want of it.
 pub(crate) fn lane_turn<R, G>(
     running: &mut Running,
     setup: &Setup,
     rt: &R,
     alloc: Global,
+    room: &mut TurnRoom,
     lanes: &[Vec<Op>],
-    lines: &[Vec<u32>],
-    next: &mut usize,
     replies: &mut [Vec<Reply>],
+    hints: &[u32],
+    answers: &mut Vec<Answer>,
     gate: &G,
 )
 where
     R: Threads + Sync,
     G: Gate + Sync,
-    requires { IsUnderway setup.now (lists_of lanes.now) running.old replies.old }
+    requires underway { IsUnderway setup.now (lists_of lanes.now) running.old replies.old }
+    requires kept { IsRoomKept running.old.holders running.old.heap.roots.slots (lists_of lanes.now) (lists_of replies.old) room.old }
+    requires room { length answers.old.items + length hints.now ≤ vec_capacity answers.old }
     ensures runs { LanesRan (lists_of lanes.now) running.old replies.old running.new replies.new }
-    ensures turn { RanTurn (lists_of lanes.now) running.old replies.old (hints_at (lists_of lines.now) next.old) running.new replies.new }
-    ensures next { next.new ≡ line_behind (lists_of lines.now) next.old }
+    ensures turn { RanTurn (lists_of lanes.now) running.old replies.old answers.old.items hints.now running.new replies.new answers.new.items }
+    ensures kept { IsRoomKept running.old.holders running.old.heap.roots.slots (lists_of lanes.now) (lists_of replies.new) room.new }
 {
-    run_all(running, setup, rt, alloc, lanes, replies, gate);
-    serve_line(running, lines, *next);
-    *next = behind(lines, *next);
+    if !is_worth_a_table(setup, lanes, replies, hints) {
+        return turn_alone(running, lanes, replies, hints, answers);
+    }
+    match running.take_turn(rt, alloc, room, lanes, replies, hints, answers, gate) {
+        Ok(()) => running.settle(),
+        Err(_) => turn_alone(running, lanes, replies, hints, answers),
+    }
 }
 
-/// Does operations of each lane until it is at its end, or one stops: of all lanes side by side, or, where there is little to do or no
-/// memory for that, of one lane after another.
-fn run_all<R, G>(
+/// The same where nothing works beside another: one lane after another, and then the notices.
+fn turn_alone(
     running: &mut Running,
-    setup: &Setup,
-    rt: &R,
-    alloc: Global,
     lanes: &[Vec<Op>],
     replies: &mut [Vec<Reply>],
-    gate: &G,
+    hints: &[u32],
+    answers: &mut Vec<Answer>,
 )
-where
-    R: Threads + Sync,
-    G: Gate + Sync,
-    requires { IsUnderway setup.now (lists_of lanes.now) running.old replies.old }
+    requires underway { (setup : Setup) × IsUnderway setup (lists_of lanes.now) running.old replies.old }
+    requires room { length answers.old.items + length hints.now ≤ vec_capacity answers.old }
     ensures runs { LanesRan (lists_of lanes.now) running.old replies.old running.new replies.new }
-    ensures leaves { LeavesCells running.old running.new }
-    ensures stopped { EachStopped StopsInTurn (lists_of lanes.now) running.old replies.old running.new replies.new
-        ⊎ EachStopped Stops (lists_of lanes.now) running.old replies.old running.new replies.new }
+    ensures turn { RanTurn (lists_of lanes.now) running.old replies.old answers.old.items hints.now running.new replies.new answers.new.items }
 {
-    if !is_worth_a_table(setup, lanes, replies) {
-        return run_lanes(running, lanes, replies);
-    }
-    match running.take_turn(rt, alloc, lanes, replies, gate) {
-        Ok(()) => {}
-        Err(_) => run_lanes(running, lanes, replies),
-    }
+    run_lanes(running, lanes, replies);
+    running.answer(hints, answers);
+    running.settle();
 }
 
-/// Does a table pay? To open one costs a look at the lanes' root slots and at the frames, and each lane more a thread. So the first turn
-/// of a phase has a table where enough is left to do, and a later one where the turn is likely to be long.
-fn is_worth_a_table(setup: &Setup, lanes: &[Vec<Op>], replies: &[Vec<Reply>]) -> bool
+/// Is the turn to have a table? Where notices came it is, so that a pager works beside the lanes. Else it is where a table pays: to open one
+/// costs a look at the lanes' root slots and at the frames, and each lane more a thread. So the first turn of a phase has one where enough is
+/// left to do, and a later one where the turn is likely to be long.
+fn is_worth_a_table(setup: &Setup, lanes: &[Vec<Op>], replies: &[Vec<Reply>], hints: &[u32]) -> bool
     requires { length replies.now ≡ length lanes.now }
 {
+    if !hints.is_empty() {
+        return true;
+    }
     let costs = setup.domains as u64 * setup.slots as u64 + setup.frames as u64;
     let mut begun = false;
     let mut left = 0u64;
@@ -131,28 +133,4 @@ fn operations_ahead(setup: &Setup, ops: &[Op], from: usize) -> u64 {
         }
     }
     (ops.len() as u64).saturating_sub(from as u64)
-}
-
-/// Serves the notices of a line. Where there is none, the heap is only settled.
-fn serve_line(running: &mut Running, lines: &[Vec<u32>], line: usize)
-    requires { IsSound running.old }
-    ensures served { Served running.old.heap.space (hints_at (lists_of lines.now) line) running.new.heap.space }
-    ensures moves { MovesPages running.old.heap.space running.new.heap.space }
-    ensures rest { running.new ≡ with_space running.old running.new.heap.space }
-{
-    match lines.get(line) {
-        Some(hints) => running.serve(hints),
-        None => running.serve(&[]),
-    }
-}
-
-/// The number of the line behind one, and of the first line behind the last.
-fn behind(lines: &[Vec<u32>], line: usize) -> usize
-    ensures { result ≡ line_behind (lists_of lines.now) line }
-{
-    if line < lines.len() && line + 1 < lines.len() {
-        line + 1
-    } else {
-        0
-    }
 }

@@ -15,13 +15,12 @@ use Rattle.bc_cycle.specs.declared.emptying.CycleNo.TheVariants.{OutOfHeap, NoMe
 use Rattle.bc_whole_heap.specs.Heaps.{HeapView, no_chunk}
 use Rattle.bc_whole_heap.specs.HeapFacts.{HasTwoFrames}
 use Rattle.bc_whole_heap.specs.Running.{IsRunning, IsRunningForSurvivors}
-use Rattle.bc_whole_heap.specs.Closed.{IsSurvivorOf}
 use Rattle.bc_whole_heap.proofs.ChunkLemmas.{length-alike}
 use Rattle.bc_whole_heap.proofs.ClosedLemmas.{running-survivors}
 use Rattle.bc_mutator.specs.Operations.{NoneLater}
 use Rattle.bc_nursery.specs.Objects.{emptied, has_object}
 use Rattle.bc_nursery.specs.Nurseries.{ChunkObject, Nursery}
-use Rattle.bc_running.specs.Running.{HasEmptyChunks, RunningView}
+use Rattle.bc_running.specs.Running.{RunningView}
 use Rattle.bc_running.specs.RunningFacts.{IsSound, Collects, running_of}
 
 -- after a collection

@@ -1,7 +1,7 @@
 //! Phases are played on a heap in the rounds of the engine, and what happens is counted.
 //!
-//! A round is the engine's: a turn, in which each lane does operations until it is at its end or one stops and then the notices of the
-//! turn's line are served; an emptying of the nurseries; and where a lane has operations left, one more of each such lane on empty chunks.
+//! A round is the engine's where nobody works beside another: a turn, in which each lane does operations until it is at its end or one stops
+//! and then the notices of the turn's line are served; an emptying of the nurseries; and where a lane has operations left, one more of each such lane on empty chunks.
 //! When none has any, the domains change hands.
 
 ghost use Rattle.bc_model.specs.WellFormed.{IsTrace};

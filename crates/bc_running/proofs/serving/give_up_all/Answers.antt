@@ -11,14 +11,14 @@ pub loop-hint-preserved : goal.loop-hint-preserved
 loop-hint-preserved c =
     let s = c.args.space.now in
     let u = c.loop-hint.space in
-    let t = c.give_up_one.new.space in
+    let t = c.answer_one-answer.new.space in
     let before = c.loop-hint.invariant in
     record {
-      gives = gives-more s u t c.args.hints.now c.loop-hint.hint-index before.gives c.give_up_one.ensures.gives;
-      moves = moves-then s u t before.moves c.give_up_one.ensures.moves;
+      gives = gives-more s u t c.args.hints.now c.loop-hint.hint-index before.gives c.answer_one-answer.ensures.gives;
+      moves = moves-then s u t before.moves c.answer_one-answer.ensures.moves;
     }
 
-pub give_up_one-requires-clause-closed : goal.give_up_one-requires-clause-closed
-give_up_one-requires-clause-closed c =
+pub answer_one-answer-requires-clause-closed : goal.answer_one-answer-requires-clause-closed
+answer_one-answer-requires-clause-closed c =
     let h = c.requires.closed in
     (h.0, h.1, h.2, h.3, closed-moved h.0 h.1 h.2 h.3 c.loop-hint.invariant.moves h.4)

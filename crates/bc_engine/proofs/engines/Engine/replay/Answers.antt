@@ -1,76 +1,52 @@
-use Rattle.std.proofs.Common.{get_or, length, ap, subst, ◌∙◌, arith}
-use Rattle.std.proofs.lemmas.List.{take_at}
-use Rattle.bc_model.specs.Lists.{PhaseLists}
-use Rattle.bc_model.specs.Rows.{lists_of}
-use Rattle.bc_model.specs.Run.{after_gives}
-use Rattle.bc_engine.specs.Engines.{EngineView, EngineStands}
-use Rattle.bc_engine.proofs.PhaseLemmas.{births-lent, cut-lent, did-lent, underway-lent}
-use Rattle.bc_engine.proofs.TurnLemmas.{cut-turns-lent, had-lent}
+use Rattle.std.proofs.Common.{ℕ, [], get_or, ap, sym, subst, ◌∙◌, arith}
+use Rattle.std.proofs.lemmas.Result.{IfOk-weaker}
+use Rattle.bc_engine.specs.Engines.{EngineView}
+use Rattle.bc_engine.specs.Lanes.{HasRoomForOps}
+use Rattle.bc_model.specs.WellFormed.{IsPhase}
+use Rattle.bc_engine.proofs.PhaseLemmas.{cut-answers, did-answers, ended-weaker}
+use Rattle.bc_engine.proofs.TurnLemmas.{cut-turns-answers, had-answers, want-answers}
 use Rattle.bc_engine.proofs.engines.Engine.replay.Goals as goal
 
-pub rounds-requires-clause-underway : goal.rounds-requires-clause-underway
-rounds-requires-clause-underway g c κs within =
-    underway-lent c.args.self.now c.args.phase.now (lists_of c.deref.result.now) c.deref_mut.result.now c.args.replies.items
-    (record { engine = c.facts.ensures.engine; going = c.requires.going; phase = c.requires.phase; room = c.requires.room })
-    c.requires.births c.requires.long
-    (ap lists_of c.deref.ensures.value ∙ ap (λ (p : PhaseLists). p.lanes) c.phase.view_is) c.deref_mut.ensures.value
+pub run_phase-told-requires-clause-going : goal.run_phase-told-requires-clause-going
+run_phase-told-requires-clause-going g c κs within = ap (λ (e : EngineView). e.ended) c.take_answers-answers.ensures.same ∙ c.requires.going
 
-pub returns-in-Ok-clause-done : goal.returns-in-Ok-clause-done
-returns-in-Ok-clause-done g c =
-    let phase = c.args.phase.now in
-    let same = c.rounds.auto.replies in
-    let lent = ap length c.deref_mut.ensures.value in
-    let len = c.deref_mut.ensures.len in
-    let gives = c.deref-in-Ok.ensures.value ∙ ap (λ (p : PhaseLists). p.gives) c.phase.view_is in
-    did-lent c.args.self.now c.rounds.new.self c.give_all.new.self phase (lists_of c.deref.result.now) c.deref_mut.result.now c.args.replies.items c.rounds.new.replies _
-    (record { engine = c.facts.ensures.engine; going = c.requires.going; phase = c.requires.phase; room = c.requires.room })
-    (ap lists_of c.deref.ensures.value ∙ ap (λ (p : PhaseLists). p.lanes) c.phase.view_is) c.deref_mut.ensures.value
-    (take_at c.rounds.new.replies _ c.args.replies.len (omega arith))
-    (omega (arith, c.requires.long)) c.in-Ok.ensures.on c.in-Ok.ensures.through
-    (λ s st. subst (λ gs. EngineStands c.give_all.new.self (after_gives s gs)) gives (c.give_all.ensures.given s st))
-    c.give_all.ensures.same c.room_facts.ensures
+pub run_phase-told-requires-clause-phase : goal.run_phase-told-requires-clause-phase
+run_phase-told-requires-clause-phase g c κs within = subst (λ (e : EngineView). IsPhase e.setup c.args.phase.now) (sym c.take_answers-answers.ensures.same) c.requires.phase
 
-pub returns-in-Ok-clause-births : goal.returns-in-Ok-clause-births
-returns-in-Ok-clause-births g c = λ j.
-    let few = births-lent c.args.self.now c.rounds.new.self c.args.phase.now (lists_of c.deref.result.now) c.deref_mut.result.now c.rounds.new.replies
-    (ap lists_of c.deref.ensures.value ∙ ap (λ (p : PhaseLists). p.lanes) c.phase.view_is) c.rounds.ensures.births j in
-    omega (arith, few, ap (λ (e : EngineView). get_or e.running.serials j 0) c.give_all.ensures.same)
+pub run_phase-told-requires-clause-births : goal.run_phase-told-requires-clause-births
+run_phase-told-requires-clause-births g c κs within = subst (λ (e : EngineView). HasRoomForOps e c.args.phase.now.lanes 0) (sym c.take_answers-answers.ensures.same) c.requires.births
 
-pub returns-in-Ok-clause-turns : goal.returns-in-Ok-clause-turns
-returns-in-Ok-clause-turns g c =
-    let phase = c.args.phase.now in
-    let same = c.rounds.auto.replies in
-    let lent = ap length c.deref_mut.ensures.value in
-    let len = c.deref_mut.ensures.len in
-    had-lent c.args.self.now c.rounds.new.self c.give_all.new.self phase (lists_of c.deref.result.now) (lists_of c.deref-2.result.now) c.deref_mut.result.now c.args.replies.items c.rounds.new.replies _ c.requires.room
-    (ap lists_of c.deref.ensures.value ∙ ap (λ (p : PhaseLists). p.lanes) c.phase.view_is)
-    (ap lists_of c.deref-2.ensures.value ∙ ap (λ (p : PhaseLists). p.turns) c.phase.view_is) c.deref_mut.ensures.value
-    (take_at c.rounds.new.replies _ c.args.replies.len (omega arith)) c.in-Ok.ensures.turns c.give_all.ensures.same
+pub returns-clause-done : goal.returns-clause-done
+returns-clause-done g c =
+    IfOk-weaker c.run_phase-told.result _ _
+    (λ told did. did-answers [] c.run_phase-told.new.answers.items c.take_answers-answers.ensures.same c.keep_answers.ensures did) c.run_phase-told.ensures.done
 
-pub returns-in-Err-clause-cut : goal.returns-in-Err-clause-cut
-returns-in-Err-clause-cut g c =
-    let same = c.rounds.auto.replies in
-    let lent = ap length c.deref_mut.ensures.value in
-    let len = c.deref_mut.ensures.len in
-    let os = lists_of c.deref.result.now in
-    cut-lent c.args.self.now c.rounds.new.self c.args.phase.now os c.deref_mut.result.now c.args.replies.items c.rounds.new.replies _ c.in-Err.need.0
-    (record { engine = c.facts.ensures.engine; going = c.requires.going; phase = c.requires.phase; room = c.requires.room })
-    c.facts-in-Err.ensures.engine
-    (ap lists_of c.deref.ensures.value ∙ ap (λ (p : PhaseLists). p.lanes) c.phase.view_is) c.deref_mut.ensures.value
-    (take_at c.rounds.new.replies _ c.args.replies.len (omega arith))
-    (omega (arith, c.requires.long)) c.in-Err.ensures.cut
+pub returns-clause-cut : goal.returns-clause-cut
+returns-clause-cut g c =
+    ended-weaker c.run_phase-told.result _ _
+    (λ told need cut. cut-answers [] c.run_phase-told.new.answers.items c.take_answers-answers.ensures.same c.keep_answers.ensures told need cut) c.run_phase-told.ensures.cut
 
-pub returns-in-Err-clause-cut_turns : goal.returns-in-Err-clause-cut_turns
-returns-in-Err-clause-cut_turns g c =
-    let same = c.rounds.auto.replies in
-    let lent = ap length c.deref_mut.ensures.value in
-    let len = c.deref_mut.ensures.len in
-    cut-turns-lent c.args.self.now c.rounds.new.self c.args.phase.now (lists_of c.deref.result.now) (lists_of c.deref-2.result.now) c.deref_mut.result.now c.args.replies.items c.rounds.new.replies _ c.requires.room
-    (ap lists_of c.deref.ensures.value ∙ ap (λ (p : PhaseLists). p.lanes) c.phase.view_is)
-    (ap lists_of c.deref-2.ensures.value ∙ ap (λ (p : PhaseLists). p.turns) c.phase.view_is) c.deref_mut.ensures.value
-    (take_at c.rounds.new.replies _ c.args.replies.len (omega arith)) c.in-Err.ensures.cut_turns
+pub returns-clause-turns : goal.returns-clause-turns
+returns-clause-turns g c =
+    IfOk-weaker c.run_phase-told.result _ _
+    (λ told had. had-answers c.run_phase-told.new.self [] c.run_phase-told.new.answers.items c.take_answers-answers.ensures.same c.keep_answers.ensures had) c.run_phase-told.ensures.turns
 
-pub returns-in-Err-clause-births : goal.returns-in-Err-clause-births
-returns-in-Err-clause-births g c =
-    births-lent c.args.self.now c.rounds.new.self c.args.phase.now (lists_of c.deref.result.now) c.deref_mut.result.now c.rounds.new.replies
-    (ap lists_of c.deref.ensures.value ∙ ap (λ (p : PhaseLists). p.lanes) c.phase.view_is) c.rounds.ensures.births
+pub returns-clause-cut_turns : goal.returns-clause-cut_turns
+returns-clause-cut_turns g c =
+    ended-weaker c.run_phase-told.result _ _
+    (λ told need had. cut-turns-answers c.run_phase-told.new.self [] c.run_phase-told.new.answers.items c.take_answers-answers.ensures.same c.keep_answers.ensures had) c.run_phase-told.ensures.cut_turns
+
+pub returns-clause-want : goal.returns-clause-want
+returns-clause-want g c = λ no. want-answers c.run_phase-told.new.self [] c.run_phase-told.new.answers.items c.take_answers-answers.ensures.same c.keep_answers.ensures (c.run_phase-told.ensures.want no)
+
+pub returns-clause-setup : goal.returns-clause-setup
+returns-clause-setup g c =
+    let taken = c.take_answers-answers.ensures.same in
+    let kept = c.keep_answers.ensures in
+    let same = c.run_phase-told.ensures.setup in
+    (ap (λ (e : EngineView). e.setup) kept ∙ same.0 ∙ ap (λ (e : EngineView). e.setup) taken, ap (λ (e : EngineView). e.workers) kept ∙ same.1 ∙ ap (λ (e : EngineView). e.workers) taken)
+
+pub returns-clause-births : goal.returns-clause-births
+returns-clause-births g c = λ j.
+    let births : (e : EngineView) → ℕ = λ e. get_or e.running.serials j 0 in
+    omega (arith, c.run_phase-told.ensures.births j, ap births c.keep_answers.ensures, ap births c.take_answers-answers.ensures.same)

@@ -1,8 +1,12 @@
-use Rattle.std.proofs.Common.{refl, ◌∙◌, arith}
+use Rattle.std.proofs.Common.{◌≡◌, Bool, length, refl, ap, ◌∙◌, arith}
 use Rattle.std.proofs.lemmas.Result.{err_from_is_err_and}
 use Rattle.bc_model.specs.Rows.{lists_of}
-use Rattle.bc_engine.proofs.RoundLemmas.{on-begun, on-then, small-then, underway-then}
-use Rattle.bc_engine.proofs.TurnLemmas.{turns-all, turns-begun, turns-cut, turns-more}
+use Rattle.bc_engine.specs.EngineFacts.{with_answers}
+use Rattle.bc_engine.specs.Engines.{EngineView}
+use Rattle.bc_engine.specs.Rounds.{CutRound, HasNoRoomFor, IsTooSmall, RanToCut, RanToWant}
+use Rattle.bc_engine.specs.Turns.{hints_at}
+use Rattle.bc_engine.proofs.RoundLemmas.{on-begun, on-then, room-both, small-then, small-weaker, underway-then}
+use Rattle.bc_engine.proofs.TurnLemmas.{turns-all, turns-begun, turns-cut, turns-more, turns-want}
 use Rattle.bc_engine.proofs.engines.Engine.rounds.Goals as goal
 
 pub rounds-init : goal.rounds-init
@@ -11,7 +15,8 @@ rounds-init g c = record {
   births = λ j. omega arith;
   on = on-begun (lists_of c.args.lanes.now) c.args.self.now c.args.replies.now c.requires.going;
   underway = c.requires.underway;
-  turns = turns-begun (lists_of c.args.lanes.now) (lists_of c.args.lines.now) c.args.self.now c.args.replies.now;
+  kept = c.requires.kept;
+  turns = turns-begun (lists_of c.args.lanes.now) (lists_of c.args.lines.now) (with_answers c.args.self.now c.args.answers.now.items) c.args.replies.now;
 }
 
 pub rounds-preserved : goal.rounds-preserved
@@ -23,7 +28,8 @@ rounds-preserved g c =
       births = λ j. omega (arith, round.births j, before.births j);
       on = on-then before.on c.in_ok-round.ensures.on;
       underway = underway-then round.same.1 c.in_ok-round.ensures.on before.underway;
-      turns = turns-more c.round.new.self c.round.new.replies c.round.new.next before.turns round.next (c.in_ok-round.ensures.turn c.if-branch.false);
+      kept = c.in_ok-round.ensures.kept;
+      turns = turns-more (with_answers c.round.new.self c.round.new.answers.items) c.round.new.replies c.round.new.next before.turns c.in_ok-round.ensures.next (c.in_ok-round.ensures.turn c.if-branch.false);
     }
 
 pub returns-then-branch-clause-births : goal.returns-then-branch-clause-births
@@ -37,15 +43,40 @@ pub returns-in_err-round-clause-births : goal.returns-in_err-round-clause-births
 returns-in_err-round-clause-births g c = λ j. omega (arith, c.round.ensures.births j, c.rounds.invariant.births j)
 
 pub returns-then-branch-clause-turns : goal.returns-then-branch-clause-turns
-returns-then-branch-clause-turns g c = turns-all c.round.new.self c.round.new.replies c.rounds.invariant.turns (c.in_ok-round.ensures.last_turn c.if-branch.true)
+returns-then-branch-clause-turns g c =
+    turns-all (with_answers c.round.new.self c.round.new.answers.items) c.round.new.replies c.rounds.invariant.turns (c.in_ok-round.ensures.last_turn c.if-branch.true)
 
 pub returns-in_err-round-clause-cut : goal.returns-in_err-round-clause-cut
 returns-in_err-round-clause-cut g c =
     let p = err_from_is_err_and c.from_residual.result c.from_residual.ensures.1 in
-    rw p.1 (rw p.2
-    (small-then c.round.new.self c.round.new.replies _ c.rounds.invariant.on c.in_err-round.ensures.cut))
+    let lanes = lists_of c.args.lanes.now in
+    rw p.1
+    (rw p.2
+    (small-weaker Bool (Unit {0}) _ (IsTooSmall lanes c.rounds.self c.rounds.replies c.round.new.self c.round.new.replies) (IsTooSmall lanes c.args.self.now c.args.replies.now c.round.new.self c.round.new.replies)
+    (λ need small. small-then c.round.new.self c.round.new.replies need c.rounds.invariant.on small) c.in_err-round.ensures.cut))
 
 pub returns-in_err-round-clause-cut_turns : goal.returns-in_err-round-clause-cut_turns
 returns-in_err-round-clause-cut_turns g c =
     let p = err_from_is_err_and c.from_residual.result c.from_residual.ensures.1 in
-    rw p.1 (turns-cut c.round.new.self c.round.new.replies c.rounds.invariant.turns c.in_err-round.ensures.cut_turn)
+    let lanes = lists_of c.args.lanes.now in
+    let lines = lists_of c.args.lines.now in
+    let f = with_answers c.round.new.self c.round.new.answers.items in
+    rw p.1
+    (rw p.2
+    (small-weaker Bool (Unit {0}) _ (λ need. CutRound lanes (with_answers c.rounds.self c.rounds.answers.items) c.rounds.replies (hints_at lines c.rounds.next) f c.round.new.replies)
+    (λ need. RanToCut lanes lines (with_answers c.args.self.now c.args.answers.now.items) c.args.replies.now f c.round.new.replies)
+    (λ need cut. turns-cut f c.round.new.replies c.rounds.invariant.turns cut) c.in_err-round.ensures.cut_turn))
+
+pub returns-in_err-round-clause-want : goal.returns-in_err-round-clause-want
+returns-in_err-round-clause-want g c =
+    let p = err_from_is_err_and c.from_residual.result c.from_residual.ensures.1 in
+    let lanes = lists_of c.args.lanes.now in
+    let lines = lists_of c.args.lines.now in
+    let f = with_answers c.round.new.self c.round.new.answers.items in
+    rw p.1
+    (rw p.2
+    (room-both Bool (Unit {0}) _ (HasNoRoomFor c.round.new.answers (length (hints_at lines c.rounds.next)))
+    ((c.round.new.self ≡ c.rounds.self) × (c.round.new.replies ≡ c.rounds.replies) × (c.round.new.answers.items ≡ c.rounds.answers.items))
+    (RanToWant lanes lines (with_answers c.args.self.now c.args.answers.now.items) c.args.replies.now f c.round.new.replies c.round.new.answers)
+    (λ wants same. turns-want f c.round.new.replies c.round.new.answers c.rounds.invariant.turns (ap (λ (x : EngineView). with_answers x c.round.new.answers.items) same.0 ∙ ap (with_answers c.rounds.self) same.2) same.1 wants)
+    c.in_err-round.ensures.no_room c.in_err-round.ensures.undone))

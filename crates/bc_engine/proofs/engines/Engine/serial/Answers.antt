@@ -15,7 +15,6 @@ invariant_of-self c =
             ready = ready-step c.self.inside.setup c.args.lane c.args.op.now c.operate.result e.stays e.sound e.step e.stopped old.ready;
             going = λ going. unrecorded-kept (e.unrecorded empty) e.stays unrecorded;
           };
-      unanswered = c.self.invariant.unanswered;
     }
 
 pub operate-requires-clause-sound : goal.operate-requires-clause-sound
