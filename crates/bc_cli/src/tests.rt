@@ -2,6 +2,7 @@
 
 mod devices;
 mod engines;
+mod gates;
 mod heaps;
 mod rows;
 mod sink;
