@@ -36,48 +36,65 @@ pub fn run_over<R: Threads + Sync>(rt: &R, alloc: Global, words: &[&str], input:
     }
 }
 
-/// Shows that `run` over this text is done, and what it writes.
+/// Shows that the words over these bytes end so, with a heap that is handed back or none, and what they write.
+pub fn shows<R: Threads + Sync + Abort>(
+    rt: &R,
+    alloc: Global,
+    words: &[&str],
+    input: Vec<u8>,
+    (status, has_heap): (Status, bool),
+    output: &str,
+) {
+    let ran = run_over(rt, alloc, words, input);
+    assert_eq!(rt; ran.status, status);
+    assert_eq!(rt; ran.has_heap, has_heap);
+    assert!(rt;
+        ran.written.as_slice() == output.as_bytes(),
+        "in place of {output}"
+    );
+}
+
+/// Shows that `run` over this header and these lines behind it is done, and what it writes.
 pub fn shows_done<R: Threads + Sync + Abort>(
     rt: &R,
     alloc: Global,
-    input: &str,
+    numbers: [u32; 7],
+    lines: &str,
     output: &str,
 ) -> Result<(), AllocError> {
-    let ran = run_over(rt, alloc, &["run"], input.as_bytes().to_vec(alloc)?);
-    assert_eq!(rt; ran.status, Status::Done);
-    assert!(rt; ran.has_heap);
-    assert!(rt; ran.written.as_slice() == output.as_bytes(), "at {input}");
+    let input = trace(alloc, numbers, lines)?.into_bytes();
+    shows(rt, alloc, &["run"], input, (Status::Done, true), output);
     Ok(())
 }
 
-/// Shows that `run` over this text is refused, where and why, and that nothing is written.
+/// Shows that `run` over this header and these lines behind it is refused, where and why, and that nothing is written.
 pub fn shows_fault<R: Threads + Sync + Abort>(
     rt: &R,
     alloc: Global,
-    input: &str,
+    numbers: [u32; 7],
+    lines: &str,
     line: u32,
     cause: Cause,
 ) -> Result<(), AllocError> {
-    let ran = run_over(rt, alloc, &["run"], input.as_bytes().to_vec(alloc)?);
-    assert_eq!(rt; ran.status, Status::BadTrace { line, cause });
-    assert!(rt; !ran.has_heap);
-    assert!(rt; ran.written.is_empty());
+    let input = trace(alloc, numbers, lines)?.into_bytes();
+    let status = Status::BadTrace { line, cause };
+    shows(rt, alloc, &["run"], input, (status, false), "");
     Ok(())
 }
 
-/// The header's eight lines.
-pub fn header(alloc: Global, numbers: [u32; 7]) -> Result<String, AllocError> {
+/// The header's eight lines, and lines behind it.
+pub fn trace(alloc: Global, numbers: [u32; 7], lines: &str) -> Result<String, AllocError> {
     let [lanes, domains, slots, superpages, nursery, buffer, frames] = numbers;
     format!(in alloc;
-        "bc-trace 1\nlanes {lanes}\ndomains {domains}\nslots {slots}\nsuperpages {superpages}\nnursery {nursery}\nbuffer {buffer}\nframes {frames}\n"
+        "bc-trace 1\nlanes {lanes}\ndomains {domains}\nslots {slots}\nsuperpages {superpages}\nnursery {nursery}\nbuffer {buffer}\nframes {frames}\n{lines}"
     )
 }
 
-/// A trace of one phase and one lane: the header and the lane's lines.
-pub fn one_phase(alloc: Global, numbers: [u32; 7], lines: &str) -> Result<String, AllocError> {
-    let mut text = header(alloc, numbers)?;
-    text.push_str("phase\nlane 0\n")?;
-    text.push_str(lines)?;
-    text.push_str("end\ndone\n")?;
+/// These lines so many times.
+pub fn repeated(alloc: Global, lines: &str, times: u32) -> Result<String, AllocError> {
+    let mut text = String::new(alloc);
+    for _ in 0..times {
+        text.push_str(lines)?;
+    }
     Ok(text)
 }

@@ -74,6 +74,38 @@ fn run_over<R: Threads + Sync>(
     run_between(rt, alloc, &["run"], source, sink)
 }
 
+/// Shows how a run over such devices ends, with a heap that is handed back or none, and what it leaves.
+fn leaves<R: Threads + Sync + Abort>(
+    rt: &R,
+    alloc: Global,
+    trace: &[u8],
+    reads: (usize, u64),
+    writes: (usize, u64),
+    end: (Status, bool),
+    held: &[u8],
+) -> Result<(), AllocError>
+    requires trace { length trace.now ≤ 277 }
+    requires reads { 0 < reads.0 }
+    requires writes { 0 < writes.0 }
+{
+    let left = run_over(rt, alloc, trace, reads, writes)?;
+    shows(rt, &left, end, held, (reads.1, writes.1));
+    Ok(())
+}
+
+/// Shows what was left where the read and the write of these numbers failed.
+fn shows<R: Abort>(
+    rt: &R,
+    left: &Left,
+    (status, has_heap): (Status, bool),
+    held: &[u8],
+    (read, write): (u64, u64),
+) {
+    assert_eq!(rt; left.status, status, "at read {read}, write {write}");
+    assert_eq!(rt; left.has_heap, has_heap);
+    assert_eq!(rt; left.held.as_slice(), held, "at read {read}, write {write}");
+}
+
 /// Shows that the run stops at the write of this number, of so many bytes at most, and leaves this front of the output.
 fn stops_at_write<R: Threads + Sync + Abort>(
     rt: &R,
@@ -85,36 +117,27 @@ fn stops_at_write<R: Threads + Sync + Abort>(
     requires trace { length trace.now ≤ 277 }
     requires write { 0 < write.0 }
 {
-    let left = run_over(rt, alloc, trace, (4096, 0), write)?;
-    assert_eq!(rt;
-        left.status,
-        Status::WriteFault,
-        "at write {} of {}",
-        write.1,
-        write.0
-    );
-    assert!(rt; left.has_heap);
-    assert_eq!(rt;
-        left.held.as_slice(),
-        front,
-        "at write {} of {}",
-        write.1,
-        write.0
-    );
-    Ok(())
+    let end = (Status::WriteFault, true);
+    leaves(rt, alloc, trace, (4096, 0), write, end, front)
 }
 
 #[test]
 fn each_read_that_fails_ends_the_run_with_nothing_written(rt: HostRuntime) -> Result<(), Fail> {
+    let alloc = rt.alloc();
+    let fault = (Status::ReadFault, false);
     for number in 1..=10 {
-        let left = run_over(&rt, rt.alloc(), FIRST_PATH, (16, number), (1000, 0))?;
-        assert_eq!(rt; left.status, Status::ReadFault, "at read {number}");
-        assert!(rt; !left.has_heap);
-        assert!(rt; left.held.is_empty());
+        leaves(&rt, alloc, FIRST_PATH, (16, number), (1000, 0), fault, b"")?;
     }
-    let left = run_over(&rt, rt.alloc(), FIRST_PATH, (16, 11), (1000, 0))?;
-    assert_eq!(rt; left.status, Status::Done);
-    assert_eq!(rt; left.held.as_slice(), FIRST_OUTPUT.as_slice());
+    let done = (Status::Done, true);
+    leaves(
+        &rt,
+        alloc,
+        FIRST_PATH,
+        (16, 11),
+        (1000, 0),
+        done,
+        FIRST_OUTPUT,
+    )?;
     Ok(())
 }
 
@@ -156,10 +179,8 @@ fn a_write_that_fails_in_the_line_of_the_need_leaves_a_front_of_it(
     let alloc = rt.alloc();
     stops_at_write(&rt, alloc, CUT_SHORT, (10, 16), &CUT_OUTPUT[..144])?;
     stops_at_write(&rt, alloc, CUT_SHORT, (10, 17), &CUT_OUTPUT[..154])?;
-    let left = run_over(&rt, alloc, CUT_SHORT, (4096, 0), (10, 18))?;
-    assert_eq!(rt; left.status, Status::OutOfHeap { need: 3 });
-    assert!(rt; left.has_heap);
-    assert_eq!(rt; left.held.as_slice(), CUT_OUTPUT.as_slice());
+    let end = (Status::OutOfHeap { need: 3 }, true);
+    leaves(&rt, alloc, CUT_SHORT, (4096, 0), (10, 18), end, CUT_OUTPUT)?;
     Ok(())
 }
 
@@ -170,43 +191,51 @@ fn each_text_and_each_last_line_is_one_write(rt: HostRuntime) -> Result<(), Fail
     stops_at_write(&rt, alloc, CUT_SHORT, (1000, 2), &CUT_OUTPUT[..38])?;
     stops_at_write(&rt, alloc, CUT_SHORT, (1000, 3), &CUT_OUTPUT[..74])?;
     stops_at_write(&rt, alloc, CUT_SHORT, (1000, 4), &CUT_OUTPUT[..144])?;
-    let left = run_over(&rt, alloc, CUT_SHORT, (4096, 0), (1000, 5))?;
-    assert_eq!(rt; left.status, Status::OutOfHeap { need: 3 });
-    let left = run_over(&rt, alloc, FIRST_PATH, (4096, 0), (1000, 3))?;
-    assert_eq!(rt; left.status, Status::Done);
+    let end = (Status::OutOfHeap { need: 3 }, true);
+    leaves(&rt, alloc, CUT_SHORT, (4096, 0), (1000, 5), end, CUT_OUTPUT)?;
+    let end = (Status::Done, true);
+    leaves(
+        &rt,
+        alloc,
+        FIRST_PATH,
+        (4096, 0),
+        (1000, 3),
+        end,
+        FIRST_OUTPUT,
+    )?;
     Ok(())
 }
 
-/// The words `churn 7 0` over a source of which every read fails. The one write of this number, of so many bytes at most, fails.
-fn churn_over<R: Threads + Sync>(
+/// Shows how the words `churn 7 0` end over a source of which every read fails, and what they leave. The one write of this number, of so
+/// many bytes at most, fails.
+fn churn_leaves<R: Threads + Sync + Abort>(
     rt: &R,
     alloc: Global,
     write: (usize, u64),
-) -> Result<Left, AllocError>
+    status: Status,
+    held: &[u8],
+) -> Result<(), AllocError>
     requires write { 0 < write.0 }
 {
-    let source = MemSource::new(FIRST_PATH.to_vec(alloc)?, 4096, vec![in alloc; 1]?);
+    let source = MemSource::new(Vec::new(alloc), 4096, vec![in alloc; 1]?);
     let sink = MemSink::new(alloc, 1148, write.0, vec![in alloc; write.1]?)?;
-    run_between(rt, alloc, &["churn", "7", "0"], source, sink)
+    let left = run_between(rt, alloc, &["churn", "7", "0"], source, sink)?;
+    shows(rt, &left, (status, true), held, (1, write.1));
+    Ok(())
 }
 
 #[test]
 fn churn_reads_nothing_and_tells_its_counts_in_88_bytes(rt: HostRuntime) -> Result<(), Fail> {
-    let left = churn_over(&rt, rt.alloc(), (1000, 0))?;
-    assert_eq!(rt; left.status, Status::Done);
-    assert!(rt; left.has_heap);
-    assert_eq!(rt; left.held.as_slice(), NOTHING_DRAWN.as_slice());
+    let alloc = rt.alloc();
+    churn_leaves(&rt, alloc, (1000, 0), Status::Done, NOTHING_DRAWN)?;
     Ok(())
 }
 
 #[test]
 fn the_output_of_churn_is_one_write(rt: HostRuntime) -> Result<(), Fail> {
-    let left = churn_over(&rt, rt.alloc(), (1000, 1))?;
-    assert_eq!(rt; left.status, Status::WriteFault);
-    assert!(rt; left.has_heap);
-    assert!(rt; left.held.is_empty());
-    let left = churn_over(&rt, rt.alloc(), (1000, 2))?;
-    assert_eq!(rt; left.status, Status::Done);
+    let alloc = rt.alloc();
+    churn_leaves(&rt, alloc, (1000, 1), Status::WriteFault, b"")?;
+    churn_leaves(&rt, alloc, (1000, 2), Status::Done, NOTHING_DRAWN)?;
     Ok(())
 }
 
@@ -214,18 +243,12 @@ fn the_output_of_churn_is_one_write(rt: HostRuntime) -> Result<(), Fail> {
 fn a_write_that_fails_in_the_output_of_churn_leaves_a_front_of_it(
     rt: HostRuntime,
 ) -> Result<(), Fail> {
+    let alloc = rt.alloc();
     for number in 1..=9 {
-        let left = churn_over(&rt, rt.alloc(), (10, number))?;
         let taken = number as usize * 10 - 10;
-        assert_eq!(rt; left.status, Status::WriteFault, "at write {number}");
-        assert!(rt; left.has_heap);
-        assert_eq!(rt;
-            left.held.as_slice(),
-            &NOTHING_DRAWN[..taken],
-            "at write {number}"
-        );
+        let front = &NOTHING_DRAWN[..taken];
+        churn_leaves(&rt, alloc, (10, number), Status::WriteFault, front)?;
     }
-    let left = churn_over(&rt, rt.alloc(), (10, 10))?;
-    assert_eq!(rt; left.status, Status::Done);
+    churn_leaves(&rt, alloc, (10, 10), Status::Done, NOTHING_DRAWN)?;
     Ok(())
 }

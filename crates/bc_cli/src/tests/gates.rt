@@ -1,7 +1,7 @@
 //! Lanes run side by side, and do nearly all of their operations so: shown by gates that they pass.
 
 use super::sink::Paper;
-use super::{header, one_phase};
+use super::{repeated, trace};
 use crate::{Gate, Status, top};
 use bc_io::MemSource;
 use std::alloc::{AllocError, Global};
@@ -52,11 +52,9 @@ impl Gate for Counting {
 fn all_operations_but_those_that_find_the_chunk_full_are_done_in_turns(
     rt: HostRuntime,
 ) -> Result<(), Fail> {
-    let mut lines = String::new(rt.alloc());
-    for _ in 0..10_000 {
-        lines.push_str("new 0 0 0\n")?;
-    }
-    let text = one_phase(rt.alloc(), [1, 1, 2, 1, 1, 4, 3], &lines)?;
+    let news = repeated(rt.alloc(), "new 0 0 0\n", 10_000)?;
+    let lines = format!(in rt.alloc(); "phase\nlane 0\n{news}end\ndone\n")?;
+    let text = trace(rt.alloc(), [1, 1, 2, 1, 1, 4, 3], &lines)?;
     let gate = Counting {
         who: 0,
         point: AFTER,
@@ -121,8 +119,8 @@ impl Gate for Crossing {
 fn two_lanes_that_wait_for_each_other_in_both_orders_both_come_through(
     rt: HostRuntime,
 ) -> Result<(), Fail> {
-    let mut text = header(rt.alloc(), [2, 2, 1, 2, 1, 4, 4])?;
-    text.push_str("phase\nlane 0\nnew 0 0 0\nlane 1\nnew 1 0 0\nwho 1 0\nend\ndone\n")?;
+    let lines = "phase\nlane 0\nnew 0 0 0\nlane 1\nnew 1 0 0\nwho 1 0\nend\ndone\n";
+    let text = trace(rt.alloc(), [2, 2, 1, 2, 1, 4, 4], lines)?;
     let gate = Crossing {
         begun_by_1: AtomicU64::new(0),
         done_by_0: AtomicU64::new(0),

@@ -1,7 +1,7 @@
 //! Words, and what is done for them.
 
 use super::sink::Paper;
-use super::{one_phase, run_over};
+use super::{shows, trace};
 use crate::{OpenGate, Status, top};
 use bc_io::MemSource;
 use std::alloc::{AllocError, Global};
@@ -44,48 +44,29 @@ fn words_that_are_no_command_are_refused_and_nothing_is_read(rt: HostRuntime) ->
 
 #[test]
 fn run_prints_the_same_with_any_number_of_workers(rt: HostRuntime) -> Result<(), Fail> {
-    let lines = "new 0 0 2\nset 0 0 1 7\nload 0 0 1 0 1\n";
-    let text = one_phase(rt.alloc(), [1, 1, 2, 1, 1, 4, 3], lines)?;
-    let output = b"phase 1\nlane 0\nobj 0.1\nok\nnum 7\ndone\n";
-    let apart = run_over(
-        &rt,
-        rt.alloc(),
-        &["run", "--workers", "2"],
-        text.as_bytes().to_vec(rt.alloc())?,
-    );
-    assert_eq!(rt; apart.status, Status::Done);
-    assert_eq!(rt; apart.written.as_slice(), output.as_slice());
-    let joined = run_over(
-        &rt,
-        rt.alloc(),
-        &["run", "--workers=2"],
-        text.as_bytes().to_vec(rt.alloc())?,
-    );
-    assert_eq!(rt; joined.status, Status::Done);
-    assert_eq!(rt; joined.written.as_slice(), output.as_slice());
-    let most = run_over(
-        &rt,
-        rt.alloc(),
-        &["run", "--workers=16", "--"],
-        text.as_bytes().to_vec(rt.alloc())?,
-    );
-    assert_eq!(rt; most.status, Status::Done);
-    assert_eq!(rt; most.written.as_slice(), output.as_slice());
+    shows_first_path(&rt, rt.alloc(), &["run", "--workers", "2"])?;
+    shows_first_path(&rt, rt.alloc(), &["run", "--workers=2"])?;
+    shows_first_path(&rt, rt.alloc(), &["run", "--workers=16", "--"])?;
+    Ok(())
+}
+
+/// Shows what these words print over a trace of one phase.
+fn shows_first_path<R: Threads + Sync + Abort>(
+    rt: &R,
+    alloc: Global,
+    words: &[&str],
+) -> Result<(), AllocError> {
+    let lines = "phase\nlane 0\nnew 0 0 2\nset 0 0 1 7\nload 0 0 1 0 1\nend\ndone\n";
+    let input = trace(alloc, [1, 1, 2, 1, 1, 4, 3], lines)?.into_bytes();
+    let output = "phase 1\nlane 0\nobj 0.1\nok\nnum 7\ndone\n";
+    shows(rt, alloc, words, input, (Status::Done, true), output);
     Ok(())
 }
 
 /// Shows what `churn` with these words prints.
-fn shows_churn<R: Threads + Sync + Abort>(
-    rt: &R,
-    alloc: Global,
-    words: &[&str],
-    output: &str,
-) -> Result<(), AllocError> {
-    let ran = run_over(rt, alloc, words, Vec::new(alloc));
-    assert_eq!(rt; ran.status, Status::Done);
-    assert!(rt; ran.has_heap);
-    assert_eq!(rt; ran.written.as_slice(), output.as_bytes());
-    Ok(())
+fn shows_churn<R: Threads + Sync + Abort>(rt: &R, alloc: Global, words: &[&str], output: &str) {
+    let end = (Status::Done, true);
+    shows(rt, alloc, words, Vec::new(alloc), end, output);
 }
 
 #[test]
@@ -93,23 +74,20 @@ fn churn_takes_two_hyphens_and_workers_among_its_numbers(rt: HostRuntime) -> Res
     let alloc = rt.alloc();
     let output =
         "churn 7 0\nobj 0\nok 0\nnil 0\nnum 0\nref 0\nlen 0\nyes 0\nno 0\nnotobj 0\nrange 0\nforeign 0\ndone\n";
-    shows_churn(&rt, alloc, &["churn", "7", "0"], output)?;
-    shows_churn(&rt, alloc, &["churn", "--", "7", "0"], output)?;
-    shows_churn(&rt, alloc, &["churn", "7", "--workers", "3", "0"], output)?;
+    shows_churn(&rt, alloc, &["churn", "7", "0"], output);
+    shows_churn(&rt, alloc, &["churn", "--", "7", "0"], output);
+    shows_churn(&rt, alloc, &["churn", "7", "--workers", "3", "0"], output);
     Ok(())
 }
 
-#[test]
-fn the_counts_of_churn_1_20000_add_up_to_40640_with_any_number_of_workers(
-    rt: HostRuntime,
-) -> Result<(), Fail> {
-    let alloc = rt.alloc();
+/// What `churn 1 20000` prints.
+fn counted(alloc: Global) -> Result<String, AllocError> {
     let [
         obj,
         ok,
         nil,
         num,
-        reference,
+        link,
         len,
         yes,
         no,
@@ -117,26 +95,34 @@ fn the_counts_of_churn_1_20000_add_up_to_40640_with_any_number_of_workers(
         range,
         foreign,
     ] = COUNTS;
+    format!(in alloc;
+        "churn 1 20000\nobj {obj}\nok {ok}\nnil {nil}\nnum {num}\nref {link}\nlen {len}\nyes {yes}\nno {no}\nnotobj {not_object}\nrange {range}\nforeign {foreign}\ndone\n"
+    )
+}
+
+#[test]
+fn the_counts_of_churn_1_20000_add_up_to_40640_with_any_number_of_workers(
+    rt: HostRuntime,
+) -> Result<(), Fail> {
+    let alloc = rt.alloc();
     let mut sum: u64 = 0;
     for count in COUNTS {
         sum = count.saturating_add(sum);
     }
     assert_eq!(rt; sum, 40_640);
-    let output = format!(in alloc;
-        "churn 1 20000\nobj {obj}\nok {ok}\nnil {nil}\nnum {num}\nref {reference}\nlen {len}\nyes {yes}\nno {no}\nnotobj {not_object}\nrange {range}\nforeign {foreign}\ndone\n"
-    )?;
-    shows_churn(&rt, alloc, &["churn", "1", "20000"], &output)?;
+    let output = counted(alloc)?;
+    shows_churn(&rt, alloc, &["churn", "1", "20000"], &output);
     shows_churn(
         &rt,
         alloc,
         &["churn", "1", "20000", "--workers", "1"],
         &output,
-    )?;
+    );
     shows_churn(
         &rt,
         alloc,
         &["churn", "1", "20000", "--workers", "16"],
         &output,
-    )?;
+    );
     Ok(())
 }
