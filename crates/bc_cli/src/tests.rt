@@ -3,6 +3,7 @@
 mod devices;
 mod engines;
 mod gates;
+mod gates_pager;
 mod heaps;
 mod rows;
 mod sink;
