@@ -4,6 +4,7 @@ ghost use Rattle.std.specs.Prelude.{◌≡◌, ◌<◌, []};
 ghost use Rattle.bc_pins.specs.Key.{pages_of};
 ghost use Rattle.bc_pins.specs.Calls.{key_of, view_of, IsAt, IsSameSeat, IsFree};
 
+mod beside;
 mod evicting;
 mod furnished;
 

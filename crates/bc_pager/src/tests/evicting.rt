@@ -12,7 +12,7 @@ use std::alloc::Global;
 use std::test::Fail;
 
 /// A space of one superpage with objects on the pages 0, 1 and 2, of which page 1 is Remembered.
-fn three_pages(alloc: Global) -> Option<Space>
+pub(super) fn three_pages(alloc: Global) -> Option<Space>
     ensures openable { IfSome result (λ space. IsOpenable space) }
 {
     let Ok(mut furnished) = Furnished::new(alloc, 1, 6) else {

@@ -29,8 +29,8 @@ served-answers-requires-clause-none g c =
     let two = popped_two _ _ _ (Lane 0) (Pager 0) _ _ _ _ _ (search rules) c.in-Ok.ensures.opened.seats_are c.in-Some.ensures.items c.in-Some-pop.ensures.items in
     ap (λ (m : Mine). m.0.rights) two.0.1.me
 
-pub close-_space-requires : goal.close-_space-requires
-close-_space-requires g c =
+pub close-space-requires : goal.close-space-requires
+close-space-requires g c =
     let opened = c.in-Ok.ensures.opened in
     let pins = c.in-Ok.pins in
     let told = c.served-answers.ensures in
