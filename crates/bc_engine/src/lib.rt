@@ -50,6 +50,7 @@
 mod engines;
 mod lanes;
 mod laws;
+mod paces;
 mod phases;
 mod rounds;
 mod turns;

@@ -1,0 +1,167 @@
+//! When turns have a table: where one is likely to pay, and not again at once where one didn't.
+
+ghost use Rattle.std.specs.Prelude.{◌≡◌, length};
+
+use bc_model::{Op, Reply, Setup};
+
+/// To open a table and to close it takes at least the time of so many operations.
+const OPERATIONS_A_TABLE: u64 = 128;
+
+/// To start a thread and to end it takes a fraction of the time that so many operations take.
+const OPERATIONS_A_THREAD: u64 = 4_096;
+
+/// No lane is looked further ahead than so many operations.
+const OPERATIONS_AHEAD: u64 = 8_192;
+
+/// At most so many turns in a row go without a table that would have had one.
+const LONGEST_WAIT: u32 = 255;
+
+/// How the tables of earlier turns paid. After one in which the lanes did little, since there was little to do or they came to pages that
+/// are gone, turns go without: one, and then three, seven and so on, until a table pays.
+#[derive(Drop)]
+pub(crate) struct Pace {
+    /// So many turns are to go without a table.
+    waits: u32,
+    /// So many went without after the last table that didn't pay.
+    waited: u32,
+    /// What the table of the turn under way costs, as so many operations; 0 where it has none.
+    costs: u64,
+}
+
+impl Pace {
+    /// No turn was taken yet.
+    pub(crate) fn new() -> Pace {
+        Pace {
+            waits: 0,
+            waited: 0,
+            costs: 0,
+        }
+    }
+
+    /// Is this turn to go without a table?
+    fn is_waiting(&mut self) -> bool {
+        if self.waits == 0 {
+            return false;
+        }
+        self.waits = self.waits.saturating_sub(1);
+        true
+    }
+
+    /// Notes that the lanes did so many operations in the turn under way.
+    pub(crate) fn note(&mut self, done: u64) {
+        if self.costs == 0 {
+            return;
+        }
+        if done < self.costs / 4 {
+            self.waited = self
+                .waited
+                .saturating_mul(2)
+                .saturating_add(1)
+                .min(LONGEST_WAIT);
+            self.waits = self.waited;
+        } else {
+            self.waited = 0;
+        }
+    }
+}
+
+/// How many replies all lanes have.
+pub(crate) fn replies_told(replies: &[Vec<Reply>]) -> u64 {
+    let mut told = 0u64;
+    for lane in 0..replies.len() {
+        told = told.saturating_add(replies[lane].len() as u64);
+    }
+    told
+}
+
+/// Is the turn to have a table? Where notices came it is, so that a pager works beside the lanes. Else it is where a table is likely to
+/// pay, unless one didn't lately.
+pub(crate) fn is_worth_a_table(
+    setup: &Setup,
+    pace: &mut Pace,
+    lanes: &[Vec<Op>],
+    replies: &[Vec<Reply>],
+    hints: &[u32],
+) -> bool
+    requires { length replies.now ≡ length lanes.now }
+{
+    pace.costs = 0;
+    if hints.is_empty() && (pace.is_waiting() || !is_likely_to_pay(setup, lanes, replies)) {
+        return false;
+    }
+    pace.costs = table_costs(setup, lanes, replies);
+    true
+}
+
+/// Is a table likely to pay? The first turn of a phase has one where enough is left to do, and a later one where the turn is likely to be
+/// long.
+fn is_likely_to_pay(setup: &Setup, lanes: &[Vec<Op>], replies: &[Vec<Reply>]) -> bool
+    requires { length replies.now ≡ length lanes.now }
+{
+    let mut begun = false;
+    let mut left = 0u64;
+    let mut ahead = 0u64;
+    for lane in 0..lanes.len() {
+        let done = replies[lane].len();
+        begun = begun || done > 0;
+        if done < lanes[lane].len() {
+            left = left.saturating_add(lanes[lane].len().saturating_sub(done) as u64);
+            ahead = ahead.saturating_add(operations_ahead(setup, &lanes[lane], done));
+        }
+    }
+    if begun {
+        ahead > table_costs(setup, lanes, replies)
+    } else {
+        left > looked_at(setup) / 8
+    }
+}
+
+/// What a table costs, as so many operations: to open it is to look at the lanes' root slots and at the frames, and each lane that has
+/// operations left but one gets a thread.
+fn table_costs(setup: &Setup, lanes: &[Vec<Op>], replies: &[Vec<Reply>]) -> u64
+    requires { length replies.now ≡ length lanes.now }
+{
+    let mut threads = 0u64;
+    for lane in 0..lanes.len() {
+        if replies[lane].len() < lanes[lane].len() {
+            threads = threads.saturating_add(OPERATIONS_A_THREAD);
+        }
+    }
+    let alone = looked_at(setup).saturating_add(OPERATIONS_A_TABLE);
+    alone.saturating_add(threads.saturating_sub(OPERATIONS_A_THREAD))
+}
+
+/// How many root slots and frames there are.
+fn looked_at(setup: &Setup) -> u64 {
+    setup.domains as u64 * setup.slots as u64 + setup.frames as u64
+}
+
+/// About how many operations a lane does until its chunk or its write buffer is full, or all are done, from this one on. It looks no
+/// further ahead than `OPERATIONS_AHEAD`.
+fn operations_ahead(setup: &Setup, ops: &[Op], from: usize) -> u64 {
+    let mut words = setup.nursery as u64 * 512;
+    let mut entries = setup.buffer as u64;
+    for number in from..ops.len() {
+        let ahead = (number as u64).saturating_sub(from as u64);
+        if ahead >= OPERATIONS_AHEAD {
+            return ahead;
+        }
+        match &ops[number] {
+            Op::New(_, fields) => {
+                let size = *fields as u64 + 2;
+                if words < size {
+                    return ahead;
+                }
+                words -= size;
+            }
+            Op::Link(_, _, _) => {
+                if entries == 0 {
+                    return ahead;
+                }
+                entries -= 1;
+            }
+            _ => {}
+        }
+    }
+    (ops.len() as u64).saturating_sub(from as u64)
+}
