@@ -16,29 +16,26 @@ const OPERATIONS_AHEAD: u64 = 8_192;
 /// At most so many turns in a row go without a table that would have had one.
 const LONGEST_WAIT: u32 = 255;
 
-/// How the tables of earlier turns paid. After one in which the lanes did little, since there was little to do or they came to pages that
-/// are gone, turns go without: one, and then three, seven and so on, until a table pays.
+/// Turns of a kind that are to go without a table since one didn't pay: one, and after the next that doesn't three, then seven and so on,
+/// until a table pays.
 #[derive(Drop)]
-pub(crate) struct Pace {
-    /// So many turns are to go without a table.
+struct Wait {
+    /// So many turns are to go without.
     waits: u32,
     /// So many went without after the last table that didn't pay.
     waited: u32,
-    /// What the table of the turn under way costs, as so many operations; 0 where it has none.
-    costs: u64,
 }
 
-impl Pace {
-    /// No turn was taken yet.
-    pub(crate) fn new() -> Pace {
-        Pace {
+impl Wait {
+    /// No turn is to go without.
+    fn none() -> Wait {
+        Wait {
             waits: 0,
             waited: 0,
-            costs: 0,
         }
     }
 
-    /// Is this turn to go without a table?
+    /// Is this turn to go without?
     fn is_waiting(&mut self) -> bool {
         if self.waits == 0 {
             return false;
@@ -47,20 +44,54 @@ impl Pace {
         true
     }
 
-    /// Notes that the lanes did so many operations in the turn under way.
-    pub(crate) fn note(&mut self, done: u64) {
-        if self.costs == 0 {
-            return;
-        }
-        if done < self.costs / 4 {
+    /// Notes whether a table paid.
+    fn note(&mut self, paid: bool) {
+        if paid {
+            self.waited = 0;
+        } else {
             self.waited = self
                 .waited
                 .saturating_mul(2)
                 .saturating_add(1)
                 .min(LONGEST_WAIT);
             self.waits = self.waited;
+        }
+    }
+}
+
+/// How the tables of earlier turns paid. A turn that was likely to be long did little where its lanes came to pages that are gone; one that
+/// was short from the first had little to do.
+#[derive(Drop)]
+pub(crate) struct Pace {
+    long: Wait,
+    short: Wait,
+    /// What the table of the turn under way costs, as so many operations; 0 where it has none of which is to be learnt.
+    costs: u64,
+    /// Was the turn under way likely to be long?
+    is_long: bool,
+}
+
+impl Pace {
+    /// No turn was taken yet.
+    pub(crate) fn new() -> Pace {
+        Pace {
+            long: Wait::none(),
+            short: Wait::none(),
+            costs: 0,
+            is_long: false,
+        }
+    }
+
+    /// Notes that the lanes did so many operations in the turn under way.
+    pub(crate) fn note(&mut self, done: u64) {
+        if self.costs == 0 {
+            return;
+        }
+        let paid = done >= self.costs / 4;
+        if self.is_long {
+            self.long.note(paid);
         } else {
-            self.waited = 0;
+            self.short.note(paid);
         }
     }
 }
@@ -74,8 +105,8 @@ pub(crate) fn replies_told(replies: &[Vec<Reply>]) -> u64 {
     told
 }
 
-/// Is the turn to have a table? Where notices came it is, so that a pager works beside the lanes. Else it is where a table is likely to
-/// pay, unless one didn't lately.
+/// Is the turn to have a table? Where notices came it is, so that a pager works beside the lanes. Else it is where it is likely to be
+/// long, and the first turn of a phase is where it has some operations for what a table looks at, unless such a table didn't pay lately.
 pub(crate) fn is_worth_a_table(
     setup: &Setup,
     pace: &mut Pace,
@@ -86,34 +117,36 @@ pub(crate) fn is_worth_a_table(
     requires { length replies.now ≡ length lanes.now }
 {
     pace.costs = 0;
-    if hints.is_empty() && (pace.is_waiting() || !is_likely_to_pay(setup, lanes, replies)) {
+    if !hints.is_empty() {
+        return true;
+    }
+    let costs = table_costs(setup, lanes, replies);
+    let ahead = all_ahead(setup, lanes, replies);
+    pace.is_long = ahead > costs;
+    if pace.is_long {
+        if pace.long.is_waiting() {
+            return false;
+        }
+    } else if replies_told(replies) > 0
+        || ahead <= looked_at(setup) / 8
+        || pace.short.is_waiting()
+    {
         return false;
     }
-    pace.costs = table_costs(setup, lanes, replies);
+    pace.costs = costs;
     true
 }
 
-/// Is a table likely to pay? The first turn of a phase has one where enough is left to do, and a later one where the turn is likely to be
-/// long.
-fn is_likely_to_pay(setup: &Setup, lanes: &[Vec<Op>], replies: &[Vec<Reply>]) -> bool
+/// About how many operations all lanes do in a turn.
+fn all_ahead(setup: &Setup, lanes: &[Vec<Op>], replies: &[Vec<Reply>]) -> u64
     requires { length replies.now ≡ length lanes.now }
 {
-    let mut begun = false;
-    let mut left = 0u64;
     let mut ahead = 0u64;
     for lane in 0..lanes.len() {
         let done = replies[lane].len();
-        begun = begun || done > 0;
-        if done < lanes[lane].len() {
-            left = left.saturating_add(lanes[lane].len().saturating_sub(done) as u64);
-            ahead = ahead.saturating_add(operations_ahead(setup, &lanes[lane], done));
-        }
+        ahead = ahead.saturating_add(operations_ahead(setup, &lanes[lane], done));
     }
-    if begun {
-        ahead > table_costs(setup, lanes, replies)
-    } else {
-        left > looked_at(setup) / 8
-    }
+    ahead
 }
 
 /// What a table costs, as so many operations: to open it is to look at the lanes' root slots and at the frames, and each lane that has
