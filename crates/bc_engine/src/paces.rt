@@ -4,7 +4,7 @@ ghost use Rattle.std.specs.Prelude.{◌≡◌, length};
 
 use bc_model::{Op, Reply, Setup};
 
-/// To open a table and to close it takes at least the time of so many operations.
+/// To open a table and to close it takes at least the time of so many operations besides.
 const OPERATIONS_A_TABLE: u64 = 128;
 
 /// To start a thread and to end it takes a fraction of the time that so many operations take.
@@ -133,7 +133,7 @@ pub(crate) fn is_worth_a_table(
     {
         return false;
     }
-    pace.costs = costs;
+    pace.costs = costs.saturating_add(OPERATIONS_A_TABLE);
     true
 }
 
@@ -149,8 +149,8 @@ fn all_ahead(setup: &Setup, lanes: &[Vec<Op>], replies: &[Vec<Reply>]) -> u64
     ahead
 }
 
-/// What a table costs, as so many operations: to open it is to look at the lanes' root slots and at the frames, and each lane that has
-/// operations left but one gets a thread.
+/// What of a table's costs is known before it is opened, as so many operations: a look at the lanes' root slots and at the frames, and a
+/// thread for each lane that has operations left but one.
 fn table_costs(setup: &Setup, lanes: &[Vec<Op>], replies: &[Vec<Reply>]) -> u64
     requires { length replies.now ≡ length lanes.now }
 {
@@ -160,8 +160,7 @@ fn table_costs(setup: &Setup, lanes: &[Vec<Op>], replies: &[Vec<Reply>]) -> u64
             threads = threads.saturating_add(OPERATIONS_A_THREAD);
         }
     }
-    let alone = looked_at(setup).saturating_add(OPERATIONS_A_TABLE);
-    alone.saturating_add(threads.saturating_sub(OPERATIONS_A_THREAD))
+    looked_at(setup).saturating_add(threads.saturating_sub(OPERATIONS_A_THREAD))
 }
 
 /// How many root slots and frames there are.
