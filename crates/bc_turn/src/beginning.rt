@@ -98,6 +98,7 @@ fn begin_lane(
             told,
             &lanes[index],
         ),
+        padding: [0; 16],
     }
 }
 

@@ -65,7 +65,11 @@ fn end_lane(
     ensures spare { IsSpareOf run.turn.part.holders.items heap.old.roots.slots result.1 }
     ensures same { heap.new ≡ record heap.old { roots = heap.new.roots; chunks = heap.new.chunks; buffers = heap.new.buffers } }
 {
-    let Run { seat, turn } = run;
+    let Run {
+        seat,
+        turn,
+        padding: _,
+    } = run;
     let lane = turn.lane();
     let index = lane as usize;
     let LaneDone {

@@ -25,6 +25,9 @@ use std::thread::Threads;
 pub(crate) struct Run {
     pub(crate) seat: Seat,
     pub(crate) turn: LaneTurn,
+    /// Unused: lanes write to their runs all the time, and two of a list stand two cache lines of 64 bytes apart, since processors fetch
+    /// lines in pairs.
+    pub(crate) padding: [u64; 16],
 }
 
 /// Runs all lanes side by side, and the pager beside them. Where there is no notice (`asked` is false) the pager has no thread of its own.
