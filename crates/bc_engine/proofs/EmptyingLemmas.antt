@@ -20,6 +20,7 @@ use Rattle.bc_promotion.specs.Promises.{HasDomainsBelow}
 use Rattle.bc_superpages.specs.RootWords.{RootWords}
 use Rattle.bc_model.specs.declared.operations.Op.{Op}
 use Rattle.bc_model.specs.declared.operations.Reply.{Reply}
+use Rattle.bc_running.proofs.StartLemmas.{stands-emptied}
 use Rattle.bc_running.specs.Running.{RunningView, RunningStands}
 use Rattle.bc_running.specs.RunningFacts.{running_of, IsSound}
 use Rattle.bc_whole_heap.specs.Running.{IsRunning}
@@ -52,18 +53,6 @@ pub empty-buffers : {h k : HeapView} → IsEmptied h k → IsUnrecorded k
 empty-buffers {h} is = record {
   entries = λ l. ap (λ (bs : List Entries). (buffer_of bs l).entries) is.unrecorded ∙ ap (λ (b : Entries). b.entries) (buffer-emptied h.buffers l);
   remembered = is.none_remembered;
-}
-
-stands-emptied : {hs serials : List ℕ} {h k : HeapView} (state : State) → IsEmptied h k → StandsAs h hs serials state → StandsAs k hs serials state
-stands-emptied {hs} {serials} {h} state is st = record {
-  consistent = st.consistent;
-  stands = is.keeps state.slots state.made st.stands;
-  born = λ a b e. let from = is.born a b e in st.born from.0 b from.1;
-  held = st.held;
-  births = st.births;
-  domains = ap (λ (x : RootWords). x.domains) is.sizes.roots ∙ st.domains;
-  slots = ap (λ (x : RootWords). x.slots) is.sizes.roots ∙ st.slots;
-  lanes = ap length is.cleared ∙ length-map h.chunks emptied ∙ st.lanes;
 }
 
 -- superpages in use stay within the setup's domains

@@ -1,28 +1,15 @@
 -- The heap that an engine begins with is ready, and stands for the opening state.
-use Rattle.std.proofs.Common.{◌≡◌, ℕ, ◌*◌, ◌/◌, ◌%◌, true, false, List, [], length, map, get_or, replicate, ◌∷◌, mul_comm, refl, sym, ap, subst, ◌∙◌, inl, inr, arith}
+use Rattle.std.proofs.Common.{◌≡◌, ℕ, ◌*◌, ◌/◌, ◌%◌, true, false, List, [], map, get_or, replicate, refl, sym, ap, subst, ◌∙◌, inl, inr, arith}
 use Prim.Native.Nat.{zero, suc}
 use Rattle.std.proofs.lemmas.Bool.{cases_lt}
 use Rattle.std.proofs.lemmas.List.{get_or-map, get_or_past, get_or-replicate, length-map, length-replicate}
-use Rattle.bc_cycle.specs.Openings.{new_heap}
-use Rattle.bc_cycle.proofs.OpeningLemmas.{chunk-at, chunk-none, chunks-long, supers-long, no_object, no_entries, opening-running}
-use Rattle.bc_failsafe.proofs.OpeningLemmas.{nothing}
-use Rattle.bc_whole_heap.specs.Heaps.{heap_memory, root_words}
-use Rattle.bc_whole_heap.specs.LaneStates.{StandsAs}
-use Rattle.bc_memory.specs.Memory.{Memory}
-use Rattle.bc_model.specs.Reached.{Holds, FieldHolds, Reached}
+use Rattle.bc_cycle.proofs.OpeningLemmas.{chunk-at, chunk-none, chunks-long, supers-long, no_entries, opening-running}
 use Rattle.bc_model.specs.Run.{opening}
-use Rattle.bc_model.specs.State.{Object, numbers_below}
 use Rattle.bc_model.specs.WellFormed.{IsSetup}
 use Rattle.bc_model.specs.declared.traces.Setup.{Setup}
-use Rattle.bc_model.specs.declared.values.Birth.{Birth}
-use Rattle.bc_model.specs.declared.values.Value.TheVariants as value
-use Rattle.bc_model.proofs.Openings.{IsState-opening, length-numbers_below}
 use Rattle.bc_nursery.specs.Entries.{Entries}
 use Rattle.bc_nursery.specs.Nurseries.{Nursery}
-use Rattle.bc_reach.proofs.Reaching.{Reach-least}
-use Rattle.bc_standing.specs.Standing.{ReadAs, births}
-use Rattle.bc_standing.proofs.Homes.{births-cell}
-use Rattle.bc_standing.proofs.Reading.{ReadAs-nil, replicate_default}
+use Rattle.bc_standing.proofs.Reading.{replicate_default}
 use Rattle.bc_promotion.specs.Promises.{HasDomainsBelow}
 use Rattle.bc_superpages.specs.Calls as space
 use Rattle.bc_superpages.specs.LayoutAt.{state_at}
@@ -30,28 +17,11 @@ use Rattle.bc_superpages.specs.declared.headers.PageState.{PageState}
 use Rattle.bc_superpages.specs.declared.headers.PageState.TheVariants.{Absent, Remembered}
 use Rattle.bc_superpages.specs.declared.headers.Header.{Header}
 use Rattle.bc_superpages.specs.Headers.{unused_header}
-use Rattle.bc_word.specs.declared.words.Word.{Word}
-use Rattle.bc_word.specs.declared.words.Word.TheVariants.{Nil}
-use Rattle.bc_word.specs.Words.{word_of_bits}
-use Rattle.bc_word.proofs.WordLemmas.{word_of_bits-nil}
+use Rattle.bc_running.proofs.StartLemmas.{opening-stands}
 use Rattle.bc_running.specs.Running.{RunningView, RunningStands}
 use Rattle.bc_running.specs.RunningFacts.{new_running}
 use Rattle.bc_engine.specs.Engines.{HasEmptyChunks}
 use Rattle.bc_engine.specs.EngineFacts.{CanRunLanes, IsUnrecorded}
-
-nil-words : (n : ℕ) → map word_of_bits (replicate n 0) ≡ replicate n Nil
-nil-words zero = refl
-nil-words (suc n) = ap (λ (w : Word). w ∷ map word_of_bits (replicate n 0)) word_of_bits-nil ∙ ap (λ (ws : List Word). Nil ∷ ws) (nil-words n)
-
--- the opening state reaches nothing
-none-reached : (setup : Setup) (b : Birth) → Reached (opening setup).slots (opening setup).made b → ⊥
-none-reached setup b r =
-    Reach-least (Holds (opening setup).slots) (FieldHolds (opening setup).made) (λ x. ⊥)
-    (λ x held. nil_obj x (sym (replicate_default (setup.slots * setup.domains) held.0 value.Nil) ∙ held.1))
-    (λ x y _ p e. p) b r
-  where
-    nil_obj : (x : Birth) → value.Nil ≡ value.Obj x → ⊥
-    nil_obj x e = cc
 
 -- every page is absent
 none-remembered : (n p : ℕ) → state_at (map (λ (h : Header). h.pages) (replicate n unused_header)) p ≡ Remembered → ⊥
@@ -82,30 +52,6 @@ none-used n f k domains q used = absurd (false_true (sym (unused n q) ∙ used))
     unused zero p = refl
     unused (suc m) zero = refl
     unused (suc m) (suc p) = unused m p
-
-opening-stands : (s : Setup) → IsSetup s → StandsAs (new_heap s) (opening s).holders (replicate s.lanes 0) (opening s)
-opening-stands s range =
-    let h = new_heap s in
-    let m : Memory = heap_memory h.space h.chunks in
-    record {
-      consistent = IsState-opening s range;
-      stands = record {
-        values = subst (λ (n : ℕ). ReadAs (births m) (root_words h.roots) (replicate n value.Nil)) (mul_comm s.domains s.slots)
-            (subst (λ (ws : List Word). ReadAs (births m) ws (replicate (s.domains * s.slots) value.Nil)) (sym (nil-words (s.domains * s.slots)))
-            (ReadAs-nil (births m) (s.domains * s.slots)));
-        home = λ b r. absurd (none-reached s b r);
-      };
-      born = λ a b e. absurd (let c = births-cell m a b e in nothing s.superpages s.frames (s.lanes * s.nursery) a h.chunks (no_object s) (c.0, c.1));
-      held = refl;
-      births = no-births s.lanes;
-      domains = sym (length-map (numbers_below s.domains) (λ d. d % s.lanes) ∙ length-numbers_below s.domains);
-      slots = refl;
-      lanes = chunks-long s ∙ sym (length-replicate {A = List Object} s.lanes []);
-    }
-  where
-    no-births : (n : ℕ) → map length (replicate {A = List Object} n []) ≡ replicate n 0
-    no-births zero = refl
-    no-births (suc n) = ap (λ (ns : List ℕ). 0 ∷ ns) (no-births n)
 
 ready-opening : (s : Setup) → IsSetup s → CanRunLanes s (new_running s)
 ready-opening s range =

@@ -1,18 +1,16 @@
 -- A pager alone at a table: no lane has operations left.
-use Rattle.std.proofs.Common.{◌≡◌, ℕ, ◌+◌, ◌<◌, ◌≤◌, List, [], ◌∷◌, ◌++◌, length, get_or, inl, inr, refl, ap, sym, subst, ◌∙◌, arith}
-use Rattle.std.proofs.lemmas.Bool.{cases_lt}
+use Rattle.std.proofs.Common.{◌≡◌, ℕ, ◌+◌, List, [], ◌∷◌, ◌++◌, length, get_or, refl, ap, sym, subst, ◌∙◌, arith}
 use Rattle.std.proofs.lemmas.List.{get_or_push}
 use Rattle.bc_pager.specs.Answering.{AreAnswered}
 use Rattle.bc_pager.specs.declared.answers.Answer.{Answer}
 use Rattle.bc_pins.specs.Calls.{key_of, view_of}
-use Rattle.bc_pins.specs.Closing.{AreBack, Closed, IsBack, seen_by}
+use Rattle.bc_pins.specs.Closing.{AreBack, Closed, IsBack}
 use Rattle.bc_pins.specs.Key.{role_number}
 use Rattle.bc_pins.specs.Opened.{Opened}
 use Rattle.bc_pins.specs.Opening.{IsOpenable}
 use Rattle.bc_pins.specs.Seating.{IsDealt}
 use Rattle.bc_pins.specs.Steps.{fresh}
 use Rattle.bc_pins.specs.Totals.{times}
-use Rattle.bc_pins.specs.Views.{has_role}
 use Rattle.bc_pins.specs.declared.key.Role.TheVariants.{Pager}
 use Rattle.bc_pins.specs.declared.key.Turn.TheVariants.{Lanes}
 use Rattle.bc_pins.specs.declared.pins.Pins.{Pins}
@@ -23,7 +21,7 @@ use Rattle.bc_superpages.specs.Layout.{Layout}
 use Rattle.bc_turn.specs.declared.paging.Paging.{Paging}
 use Rattle.bc_turn.specs.Answered.{AnsweredBeside}
 use Rattle.bc_turn.specs.Beside.{LiesBack}
-use Rattle.bc_turn.specs.Paging.{HasPaged, IsPagerReady}
+use Rattle.bc_turn.specs.Paging.{HasPaged}
 use Rattle.bc_turn.specs.Taking.{turn_roles}
 use Rattle.bc_turn.proofs.AnsweredLemmas.{ArePagers, answered}
 use Rattle.bc_turn.proofs.BegunLemmas.{IsPagerBack, paged-back}

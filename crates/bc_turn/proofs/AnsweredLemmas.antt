@@ -1,5 +1,5 @@
 -- What a closed table makes of the pages that a pager's answers name.
-use Rattle.std.proofs.Common.{◌≡◌, ◌⊎◌, ◌↔◌, ℕ, ◌+◌, ◌*◌, ◌/◌, ◌%◌, ◌<◌, ◌≤◌, ◌==◌, List, [], ◌∷◌, ◌++◌, length, get_or, inl, inr, refl, ap, sym, subst, ◌∙◌, arith}
+use Rattle.std.proofs.Common.{◌≡◌, ◌⊎◌, ℕ, ◌+◌, ◌*◌, ◌/◌, ◌%◌, ◌<◌, ◌≤◌, ◌==◌, List, [], ◌∷◌, ◌++◌, length, get_or, inl, inr, refl, ap, sym, subst, ◌∙◌, arith}
 use Rattle.std.proofs.lemmas.Bool.{cases_lt}
 use Rattle.std.proofs.lemmas.List.{get_or_past}
 use Rattle.bc_bits.specs.Counting.{one_if}
@@ -9,16 +9,15 @@ use Rattle.bc_pins.specs.Closing.{Closed, seen_by}
 use Rattle.bc_pins.specs.Key.{Key, pages_of, role_number}
 use Rattle.bc_pins.specs.Steps.{fresh, no_key}
 use Rattle.bc_pins.specs.Totals.{times, total}
-use Rattle.bc_pins.specs.Views.{opened_state, opened_word, state_word}
+use Rattle.bc_pins.specs.Views.{opened_state, state_word}
 use Rattle.bc_pins.specs.declared.key.Role.TheVariants.{Pager}
 use Rattle.bc_pins.specs.declared.pins.Seat.{Seat}
 use Rattle.bc_pins.specs.declared.views.View.{View}
-use Rattle.bc_pins.proofs.TotalLemmas.{one_few}
 use Rattle.bc_superpages.specs.declared.headers.PageState.{PageState}
 use Rattle.bc_superpages.specs.declared.headers.PageState.TheVariants.{Absent, Gone, Held, Home, Remembered}
 use Rattle.bc_superpages.specs.Kept.{IsLayout}
 use Rattle.bc_superpages.specs.Layout.{Layout, superpages}
-use Rattle.bc_superpages.specs.LayoutAt.{state_at, states_of}
+use Rattle.bc_superpages.specs.LayoutAt.{state_at}
 use Rattle.bc_turn.proofs.PagerLemmas.{name-none}
 use Rattle.bc_turn.specs.Answered.{AnsweredBeside}
 

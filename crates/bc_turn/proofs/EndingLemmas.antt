@@ -1,15 +1,13 @@
 -- Lanes lay back what is their own, one after another.
-use Rattle.std.proofs.Common.{◌≡◌, ◌≢◌, ◌⊎◌, ℕ, ◌+◌, ◌-◌, ◌*◌, ◌<◌, ◌≤◌, List, [], ◌∷◌, ◌++◌, length, map, set, get_or, Vec, vec_capacity, inl, inr, refl, ap, sym, subst, ◌∙◌, arith, length-append, length-set, get_or-set_same, get_or-set_other, append_assoc}
+use Rattle.std.proofs.Common.{◌≡◌, ℕ, ◌+◌, ◌-◌, ◌*◌, ◌<◌, ◌≤◌, List, [], ◌∷◌, ◌++◌, length, set, get_or, Vec, vec_capacity, inl, inr, refl, ap, sym, subst, ◌∙◌, arith, length-append, length-set, get_or-set_same, get_or-set_other, append_assoc}
 use Rattle.std.specs.declared.alloc.Global.{Global}
 use Rattle.std.proofs.Math.Seq.{get_or-append_seam}
 use Rattle.std.proofs.lemmas.Bool.{cases_eq, cases_lt}
-use Rattle.std.proofs.lemmas.List.{get_or_push, get_or_append_left, length-map, map-append, map-set}
-use Rattle.bc_model.specs.Rows.{lists_of}
+use Rattle.std.proofs.lemmas.List.{get_or_push, get_or_append_left, map-append}
 use Rattle.bc_model.specs.declared.operations.Op.{Op}
 use Rattle.bc_model.specs.declared.operations.Reply.{Reply}
 use Rattle.bc_pins.specs.declared.pins.Seat.{Seat}
 use Rattle.bc_lane.specs.declared.turns.LaneTurn.{LaneTurn}
-use Rattle.bc_lane.specs.declared.parts.LanePart.{LanePart}
 use Rattle.bc_reach.specs.Distinct.{Has}
 use Rattle.bc_reach.proofs.Pushed.{Has-from_push}
 use Rattle.bc_superpages.specs.RootWords.{RootWords}

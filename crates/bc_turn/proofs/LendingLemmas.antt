@@ -1,9 +1,9 @@
 -- Lanes take what is their own out of the heap, one after another, the last lane first.
-use Rattle.std.proofs.Common.{◌≡◌, ◌≢◌, ◌⊎◌, ℕ, ◌+◌, ◌-◌, ◌*◌, ◌<◌, ◌≤◌, List, [], ◌∷◌, ◌++◌, length, map, take, set, get_or, Vec, vec_capacity, inl, inr, refl, ap, sym, subst, ◌∙◌, arith, length-append, length-set, get_or-set_same, get_or-set_other, append_assoc}
+use Rattle.std.proofs.Common.{◌≡◌, ◌≢◌, ℕ, ◌+◌, ◌-◌, ◌<◌, ◌≤◌, List, [], ◌∷◌, ◌++◌, length, set, get_or, Vec, vec_capacity, inl, inr, refl, ap, sym, subst, ◌∙◌, arith, length-append, length-set, get_or-set_other, append_assoc}
 use Rattle.std.specs.declared.alloc.Global.{Global}
 use Rattle.std.proofs.Math.Seq.{get_or-append_seam}
-use Rattle.std.proofs.lemmas.Bool.{cases_eq, cases_lt}
-use Rattle.std.proofs.lemmas.List.{get_or_push, get_or_append_left, get_or_past, get_or-map, length-map, map-append, map-set}
+use Rattle.std.proofs.lemmas.Bool.{cases_lt}
+use Rattle.std.proofs.lemmas.List.{get_or_push, get_or_append_left, get_or-map, length-map, map-append, map-set}
 use Rattle.bc_model.specs.Rows.{lists_of}
 use Rattle.bc_model.specs.declared.operations.Op.{Op}
 use Rattle.bc_model.specs.declared.operations.Reply.{Reply}
@@ -12,13 +12,13 @@ use Rattle.bc_nursery.specs.Entries.{Entries}
 use Rattle.bc_nursery.specs.Nurseries.{Nursery}
 use Rattle.bc_pins.specs.declared.pins.Seat.{Seat}
 use Rattle.bc_reach.specs.Distinct.{Has}
-use Rattle.bc_reach.proofs.Pushed.{Has-front, Has-last, Has-from_push, place_of}
+use Rattle.bc_reach.proofs.Pushed.{Has-front, Has-last, place_of}
 use Rattle.bc_lane.specs.Turns.{IsPreparedTurn}
 use Rattle.bc_superpages.specs.RootWords.{RootWords}
 use Rattle.bc_turn.specs.declared.rooms.Spare.{Spare}
 use Rattle.bc_turn.specs.declared.runs.Run.{Run}
-use Rattle.bc_turn.specs.Begun.{AreBusyLanes, HasLeft, lane_ops, lane_replies}
-use Rattle.bc_turn.specs.Taking.{AreAway, AreSparesOf, AreTaken, AreWordsOf, FitsLanes, HasReplyRoom, HasRoomForLane, IsSpareOf, TakesAlong, running_lanes, spare_lanes, turn_at, seat_at}
+use Rattle.bc_turn.specs.Begun.{AreBusyLanes, HasLeft, lane_ops}
+use Rattle.bc_turn.specs.Taking.{AreAway, AreSparesOf, AreTaken, AreWordsOf, FitsLanes, HasReplyRoom, HasRoomForLane, IsSpareOf, TakesAlong, running_lanes, spare_lanes, turn_at}
 use Rattle.bc_whole_heap.specs.Closed.{buffer_of, no_buffer}
 use Rattle.bc_whole_heap.specs.Heaps.{HeapView, no_chunk}
 

@@ -2,7 +2,7 @@
 use Rattle.std.proofs.Common.{◌≡◌, ℕ, ◌+◌, ◌⊎◌, ◌<◌, ◌≤◌, List, [], ◌∷◌, ◌++◌, length, take, Option, Some, None, inl, inr, refl, ap, sym, subst, ◌∙◌, arith}
 use Prim.Native.Nat.{zero, suc}
 use Rattle.bc_frames.specs.Places.{one_more}
-use Rattle.bc_pager.specs.Answering.{AreAnswered, HasDeclined, HasDiscarded, HasEvicted, IsAnswer, says_discarded, says_evicted}
+use Rattle.bc_pager.specs.Answering.{AreAnswered, IsAnswer, says_discarded, says_evicted}
 use Rattle.bc_pager.specs.declared.answers.Answer.{Answer}
 use Rattle.bc_pager.specs.declared.answers.Answer.TheVariants.{Declined, Discarded, Evicted}
 use Rattle.bc_pager.specs.Serving.{HasServed, KeptAnswers}

@@ -1,5 +1,5 @@
 -- Room that is kept from one turn to the next.
-use Rattle.std.proofs.Common.{◌≡◌, ◌⊎◌, ℕ, ◌+◌, ◌*◌, ◌<◌, ◌≤◌, nat_lt, cond, Bool, true, false, filter, List, [], ◌∷◌, ◌++◌, length, map, get_or, Vec, vec_capacity, inl, inr, refl, ap, sym, subst, ◌∙◌, arith}
+use Rattle.std.proofs.Common.{◌≡◌, ℕ, ◌+◌, ◌*◌, ◌<◌, ◌≤◌, nat_lt, cond, Bool, true, false, filter, List, [], ◌∷◌, ◌++◌, length, get_or, Vec, vec_capacity, inl, inr, refl, ap, sym, subst, ◌∙◌, arith}
 use Prim.Native.Nat.{zero, suc}
 use Rattle.std.proofs.lemmas.Bool.{cases_lt, lt-ltb, ltb-true}
 use Rattle.std.proofs.lemmas.List.{get_or-map, get_or_append_left, get_or_past, get_or_push, length-map}
@@ -13,7 +13,7 @@ use Rattle.bc_reach.specs.Distinct.{Has}
 use Rattle.bc_superpages.specs.RootWords.{RootWords}
 use Rattle.bc_turn.specs.declared.rooms.Spare.{Spare}
 use Rattle.bc_turn.specs.declared.rooms.TurnRoom.{TurnRoom}
-use Rattle.bc_turn.specs.Begun.{AreBusyLanes, HasLeft, lane_ops, lane_replies}
+use Rattle.bc_turn.specs.Begun.{AreBusyLanes, lane_ops, lane_replies}
 use Rattle.bc_turn.specs.Beside.{RanBeside}
 use Rattle.bc_turn.specs.Taking.{AreHeldDomains, AreSparesOf, HasBusyAmong, IsRoomKept, IsSpareOf, LiesRight, spare_lanes}
 use Rattle.bc_turn.proofs.BusyLemmas.{has-index, index-has}

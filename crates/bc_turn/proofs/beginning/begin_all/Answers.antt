@@ -1,20 +1,15 @@
-use Rattle.std.proofs.Common.{◌≡◌, ℕ, ◌+◌, ◌<◌, ◌≤◌, List, [], ◌∷◌, ◌++◌, length, get_or, Vec, vec_capacity, refl, ap, sym, subst, ◌∙◌, arith, length-append}
+use Rattle.std.proofs.Common.{◌≡◌, ℕ, List, [], ◌∷◌, length, Vec, refl, ap, sym, subst, ◌∙◌, arith, length-append}
 use Rattle.std.proofs.lemmas.List.{length-map}
 use Rattle.std.specs.declared.alloc.Global.{Global}
 use Rattle.bc_cycle.specs.declared.heaps.Heap.{Heap}
 use Rattle.bc_cycle.specs.Emptying.{heap_view}
 use Rattle.bc_model.specs.Rows.{lists_of}
-use Rattle.bc_model.specs.declared.operations.Op.{Op}
-use Rattle.bc_model.specs.declared.operations.Reply.{Reply}
-use Rattle.bc_superpages.specs.RootWords.{RootWords}
 use Rattle.bc_turn.specs.declared.runs.Run.{Run}
 use Rattle.bc_turn.specs.declared.rooms.Spare.{Spare}
-use Rattle.bc_turn.specs.Begun.{AreBusyLanes, HasLeft}
-use Rattle.bc_turn.specs.Taking.{AreSparesOf, FitsLanes, IsSpareOf, TakesAlong}
+use Rattle.bc_turn.specs.Taking.{IsSpareOf, TakesAlong}
 use Rattle.bc_turn.proofs.TakingLemmas.{no-items, spare-slots}
-use Rattle.bc_turn.proofs.LendingLemmas.{Lending, lending-none, lending-more, all-taken, lane-within, left-count, spare-is, spare-fits, spare-left, spare-room}
+use Rattle.bc_turn.proofs.LendingLemmas.{Lending, lending-none, lending-more, all-taken, lane-within, spare-is, spare-left, spare-room}
 use Rattle.bc_turn.proofs.beginning.begin_all.Goals as goal
-use Rattle.bc_whole_heap.specs.Heaps.{HeapView}
 
 pub loop-seat-init : goal.loop-seat-init
 loop-seat-init c = record {

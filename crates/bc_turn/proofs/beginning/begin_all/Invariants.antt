@@ -1,4 +1,4 @@
-use Rattle.std.proofs.Common.{◌≡◌, ℕ, List, length, vec_capacity, ◌+◌, ◌≤◌}
+use Rattle.std.proofs.Common.{◌≡◌, ℕ, List, length, vec_capacity}
 use Rattle.bc_cycle.specs.Emptying.{heap_view}
 use Rattle.bc_model.specs.Rows.{lists_of}
 use Rattle.bc_turn.specs.Taking.{AreSparesOf}

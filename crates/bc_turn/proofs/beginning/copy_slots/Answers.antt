@@ -1,4 +1,4 @@
-use Rattle.std.proofs.Common.{◌≡◌, ℕ, ◌+◌, List, refl, ap, sym, subst, ◌∙◌, arith}
+use Rattle.std.proofs.Common.{ℕ, ◌+◌, refl, sym, subst, ◌∙◌, arith}
 use Rattle.bc_turn.specs.Taking.{HasCopied}
 use Rattle.bc_turn.proofs.TakingLemmas.{copied-none, copied-more}
 use Rattle.bc_turn.proofs.beginning.copy_slots.Goals as goal

@@ -1,4 +1,4 @@
-use Rattle.std.proofs.Common.{◌≡◌, ℕ, ◌+◌, ◌*◌, ◌≤◌, List, length, refl, ap, sym, subst, ◌∙◌, arith}
+use Rattle.std.proofs.Common.{length, refl, sym, subst, ◌∙◌, arith}
 use Rattle.bc_turn.specs.Taking.{AreFirstWords}
 use Rattle.bc_turn.proofs.TakingLemmas.{words-none, words-more, nil-packed, room-fits}
 use Rattle.bc_turn.proofs.beginning.copy_words.Goals as goal

@@ -1,10 +1,7 @@
-use Rattle.std.proofs.Common.{◌≡◌, ◌+◌, ◌*◌, ◌<◌, ◌≤◌, ℕ, List, length, get_or, refl, ap, sym, subst, ◌∙◌, arith}
-use Rattle.std.proofs.lemmas.List.{get_or_read}
+use Rattle.std.proofs.Common.{◌*◌, ◌<◌, ℕ, length, refl, ap, ◌∙◌, arith}
 use Rattle.bc_superpages.specs.RootWords.{RootWords}
-use Rattle.bc_turn.specs.Taking.{LaysSlots}
 use Rattle.bc_turn.proofs.WordLemmas.{lays-domains-more, place-fits}
 use Rattle.bc_turn.proofs.ending.lay_words.Goals as goal
-use Rattle.bc_word.specs.WordBits.{IsPacked}
 
 pub overflow_mul-start : goal.overflow_mul-start
 overflow_mul-start c =

@@ -1,4 +1,4 @@
-use Rattle.std.proofs.Common.{rules, tests, ◌≡◌, length, nat_lt}
+use Rattle.std.proofs.Common.{rules, length, nat_lt}
 use Rattle.std.proofs.lemmas.Fn.{filter_same}
 use Rattle.bc_model.specs.Rows.{lists_of}
 use Rattle.bc_turn.specs.declared.rooms.Spare.{Spare}

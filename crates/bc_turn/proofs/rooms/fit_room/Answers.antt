@@ -1,4 +1,4 @@
-use Rattle.std.proofs.Common.{◌≡◌, ℕ, ◌<◌, length, vec_len, sym, ◌∙◌, arith}
+use Rattle.std.proofs.Common.{vec_len, sym, ◌∙◌, arith}
 use Rattle.bc_model.specs.Rows.{lists_of}
 use Rattle.bc_turn.proofs.RoomLemmas.{room-fitted}
 use Rattle.bc_turn.proofs.TurnLemmas.{some-left}

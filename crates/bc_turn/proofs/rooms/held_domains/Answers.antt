@@ -1,4 +1,4 @@
-use Rattle.std.proofs.Common.{rules, ◌≡◌, ℕ, ◌+◌, List, [], ◌∷◌, length, refl, ap, sym, subst, ◌∙◌, arith}
+use Rattle.std.proofs.Common.{rules, ◌≡◌, ◌+◌, [], length, ap, sym, subst, arith}
 use Rattle.bc_turn.specs.Taking.{AreHeldBelow}
 use Rattle.bc_turn.proofs.TakingLemmas.{held-none, held-more, held-same, length-push}
 use Rattle.bc_turn.proofs.rooms.held_domains.Goals as goal

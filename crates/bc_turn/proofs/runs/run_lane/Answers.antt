@@ -1,11 +1,9 @@
-use Rattle.std.proofs.Common.{◌≡◌, ℕ, List, None, refl, ap, sym, subst, ◌∙◌, arith}
+use Rattle.std.proofs.Common.{List, None, sym, subst, arith}
 use Rattle.std.specs.List.{AllByRecursion}
 use Rattle.bc_lane.specs.Turns.{IsGoing, LaneRan, WhyStopped}
-use Rattle.bc_model.specs.Rows.{lists_of}
 use Rattle.bc_model.specs.declared.operations.Op.{Op}
 use Rattle.bc_mutator.specs.Operations.{IsOpOf}
 use Rattle.bc_pins.specs.Calls.{view_of}
-use Rattle.bc_turn.specs.Begun.{lane_ops}
 use Rattle.bc_turn.proofs.TakingLemmas.{ops-of, ops-within}
 use Rattle.bc_turn.proofs.runs.run_lane.Goals as goal
 use Rattle.bc_whole_heap.specs.Heaps.{end_of}

@@ -1,4 +1,4 @@
-use Rattle.std.proofs.Common.{◌≡◌, ℕ, ◌+◌, List, [], length, refl, ap, sym, subst, ◌∙◌, arith}
+use Rattle.std.proofs.Common.{List, [], length, refl, ap, sym, subst, ◌∙◌, arith}
 use Rattle.bc_cycle.specs.Emptying.{heap_view}
 use Rattle.bc_pager.specs.Serving.{HintList, KeptAnswers}
 use Rattle.bc_pins.specs.Opened.{Opened}
