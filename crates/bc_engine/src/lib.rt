@@ -10,9 +10,9 @@
 // side, each on a thread of its own, over a table of the heap's pages (`bc_turn`), and beside them a pager answers the notices of
 // the turn's line, for each of which it gives up a page if it gets one (`bc_pager`). A lane stops where its chunk or its write
 // buffer is full, and where it looks at an object in a cell whose page is gone or in another's hands. What the lanes do so is
-// what they do one after another (`RanBeside`), so a turn is a stretch of the phase like any other. Where little is left to do
-// and no notice came, or where there is no memory for a table, they do run one after another (`lanes`), and then the notices are
-// answered: then a page that is gone comes back, and a lane stops for it only where no frame is free and no other page can
+// what they do one after another (`RanBeside`), so a turn is a stretch of the phase like any other. Where no notice came and a
+// table wouldn't pay (`paces`), or where there is no memory for one, they do run one after another (`lanes`), and then the notices
+// are answered: then a page that is gone comes back, and a lane stops for it only where no frame is free and no other page can
 // leave. So a turn takes memory and is never refused for want of it. An operation that stops has at most moved pages.
 // Then the heap is settled. The lines of a phase are used in order, one for each turn, and from the first one again when they
 // are used up. So the heap gets by with the frames that the setup gives it, and no reply tells which pages were away; but what
@@ -34,11 +34,11 @@
 // The proofs keep the list of the steps that were done, in their order (`Goes`), and turn to lane after lane at
 // the phase's end alone (proofs/CutLemmas.antt).
 //
-// What is true of every engine between calls, until memory runs out (`IsEngine`): its heap is in order, so that lanes can run on it
-// (`IsRunning` in `bc_whole_heap`), of which it is part that bookmarks and counters stand for the pages that left; it has the sizes of the setup and its frames, of which two aren't those of nursery pages, and superpages are
-// in use for the setup's domains alone; and there is a state of the heap that never frees, moves or pages that it stands for,
-// with just these holders and births. As long as it hasn't ended, write buffers are empty and no page is remembered. `facts` tells all
-// this.
+// What is true of every engine between calls, until memory runs out (`IsEngine`): its heap is in order, so that lanes can run
+// on it (`IsRunning` in `bc_whole_heap`), of which it is part that bookmarks and counters stand for the pages that left; it has
+// the sizes of the setup and its frames, of which two aren't those of nursery pages, and superpages are in use for the setup's
+// domains alone; and there is a state of the heap that never frees, moves or pages that it stands for, with just these holders
+// and births. As long as it hasn't ended, write buffers are empty and no page is remembered. `facts` tells all this.
 //
 // The theorem is the contract of `Engine::phase`. Done, the replies are those of the heap that never frees, to every
 // operation, the engine stands for the state after the phase, and its superpages are at least that state's need

@@ -31,7 +31,8 @@ pub enum PhaseNo {
     /// What the engine stands for after these replies needs this many superpages, which is more than there are. On an engine that
     /// had ended so, there are no replies.
     OutOfHeap { replies: Replies, need: u64 },
-    /// There is no memory for the replies, now or in an earlier phase. The engine may be used only to be dropped.
+    /// There was no memory for the replies, or for the answers to the notices of a turn, in this phase or in an earlier one. The
+    /// engine may be used only to be dropped.
     NoMemory,
 }
 
