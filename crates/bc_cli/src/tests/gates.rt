@@ -3,6 +3,7 @@
 use super::sink::Paper;
 use super::{repeated, trace};
 use crate::{Gate, Status, top};
+use bc_engine::Answer;
 use bc_io::MemSource;
 use std::alloc::{AllocError, Global};
 use std::sync::atomic::{AtomicU64, Ordering};
@@ -19,17 +20,33 @@ pub const BEFORE: u32 = 1;
 /// The reply to its operation is kept.
 pub const AFTER: u32 = 2;
 
-/// Runs the words over this text, past a gate, and answers how it ended and what it wrote.
-fn run_past<R: Threads + Sync, G: Gate + Sync>(
+/// What a run past a gate ended with, what it wrote, and the answers to the notices of its last phase.
+#[derive(Drop)]
+pub struct Passed {
+    pub status: Status,
+    pub written: Vec<u8>,
+    pub answers: Vec<Answer>,
+}
+
+/// Runs the trace with this text, past a gate. Where no heap is handed back there are no answers.
+pub fn run_past<R: Threads + Sync, G: Gate + Sync>(
     rt: &R,
     alloc: Global,
     text: &str,
     gate: &G,
-) -> Result<(Status, Vec<u8>), AllocError> {
+) -> Result<Passed, AllocError> {
     let mut source = MemSource::new(text.as_bytes().to_vec(alloc)?, 4096, Vec::new(alloc));
     let mut sink = Paper::new(alloc);
     let outcome = top(rt, alloc, &["run"], &mut source, &mut sink, gate);
-    Ok((outcome.status, sink.into_bytes()))
+    let answers = match &outcome.heap {
+        Some(engine) => engine.answers().to_vec(alloc)?,
+        None => Vec::new(alloc),
+    };
+    Ok(Passed {
+        status: outcome.status,
+        written: sink.into_bytes(),
+        answers,
+    })
 }
 
 /// Counts how often a worker passes a point.
@@ -60,9 +77,9 @@ fn all_operations_but_those_that_find_the_chunk_full_are_done_in_turns(
         point: AFTER,
         passes: AtomicU64::new(0),
     };
-    let (status, written) = run_past(&rt, rt.alloc(), &text, &gate)?;
-    assert_eq!(rt; status, Status::Done);
-    assert!(rt; written.as_slice().ends_with(b"obj 0.10000\ndone\n"));
+    let passed = run_past(&rt, rt.alloc(), &text, &gate)?;
+    assert_eq!(rt; passed.status, Status::Done);
+    assert!(rt; passed.written.as_slice().ends_with(b"obj 0.10000\ndone\n"));
     assert_eq!(rt; gate.passes.load(Ordering::SeqCst), 9_961);
     Ok(())
 }
@@ -129,10 +146,10 @@ fn two_lanes_that_wait_for_each_other_in_both_orders_both_come_through(
             given_up: AtomicU64::new(0),
         },
     };
-    let (status, written) = run_past(&rt, rt.alloc(), &text, &gate)?;
-    assert_eq!(rt; status, Status::Done);
+    let passed = run_past(&rt, rt.alloc(), &text, &gate)?;
+    assert_eq!(rt; passed.status, Status::Done);
     let output = "phase 1\nlane 0\nobj 0.1\nlane 1\nobj 1.1\nobj 1.1\ndone\n";
-    assert!(rt; written.as_slice() == output.as_bytes());
+    assert!(rt; passed.written.as_slice() == output.as_bytes());
     assert_eq!(rt; gate.done_by_0.load(Ordering::SeqCst), 1);
     assert_eq!(rt; gate.done_by_1.load(Ordering::SeqCst), 2);
     assert_eq!(rt; gate.patience.given_up.load(Ordering::SeqCst), 0);

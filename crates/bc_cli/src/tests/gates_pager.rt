@@ -1,15 +1,11 @@
 //! A pager works beside the lanes of a turn, and answers each notice once: shown by gates that they pass.
 
-use super::gates::{BEFORE, Counting, Patience};
-use super::sink::Paper;
+use super::gates::{BEFORE, Counting, Patience, run_past};
 use super::trace;
-use crate::{Gate, Status, top};
+use crate::{Gate, Status};
 use bc_engine::Answer;
-use bc_io::MemSource;
-use std::alloc::{AllocError, Global};
 use std::sync::atomic::{AtomicU64, Ordering};
 use std::test::Fail;
-use std::thread::Threads;
 
 /// The number that the pager of a turn passes a gate with.
 const PAGER: u32 = 200;
@@ -19,35 +15,6 @@ const TAKEN: u32 = 4;
 
 /// The answer to its notice is kept.
 const ANSWERED: u32 = 5;
-
-/// What a run past a gate ended with, what it wrote, and the answers to the notices of its last phase.
-#[derive(Drop)]
-struct Passed {
-    status: Status,
-    written: Vec<u8>,
-    answers: Vec<Answer>,
-}
-
-/// Runs the words over this text, past a gate. Where no heap is handed back there are no answers.
-fn answers_past<R: Threads + Sync, G: Gate + Sync>(
-    rt: &R,
-    alloc: Global,
-    text: &str,
-    gate: &G,
-) -> Result<Passed, AllocError> {
-    let mut source = MemSource::new(text.as_bytes().to_vec(alloc)?, 4096, Vec::new(alloc));
-    let mut sink = Paper::new(alloc);
-    let outcome = top(rt, alloc, &["run"], &mut source, &mut sink, gate);
-    let answers = match &outcome.heap {
-        Some(engine) => engine.answers().to_vec(alloc)?,
-        None => Vec::new(alloc),
-    };
-    Ok(Passed {
-        status: outcome.status,
-        written: sink.into_bytes(),
-        answers,
-    })
-}
 
 /// Keeps lane 0 before its operation until the pager has answered, and the pager at its notice until lane 0 has come there.
 #[derive(Drop)]
@@ -86,7 +53,7 @@ fn a_lane_and_a_pager_that_wait_for_each_other_both_come_through(
             given_up: AtomicU64::new(0),
         },
     };
-    let passed = answers_past(&rt, rt.alloc(), &text, &gate)?;
+    let passed = run_past(&rt, rt.alloc(), &text, &gate)?;
     assert_eq!(rt; passed.status, Status::Done);
     let output = "phase 1\nlane 0\nobj 0.1\nlane 1\nobj 1.1\nobj 1.1\ndone\n";
     assert!(rt; passed.written.as_slice() == output.as_bytes());
@@ -108,7 +75,7 @@ fn eight_notices_are_answered_by_the_pager_and_declined_while_every_page_is_abse
         point: ANSWERED,
         passes: AtomicU64::new(0),
     };
-    let passed = answers_past(&rt, rt.alloc(), &text, &gate)?;
+    let passed = run_past(&rt, rt.alloc(), &text, &gate)?;
     assert_eq!(rt; passed.status, Status::Done);
     assert!(rt; passed.written.as_slice() == b"phase 1\nlane 0\nobj 0.1\ndone\n".as_slice());
     assert!(rt; passed.answers.as_slice() == [Answer::Declined; 8].as_slice());
