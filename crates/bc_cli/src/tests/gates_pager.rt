@@ -2,7 +2,7 @@
 
 use super::gates::{BEFORE, Counting, Patience, run_past};
 use super::trace;
-use crate::{Gate, Status};
+use crate::{Gate, OpenGate, Status};
 use bc_engine::Answer;
 use std::sync::atomic::{AtomicU64, Ordering};
 use std::test::Fail;
@@ -80,5 +80,19 @@ fn eight_notices_are_answered_by_the_pager_and_declined_while_every_page_is_abse
     assert!(rt; passed.written.as_slice() == b"phase 1\nlane 0\nobj 0.1\ndone\n".as_slice());
     assert!(rt; passed.answers.as_slice() == [Answer::Declined; 8].as_slice());
     assert_eq!(rt; gate.passes.load(Ordering::SeqCst), 8);
+    Ok(())
+}
+
+#[test]
+fn a_pager_that_is_alone_evicts_a_page_with_an_object_and_then_declines(
+    rt: HostRuntime,
+) -> Result<(), Fail> {
+    let lines = "phase\nlane 0\nnew 0 0 0\nend\nphase\nturn 3 0\nlane 0\nend\ndone\n";
+    let text = trace(rt.alloc(), [1, 1, 2, 1, 1, 4, 3], lines)?;
+    let passed = run_past(&rt, rt.alloc(), &text, &OpenGate)?;
+    assert_eq!(rt; passed.status, Status::Done);
+    let output = "phase 1\nlane 0\nobj 0.1\nphase 2\nlane 0\ndone\n";
+    assert!(rt; passed.written.as_slice() == output.as_bytes());
+    assert!(rt; passed.answers.as_slice() == [Answer::Evicted(0), Answer::Declined].as_slice());
     Ok(())
 }
