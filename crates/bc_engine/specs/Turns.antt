@@ -28,22 +28,22 @@ hints_of lines turn = hints_at lines (turn % length lines)
 -- the lanes ran side by side, and beside them a pager answered the notices with these hints. Each stop has a cause of that way. Then the
 -- heap was settled
 abbrev pub RanTogether : List (List Op) → RunningView → List (Vec Reply Global) → List Answer → List ℕ → RunningView → RunningView → List (Vec Reply Global) → List Answer → Type 0
-RanTogether lanes r before asked hints mid q after told =
+RanTogether lanes r before kept hints mid q after told =
     EachStopped StopsInTurn lanes r before mid after
-    × AnsweredBeside r.heap.space hints asked told mid.heap.space
+    × AnsweredBeside r.heap.space hints kept told mid.heap.space
     × Settled mid.heap.space q.heap.space
 
 -- the lanes ran one after another, and then the notices were answered where nobody worked beside. Then the heap was settled
 abbrev pub RanAlone : List (List Op) → RunningView → List (Vec Reply Global) → List Answer → List ℕ → RunningView → RunningView → List (Vec Reply Global) → List Answer → Type 0
-RanAlone lanes r before asked hints mid q after told =
+RanAlone lanes r before kept hints mid q after told =
     EachStopped Stops lanes r before mid after
-    × ((u : Layout) × AnsweredAlone mid.heap.space hints asked told u × Settled u q.heap.space)
+    × ((u : Layout) × AnsweredAlone mid.heap.space hints kept told u × Settled u q.heap.space)
 
 -- the lanes ran until each was at its end or stopped, the notices with these hints were answered, each once, behind the answers that were
 -- kept before, and the heap was settled: side by side, lanes and a pager, or one lane after another, and then the notices
-pub record RanTurn (lanes : List (List Op)) (r : RunningView) (before : List (Vec Reply Global)) (asked : List Answer) (hints : List ℕ) (q : RunningView) (after : List (Vec Reply Global)) (told : List Answer) : Type 0 where
+pub record RanTurn (lanes : List (List Op)) (r : RunningView) (before : List (Vec Reply Global)) (kept : List Answer) (hints : List ℕ) (q : RunningView) (after : List (Vec Reply Global)) (told : List Answer) : Type 0 where
   pub mid : RunningView
   pub ran : LanesRan lanes r before mid after
   pub leaves : LeavesCells r mid
-  pub way : RanTogether lanes r before asked hints mid q after told ⊎ RanAlone lanes r before asked hints mid q after told
+  pub way : RanTogether lanes r before kept hints mid q after told ⊎ RanAlone lanes r before kept hints mid q after told
   pub rest : q ≡ with_space mid q.heap.space

@@ -35,7 +35,7 @@ impl Wait {
         }
     }
 
-    /// Is this turn to go without?
+    /// Is this turn to go without? If so it is counted as one of those that do.
     fn is_waiting(&mut self) -> bool {
         if self.waits == 0 {
             return false;
@@ -106,7 +106,8 @@ pub(crate) fn replies_told(replies: &[Vec<Reply>]) -> u64 {
 }
 
 /// Is the turn to have a table? Where notices came it is, so that a pager works beside the lanes. Else it is where it is likely to be
-/// long, and the first turn of a phase is where it has some operations for what a table looks at, unless such a table didn't pay lately.
+/// long, and the first turn of a phase is where it has some operations for what a table looks at, unless such a table didn't pay
+/// lately. `pace` then knows of the turn what it needs to learn whether its table pays.
 pub(crate) fn is_worth_a_table(
     setup: &Setup,
     pace: &mut Pace,
