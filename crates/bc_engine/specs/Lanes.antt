@@ -91,7 +91,7 @@ Stops lane op r =
     ⊎ (LooksAtGone r.holders lane r.heap.space r.heap.roots op × NoPageGoes r.heap.space))
 
 -- an operation of a lane can't be done yet where the lanes run side by side: the object takes more words than are left of the chunk, or
--- an entry is needed and the write buffer is at capacity, or it looks at an object in a cell, whose page was gone or in another's hands
+-- an entry is needed and the write buffer is at capacity, or it looks at an object in a cell
 abbrev pub StopsInTurn : ℕ → Op → RunningView → Type 0
 StopsInTurn lane op r = StopsBeside r.holders lane op r.heap
 

@@ -35,8 +35,8 @@ pub record IsLaidBack (h k : HeapView) : Type 0 where
   pub chunks : k.chunks ≡ h.chunks
   pub buffers : k.buffers ≡ h.buffers
 
--- why a lane's next operation can't be done in this turn: as on plain data, or it looks at an object in a cell, whose page was gone
--- or in another's hands
+-- why a lane's next operation can't be done in this turn: as on plain data, or it looks at an object in a cell. That the cell's page
+-- was gone or in another's hands then, the lane's own turn tells, and not the heap afterwards
 abbrev pub StopsBeside : List ℕ → ℕ → Op → HeapView → Type 0
 StopsBeside holders lane op h =
     WantsMore holders lane (left_of (own_chunk h lane)) op
