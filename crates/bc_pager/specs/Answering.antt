@@ -57,6 +57,16 @@ AreAnswered k [] (answer ∷ answers) v w = ⊥
 AreAnswered k (hint ∷ hints) [] v w = ⊥
 AreAnswered k (hint ∷ hints) (answer ∷ answers) v w = (u : View) × IsAnswer k v hint answer u × AreAnswered k hints answers u w
 
+-- each answer begins at the view at which its notice was given, where the one before it ended
+abbrev pub AreAnsweredSince : Key → List ℕ → List Answer → List View → View → View → Type 0
+AreAnsweredSince k [] [] [] v w = w ≡ v
+AreAnsweredSince k [] [] (given ∷ views) v w = ⊥
+AreAnsweredSince k [] (answer ∷ answers) views v w = ⊥
+AreAnsweredSince k (hint ∷ hints) [] views v w = ⊥
+AreAnsweredSince k (hint ∷ hints) (answer ∷ answers) [] v w = ⊥
+AreAnsweredSince k (hint ∷ hints) (answer ∷ answers) (given ∷ views) v w =
+    (given ≡ v) × (u : View) × IsAnswer k given hint answer u × AreAnsweredSince k hints answers views u w
+
 -- does the answer say that the page was made Gone, or Absent?
 abbrev pub says_evicted : ℕ → Answer → ℕ
 says_evicted page (Discarded other) = 0

@@ -13,8 +13,9 @@
 // page's word since the notice was taken, with nothing in the pager's own hands.
 //
 // That is the definition (`specs/Answering.antt`), and the theorem is the contract of `serve`: each notice that it took has one answer,
-// in order, that the definition allows (`HasServed`), and no page is made Gone or Absent but those that the answers name. It ends where
-// no notice is left or no room for an answer is (`ended`).
+// in order, that the definition allows (`HasServed`), and no page is made Gone or Absent but those that the answers name. An answer
+// begins where its notice was given: a source of notices may tell the views that the seat had then (`Notices`), and each answer begins
+// at its own (`AreAnsweredSince`). `serve` ends where no notice is left or no room for an answer is (`ended`).
 //
 // How the pieces work together: `serving` takes notices and keeps answers; `walking` goes round the pages and takes the first of a kind
 // that can be had; `leaving` gives it up (`bc_evict`), with its frame. `notices` has the trait by which notices come, and a list of

@@ -2,7 +2,9 @@
 
 ghost use Rattle.std.specs.Prelude.{◌≡◌, ℕ, List, [], ◌∷◌, ◌++◌, ◌↔◌, length, Option, Some, IfOk, IfSome, IfNone, IsNone, take};
 ghost use Rattle.bc_frames.specs.Places.{one_more};
-ghost use Rattle.bc_pager.specs.Serving.{HintList};
+ghost use Rattle.bc_pins.specs.declared.views.View.{View};
+ghost use Rattle.bc_pins.specs.Calls.{view_of};
+ghost use Rattle.bc_pager.specs.Serving.{HintList, untold, told_with};
 
 use bc_pins::Seat;
 use std::alloc::{AllocError, Global};
@@ -26,10 +28,13 @@ pub trait Notices {
     // The hints of all its notices, those that were given among them, where they are told. They never change.
     ghost told: { Self → Option (List ℕ) };
 
+    // The views that the seat had when the notices were given, in order, where they are told.
+    ghost since: { Self → Option (List View) };
+
     /// The next notice, or none. It makes no step with the seat.
     fn next(&mut self, seat: &mut Seat) -> Option<Notice>
-        ensures some { IfSome result (λ notice. (taken self.new ≡ taken self.old ++ notice.hint ∷ []) × (ends self.new ≡ ends self.old)) }
-        ensures none { IfNone result ((taken self.new ≡ taken self.old) × (ends self.new ≡ one_more (ends self.old))) }
+        ensures some { IfSome result (λ notice. (taken self.new ≡ taken self.old ++ notice.hint ∷ []) × (ends self.new ≡ ends self.old) × (since self.new ≡ told_with (since self.old) (view_of seat.old ∷ []))) }
+        ensures none { IfNone result ((taken self.new ≡ taken self.old) × (ends self.new ≡ one_more (ends self.old)) × (since self.new ≡ since self.old)) }
         ensures told { told self.new ≡ told self.old }
         ensures seat { seat.new ≡ seat.old };
 }
@@ -84,9 +89,11 @@ impl Notices for ListNotices {
 
     ghost told = { λ n. Some n.hints };
 
+    ghost since = { λ n. untold };
+
     fn next(&mut self, _seat: &mut Seat) -> Option<Notice>
-        ensures some { IfSome result (λ notice. (take self.new.given self.new.hints ≡ take self.old.given self.old.hints ++ notice.hint ∷ []) × (self.new.ends ≡ self.old.ends)) }
-        ensures none { IfNone result ((take self.new.given self.new.hints ≡ take self.old.given self.old.hints) × (self.new.ends ≡ one_more self.old.ends)) }
+        ensures some { IfSome result (λ notice. (take self.new.given self.new.hints ≡ take self.old.given self.old.hints ++ notice.hint ∷ []) × (self.new.ends ≡ self.old.ends) × (untold ≡ told_with untold (view_of _seat.old ∷ []))) }
+        ensures none { IfNone result ((take self.new.given self.new.hints ≡ take self.old.given self.old.hints) × (self.new.ends ≡ one_more self.old.ends) × (untold ≡ untold)) }
         ensures told { Some self.new.hints ≡ Some self.old.hints }
         ensures seat { _seat.new ≡ _seat.old }
 

@@ -7,6 +7,7 @@ ghost use Rattle.bc_pins.specs.Calls.{key_of, view_of, IsAt, IsSameSeat, IsFree}
 mod beside;
 mod evicting;
 mod furnished;
+mod telling;
 
 use super::*;
 use bc_gates::OpenGate;
@@ -14,6 +15,7 @@ use bc_pins::{Pins, Role, Seat, Turn, Want};
 use bc_superpages::{PageState, Space};
 use std::alloc::{AllocError, Global};
 use std::test::Fail;
+use telling::served_once;
 
 /// The answers to notices with these hints, with room for so many.
 fn served(
@@ -86,11 +88,14 @@ fn eight_notices_are_declined_where_every_page_is_absent(rt: HostRuntime) -> Res
         panic!(rt; "a seat for the lane")
     };
     let answers = served(rt.alloc(), &pins, &mut pager, &[0, 1, 2, 3, 0, 1, 2, 3], 64);
+    let ninth = served_once(rt.alloc(), &pins, &mut pager, 0);
     seats.push_reserved(lane);
     seats.push_reserved(pager);
     let _space = pins.close(seats);
     let answers = answers?;
     assert_eq!(rt; answers.list(), [Answer::Declined; 8].as_slice());
+    let ninth = ninth?;
+    assert_eq!(rt; ninth.list(), [Answer::Declined].as_slice());
     Ok(())
 }
 

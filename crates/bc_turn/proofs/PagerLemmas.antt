@@ -5,7 +5,7 @@ use Rattle.bc_frames.specs.Places.{one_more}
 use Rattle.bc_pager.specs.Answering.{AreAnswered, IsAnswer, says_discarded, says_evicted}
 use Rattle.bc_pager.specs.declared.answers.Answer.{Answer}
 use Rattle.bc_pager.specs.declared.answers.Answer.TheVariants.{Declined, Discarded, Evicted}
-use Rattle.bc_pager.specs.Serving.{HasServed, KeptAnswers}
+use Rattle.bc_pager.specs.Serving.{HasServed, KeptAnswers, untold}
 use Rattle.bc_pins.specs.Calls.{IsFree, IsSameSeat, key_of, view_of}
 use Rattle.bc_pins.specs.Key.{Key, pages_of, role_number}
 use Rattle.bc_pins.specs.Steps.{Mine, fresh}
@@ -83,7 +83,7 @@ append-length (x ∷ xs) ys = let rest = append-length xs ys in omega arith
 
 -- a pager that served until no notice was left, or no room for an answer, has answered all its notices
 module _ (pins : Pins) (old new : Paging) (ready : IsPagerReady pins old) (same : IsSameSeat old.seat new.seat) (free : IsFree new.seat) (rights : (view_of new.seat).rights ≡ [])
-    (served : HasServed (key_of pins) (take old.notices.given old.notices.hints) (take new.notices.given new.notices.hints) old.answers new.answers (view_of old.seat) (view_of new.seat))
+    (served : HasServed (key_of pins) (take old.notices.given old.notices.hints) (take new.notices.given new.notices.hints) untold untold old.answers new.answers (view_of old.seat) (view_of new.seat))
     (hints_same : new.notices.hints ≡ old.notices.hints) (ended : (new.notices.given ≡ length new.notices.hints) ⊎ (length new.answers.list ≡ new.answers.room)) where
   abbrev hints : List ℕ
   hints = old.notices.hints
