@@ -1,6 +1,5 @@
 -- Answers, one after another.
-use Rattle.std.proofs.Common.{◌≡◌, ℕ, ◌+◌, ◌<◌, ◌≤◌, ◌==◌, ◌⊎◌, List, [], ◌∷◌, ◌++◌, length, take, Option, Some, None, inl, inr, refl, ap, sym, subst, ◌∙◌, arith, append_assoc, append-nil, length-append, length-take-le, take_all}
-use Rattle.bc_frames.specs.Places.{one_more}
+use Rattle.std.proofs.Common.{◌≡◌, ℕ, ◌+◌, ◌==◌, List, [], ◌∷◌, ◌++◌, Option, Some, None, refl, ap, sym, subst, ◌∙◌, arith, append_assoc, append-nil}
 use Rattle.bc_bits.specs.Counting.{one_if}
 use Rattle.bc_pins.specs.declared.views.View.{View}
 use Rattle.bc_pins.specs.Key.{Key}
@@ -9,7 +8,7 @@ use Rattle.bc_pins.proofs.TotalLemmas.{total_append}
 use Rattle.bc_pager.specs.declared.answers.Answer.{Answer}
 use Rattle.bc_pager.specs.declared.answers.Answer.TheVariants.{Discarded, Evicted, Declined}
 use Rattle.bc_pager.specs.Answering.{IsAnswer, AreAnswered, AreAnsweredSince, says_evicted, says_discarded}
-use Rattle.bc_pager.specs.Serving.{HintList, KeptAnswers, HasServed, told_with}
+use Rattle.bc_pager.specs.Serving.{KeptAnswers, HasServed, told_with}
 
 -- one more
 pub answered-more : (k : Key) (hints : List ℕ) (answers : List Answer) (views : List View) (v u : View) (hint : ℕ) (answer : Answer) (w : View) → AreAnsweredSince k hints answers views v u → IsAnswer k u hint answer w
@@ -70,24 +69,24 @@ pub served-more : (k : Key) (told then more : List ℕ) (given then_given more_g
     → HasServed k told then given then_given old middle v u → more ≡ then ++ hint ∷ [] → more_given ≡ told_with then_given (u ∷ []) → new ≡ record middle { list = middle.list ++ answer ∷ [] } → IsAnswer k u hint answer w
     → HasServed k told more given more_given old new v w
 served-more k told then more given then_given more_given old middle new v u w hint answer s told_one given_one kept a =
-  let since = answered-more k s.hints s.answers s.views v u hint answer w s.since a in
-  record {
-    hints = s.hints ++ hint ∷ [];
-    answers = s.answers ++ answer ∷ [];
-    views = s.views ++ u ∷ [];
-    taken = told_one ∙ ap (λ (l : List ℕ). l ++ hint ∷ []) s.taken ∙ append_assoc told s.hints (hint ∷ []);
-    given_at = given_one ∙ ap (λ (o : Option (List View)). told_with o (u ∷ [])) s.given_at ∙ told-more given s.views (u ∷ []);
-    kept = kept ∙ ap (λ (m : KeptAnswers). record m { list = m.list ++ answer ∷ [] }) s.kept ∙ ap (λ (l : List Answer). record old { list = l }) (append_assoc old.list s.answers (answer ∷ []));
-    each = since-answered k (s.hints ++ hint ∷ []) (s.answers ++ answer ∷ []) (s.views ++ u ∷ []) v w since;
-    since = since;
-    left = λ page.
-        let one = left_once k u hint answer w page a in
-        let was = s.left page in
-        let sum = total_append (says_evicted page) s.answers (answer ∷ []) in
-        omega arith;
-    emptied = λ page.
-        let one = emptied_once k u hint answer w page a in
-        let was = s.emptied page in
-        let sum = total_append (says_discarded page) s.answers (answer ∷ []) in
-        omega arith;
-  }
+    let since = answered-more k s.hints s.answers s.views v u hint answer w s.since a in
+    record {
+      hints = s.hints ++ hint ∷ [];
+      answers = s.answers ++ answer ∷ [];
+      views = s.views ++ u ∷ [];
+      taken = told_one ∙ ap (λ (l : List ℕ). l ++ hint ∷ []) s.taken ∙ append_assoc told s.hints (hint ∷ []);
+      given_at = given_one ∙ ap (λ (o : Option (List View)). told_with o (u ∷ [])) s.given_at ∙ told-more given s.views (u ∷ []);
+      kept = kept ∙ ap (λ (m : KeptAnswers). record m { list = m.list ++ answer ∷ [] }) s.kept ∙ ap (λ (l : List Answer). record old { list = l }) (append_assoc old.list s.answers (answer ∷ []));
+      each = since-answered k (s.hints ++ hint ∷ []) (s.answers ++ answer ∷ []) (s.views ++ u ∷ []) v w since;
+      since = since;
+      left = λ page.
+          let one = left_once k u hint answer w page a in
+          let was = s.left page in
+          let sum = total_append (says_evicted page) s.answers (answer ∷ []) in
+          omega arith;
+      emptied = λ page.
+          let one = emptied_once k u hint answer w page a in
+          let was = s.emptied page in
+          let sum = total_append (says_discarded page) s.answers (answer ∷ []) in
+          omega arith;
+    }
