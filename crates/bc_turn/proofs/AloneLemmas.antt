@@ -1,5 +1,5 @@
 -- A pager alone at a table: no lane has operations left.
-use Rattle.std.proofs.Common.{◌≡◌, ℕ, ◌+◌, List, [], ◌∷◌, ◌++◌, length, get_or, refl, ap, sym, subst, ◌∙◌, arith}
+use Rattle.std.proofs.Common.{◌≡◌, ℕ, ◌+◌, ◌^◌, ◌<◌, List, [], ◌∷◌, ◌++◌, length, get_or, refl, ap, sym, subst, ◌∙◌, arith}
 use Rattle.std.proofs.lemmas.List.{get_or_push}
 use Rattle.bc_pager.specs.Answering.{AreAnswered}
 use Rattle.bc_pager.specs.declared.answers.Answer.{Answer}
@@ -90,10 +90,11 @@ module _ (pins : Pins) (h : HeapView) (hs : List ℕ) (seats : List Seat) (pager
         fetched = λ p. let one = ap (times p) back.fetched in omega arith;
         left = λ p. let one = paged.left p in omega arith;
         emptied = λ p. let one = paged.emptied p in omega arith;
+        opens = (let one = back.opens in omega arith);
       })
 
-      pub alone-answered : (hints : List ℕ) (kept told : List Answer) → old.notices.hints ≡ hints → old.answers.list ≡ kept → told ≡ later.answers.list → AnsweredBeside h.space hints kept told t
-      alone-answered hints kept told hints_are kept_are all_are =
-          answered (key_of pins) h.space t all hints kept told paged.told (view_of later.seat) opened.opening closed before given pagers
+      pub alone-answered : h.space.reads < 2 ^ 64 → (hints : List ℕ) (kept told : List Answer) → old.notices.hints ≡ hints → old.answers.list ≡ kept → told ≡ later.answers.list → AnsweredBeside h.space hints kept told t
+      alone-answered few hints kept told hints_are kept_are all_are =
+          answered (key_of pins) h.space t all hints kept told paged.told (view_of later.seat) opened.opening closed before given few pagers
           (all_are ∙ paged.kept ∙ ap (λ (list_before : List Answer). list_before ++ paged.told) kept_are)
           (subst (λ (xs : List ℕ). AreAnswered (key_of pins) xs paged.told (fresh (key_of pins) (role_number (Pager 0) ∷ [])) (view_of later.seat)) hints_are paged.each)

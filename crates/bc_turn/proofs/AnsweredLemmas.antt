@@ -1,11 +1,11 @@
 -- What a closed table makes of the pages that a pager's answers name.
-use Rattle.std.proofs.Common.{◌≡◌, ◌⊎◌, ℕ, ◌+◌, ◌*◌, ◌/◌, ◌%◌, ◌<◌, ◌≤◌, ◌==◌, List, [], ◌∷◌, ◌++◌, length, get_or, inl, inr, refl, ap, sym, subst, ◌∙◌, arith}
+use Rattle.std.proofs.Common.{◌≡◌, ◌⊎◌, ℕ, ◌+◌, ◌*◌, ◌/◌, ◌%◌, ◌^◌, ◌<◌, ◌≤◌, ◌==◌, List, [], ◌∷◌, ◌++◌, length, get_or, inl, inr, refl, ap, sym, subst, ◌∙◌, arith}
 use Rattle.std.proofs.lemmas.Bool.{cases_lt}
 use Rattle.std.proofs.lemmas.List.{get_or_past}
 use Rattle.bc_bits.specs.Counting.{one_if}
 use Rattle.bc_pager.specs.Answering.{AreAnswered, says_discarded, says_evicted}
 use Rattle.bc_pager.specs.declared.answers.Answer.{Answer}
-use Rattle.bc_pins.specs.Closing.{Closed, seen_by}
+use Rattle.bc_pins.specs.Closing.{Closed, opens_of, seen_by}
 use Rattle.bc_pins.specs.Key.{Key, pages_of, role_number}
 use Rattle.bc_pins.specs.Steps.{fresh, no_key}
 use Rattle.bc_pins.specs.Totals.{times, total}
@@ -18,6 +18,7 @@ use Rattle.bc_superpages.specs.declared.headers.PageState.TheVariants.{Absent, G
 use Rattle.bc_superpages.specs.Kept.{IsLayout}
 use Rattle.bc_superpages.specs.Layout.{Layout, superpages}
 use Rattle.bc_superpages.specs.LayoutAt.{state_at}
+use Rattle.bc_turn.proofs.NewBitLemmas.{bits-none, new-bits, reads-same}
 use Rattle.bc_turn.proofs.PagerLemmas.{name-none}
 use Rattle.bc_turn.specs.Answered.{AnsweredBeside}
 
@@ -55,11 +56,13 @@ state-behind s p layout far =
     let long = layout.long.states in
     ap (λ (states : List PageState). get_or states (p % 4) Absent) (get_or_past s.states (p / 4) [] (omega arith)) ∙ get_or_past [] (p % 4) Absent (omega arith)
 
--- what the seats have between them of the pages that were made Gone, made Absent and taken from Gone is what the answers say
+-- what the seats have between them of the pages that were made Gone, made Absent and taken from Gone is what the answers say, and none
+-- opened a box
 pub record ArePagers (seats : List Seat) (told : List Answer) : Type 0 where
   pub fetched : (p : ℕ) → total (λ (seat : Seat). times p (seen_by seat).fetched) seats ≡ 0
   pub left : (p : ℕ) → total (λ (seat : Seat). times p (seen_by seat).left) seats ≡ total (says_evicted p) told
   pub emptied : (p : ℕ) → total (λ (seat : Seat). times p (seen_by seat).emptied) seats ≡ total (says_discarded p) told
+  pub opens : opens_of seats ≡ 0
 
 module _ (k : Key) (s t : Layout) (seats : List Seat) (told : List Answer) (opening : k.opening ≡ s) (closed : Closed k seats t) (before : IsLayout s) (after : IsLayout t)
     (pagers : ArePagers seats told) (none : (p : ℕ) → pages_of k ≤ p → (total (says_evicted p) told ≡ 0) × (total (says_discarded p) told ≡ 0)) where
@@ -156,8 +159,8 @@ module _ (k : Key) (s t : Layout) (seats : List Seat) (told : List Answer) (open
 
 -- the notices were answered beside the lanes
 pub answered : (k : Key) (s t : Layout) (seats : List Seat) (hints : List ℕ) (kept after : List Answer) (told : List Answer) (end : View) → k.opening ≡ s → Closed k seats t → IsLayout s → IsLayout t
-    → ArePagers seats told → after ≡ kept ++ told → AreAnswered k hints told (fresh k (role_number (Pager 0) ∷ [])) end → AnsweredBeside s hints kept after t
-answered k s t seats hints kept after told end opening closed before layout pagers is each =
+    → s.reads < 2 ^ 64 → ArePagers seats told → after ≡ kept ++ told → AreAnswered k hints told (fresh k (role_number (Pager 0) ∷ [])) end → AnsweredBeside s hints kept after t
+answered k s t seats hints kept after told end opening closed before layout few pagers is each =
     let none = name-none k hints told (fresh k (role_number (Pager 0) ∷ [])) end each in
     record {
       key = k;
@@ -169,6 +172,8 @@ answered k s t seats hints kept after told end opening closed before layout page
       gone = λ p. (gone-from k s t seats told opening closed before layout pagers none p, gone-to k s t seats told opening closed before layout pagers none p);
       absent = λ p. (absent-from k s t seats told opening closed before layout pagers none p, absent-to k s t seats told opening closed before layout pagers none p);
       once = once k s t seats told opening closed before layout pagers none;
+      bookmarks = new-bits k s t seats opening closed before layout pagers.fetched;
+      reads = reads-same k s t seats opening closed few pagers.opens;
     }
 
 append-nil : (xs : List Answer) → xs ≡ xs ++ []
@@ -192,4 +197,6 @@ answered-none s hints kept none = record {
   gone = λ p. (λ is. inl is, λ from. elim from [ inl was ↦ was | inr some ↦ absurd (omega arith) ]);
   absent = λ p. (λ is. inl is, λ from. elim from [ inl was ↦ was | inr some ↦ absurd (omega arith) ]);
   once = λ p. omega arith;
+  bookmarks = bits-none s;
+  reads = refl;
 }

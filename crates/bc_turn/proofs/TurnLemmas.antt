@@ -346,10 +346,10 @@ module _ (h : HeapView) (hs serials : List ℕ) (lanes : List (List Op)) (before
               set.running set.layout set.whole some whole-list table all-long all-are (record g { space = t }) nexts told closed given
               (laid-space hs busy (turn_at d new) (length busy) h serials (lists_of before) g nexts told t home)
 
-          pub answered-beside : (t : Layout) → Closed (key_of pins) whole-list t → IsLayout t → (hints : List ℕ) (kept all : List Answer) → old.notices.hints ≡ hints → old.answers.list ≡ kept → all ≡ later.answers.list
+          pub answered-beside : (t : Layout) → Closed (key_of pins) whole-list t → IsLayout t → h.space.reads < 2 ^ 64 → (hints : List ℕ) (kept all : List Answer) → old.notices.hints ≡ hints → old.answers.list ≡ kept → all ≡ later.answers.list
               → AnsweredBeside h.space hints kept all t
-          answered-beside t closed given hints kept all hints_are kept_are all_are =
-              answered (key_of pins) h.space t whole-list hints kept all paged.told (view_of later.seat) set.opened.opening closed set.layout given
+          answered-beside t closed given few hints kept all hints_are kept_are all_are =
+              answered (key_of pins) h.space t whole-list hints kept all paged.told (view_of later.seat) set.opened.opening closed set.layout given few
               (are-pagers pins h hs serials lanes (lists_of before) busy (turn_at d runs) (seat_at d runs) (turn_at d new) (seat_at d new) (begun d) (all-ran d) back later.seat table seats-long seats-are pager-back
               paged.told paged.left paged.emptied) (all_are ∙ paged.kept ∙ ap (λ (list_before : List Answer). list_before ++ paged.told) kept_are)
               (subst (λ (hs : List ℕ). AreAnswered (key_of pins) hs paged.told (fresh (key_of pins) (role_number (Pager 0) ∷ [])) (view_of later.seat)) hints_are paged.each)

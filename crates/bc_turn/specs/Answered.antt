@@ -7,13 +7,15 @@ use Rattle.bc_pins.specs.Steps.{fresh}
 use Rattle.bc_pins.specs.Totals.{total}
 use Rattle.bc_pins.specs.declared.key.Role.TheVariants.{Pager}
 use Rattle.bc_pins.specs.declared.views.View.{View}
+use Rattle.bc_promotion.specs.Filling.{BookmarksNewTargets}
 use Rattle.bc_superpages.specs.declared.headers.PageState.TheVariants.{Absent, Gone}
 use Rattle.bc_superpages.specs.Layout.{Layout}
 use Rattle.bc_superpages.specs.LayoutAt.{state_at}
 
 -- the notices with these hints were answered by a pager that worked beside the lanes at a table that was opened over a space, and closed
 -- to another one. Each has one answer, in order, by what the pager did and read; behind the answers that were kept before. Pages that are
--- Gone or Absent then and weren't before are those that the answers name, each once
+-- Gone or Absent then and weren't before are those that the answers name, each once. Bookmark bits stay, and each that came is that of a target of
+-- a page that has become Gone. No page was read back
 pub record AnsweredBeside (s : Layout) (hints : List ℕ) (before after : List Answer) (t : Layout) : Type 0 where
   pub key : Key
   pub opening : key.opening ≡ s
@@ -24,3 +26,5 @@ pub record AnsweredBeside (s : Layout) (hints : List ℕ) (before after : List A
   pub gone : (p : ℕ) → (state_at t.states p ≡ Gone) ↔ ((state_at s.states p ≡ Gone) ⊎ (0 < total (says_evicted p) told))
   pub absent : (p : ℕ) → (state_at t.states p ≡ Absent) ↔ ((state_at s.states p ≡ Absent) ⊎ (0 < total (says_discarded p) told))
   pub once : (p : ℕ) → total (says_evicted p) told + total (says_discarded p) told ≤ 1
+  pub bookmarks : BookmarksNewTargets s t
+  pub reads : t.reads ≡ s.reads

@@ -15,7 +15,8 @@
 // has operations left, the pager is alone at a table. Where there is neither, nothing is done.
 //
 // Each notice has one answer (`AnsweredBeside`): by what the pager did and read, behind the answers that the caller's list had. Lanes
-// make no page Gone or Absent, so the pages that are so at the close and weren't before are those that the answers name.
+// make no page Gone or Absent, so the pages that are so at the close and weren't before are those that the answers name. Nor do they
+// bookmark anything or read a page back, so the bookmark bits that came are those of targets of pages that the pager made Gone.
 //
 // What takes memory comes first: room for what each lane takes along (`fit_room`), with a chunk, a write buffer and a list of replies
 // without words that stand in the heap's places meanwhile; the roles, the notices and the list of runs; and the table (`open_table`).

@@ -1,0 +1,149 @@
+-- Bookmark bits and reads of the space that a closed table gives back, against the space over which it was opened.
+use Rattle.std.proofs.Common.{◌≡◌, ℕ, ◌+◌, ◌*◌, ◌/◌, ◌%◌, ◌^◌, ◌<◌, ◌≤◌, ◌==◌, ◌⊎◌, true, false, List, [], slice_index, inl, inr, refl, ap, sym, subst, ◌∙◌, arith}
+use Rattle.std.specs.Int.{bit_at}
+use Rattle.std.proofs.lemmas.Bool.{cases_eq, cases_lt}
+use Rattle.std.proofs.lemmas.List.{get_or_past}
+use Rattle.bc_bits.specs.Bits.{has}
+use Rattle.bc_bits.specs.Counting.{one_if}
+use Rattle.bc_bits.proofs.BitLemmas.{has-beyond}
+use Rattle.bc_bookmarks.specs.Summarised.{gone_in}
+use Rattle.bc_bookmarks.specs.Targets.{has_target_at, is_target}
+use Rattle.bc_bookmarks.proofs.TargetLemmas.{target-at}
+use Rattle.bc_pins.specs.Closing.{Closed, ClosedBit, IsOfPageLeft, opens_of, seen_by}
+use Rattle.bc_pins.specs.Facts.{IsBitOfTarget, opened_bit}
+use Rattle.bc_pins.specs.Key.{Key}
+use Rattle.bc_pins.specs.Totals.{times, total}
+use Rattle.bc_pins.specs.Views.{opened_state, state_word}
+use Rattle.bc_pins.specs.declared.pins.Seat.{Seat}
+use Rattle.bc_pins.proofs.TallyLemmas.{bit_few, bit_in, few_bits, in_bit, target_in}
+use Rattle.bc_promotion.specs.Filling.{BookmarksNewTargets, IsNewTarget}
+use Rattle.bc_superpages.specs.declared.headers.PageState.{PageState}
+use Rattle.bc_superpages.specs.declared.headers.PageState.TheVariants.{Absent, Gone, Held, Home, Remembered}
+use Rattle.bc_superpages.specs.Headers.{is_gone}
+use Rattle.bc_superpages.specs.Kept.{IsLayout}
+use Rattle.bc_superpages.specs.Layout.{Layout, content_at, set_of, superpages}
+use Rattle.bc_superpages.specs.LayoutAt.{state_at}
+use Rattle.bc_superpages.specs.Memory.{memory}
+use Rattle.bc_word.specs.Addresses.{cell_number, superpage_of}
+
+-- a space's bits against themselves
+pub bits-none : (s : Layout) → BookmarksNewTargets s s
+bits-none s = record { stay = λ q b on. on; only = λ q b on. inl on }
+
+-- no box was opened, so none was read
+pub reads-same : (k : Key) (s t : Layout) (seats : List Seat) → k.opening ≡ s → Closed k seats t → s.reads < 2 ^ 64 → opens_of seats ≡ 0 → t.reads ≡ s.reads
+reads-same k s t seats opening closed few none =
+    let all = closed.reads in
+    let same = ap (λ (x : Layout). x.reads) opening in
+    omega arith
+
+-- a page isn't Gone by its word
+not-gone : (st : PageState) → one_if (state_word st == 4) ≡ 0 → is_gone st ≡ false
+not-gone Absent zero = refl
+not-gone Home zero = refl
+not-gone Remembered zero = refl
+not-gone Held zero = refl
+not-gone Gone zero = absurd (omega arith)
+
+clash : {X : Type 0} → false ≡ true → X
+clash e = absurd (go e)
+  where
+    go : false ≡ true → ⊥
+    go q = cc
+
+-- a set of a space has no bit past the last of sixteen words
+few-set : (s : Layout) (q b : ℕ) → IsLayout s → has (set_of s.bookmarks q) b ≡ true → b < 1024
+few-set s q b layout on = elim (cases_lt q (superpages s)) [
+  | inl lt ↦ few_bits (set_of s.bookmarks q) b (layout.each q lt).tags.bookmarks.0 on
+  | inr out ↦
+      let long = layout.long.bookmarks in
+      let empty : set_of s.bookmarks q ≡ [] = get_or_past s.bookmarks q [] (omega arith) in
+      clash (sym (has-beyond [] b (omega arith)) ∙ sym (ap (λ (ws : List ℕ). has ws b) empty) ∙ on)
+]
+
+module _ (k : Key) (s t : Layout) (seats : List Seat) (opening : k.opening ≡ s) (closed : Closed k seats t) (before : IsLayout s) (after : IsLayout t)
+    (unfetched : (p : ℕ) → total (λ (seat : Seat). times p (seen_by seat).fetched) seats ≡ 0) where
+  -- the sets of superpages behind the table
+  set-behind : (q : ℕ) → k.supers ≤ q → set_of t.bookmarks q ≡ set_of s.bookmarks q
+  set-behind q far = closed.bits_behind q far ∙ ap (λ (x : Layout). set_of x.bookmarks q) opening
+
+  -- a target that a page has at the table is one that it has in the space
+  target-here : (page w b : ℕ) → IsBitOfTarget k page (content_at t.pages page) w b → has_target_at t page (w / 16) (64 * (w % 16) + b) ≡ true
+  target-here page w b is =
+      let target : is_target (memory t) page is.address ≡ true =
+      ap (λ (x : Layout). is_target (memory x) page is.address) closed.same ∙ sym (target_in k.opening t.pages page is.address (content_at t.pages page) refl) ∙ is.target in
+      let classes : t.classes ≡ k.opening.classes = ap (λ (x : Layout). x.classes) closed.same in
+      let number : cell_number (slice_index t.classes (superpage_of is.address)) is.address ≡ 64 * (w % 16) + b =
+      ap (λ (cs : List ℕ). cell_number (slice_index cs (superpage_of is.address)) is.address) classes ∙ is.number in
+      subst (λ (n : ℕ). has_target_at t page (w / 16) n ≡ true) number
+      (subst (λ (q : ℕ). has_target_at t page q (cell_number (slice_index t.classes (superpage_of is.address)) is.address) ≡ true) is.superpage (target-at t page is.address target))
+
+  -- so a bit that came is that of a new target
+  new-target : (w b : ℕ) → IsOfPageLeft k seats t w b → IsNewTarget s t (w / 16) (64 * (w % 16) + b)
+  new-target w b m =
+      let count = (closed.states_are m.page m.inside).gone in
+      let none = unfetched m.page in
+      let some = m.left in
+      let now : one_if (state_word (state_at t.states m.page) == 4) ≡ 1 = ap (λ (st : PageState). one_if (state_word st == 4)) m.gone in
+      let was : opened_state k m.page ≡ state_at s.states m.page = ap (λ (x : Layout). state_at x.states m.page) opening in
+      (m.page, ap is_gone (sym was) ∙ not-gone (opened_state k m.page) (omega arith), ap is_gone m.gone, target-here m.page w b m.bit)
+
+  -- bit b of the set of a superpage of the table
+  module _ (q b : ℕ) (near : q < k.supers) (few : b < 1024) where
+    abbrev word : ℕ
+    word = 16 * q + b / 64
+
+    word-set : word / 16 ≡ q
+    word-set = omega arith
+
+    word-place : word % 16 ≡ b / 64
+    word-place = omega arith
+
+    bit : ClosedBit k seats t word (b % 64)
+    bit = closed.bits word (b % 64) (omega arith) (omega arith)
+
+    place-back : 64 * (b / 64) + b % 64 ≡ b
+    place-back = omega arith
+
+    place : 64 * (word % 16) + b % 64 ≡ b
+    place = ap (λ (n : ℕ). 64 * n + b % 64) word-place ∙ place-back
+
+    -- as the table tells it
+    told : has (set_of t.bookmarks (word / 16)) (64 * (word % 16) + b % 64) ≡ has (set_of t.bookmarks q) b
+    told = ap (λ (n : ℕ). has (set_of t.bookmarks n) (64 * (word % 16) + b % 64)) word-set ∙ ap (has (set_of t.bookmarks q)) place
+
+    -- and as it was at the opening
+    was : opened_bit k word (b % 64) ≡ bit_at (slice_index (set_of s.bookmarks q) (b / 64)) (b % 64)
+    was =
+        ap (λ (n : ℕ). bit_at (slice_index (set_of k.opening.bookmarks n) (word % 16)) (b % 64)) word-set
+        ∙ ap (λ (n : ℕ). bit_at (slice_index (set_of k.opening.bookmarks q) n) (b % 64)) word-place
+        ∙ ap (λ (x : Layout). bit_at (slice_index (set_of x.bookmarks q) (b / 64)) (b % 64)) opening
+
+    stays : has (set_of s.bookmarks q) b ≡ true → has (set_of t.bookmarks q) b ≡ true
+    stays on =
+        let one = in_bit (set_of s.bookmarks q) (b / 64) (b % 64) (omega arith) (ap (has (set_of s.bookmarks q)) place-back ∙ on) in
+        let at = was in
+        sym told ∙ bit.kept (omega arith)
+
+    came : has (set_of t.bookmarks q) b ≡ true → (has (set_of s.bookmarks q) b ≡ true) ⊎ IsNewTarget s t q b
+    came on = elim (cases_eq (opened_bit k word (b % 64)) 0) [
+      | inl zero ↦
+          inr (subst (λ (n : ℕ). IsNewTarget s t q n) place (subst (λ (n : ℕ). IsNewTarget s t n (64 * (word % 16) + b % 64)) word-set (new-target word (b % 64) (bit.new (told ∙ on) zero))))
+      | inr some ↦
+          let small = bit_few (slice_index (set_of s.bookmarks q) (b / 64)) (b % 64) in
+          let at = was in
+          inl (ap (has (set_of s.bookmarks q)) (sym place-back) ∙ bit_in (set_of s.bookmarks q) (b / 64) (b % 64) (omega arith) (omega arith))
+    ]
+
+  -- bookmark bits stay, and those that came are those of targets of pages that became Gone
+  pub new-bits : BookmarksNewTargets s t
+  new-bits = record {
+    stay = λ q b on. elim (cases_lt q k.supers) [
+      | inl near ↦ stays q b near (few-set s q b before on) on
+      | inr far ↦ ap (λ (ws : List ℕ). has ws b) (set-behind q far) ∙ on
+    ];
+    only = λ q b on. elim (cases_lt q k.supers) [
+      | inl near ↦ came q b near (few-set t q b after on) on
+      | inr far ↦ inl (sym (ap (λ (ws : List ℕ). has ws b) (set-behind q far)) ∙ on)
+    ];
+  }
