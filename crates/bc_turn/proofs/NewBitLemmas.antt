@@ -6,7 +6,6 @@ use Rattle.std.proofs.lemmas.List.{get_or_past}
 use Rattle.bc_bits.specs.Bits.{has}
 use Rattle.bc_bits.specs.Counting.{one_if}
 use Rattle.bc_bits.proofs.BitLemmas.{has-beyond}
-use Rattle.bc_bookmarks.specs.Summarised.{gone_in}
 use Rattle.bc_bookmarks.specs.Targets.{has_target_at, is_target}
 use Rattle.bc_bookmarks.proofs.TargetLemmas.{target-at}
 use Rattle.bc_pins.specs.Closing.{Closed, ClosedBit, IsOfPageLeft, opens_of, seen_by}
