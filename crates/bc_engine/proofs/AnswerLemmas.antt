@@ -38,8 +38,8 @@ turn-answered {lanes} {r} {q} {before} {after} {asked} {answers} {hints} turn = 
       let b = beside.1 in
       omega (arith, ap length b.kept, length-append asked b.told, beside-long b.key hints b.told _ b.end b.each)
   | inr alone ↦
-      let a = alone.1.1 in
-      omega (arith, ap length a.1, length-append asked a.0, plain-long _ alone.1.0 hints a.0 a.2)
+      let a = alone.2.1 in
+      omega (arith, ap length a.1, length-append asked a.0, plain-long _ alone.2.0 hints a.0 a.2)
 ]
 
 -- so have rounds, one after another

@@ -16,6 +16,8 @@ pub mod EmptyingLemmas
 pub mod CutLemmas
 -- Stretches of a phase, as the code keeps its replies.
 pub mod RunLemmas
+-- Attempts of lanes one after another
+pub mod AttemptLemmas
 -- Lanes that ran side by side
 pub mod BesideLemmas
 -- A turn

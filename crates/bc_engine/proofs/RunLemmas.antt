@@ -18,7 +18,7 @@ use Rattle.bc_model.specs.declared.operations.Op.{Op}
 use Rattle.bc_model.specs.declared.operations.Reply.{Reply}
 use Rattle.bc_model.specs.declared.traces.Setup.{Setup}
 use Rattle.bc_engine.specs.EngineFacts.{CanRunLanes}
-use Rattle.bc_engine.specs.Lanes.{of_lane, BirthsWithin, Does, EachFurther, LanesWentOn, HasSerialsLeft, IsAtEndOr, IsOneMore, LeavesCells, LeavesOthers, LanesRan, StoppedBetween, Stops, left}
+use Rattle.bc_engine.specs.Lanes.{of_lane, BirthsWithin, Does, EachFurther, LanesWentOn, HasSerialsLeft, IsOneMore, LeavesCells, LeavesOthers, LanesRan, left}
 use Rattle.bc_engine.proofs.Attempts.{IsMoved, means-moved, ready-moved}
 use Rattle.bc_engine.proofs.GoingLemmas.{with_reply, goes-none, goes-then, goes-step}
 
@@ -59,7 +59,7 @@ runs-moved lanes r q told moved =
 pub of_lane-vec : {X : Type 0} (vs : List (Vec X Global)) (lane : ℕ) (v : Vec X Global) → lane < length vs → v ≡ get_or vs lane v → of_lane (lists_of vs) lane ≡ v.items
 of_lane-vec {X} vs lane v within is = get_or-map (λ (x : Vec X Global). x.items) vs lane v [] within ∙ ap (λ (x : Vec X Global). x.items) (sym is)
 
-lists-pushed : (vs : List (Vec Reply Global)) (lane : ℕ) (v w : Vec Reply Global) (reply : Reply) → lane < length vs → v ≡ get_or vs lane v → w.items ≡ v.items ++ reply ∷ [] → lists_of (set vs lane w) ≡ with_reply (lists_of vs) lane reply
+pub lists-pushed : (vs : List (Vec Reply Global)) (lane : ℕ) (v w : Vec Reply Global) (reply : Reply) → lane < length vs → v ≡ get_or vs lane v → w.items ≡ v.items ++ reply ∷ [] → lists_of (set vs lane w) ≡ with_reply (lists_of vs) lane reply
 lists-pushed vs lane v w reply within is pushed =
     map-set (λ (x : Vec Reply Global). x.items) vs lane w
     ∙ ap (set (lists_of vs) lane) (pushed ∙ ap (λ (rs : List Reply). rs ++ reply ∷ []) (sym (of_lane-vec vs lane v within is)))
@@ -225,36 +225,3 @@ cells-then {r} {q} {x} first second = record {
       ∙ ap (λ (s : Layout). record s { states = x.heap.space.states; pages = x.heap.space.pages; free = x.heap.space.free; bookmarks = x.heap.space.bookmarks; incoming = x.heap.space.incoming; reads = x.heap.space.reads }) first.space;
   roots = second.roots ∙ ap (λ (s : RootWords). record s { words = x.heap.roots.words; noted = x.heap.roots.noted }) first.roots;
 }
-
--- the lanes that have run so far have stopped, and so has the next one
-pub stopped-more : (lanes : List (List Op)) {lane : ℕ} {s r q : RunningView} {begun told answers : List (Vec Reply Global)} → LanesRan lanes s begun r told → LanesRan lanes r told q answers → LeavesCells s r → LeavesCells r q → LeavesOthers lane r (lists_of told) q (lists_of answers) → ((j : ℕ) → j < lane → StoppedBetween Stops lanes s begun r told j) → IsAtEndOr (of_lane lanes lane) (of_lane (lists_of answers) lane) (λ op. Stops lane op q) → (j : ℕ) → j < lane + 1 → StoppedBetween Stops lanes s begun q answers j
-stopped-more lanes {lane} {s} {r} {q} {begun} {told} {answers} first runs cells more leaves before here j lt = elim (cases_eq j lane) [
-  | inl e ↦
-      subst (λ (l : ℕ). StoppedBetween Stops lanes s begun q answers l) (sym e)
-      (record {
-        at = q;
-        told = answers;
-        first = runs-then first runs;
-        later = runs-same lanes q q answers refl;
-        leaves = cells-then cells more;
-        keeps = cells-same q;
-        chunk = refl;
-        buffer = refl;
-        same = refl;
-        why = here;
-      })
-  | inr ne ↦
-      let stopped = before j (omega (arith, lt, ne)) in
-      record {
-        at = stopped.at;
-        told = stopped.told;
-        first = stopped.first;
-        later = runs-then stopped.later runs;
-        leaves = stopped.leaves;
-        keeps = cells-then stopped.keeps more;
-        chunk = leaves.chunk j ne ∙ stopped.chunk;
-        buffer = leaves.buffer j ne ∙ stopped.buffer;
-        same = leaves.replies j ne ∙ stopped.same;
-        why = stopped.why;
-      }
-]

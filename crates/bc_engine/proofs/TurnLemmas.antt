@@ -23,7 +23,8 @@ use Rattle.bc_turn.specs.Answered.{AnsweredBeside}
 use Rattle.bc_turn.specs.Taking.{IsRoomKept}
 use Rattle.bc_turn.specs.declared.rooms.TurnRoom.{TurnRoom}
 use Rattle.bc_turn.proofs.RoomLemmas.{room-kept}
-use Rattle.bc_engine.specs.Lanes.{of_lane, EachStopped, LanesRan, LeavesCells, StoppedBetween, Stops, StopsInTurn}
+use Rattle.bc_engine.specs.Attempts.{EachAlone, RanByAttempts, StoppedAlone}
+use Rattle.bc_engine.specs.Lanes.{of_lane, EachStopped, LanesRan, LeavesCells, StopsInTurn}
 use Rattle.bc_engine.specs.Turns.{RanTurn, hints_at, hints_of, line_behind}
 
 -- the lanes ran side by side, beside them notices were answered, and then the heap was settled
@@ -32,9 +33,9 @@ turn-together {lanes} {r} {q} {x} ran leaves stopped answered settled rest =
     record { mid = q; ran = ran; leaves = leaves; way = inl (stopped, answered, settled); rest = rest }
 
 -- or one after another, and then notices were answered
-pub turn-alone : {lanes : List (List Op)} {r q x y : RunningView} {told replies : List (Vec Reply Global)} {asked answers : List Answer} {hints : List ℕ} → LanesRan lanes r told q replies → LeavesCells r q → EachStopped Stops lanes r told q replies → AnsweredAlone q.heap.space hints asked answers x.heap.space → x ≡ with_space q x.heap.space → Settled x.heap.space y.heap.space → y ≡ with_space x y.heap.space → RanTurn lanes r told asked hints y replies answers
-turn-alone {lanes} {r} {q} {x} {y} ran leaves stopped answered moved settled rest =
-    record { mid = q; ran = ran; leaves = leaves; way = inr (stopped, (x.heap.space, answered, settled)); rest = rest ∙ ap (λ (z : RunningView). with_space z y.heap.space) moved }
+pub turn-alone : {lanes : List (List Op)} {r q x y : RunningView} {told replies : List (Vec Reply Global)} {asked answers : List Answer} {hints : List ℕ} → LanesRan lanes r told q replies → LeavesCells r q → RanByAttempts lanes r (lists_of told) q (lists_of replies) → EachAlone lanes r told q replies → AnsweredAlone q.heap.space hints asked answers x.heap.space → x ≡ with_space q x.heap.space → Settled x.heap.space y.heap.space → y ≡ with_space x y.heap.space → RanTurn lanes r told asked hints y replies answers
+turn-alone {lanes} {r} {q} {x} {y} ran leaves attempts stopped answered moved settled rest =
+    record { mid = q; ran = ran; leaves = leaves; way = inr (attempts, stopped, (x.heap.space, answered, settled)); rest = rest ∙ ap (λ (z : RunningView). with_space z y.heap.space) moved }
 
 -- of what was there before, told otherwise
 pub turn-same : {lanes : List (List Op)} {r q x : RunningView} {told mid replies : List (Vec Reply Global)} {asked kept answers : List Answer} {hints : List ℕ} → q ≡ r → mid ≡ told → kept ≡ asked → RanTurn lanes q mid kept hints x replies answers → RanTurn lanes r told asked hints x replies answers
@@ -62,7 +63,7 @@ kept-later {hs} {ks} {m} {n} lanes told answers room held slots more kept =
     (subst (λ (x : ℕ). IsRoomKept hs x lanes answers room) (sym slots) (room-kept hs m lanes told answers room more kept))
 
 -- each of them stopped, counted as the code counts them
-pub each-stopped : (vs : List (Vec Op Global)) {r q : RunningView} {told answers : List (Vec Reply Global)} → ((j : ℕ) → j < length vs → StoppedBetween Stops (lists_of vs) r told q answers j) → EachStopped Stops (lists_of vs) r told q answers
+pub each-stopped : (vs : List (Vec Op Global)) {r q : RunningView} {told answers : List (Vec Reply Global)} → ((j : ℕ) → j < length vs → StoppedAlone (lists_of vs) r told q answers j) → EachAlone (lists_of vs) r told q answers
 each-stopped vs stopped = λ j lt. stopped j (omega (arith, lt, length-map vs (λ (v : Vec Op Global). v.items)))
 
 -- the line of the turn of this number, where there are lines

@@ -13,7 +13,12 @@ use Rattle.bc_promotion.specs.Promises.{HasDomainsBelow}
 use Rattle.bc_superpages.specs.Layout.{superpages}
 use Rattle.bc_engine.specs.declared.engines.Ended.TheVariants.{NoMemory}
 use Rattle.bc_running.specs.Running.{RunningView, RunningStands}
+use Rattle.bc_running.specs.RunningFacts.{new_running}
 use Rattle.bc_engine.specs.Engines.{EngineView}
+
+-- the engine that a run of this setup begins with: a new heap, and no answer of any phase
+abbrev pub new_engine : Setup → ℕ → EngineView
+new_engine setup workers = record { running = new_running setup; setup = setup; workers = workers; ended = None; answers = [] }
 
 -- the engine with these holders of the domains
 abbrev pub with_holders : EngineView → List ℕ → EngineView

@@ -8,6 +8,8 @@ pub mod Phases
 pub mod Answers
 -- What lanes do of a phase
 pub mod Lanes
+-- What an operation that a lane attempts does, where lanes run one after another
+pub mod Attempts
 -- The turns of a phase
 pub mod Turns
 -- The rounds of a phase

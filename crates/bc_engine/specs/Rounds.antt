@@ -2,7 +2,7 @@
 use Rattle.std.specs.Prelude.{◌≡◌, ℕ, ◌+◌, ◌<◌, ◌≤◌, List, [], length, Some, None, Vec, vec_capacity, slice_index_or}
 use Prim.Native.Nat.{zero, suc}
 use Rattle.std.specs.declared.alloc.Global.{Global}
-use Rattle.bc_cycle.specs.Collecting.{HasKeptWhereItFits}
+use Rattle.bc_cycle.specs.Collecting.{HasKeptWhereItFits, StaysSettled}
 use Rattle.bc_cycle.specs.Emptying.{IsEmptied, KeepsMeaning, LeavesPages, StayInPlace, SurvivorsFit}
 use Rattle.bc_failsafe.specs.Packing.{NeedOfHeap}
 use Rattle.bc_model.specs.Rows.{lists_of}
@@ -10,6 +10,7 @@ use Rattle.bc_model.specs.declared.operations.Op.{Op}
 use Rattle.bc_model.specs.declared.operations.Reply.{Reply}
 use Rattle.bc_pager.specs.declared.answers.Answer.{Answer}
 use Rattle.bc_superpages.specs.Layout.{superpages}
+use Rattle.bc_engine.specs.Attempts.{RanByAttempts}
 use Rattle.bc_engine.specs.Engines.{EngineView, HasEmptyChunks}
 use Rattle.bc_engine.specs.Lanes.{of_lane, AreDone, EachFurther, HasMore, LanesWentOn, LeavesCells, IsUnderway, LanesRan}
 use Rattle.bc_engine.specs.Turns.{RanTurn, hints_of}
@@ -57,7 +58,7 @@ pub record EmptiesNurseries (r q : RunningView) : Type 0 where
   pub lanes : SameLanes r q
 
 -- a round: the lanes had their turn, in which the notices with these hints were answered, and the nurseries were emptied. Some lane wasn't at
--- its end, and each such lane did one operation more. The answers are the engine's
+-- its end, and each such lane did one operation more, and nothing else was done. The answers are the engine's
 pub record RanRound (lanes : List (List Op)) (e : EngineView) (before : List (Vec Reply Global)) (hints : List ℕ) (f : EngineView) (after : List (Vec Reply Global)) : Type 0 where
   pub turned : RunningView
   pub told : List (Vec Reply Global)
@@ -66,6 +67,7 @@ pub record RanRound (lanes : List (List Op)) (e : EngineView) (before : List (Ve
   pub empties : EmptiesNurseries turned emptied
   pub more : HasMore lanes (lists_of told)
   pub steps : LanesRan lanes emptied told f.running after
+  pub attempts : RanByAttempts lanes emptied (lists_of told) f.running (lists_of after)
   pub leaves : LeavesCells emptied f.running
   pub each : EachFurther (length lanes) lanes (lists_of told) (lists_of after)
   pub rest : f ≡ record e { running = f.running; answers = f.answers }
@@ -78,11 +80,12 @@ pub record LastRound (lanes : List (List Op)) (e : EngineView) (before : List (V
   pub empties : EmptiesNurseries turned f.running
   pub rest : f ≡ record e { running = f.running; answers = f.answers }
 
--- a round that was cut: the lanes had their turn, and the nurseries couldn't be emptied
+-- a round that was cut: the lanes had their turn, and the nurseries couldn't be emptied, which left each page where it was
 pub record CutRound (lanes : List (List Op)) (e : EngineView) (before : List (Vec Reply Global)) (hints : List ℕ) (f : EngineView) (after : List (Vec Reply Global)) : Type 0 where
   pub turned : RunningView
   pub turn : RanTurn lanes e.running before e.answers hints turned after f.answers
   pub refused : KeepsMeaning turned.heap f.running.heap × SameLanes turned f.running
+  pub settled : StaysSettled turned.heap f.running.heap
   pub rest : f ≡ record e { running = f.running; ended = f.ended; answers = f.answers }
 
 -- so many rounds with others to come, one after another. The notices of the n-th one are those of the n-th turn of the phase

@@ -2,6 +2,7 @@
 use Rattle.std.specs.Prelude.{◌≡◌, ◌⊎◌, ℕ, ◌+◌, ◌%◌, List, [], length, Vec, slice_index_or, nat_lt, if◌then◌else◌}
 use Rattle.std.specs.declared.alloc.Global.{Global}
 use Rattle.bc_bookmarks.specs.Changes.{Settled}
+use Rattle.bc_model.specs.Rows.{lists_of}
 use Rattle.bc_model.specs.declared.operations.Op.{Op}
 use Rattle.bc_model.specs.declared.operations.Reply.{Reply}
 use Rattle.bc_pager.specs.declared.answers.Answer.{Answer}
@@ -10,7 +11,8 @@ use Rattle.bc_running.specs.RunningFacts.{with_space}
 use Rattle.bc_running.specs.Serving.{AnsweredAlone}
 use Rattle.bc_superpages.specs.Layout.{Layout}
 use Rattle.bc_turn.specs.Answered.{AnsweredBeside}
-use Rattle.bc_engine.specs.Lanes.{EachStopped, LanesRan, LeavesCells, Stops, StopsInTurn}
+use Rattle.bc_engine.specs.Attempts.{EachAlone, RanByAttempts}
+use Rattle.bc_engine.specs.Lanes.{EachStopped, LanesRan, LeavesCells, StopsInTurn}
 
 -- the hints of a line. Where there is none, there are no hints
 abbrev pub hints_at : List (List ℕ) → ℕ → List ℕ
@@ -33,10 +35,11 @@ RanTogether lanes r before kept hints mid q after told =
     × AnsweredBeside r.heap.space hints kept told mid.heap.space
     × Settled mid.heap.space q.heap.space
 
--- the lanes ran one after another, and then the notices were answered where nobody worked beside. Then the heap was settled
+-- the lanes ran one after another, by attempts alone, and then the notices were answered where nobody worked beside. Then the heap was settled
 abbrev pub RanAlone : List (List Op) → RunningView → List (Vec Reply Global) → List Answer → List ℕ → RunningView → RunningView → List (Vec Reply Global) → List Answer → Type 0
 RanAlone lanes r before kept hints mid q after told =
-    EachStopped Stops lanes r before mid after
+    RanByAttempts lanes r (lists_of before) mid (lists_of after)
+    × EachAlone lanes r before mid after
     × ((u : Layout) × AnsweredAlone mid.heap.space hints kept told u × Settled u q.heap.space)
 
 -- the lanes ran until each was at its end or stopped, the notices with these hints were answered, each once, behind the answers that were

@@ -3,7 +3,8 @@
 ghost use Rattle.std.specs.Prelude.{◌≡◌, ℕ, ◌<◌, ◌≤◌, [], length, true, false};
 ghost use Rattle.bc_engine.specs.Engines.{HasEmptyChunks};
 ghost use Rattle.bc_engine.specs.EngineFacts.{IsUnrecorded};
-ghost use Rattle.bc_engine.specs.Lanes.{of_lane, AreDone, EachFurther, HasMore, IsAtEndOr, IsOneMore, IsUnderway, LeavesCells, LeavesOthers, LanesRan, StoppedBetween, Stops};
+ghost use Rattle.bc_engine.specs.Attempts.{RanByAttempts, StoppedAlone};
+ghost use Rattle.bc_engine.specs.Lanes.{of_lane, AreDone, EachFurther, HasMore, IsAtEndOr, IsOneMore, IsUnderway, LeavesCells, LeavesOthers, LanesRan, Stops};
 ghost use Rattle.bc_whole_heap.specs.LaneChunks.{chunk_of};
 ghost use Rattle.bc_model.specs.Rows.{lists_of};
 ghost use Rattle.bc_model.specs.declared.traces.Setup.{Setup};
@@ -17,6 +18,7 @@ fn advance(running: &mut Running, lanes: &[Vec<Op>], replies: &mut [Vec<Reply>],
     requires lane { lane < length lanes.now }
     requires underway { (setup : Setup) × IsUnderway setup (lists_of lanes.now) running.old replies.old }
     ensures runs { LanesRan (lists_of lanes.now) running.old replies.old running.new replies.new }
+    ensures attempts { RanByAttempts (lists_of lanes.now) running.old (lists_of replies.old) running.new (lists_of replies.new) }
     ensures leaves { LeavesCells running.old running.new }
     ensures further { result ≡ true → IsOneMore (of_lane (lists_of lanes.now) lane) (of_lane (lists_of replies.old) lane) (of_lane (lists_of replies.new) lane) }
     ensures same { result ≡ false → replies.new ≡ replies.old }
@@ -45,6 +47,7 @@ fn run_lane(running: &mut Running, lanes: &[Vec<Op>], replies: &mut [Vec<Reply>]
     requires lane { lane < length lanes.now }
     requires underway { (setup : Setup) × IsUnderway setup (lists_of lanes.now) running.old replies.old }
     ensures runs { LanesRan (lists_of lanes.now) running.old replies.old running.new replies.new }
+    ensures attempts { RanByAttempts (lists_of lanes.now) running.old (lists_of replies.old) running.new (lists_of replies.new) }
     ensures leaves { LeavesCells running.old running.new }
     ensures stopped { IsAtEndOr (of_lane (lists_of lanes.now) lane) (of_lane (lists_of replies.new) lane) (λ op. Stops lane op running.new) }
     ensures others { LeavesOthers lane running.old (lists_of replies.old) running.new (lists_of replies.new) }
@@ -56,9 +59,10 @@ fn run_lane(running: &mut Running, lanes: &[Vec<Op>], replies: &mut [Vec<Reply>]
 pub(crate) fn run_lanes(running: &mut Running, lanes: &[Vec<Op>], replies: &mut [Vec<Reply>])
     requires { (setup : Setup) × IsUnderway setup (lists_of lanes.now) running.old replies.old }
     ensures runs { LanesRan (lists_of lanes.now) running.old replies.old running.new replies.new }
+    ensures attempts { RanByAttempts (lists_of lanes.now) running.old (lists_of replies.old) running.new (lists_of replies.new) }
     ensures leaves { LeavesCells running.old running.new }
     ensures stopped { (j : ℕ) → j < length lanes.now
-        → StoppedBetween Stops (lists_of lanes.now) running.old replies.old running.new replies.new j }
+        → StoppedAlone (lists_of lanes.now) running.old replies.old running.new replies.new j }
 {
     for lane in 0..lanes.len() as u32 {
         run_lane(running, lanes, replies, lane);
@@ -72,6 +76,7 @@ pub(crate) fn step_lanes(running: &mut Running, lanes: &[Vec<Op>], replies: &mut
     requires empty { HasEmptyChunks running.old.heap }
     requires unrecorded { IsUnrecorded running.old.heap }
     ensures runs { LanesRan (lists_of lanes.now) running.old replies.old running.new replies.new }
+    ensures attempts { RanByAttempts (lists_of lanes.now) running.old (lists_of replies.old) running.new (lists_of replies.new) }
     ensures leaves { LeavesCells running.old running.new }
     ensures unrecorded { IsUnrecorded running.new.heap }
     ensures each { EachFurther (length lanes.now) (lists_of lanes.now) (lists_of replies.old) (lists_of replies.new) }

@@ -4,6 +4,7 @@ use Rattle.bc_model.specs.Rows.{lists_of}
 use Rattle.bc_model.specs.declared.operations.Op.{Op}
 use Rattle.bc_model.specs.declared.operations.Reply.{Reply}
 use Rattle.bc_engine.specs.Lanes.{of_lane, Does}
+use Rattle.bc_engine.proofs.AttemptLemmas.{attempts-done, attempts-none, attempts-one, stops-told}
 use Rattle.bc_engine.proofs.Attempts.{does-step, ready-sound, ready-step, never-stops, still-stops, unrecorded-kept, why-stopped}
 use Rattle.bc_engine.proofs.RunLemmas.{IsKept, of_lane-long, of_lane-at, op-fits, runs-step, runs-moved, runs-same, one-more, told-other, cells-same, leaves-moved, leaves-same}
 use Rattle.bc_engine.proofs.Sizes.{op-of_heap}
@@ -144,6 +145,37 @@ returns-in-Err-clause-stopped c = λ e.
       still-stops lane op c.in-Err.ensures.stopped (why-stopped _ _ _ (Err c.in-Err.field-0) c.in-Err.ensures.nursery.0 c.in-Err.ensures.buffer
           (λ stopped. let wants = c.in-Err.ensures.frame.0 stopped in (wants.0, wants.1, c.in-Err.ensures.kept stopped))),
     )
+
+pub returns-then-done-len-clause-attempts : goal.returns-then-done-len-clause-attempts
+returns-then-done-len-clause-attempts c = attempts-none (lists_of c.args.lanes.now) c.args.running.now (lists_of c.args.replies.now)
+
+-- nothing else was done
+pub returns-in-Ok-clause-attempts : goal.returns-in-Ok-clause-attempts
+returns-in-Ok-clause-attempts c =
+    attempts-done (kept c) (record { does = done c; records = c.in-Ok.ensures.recorded; memory = c.in-Ok.ensures.memory; stays = c.operate.ensures.stays })
+
+pub returns-in-Err-clause-attempts : goal.returns-in-Err-clause-attempts
+returns-in-Err-clause-attempts c =
+    let lane = c.args.lane in
+    let lanes = c.args.lanes.now in
+    let vs = c.args.replies.now in
+    let u = c.requires.underway.1 in
+    let lt = c.requires.lane in
+    let there : lane < length vs = omega (arith, u.each, u.long, length-map lanes (λ (v : Vec Op Global). v.items)) in
+    let done = of_lane-long vs lane c.len-done.result c.index-replies-index.result there c.index-replies-index.is (c.len-done.ensures ∙ ap vec_len (sym c.index-replies-index.is)) in
+    let long = of_lane-long lanes lane c.len.result c.index-lanes-index.result lt c.index-lanes-index.is c.len.ensures in
+    let less = c.if-done-len.false in
+    let op = c.index.result.now in
+    attempts-one (record {
+      lane = lane;
+      op = op;
+      less = omega arith;
+      next = of_lane-at lanes lane c.len-done.result c.index-lanes-index-2.result op lt c.index-lanes-index-2.is c.index.ensures ∙ ap (λ n. get_or (of_lane (lists_of lanes) lane) n op) (sym done);
+      way = inr (
+        stops-told (Err c.in-Err.field-0) c.in-Err.ensures.nursery.0 c.in-Err.ensures.full c.in-Err.ensures.buffer c.in-Err.ensures.brings c.in-Err.ensures.frame.0 c.in-Err.ensures.kept c.in-Err.ensures.stopped.1,
+        refl,
+      );
+    })
 
 pub returns-then-done-len-clause-leaves : goal.returns-then-done-len-clause-leaves
 returns-then-done-len-clause-leaves c = cells-same c.args.running.now

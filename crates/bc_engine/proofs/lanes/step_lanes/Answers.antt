@@ -3,6 +3,7 @@ use Rattle.bc_model.specs.Rows.{lists_of}
 use Rattle.bc_nursery.specs.Nurseries.{Nursery}
 use Rattle.bc_model.specs.declared.operations.Reply.{Reply}
 use Rattle.bc_engine.specs.Lanes.{of_lane}
+use Rattle.bc_engine.proofs.AttemptLemmas.{attempts-none, attempts-then}
 use Rattle.bc_engine.proofs.RunLemmas.{as-before, cells-same, cells-then, runs-same, runs-then, each-further}
 use Rattle.bc_engine.proofs.lanes.step_lanes.Goals as goal
 
@@ -10,6 +11,7 @@ pub loop-lane-init : goal.loop-lane-init
 loop-lane-init c = record {
   runs = runs-same (lists_of c.args.lanes.now) c.args.running.now c.args.running.now c.args.replies.now refl;
   leaves = cells-same c.args.running.now;
+  attempts = attempts-none (lists_of c.args.lanes.now) c.args.running.now (lists_of c.args.replies.now);
   unrecorded = c.requires.unrecorded;
   empty = λ n le. c.requires.empty n;
   each = λ j lt. absurd (omega arith);
@@ -25,6 +27,7 @@ loop-lane-preserved c =
     record {
       runs = runs-then before.runs e.runs;
       leaves = cells-then before.leaves e.leaves;
+      attempts = attempts-then before.attempts e.attempts;
       unrecorded = e.unrecorded here before.unrecorded;
       empty = λ n le.
           let ne : n ≢ lane = omega arith in

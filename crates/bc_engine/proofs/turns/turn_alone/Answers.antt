@@ -23,4 +23,4 @@ returns-clause-turn c =
     let ran = c.run_lanes.ensures in
     let answered = c.answer.ensures in
     let settled = c.settle.ensures in
-    turn-alone ran.runs ran.leaves (each-stopped c.args.lanes.now ran.stopped) answered.answered answered.rest settled.settled settled.rest
+    turn-alone ran.runs ran.leaves ran.attempts (each-stopped c.args.lanes.now ran.stopped) answered.answered answered.rest settled.settled settled.rest

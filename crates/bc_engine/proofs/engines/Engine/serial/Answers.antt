@@ -1,5 +1,6 @@
-use Rattle.std.proofs.Common.{Err}
-use Rattle.bc_engine.proofs.Attempts.{ready-sound, ready-step, never-stops, unrecorded-kept}
+use Rattle.std.proofs.Common.{Err, arith}
+use Rattle.bc_engine.proofs.Sizes.{op-of_heap}
+use Rattle.bc_engine.proofs.Attempts.{does-step, ready-sound, ready-step, never-stops, unrecorded-kept}
 use Rattle.bc_engine.proofs.engines.Engine.serial.Goals as goal
 
 pub invariant_of-self : goal.invariant_of-self
@@ -16,6 +17,20 @@ invariant_of-self c =
             going = λ going. unrecorded-kept (e.unrecorded empty) e.stays unrecorded;
           };
     }
+
+pub returns-clause-does : goal.returns-clause-does
+returns-clause-does c =
+    let alive = rw (← c.self.view_is) at c.requires.alive in
+    let lane = rw (← c.self.view_is) at c.requires.lane in
+    let op = rw (← c.self.view_is) at c.requires.op in
+    let ready = (c.self.invariant.alive alive).ready in
+    let stays = c.operate.ensures.stays in
+    rw (← c.self.view_is) (record {
+      does = does-step c.args.lane c.args.op.now c.in-Ok.reply ready (omega (arith, lane, ready.lanes)) (op-of_heap c.self.inside.setup c.self.inside.running.heap c.args.op.now ready.fits op) stays c.in-Ok.ensures.step;
+      records = c.in-Ok.ensures.recorded;
+      memory = c.in-Ok.ensures.memory;
+      stays = stays;
+    })
 
 pub operate-requires-clause-sound : goal.operate-requires-clause-sound
 operate-requires-clause-sound c =
