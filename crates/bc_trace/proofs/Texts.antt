@@ -1,7 +1,9 @@
 -- Texts that loops make piece by piece.
-use Rattle.std.proofs.Common.{◌≡◌, ℕ, suc, ◌+◌, ◌<◌, List, [], ◌∷◌, ◌++◌, length, take, get_or, map, refl, sym, ap, ◌∙◌, append_assoc, arith}
+use Rattle.std.proofs.Common.{◌≡◌, ℕ, suc, ◌+◌, ◌<◌, ◌≤◌, List, [], ◌∷◌, ◌++◌, length, take, get_or, map, refl, sym, ap, ◌∙◌, append_assoc, arith}
 use Rattle.std.proofs.lemmas.List.{map_more, append-nil, length-map, length-take}
 use Rattle.bc_model.specs.declared.operations.Reply.{Reply}
+use Rattle.std.specs.List.{sum_by}
+use Rattle.std.proofs.lemmas.List.Sums.{sum_by-cons, sum_by-take-le, sum_by_more}
 use Rattle.std.specs.Prelude.{codes}
 use Rattle.std.specs.Fmt.{decimal}
 use Rattle.bc_trace.specs.Replies.{lane_text, lanes_text, phase_text, phases_text}
@@ -20,9 +22,25 @@ lanes_text-more f vs i d before text new lt so_far e =
     e ∙ ap (λ t. t ++ lane_text i (f (get_or vs i d))) so_far ∙ append_assoc before (lanes_text 0 (map f (take i vs))) (lane_text i (f (get_or vs i d))) ∙ ap (λ t. before ++ t) (sym one)
 
 -- the phase's line, and the lanes
-pub phase_text-made : (k : ℕ) (lanes : List (List Reply)) (head text : List ℕ) → head ≡ codes "phase " ++ decimal k ++ 10 ∷ [] → text ≡ head ++ lanes_text 0 lanes → text ≡ phase_text k lanes
+pub phase_text-made : (k : ℕ) (lanes : List (List Reply)) (before head text : List ℕ) → head ≡ before ++ (codes "phase " ++ decimal k ++ 10 ∷ []) → text ≡ head ++ lanes_text 0 lanes → text ≡ before ++ phase_text k lanes
 unfolding phase_text
-phase_text-made k lanes head text h e = e ∙ ap (λ t. t ++ lanes_text 0 lanes) h
+phase_text-made k lanes before head text h e =
+    e ∙ ap (λ t. t ++ lanes_text 0 lanes) h ∙ append_assoc before (codes "phase " ++ decimal k ++ 10 ∷ []) (lanes_text 0 lanes)
+
+-- ---- how many replies there are
+
+count-map : {V : Type 0} (f : V → List Reply) (vs : List V) → sum_by length (map f vs) ≡ sum_by (λ v. length (f v)) vs
+count-map f [] = refl
+count-map {V} f (v ∷ vs) =
+    omega (arith, count-map f vs, sum_by-cons (length {A = Reply}) (f v) (map f vs), sum_by-cons (λ (w : V). length (f w)) v vs)
+
+-- those of one lane more
+pub count-more : {V : Type 0} (f : V → List Reply) (vs : List V) (i : ℕ) (d : V) → i < length vs → sum_by (λ v. length (f v)) (take (i + 1) vs) ≡ sum_by (λ v. length (f v)) (take i vs) + length (f (get_or vs i d))
+count-more {V} f vs i d lt = sum_by_more (λ (v : V). length (f v)) vs i d lt
+
+-- with those of the lanes before it they are no more than all
+pub count-within : {V : Type 0} (f : V → List Reply) (vs : List V) (i : ℕ) → sum_by (λ v. length (f v)) (take i vs) ≤ sum_by length (map f vs)
+count-within {V} f vs i = omega (arith, count-map f vs, sum_by-take-le (λ (v : V). length (f v)) vs i)
 
 -- ---- the texts of phases
 

@@ -1,5 +1,5 @@
 -- Lines that may begin a trace, and lines that a trace may go on with.
-use Rattle.std.specs.Prelude.{◌≡◌, ◌+◌, List, [], ◌∷◌, ◌++◌}
+use Rattle.std.specs.Prelude.{◌≡◌, List, [], ◌∷◌, ◌++◌}
 use Rattle.bc_model.specs.Lists.{TraceLists}
 use Rattle.bc_model.specs.WellFormed.{IsTrace}
 use Rattle.bc_trace.specs.declared.words.Keyword.{Keyword}

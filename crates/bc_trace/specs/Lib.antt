@@ -10,6 +10,8 @@ pub mod Fronts
 pub mod Faults
 -- The texts that a replay prints.
 pub mod Replies
+-- How many bytes the texts of a replay may have
+pub mod TextRooms
 -- Which replies have a line
 pub mod ReplyRanges
 -- What the reader answers.

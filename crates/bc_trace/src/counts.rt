@@ -1,13 +1,16 @@
 //! How many replies of each kind a run has had, and the output of `churn`, which tells them.
-ghost use Rattle.std.specs.Prelude.{◌≡◌, ◌+◌, ◌<◌, ◌^◌, ◌++◌, [], ◌∷◌, List, ℕ, length, slice_index, sum, OnOk, IfOk};
-ghost use Rattle.std.specs.Fmt.{decimal};
+ghost use Rattle.std.specs.Prelude.{◌≡◌, ◌+◌, ◌<◌, ◌≤◌, ◌^◌, ◌++◌, [], ◌∷◌, List, ℕ, length, slice_index, sum, vec_capacity, IfOk};
 ghost use Rattle.bc_model.specs.declared.operations.Reply.{Reply as ModelReply};
 ghost use Rattle.bc_trace.specs.Counts.{churn_line, churn_text, count_line, count_lines, count_of_kind, counts, kind_names, kind_of_reply, phase_replies, run_counts};
+ghost use Rattle.bc_trace.specs.TextRooms.{churn_bytes};
 
-use crate::replies::push_number;
+use crate::rooms::{put, put_number, put_numbered, put_small};
 use bc_model::{Replies, Reply};
 use std::alloc::{AllocError, Global};
 use std::marker::Model;
+
+/// The most bytes that the output of `churn` has.
+const CHURN: usize = 325;
 
 /// How many replies of each of the eleven kinds a run has had so far.
 #[derive(Clone, Copy, Debug)]
@@ -80,59 +83,69 @@ impl Counts {
 
 /// Puts a line at the end: the name of a kind, and how many there were.
 #[tactic(auto, unfolding(crate::specs::Counts::count_line))]
-fn push_count(out: &mut Vec<u8>, name: &[u8], count: u64) -> Result<(), AllocError>
-    ensures { OnOk result (out.new.items ≡ out.old.items ++ count_line name.now count) }
+fn put_count(out: &mut Vec<u8>, name: &[u8], count: u64)
+    requires room { length out.old.items + length name.now + 22 ≤ vec_capacity out.old }
+    ensures text { out.new.items ≡ out.old.items ++ count_line name.now count }
+    ensures long { length out.new.items ≤ length out.old.items + length name.now + 22 }
+    ensures room { vec_capacity out.new ≡ vec_capacity out.old }
 {
-    out.extend_from_slice(name)?;
-    out.push(b' ')?;
-    push_number(out, count)?;
-    out.extend_from_slice(b"\n")
+    put(out, name);
+    put_numbered(out, b" ", count);
 }
 
 /// Puts the line of the workload at the end.
 #[tactic(auto, unfolding(crate::specs::Counts::churn_line))]
-fn push_churn(out: &mut Vec<u8>, start: u64, ops: u32) -> Result<(), AllocError>
-    ensures { OnOk result (out.new.items ≡ out.old.items ++ churn_line start ops) }
+fn put_workload(out: &mut Vec<u8>, start: u64, ops: u32)
+    requires room { length out.old.items + 38 ≤ vec_capacity out.old }
+    ensures text { out.new.items ≡ out.old.items ++ churn_line start ops }
+    ensures long { length out.new.items ≤ length out.old.items + 38 }
+    ensures room { vec_capacity out.new ≡ vec_capacity out.old }
 {
-    out.extend_from_slice(b"churn ")?;
-    push_number(out, start)?;
-    out.push(b' ')?;
-    push_number(out, ops as u64)?;
-    out.extend_from_slice(b"\n")
+    put(out, b"churn ");
+    put_number(out, start);
+    put(out, b" ");
+    put_small(out, ops);
+    put(out, b"\n");
 }
 
 /// Puts the lines of the eleven counts at the end.
-fn push_counts(out: &mut Vec<u8>, counts: &Counts) -> Result<(), AllocError>
-    ensures { OnOk result (out.new.items ≡ out.old.items ++ count_lines kind_names counts.now 0) }
+fn put_counts(out: &mut Vec<u8>, counts: &Counts)
+    requires room { length out.old.items + 282 ≤ vec_capacity out.old }
+    ensures text { out.new.items ≡ out.old.items ++ count_lines kind_names counts.now 0 }
+    ensures long { length out.new.items ≤ length out.old.items + 282 }
+    ensures room { vec_capacity out.new ≡ vec_capacity out.old }
 {
     let kinds = counts.kinds;
-    push_count(out, b"obj", kinds[0])?;
-    push_count(out, b"ok", kinds[1])?;
-    push_count(out, b"nil", kinds[2])?;
-    push_count(out, b"num", kinds[3])?;
-    push_count(out, b"ref", kinds[4])?;
-    push_count(out, b"len", kinds[5])?;
-    push_count(out, b"yes", kinds[6])?;
-    push_count(out, b"no", kinds[7])?;
-    push_count(out, b"notobj", kinds[8])?;
-    push_count(out, b"range", kinds[9])?;
-    push_count(out, b"foreign", kinds[10])?;
-    Ok(())
+    put_count(out, b"obj", kinds[0]);
+    put_count(out, b"ok", kinds[1]);
+    put_count(out, b"nil", kinds[2]);
+    put_count(out, b"num", kinds[3]);
+    put_count(out, b"ref", kinds[4]);
+    put_count(out, b"len", kinds[5]);
+    put_count(out, b"yes", kinds[6]);
+    put_count(out, b"no", kinds[7]);
+    put_count(out, b"notobj", kinds[8]);
+    put_count(out, b"range", kinds[9]);
+    put_count(out, b"foreign", kinds[10]);
 }
 
-/// The whole output of `bc churn start ops`, whose replies have these counts.
-#[tactic(auto, unfolding(crate::specs::Counts::churn_text, crate::specs::Replies::done_text))]
-pub fn churn_text(
-    alloc: Global,
-    start: u64,
-    ops: u32,
-    counts: &Counts,
-) -> Result<Vec<u8>, AllocError>
-    ensures { IfOk result (λ text. text.items ≡ churn_text start ops counts.now) }
+/// Room for the output of `churn`. It does nothing but take memory.
+pub fn churn_room(alloc: Global) -> Result<Vec<u8>, AllocError>
+    ensures empty { IfOk result (λ text. text.items ≡ []) }
+    ensures room { IfOk result (λ text. churn_bytes ≤ vec_capacity text) }
 {
-    let mut text = Vec::new(alloc);
-    push_churn(&mut text, start, ops)?;
-    push_counts(&mut text, counts)?;
-    text.extend_from_slice(b"done\n")?;
-    Ok(text)
+    Vec::with_capacity(alloc, CHURN)
+}
+
+/// Puts the whole output of `bc churn start ops` at the end, whose replies have these counts. It takes no memory.
+#[tactic(auto, unfolding(crate::specs::Counts::churn_text, crate::specs::Replies::done_text))]
+pub fn put_churn(out: &mut Vec<u8>, start: u64, ops: u32, counts: &Counts)
+    requires room { length out.old.items + churn_bytes ≤ vec_capacity out.old }
+    ensures text { out.new.items ≡ out.old.items ++ churn_text start ops counts.now }
+    ensures long { length out.new.items ≤ length out.old.items + churn_bytes }
+    ensures room { vec_capacity out.new ≡ vec_capacity out.old }
+{
+    put_workload(out, start, ops);
+    put_counts(out, counts);
+    put(out, b"done\n");
 }

@@ -23,6 +23,9 @@
 // exactly where the bytes spell it, and a fault exactly where it is the text's fault. `laws` has
 // what the definitions say together: one trace a text, one text a trace, and one fault a bad text.
 //
+// What a replay prints is put behind a text that has room for it (`rooms`), by calls that take no memory: `phase_room`,
+// `need_room` and `churn_room` take the room before there is anything to print. How much is enough is said by `specs/TextRooms.antt`.
+//
 // `churn` makes a trace of its own from a starting number: `draws` has the generator and the table of kinds, and
 // `specs/Churn.antt` says the whole trace as lists. `counts` counts the replies of a run by their kinds and writes the output.
 // `churn_laws` has the table, the sums, and why the run never wants for superpages: a lane clears what it holds as a phase
@@ -45,6 +48,7 @@ mod numbers;
 mod operations;
 mod reading;
 mod replies;
+mod rooms;
 mod words;
 mod writing;
 
@@ -52,14 +56,14 @@ pub use churn::generate;
 pub use churn_laws::{
     law_churn_need, law_churn_ops, law_churn_trace, law_counts, law_kinds, law_reply_kinds,
 };
-pub use counts::{Counts, churn_text};
+pub use counts::{Counts, churn_room, put_churn};
 pub use fault::{Cause, ReadTrace, TraceFault};
 pub use laws::{
     law_first_lines, law_next_word, law_one_fault, law_one_reply, law_one_text, law_one_trace,
     law_replies_fit,
 };
 pub use reading::read;
-pub use replies::{phase_text, reply_line};
+pub use replies::{need_room, phase_room, put_need, put_phase, reply_line};
 pub use writing::write;
 
 #[cfg(test)]

@@ -183,8 +183,7 @@ fn what_is_read_is_written_again_byte_for_byte(rt: HostRuntime) -> Result<(), Fa
 
 #[test]
 fn every_reply_is_written_on_a_line_of_its_own(rt: HostRuntime) -> Result<(), Fail> {
-    let mut replies = Vec::new(rt.alloc());
-    for reply in [
+    let replies = [
         Reply::Obj(Birth {
             lane: 15,
             serial: 10000,
@@ -199,16 +198,22 @@ fn every_reply_is_written_on_a_line_of_its_own(rt: HostRuntime) -> Result<(), Fa
         Reply::NotObj,
         Reply::Range,
         Reply::Foreign,
-    ] {
-        replies.push(reply)?;
-    }
-    let mut lanes = Vec::new(rt.alloc());
-    lanes.push(replies)?;
-    lanes.push(Vec::new(rt.alloc()))?;
-    let text = phase_text(rt.alloc(), 600, &Replies { lanes })?;
+    ];
+    let lanes = vec![in rt.alloc();
+        Vec::from_slice(rt.alloc(), &replies)?,
+        Vec::from_slice(rt.alloc(), &[])?,
+    ]?;
+    let mut text = phase_room(rt.alloc(), 2, 11)?;
+    put_phase(&mut text, 600, &Replies { lanes });
     let wanted =
         b"phase 600\nlane 0\nobj 15.10000\nok\nnil\nnum 9223372036854775807\nref\nlen 127\nyes\nno\nnotobj\nrange\nforeign\nlane 1\n";
     assert_eq!(rt; text.as_slice(), wanted.as_slice());
+    let mut last = need_room(rt.alloc())?;
+    put_need(&mut last, 18_446_744_073_709_551_615);
+    assert_eq!(rt;
+        last.as_slice(),
+        b"out of heap 18446744073709551615\n".as_slice()
+    );
     let line = reply_line(rt.alloc(), &Reply::Len(0))?;
     assert_eq!(rt; line.as_slice(), b"len 0\n".as_slice());
     Ok(())
@@ -240,7 +245,8 @@ fn the_operations_of_churn_go_on_in_a_phase_more_past_each_thousand(
 
 #[test]
 fn a_churn_of_no_operations_has_eleven_counts_of_0(rt: HostRuntime) -> Result<(), Fail> {
-    let text = churn_text(rt.alloc(), 7, 0, &Counts::new())?;
+    let mut text = churn_room(rt.alloc())?;
+    put_churn(&mut text, 7, 0, &Counts::new());
     let wanted =
         b"churn 7 0\nobj 0\nok 0\nnil 0\nnum 0\nref 0\nlen 0\nyes 0\nno 0\nnotobj 0\nrange 0\nforeign 0\ndone\n";
     assert_eq!(rt; wanted.len(), 88);
@@ -258,7 +264,8 @@ fn replies_are_counted_by_their_kinds(rt: HostRuntime) -> Result<(), Fail> {
     ]?;
     let mut counts = Counts::new();
     counts.add(&Replies { lanes });
-    let text = churn_text(rt.alloc(), 0, 12, &counts)?;
+    let mut text = churn_room(rt.alloc())?;
+    put_churn(&mut text, 0, 12, &counts);
     let wanted =
         b"churn 0 12\nobj 0\nok 2\nnil 0\nnum 2\nref 0\nlen 1\nyes 0\nno 1\nnotobj 0\nrange 0\nforeign 1\ndone\n";
     assert_eq!(rt; text.as_slice(), wanted.as_slice());
