@@ -12,6 +12,8 @@ pub mod Room
 pub mod Running
 -- A phase of a trace that was run on the engine, done or ended at a cut, and what was written of its texts.
 pub mod PhaseEnds
+-- Room for the texts of a phase, taken by its lanes and operations before it runs.
+pub mod TextsFit
 -- The need of a state is a number of few digits.
 pub mod NeedRoom
 -- A run whose last phase ends at a cut writes at most four times as many bytes as its trace has, and the line of the need.

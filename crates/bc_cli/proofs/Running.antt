@@ -39,7 +39,7 @@ phase-fits t k p setup h lt at same =
     subst (λ (z : Setup). IsPhase z p) (sym same) (subst (IsPhase t.setup) at (at-index (IsPhase t.setup) t.phases k no_phase h.phases lt))
 
 -- the births of the phases that are left are those of this one and of the others
-ops-left : (t : TraceLists) (k : ℕ) (p : PhaseLists) → k < length t.phases → phase_at t k ≡ p → sum_by ops_of (drop k t.phases) ≡ ops_of p + sum_by ops_of (drop (k + 1) t.phases)
+pub ops-left : (t : TraceLists) (k : ℕ) (p : PhaseLists) → k < length t.phases → phase_at t k ≡ p → sum_by ops_of (drop k t.phases) ≡ ops_of p + sum_by ops_of (drop (k + 1) t.phases)
 ops-left t k p lt at = sum_by-drop_more ops_of t.phases k no_phase lt ∙ ap (λ (q : PhaseLists). ops_of q + sum_by ops_of (drop (k + 1) t.phases)) at
 
 -- a lane has no more operations than the phase

@@ -1,15 +1,16 @@
 -- A replay between its phases.
-use Rattle.std.specs.Prelude.{◌≡◌, ℕ, List, length, drop, sum_by, Option, None, Some}
+use Rattle.std.specs.Prelude.{◌≡◌, ◌⊎◌, ℕ, List, length, drop, sum_by, Option, None, Some}
 use Rattle.bc_engine.specs.Engines.{EngineView, EngineStands, HasEmptyChunks}
 use Rattle.bc_engine.specs.EngineFacts.{HasRoomForBirths}
 use Rattle.bc_engine.specs.Phases.{DidPhase, CutPhase}
+use Rattle.bc_engine.specs.declared.engines.Ended.TheVariants.{NoMemory}
 use Rattle.bc_io.specs.Told.{HasRoom}
 use Rattle.bc_model.specs.Lists.{PhaseLists, TraceLists}
 use Rattle.bc_model.specs.Run.{before}
 use Rattle.bc_model.specs.RunLengths.{ops_of}
 use Rattle.bc_model.specs.declared.operations.Reply.{Reply}
 use Rattle.bc_cli.specs.Output.{text_at, need_text}
-use Rattle.bc_cli.specs.Endings.{NeedsFit, NeedsMore}
+use Rattle.bc_cli.specs.Endings.{NeedsFit, NeedsMore, StopsBefore}
 
 -- A phase was run on the engine: it is done, or it ended at a cut for want of heap, by this need.
 abbrev pub PhaseEnded : EngineView → PhaseLists → EngineView → List (List Reply) → Option ℕ → Type 0
@@ -29,3 +30,9 @@ pub record HasRun (t : TraceLists) (k : ℕ) (engine : EngineView) : Type 0 wher
 pub record HasPhaseRoom (room : Option ℕ) (t : TraceLists) (k : ℕ) : Type 0 where
   pub whole : HasRoom room (length (text_at t k))
   pub cut_short : (cut : List ℕ) → (need : ℕ) → NeedsMore t k cut need → HasRoom room (length (need_text t k cut need))
+
+-- Memory ran out in a phase: the texts of those before it are written. The engine has run these and nothing more, or has run out of
+-- memory itself.
+pub record RunsOut (t : TraceLists) (held held' : Option (List ℕ)) (engine : EngineView) : Type 0 where
+  pub stops : StopsBefore t held held'
+  pub left : HasRun t stops.phase engine ⊎ (engine.ended ≡ Some NoMemory)

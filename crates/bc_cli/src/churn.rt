@@ -1,13 +1,15 @@
 //! The replay of a workload that is drawn: its replies are counted, and the counts are written at the end.
 
-ghost use Rattle.std.specs.Prelude.{◌≡◌, ◌≢◌, ◌+◌, ◌^◌, ◌<◌, ◌≤◌, None, Some, IfOk, IfSome, IsErr, OnOk, length};
+ghost use Rattle.std.specs.Prelude.{◌≡◌, ◌≢◌, ◌+◌, ◌^◌, ◌<◌, ◌≤◌, [], None, Some, IfOk, IfSome, IsErr, OnOk, length, vec_capacity};
 ghost use Rattle.bc_engine.specs.declared.engines.Ended.{Ended};
 ghost use Rattle.bc_io.specs.Faults.{Rose};
 ghost use Rattle.bc_io.specs.Told.{HasRoom};
 ghost use Rattle.bc_model.specs.Run.{replies_of};
 ghost use Rattle.bc_model.specs.RunLengths.{all_ops_of};
 ghost use Rattle.bc_model.specs.WellFormed.{IsTrace};
+ghost use Rattle.bc_trace.specs.Churn.{churn_trace};
 ghost use Rattle.bc_trace.specs.Counts.{run_counts};
+ghost use Rattle.bc_trace.specs.TextRooms.{churn_bytes};
 ghost use Rattle.bc_cli.specs.Accounts.{KeepsAccount};
 ghost use Rattle.bc_cli.specs.Churns.{ChurnsDone, ChurnsInFault, HasChurned};
 ghost use Rattle.bc_cli.specs.Endings.{FitsThroughout};
@@ -23,13 +25,14 @@ use bc_engine::Engine;
 use bc_gates::Gate;
 use bc_io::{Sink, write_all};
 use bc_model::Trace;
-use bc_trace::{Counts, churn_text, generate};
+use bc_trace::{Counts, churn_room, generate, put_churn};
 use std::alloc::{AllocError, Global};
 use std::thread::Threads;
 
-/// A workload that was replayed to its end: the heap as it stands then, and the text that tells the counts.
+/// What the replay of a workload works on: its trace, a new heap, and room for its output.
 #[derive(Drop)]
-struct Churned {
+struct Workload {
+    trace: Trace,
     engine: Engine,
     text: Vec<u8>,
 }
@@ -62,38 +65,64 @@ where
     ensures workers { IfSome result.heap (λ engine. engine.workers ≡ workers) }
     ensures account { IfSome result.heap KeepsAccount }
 {
-    let Ok(churned) = replay(rt, alloc, start, ops, workers, gate) else {
+    let Ok(mut workload) = draw(alloc, start, ops, workers) else {
         return Outcome::without_heap(Status::NoMemory);
     };
-    match write_all(sink, &churned.text) {
-        Ok(()) => Outcome::with_heap(Status::Done, churned.engine),
-        Err(_) => Outcome::with_heap(Status::WriteFault, churned.engine),
+    let Ok(()) = replay(rt, alloc, &mut workload, start, ops, gate) else {
+        return Outcome::without_heap(Status::NoMemory);
+    };
+    match write_all(sink, &workload.text) {
+        Ok(()) => Outcome::with_heap(Status::Done, workload.engine),
+        Err(_) => Outcome::with_heap(Status::WriteFault, workload.engine),
     }
 }
 
-/// Draws the trace of the workload, replays it on a new heap, and makes the text of its counts. The error is want of memory.
+/// Draws the trace of the workload, opens a heap for it, and takes room for the output.
+fn draw(alloc: Global, start: u64, ops: u32, workers: u32) -> Result<Workload, AllocError>
+    requires ops { ops ≤ 100000 }
+    requires workers { (1 ≤ workers) × (workers ≤ 16) }
+    ensures trace { IfOk result (λ workload. workload.trace ≡ churn_trace start ops) }
+    ensures opened { IfOk result (λ workload. HasRun workload.trace 0 workload.engine) }
+    ensures empty { IfOk result (λ workload. workload.text.items ≡ []) }
+    ensures room { IfOk result (λ workload. churn_bytes ≤ vec_capacity workload.text) }
+    ensures workers { IfOk result (λ workload. workload.engine.workers ≡ workers) }
+{
+    let trace = generate(alloc, start, ops)?;
+    let engine = Engine::open(alloc, &trace.setup, workers)?;
+    let text = churn_room(alloc)?;
+    Ok(Workload {
+        trace,
+        engine,
+        text,
+    })
+}
+
+/// Replays the workload, and makes the text of its counts in the room that it has. Where it doesn't, the engine has run out of memory
+/// itself.
 fn replay<R, G>(
     rt: &R,
     alloc: Global,
+    workload: &mut Workload,
     start: u64,
     ops: u32,
-    workers: u32,
     gate: &G,
-) -> Result<Churned, AllocError>
+) -> Result<(), AllocError>
 where
     R: Threads + Sync,
     G: Gate + Sync,
     requires ops { ops ≤ 100000 }
-    requires workers { (1 ≤ workers) × (workers ≤ 16) }
-    ensures text { IfOk result (λ churned. churned.text.items ≡ summary start ops) }
-    ensures heap { IfOk result (λ churned. HasChurned start ops (Some churned.engine)) }
-    ensures workers { IfOk result (λ churned. churned.engine.workers ≡ workers) }
+    requires trace { workload.old.trace ≡ churn_trace start ops }
+    requires opened { HasRun workload.old.trace 0 workload.old.engine }
+    requires empty { workload.old.text.items ≡ [] }
+    requires room { churn_bytes ≤ vec_capacity workload.old.text }
+    ensures text { OnOk result (workload.new.text.items ≡ summary start ops) }
+    ensures heap { OnOk result (HasChurned start ops (Some workload.new.engine)) }
+    ensures no_memory { IsErr result → workload.new.engine.ended ≡ Some Ended.NoMemory }
+    ensures workers { workload.new.engine.workers ≡ workload.old.engine.workers }
 {
-    let trace = generate(alloc, start, ops)?;
-    let mut engine = Engine::open(alloc, &trace.setup, workers)?;
-    let counts = count_phases(rt, alloc, &mut engine, &trace, gate)?;
-    let text = churn_text(alloc, start, ops, &counts)?;
-    Ok(Churned { engine, text })
+    let counts = count_phases(rt, alloc, &mut workload.engine, &workload.trace, gate)?;
+    put_churn(&mut workload.text, start, ops, &counts);
+    Ok(())
 }
 
 /// Runs the phases of a trace whose states all fit, and counts the replies. Where it answers no counts the engine has run out of memory

@@ -11,12 +11,13 @@
 // `main` only makes the real source and sink, calls `top`, prints the fault of its outcome and ends with
 // the outcome's exit status. What it does is shown by `.ci/examples` and `.ci/statuses` on the built program.
 //
-//     words -> command_of -> read_trace -> run_trace:  for each phase, run_phase -> texts_of -> write_texts
-//                         -> churn: generate -> for each phase, run_phase -> counts; then churn_text -> write_all
+//     words -> command_of -> read_trace -> run_trace:  for each phase, texts_room -> run_phase -> put_texts -> write_texts
+//                         -> churn: draw -> replay: for each phase, run_phase -> counts; then put_churn -> write_all
 //
 // The replay keeps `HasRun`: after k phases the engine stands for the state that the plain heap has then, and the texts of
 // k phases are written. Each is written as soon as the phase has run, so memory for replies is that of a phase and not of
-// the run. A phase that ends for want of heap gives its replies up to a cut of its lanes, and the need of what is reached
+// the run. Room for a phase's texts is taken before it runs, so that want of memory comes before the phase, or is the engine's own,
+// and never in place of a need or of replies. A phase that ends for want of heap gives its replies up to a cut of its lanes, and the need of what is reached
 // there. They are written, and the run ends. The heap goes back to the caller, who may look at what it stands for.
 #![tactic(auto)]
 

@@ -1,6 +1,6 @@
 //! The phases of a trace: each is run, and what it prints is written.
 
-ghost use Rattle.std.specs.Prelude.{◌≡◌, ℕ, ◌+◌, ◌^◌, ◌<◌, List, Option, Some, None, length, OnOk, IfOk, IsErr, IsErrOf};
+ghost use Rattle.std.specs.Prelude.{◌≡◌, ◌⊎◌, ℕ, ◌+◌, ◌^◌, ◌<◌, List, Option, Some, None, length, OnOk, IfOk, IsErr, IsErrOf};
 ghost use Rattle.bc_engine.specs.EngineFacts.{HasRoomForBirths};
 ghost use Rattle.bc_engine.specs.Lanes.{HasRoomForOps};
 ghost use Rattle.bc_engine.specs.declared.engines.Ended.{Ended};
@@ -9,11 +9,11 @@ ghost use Rattle.bc_io.specs.Told.{HeldGrows};
 ghost use Rattle.bc_io.specs.Pieces.{RoomFalls};
 ghost use Rattle.bc_model.specs.WellFormed.{IsPhase, IsTrace};
 ghost use Rattle.bc_cli.specs.Output.{texts_before, all_texts};
-ghost use Rattle.bc_cli.specs.Endings.{EndsOutOfHeap, EndsInFault, StopsBefore, HasRunRoom};
-ghost use Rattle.bc_cli.specs.BetweenPhases.{HasRun, HasPhaseRoom, PhaseEnded};
+ghost use Rattle.bc_cli.specs.Endings.{EndsOutOfHeap, EndsInFault, HasRunRoom};
+ghost use Rattle.bc_cli.specs.BetweenPhases.{HasRun, HasPhaseRoom, PhaseEnded, RunsOut};
 
 use crate::status::Ending;
-use crate::texts::{texts_of, write_texts};
+use crate::texts::{put_texts, texts_room, write_texts};
 use bc_engine::{Engine, PhaseNo};
 use bc_gates::Gate;
 use bc_io::Sink;
@@ -54,7 +54,7 @@ where
     ensures out_of_heap { (need : ℕ) → IsErrOf result (Ending.OutOfHeap need) →
         EndsOutOfHeap trace.now (K.held sink.old) (K.held sink.new) (Some engine.new) need }
     ensures no_memory { IsErrOf result Ending.NoMemory →
-        StopsBefore trace.now (K.held sink.old) (K.held sink.new) }
+        RunsOut trace.now (K.held sink.old) (K.held sink.new) engine.new }
     ensures firm { ¬ IsErrOf result Ending.WriteFault → K.faults sink.new ≡ K.faults sink.old }
     ensures workers { engine.new.workers ≡ engine.old.workers }
 {
@@ -64,7 +64,7 @@ where
     Ok(())
 }
 
-/// Runs the phase of this index and writes its texts.
+/// Runs the phase of this index and writes its texts. Room for them is taken first, and once the phase has run nothing takes memory.
 fn write_phase<R, K, G>(
     rt: &R,
     alloc: Global,
@@ -97,12 +97,16 @@ where
     ensures out_of_heap { (need : ℕ) → IsErrOf result (Ending.OutOfHeap need) → (start : Option (List ℕ)) →
         HeldGrows start (K.held sink.old) (texts_before trace.now index) →
         EndsOutOfHeap trace.now start (K.held sink.new) (Some engine.new) need }
-    ensures no_memory { IsErrOf result Ending.NoMemory → sink.new ≡ sink.old }
+    // Memory runs out before the phase is run, or in the engine: never in place of its replies or its need.
+    ensures no_memory { IsErrOf result Ending.NoMemory → (sink.new ≡ sink.old)
+        × ((engine.new ≡ engine.old) ⊎ (engine.new.ended ≡ Some Ended.NoMemory)) }
     ensures firm { ¬ IsErrOf result Ending.WriteFault → K.faults sink.new ≡ K.faults sink.old }
     ensures workers { engine.new.workers ≡ engine.old.workers }
 {
-    let end = run_phase(rt, alloc, engine, &trace.phases[index], gate)?;
-    let texts = texts_of(alloc, index as u32 + 1, &end.replies, end.need)?;
+    let phase = &trace.phases[index];
+    let mut texts = texts_room(alloc, phase)?;
+    let end = run_phase(rt, alloc, engine, phase, gate)?;
+    put_texts(&mut texts, index as u32 + 1, &end.replies, end.need);
     write_texts(sink, &texts)?;
     match end.need {
         Some(need) => Err(Ending::OutOfHeap { need }),

@@ -1,24 +1,42 @@
-use Rattle.std.proofs.Common.{◌≡◌, Some, refl, ap, string_bytes}
+use Rattle.std.proofs.Common.{◌≡◌, Some, refl, ap}
 use Rattle.bc_model.specs.Lists.{TraceLists}
 use Rattle.bc_model.specs.Run.{phase_at}
 use Rattle.bc_cli.proofs.PhaseEnds.{Ran, HasTexts, ran-read, ran-on, texts-fault, texts-written, texts-filled, need-written}
-use Rattle.bc_cli.proofs.Running.{err-same, phase-read}
+use Rattle.bc_cli.proofs.Running.{err-same, phase-fits, phase-read}
+use Rattle.bc_cli.proofs.TextsFit.{phase-few, texts-fit}
 use Rattle.bc_cli.proofs.phases.write_phase.Goals as goal
+
+pub texts_room-requires-clause-ops : goal.texts_room-requires-clause-ops
+texts_room-requires-clause-ops g c =
+    let at : phase_at c.args.trace.now c.args.index ≡ c.index-phase.result.now = phase-read c.args.trace.now _ _ _ (ap (λ (x : TraceLists). x.phases) c.trace.view_is) c.requires.index c.index-phase.ensures in
+    (phase-few _ _ _ _ c.requires.trace c.requires.index at c.requires.opened).1
+
+pub run_phase-requires-clause-phase : goal.run_phase-requires-clause-phase
+run_phase-requires-clause-phase g c κs within =
+    let at : phase_at c.args.trace.now c.args.index ≡ c.index-phase.result.now = phase-read c.args.trace.now _ _ _ (ap (λ (x : TraceLists). x.phases) c.trace.view_is) c.requires.index c.index-phase.ensures in
+    phase-fits c.args.trace.now c.args.index _ _ c.requires.trace c.requires.index at c.requires.opened.setup
+
+pub put_texts-requires-clause-replies : goal.put_texts-requires-clause-replies
+put_texts-requires-clause-replies g c =
+    let at : phase_at c.args.trace.now c.args.index ≡ c.index-phase.result.now = phase-read c.args.trace.now _ _ _ (ap (λ (x : TraceLists). x.phases) c.trace.view_is) c.requires.index c.index-phase.ensures in
+    let end = c.in_ok-end in
+    let ran : Ran c.args.trace.now c.args.index c.args.engine.now c.run_phase.new.engine end.end.replies end.end.need = ran-read _ _ _ _ _ _ _ c.requires.index at c.requires.opened end.ensures.ended end.ensures.setup end.ensures.births in
+    texts-fit _ _ _ _ _ _ _ _ at ran c.in_ok-texts.ensures.replies
 
 pub returns-in_err-write_texts-clause-write_fault : goal.returns-in_err-write_texts-clause-write_fault
 returns-in_err-write_texts-clause-write_fault g c =
-    let at : phase_at c.args.trace.now c.args.index ≡ c.index.result.now = phase-read c.args.trace.now _ _ _ (ap (λ (x : TraceLists). x.phases) c.trace.view_is) c.requires.index c.index.ensures in
+    let at : phase_at c.args.trace.now c.args.index ≡ c.index-phase.result.now = phase-read c.args.trace.now _ _ _ (ap (λ (x : TraceLists). x.phases) c.trace.view_is) c.requires.index c.index-phase.ensures in
     let end = c.in_ok-end in
     let ran : Ran c.args.trace.now c.args.index c.args.engine.now c.run_phase.new.engine end.end.replies end.end.need = ran-read _ _ _ _ _ _ _ c.requires.index at c.requires.opened end.ensures.ended end.ensures.setup end.ensures.births in
-    let texts : HasTexts c.args.index end.end.replies end.end.need c.in_ok-texts.texts.replies.items (string_bytes c.in_ok-texts.texts.need) = record { told = c.in_ok-texts.ensures.replies; line = c.in_ok-texts.ensures.need } in
+    let texts : HasTexts c.args.index end.end.replies end.end.need c.put_texts.new.texts.replies.items c.put_texts.new.texts.need.items = record { told = c.put_texts.ensures.replies; line = c.put_texts.ensures.need } in
     λ _. (c.in_err-write_texts.ensures.cause, λ start held. texts-fault _ _ _ _ _ _ _ _ _ _ _ ran texts c.in_err-write_texts.ensures.front held)
 
 pub returns-in-Some-clause-out_of_heap : goal.returns-in-Some-clause-out_of_heap
 returns-in-Some-clause-out_of_heap g c =
-    let at : phase_at c.args.trace.now c.args.index ≡ c.index.result.now = phase-read c.args.trace.now _ _ _ (ap (λ (x : TraceLists). x.phases) c.trace.view_is) c.requires.index c.index.ensures in
+    let at : phase_at c.args.trace.now c.args.index ≡ c.index-phase.result.now = phase-read c.args.trace.now _ _ _ (ap (λ (x : TraceLists). x.phases) c.trace.view_is) c.requires.index c.index-phase.ensures in
     let end = c.in_ok-end in
     let ran : Ran c.args.trace.now c.args.index c.args.engine.now c.run_phase.new.engine end.end.replies end.end.need = ran-read _ _ _ _ _ _ _ c.requires.index at c.requires.opened end.ensures.ended end.ensures.setup end.ensures.births in
-    let texts : HasTexts c.args.index end.end.replies end.end.need c.in_ok-texts.texts.replies.items (string_bytes c.in_ok-texts.texts.need) = record { told = c.in_ok-texts.ensures.replies; line = c.in_ok-texts.ensures.need } in
+    let texts : HasTexts c.args.index end.end.replies end.end.need c.put_texts.new.texts.replies.items c.put_texts.new.texts.need.items = record { told = c.put_texts.ensures.replies; line = c.put_texts.ensures.need } in
     λ need e start held.
     let told = err-same _ _ _ refl e in
     let some : end.end.need ≡ Some need = cc (c.in-Some.is, told) in
@@ -26,23 +44,23 @@ returns-in-Some-clause-out_of_heap g c =
 
 pub returns-clause-run : goal.returns-clause-run
 returns-clause-run g c =
-    let at : phase_at c.args.trace.now c.args.index ≡ c.index.result.now = phase-read c.args.trace.now _ _ _ (ap (λ (x : TraceLists). x.phases) c.trace.view_is) c.requires.index c.index.ensures in
+    let at : phase_at c.args.trace.now c.args.index ≡ c.index-phase.result.now = phase-read c.args.trace.now _ _ _ (ap (λ (x : TraceLists). x.phases) c.trace.view_is) c.requires.index c.index-phase.ensures in
     let end = c.in_ok-end in
     let ran : Ran c.args.trace.now c.args.index c.args.engine.now c.run_phase.new.engine end.end.replies end.end.need = ran-read _ _ _ _ _ _ _ c.requires.index at c.requires.opened end.ensures.ended end.ensures.setup end.ensures.births in
     ran-on _ _ _ _ _ _ c.in-None.is ran
 
 pub returns-clause-written : goal.returns-clause-written
 returns-clause-written g c =
-    let at : phase_at c.args.trace.now c.args.index ≡ c.index.result.now = phase-read c.args.trace.now _ _ _ (ap (λ (x : TraceLists). x.phases) c.trace.view_is) c.requires.index c.index.ensures in
+    let at : phase_at c.args.trace.now c.args.index ≡ c.index-phase.result.now = phase-read c.args.trace.now _ _ _ (ap (λ (x : TraceLists). x.phases) c.trace.view_is) c.requires.index c.index-phase.ensures in
     let end = c.in_ok-end in
     let ran : Ran c.args.trace.now c.args.index c.args.engine.now c.run_phase.new.engine end.end.replies end.end.need = ran-read _ _ _ _ _ _ _ c.requires.index at c.requires.opened end.ensures.ended end.ensures.setup end.ensures.births in
-    let texts : HasTexts c.args.index end.end.replies end.end.need c.in_ok-texts.texts.replies.items (string_bytes c.in_ok-texts.texts.need) = record { told = c.in_ok-texts.ensures.replies; line = c.in_ok-texts.ensures.need } in
+    let texts : HasTexts c.args.index end.end.replies end.end.need c.put_texts.new.texts.replies.items c.put_texts.new.texts.need.items = record { told = c.put_texts.ensures.replies; line = c.put_texts.ensures.need } in
     λ start held. texts-written _ _ _ _ _ _ _ _ _ _ _ c.in-None.is ran texts c.in_ok-write_texts.ensures.all held
 
 pub returns-clause-filled : goal.returns-clause-filled
 returns-clause-filled g c =
-    let at : phase_at c.args.trace.now c.args.index ≡ c.index.result.now = phase-read c.args.trace.now _ _ _ (ap (λ (x : TraceLists). x.phases) c.trace.view_is) c.requires.index c.index.ensures in
+    let at : phase_at c.args.trace.now c.args.index ≡ c.index-phase.result.now = phase-read c.args.trace.now _ _ _ (ap (λ (x : TraceLists). x.phases) c.trace.view_is) c.requires.index c.index-phase.ensures in
     let end = c.in_ok-end in
     let ran : Ran c.args.trace.now c.args.index c.args.engine.now c.run_phase.new.engine end.end.replies end.end.need = ran-read _ _ _ _ _ _ _ c.requires.index at c.requires.opened end.ensures.ended end.ensures.setup end.ensures.births in
-    let texts : HasTexts c.args.index end.end.replies end.end.need c.in_ok-texts.texts.replies.items (string_bytes c.in_ok-texts.texts.need) = record { told = c.in_ok-texts.ensures.replies; line = c.in_ok-texts.ensures.need } in
+    let texts : HasTexts c.args.index end.end.replies end.end.need c.put_texts.new.texts.replies.items c.put_texts.new.texts.need.items = record { told = c.put_texts.ensures.replies; line = c.put_texts.ensures.need } in
     λ start room. texts-filled _ _ _ _ _ _ _ _ _ _ _ c.in-None.is ran texts c.in_ok-write_texts.ensures.filled room

@@ -1,8 +1,9 @@
-use Rattle.std.proofs.Common.{◌<◌, length, refl, sym, ap, ◌∙◌, arith, subst}
+use Rattle.std.proofs.Common.{◌<◌, length, refl, sym, ap, ◌∙◌, arith, subst, inl, inr}
 use Rattle.std.proofs.lemmas.Result.{err_from_is_err_and}
 use Rattle.bc_io.proofs.Telling.{HeldGrows-nil, RoomFalls-none}
 use Rattle.bc_io.specs.Told.{HeldGrows}
 use Rattle.bc_model.specs.Lists.{TraceLists}
+use Rattle.bc_cli.specs.BetweenPhases.{HasRun}
 use Rattle.bc_cli.specs.Output.{texts_before}
 use Rattle.bc_cli.proofs.Finishing.{phase-room}
 use Rattle.bc_cli.proofs.Pieces.{texts-none, Rose-since}
@@ -53,10 +54,16 @@ pub returns-in_err-write_phase-clause-no_memory : goal.returns-in_err-write_phas
 returns-in_err-write_phase-clause-no_memory g c =
     let p = err_from_is_err_and c.from_residual.result c.from_residual.ensures.1 in
     let lt : c.loop-index.index < length c.args.trace.now.phases = omega (arith, ap (λ (x : TraceLists). length x.phases) c.trace.view_is, c.len-index-end.ensures) in
-    rw (p.1, p.2) (λ e. record {
-      phase = c.loop-index.index;
-      within = lt;
-      written = subst (λ z. HeldGrows (g.K.Sink.held c.args.sink.now) (g.K.Sink.held z) (texts_before c.args.trace.now c.loop-index.index)) (sym (c.in_err-write_phase.ensures.no_memory e)) c.loop-index.invariant.held;
+    rw (p.1, p.2) (λ e. let want = c.in_err-write_phase.ensures.no_memory e in record {
+      stops = record {
+        phase = c.loop-index.index;
+        within = lt;
+        written = subst (λ z. HeldGrows (g.K.Sink.held c.args.sink.now) (g.K.Sink.held z) (texts_before c.args.trace.now c.loop-index.index)) (sym want.0) c.loop-index.invariant.held;
+      };
+      left = elim want.1 [
+        | inl same ↦ inl (subst (HasRun c.args.trace.now c.loop-index.index) (sym same) c.loop-index.invariant.run)
+        | inr gone ↦ inr gone
+      ];
     })
 
 pub returns-in_err-write_phase-clause-workers : goal.returns-in_err-write_phase-clause-workers
