@@ -17,8 +17,9 @@
 // The replay keeps `HasRun`: after k phases the engine stands for the state that the plain heap has then, and the texts of
 // k phases are written. Each is written as soon as the phase has run, so memory for replies is that of a phase and not of
 // the run. Room for a phase's texts is taken before it runs, so that want of memory comes before the phase, or is the engine's own,
-// and never in place of a need or of replies. A phase that ends for want of heap gives its replies up to a cut of its lanes, and the need of what is reached
-// there. They are written, and the run ends. The heap goes back to the caller, who may look at what it stands for.
+// and never in place of a need or of replies. A phase that ends for want of heap gives its replies up to a cut of its lanes, and the
+// need of what is reached there. They are written, and the run ends. The heap goes back to the caller, who may look at what it stands
+// for.
 #![tactic(auto)]
 
 ghost use Rattle.std.specs.Prelude.{◌≡◌, ◌≢◌, IfErr, IfOk, map, string_bytes, None};

@@ -63,7 +63,7 @@ pub use laws::{
     law_replies_fit,
 };
 pub use reading::read;
-pub use replies::{need_room, phase_room, put_need, put_phase, reply_line};
+pub use replies::{need_room, phase_room, phase_text, put_need, put_phase, reply_line};
 pub use writing::write;
 
 #[cfg(test)]

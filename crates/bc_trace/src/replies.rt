@@ -118,6 +118,21 @@ pub fn put_phase(out: &mut Vec<u8>, number: u32, replies: &Replies)
     }
 }
 
+/// The whole text of phase `number`, which counts from 1, in memory of its own, which is taken lane by lane.
+#[tactic(auto, unfolding(crate::specs::Replies::phase_text))]
+pub fn phase_text(alloc: Global, number: u32, replies: &Replies) -> Result<Vec<u8>, AllocError>
+    ensures { IfOk result (λ text. text.items ≡ phase_text number replies.now) }
+{
+    let mut text = Vec::with_capacity(alloc, PHASE_LINE)?;
+    put_numbered(&mut text, b"phase ", number as u64);
+    for (lane, its_replies) in replies.lanes.iter().enumerate() {
+        let its_replies = its_replies.as_slice();
+        text.reserve(LINE * (1 + its_replies.len()))?;
+        put_lane(&mut text, lane as u64, its_replies);
+    }
+    Ok(text)
+}
+
 /// Puts the last line of a run at the end that ends for want of superpages, of which it would need so many. It takes no memory.
 #[tactic(auto, unfolding(crate::specs::Replies::out_of_heap_text))]
 pub fn put_need(out: &mut Vec<u8>, need: u64)

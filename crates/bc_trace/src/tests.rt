@@ -203,10 +203,13 @@ fn every_reply_is_written_on_a_line_of_its_own(rt: HostRuntime) -> Result<(), Fa
         Vec::from_slice(rt.alloc(), &replies)?,
         Vec::from_slice(rt.alloc(), &[])?,
     ]?;
+    let replies = Replies { lanes };
     let mut text = phase_room(rt.alloc(), 2, 11)?;
-    put_phase(&mut text, 600, &Replies { lanes });
+    put_phase(&mut text, 600, &replies);
     let wanted =
         b"phase 600\nlane 0\nobj 15.10000\nok\nnil\nnum 9223372036854775807\nref\nlen 127\nyes\nno\nnotobj\nrange\nforeign\nlane 1\n";
+    assert_eq!(rt; text.as_slice(), wanted.as_slice());
+    let text = phase_text(rt.alloc(), 600, &replies)?;
     assert_eq!(rt; text.as_slice(), wanted.as_slice());
     let mut last = need_room(rt.alloc())?;
     put_need(&mut last, 18_446_744_073_709_551_615);
