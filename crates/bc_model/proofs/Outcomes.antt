@@ -284,7 +284,7 @@ load-outcome s j p i q h = on_field-outcome s j (op.Load p i q) p i _ h (refl, r
 ))
 
 -- the two slots hold the same value
-same-held : (v w : Value) → is_same v w ≡ true → v ≡ w
+pub same-held : (v w : Value) → is_same v w ≡ true → v ≡ w
 same-held Nil Nil h = refl
 same-held (Num v) (Num w) h = ap Num (eqb-true v w h)
 same-held (Obj b) (Obj c) h = births (eqb-true b.lane c.lane (and_parts _ _ h).0) (eqb-true b.serial c.serial (and_parts _ _ h).1)

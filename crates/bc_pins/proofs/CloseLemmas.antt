@@ -37,7 +37,8 @@ total_only f (x ∷ xs) (suc j) v e others =
     let t = total_only f xs j v e (λ i u ne at. others (suc i) u (λ z. ne (omega arith)) at) in
     omega arith
 
-none_times : (l : List ℕ) → ((r : ℕ) → times r l ≡ 0) → l ≡ []
+-- a list in which nothing stands is empty
+pub none_times : (l : List ℕ) → ((r : ℕ) → times r l ≡ 0) → l ≡ []
 none_times [] each = refl
 none_times (x ∷ xs) each = let a = each x in let b = one_same x in absurd (omega arith)
 

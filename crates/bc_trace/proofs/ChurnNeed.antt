@@ -121,7 +121,8 @@ lane-work n x holders j h =
 
 -- ---- the states before each phase
 
-after_phases-append : (s : State) (ps qs : List PhaseLists) → after_phases s (ps ++ qs) ≡ after_phases (after_phases s ps) qs
+-- after one list of phases and then another
+pub after_phases-append : (s : State) (ps qs : List PhaseLists) → after_phases s (ps ++ qs) ≡ after_phases (after_phases s ps) qs
 unfolding after_phases
 after_phases-append s [] qs = refl
 after_phases-append s (p ∷ ps) qs = after_phases-append (after_phase s p) ps qs

@@ -206,8 +206,8 @@ pub nil-packed : IsPacked 0
 nil-packed = (omega arith, λ _. omega arith)
 
 -- as many words as one domain more has
-pub room-fits : (n count slots : ℕ) → n < count → n * slots + slots ≤ count * slots
-room-fits n count slots lt =
+pub stretch-fits : (n count slots : ℕ) → n < count → n * slots + slots ≤ count * slots
+stretch-fits n count slots lt =
     let le : (n + 1) * slots ≤ count * slots = mul-le-mul_right slots (omega arith) in
     let one : (n + 1) * slots ≡ n * slots + slots = grind arith in
     omega arith
