@@ -6,13 +6,14 @@ use Rattle.bc_whole_heap.specs.Closed.{IsCellOrYoung, IsClosedHeap}
 use Rattle.bc_whole_heap.specs.LaneChunks.{chunk_of}
 use Rattle.bc_whole_heap.specs.Heaps.{end_of, heap_memory, young, no_chunk}
 use Rattle.bc_whole_heap.specs.HeapFacts.{AreChunks, AreApart, view_of}
-use Rattle.bc_whole_heap.proofs.ChunkLemmas.{has-some, object_in-at}
+use Rattle.bc_whole_heap.proofs.ChunkLemmas.{object_in-at}
 use Rattle.bc_whole_heap.proofs.HeapLemmas.{memory-below, memory-above, allocated-here}
 use Rattle.bc_memory.specs.Memory.{Cell}
 use Rattle.bc_nursery.specs.Entries.{Entries}
 use Rattle.bc_nursery.specs.Objects.{IsChunk, has_object, the_object}
 use Rattle.bc_nursery.specs.Nurseries.{Nursery}
 use Rattle.bc_nursery.proofs.ObjectLemmas.{words-inside}
+use Rattle.bc_nursery.proofs.MappedLemmas.{has-some}
 use Rattle.bc_superpages.specs.Calls.{IsAtHand}
 use Rattle.bc_superpages.specs.Headers.{is_gone}
 use Rattle.bc_superpages.specs.Kept.{IsLayout}

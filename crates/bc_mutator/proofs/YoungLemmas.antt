@@ -7,7 +7,7 @@ use Rattle.bc_whole_heap.specs.LaneChunks.{chunk_of}
 use Rattle.bc_whole_heap.specs.Heaps.{end_of, heap_memory, no_chunk, young, object_in}
 use Rattle.bc_whole_heap.specs.HeapFacts.{AreChunks, AreApart, view_of}
 use Rattle.bc_whole_heap.specs.Running.{IsRunning}
-use Rattle.bc_whole_heap.proofs.ChunkLemmas.{has-some, object_in-at, object_in-set, object_in-set_other}
+use Rattle.bc_whole_heap.proofs.ChunkLemmas.{object_in-at, object_in-set, object_in-set_other}
 use Rattle.bc_whole_heap.proofs.HeapLemmas.{memory-below, memory-above}
 use Rattle.bc_memory.specs.Memory.{Cell}
 use Rattle.bc_memory.specs.MemoryChanges.{with_cell}
@@ -18,6 +18,7 @@ use Rattle.bc_nursery.specs.Entries.{Entries}
 use Rattle.bc_nursery.specs.Objects.{IsChunk, has_object, the_object, object_or, changed, with_young_field}
 use Rattle.bc_nursery.specs.Nurseries.{ChunkObject, Nursery, object_at}
 use Rattle.bc_nursery.proofs.ObjectLemmas.{find-changed, find-kept}
+use Rattle.bc_nursery.proofs.MappedLemmas.{has-some}
 use Rattle.bc_standing.specs.Standing.{births}
 use Rattle.bc_standing.proofs.Writing.{births-with_cell}
 use Rattle.bc_superpages.specs.Kept.{IsLayout}
