@@ -104,7 +104,8 @@ same-birth s o p q b c lp lq eb ec = go (sym ec ∙ ap (slot_of s) (looks-one o 
     go : Obj c ≡ Obj b → c ≡ b
     go e = cc
 
-true-false : (b : Bool) → b ≡ true → b ≡ false → ⊥
+-- a test that passes and fails
+pub true-false : (b : Bool) → b ≡ true → b ≡ false → ⊥
 true-false b t f = cc
 
 -- the reasons exclude one another
