@@ -20,11 +20,12 @@ use Rattle.bc_superpages.specs.Kept.{IsLayout}
 use Rattle.bc_superpages.proofs.HandLemmas.{allocated-superpage}
 use Rattle.bc_superpages.proofs.MemoryLemmas.{memory_of-cell}
 use Rattle.bc_superpages.proofs.BringLemmas.{allocated-not_absent}
+use Rattle.bc_superpages.proofs.MoveLemmas.{memory-allocated}
 use Rattle.bc_bookmarks.specs.Targets.{RefersTo, has_target_in}
 use Rattle.bc_bookmarks.specs.Summarised.{IsSummarised, gone_in}
 use Rattle.bc_bits.proofs.CountLemmas.{count_below-none}
 use Rattle.bc_bookmarks.proofs.TargetLemmas.{refers-target, in-target}
-use Rattle.bc_bookmarks.proofs.SummaryLemmas.{allocated-by-memory, targets-taken}
+use Rattle.bc_bookmarks.proofs.SummaryLemmas.{targets-taken}
 use Rattle.bc_pins.specs.Key.{Key, pages_of}
 use Rattle.bc_pins.specs.Contents.{field_bits, IsFieldOn, NamesFixed, IsYoung, IsContent, RefersYoung}
 use Rattle.bc_pins.specs.Opening.{IsOpenable, IsReady}
@@ -148,7 +149,7 @@ module _ (k : Key) (states : List (List PageState)) (pages bits : List (List ℕ
 
   closed : IsClosed t
   closed a c found i lt =
-      let there = allocated-by-memory t a c found in
+      let there = memory-allocated t a c found in
       let same : cell_at pages a ≡ c = cell_is _ _ (sym (memory_of-cell s.classes s.cells pages a there) ∙ found) in
       subst (λ (d : Cell). i < length d.fields → CanName t (slice_index_or d.fields i Nil)) same (field_named a i there) lt
 

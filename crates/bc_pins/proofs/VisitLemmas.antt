@@ -13,8 +13,9 @@ use Rattle.bc_superpages.specs.LayoutAt.{IsAllocated, state_at}
 use Rattle.bc_superpages.specs.Kept.{IsLayout}
 use Rattle.bc_superpages.specs.Calls.{new_space, with_page, NoPromiseNamed}
 use Rattle.bc_superpages.proofs.CellLemmas.{is_cell-bit}
+use Rattle.bc_superpages.proofs.MoveLemmas.{memory-allocated}
 use Rattle.bc_bookmarks.specs.Summarised.{gone_in, HasNoBookmarks}
-use Rattle.bc_bookmarks.proofs.SummaryLemmas.{SummarisedOn-none, allocated-by-memory}
+use Rattle.bc_bookmarks.proofs.SummaryLemmas.{SummarisedOn-none}
 use Rattle.bc_bookmarks.proofs.StateLemmas.{gone-put}
 use Rattle.bc_pins.specs.declared.key.Role.{Role}
 use Rattle.bc_pins.specs.declared.pins.Pins.{Pins}
@@ -290,7 +291,7 @@ new_cells n f y q b = set_bare (λ (h : Header). h.cells) n q b refl
 
 -- in a space without cells no promise is named
 pub nothing_named : (s : Layout) → ((q b : ℕ) → has (set_of s.cells q) b ≡ false) → NoPromiseNamed s
-nothing_named s none_has a c found k lt = absurd (no_cell s a none_has (allocated-by-memory s a c found))
+nothing_named s none_has a c found k lt = absurd (no_cell s a none_has (memory-allocated s a c found))
 
 -- a space with the states, bookmarks and counters of a new one
 pub none_like : (n f y : ℕ) (t : Layout) → t.states ≡ (new_space n f y).states → t.bookmarks ≡ (new_space n f y).bookmarks → t.incoming ≡ (new_space n f y).incoming → superpages t ≡ superpages (new_space n f y) → HasNoBookmarks t
