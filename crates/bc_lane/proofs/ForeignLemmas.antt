@@ -14,7 +14,7 @@ use Rattle.bc_mutator.specs.Objects.{MayOperate, Refuses, RefusesField, cell_of,
 use Rattle.bc_mutator.specs.Operations.{StoresYoung}
 use Rattle.bc_mutator.proofs.ChangeLemmas.{foreign-changes}
 use Rattle.bc_mutator.proofs.MeaningLemmas.{refuses-before, refuses-foreign}
-use Rattle.bc_mutator.proofs.ObjectLemmas.{allocated-below, cell_of-below, one_address}
+use Rattle.bc_mutator.proofs.ObjectLemmas.{cell_of-below, one_address}
 use Rattle.bc_mutator.proofs.RootLemmas.{done-answers}
 use Rattle.bc_mutator.proofs.StepLemmas.{did-step}
 use Rattle.bc_mutator.proofs.TellingLemmas.{len-refuses, who-refuses, word-read}
@@ -23,6 +23,7 @@ use Rattle.bc_superpages.specs.Memory as space
 use Rattle.bc_superpages.proofs.HandLemmas.{allocated-object}
 use Rattle.bc_superpages.proofs.MemoryLemmas.{memory_of-cell}
 use Rattle.bc_whole_heap.specs.Heaps.{HeapView}
+use Rattle.bc_whole_heap.proofs.HeapLemmas.{allocated-below}
 use Rattle.bc_word.specs.Addresses.{superpage_of}
 use Rattle.bc_word.specs.declared.addresses.Address.{Address}
 use Rattle.bc_word.specs.declared.words.Word.TheVariants.{Ref}

@@ -5,7 +5,6 @@ use Rattle.bc_bits.specs.Counting.{one_if}
 use Rattle.bc_lane.specs.Shown.{HasPage, IsOwnPage, IsRememberedOrFound, ShowsHeld, ShowsPage, ShowsPages}
 use Rattle.bc_mutator.specs.Effects.{Remembers}
 use Rattle.bc_mutator.specs.Parts.{HasField, MayHold}
-use Rattle.bc_mutator.proofs.ObjectLemmas.{allocated-below}
 use Rattle.bc_mutator.proofs.StateLemmas.{remembers-home}
 use Rattle.bc_pins.specs.declared.holding.Held.{Held}
 use Rattle.bc_pins.specs.declared.taking.Want.TheVariants.{Work}
@@ -38,6 +37,7 @@ use Rattle.bc_word.specs.declared.words.Word.{Word}
 use Rattle.bc_word.specs.declared.words.Word.TheVariants.{Nil, Num, Ref}
 use Rattle.bc_word.proofs.WordLemmas.{word_of_bits-word_bits}
 use Rattle.bc_word.proofs.WordsLemmas.{get_or-words_from}
+use Rattle.bc_whole_heap.proofs.HeapLemmas.{allocated-below}
 
 not-both : (b : Bool) → b ≡ true → b ≡ false → ⊥
 not-both b on off = cc

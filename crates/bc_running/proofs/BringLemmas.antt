@@ -12,7 +12,7 @@ use Rattle.bc_model.specs.declared.values.Slot.{Slot}
 use Rattle.bc_mutator.specs.Objects.{AreWhole, slot_word}
 use Rattle.bc_mutator.specs.Operations.{IsOpOf, WantsMore, setup_of}
 use Rattle.bc_mutator.specs.Parts.{touched_slot}
-use Rattle.bc_mutator.proofs.ObjectLemmas.{LieBehind-laid, allocated-below, there-below}
+use Rattle.bc_mutator.proofs.ObjectLemmas.{LieBehind-laid, there-below}
 use Rattle.bc_nursery.specs.Entries.{Entries}
 use Rattle.bc_nursery.specs.Nurseries.{Nursery}
 use Rattle.bc_superpages.specs.declared.headers.PageState.TheVariants.{Gone}
@@ -26,6 +26,7 @@ use Rattle.bc_whole_heap.specs.LaneChunks.{chunk_of}
 use Rattle.bc_whole_heap.specs.Heaps.{end_of}
 use Rattle.bc_whole_heap.specs.HeapFacts.{NoneRemembered, view_of}
 use Rattle.bc_whole_heap.specs.Running.{IsRunning}
+use Rattle.bc_whole_heap.proofs.HeapLemmas.{allocated-below}
 use Rattle.bc_word.specs.Addresses.{page_of}
 use Rattle.bc_word.specs.declared.addresses.Address.{Address}
 use Rattle.bc_word.specs.declared.words.Word.TheVariants.{Ref}
