@@ -17,7 +17,7 @@ use Rattle.bc_model.specs.declared.values.Slot.{Slot}
 use Rattle.bc_model.specs.declared.values.Value.TheVariants.{Nil}
 use Rattle.bc_model.proofs.NeedFound.{reached-born}
 use Rattle.bc_model.proofs.Openings.{length-numbers_below, made_by-opening}
-use Rattle.bc_model.proofs.RunStates.{OfSetup, OfSetup-before, OfSetup-after_cut}
+use Rattle.bc_model.proofs.RunStates.{OfSetup, OfSetup-before, OfSetup-after_cut, all-take, all-append}
 use Rattle.bc_reach.proofs.Reaching.{Reach-least}
 use Rattle.bc_trace.specs.declared.words.Verb.{Verb}
 use Rattle.bc_trace.specs.declared.words.Verb.TheVariants as verbs
@@ -27,7 +27,7 @@ use Rattle.bc_trace.proofs.Cleared.{InRange, news, phase-clean, lanes-clean, lan
 use Rattle.bc_trace.proofs.Counting.{numbers_below-at}
 use Rattle.bc_trace.proofs.Drawing.{holders-suc}
 use Rattle.bc_trace.proofs.Few.{InTwo, few-births, need-bound}
-use Rattle.bc_trace.proofs.Formed.{all-append, all-flat, all-map, all-of, churn-formed, clears-formed, draw-below, drawn-formed}
+use Rattle.bc_trace.proofs.Formed.{all-flat, all-map, all-of, churn-formed, clears-formed, draw-below, drawn-formed}
 use Rattle.bc_trace.proofs.Young.{AreSmall, Clean, IsSmallNew, Refers, Young, new_of, nil-at, set-either}
 
 -- ---- the lanes of a phase
@@ -83,11 +83,6 @@ news-take : (n : ℕ) (xs : List Op) → news (take n xs) ≤ news xs
 news-take zero xs = omega arith
 news-take (suc n) [] = omega arith
 news-take (suc n) (x ∷ xs) = omega (arith, news-take n xs)
-
-all-take : (P : Op → Type 0) (n : ℕ) (xs : List Op) → AllByRecursion P xs → AllByRecursion P (take n xs)
-all-take P zero xs h = tt
-all-take P (suc n) [] h = tt
-all-take P (suc n) (x ∷ xs) h = (h.0, all-take P n xs h.1)
 
 -- operations that the setup allows, and that make at most a thousand small objects
 record IsWork (os : List Op) : Type 0 where
