@@ -52,5 +52,5 @@ mod telling;
 mod writing;
 
 pub use cells::Cells;
-pub use operations::{Stop, holds_all, law_births, operate_parts};
+pub use operations::{Stop, holds_all, law_births, operate_parts, touched};
 pub use root_slots::RootSlots;

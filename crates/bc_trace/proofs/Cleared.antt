@@ -84,9 +84,6 @@ cleared old a b s j p c held more =
       fields = c.fields;
     })
 
-clear_of : ℕ → ℕ → Op
-clear_of d t = op.Clear (record { domain = d; slot = t })
-
 same_slot : (r : Slot) (d t : ℕ) → r.domain ≡ d → r.slot ≡ t → r ≡ record { domain = d; slot = t }
 same_slot r d t e f =
     let first : r ≡ record { domain = d; slot = r.slot } = ap (λ (x : ℕ). let q : Slot = record { domain = x; slot = r.slot } in q) e in
