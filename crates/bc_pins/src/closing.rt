@@ -1,6 +1,5 @@
 //! Closing a table.
 
-ghost use Rattle.std.specs.Prelude.{◌≡◌};
 ghost use Rattle.bc_pins.specs.Calls.{key_of};
 ghost use Rattle.bc_pins.specs.Closing.{AreBack, Closed};
 

@@ -1,11 +1,11 @@
 //! Taking a page and putting it back.
 
-ghost use Rattle.std.specs.Prelude.{◌≡◌, ◌≢◌, ℕ, ◌<◌, ◌≤◌, ◌==◌, true, false, IfOk, IfErr};
+ghost use Rattle.std.specs.Prelude.{◌≡◌, ◌≢◌, ◌<◌, ◌≤◌, ◌==◌, true, IfOk, IfErr};
 ghost use Rattle.bc_pins.specs.Key.{pages_of};
 ghost use Rattle.bc_pins.specs.Views.{state_word, home_word};
-ghost use Rattle.bc_pins.specs.Steps.{having_read, gripping, ReadsWord, Takes};
+ghost use Rattle.bc_pins.specs.Steps.{having_read, ReadsWord, Takes};
 ghost use Rattle.bc_pins.specs.declared.taking.TakeNo.TheVariants.{Busy};
-ghost use Rattle.bc_pins.specs.Calls.{key_of, view_of, IsAt, IsSameSeat, IsFree, HoldsPage, Grasps, MayWork, MayPut, tried, refusal_word, IsPlainVictim, IsTakeRefused, WasSeen, put_back};
+ghost use Rattle.bc_pins.specs.Calls.{key_of, view_of, IsAt, IsSameSeat, IsFree, HoldsPage, Grasps, MayWork, MayPut, tried, IsPlainVictim, IsTakeRefused, WasSeen, put_back};
 
 use crate::holding::Held;
 use crate::key::page_entry;

@@ -8,7 +8,6 @@ use Rattle.bc_pins.specs.Opening.{IsOpenable, key_for}
 use Rattle.bc_pins.specs.Totals.{times}
 use Rattle.bc_pins.proofs.pins.Pins.open.Goals as goal
 
--- src/opening.rt:79:9
 pub draw-requires-clause-drawn : goal.draw-requires-clause-drawn
 draw-requires-clause-drawn c =
     let parts = c.open_up-parts.result in
