@@ -124,6 +124,7 @@ module _ (id : TableId) (k : Key) (all : List Seat) (root : Worker Lodged View) 
   ended_parts reads f t = record {
     kept = rw (t.headers_are, t.boxes_are, t.pool, t.nursery, t.places_are) (closed_kept k whole parts e.rest e.layout e.pool e.nursery e.frames v e.gathered.hand e.gathered.rights words slots e.closed headers e.states_are boxes e.box places e.place now e.pool_set);
     ends = rw (t.headers_are, t.end) (closed_ends k whole parts e.rest e.layout e.pool e.nursery e.frames v e.gathered.hand e.gathered.rights words slots e.closed headers e.states_are boxes e.box places e.place now e.pool_set);
+    blank = rw (t.headers_are, t.end) (λ q le. let near = e.rest.near in (e.states_are.behind q (omega arith)).0 ∙ e.rest.kept.blank q le);
   }
 
   abbrev made : ℕ → Layout

@@ -19,6 +19,7 @@ draw-requires-clause-drawn c =
     record {
       kept = c.open_up-parts.ensures.kept;
       within = omega arith;
+      near = omega arith;
       behind = λ p lt. ends.absent p (omega arith);
       absent = λ p lt. subst (λ (s : Layout). state_at s.states p ≡ Absent) (sym opening) (c.open_up-parts.ensures.absent p (omega arith));
       layout = c.open_up-parts.ensures.layout ∙ sym opening;
