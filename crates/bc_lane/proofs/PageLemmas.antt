@@ -1,6 +1,6 @@
 -- What a space has of the pages of a lane's domains, when one is taken, written, remembered or put back.
 use Rattle.std.proofs.Common.{◌≡◌, ◌≢◌, ◌⊎◌, ℕ, ◌+◌, ◌*◌, ◌<◌, ◌==◌, Bool, true, false, if◌then◌else◌, List, [], ◌∷◌, length, get_or, set, Option, Some, None, inl, inr, refl, ap, sym, subst, ◌∙◌, arith, get_or-set_same, get_or-set_other}
-use Rattle.std.proofs.lemmas.Bool.{cases_Bool, cases_eq, lt-ltb}
+use Rattle.std.proofs.lemmas.Bool.{cases_Bool, cases_eq, lt-ltb, both_ways}
 use Rattle.bc_bits.specs.Counting.{one_if}
 use Rattle.bc_lane.specs.Shown.{HasPage, IsOwnPage, IsRememberedOrFound, ShowsHeld, ShowsPage, ShowsPages}
 use Rattle.bc_mutator.specs.Effects.{Remembers}
@@ -39,15 +39,12 @@ use Rattle.bc_word.proofs.WordLemmas.{word_of_bits-word_bits}
 use Rattle.bc_word.proofs.WordsLemmas.{get_or-words_from}
 use Rattle.bc_whole_heap.proofs.HeapLemmas.{allocated-below}
 
-not-both : (b : Bool) → b ≡ true → b ≡ false → ⊥
-not-both b on off = cc
-
 owns-page : (v : View) (p : ℕ) → IsOwnPage v p → owns v p ≡ true
 owns-page v p own = lt-ltb 0 _ own
 
 flag-times : (b : Bool) (p : ℕ) (l : List ℕ) → b ≡ true → 0 < times p (if b then p ∷ l else l)
 flag-times true p l on = let one = one_same p in omega arith
-flag-times false p l on = absurd (not-both false on refl)
+flag-times false p l on = absurd (both_ways false refl on)
 
 -- the page in hand is put back
 abbrev pub given : View → Held → View
@@ -64,7 +61,7 @@ given-here v held s shown =
         | inl on ↦ shown.recorded (inr on)
         | inr off ↦ shown.recorded (inl (let none : one_if held.remembered ≡ 0 = ap one_if off in omega arith))
       ];
-      gone = λ is. absurd (not-both _ is shown.here);
+      gone = λ is. absurd (both_ways _ shown.here is);
     }
 
 given-other : (v : View) (held : Held) (s : Layout) (p : ℕ) → p ≢ held.page → ShowsPage v s p → ShowsPage (given v held) s p
@@ -218,16 +215,13 @@ shows-taken v p end false homed s own takes shown =
       in_hand = grips-held v v p false homed s refl refl own page takes own
           (λ why. elim why [
             | inl lt ↦ page.recorded lt
-            | inr on ↦ absurd (not-both false on refl)
+            | inr on ↦ absurd (both_ways false refl on)
           ]);
     }
 
 -- what the space at the opening has of a cell of this one
-allocated-opened : (s o : Layout) (a : ℕ) → s ≡ record o { states = s.states; pages = s.pages } → IsAllocated s a → IsAllocated o a
+pub allocated-opened : (s o : Layout) (a : ℕ) → s ≡ record o { states = s.states; pages = s.pages } → IsAllocated s a → IsAllocated o a
 allocated-opened s o a same on = subst (λ (x : Layout). IsAllocated x a) same on
-
-pub opened-allocated : (s o : Layout) (a : ℕ) → s ≡ record o { states = s.states; pages = s.pages } → IsAllocated s a → IsAllocated o a
-opened-allocated s o a same on = allocated-opened s o a same on
 
 same-superpages : (s o : Layout) → s ≡ record o { states = s.states; pages = s.pages } → superpages s ≡ superpages o
 same-superpages s o same = ap superpages same

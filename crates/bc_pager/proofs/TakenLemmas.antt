@@ -1,6 +1,7 @@
 -- Pages that are taken and given up.
 use Rattle.std.proofs.Common.{◌≡◌, ℕ, ◌+◌, ◌-◌, ◌*◌, ◌/◌, ◌<◌, ◌≤◌, ◌⊎◌, Bool, true, false, if◌then◌else◌, List, [], ◌∷◌, ◌++◌, length, inl, inr, Option, Some, None, refl, ap, sym, subst, ◌∙◌, arith, append_assoc, length-append}
 use Rattle.std.proofs.lemmas.Bool.{cases_lt, cases_Bool}
+use Rattle.std.proofs.lemmas.Option.{same_Some}
 use Rattle.bc_bits.specs.Counting.{any_below}
 use Rattle.bc_bits.proofs.AnyLemmas.{any_below-some, any_below-at}
 use Rattle.bc_word.specs.Addresses.{page_of}
@@ -29,9 +30,6 @@ use Rattle.bc_pager.specs.Taking.{HasLooked, HasTriedAll, IsTakenFor, HasTakenFi
 use Rattle.bc_pager.specs.Answering.{TookAfter, HasDiscarded, HasEvicted, HasDeclined}
 use Rattle.bc_pager.proofs.LookLemmas.{reads-append, found-first, found-last, found-as, stays-so, looked-then}
 
-some_hand : (x y : Hand) → Some x ≡ Some y → x ≡ y
-some_hand x y e = cc
-
 -- a page that was taken is in hand, and may be given up as its kind says
 module _ (k : Key) (kind : Kind) (u : View) (seat : Seat) (held : Held) (t : IsTakenFor k kind u seat held) (about : u.about ≡ k) where
   takes : Takes u held.page held.remembered held.homed
@@ -39,7 +37,7 @@ module _ (k : Key) (kind : Kind) (u : View) (seat : Seat) (held : Held) (t : IsT
 
   in_hand : (hand : Hand) → (view_of seat).hand ≡ Some hand
       → hand ≡ record { page = held.page; remembered = held.remembered; frame = held.homed.frame; content = held.homed.page; counted = []; marked = []; looked = [] }
-  in_hand hand has = some_hand hand _ (sym has ∙ ap (λ (w : View). w.hand) t.grasps.view)
+  in_hand hand has = same_Some hand _ (sym has ∙ ap (λ (w : View). w.hand) t.grasps.view)
 
   about_now : (view_of seat).about ≡ k
   about_now = ap (λ (w : View). w.about) t.grasps.view ∙ about

@@ -1,7 +1,8 @@
 -- A space over which a table may be opened is one as the rule uses it, and a closed table gives back such a one.
-use Rattle.std.proofs.Common.{◌≡◌, ℕ, ◌+◌, ◌*◌, ◌/◌, ◌%◌, ◌<◌, ◌≤◌, ◌&&◌, Bool, true, false, List, length, get_or, slice_index, Some, inl, inr, refl, ap, sym, subst, ◌∙◌, arith}
+use Rattle.std.proofs.Common.{◌≡◌, ℕ, ◌+◌, ◌*◌, ◌/◌, ◌%◌, ◌<◌, ◌≤◌, ◌&&◌, Bool, true, false, List, length, get_or, slice_index, inl, inr, refl, ap, sym, subst, ◌∙◌, arith}
 use Rattle.std.specs.Prelude.{slice_index_or}
 use Rattle.std.proofs.lemmas.Bool.{cases_lt, cases_Bool}
+use Rattle.std.proofs.lemmas.Option.{same_Some}
 use Rattle.bc_memory.specs.Memory.{Cell}
 use Rattle.bc_word.specs.declared.words.Word.{Word}
 use Rattle.bc_word.specs.declared.words.Word.TheVariants.{Nil, Num, Ref}
@@ -35,9 +36,6 @@ clash e = cc
 
 home_clash : state.Home ≡ state.Remembered → ⊥
 home_clash e = cc
-
-cell_is : (a b : Cell) → Some a ≡ Some b → a ≡ b
-cell_is a b e = cc
 
 -- what a Gone page of a summarised space refers to is a cell
 gone_names : (s : Layout) (p cell index : ℕ) → IsLayout s → IsSummarised s → p < 4 * superpages s → gone_in s p ≡ true → IsFieldOn s p cell index
@@ -150,7 +148,7 @@ module _ (k : Key) (states : List (List PageState)) (pages bits : List (List ℕ
   closed : IsClosed t
   closed a c found i lt =
       let there = memory-allocated t a c found in
-      let same : cell_at pages a ≡ c = cell_is _ _ (sym (memory_of-cell s.classes s.cells pages a there) ∙ found) in
+      let same : cell_at pages a ≡ c = same_Some _ _ (sym (memory_of-cell s.classes s.cells pages a there) ∙ found) in
       subst (λ (d : Cell). i < length d.fields → CanName t (slice_index_or d.fields i Nil)) same (field_named a i there) lt
 
   pub still_openable : IsSummarised t → IsOpenable t

@@ -1,6 +1,5 @@
 -- What a closed table gives back is what the lanes' operations made, one lane after another.
 use Rattle.std.proofs.Common.{◌≡◌, ℕ, ◌+◌, ◌*◌, ◌/◌, ◌<◌, ◌≤◌, ◌==◌, List, [], ◌∷◌, ◌++◌, length, map, get_or, inl, inr, refl, ap, sym, subst, ◌∙◌, arith}
-use Prim.Native.Nat.{zero, suc}
 use Rattle.std.proofs.lemmas.Bool.{cases_lt}
 use Rattle.std.proofs.lemmas.List.{ext_get_or, get_or-map, get_or_past, length-map}
 use Rattle.bc_bits.specs.Counting.{one_if}
@@ -9,13 +8,13 @@ use Rattle.bc_pins.specs.Calls.{view_of}
 use Rattle.bc_pins.specs.Closing.{Closed}
 use Rattle.bc_pins.specs.Key.{Key, lane_role, owner, pages_of, role_number}
 use Rattle.bc_pins.specs.Opening.{IsOpenable}
-use Rattle.bc_pins.specs.Totals.{times, total}
+use Rattle.bc_pins.specs.Totals.{times}
 use Rattle.bc_pins.specs.Views.{entries, has_role, opened_content, opened_state, opened_word, record_of, state_word}
 use Rattle.bc_pins.specs.declared.key.Role.TheVariants.{Pager}
 use Rattle.bc_pins.specs.declared.pins.Seat.{Seat}
 use Rattle.bc_pins.specs.declared.views.View.{View}
 use Rattle.bc_pins.proofs.JoinLemmas.{look_none}
-use Rattle.bc_pins.proofs.TotalLemmas.{one_other, one_same, times_append}
+use Rattle.bc_pins.proofs.TotalLemmas.{one_other, one_same, times_append, total_in}
 use Rattle.bc_reach.specs.Distinct.{Has}
 use Rattle.bc_superpages.specs.declared.headers.PageState.{PageState}
 use Rattle.bc_superpages.specs.declared.headers.PageState.TheVariants.{Absent, Remembered}
@@ -54,11 +53,6 @@ pub record AreSeatsBack (k : Key) (hs busy : List ℕ) (m : HeapView) (seat : �
 
 absent-remembered : Absent ≡ Remembered → ⊥
 absent-remembered e = cc
-
-total-index : {A : Type 0} (f : A → ℕ) (xs : List A) (i : ℕ) (d : A) → i < length xs → f (get_or xs i d) ≤ total f xs
-total-index f [] i d lt = absurd (omega arith)
-total-index f (x ∷ xs) zero d lt = omega arith
-total-index f (x ∷ xs) (suc i) d lt = let rest = total-index f xs i d (omega arith) in omega arith
 
 -- a role that was given to none of the lanes
 pub no-role : (busy : List ℕ) (l : ℕ) → (Has busy l → ⊥) → times (lane_role l) (map lane_role busy) ≡ 0
@@ -130,7 +124,7 @@ module _ (k : Key) (h m : HeapView) (hs busy : List ℕ) (seat : ℕ → Seat) (
     mine-remembered near is =
         let some = shown.remembered is in
         let same = ap (λ (a : Key). one_if (opened_word a p == 2)) (back.about i lt) in
-        let few = total-index (λ (s : Seat). times p (view_of s).recorded) seats i (seat i) (let long = back.long in omega arith) in
+        let few = total_in (λ (s : Seat). times p (view_of s).recorded) seats i (seat i) (let long = back.long in omega arith) in
         let here = ap (λ (s : Seat). times p (view_of s).recorded) (back.same i lt (seat i)) in
         (closed.states_are p near).remembered (omega arith)
 
