@@ -8,7 +8,7 @@ ghost use Rattle.bc_pins.specs.declared.taking.TakeNo.TheVariants.{Busy};
 ghost use Rattle.bc_pins.specs.Calls.{key_of, view_of, IsAt, IsSameSeat, IsFree, HoldsPage, Grasps, MayWork, MayPut, tried, IsPlainVictim, IsTakeRefused, WasSeen, put_back};
 
 use crate::holding::Held;
-use crate::key::page_entry;
+use crate::key::{home_entry, page_entry};
 use crate::pins::{Pins, Seat};
 use crate::rule::{Look, Release, Take};
 use crate::views::Lodged;
@@ -99,7 +99,7 @@ impl Pins {
             × ReadsWord (view_of seat.old) page found) }
     {
         let words = &self.table.shared;
-        let slot = 8 * (page as usize / 4) + page as usize % 4;
+        let slot = home_entry(page as usize);
         let found = words.compare_exchange::<Take>(
             &mut seat.inner,
             page_entry(page as usize),
@@ -134,7 +134,7 @@ impl Pins {
             homed,
         } = held;
         let words = &self.table.shared;
-        let slot = 8 * (page as usize / 4) + page as usize % 4;
+        let slot = home_entry(page as usize);
         words.exchange(&mut seat.inner, slot, Lodged::Home(homed));
         words.store::<Release>(
             &mut seat.inner,
