@@ -1,4 +1,4 @@
-//! A lane and a pager at one table.
+//! A lane writes on a page while a pager gives up the next one, on threads of their own.
 
 ghost use Rattle.std.specs.Prelude.{◌≡◌, ℕ, ◌^◌, ◌<◌, true, [], IfSome};
 ghost use Rattle.bc_word.specs.Addresses.{superpage_of, page_of};
@@ -12,14 +12,12 @@ ghost use Rattle.bc_pins.specs.Calls.{key_of, view_of, IsAt, IsSameSeat, IsFree,
 ghost use Rattle.bc_evict.specs.Evicting.{MayBookmark};
 ghost use Rattle.bc_evict.specs.Objects.{HeldHasObject};
 
-mod furnished;
-
-use super::*;
+use super::furnished::Furnished;
 use bc_bits::contains;
+use bc_evict::{bookmark, give_frame, relinquish};
 use bc_pins::{Held, Pins, Role, Seat, Turn, Want};
 use bc_superpages::{PageState, Space};
 use bc_word::{Address, Word, pack, unpack_head};
-use furnished::Furnished;
 use std::alloc::Global;
 use std::test::Fail;
 use std::thread;
