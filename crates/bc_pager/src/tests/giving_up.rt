@@ -1,10 +1,10 @@
 //! A lane writes on a page while a pager gives up the next one, on threads of their own.
 
-ghost use Rattle.std.specs.Prelude.{◌≡◌, ℕ, ◌^◌, ◌<◌, true, [], IfSome};
+ghost use Rattle.std.specs.Prelude.{◌≡◌, ◌^◌, ◌<◌, true, [], IfSome};
 ghost use Rattle.bc_word.specs.Addresses.{superpage_of, page_of};
 ghost use Rattle.bc_superpages.specs.Layout.{Layout, superpages};
 ghost use Rattle.bc_superpages.specs.LayoutAt.{IsAllocated};
-ghost use Rattle.bc_pins.specs.Key.{pages_of, owner};
+ghost use Rattle.bc_pins.specs.Key.{owner};
 ghost use Rattle.bc_pins.specs.Views.{has_role};
 ghost use Rattle.bc_pins.specs.Contents.{RefersYoung};
 ghost use Rattle.bc_pins.specs.Opening.{IsOpenable};
