@@ -3,7 +3,6 @@
 ghost use Rattle.std.specs.Prelude.{◌≡◌, ℕ, ◌+◌, ◌*◌, ◌^◌, ◌<◌, ◌≤◌, true, false, IfSome, IfNone};
 ghost use Rattle.bc_bookmarks.specs.Targets.{HasCell};
 ghost use Rattle.bc_pins.specs.Key.{pages_of};
-ghost use Rattle.bc_pins.specs.Contents.{IsBarePage};
 ghost use Rattle.bc_pins.specs.Calls.{key_of, view_of, IsAt, IsSameSeat, IsFree};
 ghost use Rattle.bc_pager.specs.Looking.{steps_behind};
 ghost use Rattle.bc_pager.specs.Taking.{IsOfKind, first_page, HasTried, HasTriedAll, IsTakenFor, HasTakenFirst};

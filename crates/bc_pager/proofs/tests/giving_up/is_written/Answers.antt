@@ -7,8 +7,8 @@ use Rattle.bc_pins.specs.Views.{has_role}
 use Rattle.bc_pins.specs.Contents.{IsContent, RefersYoung}
 use Rattle.bc_pins.specs.Calls.{key_of, view_of, HoldsPage, MayPut}
 use Rattle.bc_pins.proofs.VisitLemmas.{holds_worked}
-use Rattle.bc_evict.proofs.TestLemmas.{object-in-hand, may-put}
-use Rattle.bc_evict.proofs.tests.is_written.Goals as goal
+use Rattle.bc_pager.proofs.TestLemmas.{object-in-hand, may-put}
+use Rattle.bc_pager.proofs.tests.giving_up.is_written.Goals as goal
 
 pub take-requires-clause-page : goal.take-requires-clause-page
 take-requires-clause-page c = subst (λ (p : ℕ). p < pages_of (key_of c.args.pins.now)) (sym c.page.ensures.page) (c.facts.ensures.inside c.args.cell.0 c.requires.cell)

@@ -5,8 +5,8 @@ use Rattle.bc_pins.specs.Key.{Key, pages_of}
 use Rattle.bc_pins.specs.Calls.{key_of, view_of}
 use Rattle.bc_pins.proofs.VisitLemmas.{holds_taken, may_put_taken}
 use Rattle.bc_evict.proofs.BookmarkLemmas.{may-bookmark}
-use Rattle.bc_evict.proofs.TestLemmas.{cell-there}
-use Rattle.bc_evict.proofs.tests.is_evicted.Goals as goal
+use Rattle.bc_pager.proofs.TestLemmas.{cell-there}
+use Rattle.bc_pager.proofs.tests.giving_up.is_evicted.Goals as goal
 
 pub take-requires-clause-page : goal.take-requires-clause-page
 take-requires-clause-page c = subst (λ (p : ℕ). p < pages_of (key_of c.args.pins.now)) (sym c.page.ensures.page) (c.facts.ensures.inside c.args.cell.0 c.requires.cell)

@@ -1,10 +1,10 @@
-//! A lane and a pager at one table.
+//! A lane writes on a page while a pager gives up the next one, on threads of their own.
 
-ghost use Rattle.std.specs.Prelude.{◌≡◌, ℕ, ◌^◌, ◌<◌, true, [], IfSome};
+ghost use Rattle.std.specs.Prelude.{◌≡◌, ◌^◌, ◌<◌, true, [], IfSome};
 ghost use Rattle.bc_word.specs.Addresses.{superpage_of, page_of};
 ghost use Rattle.bc_superpages.specs.Layout.{Layout, superpages};
 ghost use Rattle.bc_superpages.specs.LayoutAt.{IsAllocated};
-ghost use Rattle.bc_pins.specs.Key.{pages_of, owner};
+ghost use Rattle.bc_pins.specs.Key.{owner};
 ghost use Rattle.bc_pins.specs.Views.{has_role};
 ghost use Rattle.bc_pins.specs.Contents.{RefersYoung};
 ghost use Rattle.bc_pins.specs.Opening.{IsOpenable};
@@ -12,14 +12,12 @@ ghost use Rattle.bc_pins.specs.Calls.{key_of, view_of, IsAt, IsSameSeat, IsFree,
 ghost use Rattle.bc_evict.specs.Evicting.{MayBookmark};
 ghost use Rattle.bc_evict.specs.Objects.{HeldHasObject};
 
-mod furnished;
-
-use super::*;
+use super::furnished::Furnished;
 use bc_bits::contains;
+use bc_evict::{bookmark, give_frame, relinquish};
 use bc_pins::{Held, Pins, Role, Seat, Turn, Want};
 use bc_superpages::{PageState, Space};
 use bc_word::{Address, Word, pack, unpack_head};
-use furnished::Furnished;
 use std::alloc::Global;
 use std::test::Fail;
 use std::thread;

@@ -3,7 +3,7 @@ use Rattle.std.proofs.Common.{◌≡◌, ℕ, List, [], ◌∷◌, ap, sym, ◌�
 use Rattle.bc_pins.specs.declared.views.View.{View}
 use Rattle.bc_pins.specs.Calls.{view_of}
 use Rattle.bc_evict.proofs.RightLemmas.{rights-gone}
-use Rattle.bc_evict.proofs.tests.give_up.Goals as goal
+use Rattle.bc_pager.proofs.tests.giving_up.give_up.Goals as goal
 
 pub returns-clause-rights : goal.returns-clause-rights
 returns-clause-rights c =

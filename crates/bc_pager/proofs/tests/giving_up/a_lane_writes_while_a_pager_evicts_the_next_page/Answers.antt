@@ -7,8 +7,8 @@ use Rattle.bc_pins.specs.Calls.{key_of, view_of}
 use Rattle.bc_pins.specs.Closing.{AreBack}
 use Rattle.bc_pins.proofs.VisitLemmas.{popped_two, dealt_at, dealt_free, visited_back, visited_roles, two_back}
 use Rattle.bc_evict.proofs.MarkLemmas.{same_seat}
-use Rattle.bc_evict.proofs.TestLemmas.{lane-owns}
-use Rattle.bc_evict.proofs.tests.a_lane_writes_while_a_pager_evicts_the_next_page.Goals as goal
+use Rattle.bc_pager.proofs.TestLemmas.{lane-owns}
+use Rattle.bc_pager.proofs.tests.giving_up.a_lane_writes_while_a_pager_evicts_the_next_page.Goals as goal
 
 pub are_done-requires-clause-lane : goal.are_done-requires-clause-lane
 are_done-requires-clause-lane g c =

@@ -10,8 +10,8 @@ use Rattle.bc_word.proofs.WordLemmas.{word_of_bits-word_bits}
 use Rattle.bc_pins.specs.declared.holding.Held.{Held}
 use Rattle.bc_pins.specs.Contents.{IsContent, RefersYoung, NamesFixed}
 use Rattle.bc_evict.proofs.ContentLemmas.{head-packed, room, field-on}
-use Rattle.bc_evict.proofs.TestLemmas.{young-written}
-use Rattle.bc_evict.proofs.tests.write_first.Goals as goal
+use Rattle.bc_pager.proofs.TestLemmas.{young-written}
+use Rattle.bc_pager.proofs.tests.giving_up.write_first.Goals as goal
 
 pub unpack_head-head-requires : goal.unpack_head-head-requires
 unpack_head-head-requires c =
