@@ -69,7 +69,7 @@ some-back v hand end s is shown = subst (λ (x : Option Held). ShowsPages v x en
 
 -- a seat reads on
 pub none-reads : (v : View) → ReadsOn v v
-none-reads v = record { same = refl; more = []; read = refl; behind = λ q far. (refl, refl) }
+none-reads v = record { same = refl; more = []; read = refl; behind = λ q far. (refl, refl); others = λ q none. (refl, refl) }
 
 pub then-reads : (u v w : View) → ReadsOn u v → ReadsOn v w → ReadsOn u w
 then-reads u v w x y = record {
@@ -80,10 +80,14 @@ then-reads u v w x y = record {
       let one = x.behind q far in
       let two = y.behind q (subst (λ (k : Key). pages_of k ≤ q) (sym (ap (λ (z : View). z.about) x.same)) far) in
       (two.0 ∙ one.0, two.1 ∙ one.1);
+  others = λ q none.
+      let one = x.others q none in
+      let two = y.others q (subst (λ (z : View). has_role z (owner z.about q) ≡ 0) (sym x.same) none) in
+      (two.0 ∙ one.0, two.1 ∙ one.1);
 }
 
 reads-word : (v : View) (page found : ℕ) → ReadsOn v (having_read v page found)
-reads-word v page found = record { same = refl; more = (page_at page, found) ∷ []; read = refl; behind = λ q far. (refl, refl) }
+reads-word v page found = record { same = refl; more = (page_at page, found) ∷ []; read = refl; behind = λ q far. (refl, refl); others = λ q none. (refl, refl) }
 
 -- a page was taken
 pub tried-about : (v : View) (page : ℕ) (b : Bool) → (tried v page Work b).about ≡ v.about
@@ -105,7 +109,7 @@ tried-reads v page true = reads-word v page 2
 tried-reads v page false = none-reads v
 
 gripping-reads : (v : View) (page : ℕ) (remembered : Bool) (homed : Homed) → ReadsOn v (gripping v page remembered homed)
-gripping-reads v page remembered homed = record { same = refl; more = (page_at page, if remembered then 2 else 1) ∷ []; read = refl; behind = λ q far. (refl, refl) }
+gripping-reads v page remembered homed = record { same = refl; more = (page_at page, if remembered then 2 else 1) ∷ []; read = refl; behind = λ q far. (refl, refl); others = λ q none. (refl, refl) }
 
 pub taken-reads : (v : View) (seat : Seat) (page : ℕ) (held : Held) → Grasps (tried v page Work held.remembered) seat page held → ReadsOn v (view_of seat)
 taken-reads v seat page held g =
@@ -156,19 +160,21 @@ entries-else : (b : Bool) (q p : ℕ) (c : List ℕ) (l : List (ℕ × List ℕ)
 entries-else true q p c l ne = let none = one_other p q ne in omega arith
 entries-else false q p c l ne = refl
 
-pub put-reads : (seat : Seat) (w : View) (held : Held) → HoldsPage seat held → w ≡ put_back (view_of seat) held → ReadsOn (view_of seat) w
-put-reads seat w held has e =
+put-else : (v : View) (held : Held) (q : ℕ) → held.page ≢ q → (entries q (put_back v held).changed ≡ entries q v.changed) × (times q (put_back v held).recorded ≡ times q v.recorded)
+put-else v held q other =
+    let none = flag_other held.remembered held.page q other in
+    (entries-else (owns v held.page) q held.page held.homed.page v.changed other, recorded_times held.remembered q held.page v.recorded ∙ omega arith)
+
+pub put-reads : (seat : Seat) (w : View) (held : Held) → HoldsPage seat held → IsOwnPage (view_of seat) held.page → w ≡ put_back (view_of seat) held → ReadsOn (view_of seat) w
+put-reads seat w held has own e =
     let v = view_of seat in
     subst (λ (x : View). ReadsOn v x) (sym e)
     (record {
       same = refl;
       more = [];
       read = refl;
-      behind = λ q far.
-          let inside = has.inside in
-          let other : held.page ≢ q = λ is. absurd (omega arith) in
-          let none = flag_other held.remembered held.page q other in
-          (entries-else (owns v held.page) q held.page held.homed.page v.changed other, recorded_times held.remembered q held.page v.recorded ∙ omega arith);
+      behind = λ q far. put-else v held q (λ is. absurd (let inside = has.inside in omega arith));
+      others = λ q none. put-else v held q (λ is. absurd (let mine = subst (λ (p : ℕ). IsOwnPage v p) is own in omega arith));
     })
 
 -- a stop at a page, told of what came before and of what follows
