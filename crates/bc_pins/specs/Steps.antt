@@ -16,7 +16,7 @@ use Rattle.bc_pins.specs.Key.{Key, owner, page_at, counter_at, bookmark_at, fram
 use Rattle.bc_pins.specs.Totals.{times}
 use Rattle.bc_pins.specs.Contents.{IsContent, RefersYoung, IsBarePage, objects_in}
 use Rattle.bc_pins.specs.Facts.{IsBitOfTarget, points}
-use Rattle.bc_pins.specs.Views.{has_role, sets_bit, opened_content, opened_word, record_of}
+use Rattle.bc_pins.specs.Views.{is_empty_handed, has_role, sets_bit, opened_content, opened_word, record_of}
 
 abbrev pub Mine : Type 0
 Mine = Me Lodged View
@@ -37,8 +37,10 @@ fresh k roles = record {
   left = [];
   emptied = [];
   fetched = [];
+  returned = [];
   seen = [];
   gone = [];
+  busy = [];
   read = [];
   bookmarked = [];
   rights = [];
@@ -66,12 +68,14 @@ no_key = record {
 abbrev pub nobody : View
 nobody = record (fresh no_key []) { alive = false }
 
--- a word of a page was read: which, and what; a Remembered is kept by all, a Gone by the lane that holds the page's domain
+-- a word of a page was read: which, and what; a Remembered is kept by all, a Gone by the lane that holds the page's domain, and so
+-- is a Held that it read with nothing in hand
 abbrev pub having_read : View → ℕ → ℕ → View
 having_read v page found = record v {
   read = (page_at page, found) ∷ v.read;
   seen = if found == 2 then page ∷ v.seen else v.seen;
   gone = if (found == 4) && owns v page then page ∷ v.gone else v.gone;
+  busy = if (found == 3) && (owns v page && is_empty_handed v.hand) then page ∷ v.busy else v.busy;
 }
 
 -- the page is in hand
@@ -89,12 +93,13 @@ gripping v page remembered homed = record v {
   });
 }
 
--- the page was put back: a lane's record is the new content
+-- the page was put back: a lane's record is the new content, and whoever isn't that lane returned it
 abbrev pub released : View → ℕ → Bool → List ℕ → View
 released v page remembered content = record v {
   hand = None;
   changed = if owns v page then (page, content) ∷ v.changed else v.changed;
   recorded = if remembered then page ∷ v.recorded else v.recorded;
+  returned = if owns v page then v.returned else page ∷ v.returned;
 }
 
 -- bits of a bookmark word were set for the page in hand, and the word was read as it was before
@@ -247,8 +252,10 @@ united v w = record v {
   left = v.left ++ w.left;
   emptied = v.emptied ++ w.emptied;
   fetched = v.fetched ++ w.fetched;
+  returned = v.returned ++ w.returned;
   seen = v.seen ++ w.seen;
   gone = v.gone ++ w.gone;
+  busy = v.busy ++ w.busy;
   read = v.read ++ w.read;
   bookmarked = v.bookmarked ++ w.bookmarked;
   rights = v.rights ++ w.rights;

@@ -48,9 +48,22 @@ marked_for page (e ∷ es) = one_if (e.0 == page) + marked_for page es
 abbrev pub has_role : View → ℕ → ℕ
 has_role v role = times role v.roles
 
+-- is nothing in hand?
+abbrev pub is_empty_handed : Option Hand → Bool
+is_empty_handed None = true
+is_empty_handed (Some h) = false
+
 -- is the view that of the lane which holds the page's domain?
 abbrev pub Owns : Key → View → ℕ → Type 0
 Owns k v page = 0 < has_role v (owner k page)
+
+-- how often the view has the page in hand where it isn't that of this lane; and how often it keeps, or kept, the page from the
+-- lane: it has it in hand so, put it back so, or made it Gone or Absent
+abbrev pub grips_foreign : Key → ℕ → View → ℕ
+grips_foreign k page v = if has_role v (owner k page) == 0 then grips page v.hand else 0
+
+abbrev pub withholds : Key → ℕ → View → ℕ
+withholds k page v = grips_foreign k page v + (times page v.returned + (times page v.left + times page v.emptied))
 
 -- how many entries of the list are of the page, and the content that the first of them has
 abbrev pub entries : ℕ → List (ℕ × List ℕ) → ℕ
