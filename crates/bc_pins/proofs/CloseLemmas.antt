@@ -17,25 +17,10 @@ use Rattle.bc_pins.specs.Views.{grips, grips_remembered, frame_in_hand, counted_
 use Rattle.bc_pins.specs.Facts.{Table, Slot, word, Lies, Summary, Frames, frame_lodged, points, adds_to, Bits, IsIdle, page_word, IsBitOfTarget}
 use Rattle.bc_pins.specs.Rule.{Rule}
 use Rattle.bc_pins.specs.Opening.{ClosesPage, HasClosed}
-use Rattle.bc_pins.proofs.TotalLemmas.{total_two, one_same}
+use Rattle.bc_pins.proofs.TotalLemmas.{total_only, total_two, one_same}
 use Rattle.bc_pins.proofs.ReadLemmas.{remembered_word}
 use Rattle.bc_pins.proofs.JoinLemmas.{look_none}
 use Rattle.bc_pins.proofs.SumLemmas.{sum_same}
-
-total_only : {A : Type 0} (f : A → ℕ) (vs : List A) (j : ℕ) (v : A) → get_elem? vs j ≡ some v → ((i : ℕ) (u : A) → i ≢ j → get_elem? vs i ≡ some u → f u ≡ 0) → total f vs ≡ f v
-total_only f [] j v e others = absurd (some-ne-none v (sym e))
-total_only f (x ∷ xs) zero v e others =
-    let is : f x ≡ f v = ap f (some-injective x v e) in
-    let rest = all_none xs (λ i u at. others (suc i) u (λ z. omega arith) at) in
-    omega arith
-  where
-    all_none : (xs : List _) → ((i : ℕ) (u : _) → get_elem? xs i ≡ some u → f u ≡ 0) → total f xs ≡ 0
-    all_none [] each = refl
-    all_none (x ∷ xs) each = let here = each 0 x refl in let t = all_none xs (λ i. each (suc i)) in omega arith
-total_only f (x ∷ xs) (suc j) v e others =
-    let here = others 0 x (λ z. omega arith) refl in
-    let t = total_only f xs j v e (λ i u ne at. others (suc i) u (λ z. ne (omega arith)) at) in
-    omega arith
 
 none_times : (l : List ℕ) → ((r : ℕ) → times r l ≡ 0) → l ≡ []
 none_times [] each = refl

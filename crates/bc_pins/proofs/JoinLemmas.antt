@@ -159,6 +159,12 @@ module _ (k : Key) (s : Table) (r : Rule k s) (id other : ℕ) (v w : View) (at 
           let b = theirs.records.others p (omega arith) in
           let c = entries_append p v.changed w.changed in
           omega arith;
+      unrecorded = λ p z.
+          let both = times_append (owner k p) v.roles w.roles in
+          let a = mine.records.unrecorded p (omega arith) in
+          let b = theirs.records.unrecorded p (omega arith) in
+          let c = times_append p v.recorded w.recorded in
+          omega arith;
       in_hand = mine.records.in_hand;
     };
     saw = record {
@@ -207,7 +213,7 @@ module _ (k : Key) (s : Table) (r : Rule k s) (id other : ℕ) (v w : View) (at 
   spent : SeatFacts k (with_views s views) r.rec nobody
   spent = record {
     seated = record { about = λ e. absurd (not_alive e); unfetched = refl; idle = λ _. record { hand = refl; rights = refl; recorded = refl; left = refl; emptied = refl; fetched = refl; bookmarked = refl } };
-    records = record { mine = λ p lt. absurd (omega arith); others = λ p _. refl; in_hand = λ h e. absurd (no_hand h e) };
+    records = record { mine = λ p lt. absurd (omega arith); others = λ p _. refl; unrecorded = λ p _. refl; in_hand = λ h e. absurd (no_hand h e) };
     saw = record { seen = λ p lt. absurd (omega arith); gone = λ p lt. absurd (omega arith) };
     marking = no_marking nobody refl refl;
     targets = no_targets k r.rec nobody refl;

@@ -305,6 +305,7 @@ module _ (k : Key) (s : Table) (r : Rule k s) (rec' : ℕ → List ℕ) (p x : �
         records = record {
           mine = λ q mine. lane_else j u ne is q mine ∙ old.records.mine q mine;
           others = old.records.others;
+          unrecorded = old.records.unrecorded;
           in_hand = λ h has. let was = old.records.in_hand h has in (was.0, was.1 ∙ sym (hand_else j u ne is h has was.0));
         };
         saw = record {

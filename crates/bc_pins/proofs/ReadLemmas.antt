@@ -203,7 +203,7 @@ look_step k s r p id v at near about =
         unfetched = facts.seated.unfetched;
         idle = λ e. let a = facts.seated.idle e in record { hand = a.hand; rights = a.rights; recorded = a.recorded; left = a.left; emptied = a.emptied; fetched = a.fetched; bookmarked = a.bookmarked };
       };
-      records = record { mine = facts.records.mine; others = facts.records.others; in_hand = facts.records.in_hand };
+      records = record { mine = facts.records.mine; others = facts.records.others; unrecorded = facts.records.unrecorded; in_hand = facts.records.in_hand };
       saw = looked_saw k s p id v at wide near about facts.saw;
     }
 

@@ -114,11 +114,12 @@ pub record Standing (k : Key) (s : Table) (page : ℕ) : Type 0 where
   pub absent : one_if (page_word s page == 0) ≡ one_if (opened_word k page == 0) + total (λ (v : View). times page v.emptied) s.views
   pub busy : 0 < total (λ (v : View). times page v.busy) s.views → 0 < total (withholds k page) s.views
 
--- Content, of one seat: the lane that holds a page's domain records its content, and nobody else changes it. What a seat has in
--- hand has the content that it took
+-- Content, of one seat: the lane that holds a page's domain records its content and that it is remembered, and nobody else does. What
+-- a seat has in hand has the content that it took
 pub record RecordsContent (k : Key) (rec : ℕ → List ℕ) (v : View) : Type 0 where
   pub mine : (p : ℕ) → 0 < has_role v (owner k p) → rec p ≡ record_of v p
   pub others : (p : ℕ) → has_role v (owner k p) ≡ 0 → entries p v.changed ≡ 0
+  pub unrecorded : (p : ℕ) → has_role v (owner k p) ≡ 0 → times p v.recorded ≡ 0
   pub in_hand : (h : Hand) → v.hand ≡ Some h → (h.page < pages_of k) × (h.content ≡ rec h.page)
 
 -- Seen: a page that was read as Remembered is Remembered or in hand so, and an own page that was read as Gone is Gone

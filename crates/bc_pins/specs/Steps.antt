@@ -93,12 +93,12 @@ gripping v page remembered homed = record v {
   });
 }
 
--- the page was put back: a lane's record is the new content, and whoever isn't that lane returned it
+-- the page was put back: a lane's record is the new content, and whether it is remembered, and whoever isn't that lane returned it
 abbrev pub released : View → ℕ → Bool → List ℕ → View
 released v page remembered content = record v {
   hand = None;
   changed = if owns v page then (page, content) ∷ v.changed else v.changed;
-  recorded = if remembered then page ∷ v.recorded else v.recorded;
+  recorded = if remembered && owns v page then page ∷ v.recorded else v.recorded;
   returned = if owns v page then v.returned else page ∷ v.returned;
 }
 
@@ -188,13 +188,15 @@ pub record ReadsWord (v : View) (page found : ℕ) : Type 0 where
   pub gone : 0 < times page v.gone → found ≡ 4
 
 -- what the box tells of a page that was taken from Home, or from Home and remembered. Its content is what the lane that holds the
--- page's domain put back last, and where none does that of the opening. It wasn't Gone at the opening
+-- page's domain put back last, and where none does that of the opening. An own page is remembered exactly where it was so at the
+-- opening or the seat put it back so. It wasn't Gone at the opening
 pub record Takes (v : View) (page : ℕ) (remembered : Bool) (homed : Homed) : Type 0 where
   pub mine : 0 < has_role v (owner v.about page) → homed.page ≡ record_of v page
   pub unowned : times (owner v.about page) v.about.roles ≡ 0 → homed.page ≡ opened_content v.about page
   pub fixed : IsContent v.about.opening page homed.page
   pub young : RefersYoung v.about.opening page homed.page → remembered ≡ true
   pub recorded : 0 < one_if (opened_word v.about page == 2) + times page v.recorded → remembered ≡ true
+  pub found : remembered ≡ true → 0 < has_role v (owner v.about page) → 0 < one_if (opened_word v.about page == 2) + times page v.recorded
   pub here : opened_word v.about page ≢ 4
 
 -- Take: the page is in hand with its box, or the word that was read is told

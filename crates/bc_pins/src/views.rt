@@ -41,7 +41,7 @@ pub struct View {
     pub hand: Option<Hand>,
     /// A lane's own pages that it put back, the last first, each with the content.
     pub changed: LinkedList<(u32, Page)>,
-    /// Pages that it put back as Remembered, made Gone, made Absent, and took from Gone.
+    /// A lane's own pages that it put back as Remembered; and pages that it made Gone, made Absent, and took from Gone.
     pub recorded: LinkedList<u32>,
     pub left: LinkedList<u32>,
     pub emptied: LinkedList<u32>,
