@@ -5,7 +5,7 @@ use Rattle.bc_lane.specs.Shown.{HasPage, IsOwnPage, ShowsPages}
 use Rattle.bc_lane.specs.Turns.{HasInHand, IsReadStop, ReadLast, ReadsOn}
 use Rattle.bc_lane.specs.declared.stops.Stop.{Stop}
 use Rattle.bc_lane.specs.declared.stops.Stop.TheVariants as stop
-use Rattle.bc_lane.proofs.PageLemmas.{shows-back, shows-given, shows-read, shows-taken}
+use Rattle.bc_lane.proofs.PageLemmas.{recorded-else, shows-back, shows-given, shows-read, shows-taken}
 use Rattle.bc_pins.specs.declared.holding.Held.{Held}
 use Rattle.bc_pins.specs.declared.pins.Seat.{Seat}
 use Rattle.bc_pins.specs.declared.taking.TakeNo.{TakeNo}
@@ -21,8 +21,7 @@ use Rattle.bc_pins.specs.Steps.{Takes, both_slots, gripping, having_read, owns}
 use Rattle.bc_pins.specs.Totals.{times}
 use Rattle.bc_pins.specs.Views.{entries, has_role}
 use Rattle.bc_pins.specs.declared.views.Lodged.TheVariants.{Nothing}
-use Rattle.bc_pins.proofs.GiveLemmas.{recorded_times}
-use Rattle.bc_pins.proofs.TakeLemmas.{flag_other, some_hand}
+use Rattle.bc_pins.proofs.TakeLemmas.{some_hand}
 use Rattle.bc_pins.proofs.TotalLemmas.{one_other, one_same}
 use Rattle.bc_pins.proofs.VisitLemmas.{holds_taken}
 use Rattle.bc_superpages.specs.Layout.{Layout}
@@ -73,7 +72,7 @@ none-reads v = record { same = refl; more = []; read = refl; behind = λ q far. 
 
 pub then-reads : (u v w : View) → ReadsOn u v → ReadsOn v w → ReadsOn u w
 then-reads u v w x y = record {
-  same = y.same ∙ ap (λ (z : View). record z { hand = w.hand; changed = w.changed; recorded = w.recorded; seen = w.seen; gone = w.gone; read = w.read }) x.same;
+  same = y.same ∙ ap (λ (z : View). record z { hand = w.hand; changed = w.changed; recorded = w.recorded; seen = w.seen; gone = w.gone; busy = w.busy; read = w.read }) x.same;
   more = y.more ++ x.more;
   read = y.read ∙ ap (λ (l : List (ℕ × ℕ)). y.more ++ l) x.read ∙ sym (append_assoc y.more x.more u.read);
   behind = λ q far.
@@ -162,8 +161,7 @@ entries-else false q p c l ne = refl
 
 put-else : (v : View) (held : Held) (q : ℕ) → held.page ≢ q → (entries q (put_back v held).changed ≡ entries q v.changed) × (times q (put_back v held).recorded ≡ times q v.recorded)
 put-else v held q other =
-    let none = flag_other held.remembered held.page q other in
-    (entries-else (owns v held.page) q held.page held.homed.page v.changed other, recorded_times held.remembered q held.page v.recorded ∙ omega arith)
+    (entries-else (owns v held.page) q held.page held.homed.page v.changed other, recorded-else v held q other)
 
 pub put-reads : (seat : Seat) (w : View) (held : Held) → HoldsPage seat held → IsOwnPage (view_of seat) held.page → w ≡ put_back (view_of seat) held → ReadsOn (view_of seat) w
 put-reads seat w held has own e =
@@ -182,15 +180,16 @@ pub stop-since : (u v w : View) (why : Stop) → ReadsOn u v → IsReadStop v w 
 stop-since u v w stop.End reads is = tt
 stop-since u v w stop.NurseryFull reads is = tt
 stop-since u v w stop.BufferFull reads is = tt
-stop-since u v w (stop.Busy page) reads is = let long = ap length reads.read ∙ length-append reads.more u.read in omega arith
+stop-since u v w (stop.Busy page) reads is = (let long = ap length reads.read ∙ length-append reads.more u.read in let since = is.0 in omega arith, is.1)
 stop-since u v w (stop.Gone page) reads is = (let long = ap length reads.read ∙ length-append reads.more u.read in let since = is.0 in omega arith, is.1)
 
-pub stop-laid : (u v w : View) (why : Stop) → w.read ≡ v.read → w.gone ≡ v.gone → IsReadStop u v why → IsReadStop u w why
-stop-laid u v w stop.End read gone is = tt
-stop-laid u v w stop.NurseryFull read gone is = tt
-stop-laid u v w stop.BufferFull read gone is = tt
-stop-laid u v w (stop.Busy page) read gone is = subst (λ (l : List (ℕ × ℕ)). length u.read < length l) (sym read) is
-stop-laid u v w (stop.Gone page) read gone is =
+pub stop-laid : (u v w : View) (why : Stop) → w.read ≡ v.read → w.gone ≡ v.gone → w.busy ≡ v.busy → IsReadStop u v why → IsReadStop u w why
+stop-laid u v w stop.End read gone busy is = tt
+stop-laid u v w stop.NurseryFull read gone busy is = tt
+stop-laid u v w stop.BufferFull read gone busy is = tt
+stop-laid u v w (stop.Busy page) read gone busy is =
+    (subst (λ (l : List (ℕ × ℕ)). length u.read < length l) (sym read) is.0, subst (λ (l : List ℕ). 0 < times page l) (sym busy) is.1)
+stop-laid u v w (stop.Gone page) read gone busy is =
     (subst (λ (l : List (ℕ × ℕ)). length u.read < length l) (sym read) is.0, subst (λ (l : List ℕ). 0 < times page l) (sym gone) is.1)
 
 pub refused-shown : (v w : View) (page : ℕ) (want : Want) (refusal : TakeNo) (end : ℕ) (s : Layout) → IsTakeRefused v page want refusal w → ShowsPages v None end s → ShowsPages w None end s
