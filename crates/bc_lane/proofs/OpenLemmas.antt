@@ -25,7 +25,7 @@ gone-word Remembered e = absurd (cc)
 gone-word Held e = absurd (cc)
 gone-word Gone e = refl
 
-remembered-word : (s : PageState) → 0 < one_if (state_word s == 2) → s ≡ Remembered
+pub remembered-word : (s : PageState) → 0 < one_if (state_word s == 2) → s ≡ Remembered
 remembered-word Absent lt = absurd (omega arith)
 remembered-word Home lt = absurd (omega arith)
 remembered-word Remembered lt = refl
