@@ -163,7 +163,7 @@ laid-running h k hs laid run =
       none_promised = run.none_promised;
       laid = run.laid;
       once = run.once;
-      closed = closed-laid h.space k.space.states k.space.free k.space.bookmarks k.space.incoming k.space.reads h.roots k.roots.noted h.chunks h.buffers hs laid.pages.remembered
+      closed = closed-laid h.space k.space.states k.space.free k.space.bookmarks k.space.incoming k.space.reads h.roots k.roots.noted h.chunks h.buffers hs (λ p. (laid.pages.remembered p).0)
           (λ i a lt to.
           subst (λ (s : Layout). IsAllocated s a.0 ⊎ Has k.roots.noted i) same
           (laid.noted i a (omega (arith, lt, ap length words)) (ap (λ (ws : List ℕ). word_of_bits (get_or ws i 0)) words ∙ to)))

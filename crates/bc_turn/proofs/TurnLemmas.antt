@@ -155,7 +155,7 @@ module _ (h : HeapView) (hs serials : List ℕ) (lanes : List (List Op)) (before
       let many = set.stands.lanes in
       let most = set.stands.consistent.lanes in
       let long_lanes = sizes in
-      begun-lane pins h hs serials lanes (lists_of before) busy t.roots t.told (turn_at d runs i) (seat_at d runs i) lane seats set.layout set.long (may-operate h hs lane set.running set.layout set.domains set.whole (omega arith)) (set.state, set.stands) table set.opened.lanes
+      begun-lane pins h hs serials lanes (lists_of before) busy t.roots t.told (turn_at d runs i) (seat_at d runs i) lane set.layout set.long (may-operate h hs lane set.running set.layout set.domains set.whole (omega arith)) (set.state, set.stands) table set.opened.lanes
       (dealt i lt d) (record { rising = t.domains.rising; all = t.domains.all; long = t.words.long; each = t.words.each; packed = t.words.packed }) t.told_are t.prepared within (omega arith) (set.births lane)
 
   pub begun : (d : Run) → AreBegun pins h hs serials lanes (lists_of before) busy (turn_at d runs) (seat_at d runs)
