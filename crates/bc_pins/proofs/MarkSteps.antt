@@ -242,6 +242,8 @@ module _ (k : Key) (s : Table) (r : Rule k s) (id role : ℕ) (v : View) (h : Ha
           left = refl;
           emptied = refl;
           fetched = refl;
+          returned = refl;
+          busy = refl;
           seen = refl;
           gone = refl;
           roles = refl;
@@ -365,6 +367,8 @@ module _ (k : Key) (s : Table) (r : Rule k s) (id role : ℕ) (v : View) (h : Ha
           left = refl;
           emptied = refl;
           fetched = refl;
+          returned = refl;
+          busy = refl;
           seen = refl;
           gone = refl;
           roles = refl;
