@@ -16,12 +16,13 @@ use Rattle.bc_pins.specs.declared.views.View.{View}
 use Rattle.bc_pins.specs.Key.{Key, pages_of, owner, page_at, frame_slot, store_slot, home_slot}
 use Rattle.bc_pins.specs.Totals.{total, times}
 use Rattle.bc_pins.specs.Contents.{IsContent, RefersYoung}
-use Rattle.bc_pins.specs.Views.{grips, grips_remembered, frame_in_hand, counted_for, marked_for, has_role, entries, look_up, opened_content}
+use Rattle.bc_pins.specs.Views.{grips, grips_remembered, frame_in_hand, counted_for, marked_for, has_role, withholds, entries, look_up, opened_content}
 use Rattle.bc_pins.specs.Facts.{Table, slot, IsHomed, Lies, RecordsContent, Marking, frame_lodged, points, page_word, IsBitOfTarget, MarksTargets}
 use Rattle.bc_pins.specs.Tidy.{IsTidy}
 use Rattle.bc_pins.specs.Rule.{Rule}
 use Rattle.bc_pins.specs.Steps.{Mine, owns, both_slots, released, Gave}
 use Rattle.bc_pins.proofs.TotalLemmas.{total_set, total_at, one_same, one_other, one_is}
+use Rattle.bc_pins.proofs.WithholdLemmas.{foreign_few, foreign_own}
 use Rattle.bc_pins.proofs.PageSteps.{after, sets_marked, left_gone, PageStep, page_step}
 use Rattle.bc_pins.proofs.ReadLemmas.{same_page, saw_kept}
 use Rattle.bc_pins.proofs.TakeLemmas.{Slots, flag_is, flag_other, none_either}
@@ -52,6 +53,10 @@ both_on false c on = refl
 both_off : (b c : Bool) (n : ℕ) → c ≡ false → (if b && c then n else 0) ≡ 0
 both_off true c n off = ap (λ (t : Bool). if t then n else 0) off
 both_off false c n off = refl
+
+returned_other : (b : Bool) (q p : ℕ) (l : List ℕ) → q ≢ p → times q (if b then l else p ∷ l) ≡ times q l
+returned_other true q p l ne = refl
+returned_other false q p l ne = let z = one_other p q (λ e. ne (sym e)) in omega arith
 
 changed_entries : (b : Bool) (q p : ℕ) (c : List ℕ) (l : List (ℕ × List ℕ)) → entries q (if b then (p, c) ∷ l else l) ≡ (if b then one_if (p == q) else 0) + entries q l
 changed_entries true q p c l = refl
@@ -269,6 +274,25 @@ module _ (k : Key) (s : Table) (r : Rule k s) (id x role : ℕ) (v : View) (g : 
         inl (omega arith)
   ]
 
+  -- whoever isn't the page's lane returned it
+  withheld : withholds k p v ≤ withholds k p w
+  withheld = elim (cases_lt 0 (has_role v (owner k p))) [
+    | inl mine ↦
+        let a = foreign_own k p v mine in
+        let b : times p w.returned ≡ times p v.returned = ap (λ (b : Bool). times p (if b then v.returned else p ∷ v.returned)) (owning mine) in
+        omega arith
+    | inr le ↦
+        let off : owns v p ≡ false = not_true (owns v p) (not_owning p refl (omega arith)) in
+        let a = foreign_few k p v in
+        let b : times p w.returned ≡ times p (p ∷ v.returned) = ap (λ (b : Bool). times p (if b then v.returned else p ∷ v.returned)) off in
+        let c = grip_is p in
+        omega arith
+  ]
+    where
+      not_true : (b : Bool) → (b ≡ true → ⊥) → b ≡ false
+      not_true true no_true = absurd (no_true refl)
+      not_true false no_true = refl
+
   give_step : PageStep k s r.rec rec' p x homes id v w
   give_step =
       let slots = r.slots in
@@ -324,6 +348,10 @@ module _ (k : Key) (s : Table) (r : Rule k s) (id x role : ℕ) (v : View) (g : 
         else_fetched = λ q ne. refl;
         else_left = λ q ne. refl;
         else_emptied = λ q ne. refl;
+        withheld = withheld;
+        noted_busy = λ lt. absurd (omega arith);
+        else_returned = λ q ne. returned_other (owns v p) q p v.returned ne;
+        else_busy = λ q ne. refl;
         stays = λ e _. absurd (not_four e);
         count = λ q lt. let a = hand_counted p q in let b = never_four (points k p (rec' p) q) in let c = was_no_four (points k p (r.rec p) q) in omega arith;
         else_count = λ j q ne. sym (hand_counted j q);

@@ -243,6 +243,8 @@ module _ (k : Key) (s : Table) (r : Rule k s) (id role : ℕ) (v : View) (h : Ha
           left = refl;
           emptied = refl;
           fetched = refl;
+          returned = refl;
+          busy = refl;
           seen = refl;
           gone = refl;
           roles = refl;
@@ -366,6 +368,8 @@ module _ (k : Key) (s : Table) (r : Rule k s) (id role : ℕ) (v : View) (h : Ha
           left = refl;
           emptied = refl;
           fetched = refl;
+          returned = refl;
+          busy = refl;
           seen = refl;
           gone = refl;
           roles = refl;

@@ -22,6 +22,7 @@ use Rattle.bc_pins.specs.Facts.{Table, slot, IsHomed, Lies, remembered_now, Reco
 use Rattle.bc_pins.specs.Rule.{Rule}
 use Rattle.bc_pins.specs.Steps.{Mine, both_slots, gripping, having_read, ReadsWord, Takes, Took}
 use Rattle.bc_pins.proofs.TotalLemmas.{total_set, total_at, total_none, total_only, total_two, one_same, one_other}
+use Rattle.bc_pins.proofs.WithholdLemmas.{foreign_none}
 use Rattle.bc_pins.proofs.PageSteps.{after, PageStep, page_step}
 use Rattle.bc_pins.proofs.ReadLemmas.{same_page, saw_kept, remembered_word, reads, look_step}
 
@@ -185,6 +186,10 @@ module _ (k : Key) (s : Table) (r : Rule k s) (p id old role : ℕ) (v : View) (
         else_fetched = λ q ne. refl;
         else_left = λ q ne. refl;
         else_emptied = λ q ne. refl;
+        withheld = (let z = foreign_none k p v nothing in omega arith);
+        noted_busy = λ lt. absurd (omega arith);
+        else_returned = λ q ne. refl;
+        else_busy = λ q ne. refl;
         stays = λ x _. absurd (not_four x);
         count = λ q lt. let a = no_count p q in let b = hand_counts p q in let c = not_gone (points k p (r.rec p) q) in omega arith;
         else_count = λ j q ne. hand_counts j q ∙ sym (no_count j q);
