@@ -1,5 +1,5 @@
 -- What one view says: what it has in hand, which content it records of a page, which roles it has.
-use Rattle.std.specs.Prelude.{ℕ, ◌+◌, ◌==◌, ◌&&◌, ◌<◌, Bool, if◌then◌else◌, List, [], ◌∷◌, Option, Some, None}
+use Rattle.std.specs.Prelude.{ℕ, ◌+◌, ◌==◌, ◌&&◌, ◌<◌, Bool, true, false, if◌then◌else◌, List, [], ◌∷◌, Option, Some, None}
 use Rattle.std.specs.Int.{bit_at}
 use Rattle.bc_bits.specs.Counting.{one_if}
 use Rattle.bc_superpages.specs.declared.headers.PageState.{PageState}
