@@ -205,10 +205,10 @@ module _ (k : Key) (s : Table) (r : Rule k s) (p id old role : ℕ) (v : View) (
   -- no other seat has the role of the lane that holds the page's domain, so none records that the page is remembered
   recorded_alone : 0 < has_role v (owner k p) → total (λ (u : View). times p u.recorded) s.views ≡ times p v.recorded
   recorded_alone mine = total_only (λ (u : View). times p u.recorded) s.views id v at (λ j u ne is. (r.seats j u is).records.unrecorded p (
-    let two = total_two (λ (z : View). has_role z (owner k p)) s.views j id u v ne is at in
-    let each = r.roles.each (owner k p) in
-    let apart = r.roles.apart (owner k p) in
-    omega arith))
+      let two = total_two (λ (z : View). has_role z (owner k p)) s.views j id u v ne is at in
+      let each = r.roles.each (owner k p) in
+      let apart = r.roles.apart (owner k p) in
+      omega arith))
 
   told : Takes v p flag h
   told =
