@@ -353,7 +353,7 @@ sizes-from {hs} {lanes} {h} {k} {serials} {nexts} {told} ran (suc m) n all =
     (sizes-from ran m (suc n) (omega arith))
 
 -- each lane stopped where it left the heap to the next one
-pub together-stopped : {lanes : List (List Op)} {r q : RunningView} {before after : List (Vec Reply Global)} → RanAbreast lanes r before q after → EachStopped StopsInTurn lanes r before q after
+pub together-stopped : {lanes : List (List Op)} {r q : RunningView} {before after : List (Vec Reply Global)} → RanAbreast lanes r before q after → EachStopped (StopsInTurn q.heap.space) lanes r before q after
 together-stopped {lanes} {r} {q} {before} {after} b j lt =
     let one : j + 1 ≡ suc j = omega arith in
     let own = own-from b.ran (length lanes - suc j) (suc j) j (omega arith) (omega arith) in
@@ -371,6 +371,6 @@ together-stopped {lanes} {r} {q} {before} {after} b j lt =
       buffer = own.1;
       same = sym same;
       why =
-          subst (λ (rs : List Reply). IsAtEndOr (of_lane lanes j) rs (λ op. StopsBeside r.holders j op (b.ran.at (suc j)))) (sym same)
-          (subst (λ (n : ℕ). IsAtEndOr (of_lane lanes j) (of_lane (lists_of after) j) (λ op. StopsBeside r.holders j op (b.ran.at n))) one (b.ran.stopped j lt));
+          subst (λ (rs : List Reply). IsAtEndOr (of_lane lanes j) rs (λ op. StopsBeside r.holders j op (b.ran.at (suc j)) q.heap.space)) (sym same)
+          (subst (λ (n : ℕ). IsAtEndOr (of_lane lanes j) (of_lane (lists_of after) j) (λ op. StopsBeside r.holders j op (b.ran.at n) q.heap.space)) one (b.ran.stopped j lt));
     }

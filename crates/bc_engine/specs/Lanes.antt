@@ -19,6 +19,7 @@ use Rattle.bc_engine.specs.Engines.{EngineView}
 use Rattle.bc_engine.specs.EngineFacts.{CanRunLanes}
 use Rattle.bc_running.specs.Running.{RunningView, RunningStands}
 use Rattle.bc_running.specs.Touching.{LooksAtGone}
+use Rattle.bc_superpages.specs.Layout.{Layout}
 use Rattle.bc_turn.specs.Beside.{StopsBeside}
 pub use Rattle.bc_turn.specs.Beside.{IsAtEndOr}
 use Rattle.bc_turn.specs.Taking.{HasAllReplyRoom}
@@ -90,10 +91,11 @@ Stops lane op r =
     ⊎ (NeedsEntry r.holders lane r.heap.space r.heap.roots (chunk_of r.heap.chunks lane) (buffer_of r.heap.buffers lane) op
     ⊎ (LooksAtGone r.holders lane r.heap.space r.heap.roots op × NoPageGoes r.heap.space))
 
--- an operation of a lane can't be done yet where the lanes run side by side: the object takes more words than are left of the chunk, or
--- an entry is needed and the write buffer is at capacity, or it looks at an object in a cell
-abbrev pub StopsInTurn : ℕ → Op → RunningView → Type 0
-StopsInTurn lane op r = StopsBeside r.holders lane op r.heap
+-- an operation of a lane can't be done yet where the lanes run side by side, in a turn that leaves the space t: the object takes more
+-- words than are left of the chunk, or an entry is needed and the write buffer is at capacity, or it looks at an object in a cell on a
+-- page that is Gone in t
+abbrev pub StopsInTurn : Layout → ℕ → Op → RunningView → Type 0
+StopsInTurn t lane op r = StopsBeside r.holders lane op r.heap t
 
 -- what lanes leave as it is: of the space all but states and contents of pages, free frames, bookmarks, counters and reads, so no cell
 -- is freed or moved, and of the root slots all but what they hold

@@ -31,7 +31,7 @@ hints_of lines turn = hints_at lines (turn % length lines)
 -- heap was settled
 abbrev pub RanTogether : List (List Op) → RunningView → List (Vec Reply Global) → List Answer → List ℕ → RunningView → RunningView → List (Vec Reply Global) → List Answer → Type 0
 RanTogether lanes r before kept hints mid q after told =
-    EachStopped StopsInTurn lanes r before mid after
+    EachStopped (StopsInTurn mid.heap.space) lanes r before mid after
     × AnsweredBeside r.heap.space hints kept told mid.heap.space
     × Settled mid.heap.space q.heap.space
 

@@ -5,7 +5,7 @@ use Rattle.bc_lane.specs.Shown.{HasPage, IsOwnPage, ShowsPages}
 use Rattle.bc_lane.specs.Turns.{HasInHand, IsReadStop, ReadLast, ReadsOn}
 use Rattle.bc_lane.specs.declared.stops.Stop.{Stop}
 use Rattle.bc_lane.specs.declared.stops.Stop.TheVariants as stop
-use Rattle.bc_lane.proofs.PageLemmas.{shows-back, shows-given, shows-read, shows-taken}
+use Rattle.bc_lane.proofs.PageLemmas.{recorded-else, shows-back, shows-given, shows-read, shows-taken}
 use Rattle.bc_pins.specs.declared.holding.Held.{Held}
 use Rattle.bc_pins.specs.declared.pins.Seat.{Seat}
 use Rattle.bc_pins.specs.declared.taking.TakeNo.{TakeNo}
@@ -21,8 +21,7 @@ use Rattle.bc_pins.specs.Steps.{Takes, both_slots, gripping, having_read, owns}
 use Rattle.bc_pins.specs.Totals.{times}
 use Rattle.bc_pins.specs.Views.{entries, has_role}
 use Rattle.bc_pins.specs.declared.views.Lodged.TheVariants.{Nothing}
-use Rattle.bc_pins.proofs.GiveLemmas.{recorded_times}
-use Rattle.bc_pins.proofs.TakeLemmas.{flag_other, some_hand}
+use Rattle.bc_pins.proofs.TakeLemmas.{some_hand}
 use Rattle.bc_pins.proofs.TotalLemmas.{one_other, one_same}
 use Rattle.bc_pins.proofs.VisitLemmas.{holds_taken}
 use Rattle.bc_superpages.specs.Layout.{Layout}
@@ -69,21 +68,25 @@ some-back v hand end s is shown = subst (λ (x : Option Held). ShowsPages v x en
 
 -- a seat reads on
 pub none-reads : (v : View) → ReadsOn v v
-none-reads v = record { same = refl; more = []; read = refl; behind = λ q far. (refl, refl) }
+none-reads v = record { same = refl; more = []; read = refl; behind = λ q far. (refl, refl); others = λ q none. (refl, refl) }
 
 pub then-reads : (u v w : View) → ReadsOn u v → ReadsOn v w → ReadsOn u w
 then-reads u v w x y = record {
-  same = y.same ∙ ap (λ (z : View). record z { hand = w.hand; changed = w.changed; recorded = w.recorded; seen = w.seen; gone = w.gone; read = w.read }) x.same;
+  same = y.same ∙ ap (λ (z : View). record z { hand = w.hand; changed = w.changed; recorded = w.recorded; seen = w.seen; gone = w.gone; busy = w.busy; read = w.read }) x.same;
   more = y.more ++ x.more;
   read = y.read ∙ ap (λ (l : List (ℕ × ℕ)). y.more ++ l) x.read ∙ sym (append_assoc y.more x.more u.read);
   behind = λ q far.
       let one = x.behind q far in
       let two = y.behind q (subst (λ (k : Key). pages_of k ≤ q) (sym (ap (λ (z : View). z.about) x.same)) far) in
       (two.0 ∙ one.0, two.1 ∙ one.1);
+  others = λ q none.
+      let one = x.others q none in
+      let two = y.others q (subst (λ (z : View). has_role z (owner z.about q) ≡ 0) (sym x.same) none) in
+      (two.0 ∙ one.0, two.1 ∙ one.1);
 }
 
 reads-word : (v : View) (page found : ℕ) → ReadsOn v (having_read v page found)
-reads-word v page found = record { same = refl; more = (page_at page, found) ∷ []; read = refl; behind = λ q far. (refl, refl) }
+reads-word v page found = record { same = refl; more = (page_at page, found) ∷ []; read = refl; behind = λ q far. (refl, refl); others = λ q none. (refl, refl) }
 
 -- a page was taken
 pub tried-about : (v : View) (page : ℕ) (b : Bool) → (tried v page Work b).about ≡ v.about
@@ -105,7 +108,7 @@ tried-reads v page true = reads-word v page 2
 tried-reads v page false = none-reads v
 
 gripping-reads : (v : View) (page : ℕ) (remembered : Bool) (homed : Homed) → ReadsOn v (gripping v page remembered homed)
-gripping-reads v page remembered homed = record { same = refl; more = (page_at page, if remembered then 2 else 1) ∷ []; read = refl; behind = λ q far. (refl, refl) }
+gripping-reads v page remembered homed = record { same = refl; more = (page_at page, if remembered then 2 else 1) ∷ []; read = refl; behind = λ q far. (refl, refl); others = λ q none. (refl, refl) }
 
 pub taken-reads : (v : View) (seat : Seat) (page : ℕ) (held : Held) → Grasps (tried v page Work held.remembered) seat page held → ReadsOn v (view_of seat)
 taken-reads v seat page held g =
@@ -156,19 +159,20 @@ entries-else : (b : Bool) (q p : ℕ) (c : List ℕ) (l : List (ℕ × List ℕ)
 entries-else true q p c l ne = let none = one_other p q ne in omega arith
 entries-else false q p c l ne = refl
 
-pub put-reads : (seat : Seat) (w : View) (held : Held) → HoldsPage seat held → w ≡ put_back (view_of seat) held → ReadsOn (view_of seat) w
-put-reads seat w held has e =
+put-else : (v : View) (held : Held) (q : ℕ) → held.page ≢ q → (entries q (put_back v held).changed ≡ entries q v.changed) × (times q (put_back v held).recorded ≡ times q v.recorded)
+put-else v held q other =
+    (entries-else (owns v held.page) q held.page held.homed.page v.changed other, recorded-else v held q other)
+
+pub put-reads : (seat : Seat) (w : View) (held : Held) → HoldsPage seat held → IsOwnPage (view_of seat) held.page → w ≡ put_back (view_of seat) held → ReadsOn (view_of seat) w
+put-reads seat w held has own e =
     let v = view_of seat in
     subst (λ (x : View). ReadsOn v x) (sym e)
     (record {
       same = refl;
       more = [];
       read = refl;
-      behind = λ q far.
-          let inside = has.inside in
-          let other : held.page ≢ q = λ is. absurd (omega arith) in
-          let none = flag_other held.remembered held.page q other in
-          (entries-else (owns v held.page) q held.page held.homed.page v.changed other, recorded_times held.remembered q held.page v.recorded ∙ omega arith);
+      behind = λ q far. put-else v held q (λ is. absurd (let inside = has.inside in omega arith));
+      others = λ q none. put-else v held q (λ is. absurd (let mine = subst (λ (p : ℕ). IsOwnPage v p) is own in omega arith));
     })
 
 -- a stop at a page, told of what came before and of what follows
@@ -176,15 +180,16 @@ pub stop-since : (u v w : View) (why : Stop) → ReadsOn u v → IsReadStop v w 
 stop-since u v w stop.End reads is = tt
 stop-since u v w stop.NurseryFull reads is = tt
 stop-since u v w stop.BufferFull reads is = tt
-stop-since u v w (stop.Busy page) reads is = let long = ap length reads.read ∙ length-append reads.more u.read in omega arith
+stop-since u v w (stop.Busy page) reads is = (let long = ap length reads.read ∙ length-append reads.more u.read in let since = is.0 in omega arith, is.1)
 stop-since u v w (stop.Gone page) reads is = (let long = ap length reads.read ∙ length-append reads.more u.read in let since = is.0 in omega arith, is.1)
 
-pub stop-laid : (u v w : View) (why : Stop) → w.read ≡ v.read → w.gone ≡ v.gone → IsReadStop u v why → IsReadStop u w why
-stop-laid u v w stop.End read gone is = tt
-stop-laid u v w stop.NurseryFull read gone is = tt
-stop-laid u v w stop.BufferFull read gone is = tt
-stop-laid u v w (stop.Busy page) read gone is = subst (λ (l : List (ℕ × ℕ)). length u.read < length l) (sym read) is
-stop-laid u v w (stop.Gone page) read gone is =
+pub stop-laid : (u v w : View) (why : Stop) → w.read ≡ v.read → w.gone ≡ v.gone → w.busy ≡ v.busy → IsReadStop u v why → IsReadStop u w why
+stop-laid u v w stop.End read gone busy is = tt
+stop-laid u v w stop.NurseryFull read gone busy is = tt
+stop-laid u v w stop.BufferFull read gone busy is = tt
+stop-laid u v w (stop.Busy page) read gone busy is =
+    (subst (λ (l : List (ℕ × ℕ)). length u.read < length l) (sym read) is.0, subst (λ (l : List ℕ). 0 < times page l) (sym busy) is.1)
+stop-laid u v w (stop.Gone page) read gone busy is =
     (subst (λ (l : List (ℕ × ℕ)). length u.read < length l) (sym read) is.0, subst (λ (l : List ℕ). 0 < times page l) (sym gone) is.1)
 
 pub refused-shown : (v w : View) (page : ℕ) (want : Want) (refusal : TakeNo) (end : ℕ) (s : Layout) → IsTakeRefused v page want refusal w → ShowsPages v None end s → ShowsPages w None end s

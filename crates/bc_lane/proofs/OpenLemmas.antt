@@ -1,5 +1,5 @@
 -- What a lane has at the opening of a turn belongs to the whole heap.
-use Rattle.std.proofs.Common.{◌≡◌, ℕ, ◌==◌, true, List, get_or, None, refl, ap, sym, subst, arith}
+use Rattle.std.proofs.Common.{◌≡◌, ℕ, ◌<◌, ◌==◌, true, List, get_or, None, refl, ap, sym, subst, arith}
 use Rattle.bc_bits.specs.Counting.{one_if}
 use Rattle.bc_lane.specs.Shown.{ShowsPage}
 use Rattle.bc_lane.specs.Turns.{IsWhole, SlotsOf}
@@ -25,14 +25,23 @@ gone-word Remembered e = absurd (cc)
 gone-word Held e = absurd (cc)
 gone-word Gone e = refl
 
+pub remembered-word : (s : PageState) → 0 < one_if (state_word s == 2) → s ≡ Remembered
+remembered-word Absent lt = absurd (omega arith)
+remembered-word Home lt = absurd (omega arith)
+remembered-word Remembered lt = refl
+remembered-word Held lt = absurd (omega arith)
+remembered-word Gone lt = absurd (omega arith)
+
 opened-page : (k : Key) (roles : List ℕ) (page : ℕ) → ShowsPage (fresh k roles) k.opening page
 opened-page k roles page = record {
   content = refl;
-  remembered = λ is.
-      let two : opened_word k page ≡ 2 = ap state_word is in
-      let one : one_if (opened_word k page == 2) ≡ 1 = ap (λ (n : ℕ). one_if (n == 2)) two in
-      omega arith;
-  recorded = λ lt. absurd (omega arith);
+  remembered = (
+    λ is.
+        let two : opened_word k page ≡ 2 = ap state_word is in
+        let one : one_if (opened_word k page == 2) ≡ 1 = ap (λ (n : ℕ). one_if (n == 2)) two in
+        omega arith,
+    λ lt. remembered-word (opened_state k page) (omega arith),
+  );
   gone = gone-word (opened_state k page);
 }
 

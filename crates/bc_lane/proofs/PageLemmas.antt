@@ -1,8 +1,8 @@
 -- What a space has of the pages of a lane's domains, when one is taken, written, remembered or put back.
-use Rattle.std.proofs.Common.{◌≡◌, ◌≢◌, ◌⊎◌, ℕ, ◌+◌, ◌*◌, ◌<◌, ◌==◌, Bool, true, false, if◌then◌else◌, List, [], ◌∷◌, length, get_or, set, Option, Some, None, inl, inr, refl, ap, sym, subst, ◌∙◌, arith, get_or-set_same, get_or-set_other}
+use Rattle.std.proofs.Common.{◌≡◌, ◌≢◌, ◌⊎◌, ℕ, ◌+◌, ◌*◌, ◌<◌, ◌==◌, Bool, true, false, if◌then◌else◌, List, [], ◌∷◌, length, get_or, set, Option, Some, None, inl, inr, refl, ap, sym, subst, ◌∙◌, arith, get_or-set_same, get_or-set_other, ◌&&◌}
 use Rattle.std.proofs.lemmas.Bool.{cases_Bool, cases_eq, lt-ltb, both_ways}
 use Rattle.bc_bits.specs.Counting.{one_if}
-use Rattle.bc_lane.specs.Shown.{HasPage, IsOwnPage, IsRememberedOrFound, ShowsHeld, ShowsPage, ShowsPages}
+use Rattle.bc_lane.specs.Shown.{HasPage, IsOwnPage, ShowsHeld, ShowsPage, ShowsPages}
 use Rattle.bc_mutator.specs.Effects.{Remembers}
 use Rattle.bc_mutator.specs.Parts.{HasField, MayHold}
 use Rattle.bc_mutator.proofs.StateLemmas.{remembers-home}
@@ -18,7 +18,6 @@ use Rattle.bc_pins.specs.Views.{opened_content, opened_word}
 use Rattle.bc_pins.proofs.GiveLemmas.{look_here, look_other, recorded_times}
 use Rattle.bc_pins.proofs.HeldLemmas.{set_fixed}
 use Rattle.bc_pins.proofs.TakeLemmas.{flag_is, flag_other}
-use Rattle.bc_pins.proofs.TotalLemmas.{one_same}
 use Rattle.bc_superpages.specs.declared.headers.PageState.TheVariants.{Remembered}
 use Rattle.bc_superpages.specs.declared.spaces.Homed.{Homed}
 use Rattle.bc_superpages.specs.Calls.{fields_at}
@@ -42,9 +41,26 @@ use Rattle.bc_whole_heap.proofs.HeapLemmas.{allocated-below}
 owns-page : (v : View) (p : ℕ) → IsOwnPage v p → owns v p ≡ true
 owns-page v p own = lt-ltb 0 _ own
 
-flag-times : (b : Bool) (p : ℕ) (l : List ℕ) → b ≡ true → 0 < times p (if b then p ∷ l else l)
-flag-times true p l on = let one = one_same p in omega arith
-flag-times false p l on = absurd (both_ways false refl on)
+-- a page that its own lane puts back is recorded as remembered exactly where it is put back so
+own-recorded : (v : View) (held : Held) → IsOwnPage v held.page → (put_back v held).recorded ≡ (if held.remembered then held.page ∷ v.recorded else v.recorded)
+own-recorded v held own = by-flag held.remembered (owns v held.page) (owns-page v held.page own)
+  where
+    by-flag : (b c : Bool) → c ≡ true → (if b && c then held.page ∷ v.recorded else v.recorded) ≡ (if b then held.page ∷ v.recorded else v.recorded)
+    by-flag true c on = ap (λ (t : Bool). if t then held.page ∷ v.recorded else v.recorded) on
+    by-flag false c on = refl
+
+recorded-here : (v : View) (held : Held) → IsOwnPage v held.page → times held.page (put_back v held).recorded ≡ one_if held.remembered + times held.page v.recorded
+recorded-here v held own =
+    let same = ap (times held.page) (own-recorded v held own) in
+    let more = recorded_times held.remembered held.page held.page v.recorded in
+    let here = flag_is held.remembered held.page in
+    omega arith
+
+pub recorded-else : (v : View) (held : Held) (p : ℕ) → held.page ≢ p → times p (put_back v held).recorded ≡ times p v.recorded
+recorded-else v held p ne =
+    let more = recorded_times (held.remembered && owns v held.page) p held.page v.recorded in
+    let none = flag_other (held.remembered && owns v held.page) held.page p ne in
+    omega arith
 
 -- the page in hand is put back
 abbrev pub given : View → Held → View
@@ -52,27 +68,26 @@ given v held = put_back v held
 
 given-here : (v : View) (held : Held) (s : Layout) → ShowsHeld v held s → ShowsPage (given v held) s held.page
 given-here v held s shown =
-    let more = recorded_times held.remembered held.page held.page v.recorded in
-    let here = flag_is held.remembered held.page in
+    let more = recorded-here v held shown.own in
     record {
       content = shown.content ∙ sym (look_here (owns v held.page) held.page held.homed.page (opened_content v.about held.page) v.changed (owns-page v held.page shown.own));
-      remembered = λ is. let now = flag-times held.remembered held.page v.recorded (shown.remembered is) in omega arith;
-      recorded = λ lt. elim (cases_Bool held.remembered) [
-        | inl on ↦ shown.recorded (inr on)
-        | inr off ↦ shown.recorded (inl (let none : one_if held.remembered ≡ 0 = ap one_if off in omega arith))
-      ];
+      remembered = (
+        λ is. let one : one_if held.remembered ≡ 1 = ap one_if (shown.remembered.0 is) in omega arith,
+        λ lt. elim (cases_Bool held.remembered) [
+          | inl on ↦ shown.remembered.1 on
+          | inr off ↦ shown.remembered.1 (shown.kept (let none : one_if held.remembered ≡ 0 = ap one_if off in omega arith))
+        ],
+      );
       gone = λ is. absurd (both_ways _ shown.here is);
     }
 
 given-other : (v : View) (held : Held) (s : Layout) (p : ℕ) → p ≢ held.page → ShowsPage v s p → ShowsPage (given v held) s p
 given-other v held s p ne shown =
     let ne' : held.page ≢ p = λ e. ne (sym e) in
-    let more = recorded_times held.remembered p held.page v.recorded in
-    let none = flag_other held.remembered held.page p ne' in
+    let same = recorded-else v held p ne' in
     record {
       content = shown.content ∙ sym (look_other (owns v held.page) p held.page held.homed.page (opened_content v.about p) v.changed ne');
-      remembered = λ is. let was = shown.remembered is in omega arith;
-      recorded = λ lt. shown.recorded (omega arith);
+      remembered = (λ is. let was = shown.remembered.0 is in omega arith, λ lt. shown.remembered.1 (omega arith));
       gone = shown.gone;
     }
 
@@ -92,30 +107,26 @@ shows-given v held end s shown = record {
 back-other : (v : View) (held : Held) (s : Layout) (p : ℕ) → p ≢ held.page → ShowsPage (given v held) s p → ShowsPage v s p
 back-other v held s p ne shown =
     let ne' : held.page ≢ p = λ e. ne (sym e) in
-    let more = recorded_times held.remembered p held.page v.recorded in
-    let none = flag_other held.remembered held.page p ne' in
+    let same = recorded-else v held p ne' in
     record {
       content = shown.content ∙ look_other (owns v held.page) p held.page held.homed.page (opened_content v.about p) v.changed ne';
-      remembered = λ is. let was = shown.remembered is in omega arith;
-      recorded = λ lt. shown.recorded (omega arith);
+      remembered = (λ is. let was = shown.remembered.0 is in omega arith, λ lt. shown.remembered.1 (omega arith));
       gone = shown.gone;
     }
 
 back-here : (v : View) (held : Held) (s t : Layout) → ShowsHeld v held t → ShowsPage (given v held) s held.page → ShowsHeld v held s
 back-here v held s t first shown =
-    let more = recorded_times held.remembered held.page held.page v.recorded in
-    let flag = flag_is held.remembered held.page in
+    let more = recorded-here v held first.own in
     record {
       own = first.own;
       content = shown.content ∙ look_here (owns v held.page) held.page held.homed.page (opened_content v.about held.page) v.changed (owns-page v held.page first.own);
-      remembered = λ is. elim (cases_Bool held.remembered) [
-        | inl on ↦ on
-        | inr off ↦ first.kept (let was = shown.remembered is in let none : one_if held.remembered ≡ 0 = ap one_if off in omega arith)
-      ];
-      recorded = λ why. elim why [
-        | inl lt ↦ shown.recorded (omega arith)
-        | inr on ↦ shown.recorded (flag-times held.remembered held.page v.recorded on)
-      ];
+      remembered = (
+        λ is. elim (cases_Bool held.remembered) [
+          | inl on ↦ on
+          | inr off ↦ first.kept (let was = shown.remembered.0 is in let none : one_if held.remembered ≡ 0 = ap one_if off in omega arith)
+        ],
+        λ on. shown.remembered.1 (let one : one_if held.remembered ≡ 1 = ap one_if on in omega arith),
+      );
       kept = first.kept;
       here = elim (cases_Bool (is_gone (state_at s.states held.page))) [
         | inl on ↦ absurd (first.opened (shown.gone on))
@@ -144,15 +155,7 @@ shows-back v held end last s t first shown = record {
 
 -- a word of a page is read
 read-page : (v : View) (q found : ℕ) (s : Layout) (p : ℕ) → ShowsPage v s p → ShowsPage (having_read v q found) s p
-read-page v q found s p shown = record {
-  content = shown.content;
-  remembered = shown.remembered;
-  recorded = λ lt. elim (shown.recorded lt) [
-    | inl is ↦ inl is
-    | inr seen ↦ inr (let more = recorded_times (found == 2) p q v.seen in omega arith)
-  ];
-  gone = shown.gone;
-}
+read-page v q found s p shown = record { content = shown.content; remembered = shown.remembered; gone = shown.gone }
 
 pub shows-read : (v : View) (q found end : ℕ) (s : Layout) → ShowsPages v None end s → ShowsPages (having_read v q found) None end s
 shows-read v q found end s shown = record {
@@ -168,15 +171,14 @@ abbrev box : ℕ → Bool → Homed → Held
 box page remembered homed = record { page = page; remembered = remembered; homed = homed }
 
 grips-page : (v : View) (q : ℕ) (b : Bool) (homed : Homed) (s : Layout) (p : ℕ) → ShowsPage v s p → ShowsPage (gripping v q b homed) s p
-grips-page v q b homed s p shown = record { content = shown.content; remembered = shown.remembered; recorded = shown.recorded; gone = shown.gone }
+grips-page v q b homed s p shown = record { content = shown.content; remembered = shown.remembered; gone = shown.gone }
 
 grips-held : (v w : View) (p : ℕ) (b : Bool) (homed : Homed) (s : Layout) → w.about ≡ v.about → w.recorded ≡ v.recorded → IsOwnPage w p → ShowsPage v s p → Takes v p b homed → IsOwnPage v p
-    → ((0 < times p w.recorded) ⊎ (b ≡ true) → IsRememberedOrFound w s p) → ShowsHeld (gripping w p b homed) (box p b homed) s
-grips-held v w p b homed s same put own shown takes own_v found = record {
+    → ShowsHeld (gripping w p b homed) (box p b homed) s
+grips-held v w p b homed s same put own shown takes own_v = record {
   own = own;
   content = shown.content ∙ sym (takes.mine own_v);
-  remembered = λ is. takes.recorded (shown.remembered is);
-  recorded = found;
+  remembered = (λ is. takes.recorded (shown.remembered.0 is), λ on. shown.remembered.1 (takes.found on own_v));
   kept = λ lt. takes.recorded (subst (λ (l : List ℕ). 0 < one_if (opened_word v.about p == 2) + times p l) put (subst (λ (a : Key). 0 < one_if (opened_word a p == 2) + times p w.recorded) same lt));
   opened = subst (λ (a : Key). opened_word a p ≢ 4) (sym same) takes.here;
   here = elim (cases_Bool (is_gone (state_at s.states p))) [
@@ -196,27 +198,20 @@ grips-held v w p b homed s same put own shown takes own_v found = record {
 
 pub shows-taken : (v : View) (p end : ℕ) (b : Bool) (homed : Homed) (s : Layout) → IsOwnPage v p → Takes v p b homed → ShowsPages v None end s → ShowsPages (gripping (tried v p Work b) p b homed) (Some (box p b homed)) end s
 shows-taken v p end true homed s own takes shown =
-    let page = shown.others p own (λ x. x) in
-    let one = one_same p in
     record {
       same = shown.same;
       end_is = shown.end_is;
       opening = shown.opening;
       others = λ q own_q _. grips-page (having_read v p 2) p true homed s q (read-page v p 2 s q (shown.others q own_q (λ x. x)));
-      in_hand = grips-held v (having_read v p 2) p true homed s refl refl own page takes own (λ _. inr (omega arith));
+      in_hand = grips-held v (having_read v p 2) p true homed s refl refl own (shown.others p own (λ x. x)) takes own;
     }
 shows-taken v p end false homed s own takes shown =
-    let page = shown.others p own (λ x. x) in
     record {
       same = shown.same;
       end_is = shown.end_is;
       opening = shown.opening;
       others = λ q own_q _. grips-page v p false homed s q (shown.others q own_q (λ x. x));
-      in_hand = grips-held v v p false homed s refl refl own page takes own
-          (λ why. elim why [
-            | inl lt ↦ page.recorded lt
-            | inr on ↦ absurd (both_ways false refl on)
-          ]);
+      in_hand = grips-held v v p false homed s refl refl own (shown.others p own (λ x. x)) takes own;
     }
 
 -- what the space at the opening has of a cell of this one
@@ -300,7 +295,7 @@ module _ (v : View) (held : Held) (end : ℕ) (s : Layout) (cell index : ℕ) (w
     | inl e ↦
         let bits : field_bits now y.cell y.index ≡ word_bits w = ap (λ (k : ℕ). get_or now k 0) e ∙ get_or-set_same held.homed.page at (word_bits w) 0 room in
         let is : IsYoung o w = subst (IsYoung o) (ap word_of_bits bits ∙ word-is) y.young in
-        shown.in_hand.remembered (ap (state_at s.states) (sym on) ∙ young-remembered s o cell w f.layout shown.same may is)
+        shown.in_hand.remembered.0 (ap (state_at s.states) (sym on) ∙ young-remembered s o cell w f.layout shown.same may is)
     | inr ne ↦
         let bits : field_bits now y.cell y.index ≡ field_bits held.homed.page y.cell y.index = get_or-set_other held.homed.page at (offset_of y.cell + 1 + y.index) (word_bits w) 0 ne in
         shown.in_hand.young (record { cell = y.cell; index = y.index; is = y.is; young = subst (λ (n : ℕ). IsYoung o (word_of_bits n)) bits y.young })
@@ -321,7 +316,6 @@ module _ (v : View) (held : Held) (end : ℕ) (s : Layout) (cell index : ℕ) (w
   written-other p ne page = record {
     content = ap (λ (ps : List (List ℕ)). content_at ps p) pages-are ∙ get_or-set_other s.pages held.page p now [] ne ∙ page.content;
     remembered = page.remembered;
-    recorded = page.recorded;
     gone = page.gone;
   }
 
@@ -335,7 +329,6 @@ module _ (v : View) (held : Held) (end : ℕ) (s : Layout) (cell index : ℕ) (w
       own = shown.in_hand.own;
       content = ap (λ (ps : List (List ℕ)). content_at ps held.page) pages-are ∙ get_or-set_same s.pages held.page now [] inside;
       remembered = shown.in_hand.remembered;
-      recorded = shown.in_hand.recorded;
       kept = shown.in_hand.kept;
       here = shown.in_hand.here;
       opened = shown.in_hand.opened;
@@ -380,11 +373,7 @@ module _ (v : View) (held : Held) (end : ℕ) (s : Layout) (page : ℕ) (shown :
       let same : state_at marked.states p ≡ state_at s.states p = remembers.states.others p (λ e. ne (e ∙ is)) in
       record {
         content = was.content;
-        remembered = λ e. was.remembered (sym same ∙ e);
-        recorded = λ lt. elim (was.recorded lt) [
-          | inl e ↦ inl (same ∙ e)
-          | inr seen ↦ inr seen
-        ];
+        remembered = (λ e. was.remembered.0 (sym same ∙ e), λ lt. same ∙ was.remembered.1 lt);
         gone = λ e. was.gone (ap is_gone (sym same) ∙ e);
       }
 
@@ -399,8 +388,7 @@ module _ (v : View) (held : Held) (end : ℕ) (s : Layout) (page : ℕ) (shown :
         in_hand = record {
           own = shown.in_hand.own;
           content = shown.in_hand.content;
-          remembered = λ _. refl;
-          recorded = λ _. inl here;
+          remembered = (λ _. refl, λ _. here);
           kept = λ _. refl;
           here = ap is_gone here;
           opened = shown.in_hand.opened;

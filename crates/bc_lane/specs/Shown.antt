@@ -1,6 +1,6 @@
 -- Which whole spaces the pages of a lane's domains may belong to in a turn, and which root words its slots. The pages lie at the
 -- table, but for one that may be in the lane's hands; what its seat knows of them is the seat's view.
-use Rattle.std.specs.Prelude.{◌≡◌, ◌≢◌, ◌⊎◌, ℕ, ◌+◌, ◌*◌, ◌<◌, ◌≤◌, ◌==◌, true, false, List, [], length, Option, Some, None, slice_index}
+use Rattle.std.specs.Prelude.{◌≡◌, ◌≢◌, ◌↔◌, ℕ, ◌+◌, ◌*◌, ◌<◌, ◌≤◌, ◌==◌, true, false, List, [], length, Option, Some, None, slice_index}
 use Rattle.bc_bits.specs.Counting.{one_if}
 use Rattle.bc_pins.specs.declared.holding.Held.{Held}
 use Rattle.bc_pins.specs.declared.views.Hand.{Hand}
@@ -23,26 +23,19 @@ use Rattle.bc_word.specs.WordBits.{IsPacked}
 abbrev pub IsOwnPage : View → ℕ → Type 0
 IsOwnPage v page = 0 < has_role v (owner v.about page)
 
--- the page is Remembered, or the seat found it so
-abbrev pub IsRememberedOrFound : View → Layout → ℕ → Type 0
-IsRememberedOrFound v s page = (state_at s.states page ≡ Remembered) ⊎ (0 < times page v.seen)
-
--- what a space has of an own page at the table: the content that the seat records. It is Remembered only where it was so at the
--- opening or the seat put it back so, and the seat put it back so only where it is, or where it had found it so. It is Gone
--- only where it was at the opening
+-- what a space has of an own page at the table: the content that the seat records. It is Remembered exactly where it was so at the
+-- opening or the seat put it back so. It is Gone only where it was at the opening
 pub record ShowsPage (v : View) (s : Layout) (page : ℕ) : Type 0 where
   pub content : content_at s.pages page ≡ record_of v page
-  pub remembered : state_at s.states page ≡ Remembered → 0 < one_if (opened_word v.about page == 2) + times page v.recorded
-  pub recorded : 0 < times page v.recorded → IsRememberedOrFound v s page
+  pub remembered : (state_at s.states page ≡ Remembered) ↔ (0 < one_if (opened_word v.about page == 2) + times page v.recorded)
   pub gone : is_gone (state_at s.states page) ≡ true → opened_word v.about page ≡ 4
 
--- and of the page in the lane's hands: the content in its box, which may be put back. It is remembered where it was so at the
--- opening or the seat put it back so, and it wasn't Gone at the opening
+-- and of the page in the lane's hands: the content in its box, which may be put back. It is Remembered exactly where the lane has it
+-- so, as it has it where it was so at the opening or the seat put it back so. It wasn't Gone at the opening
 pub record ShowsHeld (v : View) (held : Held) (s : Layout) : Type 0 where
   pub own : IsOwnPage v held.page
   pub content : content_at s.pages held.page ≡ held.homed.page
-  pub remembered : state_at s.states held.page ≡ Remembered → held.remembered ≡ true
-  pub recorded : (0 < times held.page v.recorded) ⊎ (held.remembered ≡ true) → IsRememberedOrFound v s held.page
+  pub remembered : (state_at s.states held.page ≡ Remembered) ↔ (held.remembered ≡ true)
   pub kept : 0 < one_if (opened_word v.about held.page == 2) + times held.page v.recorded → held.remembered ≡ true
   pub here : is_gone (state_at s.states held.page) ≡ false
   pub opened : opened_word v.about held.page ≢ 4

@@ -32,9 +32,9 @@ use Rattle.bc_pins.specs.declared.pins.Seat.{Seat}
 use Rattle.bc_pins.specs.declared.views.View.{View}
 use Rattle.bc_pins.specs.Calls.{HoldsPage, IsAt, IsFree, key_of}
 use Rattle.bc_pins.specs.Contents.{IsBarePage}
-use Rattle.bc_pins.specs.Key.{Key, lane_role, page_at, pages_of}
+use Rattle.bc_pins.specs.Key.{Key, lane_role, owner, page_at, pages_of}
 use Rattle.bc_pins.specs.Totals.{times}
-use Rattle.bc_pins.specs.Views.{entries, opened_state}
+use Rattle.bc_pins.specs.Views.{entries, has_role, opened_state}
 use Rattle.bc_superpages.specs.declared.headers.PageState.TheVariants.{Absent}
 use Rattle.bc_superpages.specs.LayoutAt.{IsAllocated}
 use Rattle.bc_superpages.specs.RootWords.{RootWords}
@@ -131,20 +131,21 @@ LooksOn h op page = (at : Address) × LooksAtObject h.roots (touched_slot op) at
 abbrev pub ReadLast : View → ℕ → ℕ → Type 0
 ReadLast v page found = (rest : List (ℕ × ℕ)) × (v.read ≡ (page_at page, found) ∷ rest)
 
--- a seat read on, and took and put back pages of the table. What else it knows is as before: so it made no page Gone or Absent,
--- bookmarked and counted nothing, and has the rights to frames that it had
+-- a seat read on, and took and put back pages of the table, of domains that its lane holds alone. What else it knows is as before:
+-- so it made no page Gone or Absent, bookmarked and counted nothing, and has the rights to frames that it had
 pub record ReadsOn (v w : View) : Type 0 where
-  pub same : w ≡ record v { hand = w.hand; changed = w.changed; recorded = w.recorded; seen = w.seen; gone = w.gone; read = w.read }
+  pub same : w ≡ record v { hand = w.hand; changed = w.changed; recorded = w.recorded; seen = w.seen; gone = w.gone; busy = w.busy; read = w.read }
   pub more : List (ℕ × ℕ)
   pub read : w.read ≡ more ++ v.read
   pub behind : (page : ℕ) → pages_of v.about ≤ page → (entries page w.changed ≡ entries page v.changed) × (times page w.recorded ≡ times page v.recorded)
+  pub others : (page : ℕ) → has_role v (owner v.about page) ≡ 0 → (entries page w.changed ≡ entries page v.changed) × (times page w.recorded ≡ times page v.recorded)
 
--- a stop at a page is one that the seat read since, and where the page is gone it is noted so
+-- a stop at a page is one that the seat read since, and the seat notes what it read: that the page is gone, or in another's hands
 abbrev pub IsReadStop : View → View → Stop → Type 0
 IsReadStop v w stop.End = Unit {0}
 IsReadStop v w stop.NurseryFull = Unit {0}
 IsReadStop v w stop.BufferFull = Unit {0}
-IsReadStop v w (stop.Busy page) = length v.read < length w.read
+IsReadStop v w (stop.Busy page) = (length v.read < length w.read) × (0 < times page w.busy)
 IsReadStop v w (stop.Gone page) = (length v.read < length w.read) × (0 < times page w.gone)
 
 -- this is true of the operation of that number, which there is

@@ -25,6 +25,7 @@ pub(crate) fn lay_down(pins: &Pins, seat: &mut Seat, hand: &mut Option<Held>)
     ensures back { (end : ℕ) → (s : Layout) → ShowsPages (view_of seat.new) None end s → ShowsPages (view_of seat.old) hand.old end s }
     ensures read { (view_of seat.new).read ≡ (view_of seat.old).read }
     ensures gone { (view_of seat.new).gone ≡ (view_of seat.old).gone }
+    ensures busy { (view_of seat.new).busy ≡ (view_of seat.old).busy }
     ensures reads { ReadsOn (view_of seat.old) (view_of seat.new) }
 {
     match hand.take() {

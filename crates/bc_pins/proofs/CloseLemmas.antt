@@ -13,29 +13,15 @@ use Rattle.bc_pins.specs.declared.views.View.{View}
 use Rattle.bc_pins.specs.Key.{Key, pages_of, counter_at, owner, frame_slot, store_slot}
 use Rattle.bc_pins.specs.Totals.{total, times, sum_to}
 use Rattle.bc_pins.specs.Contents.{IsContent, RefersYoung}
-use Rattle.bc_pins.specs.Views.{grips, grips_remembered, frame_in_hand, counted_for, sets_bit, has_role, opened_content, record_of}
+use Rattle.bc_pins.specs.Views.{grips, grips_remembered, frame_in_hand, counted_for, sets_bit, has_role, withholds, opened_content, record_of}
 use Rattle.bc_pins.specs.Facts.{Table, Slot, word, Lies, Summary, Frames, frame_lodged, points, adds_to, Bits, IsIdle, page_word, IsBitOfTarget}
 use Rattle.bc_pins.specs.Rule.{Rule}
 use Rattle.bc_pins.specs.Opening.{ClosesPage, HasClosed}
-use Rattle.bc_pins.proofs.TotalLemmas.{total_two, one_same}
+use Rattle.bc_pins.proofs.TotalLemmas.{total_at, total_only, total_two, one_same}
+use Rattle.bc_pins.proofs.WithholdLemmas.{foreign_none}
 use Rattle.bc_pins.proofs.ReadLemmas.{remembered_word}
 use Rattle.bc_pins.proofs.JoinLemmas.{look_none}
 use Rattle.bc_pins.proofs.SumLemmas.{sum_same}
-
-total_only : {A : Type 0} (f : A → ℕ) (vs : List A) (j : ℕ) (v : A) → get_elem? vs j ≡ some v → ((i : ℕ) (u : A) → i ≢ j → get_elem? vs i ≡ some u → f u ≡ 0) → total f vs ≡ f v
-total_only f [] j v e others = absurd (some-ne-none v (sym e))
-total_only f (x ∷ xs) zero v e others =
-    let is : f x ≡ f v = ap f (some-injective x v e) in
-    let rest = all_none xs (λ i u at. others (suc i) u (λ z. omega arith) at) in
-    omega arith
-  where
-    all_none : (xs : List _) → ((i : ℕ) (u : _) → get_elem? xs i ≡ some u → f u ≡ 0) → total f xs ≡ 0
-    all_none [] each = refl
-    all_none (x ∷ xs) each = let here = each 0 x refl in let t = all_none xs (λ i. each (suc i)) in omega arith
-total_only f (x ∷ xs) (suc j) v e others =
-    let here = others 0 x (λ z. omega arith) refl in
-    let t = total_only f xs j v e (λ i u ne at. others (suc i) u (λ z. ne (omega arith)) at) in
-    omega arith
 
 -- a list in which nothing stands is empty
 pub none_times : (l : List ℕ) → ((r : ℕ) → times r l ≡ 0) → l ≡ []
@@ -78,6 +64,14 @@ module _ (k : Key) (s : Table) (r : Rule k s) (id : ℕ) (v : View) (at : get_el
 
   only : (f : View → ℕ) → ((u : View) → IsIdle u → f u ≡ 0) → total f s.views ≡ f v
   only f z = total_only f s.views id v at (λ j u ne is. z u (idle_else j u ne is))
+
+  idle_withholds : (p : ℕ) (u : View) → IsIdle u → withholds k p u ≡ 0
+  idle_withholds p u i =
+      let a = foreign_none k p u i.hand in
+      let b : times p u.returned ≡ 0 = ap (times p) i.returned in
+      let c : times p u.left ≡ 0 = ap (times p) i.left in
+      let d : times p u.emptied ≡ 0 = ap (times p) i.emptied in
+      omega arith
 
   not_held : (p : ℕ) → p < pages_of k → page_word s p ≢ 3
   not_held p lt e =
@@ -129,6 +123,8 @@ module _ (k : Key) (s : Table) (r : Rule k s) (id : ℕ) (v : View) (at : get_el
       let fetched = only (λ u. times p u.fetched) (λ u i. ap (times p) i.fetched) in
       let left = only (λ u. times p u.left) (λ u i. ap (times p) i.left) in
       let emptied = only (λ u. times p u.emptied) (λ u i. ap (times p) i.emptied) in
+      let kept_from = only (withholds k p) (λ u i. idle_withholds p u i) in
+      let busy = total_at (λ (u : View). times p u.busy) s.views id v at in
       let gone = old.gone in
       let absent = old.absent in
       record {
@@ -145,6 +141,7 @@ module _ (k : Key) (s : Table) (r : Rule k s) (id : ℕ) (v : View) (at : get_el
           as_opened = λ turn lt. old.as_opened turn (omega arith);
           gone = omega arith;
           absent = omega arith;
+          busy = λ lt. let a = old.busy (omega arith) in omega arith;
         };
       }
 

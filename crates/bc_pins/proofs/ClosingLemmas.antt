@@ -46,6 +46,7 @@ use Rattle.bc_pins.specs.Calls.{view_of}
 use Rattle.bc_pins.specs.Closing.{Gathered, StatesSet, SummariesSet, HeadersSet, PoolSet, opens_of, ClosedState, ClosedBit, Closed}
 use Rattle.bc_pins.proofs.TallyLemmas.{GoneBy, gone_word, tally, none_behind, target_in, set_bit, bit_set, bit_in, in_bit, bit_few, few_bits, number_few}
 use Rattle.bc_pins.proofs.TotalLemmas.{one_is, total_in}
+use Rattle.bc_pins.proofs.WithholdLemmas.{foreign_none}
 use Rattle.bc_pins.proofs.ReadLemmas.{lies_few}
 use Rattle.bc_pins.proofs.JoinLemmas.{look_none}
 use Rattle.bc_pins.proofs.CloseLemmas.{ends}
@@ -169,6 +170,9 @@ module _ (id : TableId) (k : Key) (all : List Seat) (root : Worker Lodged View) 
       let f = g.fetched p in
       let l = g.left p in
       let m = g.emptied p in
+      let back = g.returned p in
+      let busy = g.busy p in
+      let none_held = foreign_none k p v g.hand in
       let held = (e.closed.pages p lt).not_held in
       let gone = page.gone in
       let absent = page.absent in
@@ -186,6 +190,7 @@ module _ (id : TableId) (k : Key) (all : List Seat) (root : Worker Lodged View) 
             omega arith;
         gone = omega arith;
         absent = omega arith;
+        busy = λ lt. let a = page.busy (omega arith) in omega arith;
       }
 
   -- a page that a seat read as Gone is Gone for the root, into which it was joined

@@ -77,7 +77,9 @@ module _ (id : TableId) (k : Key) (apart : (r : ℕ) → times r k.roles ≤ 1) 
         emptied = λ p. first_moved (λ v. v.emptied) front seat p ∙ ap (total (λ (s : Seat). times p (view_of s).emptied)) (sym is);
         bookmarked = λ w b. first_set front seat w b ∙ ap (total (λ (s : Seat). sets_bit w b (view_of s).bookmarked)) (sym is);
         fetched = λ p. first_moved (λ v. v.fetched) front seat p ∙ ap (total (λ (s : Seat). times p (view_of s).fetched)) (sym is);
+        returned = λ p. first_moved (λ v. v.returned) front seat p ∙ ap (total (λ (s : Seat). times p (view_of s).returned)) (sym is);
         gone = λ p. first_moved (λ v. v.gone) front seat p ∙ ap (total (λ (s : Seat). times p (view_of s).gone)) (sym is);
+        busy = λ p. first_moved (λ v. v.busy) front seat p ∙ ap (total (λ (s : Seat). times p (view_of s).busy)) (sym is);
         mine = λ j le lt d p has.
             let e : get_or all j d ≡ seat = (let z : j ≡ length front = omega arith in ap (λ (i : ℕ). get_or all i d) z ∙ here d) in
             (subst (λ (s : Seat). 0 < has_role (view_of s) (owner k p)) e has, sym (ap (λ (s : Seat). record_of (view_of s) p) e));
@@ -118,7 +120,9 @@ module _ (id : TableId) (k : Key) (apart : (r : ℕ) → times r k.roles ≤ 1) 
         emptied = λ p. ap (λ (u : View). times p u.emptied + total (λ (s : Seat). times p (view_of s).emptied) front) view ∙ moved (λ u. u.emptied) v front seat p _ (g.emptied p);
         bookmarked = λ x b. ap (λ (u : View). sets_bit x b u.bookmarked + total (λ (s : Seat). sets_bit x b (view_of s).bookmarked) front) view ∙ set_moved v front seat x b _ (g.bookmarked x b);
         fetched = λ p. ap (λ (u : View). times p u.fetched + total (λ (s : Seat). times p (view_of s).fetched) front) view ∙ moved (λ u. u.fetched) v front seat p _ (g.fetched p);
+        returned = λ p. ap (λ (u : View). times p u.returned + total (λ (s : Seat). times p (view_of s).returned) front) view ∙ moved (λ u. u.returned) v front seat p _ (g.returned p);
         gone = λ p. ap (λ (u : View). times p u.gone + total (λ (s : Seat). times p (view_of s).gone) front) view ∙ moved (λ u. u.gone) v front seat p _ (g.gone p);
+        busy = λ p. ap (λ (u : View). times p u.busy + total (λ (s : Seat). times p (view_of s).busy) front) view ∙ moved (λ u. u.busy) v front seat p _ (g.busy p);
         mine = λ j le lt d p has.
             let sum = times_append (owner k p) v.roles w.roles in
             let one = one_has (owner k p) in

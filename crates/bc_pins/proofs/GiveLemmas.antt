@@ -1,9 +1,9 @@
 -- Putting a page back, as Home or as Home and remembered.
-use Rattle.std.proofs.Common.{◌≡◌, ℕ, ◌+◌, ◌<◌, ◌≤◌, ◌≢◌, ◌==◌, Bool, true, false, List, [], ◌∷◌, length, set, Some, None, if◌then◌else◌, inl, inr, refl, ap, sym, subst, ◌∙◌, arith}
+use Rattle.std.proofs.Common.{◌≡◌, ℕ, ◌+◌, ◌<◌, ◌≤◌, ◌≢◌, ◌==◌, ◌&&◌, ◌⊎◌, Bool, true, false, List, [], ◌∷◌, length, set, Some, None, if◌then◌else◌, inl, inr, refl, ap, sym, subst, ◌∙◌, arith}
 use mathlib.Core.Option.{some}
 use mathlib.Core.Option as maybe
 use lib.ListN.{get_elem?}
-use Rattle.std.proofs.lemmas.Bool.{cases_eq, cases_Bool, eq-eqb, eqb-true, ne_eqb, ltb-true, lt-ltb}
+use Rattle.std.proofs.lemmas.Bool.{cases_eq, cases_lt, cases_Bool, eq-eqb, eqb-true, ne_eqb, ltb-true, lt-ltb}
 use Rattle.std.proofs.lemmas.List.{length-set}
 use Rattle.atomic_table.specs.Table.{Allows, step, gives, chain}
 use Rattle.atomic_table.proofs.Lists.{set_here, set_else}
@@ -16,12 +16,13 @@ use Rattle.bc_pins.specs.declared.views.View.{View}
 use Rattle.bc_pins.specs.Key.{Key, pages_of, owner, page_at, frame_slot, store_slot, home_slot}
 use Rattle.bc_pins.specs.Totals.{total, times}
 use Rattle.bc_pins.specs.Contents.{IsContent, RefersYoung}
-use Rattle.bc_pins.specs.Views.{grips, grips_remembered, frame_in_hand, counted_for, marked_for, has_role, entries, look_up, opened_content}
+use Rattle.bc_pins.specs.Views.{grips, grips_remembered, frame_in_hand, counted_for, marked_for, has_role, withholds, entries, look_up, opened_content}
 use Rattle.bc_pins.specs.Facts.{Table, slot, IsHomed, Lies, RecordsContent, Marking, frame_lodged, points, page_word, IsBitOfTarget, MarksTargets}
 use Rattle.bc_pins.specs.Tidy.{IsTidy}
 use Rattle.bc_pins.specs.Rule.{Rule}
 use Rattle.bc_pins.specs.Steps.{Mine, owns, both_slots, released, Gave}
 use Rattle.bc_pins.proofs.TotalLemmas.{total_set, total_at, one_same, one_other, one_is}
+use Rattle.bc_pins.proofs.WithholdLemmas.{foreign_few, foreign_own}
 use Rattle.bc_pins.proofs.PageSteps.{after, sets_marked, left_gone, PageStep, page_step}
 use Rattle.bc_pins.proofs.ReadLemmas.{same_page, saw_kept}
 use Rattle.bc_pins.proofs.TakeLemmas.{Slots, flag_is, flag_other, none_either}
@@ -38,6 +39,24 @@ lies_homed n a b c lo hi l = elim (cases_eq n 1) [
 pub recorded_times : (b : Bool) (q p : ℕ) (l : List ℕ) → times q (if b then p ∷ l else l) ≡ (if b then one_if (p == q) else 0) + times q l
 recorded_times true q p l = refl
 recorded_times false q p l = omega arith
+
+-- of two tests that both hold
+both_few : (b c : Bool) → one_if (b && c) ≤ one_if b
+both_few true true = omega arith
+both_few true false = omega arith
+both_few false c = omega arith
+
+both_on : (b c : Bool) → c ≡ true → one_if (b && c) ≡ one_if b
+both_on true c on = ap one_if on
+both_on false c on = refl
+
+both_off : (b c : Bool) (n : ℕ) → c ≡ false → (if b && c then n else 0) ≡ 0
+both_off true c n off = ap (λ (t : Bool). if t then n else 0) off
+both_off false c n off = refl
+
+returned_other : (b : Bool) (q p : ℕ) (l : List ℕ) → q ≢ p → times q (if b then l else p ∷ l) ≡ times q l
+returned_other true q p l ne = refl
+returned_other false q p l ne = let z = one_other p q (λ e. ne (sym e)) in omega arith
 
 changed_entries : (b : Bool) (q p : ℕ) (c : List ℕ) (l : List (ℕ × List ℕ)) → entries q (if b then (p, c) ∷ l else l) ≡ (if b then one_if (p == q) else 0) + entries q l
 changed_entries true q p c l = refl
@@ -173,6 +192,16 @@ module _ (k : Key) (s : Table) (r : Rule k s) (id x role : ℕ) (v : View) (g : 
           ]
           | inr ne ↦ changed_entries (owns v p) q p h.page v.changed ∙ (let a = flag_other (owns v p) p q (λ e. ne (sym e)) in let b = facts.others q none_has in omega arith)
         ];
+        unrecorded = λ q none_has.
+            let more = recorded_times ((x == 2) && owns v p) q p v.recorded in
+            let was = facts.unrecorded q none_has in
+            elim (cases_eq q p) [
+              | inl e ↦ elim (cases_Bool (owns v p)) [
+                | inl on ↦ absurd (not_owning q e none_has on)
+                | inr off ↦ let none_new = both_off (x == 2) (owns v p) (one_if (p == q)) off in omega arith
+              ]
+              | inr ne ↦ let none_new = flag_other ((x == 2) && owns v p) p q (λ e. ne (sym e)) in omega arith
+            ];
         in_hand = λ z e. absurd (no_hand z e);
       }
 
@@ -222,12 +251,47 @@ module _ (k : Key) (s : Table) (r : Rule k s) (id x role : ℕ) (v : View) (g : 
       let mine = total_at (λ (u : View). times (owner k p) u.roles) s.views id v at in
       let two : x ≡ 2 = elim (cases_Bool (x == 2)) [
         | inl on ↦ eqb-true x 2 on
-        | inr off ↦ let rt : times p w.recorded ≡ times p v.recorded = ap (λ (b : Bool). times p (if b then p ∷ v.recorded else v.recorded)) off in absurd (omega arith)
+        | inr off ↦ let rt : times p w.recorded ≡ times p v.recorded = ap (λ (b : Bool). times p (if b && owns v p then p ∷ v.recorded else v.recorded)) off in absurd (omega arith)
       ] in
       let on = (others (omega arith)).1 two in
       let one : (if g.remembered then one_if (p == p) else 0) ≡ 1 = flag_is g.remembered p ∙ ap one_if on in
       let a = flag_was p in
       omega arith
+
+  -- it is Remembered where it was in hand so, or the seat recorded it
+  noted : 0 < one_if (x == 2) + grips_remembered p w.hand → (0 < one_if (page_word s p == 2) + grips_remembered p v.hand) ⊎ (0 < times p w.recorded)
+  noted lt = elim (cases_lt 0 (has_role v (owner k p))) [
+    | inl has_it ↦
+        let more = recorded_times ((x == 2) && owns v p) p p v.recorded in
+        let once = flag_is ((x == 2) && owns v p) p in
+        let same = both_on (x == 2) (owns v p) (owning has_it) in
+        inr (omega arith)
+    | inr le ↦
+        let two : x ≡ 2 = one_is x 2 (omega arith) in
+        let on = (others (omega arith)).1 two in
+        let one : (if g.remembered then one_if (p == p) else 0) ≡ 1 = flag_is g.remembered p ∙ ap one_if on in
+        let a = flag_was p in
+        inl (omega arith)
+  ]
+
+  -- whoever isn't the page's lane returned it
+  withheld : withholds k p v ≤ withholds k p w
+  withheld = elim (cases_lt 0 (has_role v (owner k p))) [
+    | inl mine ↦
+        let a = foreign_own k p v mine in
+        let b : times p w.returned ≡ times p v.returned = ap (λ (b : Bool). times p (if b then v.returned else p ∷ v.returned)) (owning mine) in
+        omega arith
+    | inr le ↦
+        let off : owns v p ≡ false = not_true (owns v p) (not_owning p refl (omega arith)) in
+        let a = foreign_few k p v in
+        let b : times p w.returned ≡ times p (p ∷ v.returned) = ap (λ (b : Bool). times p (if b then v.returned else p ∷ v.returned)) off in
+        let c = grip_is p in
+        omega arith
+  ]
+    where
+      not_true : (b : Bool) → (b ≡ true → ⊥) → b ≡ false
+      not_true true no_true = absurd (no_true refl)
+      not_true false no_true = refl
 
   give_step : PageStep k s r.rec rec' p x homes id v w
   give_step =
@@ -244,8 +308,9 @@ module _ (k : Key) (s : Table) (r : Rule k s) (id x role : ℕ) (v : View) (g : 
       let x0 = now_is 0 (λ e. omega arith) (λ e. omega arith) in
       let w4 = word_is 4 (λ e. omega arith) in
       let w0 = word_is 0 (λ e. omega arith) in
-      let rt = recorded_times (x == 2) p p v.recorded in
-      let rf = flag_is (x == 2) p in
+      let rt = recorded_times ((x == 2) && owns v p) p p v.recorded in
+      let rf = flag_is ((x == 2) && owns v p) p in
+      let few = both_few (x == 2) (owns v p) in
       let long : length (set s.homes (frame_slot k p) (some (Home h))) ≡ length s.homes = length-set s.homes (frame_slot k p) (some (Home h)) in
       record {
         near = near;
@@ -275,14 +340,18 @@ module _ (k : Key) (s : Table) (r : Rule k s) (id x role : ℕ) (v : View) (g : 
         else_remembered = else_flag;
         again = again;
         put_back = omega arith;
-        noted = λ lt. inr (omega arith);
+        noted = noted;
         kept = λ lt. omega arith;
-        else_recorded = λ q ne. recorded_times (x == 2) q p v.recorded ∙ (let z = flag_other (x == 2) p q (λ e. ne (sym e)) in omega arith);
+        else_recorded = λ q ne. recorded_times ((x == 2) && owns v p) q p v.recorded ∙ (let z = flag_other ((x == 2) && owns v p) p q (λ e. ne (sym e)) in omega arith);
         went = omega arith;
         emptied = omega arith;
         else_fetched = λ q ne. refl;
         else_left = λ q ne. refl;
         else_emptied = λ q ne. refl;
+        withheld = withheld;
+        noted_busy = λ lt. absurd (omega arith);
+        else_returned = λ q ne. returned_other (owns v p) q p v.returned ne;
+        else_busy = λ q ne. refl;
         stays = λ e _. absurd (not_four e);
         count = λ q lt. let a = hand_counted p q in let b = never_four (points k p (rec' p) q) in let c = was_no_four (points k p (r.rec p) q) in omega arith;
         else_count = λ j q ne. sym (hand_counted j q);

@@ -9,11 +9,12 @@ use Rattle.bc_bits.specs.Counting.{one_if}
 use Rattle.bc_pins.specs.declared.views.View.{View}
 use Rattle.bc_pins.specs.Key.{Key, owner}
 use Rattle.bc_pins.specs.Totals.{total, times}
-use Rattle.bc_pins.specs.Views.{grips, grips_remembered, frame_in_hand, counted_for, sets_bit, marked_for, has_role, entries, look_up, opened_content, record_of, sets_for}
+use Rattle.bc_pins.specs.Views.{grips, grips_remembered, frame_in_hand, counted_for, sets_bit, marked_for, has_role, withholds, entries, look_up, opened_content, record_of, sets_for}
 use Rattle.bc_pins.specs.Facts.{Table}
 use Rattle.bc_pins.specs.Rule.{SeatFacts, Rule}
 use Rattle.bc_pins.specs.Steps.{united, nobody}
 use Rattle.bc_pins.proofs.TotalLemmas.{total_set, total_two, times_append}
+use Rattle.bc_pins.proofs.WithholdLemmas.{foreign_none}
 use Rattle.bc_pins.proofs.SeatLemmas.{with_views, SameSums, now_same, views_step, seat_kept, no_hand, no_marking, no_targets}
 
 -- a seat is joined into another
@@ -71,7 +72,7 @@ no_more [] m e = (refl, e)
 no_more (x ∷ l) m e = absurd (clash x (l ++ m) e)
 
 module _ (k : Key) (s : Table) (r : Rule k s) (id other : ℕ) (v w : View) (at : get_elem? s.views id ≡ some v) (ne : other ≡ id → ⊥) (there : get_elem? (set s.views id (united v w)) other ≡ some w)
-    (about : v.about ≡ k) (same_about : w.about ≡ k) (nothing : w.hand ≡ None) where
+    (about : v.about ≡ k) (same_about : w.about ≡ k) (free : v.hand ≡ None) (nothing : w.hand ≡ None) where
   abbrev views : List View
   views = set (set s.views id (united v w)) other nobody
 
@@ -87,6 +88,20 @@ module _ (k : Key) (s : Table) (r : Rule k s) (id other : ℕ) (v w : View) (at 
   sum_of : (f : View → ℕ) → f nobody ≡ 0 → f (united v w) ≡ f v + f w → total f views ≡ total f s.views
   sum_of f z e = join_sum f s.views id other v w (united v w) nobody at there z e
 
+  -- neither has a page in hand, nor had the one that nobody has
+  foreign_nobody : (a : Key) (p : ℕ) → withholds a p nobody ≡ 0
+  foreign_nobody a p = let z = foreign_none a p nobody refl in omega arith
+
+  both_withhold : (a : Key) (p : ℕ) → withholds a p (united v w) ≡ withholds a p v + withholds a p w
+  both_withhold a p =
+      let one = foreign_none a p v free in
+      let two = foreign_none a p w nothing in
+      let both = foreign_none a p (united v w) free in
+      let b = times_append p v.returned w.returned in
+      let c = times_append p v.left w.left in
+      let d = times_append p v.emptied w.emptied in
+      omega arith
+
   sums : SameSums s.views views
   sums = record {
     grip = λ p. sum_of (λ u. grips p u.hand) refl (let a : grips p w.hand ≡ 0 = ap (grips p) nothing in omega arith);
@@ -95,6 +110,8 @@ module _ (k : Key) (s : Table) (r : Rule k s) (id other : ℕ) (v w : View) (at 
     fetched = λ p. sum_of (λ u. times p u.fetched) refl (times_append p v.fetched w.fetched);
     left = λ p. sum_of (λ u. times p u.left) refl (times_append p v.left w.left);
     emptied = λ p. sum_of (λ u. times p u.emptied) refl (times_append p v.emptied w.emptied);
+    withheld = λ a p. sum_of (withholds a p) (foreign_nobody a p) (both_withhold a p);
+    busy = λ p. sum_of (λ u. times p u.busy) refl (times_append p v.busy w.busy);
     roles = λ p. sum_of (λ u. times p u.roles) refl (times_append p v.roles w.roles);
     count = λ p q. sum_of (λ u. counted_for p q u.hand) refl (let a : counted_for p q w.hand ≡ 0 = ap (counted_for p q) nothing in omega arith);
     sets = λ x b. sum_of (λ u. sets_bit x b u.bookmarked) refl (sets_append x b v.bookmarked w.bookmarked);
@@ -147,6 +164,7 @@ module _ (k : Key) (s : Table) (r : Rule k s) (id other : ℕ) (v w : View) (at 
             recorded = none_of v.recorded w.recorded a.recorded b.recorded;
             left = none_of v.left w.left a.left b.left;
             emptied = none_of v.emptied w.emptied a.emptied b.emptied;
+            returned = none_of v.returned w.returned a.returned b.returned;
             fetched = none_of v.fetched w.fetched a.fetched b.fetched;
             bookmarked = ap (λ (l : List (ℕ × ℕ × ℕ)). l ++ w.bookmarked) a.bookmarked ∙ b.bookmarked;
           };
@@ -158,6 +176,12 @@ module _ (k : Key) (s : Table) (r : Rule k s) (id other : ℕ) (v w : View) (at 
           let a = mine.records.others p (omega arith) in
           let b = theirs.records.others p (omega arith) in
           let c = entries_append p v.changed w.changed in
+          omega arith;
+      unrecorded = λ p z.
+          let both = times_append (owner k p) v.roles w.roles in
+          let a = mine.records.unrecorded p (omega arith) in
+          let b = theirs.records.unrecorded p (omega arith) in
+          let c = times_append p v.recorded w.recorded in
           omega arith;
       in_hand = mine.records.in_hand;
     };
@@ -206,8 +230,8 @@ module _ (k : Key) (s : Table) (r : Rule k s) (id other : ℕ) (v w : View) (at 
 
   spent : SeatFacts k (with_views s views) r.rec nobody
   spent = record {
-    seated = record { about = λ e. absurd (not_alive e); unfetched = refl; idle = λ _. record { hand = refl; rights = refl; recorded = refl; left = refl; emptied = refl; fetched = refl; bookmarked = refl } };
-    records = record { mine = λ p lt. absurd (omega arith); others = λ p _. refl; in_hand = λ h e. absurd (no_hand h e) };
+    seated = record { about = λ e. absurd (not_alive e); unfetched = refl; idle = λ _. record { hand = refl; rights = refl; recorded = refl; left = refl; emptied = refl; returned = refl; fetched = refl; bookmarked = refl } };
+    records = record { mine = λ p lt. absurd (omega arith); others = λ p _. refl; unrecorded = λ p _. refl; in_hand = λ h e. absurd (no_hand h e) };
     saw = record { seen = λ p lt. absurd (omega arith); gone = λ p lt. absurd (omega arith) };
     marking = no_marking nobody refl refl;
     targets = no_targets k r.rec nobody refl;
@@ -225,5 +249,5 @@ module _ (k : Key) (s : Table) (r : Rule k s) (id other : ℕ) (v w : View) (at 
   pub join_rule : Rule k (with_views s views)
   join_rule = views_step k s r views sums seat_each
 
-pub unites : (k : Key) (id other : ℕ) (v w : View) → v.about ≡ k → w.about ≡ k → w.hand ≡ None → Joins (Rule k) id v other w (united v w) nobody
-unites k id other v w about same_about nothing s r at ne there = join_rule k s r id other v w at ne there about same_about nothing
+pub unites : (k : Key) (id other : ℕ) (v w : View) → v.about ≡ k → w.about ≡ k → v.hand ≡ None → w.hand ≡ None → Joins (Rule k) id v other w (united v w) nobody
+unites k id other v w about same_about free nothing s r at ne there = join_rule k s r id other v w at ne there about same_about free nothing

@@ -1,5 +1,7 @@
 -- Sums over lists, when one item changes.
 pub mod TotalLemmas
+-- Pages that are kept from the lane which holds their domain
+pub mod WithholdLemmas
 -- What a step on a page word owes, and that the rule then holds after it.
 pub mod PageSteps
 -- What was read stays so, through a step on a page word, and a word that is read alone.

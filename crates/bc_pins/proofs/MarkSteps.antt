@@ -106,13 +106,14 @@ module _ (k : Key) (s : Table) (r : Rule k s) (id role : ℕ) (v : View) (h : Ha
     idle = λ e. let z : has_role v role ≡ 0 = ap (times role) (sym b ∙ e) in absurd (omega arith);
   }
 
-  records_kept : (u : View) (g : Hand) → u.hand ≡ Some g → g.page ≡ h.page → g.content ≡ h.content → u.changed ≡ v.changed → u.about ≡ v.about → u.roles ≡ v.roles → RecordsContent k r.rec u
-  records_kept u g hand page same changed a b =
+  records_kept : (u : View) (g : Hand) → u.hand ≡ Some g → g.page ≡ h.page → g.content ≡ h.content → u.changed ≡ v.changed → u.recorded ≡ v.recorded → u.about ≡ v.about → u.roles ≡ v.roles → RecordsContent k r.rec u
+  records_kept u g hand page same changed noted a b =
       let old = (r.seats id v at).records in
       record {
         mine = λ p lt. old.mine p (subst (λ (l : List ℕ). 0 < times (owner k p) l) b lt)
             ∙ ap (λ (x : Key). look_up p v.changed (opened_content x p)) (sym a) ∙ ap (λ (l : List (ℕ × List ℕ)). look_up p l (opened_content u.about p)) (sym changed);
         others = λ p z. ap (entries p) changed ∙ old.others p (subst (λ (l : List ℕ). times (owner k p) l ≡ 0) b z);
+        unrecorded = λ p z. ap (times p) noted ∙ old.unrecorded p (subst (λ (l : List ℕ). times (owner k p) l ≡ 0) b z);
         in_hand = λ x e.
             let is = some_hand g x (sym hand ∙ e) in
             subst (λ (y : Hand). (y.page < pages_of k) × (y.content ≡ r.rec y.page)) is
@@ -240,11 +241,13 @@ module _ (k : Key) (s : Table) (r : Rule k s) (id role : ℕ) (v : View) (h : Ha
           left = refl;
           emptied = refl;
           fetched = refl;
+          returned = refl;
+          busy = refl;
           seen = refl;
           gone = refl;
           roles = refl;
           seated = seated_kept u refl refl refl;
-          records = records_kept u (record h { marked = (w, bits) ∷ h.marked }) refl refl refl refl refl refl;
+          records = records_kept u (record h { marked = (w, bits) ∷ h.marked }) refl refl refl refl refl refl refl;
           marking = marking_now;
           targets = targets_now;
           set = keeps_set;
@@ -363,11 +366,13 @@ module _ (k : Key) (s : Table) (r : Rule k s) (id role : ℕ) (v : View) (h : Ha
           left = refl;
           emptied = refl;
           fetched = refl;
+          returned = refl;
+          busy = refl;
           seen = refl;
           gone = refl;
           roles = refl;
           seated = seated_kept c_view refl refl refl;
-          records = records_kept c_view (record h { counted = q ∷ h.counted }) refl refl refl refl refl refl;
+          records = records_kept c_view (record h { counted = q ∷ h.counted }) refl refl refl refl refl refl refl;
           marking = c_marking;
           targets = record { each = (r.seats id v at).targets.each };
           set = λ j b less one. ap (λ (n : ℕ). bit_at n b) (get_or-set_other s.words c_at (bookmark_at k j) y 0 (λ e. omega arith)) ∙ one;

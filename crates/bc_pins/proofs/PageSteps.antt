@@ -14,12 +14,13 @@ use Rattle.bc_pins.specs.Key.{Key, pages_of, owner, counter_at, bookmark_at, fra
 use Rattle.std.specs.Int.{bit_at}
 use Rattle.bc_pins.specs.Totals.{total, times}
 use Rattle.bc_pins.specs.Contents.{IsContent, RefersYoung, IsBarePage}
-use Rattle.bc_pins.specs.Views.{grips, grips_remembered, frame_in_hand, counted_for, sets_bit, has_role, opened_content, sets_for, marked_for}
+use Rattle.bc_pins.specs.Views.{grips, grips_remembered, frame_in_hand, counted_for, sets_bit, has_role, withholds, opened_content, sets_for, marked_for}
 use Rattle.bc_pins.specs.Facts.{Table, word, Lies, Place, remembered_now, Summary, Content, Standing, RecordsContent, Saw, Seated, Marking, Roles, frame_lodged, Frames, points, adds_to, Counters, bookmark_bit, is_clear, Bits, Still, page_word, IsBitOfTarget, MarksTargets}
 use Rattle.bc_pins.specs.Rule.{SeatFacts, Rule}
 use Rattle.bc_pins.proofs.TotalLemmas.{total_set, total_at, total_two, one_few, total_none, one_is}
 use Rattle.bc_pins.proofs.SumLemmas.{sum_same}
 use Rattle.bc_pins.proofs.MarkedLemmas.{summary_more}
+use Rattle.bc_pins.proofs.WithholdLemmas.{foreign_same}
 
 -- the table after a step of seat id on the word of page p
 abbrev pub after : Table → ℕ → ℕ → List (maybe.Option Lodged) → ℕ → View → Table
@@ -58,6 +59,11 @@ pub record PageStep (k : Key) (s : Table) (rec rec' : ℕ → List ℕ) (p x : �
   pub else_fetched : (q : ℕ) → q ≢ p → times q w.fetched ≡ times q v.fetched
   pub else_left : (q : ℕ) → q ≢ p → times q w.left ≡ times q v.left
   pub else_emptied : (q : ℕ) → q ≢ p → times q w.emptied ≡ times q v.emptied
+  -- kept from its lane
+  pub withheld : withholds k p v ≤ withholds k p w
+  pub noted_busy : times p v.busy < times p w.busy → 0 < total (withholds k p) s.views
+  pub else_returned : (q : ℕ) → q ≢ p → times q w.returned ≡ times q v.returned
+  pub else_busy : (q : ℕ) → q ≢ p → times q w.busy ≡ times q v.busy
   pub stays : page_word s p ≡ 4 → has_role v (owner k p) ≡ 0 → x ≡ 4
   -- counters and bits
   pub count : (q : ℕ) → q < k.supers → (if x == 4 then points k p (rec' p) q else 0) + counted_for p q w.hand ≡ (if page_word s p == 4 then points k p (rec p) q else 0) + counted_for p q v.hand
@@ -179,6 +185,14 @@ module _ (k : Key) (s : Table) (r : Rule k s) (rec' : ℕ → List ℕ) (p x : �
     gone = λ e. summary_kept p (rec' p) (d.summarised (sym here ∙ e));
   }
 
+  withheld_else : (q : ℕ) → q ≢ p → withholds k q w ≡ withholds k q v
+  withheld_else q ne =
+      let a = foreign_same k q v w (d.else_grip q ne) d.roles in
+      let b = d.else_returned q ne in
+      let c = d.else_left q ne in
+      let e = d.else_emptied q ne in
+      omega arith
+
   standing_there : (q : ℕ) → q ≢ p → q < pages_of k → Standing k t q
   standing_there q ne lt =
       let old = r.standing q lt in
@@ -189,6 +203,8 @@ module _ (k : Key) (s : Table) (r : Rule k s) (rec' : ℕ → List ℕ) (p x : �
       let e = same_sum (λ u. times q u.emptied) (d.else_emptied q ne) in
       let four : one_if (page_word t q == 4) ≡ one_if (page_word s q == 4) = ap (λ (n : ℕ). one_if (n == 4)) (there q ne) in
       let zeros : one_if (page_word t q == 0) ≡ one_if (page_word s q == 0) = ap (λ (n : ℕ). one_if (n == 0)) (there q ne) in
+      let busy = same_sum (λ u. times q u.busy) (d.else_busy q ne) in
+      let kept_from = same_sum (withholds k q) (withheld_else q ne) in
       let gone = old.gone in
       let absent = old.absent in
       record {
@@ -197,7 +213,18 @@ module _ (k : Key) (s : Table) (r : Rule k s) (rec' : ℕ → List ℕ) (p x : �
         as_opened = λ turn lt. old.as_opened turn (omega arith);
         gone = omega arith;
         absent = omega arith;
+        busy = λ lt. let a = old.busy (omega arith) in omega arith;
       }
+
+  busy_here : p < pages_of k → 0 < total (λ (u : View). times p u.busy) t.views → 0 < total (withholds k p) t.views
+  busy_here near lt =
+      let noted = sum (λ u. times p u.busy) in
+      let kept_from = sum (withholds k p) in
+      let more = d.withheld in
+      elim (cases_lt (times p v.busy) (times p w.busy)) [
+        | inl newly ↦ let a = d.noted_busy newly in omega arith
+        | inr before ↦ let a = (r.standing p near).busy (omega arith) in omega arith
+      ]
 
   standing_here : p < pages_of k → Standing k t p
   standing_here lt =
@@ -235,6 +262,7 @@ module _ (k : Key) (s : Table) (r : Rule k s) (rec' : ℕ → List ℕ) (p x : �
         ];
         gone = omega arith;
         absent = omega arith;
+        busy = busy_here lt;
       }
 
   -- another view
@@ -305,6 +333,7 @@ module _ (k : Key) (s : Table) (r : Rule k s) (rec' : ℕ → List ℕ) (p x : �
         records = record {
           mine = λ q mine. lane_else j u ne is q mine ∙ old.records.mine q mine;
           others = old.records.others;
+          unrecorded = old.records.unrecorded;
           in_hand = λ h has. let was = old.records.in_hand h has in (was.0, was.1 ∙ sym (hand_else j u ne is h has was.0));
         };
         saw = record {

@@ -14,11 +14,12 @@ use Rattle.bc_pins.specs.declared.views.View.{View}
 use Rattle.bc_pins.specs.Key.{Key, pages_of, owner, page_at}
 use Rattle.bc_pins.specs.Totals.{times}
 use Rattle.bc_pins.specs.Contents.{IsBarePage}
-use Rattle.bc_pins.specs.Views.{grips, grips_remembered, has_role}
+use Rattle.bc_pins.specs.Views.{is_empty_handed, grips, grips_remembered, has_role}
 use Rattle.bc_pins.specs.Facts.{Table, Lies, remembered_now, Saw, page_word}
 use Rattle.bc_pins.specs.Rule.{Rule}
 use Rattle.bc_pins.specs.Steps.{Mine, owns, having_read, ReadsWord, Looked}
 use Rattle.bc_pins.proofs.TotalLemmas.{total_set, one_other, one_is, total_less}
+use Rattle.bc_pins.proofs.WithholdLemmas.{added_other, noted_busy}
 use Rattle.bc_pins.proofs.PageSteps.{after, page_step}
 
 -- no two pages have one word
@@ -191,6 +192,10 @@ look_step k s r p id v at near about =
       else_fetched = λ q ne. refl;
       else_left = λ q ne. refl;
       else_emptied = λ q ne. refl;
+      withheld = omega arith;
+      noted_busy = noted_busy k s r p id v near at about;
+      else_returned = λ q ne. refl;
+      else_busy = λ q ne. added_other ((page_word s p == 3) && (owns v p && is_empty_handed v.hand)) q p v.busy ne;
       stays = λ e _. e;
       count = λ q lt. refl;
       else_count = λ j q ne. refl;
@@ -201,9 +206,9 @@ look_step k s r p id v at near about =
       seated = record {
         about = facts.seated.about;
         unfetched = facts.seated.unfetched;
-        idle = λ e. let a = facts.seated.idle e in record { hand = a.hand; rights = a.rights; recorded = a.recorded; left = a.left; emptied = a.emptied; fetched = a.fetched; bookmarked = a.bookmarked };
+        idle = λ e. let a = facts.seated.idle e in record { hand = a.hand; rights = a.rights; recorded = a.recorded; left = a.left; emptied = a.emptied; returned = a.returned; fetched = a.fetched; bookmarked = a.bookmarked };
       };
-      records = record { mine = facts.records.mine; others = facts.records.others; in_hand = facts.records.in_hand };
+      records = record { mine = facts.records.mine; others = facts.records.others; unrecorded = facts.records.unrecorded; in_hand = facts.records.in_hand };
       saw = looked_saw k s p id v at wide near about facts.saw;
     }
 

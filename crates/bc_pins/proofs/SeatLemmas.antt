@@ -8,12 +8,13 @@ use Rattle.bc_pins.specs.declared.views.Hand.{Hand}
 use Rattle.bc_pins.specs.declared.views.View.{View}
 use Rattle.bc_pins.specs.Key.{Key, pages_of, owner}
 use Rattle.bc_pins.specs.Totals.{total, times}
-use Rattle.bc_pins.specs.Views.{grips, grips_remembered, frame_in_hand, counted_for, sets_bit, marked_for, entries, look_up, opened_content, sets_for}
+use Rattle.bc_pins.specs.Views.{grips, grips_remembered, frame_in_hand, counted_for, sets_bit, withholds, marked_for, entries, look_up, opened_content, sets_for}
 use Rattle.bc_pins.specs.Facts.{IsIdle, Table, remembered_now, adds_to, Marking, MarksTargets}
 use Rattle.bc_pins.specs.Rule.{SeatFacts, Rule}
 use Rattle.bc_pins.specs.Steps.{dealer, dealt}
 use Rattle.bc_pins.proofs.TotalLemmas.{total_set, total_append}
 use Rattle.bc_pins.proofs.SumLemmas.{sum_same}
+use Rattle.bc_pins.proofs.WithholdLemmas.{foreign_none}
 
 -- the table with other views
 abbrev pub with_views : Table → List View → Table
@@ -27,6 +28,8 @@ pub record SameSums (old new : List View) : Type 0 where
   pub fetched : (p : ℕ) → total (λ (v : View). times p v.fetched) new ≡ total (λ (v : View). times p v.fetched) old
   pub left : (p : ℕ) → total (λ (v : View). times p v.left) new ≡ total (λ (v : View). times p v.left) old
   pub emptied : (p : ℕ) → total (λ (v : View). times p v.emptied) new ≡ total (λ (v : View). times p v.emptied) old
+  pub withheld : (k : Key) (p : ℕ) → total (withholds k p) new ≡ total (withholds k p) old
+  pub busy : (p : ℕ) → total (λ (v : View). times p v.busy) new ≡ total (λ (v : View). times p v.busy) old
   pub roles : (r : ℕ) → total (λ (v : View). times r v.roles) new ≡ total (λ (v : View). times r v.roles) old
   pub count : (p q : ℕ) → total (λ (v : View). counted_for p q v.hand) new ≡ total (λ (v : View). counted_for p q v.hand) old
   pub sets : (w b : ℕ) → total (λ (v : View). sets_bit w b v.bookmarked) new ≡ total (λ (v : View). sets_bit w b v.bookmarked) old
@@ -54,6 +57,8 @@ views_step k s r views sums each = record {
       let f = sums.fetched p in
       let l = sums.left p in
       let e = sums.emptied p in
+      let busy = sums.busy p in
+      let kept_from = sums.withheld k p in
       let gone = old.gone in
       let absent = old.absent in
       record {
@@ -62,6 +67,7 @@ views_step k s r views sums each = record {
         as_opened = λ turn lt. old.as_opened turn (omega arith);
         gone = omega arith;
         absent = omega arith;
+        busy = λ lt. let a = old.busy (omega arith) in omega arith;
       };
   seats = each;
   roles = record { each = λ n. sums.roles n ∙ r.roles.each n; apart = r.roles.apart; nobody = r.roles.nobody };
@@ -122,6 +128,13 @@ module _ (k : Key) (s : Table) (r : Rule k s) (id : ℕ) (v : View) (at : get_el
   facts : SeatFacts k s r.rec v
   facts = r.seats id v at
 
+  split_withheld : (a : Key) (p : ℕ) → withholds a p (dealer v) + withholds a p (dealt v) ≡ withholds a p v
+  split_withheld a p =
+      let rest = foreign_none a p (dealer v) unused.hand in
+      let first = foreign_none a p (dealt v) refl in
+      let whole = foreign_none a p v unused.hand in
+      omega arith
+
   sums : SameSums s.views views
   sums = record {
     grip = λ p. split_sum (λ u. grips p u.hand) s.views id v (dealer v) (dealt v) at (omega arith);
@@ -130,6 +143,8 @@ module _ (k : Key) (s : Table) (r : Rule k s) (id : ℕ) (v : View) (at : get_el
     fetched = λ p. split_sum (λ u. times p u.fetched) s.views id v (dealer v) (dealt v) at (omega arith);
     left = λ p. split_sum (λ u. times p u.left) s.views id v (dealer v) (dealt v) at (omega arith);
     emptied = λ p. split_sum (λ u. times p u.emptied) s.views id v (dealer v) (dealt v) at (omega arith);
+    withheld = λ a p. split_sum (withholds a p) s.views id v (dealer v) (dealt v) at (split_withheld a p);
+    busy = λ p. split_sum (λ u. times p u.busy) s.views id v (dealer v) (dealt v) at (omega arith);
     roles = λ p. split_sum (λ u. times p u.roles) s.views id v (dealer v) (dealt v) at (cut_times p v.roles);
     count = λ p q. split_sum (λ u. counted_for p q u.hand) s.views id v (dealer v) (dealt v) at (omega arith);
     sets = λ w b. split_sum (λ u. sets_bit w b u.bookmarked) s.views id v (dealer v) (dealt v) at (omega arith);
@@ -137,7 +152,7 @@ module _ (k : Key) (s : Table) (r : Rule k s) (id : ℕ) (v : View) (at : get_el
   }
 
   idle_rest : IsIdle (dealer v)
-  idle_rest = record { hand = unused.hand; rights = unused.rights; recorded = unused.recorded; left = unused.left; emptied = unused.emptied; fetched = unused.fetched; bookmarked = unused.bookmarked }
+  idle_rest = record { hand = unused.hand; rights = unused.rights; recorded = unused.recorded; left = unused.left; emptied = unused.emptied; returned = unused.returned; fetched = unused.fetched; bookmarked = unused.bookmarked }
 
   keeps_rest : SeatFacts k (with_views s views) r.rec (dealer v)
   keeps_rest = record {
@@ -145,6 +160,7 @@ module _ (k : Key) (s : Table) (r : Rule k s) (id : ℕ) (v : View) (at : get_el
     records = record {
       mine = λ p lt. let c = cut_times (owner k p) v.roles in facts.records.mine p (omega arith);
       others = λ p _. ap (entries p) no_change;
+      unrecorded = λ p _. ap (times p) unused.recorded;
       in_hand = λ h e. absurd (no_hand h (sym unused.hand ∙ e));
     };
     saw = record {
@@ -157,10 +173,11 @@ module _ (k : Key) (s : Table) (r : Rule k s) (id : ℕ) (v : View) (at : get_el
 
   has_first : SeatFacts k (with_views s views) r.rec (dealt v)
   has_first = record {
-    seated = record { about = facts.seated.about; unfetched = refl; idle = λ _. record { hand = refl; rights = refl; recorded = refl; left = refl; emptied = refl; fetched = refl; bookmarked = refl } };
+    seated = record { about = facts.seated.about; unfetched = refl; idle = λ _. record { hand = refl; rights = refl; recorded = refl; left = refl; emptied = refl; returned = refl; fetched = refl; bookmarked = refl } };
     records = record {
       mine = λ p lt. let c = cut_times (owner k p) v.roles in facts.records.mine p (omega arith) ∙ ap (λ (l : List (ℕ × List ℕ)). look_up p l (opened_content v.about p)) no_change;
       others = λ p _. refl;
+      unrecorded = λ p _. refl;
       in_hand = λ h e. absurd (no_hand h e);
     };
     saw = record { seen = λ p lt. absurd (omega arith); gone = λ p lt. absurd (omega arith) };

@@ -10,12 +10,13 @@ use Rattle.bc_pins.specs.declared.views.View.{View}
 use Rattle.bc_pins.specs.Key.{Key, pages_of, owner, counter_at, bookmark_at, frame_at, notice_at, mark_at, finished_at, page_at, pages_end}
 use Rattle.std.specs.Int.{bit_at}
 use Rattle.bc_pins.specs.Totals.{total, times}
-use Rattle.bc_pins.specs.Views.{grips, grips_remembered, frame_in_hand, counted_for, sets_bit}
+use Rattle.bc_pins.specs.Views.{grips, grips_remembered, frame_in_hand, counted_for, sets_bit, withholds}
 use Rattle.bc_pins.specs.Facts.{Table, word, Place, remembered_now, Content, Standing, RecordsContent, Saw, Seated, Marking, Frames, points, adds_to, Counters, bookmark_bit, is_clear, Bits, page_word, MarksTargets}
 use Rattle.bc_pins.specs.Rule.{SeatFacts, Rule}
 use Rattle.bc_pins.proofs.TotalLemmas.{total_set}
 use Rattle.bc_pins.proofs.SumLemmas.{sum_same}
 use Rattle.bc_pins.proofs.MarkedLemmas.{KeepsBits, summary_more}
+use Rattle.bc_pins.proofs.WithholdLemmas.{foreign_same}
 
 -- the table after a step of seat id on the word i
 abbrev pub aside : Table → ℕ → ℕ → ℕ → View → Table
@@ -31,6 +32,8 @@ pub record SideStep (k : Key) (s : Table) (rec : ℕ → List ℕ) (i x id : ℕ
   pub left : w.left ≡ v.left
   pub emptied : w.emptied ≡ v.emptied
   pub fetched : w.fetched ≡ v.fetched
+  pub returned : w.returned ≡ v.returned
+  pub busy : w.busy ≡ v.busy
   pub seen : w.seen ≡ v.seen
   pub gone : w.gone ≡ v.gone
   pub roles : w.roles ≡ v.roles
@@ -82,6 +85,14 @@ module _ (k : Key) (s : Table) (r : Rule k s) (i x id : ℕ) (v w : View) (at : 
         gone = λ e. summary_more k s.words t.words p (r.rec p) d.set (old.gone (sym (page_same p lt) ∙ e));
       }
 
+  withheld_same : (p : ℕ) → withholds k p w ≡ withholds k p v
+  withheld_same p =
+      let a = foreign_same k p v w (d.grip p) d.roles in
+      let b = ap (times p) d.returned in
+      let c = ap (times p) d.left in
+      let e = ap (times p) d.emptied in
+      omega arith
+
   standing_kept : (p : ℕ) → p < pages_of k → Standing k t p
   standing_kept p lt =
       let old = r.standing p lt in
@@ -92,6 +103,8 @@ module _ (k : Key) (s : Table) (r : Rule k s) (i x id : ℕ) (v w : View) (at : 
       let e = same_sum (λ u. times p u.emptied) (ap (times p) d.emptied) in
       let four : one_if (page_word t p == 4) ≡ one_if (page_word s p == 4) = ap (λ (n : ℕ). one_if (n == 4)) (page_same p lt) in
       let zeros : one_if (page_word t p == 0) ≡ one_if (page_word s p == 0) = ap (λ (n : ℕ). one_if (n == 0)) (page_same p lt) in
+      let busy = same_sum (λ u. times p u.busy) (ap (times p) d.busy) in
+      let kept_from = same_sum (withholds k p) (withheld_same p) in
       let gone = old.gone in
       let absent = old.absent in
       record {
@@ -100,6 +113,7 @@ module _ (k : Key) (s : Table) (r : Rule k s) (i x id : ℕ) (v w : View) (at : 
         as_opened = λ turn lt. old.as_opened turn (omega arith);
         gone = omega arith;
         absent = omega arith;
+        busy = λ lt. let a = old.busy (omega arith) in omega arith;
       }
 
   saw_same : (u : View) → Saw k s u → Saw k t u

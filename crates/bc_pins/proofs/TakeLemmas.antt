@@ -21,7 +21,8 @@ use Rattle.bc_pins.specs.Views.{grips, grips_remembered, frame_in_hand, counted_
 use Rattle.bc_pins.specs.Facts.{Table, slot, IsHomed, Lies, remembered_now, RecordsContent, Seated, Marking, frame_lodged, points, page_word}
 use Rattle.bc_pins.specs.Rule.{Rule}
 use Rattle.bc_pins.specs.Steps.{Mine, both_slots, gripping, having_read, ReadsWord, Takes, Took}
-use Rattle.bc_pins.proofs.TotalLemmas.{total_set, total_at, total_none, one_same, one_other}
+use Rattle.bc_pins.proofs.TotalLemmas.{total_set, total_at, total_none, total_only, total_two, one_same, one_other}
+use Rattle.bc_pins.proofs.WithholdLemmas.{foreign_none}
 use Rattle.bc_pins.proofs.PageSteps.{after, PageStep, page_step}
 use Rattle.bc_pins.proofs.ReadLemmas.{same_page, saw_kept, remembered_word, reads, look_step}
 
@@ -108,6 +109,7 @@ module _ (k : Key) (s : Table) (r : Rule k s) (p id old role : ℕ) (v : View) (
       record {
         mine = old_facts.mine;
         others = old_facts.others;
+        unrecorded = old_facts.unrecorded;
         in_hand = λ g e. subst (λ (x : Hand). (x.page < pages_of k) × (x.content ≡ r.rec x.page)) (some_hand _ g e) (near, content);
       }
 
@@ -184,6 +186,10 @@ module _ (k : Key) (s : Table) (r : Rule k s) (p id old role : ℕ) (v : View) (
         else_fetched = λ q ne. refl;
         else_left = λ q ne. refl;
         else_emptied = λ q ne. refl;
+        withheld = (let z = foreign_none k p v nothing in omega arith);
+        noted_busy = λ lt. absurd (omega arith);
+        else_returned = λ q ne. refl;
+        else_busy = λ q ne. refl;
         stays = λ x _. absurd (not_four x);
         count = λ q lt. let a = no_count p q in let b = hand_counts p q in let c = not_gone (points k p (r.rec p) q) in omega arith;
         else_count = λ j q ne. hand_counts j q ∙ sym (no_count j q);
@@ -195,6 +201,14 @@ module _ (k : Key) (s : Table) (r : Rule k s) (p id old role : ℕ) (v : View) (
         records = records_kept;
         saw = saw_kept k s p 3 homes id v w at wide fewer else_flag refl refl refl (λ x. absurd (not_four x)) (r.seats id v at).saw;
       }
+
+  -- no other seat has the role of the lane that holds the page's domain, so none records that the page is remembered
+  recorded_alone : 0 < has_role v (owner k p) → total (λ (u : View). times p u.recorded) s.views ≡ times p v.recorded
+  recorded_alone mine = total_only (λ (u : View). times p u.recorded) s.views id v at (λ j u ne is. (r.seats j u is).records.unrecorded p (
+      let two = total_two (λ (z : View). has_role z (owner k p)) s.views j id u v ne is at in
+      let each = r.roles.each (owner k p) in
+      let apart = r.roles.apart (owner k p) in
+      omega arith))
 
   told : Takes v p flag h
   told =
@@ -211,6 +225,11 @@ module _ (k : Key) (s : Table) (r : Rule k s) (p id old role : ℕ) (v : View) (
             let own = total_at (λ (u : View). times p u.recorded) s.views id v at in
             let was : 0 < one_if (opened_word k p == 2) + times p v.recorded = subst (λ (a : Key). 0 < one_if (opened_word a p == 2) + times p v.recorded) about lt in
             flagged (standing.remembered (omega arith));
+        found = λ on lt.
+            let alone = recorded_alone (subst (λ (a : Key). 0 < has_role v (owner a p)) about lt) in
+            let now : one_if (page_word s p == 2) ≡ 1 = ap (λ (n : ℕ). one_if (n == 2)) is ∙ ap one_if on in
+            let ever = standing.recorded (omega arith) in
+            subst (λ (a : Key). 0 < one_if (opened_word a p == 2) + times p v.recorded) (sym about) (omega arith);
         here = λ e.
             let four = other_is 4 (λ x. omega arith) (λ x. omega arith) in
             let none : total (λ (u : View). times p u.fetched) s.views ≡ 0 = total_none (λ (u : View). times p u.fetched) s.views (λ j u is. ap (times p) (r.seats j u is).seated.unfetched) in

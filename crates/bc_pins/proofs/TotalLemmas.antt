@@ -48,6 +48,17 @@ total_none f (x ∷ xs) each =
     let t = total_none f xs (λ j. each (suc j)) in
     omega arith
 
+pub total_only : {A : Type 0} (f : A → ℕ) (vs : List A) (j : ℕ) (v : A) → get_elem? vs j ≡ some v → ((i : ℕ) (u : A) → i ≢ j → get_elem? vs i ≡ some u → f u ≡ 0) → total f vs ≡ f v
+total_only f [] j v e others = absurd (some-ne-none v (sym e))
+total_only f (x ∷ xs) zero v e others =
+    let is : f x ≡ f v = ap f (some-injective x v e) in
+    let rest = total_none f xs (λ i u at. others (suc i) u (λ z. omega arith) at) in
+    omega arith
+total_only f (x ∷ xs) (suc j) v e others =
+    let here = others 0 x (λ z. omega arith) refl in
+    let t = total_only f xs j v e (λ i u ne at. others (suc i) u (λ z. ne (omega arith)) at) in
+    omega arith
+
 pub total_same : {A : Type 0} (f g : A → ℕ) (vs : List A) → ((v : A) → f v ≡ g v) → total f vs ≡ total g vs
 total_same f g [] each = refl
 total_same f g (x ∷ xs) each =

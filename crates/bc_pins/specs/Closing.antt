@@ -58,7 +58,9 @@ pub record Gathered (id : TableId) (k : Key) (all front : List Seat) (root : Wor
   pub emptied : (p : ℕ) → times p root.me.0.emptied + total (λ (seat : Seat). times p (view_of seat).emptied) front ≡ total (λ (seat : Seat). times p (view_of seat).emptied) all
   pub bookmarked : (w b : ℕ) → sets_bit w b root.me.0.bookmarked + total (λ (seat : Seat). sets_bit w b (view_of seat).bookmarked) front ≡ total (λ (seat : Seat). sets_bit w b (view_of seat).bookmarked) all
   pub fetched : (p : ℕ) → times p root.me.0.fetched + total (λ (seat : Seat). times p (view_of seat).fetched) front ≡ total (λ (seat : Seat). times p (view_of seat).fetched) all
+  pub returned : (p : ℕ) → times p root.me.0.returned + total (λ (seat : Seat). times p (view_of seat).returned) front ≡ total (λ (seat : Seat). times p (view_of seat).returned) all
   pub gone : (p : ℕ) → times p root.me.0.gone + total (λ (seat : Seat). times p (view_of seat).gone) front ≡ total (λ (seat : Seat). times p (view_of seat).gone) all
+  pub busy : (p : ℕ) → times p root.me.0.busy + total (λ (seat : Seat). times p (view_of seat).busy) front ≡ total (λ (seat : Seat). times p (view_of seat).busy) all
   pub mine : (j : ℕ) → length front ≤ j → j < length all → (d : Seat) (p : ℕ) → 0 < has_role (view_of (slice_index_or all j d)) (owner k p)
       → (0 < has_role root.me.0 (owner k p)) × (record_of root.me.0 p ≡ record_of (view_of (slice_index_or all j d)) p)
 
@@ -111,7 +113,8 @@ pub record HeadersSet (k : Key) (old new : List Header) (words : List ℕ) : Typ
       → ((slice_index_or new q unused_header).bookmarks ≡ (slice_index_or old q unused_header).bookmarks) × ((slice_index_or new q unused_header).incoming ≡ (slice_index_or old q unused_header).incoming)
 
 -- where a page is once the table is closed: Remembered exactly where it was so at the opening or a seat put it back so; Gone and
--- Absent by the opening and by what the seats made of it. In a mark turn no page became Remembered
+-- Absent by the opening and by what the seats made of it. In a mark turn no page became Remembered. A page that its lane read as
+-- Held with nothing in hand was made Gone or Absent, or put back by a seat that isn't that lane's
 pub record ClosedState (k : Key) (seats : List Seat) (st : PageState) (p : ℕ) : Type 0 where
   pub remembered : 0 < one_if (opened_word k p == 2) + total (λ (seat : Seat). times p (view_of seat).recorded) seats → st ≡ state.Remembered
   pub as_opened : k.lanes ≡ false → st ≡ state.Remembered → opened_word k p ≡ 2
@@ -119,6 +122,8 @@ pub record ClosedState (k : Key) (seats : List Seat) (st : PageState) (p : ℕ) 
   pub gone : one_if (state_word st == 4) + total (λ (seat : Seat). times p (view_of seat).fetched) seats
       ≡ one_if (opened_word k p == 4) + total (λ (seat : Seat). times p (view_of seat).left) seats
   pub absent : one_if (state_word st == 0) ≡ one_if (opened_word k p == 0) + total (λ (seat : Seat). times p (view_of seat).emptied) seats
+  pub busy : 0 < total (λ (seat : Seat). times p (view_of seat).busy) seats
+      → 0 < total (λ (seat : Seat). times p (view_of seat).left) seats + total (λ (seat : Seat). times p (view_of seat).emptied) seats + total (λ (seat : Seat). times p (view_of seat).returned) seats
 
 -- bit b of a bookmark word is that of a target of a page that a seat made Gone
 pub record IsOfPageLeft (k : Key) (seats : List Seat) (s : Layout) (w b : ℕ) : Type 0 where

@@ -21,7 +21,7 @@ use Rattle.bc_pins.specs.declared.views.View.{View}
 use Rattle.bc_pins.specs.Key.{Key, pages_of, owner, page_at, counter_at, bookmark_at, mark_at, finished_at, frame_at, frame_words, frame_slot, store_slot}
 use Rattle.bc_pins.specs.Totals.{total, times, sum_to}
 use Rattle.bc_pins.specs.Contents.{IsContent, RefersYoung, IsBarePage, objects_in}
-use Rattle.bc_pins.specs.Views.{grips, grips_remembered, frame_in_hand, counted_for, sets_bit, sets_for, marked_for, has_role, entries, opened_word, record_of}
+use Rattle.bc_pins.specs.Views.{grips, grips_remembered, frame_in_hand, counted_for, sets_bit, sets_for, marked_for, has_role, withholds, entries, opened_word, record_of}
 
 abbrev pub Table : Type 0
 Table = State Lodged View
@@ -104,19 +104,22 @@ abbrev pub remembered_ever : Key → Table → ℕ → ℕ
 remembered_ever k s page = one_if (opened_word k page == 2) + total (λ (v : View). times page v.recorded) s.views
 
 -- Words: a page is Remembered, or in hand so, exactly where it was at the opening or some view put it back so; it is Gone, and
--- Absent, by the opening and by what the views made of it. In a mark turn no page becomes Remembered
+-- Absent, by the opening and by what the views made of it. In a mark turn no page becomes Remembered. A page that its lane read as
+-- Held with nothing in hand is in another's hands, or was and has been put back by that one, made Gone or made Absent
 pub record Standing (k : Key) (s : Table) (page : ℕ) : Type 0 where
   pub remembered : 0 < remembered_ever k s page → 0 < remembered_now s page
   pub recorded : 0 < remembered_now s page → 0 < remembered_ever k s page
   pub as_opened : k.lanes ≡ false → 0 < remembered_ever k s page → opened_word k page ≡ 2
   pub gone : one_if (page_word s page == 4) + total (λ (v : View). times page v.fetched) s.views ≡ one_if (opened_word k page == 4) + total (λ (v : View). times page v.left) s.views
   pub absent : one_if (page_word s page == 0) ≡ one_if (opened_word k page == 0) + total (λ (v : View). times page v.emptied) s.views
+  pub busy : 0 < total (λ (v : View). times page v.busy) s.views → 0 < total (withholds k page) s.views
 
--- Content, of one seat: the lane that holds a page's domain records its content, and nobody else changes it. What a seat has in
--- hand has the content that it took
+-- Content, of one seat: the lane that holds a page's domain records its content and that it is remembered, and nobody else does. What
+-- a seat has in hand has the content that it took
 pub record RecordsContent (k : Key) (rec : ℕ → List ℕ) (v : View) : Type 0 where
   pub mine : (p : ℕ) → 0 < has_role v (owner k p) → rec p ≡ record_of v p
   pub others : (p : ℕ) → has_role v (owner k p) ≡ 0 → entries p v.changed ≡ 0
+  pub unrecorded : (p : ℕ) → has_role v (owner k p) ≡ 0 → times p v.recorded ≡ 0
   pub in_hand : (h : Hand) → v.hand ≡ Some h → (h.page < pages_of k) × (h.content ≡ rec h.page)
 
 -- Seen: a page that was read as Remembered is Remembered or in hand so, and an own page that was read as Gone is Gone
@@ -131,6 +134,7 @@ pub record IsIdle (v : View) : Type 0 where
   pub recorded : v.recorded ≡ []
   pub left : v.left ≡ []
   pub emptied : v.emptied ≡ []
+  pub returned : v.returned ≡ []
   pub fetched : v.fetched ≡ []
   pub bookmarked : v.bookmarked ≡ []
 

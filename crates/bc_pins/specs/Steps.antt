@@ -16,7 +16,7 @@ use Rattle.bc_pins.specs.Key.{Key, owner, page_at, counter_at, bookmark_at, fram
 use Rattle.bc_pins.specs.Totals.{times}
 use Rattle.bc_pins.specs.Contents.{IsContent, RefersYoung, IsBarePage, objects_in}
 use Rattle.bc_pins.specs.Facts.{IsBitOfTarget, points}
-use Rattle.bc_pins.specs.Views.{has_role, sets_bit, opened_content, opened_word, record_of}
+use Rattle.bc_pins.specs.Views.{is_empty_handed, has_role, sets_bit, opened_content, opened_word, record_of}
 
 abbrev pub Mine : Type 0
 Mine = Me Lodged View
@@ -37,8 +37,10 @@ fresh k roles = record {
   left = [];
   emptied = [];
   fetched = [];
+  returned = [];
   seen = [];
   gone = [];
+  busy = [];
   read = [];
   bookmarked = [];
   rights = [];
@@ -66,12 +68,14 @@ no_key = record {
 abbrev pub nobody : View
 nobody = record (fresh no_key []) { alive = false }
 
--- a word of a page was read: which, and what; a Remembered is kept by all, a Gone by the lane that holds the page's domain
+-- a word of a page was read: which, and what; a Remembered is kept by all, a Gone by the lane that holds the page's domain, and so
+-- is a Held that it read with nothing in hand
 abbrev pub having_read : View → ℕ → ℕ → View
 having_read v page found = record v {
   read = (page_at page, found) ∷ v.read;
   seen = if found == 2 then page ∷ v.seen else v.seen;
   gone = if (found == 4) && owns v page then page ∷ v.gone else v.gone;
+  busy = if (found == 3) && (owns v page && is_empty_handed v.hand) then page ∷ v.busy else v.busy;
 }
 
 -- the page is in hand
@@ -89,12 +93,13 @@ gripping v page remembered homed = record v {
   });
 }
 
--- the page was put back: a lane's record is the new content
+-- the page was put back: a lane's record is the new content, and whether it is remembered, and whoever isn't that lane returned it
 abbrev pub released : View → ℕ → Bool → List ℕ → View
 released v page remembered content = record v {
   hand = None;
   changed = if owns v page then (page, content) ∷ v.changed else v.changed;
-  recorded = if remembered then page ∷ v.recorded else v.recorded;
+  recorded = if remembered && owns v page then page ∷ v.recorded else v.recorded;
+  returned = if owns v page then v.returned else page ∷ v.returned;
 }
 
 -- bits of a bookmark word were set for the page in hand, and the word was read as it was before
@@ -183,13 +188,15 @@ pub record ReadsWord (v : View) (page found : ℕ) : Type 0 where
   pub gone : 0 < times page v.gone → found ≡ 4
 
 -- what the box tells of a page that was taken from Home, or from Home and remembered. Its content is what the lane that holds the
--- page's domain put back last, and where none does that of the opening. It wasn't Gone at the opening
+-- page's domain put back last, and where none does that of the opening. An own page is remembered exactly where it was so at the
+-- opening or the seat put it back so. It wasn't Gone at the opening
 pub record Takes (v : View) (page : ℕ) (remembered : Bool) (homed : Homed) : Type 0 where
   pub mine : 0 < has_role v (owner v.about page) → homed.page ≡ record_of v page
   pub unowned : times (owner v.about page) v.about.roles ≡ 0 → homed.page ≡ opened_content v.about page
   pub fixed : IsContent v.about.opening page homed.page
   pub young : RefersYoung v.about.opening page homed.page → remembered ≡ true
   pub recorded : 0 < one_if (opened_word v.about page == 2) + times page v.recorded → remembered ≡ true
+  pub found : remembered ≡ true → 0 < has_role v (owner v.about page) → 0 < one_if (opened_word v.about page == 2) + times page v.recorded
   pub here : opened_word v.about page ≢ 4
 
 -- Take: the page is in hand with its box, or the word that was read is told
@@ -247,8 +254,10 @@ united v w = record v {
   left = v.left ++ w.left;
   emptied = v.emptied ++ w.emptied;
   fetched = v.fetched ++ w.fetched;
+  returned = v.returned ++ w.returned;
   seen = v.seen ++ w.seen;
   gone = v.gone ++ w.gone;
+  busy = v.busy ++ w.busy;
   read = v.read ++ w.read;
   bookmarked = v.bookmarked ++ w.bookmarked;
   rights = v.rights ++ w.rights;

@@ -1,5 +1,5 @@
 -- What one view says: what it has in hand, which content it records of a page, which roles it has.
-use Rattle.std.specs.Prelude.{ℕ, ◌+◌, ◌==◌, ◌&&◌, Bool, if◌then◌else◌, List, [], ◌∷◌, Option, Some, None}
+use Rattle.std.specs.Prelude.{ℕ, ◌+◌, ◌==◌, ◌&&◌, Bool, if◌then◌else◌, List, [], ◌∷◌, true, false, Option, Some, None}
 use Rattle.std.specs.Int.{bit_at}
 use Rattle.bc_bits.specs.Counting.{one_if}
 use Rattle.bc_superpages.specs.declared.headers.PageState.{PageState}
@@ -8,7 +8,7 @@ use Rattle.bc_superpages.specs.Layout.{content_at}
 use Rattle.bc_superpages.specs.LayoutAt.{state_at}
 use Rattle.bc_pins.specs.declared.views.Hand.{Hand}
 use Rattle.bc_pins.specs.declared.views.View.{View}
-use Rattle.bc_pins.specs.Key.{Key}
+use Rattle.bc_pins.specs.Key.{Key, owner}
 use Rattle.bc_pins.specs.Totals.{times}
 
 -- how often the view has the page in hand: once or not. And the same where it says remembered
@@ -47,6 +47,19 @@ marked_for page (e ∷ es) = one_if (e.0 == page) + marked_for page es
 -- has the view this role, by its number?
 abbrev pub has_role : View → ℕ → ℕ
 has_role v role = times role v.roles
+
+-- is nothing in hand?
+abbrev pub is_empty_handed : Option Hand → Bool
+is_empty_handed None = true
+is_empty_handed (Some h) = false
+
+-- how often the view has the page in hand where it isn't that of this lane; and how often it keeps, or kept, the page from the
+-- lane: it has it in hand so, put it back so, or made it Gone or Absent
+abbrev pub grips_foreign : Key → ℕ → View → ℕ
+grips_foreign k page v = if has_role v (owner k page) == 0 then grips page v.hand else 0
+
+abbrev pub withholds : Key → ℕ → View → ℕ
+withholds k page v = grips_foreign k page v + (times page v.returned + (times page v.left + times page v.emptied))
 
 -- how many entries of the list are of the page, and the content that the first of them has
 abbrev pub entries : ℕ → List (ℕ × List ℕ) → ℕ

@@ -41,14 +41,18 @@ pub struct View {
     pub hand: Option<Hand>,
     /// A lane's own pages that it put back, the last first, each with the content.
     pub changed: LinkedList<(u32, Page)>,
-    /// Pages that it put back as Remembered, made Gone, made Absent, and took from Gone.
+    /// A lane's own pages that it put back as Remembered; and pages that it made Gone, made Absent, and took from Gone.
     pub recorded: LinkedList<u32>,
     pub left: LinkedList<u32>,
     pub emptied: LinkedList<u32>,
     pub fetched: LinkedList<u32>,
-    /// Pages that it read as Remembered, and own pages that it read as Gone and hasn't taken since.
+    /// Pages that it put back though it isn't the lane that holds their domain.
+    pub returned: LinkedList<u32>,
+    /// Pages that it read as Remembered, own pages that it read as Gone and hasn't taken since, and own pages that it read as Held
+    /// with nothing in hand.
     pub seen: LinkedList<u32>,
     pub gone: LinkedList<u32>,
+    pub busy: LinkedList<u32>,
     /// The words that it read, the last first: which word, and what it read.
     pub read: LinkedList<(u64, u64)>,
     /// The bookmark bits that it set: for which page, in which word, and which bits.

@@ -10,7 +10,7 @@ use Rattle.bc_pins.specs.Opened.{Opened}
 use Rattle.bc_pins.specs.Opening.{IsOpenable}
 use Rattle.bc_pins.specs.Seating.{IsDealt}
 use Rattle.bc_pins.specs.Steps.{fresh}
-use Rattle.bc_pins.specs.Totals.{times}
+use Rattle.bc_pins.specs.Totals.{times, total}
 use Rattle.bc_pins.specs.declared.key.Role.TheVariants.{Pager}
 use Rattle.bc_pins.specs.declared.key.Turn.TheVariants.{Lanes}
 use Rattle.bc_pins.specs.declared.pins.Pins.{Pins}
@@ -33,7 +33,7 @@ use Rattle.bc_whole_heap.specs.Heaps.{HeapView}
 
 -- a space that was neither opened nor changed lies as it did
 pub lies-still : (s : Layout) → IsOpenable s → LiesBack s s
-lies-still s openable = record { same = refl; remembered = λ p is. is; summarised = openable.summarised }
+lies-still s openable = record { same = refl; remembered = λ p. (λ is. is, λ is. is); summarised = openable.summarised }
 
 -- the only seat is the pager's
 module _ (pins : Pins) (h : HeapView) (hs : List ℕ) (seats : List Seat) (pager : Seat) (opened : Opened h.space Lanes hs (turn_roles []) pins (seats ++ pager ∷ [])) where
@@ -80,6 +80,13 @@ module _ (pins : Pins) (h : HeapView) (hs : List ℕ) (seats : List Seat) (pager
         roles = λ i lt. absurd (omega arith);
         behind = λ i lt. absurd (omega arith);
         shows = λ i lt. absurd (omega arith);
+        recorded = record {
+          mine = λ i lt. absurd (omega arith);
+          nobody = λ p none.
+              let one = ap (times p) back.recorded in
+              let sum = ap (total (λ (s : Seat). times p (view_of s).recorded)) only in
+              omega arith;
+        };
       }
 
       pub alone-lies : IsOpenable h.space → LiesBack h.space t
@@ -90,6 +97,7 @@ module _ (pins : Pins) (h : HeapView) (hs : List ℕ) (seats : List Seat) (pager
         fetched = λ p. let one = ap (times p) back.fetched in omega arith;
         left = λ p. let one = paged.left p in omega arith;
         emptied = λ p. let one = paged.emptied p in omega arith;
+        returned = λ p. let one = ap (times p) back.returned in omega arith;
         opens = (let one = back.opens in omega arith);
       })
 

@@ -24,7 +24,7 @@ use Rattle.bc_turn.proofs.PagerLemmas.{name-none}
 use Rattle.bc_turn.specs.Answered.{AnsweredBeside}
 
 -- a state by its word
-is-gone : (st : PageState) → 0 < one_if (state_word st == 4) → st ≡ Gone
+pub is-gone : (st : PageState) → 0 < one_if (state_word st == 4) → st ≡ Gone
 is-gone Absent lt = absurd (omega arith)
 is-gone Home lt = absurd (omega arith)
 is-gone Remembered lt = absurd (omega arith)
@@ -52,17 +52,18 @@ some-of n m lt = elim (cases_lt 0 n) [
 ]
 
 -- a page behind all superpages
-state-behind : (s : Layout) (p : ℕ) → IsLayout s → 4 * superpages s ≤ p → state_at s.states p ≡ Absent
+pub state-behind : (s : Layout) (p : ℕ) → IsLayout s → 4 * superpages s ≤ p → state_at s.states p ≡ Absent
 state-behind s p layout far =
     let long = layout.long.states in
     ap (λ (states : List PageState). get_or states (p % 4) Absent) (get_or_past s.states (p / 4) [] (omega arith)) ∙ get_or_past [] (p % 4) Absent (omega arith)
 
--- what the seats have between them of the pages that were made Gone, made Absent and taken from Gone is what the answers say, and none
--- opened a box
+-- what the seats have between them of the pages that were made Gone, made Absent and taken from Gone is what the answers say, none
+-- returned a page of another's, and none opened a box
 pub record ArePagers (seats : List Seat) (told : List Answer) : Type 0 where
   pub fetched : (p : ℕ) → total (λ (seat : Seat). times p (view_of seat).fetched) seats ≡ 0
   pub left : (p : ℕ) → total (λ (seat : Seat). times p (view_of seat).left) seats ≡ total (says_evicted p) told
   pub emptied : (p : ℕ) → total (λ (seat : Seat). times p (view_of seat).emptied) seats ≡ total (says_discarded p) told
+  pub returned : (p : ℕ) → total (λ (seat : Seat). times p (view_of seat).returned) seats ≡ 0
   pub opens : opens_of seats ≡ 0
 
 module _ (k : Key) (s t : Layout) (seats : List Seat) (told : List Answer) (opening : k.opening ≡ s) (closed : Closed k seats t) (before : IsLayout s) (after : IsLayout t)

@@ -81,7 +81,7 @@ stands-laid h t noted hs serials state stands = record {
 pub lies-back-running : (h k : HeapView) (hs : List ℕ) → IsLaidBack h k → IsRunning h hs → IsRunning k hs
 lies-back-running h k hs back run =
     subst (λ (x : HeapView). IsRunning x hs) (sym (back-is h k back))
-    (running-laid h k.space k.roots.noted hs (subst IsSummarised back.pages.same back.pages.summarised) back.pages.remembered (noted-back h k back) run)
+    (running-laid h k.space k.roots.noted hs (subst IsSummarised back.pages.same back.pages.summarised) (λ p. (back.pages.remembered p).0) (noted-back h k back) run)
 
 -- and the heap stands for the same
 pub lies-back-stands : (h k : HeapView) (hs serials : List ℕ) (state : State) → IsLaidBack h k → StandsAs h hs serials state → StandsAs k hs serials state

@@ -11,6 +11,7 @@ use Rattle.bc_model.specs.declared.operations.Op.{Op}
 use Rattle.bc_model.specs.declared.operations.Reply.{Reply}
 use Rattle.bc_mutator.specs.Objects.{AreWhole}
 use Rattle.bc_mutator.specs.Operations.{IsOpOf}
+use Rattle.bc_pager.specs.declared.answers.Answer.{Answer}
 use Rattle.bc_pins.specs.Calls.{key_of, view_of}
 use Rattle.bc_pins.specs.Closing.{Closed}
 use Rattle.bc_pins.specs.Key.{pages_of}
@@ -25,10 +26,12 @@ use Rattle.bc_reach.specs.Distinct.{Has}
 use Rattle.bc_superpages.specs.Kept.{IsLayout}
 use Rattle.bc_superpages.specs.Layout.{Layout}
 use Rattle.bc_superpages.specs.LayoutAt.{IsAllocated}
+use Rattle.bc_turn.proofs.AnsweredLemmas.{ArePagers}
+use Rattle.bc_turn.proofs.AwayLemmas.{NotesGone, notes-gone}
 use Rattle.bc_turn.proofs.HeapLemmas.{laid-back}
 use Rattle.bc_turn.proofs.OpenableLemmas.{openable}
 use Rattle.bc_turn.proofs.StageLemmas.{Link, Stage, first, first-ran, linked, new-holders, new-lane, new-seat, nothing-did, nothing-more, stages}
-use Rattle.bc_turn.proofs.TableLemmas.{AreSeatsBack, IsTurnTable, lies-back, role-numbers}
+use Rattle.bc_turn.proofs.TableLemmas.{AreRecorded, AreSeatsBack, IsTurnTable, lies-back, role-numbers}
 use Rattle.bc_turn.specs.Begun.{AllRan, AreBegun, AreBusyLanes, lane_ops, lane_replies}
 use Rattle.bc_turn.specs.Beside.{IsAtEndOr, IsLaidBack, LiesBack, RanBeside, StopsBeside}
 use Rattle.bc_turn.specs.Laying.{AreLaidBack}
@@ -52,9 +55,15 @@ module _ (pins : Pins) (h : HeapView) (hs serials : List ℕ) (lanes : List (Lis
     (running : IsRunning h hs) (layout : IsLayout h.space) (whole : AreWhole h.chunks) (some : 0 < length busy)
     (seats : List Seat) (table : IsTurnTable (key_of pins) h.space hs busy) (seats_long : length seats ≡ length busy + 1) (seats_are : (i : ℕ) → i < length busy → (d : Seat) → get_or seats i d ≡ after i)
     (k : HeapView) (nexts : List ℕ) (told : List (List Reply)) (closed : Closed (key_of pins) seats k.space) (given : IsLayout k.space)
-    (laid : AreLaidBack hs busy new (length busy) h serials before k nexts told) where
+    (laid : AreLaidBack hs busy new (length busy) h serials before k nexts told) (recorded : AreRecorded (key_of pins) busy after seats) (answers : List Answer) (pagers : ArePagers seats answers) where
+  -- a page that stopped a lane is Gone
+  notes : (i : ℕ) → i < length busy → NotesGone (view_of (after i)) h.space k.space
+  notes i lt =
+      subst (λ (s : Seat). NotesGone (view_of s) h.space k.space) (seats_are i lt (after i))
+      (notes-gone (key_of pins) h.space k.space seats answers table.opening table.behind closed layout given pagers i (after i) (omega arith))
+
   abbrev stage : (n : ℕ) → Stage h hs serials busy old seat new after n
-  stage n = stages pins h hs serials lanes before busy old seat new after begun ran state stands words ops k nexts told laid n
+  stage n = stages pins h hs serials lanes before busy old seat new after begun ran state stands words ops k nexts told laid notes n
 
   abbrev at : ℕ → HeapView
   at n = (stage n).heap
@@ -62,8 +71,8 @@ module _ (pins : Pins) (h : HeapView) (hs serials : List ℕ) (lanes : List (Lis
   abbrev count : ℕ
   count = length lanes
 
-  link : (n : ℕ) → Link hs n (lane_ops lanes n) (get_or serials n 0) (lane_replies before n) (at n) (at (suc n)) (get_or nexts n 0) (lane_replies told n)
-  link n = linked pins h hs serials lanes before busy old seat new after begun ran state stands words ops k nexts told laid n
+  link : (n : ℕ) → Link hs n (lane_ops lanes n) (get_or serials n 0) (lane_replies before n) (at n) (at (suc n)) (get_or nexts n 0) (lane_replies told n) k.space
+  link n = linked pins h hs serials lanes before busy old seat new after begun ran state stands words ops k nexts told laid notes n
 
   one-more : (n : ℕ) → suc n ≡ n + 1
   one-more n = omega arith
@@ -83,6 +92,7 @@ module _ (pins : Pins) (h : HeapView) (hs serials : List ℕ) (lanes : List (Lis
         let none = reads.behind p (subst (λ (v : View). pages_of v.about ≤ p) (sym view) far) in
         (none.0 ∙ ap (λ (v : View). entries p v.changed) view, none.1 ∙ ap (λ (v : View). times p v.recorded) view);
     shows = λ i lt p own. (done-all i lt).belongs.space.others p own (λ none. none);
+    recorded = recorded;
   }
 
   lies : LiesBack (at count).space k.space
@@ -100,14 +110,14 @@ module _ (pins : Pins) (h : HeapView) (hs serials : List ℕ) (lanes : List (Lis
   pub ran-beside : RanBeside hs lanes h serials before k nexts told
   ran-beside = record {
     at = at;
-    first = first pins h hs serials lanes before busy old seat new after begun ran state stands words ops k nexts told laid;
+    first = first pins h hs serials lanes before busy old seat new after begun ran state stands words ops k nexts told laid notes;
     new = λ n. (link n).new;
     told = λ n lt. (link n).told_are;
     did = λ n lt.
         subst (λ (q : ℕ). DidAll hs n (take (length (link n).new) (drop (length (lane_replies before n)) (lane_ops lanes n))) (link n).new (at n) (get_or serials n 0) (at q) (get_or nexts n 0))
         (one-more n) (link n).did;
     births = λ n lt. (link n).births;
-    stopped = λ n lt. subst (λ (q : ℕ). IsAtEndOr (lane_ops lanes n) (lane_replies told n) (λ op. StopsBeside hs n op (at q))) (one-more n) (link n).stopped;
+    stopped = λ n lt. subst (λ (q : ℕ). IsAtEndOr (lane_ops lanes n) (lane_replies told n) (λ op. StopsBeside hs n op (at q) k.space)) (one-more n) (link n).stopped;
     back = laid-all;
     long = (laid.births_long, laid.replies_long);
   }

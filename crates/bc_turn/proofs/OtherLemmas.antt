@@ -50,11 +50,7 @@ module _ (hs : List ℕ) (lane : ℕ) (part : LanePart) (v : View) (end : ℕ) (
       let same = passes.pages page (off page own) in
       record {
         content = same.0 ∙ p.content;
-        remembered = λ is. p.remembered (sym same.1 ∙ is);
-        recorded = λ lt. elim (p.recorded lt) [
-          | inl is ↦ inl (same.1 ∙ is)
-          | inr found ↦ inr found
-        ];
+        remembered = (λ is. p.remembered.0 (sym same.1 ∙ is), λ lt. same.1 ∙ p.remembered.1 lt);
         gone = λ is. p.gone (subst (λ st. is_gone st ≡ true) same.1 is);
       }
 

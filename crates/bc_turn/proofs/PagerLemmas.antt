@@ -22,25 +22,26 @@ pub record KeepsRecords (v w : View) : Type 0 where
   pub changed : w.changed ≡ v.changed
   pub recorded : w.recorded ≡ v.recorded
   pub fetched : w.fetched ≡ v.fetched
+  pub returned : w.returned ≡ v.returned
 
 -- an answer
 answer-keeps : (k : Key) (v : View) (hint : ℕ) (answer : Answer) (w : View) → IsAnswer k v hint answer w → KeepsRecords v w
 answer-keeps k v hint (Discarded page) w is =
-    record { changed = ap (λ (x : View). x.changed) is.view; recorded = ap (λ (x : View). x.recorded) is.view; fetched = ap (λ (x : View). x.fetched) is.view }
+    record { changed = ap (λ (x : View). x.changed) is.view; recorded = ap (λ (x : View). x.recorded) is.view; fetched = ap (λ (x : View). x.fetched) is.view; returned = ap (λ (x : View). x.returned) is.view }
 answer-keeps k v hint (Evicted page) w is =
-    record { changed = ap (λ (x : View). x.changed) is.view; recorded = ap (λ (x : View). x.recorded) is.view; fetched = ap (λ (x : View). x.fetched) is.view }
+    record { changed = ap (λ (x : View). x.changed) is.view; recorded = ap (λ (x : View). x.recorded) is.view; fetched = ap (λ (x : View). x.fetched) is.view; returned = ap (λ (x : View). x.returned) is.view }
 answer-keeps k v hint Declined w is =
-    record { changed = ap (λ (x : View). x.changed) is.view; recorded = ap (λ (x : View). x.recorded) is.view; fetched = ap (λ (x : View). x.fetched) is.view }
+    record { changed = ap (λ (x : View). x.changed) is.view; recorded = ap (λ (x : View). x.recorded) is.view; fetched = ap (λ (x : View). x.fetched) is.view; returned = ap (λ (x : View). x.returned) is.view }
 
 -- answers, one after another
 pub answers-keep : (k : Key) (hints : List ℕ) (told : List Answer) (v w : View) → AreAnswered k hints told v w → KeepsRecords v w
-answers-keep k [] [] v w is = record { changed = ap (λ (x : View). x.changed) is; recorded = ap (λ (x : View). x.recorded) is; fetched = ap (λ (x : View). x.fetched) is }
+answers-keep k [] [] v w is = record { changed = ap (λ (x : View). x.changed) is; recorded = ap (λ (x : View). x.recorded) is; fetched = ap (λ (x : View). x.fetched) is; returned = ap (λ (x : View). x.returned) is }
 answers-keep k [] (answer ∷ told) v w is = absurd is
 answers-keep k (hint ∷ hints) [] v w is = absurd is
 answers-keep k (hint ∷ hints) (answer ∷ told) v w is =
     let one = answer-keeps k v hint answer is.0 is.1 in
     let rest = answers-keep k hints told is.0 w is.2 in
-    record { changed = rest.changed ∙ one.changed; recorded = rest.recorded ∙ one.recorded; fetched = rest.fetched ∙ one.fetched }
+    record { changed = rest.changed ∙ one.changed; recorded = rest.recorded ∙ one.recorded; fetched = rest.fetched ∙ one.fetched; returned = rest.returned ∙ one.returned }
 
 -- an answer names no page behind the table
 names-none : (k : Key) (v : View) (hint : ℕ) (answer : Answer) (w : View) → IsAnswer k v hint answer w → (p : ℕ) → pages_of k ≤ p → (says_evicted p answer ≡ 0) × (says_discarded p answer ≡ 0)

@@ -4,7 +4,7 @@ use Prim.Native.Nat.{zero, suc}
 use Rattle.std.proofs.lemmas.Bool.{cases_eq, cases_lt}
 use Rattle.std.specs.List.{AllByRecursion}
 use Rattle.bc_lane.specs.Doing.{DidAll}
-use Rattle.bc_lane.specs.Turns.{IsWhole, LaneRan, StopsOp, WhyStopped}
+use Rattle.bc_lane.specs.Turns.{IsReadStop, IsWhole, LaneRan, StopsOp, WhyStopped}
 use Rattle.bc_lane.specs.declared.parts.LanePart.{LanePart}
 use Rattle.bc_lane.specs.declared.stops.Stop.{Stop}
 use Rattle.bc_lane.specs.declared.stops.Stop.TheVariants as stop
@@ -24,8 +24,11 @@ use Rattle.bc_pins.specs.declared.pins.Pins.{Pins}
 use Rattle.bc_pins.specs.declared.pins.Seat.{Seat}
 use Rattle.bc_pins.specs.declared.views.View.{View}
 use Rattle.bc_reach.specs.Distinct.{Has}
+use Rattle.bc_superpages.specs.Layout.{Layout}
+use Rattle.bc_superpages.specs.LayoutAt.{IsAllocated}
 use Rattle.bc_superpages.specs.RootWords.{RootWords}
-use Rattle.bc_turn.proofs.BusyLemmas.{has-left, same-index}
+use Rattle.bc_turn.proofs.BusyLemmas.{has-left, same-index, has-index}
+use Rattle.bc_turn.proofs.AwayLemmas.{NotesGone}
 use Rattle.bc_turn.proofs.OtherLemmas.{IsSeatOf, other-whole}
 use Rattle.bc_turn.proofs.PassLemmas.{Passed, Passes, passed, passes-none, passes-then, passes-wider, ready-each}
 use Rattle.bc_turn.specs.Begun.{AllRan, AreBegun, HasLeft, lane_ops, lane_replies}
@@ -52,13 +55,13 @@ pub record Stage (h : HeapView) (hs serials busy : List ℕ) (old : ℕ → Lane
   pub waits : (i : ℕ) → i < length busy → n ≤ get_or busy i 0 → IsWhole (old i).part (view_of (seat i)) None (end_of h.space) heap
   pub done : (i : ℕ) → i < length busy → get_or busy i 0 < n → IsWhole (new i).part (view_of (after i)) None (end_of h.space) heap
 
--- what one lane did of its operations, from one heap to the next
-pub record Link (hs : List ℕ) (n : ℕ) (ops : List Op) (serial : ℕ) (told : List Reply) (g k : HeapView) (next : ℕ) (after : List Reply) : Type 0 where
+-- what one lane did of its operations, from one heap to the next. `t` is the space after the turn
+pub record Link (hs : List ℕ) (n : ℕ) (ops : List Op) (serial : ℕ) (told : List Reply) (g k : HeapView) (next : ℕ) (after : List Reply) (t : Layout) : Type 0 where
   pub new : List Reply
   pub told_are : after ≡ told ++ new
   pub did : DidAll hs n (take (length new) (drop (length told) ops)) new g serial k next
   pub births : next ≤ serial + length new
-  pub stopped : IsAtEndOr ops after (λ op. StopsBeside hs n op k)
+  pub stopped : IsAtEndOr ops after (λ op. StopsBeside hs n op k t)
 
 whole-end : (part : LanePart) (v : View) (end : ℕ) (h : HeapView) → IsWhole part v None end h → IsWhole part v None (end_of h.space) h
 whole-end part v end h w = subst (λ (n : ℕ). IsWhole part v None n h) w.belongs.space.end_is w
@@ -72,18 +75,19 @@ pub nothing-more : (xs : List Reply) → xs ≡ xs ++ []
 nothing-more [] = refl
 nothing-more (x ∷ xs) = ap (λ (l : List Reply). x ∷ l) (nothing-more xs)
 
--- why a lane stopped, told of the heap to which belongs what it has
-stops-beside : (hs : List ℕ) (n end : ℕ) (part : LanePart) (v : View) (k : HeapView) (op : Op) (why : Stop) → part.holders.items ≡ hs → part.lane ≡ n → IsWhole part v None end k → IsOpOf k.roots op → StopsOp part v None end op why → StopsBeside hs n op k
-stops-beside hs n end part v k op why eh el whole fits stops =
-    subst (λ (l : ℕ). StopsBeside hs l op k) el (subst (λ (l : List ℕ). StopsBeside l part.lane op k) eh (go why stops))
+-- why a lane stopped, told of the heap to which belongs what it has and of the space after the turn
+stops-beside : (hs : List ℕ) (n end : ℕ) (part : LanePart) (u v : View) (k : HeapView) (t : Layout) (op : Op) (why : Stop) → part.holders.items ≡ hs → part.lane ≡ n → IsWhole part v None end k → IsOpOf k.roots op → NotesGone v k.space t → IsReadStop u v why → StopsOp part v None end op why
+    → StopsBeside hs n op k t
+stops-beside hs n end part u v k t op why eh el whole fits notes since stops =
+    subst (λ (l : ℕ). StopsBeside hs l op k t) el (subst (λ (l : List ℕ). StopsBeside l part.lane op k t) eh (go why since stops))
   where
-    go : (w : Stop) → StopsOp part v None end op w → StopsBeside part.holders.items part.lane op k
-    go stop.End s = absurd s
-    go stop.NurseryFull s = inl (subst (λ (c : Nursery). WantsMore part.holders.items part.lane (left_of c) op) (sym whole.belongs.chunk_is) s)
-    go stop.BufferFull s = inr (inl (subst (λ (c : Nursery). NeedsEntry part.holders.items part.lane k.space k.roots c (buffer_of k.buffers part.lane) op) (sym whole.belongs.chunk_is)
+    go : (w : Stop) → IsReadStop u v w → StopsOp part v None end op w → StopsBeside part.holders.items part.lane op k t
+    go stop.End read s = absurd s
+    go stop.NurseryFull read s = inl (subst (λ (c : Nursery). WantsMore part.holders.items part.lane (left_of c) op) (sym whole.belongs.chunk_is) s)
+    go stop.BufferFull read s = inr (inl (subst (λ (c : Nursery). NeedsEntry part.holders.items part.lane k.space k.roots c (buffer_of k.buffers part.lane) op) (sym whole.belongs.chunk_is)
         (subst (λ (b : Entries). NeedsEntry part.holders.items part.lane k.space k.roots part.chunk b op) (sym whole.belongs.buffer_is) (s k whole fits))))
-    go (stop.Busy page) s = inr (inr (page, s.1 k whole fits))
-    go (stop.Gone page) s = inr (inr (page, s.1 k whole fits))
+    go (stop.Busy page) read s = let looks = s.1 k whole fits in inr (inr (page, looks, notes page looks.0.0 looks.2 looks.3 (inr read.1)))
+    go (stop.Gone page) read s = let looks = s.1 k whole fits in inr (inr (page, looks, notes page looks.0.0 looks.2 looks.3 (inl read.1)))
 
 module _ (pins : Pins) (h : HeapView) (hs serials : List ℕ) (lanes : List (List Op)) (before : List (List Reply)) (busy : List ℕ) (old : ℕ → LaneTurn) (seat : ℕ → Seat) (new : ℕ → LaneTurn) (after : ℕ → Seat)
     (begun : AreBegun pins h hs serials lanes before busy old seat) (ran : AllRan lanes busy old seat new after) (state : State) (stands : StandsAs h hs serials state)
@@ -164,8 +168,8 @@ module _ (pins : Pins) (h : HeapView) (hs serials : List ℕ) (lanes : List (Lis
       done = λ i lt less. s.done i lt (below i lt less);
     }
 
-    link-same : (next : ℕ) (told : List Reply) → next ≡ get_or serials n 0 → told ≡ lane_replies before n → (HasLeft lanes before n → ⊥) → Link hs n (lane_ops lanes n) (get_or serials n 0) (lane_replies before n) s.heap s.heap next told
-    link-same next told en et all = record {
+    link-same : (next : ℕ) (told : List Reply) (t : Layout) → next ≡ get_or serials n 0 → told ≡ lane_replies before n → (HasLeft lanes before n → ⊥) → Link hs n (lane_ops lanes n) (get_or serials n 0) (lane_replies before n) s.heap s.heap next told t
+    link-same next told t en et all = record {
       new = [];
       told_are = et ∙ nothing-more (lane_replies before n);
       did = subst (λ (m : ℕ). DidAll hs n (take 0 (drop (length (lane_replies before n)) (lane_ops lanes n))) [] s.heap (get_or serials n 0) s.heap m) (sym en)
@@ -309,35 +313,38 @@ module _ (pins : Pins) (h : HeapView) (hs serials : List ℕ) (lanes : List (Lis
     next-is : w.next ≡ length (lane_replies before n ++ run.replies)
     next-is = run.next ∙ ap (λ (q : ℕ). q + length run.replies) next-n ∙ sym (length-append (lane_replies before n) run.replies)
 
-    stopped-n : (told : List Reply) → told ≡ w.replies.items → IsAtEndOr (lane_ops lanes n) told (λ op. StopsBeside hs n op k)
-    stopped-n told et =
-        subst (λ (l : List Reply). IsAtEndOr (lane_ops lanes n) l (λ op. StopsBeside hs n op k)) (sym (et ∙ replies-are))
-        (subst (λ (q : ℕ). IsAtEndOr (lane_ops lanes q) (lane_replies before n ++ run.replies) (λ op. StopsBeside hs n op k)) is
+    stopped-n : (told : List Reply) (t : Layout) → told ≡ w.replies.items → NotesGone (view_of (after i)) h.space t → IsAtEndOr (lane_ops lanes n) told (λ op. StopsBeside hs n op k t)
+    stopped-n told t et notes =
+        subst (λ (l : List Reply). IsAtEndOr (lane_ops lanes n) l (λ op. StopsBeside hs n op k t)) (sym (et ∙ replies-are))
+        (subst (λ (q : ℕ). IsAtEndOr (lane_ops lanes q) (lane_replies before n ++ run.replies) (λ op. StopsBeside hs n op k t)) is
         (why ((ran.each i lt).stopped s.heap here)))
       where
-        why : WhyStopped (lane_ops lanes (lane i)) (end_of s.heap.space) w (view_of (after i)) None (ran.why i) → IsAtEndOr (lane_ops lanes (lane i)) (lane_replies before n ++ run.replies) (λ op. StopsBeside hs n op k)
+        why : WhyStopped (lane_ops lanes (lane i)) (end_of s.heap.space) w (view_of (after i)) None (ran.why i) → IsAtEndOr (lane_ops lanes (lane i)) (lane_replies before n ++ run.replies) (λ op. StopsBeside hs n op k t)
         why (inl e) = inl (subst (λ (q : ℕ). length (lane_ops lanes (lane i)) ≤ q) next-is e.1)
         why (inr e) = inr (
           e.0,
           subst (λ (q : ℕ). q < length (lane_ops lanes (lane i))) next-is e.1,
           subst (λ (q : ℕ). e.0 ≡ get_or (lane_ops lanes (lane i)) q e.0) next-is e.2,
-          stops-beside hs n (end_of s.heap.space) w.part (view_of (after i)) k e.0 (ran.why i) (new-holders i lt) (new-lane i lt ∙ is) made.1
-              (subst (IsOpOf k.roots) (sym e.2) (at-index (IsOpOf k.roots) (lane_ops lanes (lane i)) w.next e.0 (fits-at k passes-h) e.1)) e.3,
+          stops-beside hs n (end_of s.heap.space) w.part (view_of (seat i)) (view_of (after i)) k t e.0 (ran.why i) (new-holders i lt) (new-lane i lt ∙ is) made.1
+              (subst (IsOpOf k.roots) (sym e.2) (at-index (IsOpOf k.roots) (lane_ops lanes (lane i)) w.next e.0 (fits-at k passes-h) e.1))
+              (λ page cell there. notes page cell (subst (λ (x : Layout). IsAllocated x cell) passes-h.space there)) (ran.each i lt).since e.3,
         )
 
-    link-next : (next : ℕ) (told : List Reply) → next ≡ w.part.serial → told ≡ w.replies.items → Link hs n (lane_ops lanes n) (get_or serials n 0) (lane_replies before n) s.heap k next told
-    link-next next told en et = record {
+    link-next : (next : ℕ) (told : List Reply) (t : Layout) → next ≡ w.part.serial → told ≡ w.replies.items → NotesGone (view_of (after i)) h.space t
+        → Link hs n (lane_ops lanes n) (get_or serials n 0) (lane_replies before n) s.heap k next told t
+    link-next next told t en et notes = record {
       new = run.replies;
       told_are = et ∙ replies-are;
       did = subst (λ (m : ℕ). DidAll hs n (take (length run.replies) (drop (length (lane_replies before n)) (lane_ops lanes n))) run.replies s.heap (get_or serials n 0) k m) (sym en) did;
       births = (let few = run.serial in let from = serial-n in omega arith);
-      stopped = stopped-n told et;
+      stopped = stopped-n told t et notes;
     }
 
-  -- all of them, where what they took into the turn is laid back so
-  module _ (end_heap : HeapView) (nexts : List ℕ) (told : List (List Reply)) (laid : AreLaidBack hs busy new (length busy) h serials before end_heap nexts told) where
+  -- all of them, where what they took into the turn is laid back so, and pages that stopped them are Gone
+  module _ (end_heap : HeapView) (nexts : List ℕ) (told : List (List Reply)) (laid : AreLaidBack hs busy new (length busy) h serials before end_heap nexts told)
+      (notes : (i : ℕ) → i < length busy → NotesGone (view_of (after i)) h.space end_heap.space) where
     abbrev Linked : (n : ℕ) → At n → At (suc n) → Type 0
-    Linked n s t = Link hs n (lane_ops lanes n) (get_or serials n 0) (lane_replies before n) s.heap t.heap (get_or nexts n 0) (lane_replies told n)
+    Linked n s t = Link hs n (lane_ops lanes n) (get_or serials n 0) (lane_replies before n) s.heap t.heap (get_or nexts n 0) (lane_replies told n) end_heap.space
 
     go-on : (n : ℕ) (s : At n) → (t : At (suc n)) × Linked n s t
     unfolding stage-next stage-same
@@ -345,14 +352,14 @@ module _ (pins : Pins) (h : HeapView) (hs serials : List ℕ) (lanes : List (Lis
       | inl lt ↦
           let b = begun.busy_are.all n lt in (
             stage-next n s b.0 b.1 b.2,
-            link-next n s b.0 b.1 b.2 (get_or nexts n 0) (lane_replies told n)
-                (ap (λ (l : ℕ). get_or nexts l 0) (sym b.2) ∙ laid.births b.0 b.1) (ap (lane_replies told) (sym b.2) ∙ laid.replies b.0 b.1),
+            link-next n s b.0 b.1 b.2 (get_or nexts n 0) (lane_replies told n) end_heap.space
+                (ap (λ (l : ℕ). get_or nexts l 0) (sym b.2) ∙ laid.births b.0 b.1) (ap (lane_replies told) (sym b.2) ∙ laid.replies b.0 b.1) (notes b.0 b.1),
           )
       | inr le ↦
           let all : HasLeft lanes before n → ⊥ = (λ lt. absurd (omega arith)) in
           let none : Has busy n → ⊥ = (λ has. all (has-left lanes before busy begun.busy_are n has)) in (
             stage-same n s none,
-            link-same n s none (get_or nexts n 0) (lane_replies told n) (laid.births_else n none) (laid.replies_else n none) all,
+            link-same n s none (get_or nexts n 0) (lane_replies told n) end_heap.space (laid.births_else n none) (laid.replies_else n none) all,
           )
     ]
 

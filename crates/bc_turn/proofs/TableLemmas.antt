@@ -4,6 +4,7 @@ use Rattle.std.proofs.lemmas.Bool.{cases_lt}
 use Rattle.std.proofs.lemmas.List.{ext_get_or, get_or-map, get_or_past, length-map}
 use Rattle.bc_bits.specs.Counting.{one_if}
 use Rattle.bc_lane.specs.Shown.{IsOwnPage, ShowsPage}
+use Rattle.bc_lane.proofs.OpenLemmas.{remembered-word}
 use Rattle.bc_pins.specs.Calls.{view_of}
 use Rattle.bc_pins.specs.Closing.{Closed}
 use Rattle.bc_pins.specs.Key.{Key, lane_role, owner, pages_of, role_number}
@@ -21,6 +22,7 @@ use Rattle.bc_superpages.specs.declared.headers.PageState.TheVariants.{Absent, R
 use Rattle.bc_superpages.specs.Kept.{IsLayout}
 use Rattle.bc_superpages.specs.Layout.{Layout, content_at, superpages}
 use Rattle.bc_superpages.specs.LayoutAt.{state_at}
+use Rattle.bc_turn.proofs.AnsweredLemmas.{state-behind}
 use Rattle.bc_turn.proofs.BusyLemmas.{find-index}
 use Rattle.bc_turn.proofs.PassLemmas.{IsOthersPage, Passes}
 use Rattle.bc_turn.specs.Beside.{LiesBack}
@@ -42,6 +44,12 @@ pub record IsTurnTable (k : Key) (s : Layout) (hs busy : List ℕ) : Type 0 wher
   pub roles : k.roles ≡ turn_numbers busy
   pub behind : (p : ℕ) → pages_of k ≤ p → state_at s.states p ≡ Absent
 
+-- which pages the seats put back as Remembered: each page of a lane that has a seat was put back so by that seat alone, and no other
+-- page was
+pub record AreRecorded (k : Key) (busy : List ℕ) (seat : ℕ → Seat) (seats : List Seat) : Type 0 where
+  pub mine : (i : ℕ) → i < length busy → (p : ℕ) → 0 < has_role (view_of (seat i)) (owner k p) → total (λ (s : Seat). times p (view_of s).recorded) seats ≡ times p (view_of (seat i)).recorded
+  pub nobody : (p : ℕ) → times (owner k p) k.roles ≡ 0 → total (λ (s : Seat). times p (view_of s).recorded) seats ≡ 0
+
 -- the seats when they are back, the lanes' first. What each lane's says of its pages is so in this heap
 pub record AreSeatsBack (k : Key) (hs busy : List ℕ) (m : HeapView) (seat : ℕ → Seat) (seats : List Seat) : Type 0 where
   pub long : length seats ≡ length busy + 1
@@ -50,6 +58,7 @@ pub record AreSeatsBack (k : Key) (hs busy : List ℕ) (m : HeapView) (seat : �
   pub roles : (i : ℕ) → i < length busy → (view_of (seat i)).roles ≡ lane_role (get_or busy i 0) ∷ []
   pub behind : (i : ℕ) → i < length busy → (p : ℕ) → pages_of k ≤ p → (entries p (view_of (seat i)).changed ≡ 0) × (times p (view_of (seat i)).recorded ≡ 0)
   pub shows : (i : ℕ) → i < length busy → (p : ℕ) → IsOwnPage (view_of (seat i)) p → ShowsPage (view_of (seat i)) m.space p
+  pub recorded : AreRecorded k busy seat seats
 
 absent-remembered : Absent ≡ Remembered → ⊥
 absent-remembered e = cc
@@ -122,15 +131,22 @@ module _ (k : Key) (h m : HeapView) (hs busy : List ℕ) (seat : ℕ → Seat) (
 
     mine-remembered : p < pages_of k → state_at m.space.states p ≡ Remembered → state_at t.states p ≡ Remembered
     mine-remembered near is =
-        let some = shown.remembered is in
+        let some = shown.remembered.0 is in
         let same = ap (λ (a : Key). one_if (opened_word a p == 2)) (back.about i lt) in
         let few = total_in (λ (s : Seat). times p (view_of s).recorded) seats i (seat i) (let long = back.long in omega arith) in
         let here = ap (λ (s : Seat). times p (view_of s).recorded) (back.same i lt (seat i)) in
         (closed.states_are p near).remembered (omega arith)
 
+    mine-recorded : p < pages_of k → state_at t.states p ≡ Remembered → state_at m.space.states p ≡ Remembered
+    mine-recorded near is =
+        let some = (closed.states_are p near).recorded is in
+        let all = back.recorded.mine i lt p has in
+        let same = ap (λ (a : Key). one_if (opened_word a p == 2)) (back.about i lt) in
+        shown.remembered.1 (omega arith)
+
     mine-behind : pages_of k ≤ p → state_at m.space.states p ≡ Remembered → ⊥
     mine-behind far is =
-        let some = shown.remembered is in
+        let some = shown.remembered.0 is in
         let none = (back.behind i lt p far).1 in
         let absent : opened_state k p ≡ Absent = ap (λ (s : Layout). state_at s.states p) table.opening ∙ table.behind p far in
         let zero_is = ap (λ (st : PageState). one_if (state_word st == 2)) absent in
@@ -170,6 +186,12 @@ module _ (k : Key) (h m : HeapView) (hs busy : List ℕ) (seat : ℕ → Seat) (
         let two = ap (λ (st : PageState). one_if (state_word st == 2)) (sym opened-state ∙ is) in
         (closed.states_are p near).remembered (omega arith)
 
+    left-recorded : p < pages_of k → state_at t.states p ≡ Remembered → state_at m.space.states p ≡ Remembered
+    left-recorded near is =
+        let some = (closed.states_are p near).recorded is in
+        let none = back.recorded.nobody p unowned in
+        opened-state ∙ remembered-word (opened_state k p) (omega arith)
+
     left-behind : pages_of k ≤ p → state_at m.space.states p ≡ Remembered → ⊥
     left-behind far is = absent-remembered (sym (opened-state ∙ ap (λ (s : Layout). state_at s.states p) table.opening ∙ table.behind p far) ∙ is)
 
@@ -204,6 +226,25 @@ module _ (k : Key) (h m : HeapView) (hs busy : List ℕ) (seat : ℕ → Seat) (
     ])
   ]
 
+  -- and no other page becomes Remembered
+  absent-far : IsLayout t → (p : ℕ) → pages_of k ≤ p → state_at t.states p ≡ Absent
+  absent-far layout p far = elim (cases_lt p (4 * superpages k.opening)) [
+    | inl inside ↦ (closed.behind p far inside).0 ∙ ap (λ (s : Layout). state_at s.states p) table.opening ∙ table.behind p far
+    | inr out ↦ let supers : superpages t ≡ superpages k.opening = ap superpages closed.same in state-behind t p layout (omega arith)
+  ]
+
+  remembered-before : IsLayout t → (p : ℕ) → state_at t.states p ≡ Remembered → state_at m.space.states p ≡ Remembered
+  remembered-before layout p is = elim (cases_lt p (pages_of k)) [
+    | inl near ↦ elim (cases_lt (domain p) (length hs)) [
+      | inl within ↦ elim (find-index busy (get_or hs (domain p) 0)) [
+        | inl r ↦ mine-recorded p r.0 r.1 within (sym r.2) near is
+        | inr none ↦ left-recorded p (λ w. none) near is
+      ]
+      | inr out ↦ left-recorded p (λ w. absurd (omega arith)) near is
+    ]
+    | inr far ↦ absurd (absent-remembered (sym (absent-far layout p far) ∙ is))
+  ]
+
   -- so the pages lie back
   pub lies-back : IsLayout t → IsLayout m.space → IsOpenable h.space → LiesBack m.space t
   lies-back layout made openable =
@@ -218,6 +259,6 @@ module _ (k : Key) (h m : HeapView) (hs busy : List ℕ) (seat : ℕ → Seat) (
             ∙ ap (λ (s : Layout). record s { states = t.states; pages = t.pages; bookmarks = t.bookmarks; incoming = t.incoming; free = t.free; reads = t.reads }) table.opening
             ∙ ap (λ (ps : List (List ℕ)). record (h.space) { states = t.states; pages = ps; bookmarks = t.bookmarks; incoming = t.incoming; free = t.free; reads = t.reads }) pages
             ∙ ap (λ (s : Layout). record s { states = t.states; free = t.free; bookmarks = t.bookmarks; incoming = t.incoming; reads = t.reads }) (sym passes.space);
-        remembered = remembered-still;
+        remembered = λ p. (remembered-still p, remembered-before layout p);
         summarised = (closed.openable (subst IsOpenable (sym table.opening) openable)).summarised;
       }

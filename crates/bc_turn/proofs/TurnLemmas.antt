@@ -43,8 +43,8 @@ use Rattle.bc_turn.specs.Beside.{RanBeside}
 use Rattle.bc_turn.specs.Laying.{AreLaidBack}
 use Rattle.bc_turn.specs.Paging.{HasPaged}
 use Rattle.bc_turn.specs.Taking.{AreHeldDomains, AreRunsOf, AreSparesOf, AreTaken, CanRun, HasBusyAmong, HasReplyRoom, HasRoomForLane, LaneHasRun, IsRoomKept, LiesRight, running_lanes, seat_at, spare_lanes, turn_at, turn_roles}
-use Rattle.bc_turn.proofs.AnsweredLemmas.{answered}
-use Rattle.bc_turn.proofs.BegunLemmas.{IsPagerBack, are-back, are-pagers, begun-lane, may-operate, ops-each, paged-back}
+use Rattle.bc_turn.proofs.AnsweredLemmas.{ArePagers, answered}
+use Rattle.bc_turn.proofs.BegunLemmas.{IsPagerBack, are-back, are-pagers, are-recorded, begun-lane, may-operate, ops-each, paged-back}
 use Rattle.bc_turn.proofs.BesideLemmas.{ran-beside, turn-table}
 use Rattle.bc_turn.proofs.LayingLemmas.{laid-space}
 use Rattle.bc_turn.proofs.RoomLemmas.{beside-longer, busy-among, busy-later, same-numbers}
@@ -154,7 +154,7 @@ module _ (h : HeapView) (hs serials : List ℕ) (lanes : List (List Op)) (before
       let many = set.stands.lanes in
       let most = set.stands.consistent.lanes in
       let long_lanes = sizes in
-      begun-lane pins h hs serials lanes (lists_of before) busy t.roots t.told (turn_at d runs i) (seat_at d runs i) lane seats set.layout set.long (may-operate h hs lane set.running set.layout set.domains set.whole (omega arith)) (set.state, set.stands) table set.opened.lanes
+      begun-lane pins h hs serials lanes (lists_of before) busy t.roots t.told (turn_at d runs i) (seat_at d runs i) lane set.layout set.long (may-operate h hs lane set.running set.layout set.domains set.whole (omega arith)) (set.state, set.stands) table set.opened.lanes
       (dealt i lt d) (record { rising = t.domains.rising; all = t.domains.all; long = t.words.long; each = t.words.each; packed = t.words.packed }) t.told_are t.prepared within (omega arith) (set.births lane)
 
   pub begun : (d : Run) → AreBegun pins h hs serials lanes (lists_of before) busy (turn_at d runs) (seat_at d runs)
@@ -338,19 +338,25 @@ module _ (h : HeapView) (hs serials : List ℕ) (lanes : List (List Op)) (before
               are-back pins h hs serials lanes (lists_of before) busy (turn_at d runs) (seat_at d runs) (turn_at d new) (seat_at d new) (begun d) (all-ran d) back later.seat table seats-long seats-are pager-back
               (λ i lt. (seat_at d new i).tidy)
 
+          pagers : ArePagers whole-list paged.told
+          pagers =
+              are-pagers pins h hs serials lanes (lists_of before) busy (turn_at d runs) (seat_at d runs) (turn_at d new) (seat_at d new) (begun d) (all-ran d) back later.seat table seats-long seats-are pager-back
+              paged.told paged.left paged.emptied
+
           pub beside : (t : Layout) → 0 < length busy → Closed (key_of pins) whole-list t → IsLayout t → RanBeside hs lanes h serials (lists_of before) (record g { space = t }) nexts told
           beside t some closed given =
               ran-beside pins h hs serials lanes (lists_of before) busy (turn_at d runs) (seat_at d runs) (turn_at d new) (seat_at d new) (begun d) (all-ran d) set.state set.stands set.long
               (λ j has. (let p = place_of busy j has in ops-each h.roots lanes j (subst (λ (l : ℕ). l < length lanes) p.2 (busy_are.within p.0 p.1)) set.ops))
               set.running set.layout set.whole some whole-list table all-long all-are (record g { space = t }) nexts told closed given
               (laid-space hs busy (turn_at d new) (length busy) h serials (lists_of before) g nexts told t home)
+              (are-recorded pins h hs serials lanes (lists_of before) busy (turn_at d runs) (seat_at d runs) (turn_at d new) (seat_at d new) (begun d) (all-ran d) back later.seat table seats-long seats-are pager-back)
+              paged.told pagers
 
           pub answered-beside : (t : Layout) → Closed (key_of pins) whole-list t → IsLayout t → h.space.reads < 2 ^ 64 → (hints : List ℕ) (kept all : List Answer) → old.notices.hints ≡ hints → old.answers.list ≡ kept → all ≡ later.answers.list
               → AnsweredBeside h.space hints kept all t
           answered-beside t closed given few hints kept all hints_are kept_are all_are =
               answered (key_of pins) h.space t whole-list hints kept all paged.told (view_of later.seat) set.opened.opening closed set.layout given few
-              (are-pagers pins h hs serials lanes (lists_of before) busy (turn_at d runs) (seat_at d runs) (turn_at d new) (seat_at d new) (begun d) (all-ran d) back later.seat table seats-long seats-are pager-back
-              paged.told paged.left paged.emptied) (all_are ∙ paged.kept ∙ ap (λ (list_before : List Answer). list_before ++ paged.told) kept_are)
+              pagers (all_are ∙ paged.kept ∙ ap (λ (list_before : List Answer). list_before ++ paged.told) kept_are)
               (subst (λ (hs : List ℕ). AreAnswered (key_of pins) hs paged.told (fresh (key_of pins) (role_number (Pager 0) ∷ [])) (view_of later.seat)) hints_are paged.each)
 
 -- room that came back is kept for the next turn

@@ -1,5 +1,5 @@
 -- Lanes that ran side by side in one turn, told as if one had run after another.
-use Rattle.std.specs.Prelude.{◌≡◌, ◌⊎◌, ℕ, ◌+◌, ◌<◌, ◌≤◌, List, [], ◌++◌, length, take, drop, slice_index, slice_index_or}
+use Rattle.std.specs.Prelude.{◌≡◌, ◌⊎◌, ◌↔◌, ℕ, ◌+◌, ◌<◌, ◌≤◌, List, [], ◌++◌, length, take, drop, slice_index, slice_index_or}
 use Rattle.bc_bookmarks.specs.Summarised.{IsSummarised}
 use Rattle.bc_lane.specs.Doing.{DidAll}
 use Rattle.bc_lane.specs.Turns.{LooksOn}
@@ -9,7 +9,7 @@ use Rattle.bc_mutator.specs.Objects.{own_chunk}
 use Rattle.bc_mutator.specs.Operations.{NeedsEntry, WantsMore}
 use Rattle.bc_nursery.specs.Objects.{left_of}
 use Rattle.bc_reach.specs.Distinct.{Has}
-use Rattle.bc_superpages.specs.declared.headers.PageState.TheVariants.{Remembered}
+use Rattle.bc_superpages.specs.declared.headers.PageState.TheVariants.{Gone, Remembered}
 use Rattle.bc_superpages.specs.Layout.{Layout}
 use Rattle.bc_superpages.specs.LayoutAt.{IsAllocated, state_at}
 use Rattle.bc_whole_heap.specs.Closed.{buffer_of}
@@ -19,10 +19,10 @@ use Rattle.bc_word.specs.declared.words.Word.TheVariants.{Ref}
 use Rattle.bc_word.specs.Words.{word_of_bits}
 
 -- the pages of a space as a closed table gives them back, against what the lanes' operations make of it one after another: the
--- contents are the same, pages may have moved, one that is Remembered is so still, and the space is summarised
+-- contents are the same, pages may have moved, those that are Remembered are so still and no others, and the space is summarised
 pub record LiesBack (s t : Layout) : Type 0 where
   pub same : t ≡ record s { states = t.states; free = t.free; bookmarks = t.bookmarks; incoming = t.incoming; reads = t.reads }
-  pub remembered : (p : ℕ) → state_at s.states p ≡ Remembered → state_at t.states p ≡ Remembered
+  pub remembered : (p : ℕ) → (state_at s.states p ≡ Remembered) ↔ (state_at t.states p ≡ Remembered)
   pub summarised : IsSummarised t
 
 -- a heap after the turn, against the one that the lanes' operations make: pages may have moved, and a root slot that refers to an
@@ -35,13 +35,14 @@ pub record IsLaidBack (h k : HeapView) : Type 0 where
   pub chunks : k.chunks ≡ h.chunks
   pub buffers : k.buffers ≡ h.buffers
 
--- why a lane's next operation can't be done in this turn: as on plain data, or it looks at an object in a cell. That the cell's page
--- was gone or in another's hands then, the lane's own turn tells, and not the heap afterwards
-abbrev pub StopsBeside : List ℕ → ℕ → Op → HeapView → Type 0
-StopsBeside holders lane op h =
+-- why a lane's next operation can't be done in this turn, told of the heap that its operations make and of the space after the turn: as
+-- on plain data, or it looks at an object in a cell on a page that is Gone after the turn. When the lane stopped the page was Gone, or
+-- in the hands of a pager, who puts none back
+abbrev pub StopsBeside : List ℕ → ℕ → Op → HeapView → Layout → Type 0
+StopsBeside holders lane op h t =
     WantsMore holders lane (left_of (own_chunk h lane)) op
     ⊎ (NeedsEntry holders lane h.space h.roots (own_chunk h lane) (buffer_of h.buffers lane) op
-    ⊎ ((page : ℕ) × LooksOn h op page))
+    ⊎ ((page : ℕ) × LooksOn h op page × (state_at t.states page ≡ Gone)))
 
 -- all of a lane's operations have replies, or this is true of the next one
 abbrev pub IsAtEndOr : List Op → List Reply → (Op → Type 0) → Type 0
@@ -60,6 +61,6 @@ pub record RanBeside (holders : List ℕ) (lanes : List (List Op)) (h : HeapView
   pub did : (j : ℕ) → j < length lanes
       → DidAll holders j (take (length (new j)) (drop (length (slice_index_or before j [])) (slice_index_or lanes j []))) (new j) (at j) (slice_index serials j) (at (j + 1)) (slice_index nexts j)
   pub births : (j : ℕ) → j < length lanes → slice_index nexts j ≤ slice_index serials j + length (new j)
-  pub stopped : (j : ℕ) → j < length lanes → IsAtEndOr (slice_index_or lanes j []) (slice_index_or after j []) (λ op. StopsBeside holders j op (at (j + 1)))
+  pub stopped : (j : ℕ) → j < length lanes → IsAtEndOr (slice_index_or lanes j []) (slice_index_or after j []) (λ op. StopsBeside holders j op (at (j + 1)) k.space)
   pub back : IsLaidBack (at (length lanes)) k
   pub long : (length nexts ≡ length serials) × (length after ≡ length before)

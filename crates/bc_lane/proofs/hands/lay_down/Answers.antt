@@ -23,8 +23,10 @@ returns-in-Some-clause-back c = λ end s shown.
 
 pub returns-in-Some-clause-reads : goal.returns-in-Some-clause-reads
 returns-in-Some-clause-reads c =
-    put-reads c.args.seat.now (view_of c.put.new.seat) c.in-Some.held
-    (in-hand c.args.seat.now c.args.hand.now c.in-Some.held (sym c.take.ensures.value ∙ c.in-Some.is) c.requires.hands) c.put.ensures.view
+    let s = c.requires.shown in
+    let is = sym c.take.ensures.value ∙ c.in-Some.is in
+    put-reads c.args.seat.now (view_of c.put.new.seat) c.in-Some.held (in-hand c.args.seat.now c.args.hand.now c.in-Some.held is c.requires.hands)
+    (shown-hand (view_of c.args.seat.now) c.args.hand.now c.in-Some.held s.0 s.1 is s.2).in_hand.own c.put.ensures.view
 
 pub returns-in-None-clause-free : goal.returns-in-None-clause-free
 returns-in-None-clause-free c = in-none c.args.seat.now c.args.hand.now (sym c.take.ensures.value ∙ c.in-None.is) c.requires.hands

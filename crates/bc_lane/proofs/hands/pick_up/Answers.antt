@@ -63,7 +63,7 @@ unreachable-requires-in-Err-Absent c =
 pub returns-in-Err-Busy-clause-since : goal.returns-in-Err-Busy-clause-since
 returns-in-Err-Busy-clause-since c =
     let r = rw c.in-Err-Busy.field-0-is at c.in-Err-Busy.ensures.err in
-    refused-since (view_of c.args.seat.now) (view_of c.take.new.seat) c.args.page Work Busy r.1
+    (refused-since (view_of c.args.seat.now) (view_of c.take.new.seat) c.args.page Work Busy r.1, r.1.busy refl c.requires.own)
 
 pub returns-in-Err-Gone-clause-since : goal.returns-in-Err-Gone-clause-since
 returns-in-Err-Gone-clause-since c =

@@ -33,7 +33,7 @@ join_seat-requires c =
       ap (λ (w : Worker Lodged View). w.table_id) worker ∙ b.table,
       ap (λ (w : Worker Lodged View). w.me.1) worker ∙ b.slots,
       c.requires.words,
-      unites _ _ _ _ _ inv.about (ap (λ (w : Worker Lodged View). w.me.0.about) worker ∙ b.about) (ap (λ (w : Worker Lodged View). w.me.0.hand) worker ∙ b.hand),
+      unites _ _ _ _ _ inv.about (ap (λ (w : Worker Lodged View). w.me.0.about) worker ∙ b.about) inv.hand (ap (λ (w : Worker Lodged View). w.me.0.hand) worker ∙ b.hand),
     )
 
 pub loop-seat-preserved : goal.loop-seat-preserved

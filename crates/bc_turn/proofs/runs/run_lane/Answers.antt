@@ -38,6 +38,7 @@ returns g c =
       ran = record {
         ran = λ h whole. subst (λ (xs : List Op). LaneRan xs (end_of h.space) old.turn (view_of old.seat) None turn (view_of seat) None) ops (c.run-why.ensures.ran h whole);
         stopped = λ h whole. subst (λ (xs : List Op). WhyStopped xs (end_of h.space) turn (view_of seat) None c.run-why.result) ops (c.run-why.ensures.why h whole);
+        since = c.run-why.ensures.since;
         seat_is = c.run-why.ensures.seat;
         free = c.run-why.ensures.free;
       };

@@ -43,4 +43,4 @@ returns-clause-seat g c = same_after c.args.seat.now c.go-why.new.seat c.lay_dow
 
 pub returns-clause-since : goal.returns-clause-since
 returns-clause-since g c =
-    stop-laid (view_of c.args.seat.now) (view_of c.go-why.new.seat) (view_of c.lay_down.new.seat) c.go-why.result c.lay_down.ensures.read c.lay_down.ensures.gone c.go-why.ensures.since
+    stop-laid (view_of c.args.seat.now) (view_of c.go-why.new.seat) (view_of c.lay_down.new.seat) c.go-why.result c.lay_down.ensures.read c.lay_down.ensures.gone c.lay_down.ensures.busy c.go-why.ensures.since
