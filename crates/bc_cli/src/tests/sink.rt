@@ -1,6 +1,5 @@
 //! A sink that grows: it tells what it holds, and no room.
 
-
 use bc_io::{Failed, Sink};
 use std::alloc::Global;
 
