@@ -27,7 +27,7 @@ use Rattle.bc_reach.specs.Distinct.{Has}
 use Rattle.bc_superpages.specs.Layout.{Layout}
 use Rattle.bc_superpages.specs.LayoutAt.{IsAllocated}
 use Rattle.bc_superpages.specs.RootWords.{RootWords}
-use Rattle.bc_turn.proofs.BusyLemmas.{has-left, same-index, has-index}
+use Rattle.bc_turn.proofs.BusyLemmas.{has-left, same-index}
 use Rattle.bc_turn.proofs.AwayLemmas.{NotesGone}
 use Rattle.bc_turn.proofs.OtherLemmas.{IsSeatOf, other-whole}
 use Rattle.bc_turn.proofs.PassLemmas.{Passed, Passes, passed, passes-none, passes-then, passes-wider, ready-each}
