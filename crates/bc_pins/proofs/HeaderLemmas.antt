@@ -1,7 +1,7 @@
 -- Headers into which states, and then counters and bookmarks were written.
 use Rattle.std.proofs.Common.{◌≡◌, ℕ, ◌+◌, ◌*◌, ◌/◌, ◌%◌, ◌^◌, ◌<◌, ◌≤◌, List, length, get_or, set, get_or-set_same, get_or-set_other, inl, inr, refl, ap, sym, subst, ◌∙◌, arith}
 use Rattle.std.proofs.lemmas.Bool.{cases_lt, cases_eq}
-use Rattle.std.proofs.lemmas.List.{length-set}
+use Rattle.std.proofs.lemmas.List.{length-set, get_or_past}
 use Rattle.bc_superpages.specs.declared.headers.Header.{Header}
 use Rattle.bc_superpages.specs.declared.headers.PageState.{PageState}
 use Rattle.bc_superpages.specs.declared.headers.PageState.TheVariants.{Absent}
@@ -97,3 +97,12 @@ sets_are whole parts n m ws sup rest s few q lt =
     let within = rest.within in
     let same : (at m q).bookmarks ≡ (at whole.headers.items q).bookmarks = ap (λ (x : Header). x.bookmarks) (s.else_same q) ∙ ap (λ (hs : List Header). (at hs q).bookmarks) rest.emptied.headers in
     subst IsCellSet (sym same) (rest.kept.kept.whole q (omega arith)).tags.bookmarks
+
+-- a header has four states
+pub four_states : (whole parts : SpaceParts) (n : ℕ) → IsRest whole parts n → (q : ℕ) → length (get_or parts.headers.items q unused_header).pages ≡ 4
+four_states whole parts n rest q =
+    ap (λ (hs : List Header). length (at hs q).pages) rest.emptied.headers
+    ∙ elim (cases_lt q (length whole.headers.items)) [
+      | inl lt ↦ (rest.kept.kept.whole q lt).states_long
+      | inr out ↦ ap (λ (h : Header). length h.pages) (get_or_past whole.headers.items q unused_header out)
+    ]

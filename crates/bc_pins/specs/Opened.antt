@@ -1,5 +1,5 @@
 -- What an opened table is.
-use Rattle.std.specs.Prelude.{◌≡◌, ℕ, ◌*◌, ◌<◌, ◌≤◌, false, List, [], length, map}
+use Rattle.std.specs.Prelude.{◌≡◌, ℕ, ◌+◌, ◌*◌, ◌<◌, ◌≤◌, false, List, [], length, map}
 use Rattle.bc_superpages.specs.declared.headers.PageState.TheVariants.{Absent}
 use Rattle.bc_superpages.specs.declared.parts.SpaceParts.{SpaceParts}
 use Rattle.bc_superpages.specs.Layout.{Layout, superpages}

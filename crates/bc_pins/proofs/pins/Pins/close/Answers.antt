@@ -4,7 +4,7 @@ use Rattle.bc_frames.specs.Places.{StoreView}
 use Rattle.bc_superpages.specs.declared.parts.SpaceParts.{SpaceParts}
 use Rattle.bc_pins.specs.Key.{pages_of, page_at}
 use Rattle.bc_pins.specs.Resting.{RestView}
-use Rattle.bc_pins.proofs.HeaderLemmas.{sets_are}
+use Rattle.bc_pins.proofs.HeaderLemmas.{sets_are, four_states}
 use Rattle.bc_pins.proofs.ClosingLemmas.{gathered_ends, words_few, ended_from, ended_parts, ended_space}
 use Rattle.bc_pins.proofs.pins.Pins.close.Goals as goal
 
@@ -15,6 +15,9 @@ set_states-requires-clause-few c = λ p lt.
     let count : c.rest.inside.pages ≡ pages_of self.table.shared.key = ap (λ (r : RestView). r.pages) c.rest.view_is ∙ self.paged in
     subst (λ (l : List ℕ). get_or l (page_at p) 0 ≤ 4) (sym (ap slots_items c.drain.ensures.words))
     (words_few self.table.shared.key _ _ _ (gathered_ends _ _ _ _ _ _ c.unite_all-root.ensures.gathered final.2) p (omega arith))
+
+pub set_states-requires-clause-long : goal.set_states-requires-clause-long
+set_states-requires-clause-long c = four_states _ _ _ c.rest.invariant
 
 pub set_summaries-requires-clause-words : goal.set_summaries-requires-clause-words
 set_summaries-requires-clause-words c =
