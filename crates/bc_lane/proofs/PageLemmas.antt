@@ -41,7 +41,7 @@ use Rattle.bc_word.proofs.WordsLemmas.{get_or-words_from}
 not-both : (b : Bool) → b ≡ true → b ≡ false → ⊥
 not-both b on off = cc
 
-owns-page : (v : View) (p : ℕ) → IsOwnPage v p → owns v p ≡ true
+pub owns-page : (v : View) (p : ℕ) → IsOwnPage v p → owns v p ≡ true
 owns-page v p own = lt-ltb 0 _ own
 
 -- a page that its own lane puts back is recorded as remembered exactly where it is put back so
