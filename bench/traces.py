@@ -123,6 +123,12 @@ def pairs(setup, count, domains):
     return whole(setup, [setup.phase(each + more), setup.phase('new 0 31 127\n' * count)])
 
 
+def notices(setup, count):
+    """An object in a cell, which is looked at in so many phases; with each come 64 notices, of which the first takes its page away."""
+    looks = setup.phase('len 0 0\n', turns='turn' + ' 0' * 64 + '\n')
+    return whole(setup, [setup.phase('new 0 0 1\n'), setup.phase('new 0 1 127\n' * 8)] + [looks] * count)
+
+
 def full_heap(setup, count):
     """As many objects of 127 fields as there are cells, less one, in trees of three levels, and then objects of that size."""
     left, lines = 16 * setup.superpages - 1, []
@@ -265,4 +271,7 @@ SETUPS = [
      lambda setup: whole(setup, islice(mixed_phases(setup, EVEN, working=FOUR_APART), 4))),
     ('fail-safes of a heap of seven superpages', Setup(1, 1, 32, 7, 1, 1), Setup(16, 64, 256, 7, 1, 1),
      lambda setup: pairs(setup, 2_000, 1)),
+    ('a working set that moves, within four frames', Setup(1, 1, 17, 8, 1, 64, 4), Setup(16, 64, 17, 4096, 1, 64, 4),
+     lambda setup: moving_working_set(setup, 100)),
+    ('64 notices a phase, few pages in use', Setup(1, 1, 2, 8, 1, 1), Setup(16, 64, 256, 4096, 1, 1), lambda setup: notices(setup, 200)),
 ]

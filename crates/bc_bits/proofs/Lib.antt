@@ -8,3 +8,5 @@ pub mod FullLemmas
 pub mod FirstLemmas
 -- Whether some number below a bound passes a test.
 pub mod AnyLemmas
+-- A word of a set: its 64 bits tell members, and the ones among them count these.
+pub mod WordLemmas

@@ -1,7 +1,7 @@
 -- The size classes of cells, in words, and how many cells of each a page and a superpage hold.
 use Rattle.std.specs.Prelude.{ℕ, ◌*◌, ◌/◌, List, [], ◌∷◌, nat_lt, if◌then◌else◌}
 
--- the same, as a list
+-- the seven size classes, in words
 abbrev pub classes : List ℕ
 classes = 2 ∷ 4 ∷ 8 ∷ 16 ∷ 32 ∷ 64 ∷ 128 ∷ []
 

@@ -11,13 +11,8 @@ use Rattle.bc_model.specs.Run.{after_phase, after_phases, replies_of_phases, rep
 use Rattle.bc_model.specs.State.{State}
 use Rattle.bc_trace.specs.Replies.{phase_text, phases_text}
 use Rattle.bc_trace.proofs.Texts.{phases_text-append}
+use Rattle.bc_trace.proofs.ChurnNeed.{after_phases-append}
 use Rattle.bc_cli.specs.Output.{texts_from}
-
--- the state after some phases and then one more
-pub after_phases-append : (s : State) (ps qs : List PhaseLists) → after_phases s (ps ++ qs) ≡ after_phases (after_phases s ps) qs
-unfolding after_phases
-after_phases-append s [] qs = refl
-after_phases-append s (p ∷ ps) qs = after_phases-append (after_phase s p) ps qs
 
 pub replies-append : (s : State) (ps qs : List PhaseLists) → replies_of_phases s (ps ++ qs) ≡ replies_of_phases s ps ++ replies_of_phases (after_phases s ps) qs
 unfolding after_phases replies_of_phases

@@ -25,7 +25,7 @@ HandsBack heap t how s = IsSomeAnd heap (IsLeftAt t how s)
 abbrev pub NeedFits : TraceLists → State → Type 0
 NeedFits t s = (n : ℕ) × IsNeed s n × (n ≤ t.setup.superpages)
 
--- So it is after each of the first phases.
+-- After each of the first phases the state has a need, which is no more superpages than the trace has.
 abbrev pub NeedsFit : TraceLists → ℕ → Type 0
 NeedsFit t phases = (k : ℕ) → k < phases → NeedFits t (before t (k + 1))
 

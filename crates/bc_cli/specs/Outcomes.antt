@@ -53,7 +53,7 @@ pub record ReplayedTo (left left' held held' : Option (List ℕ)) : Type 0 where
   pub read : ReadAsTrace left left' trace
   pub ending : StopsBefore trace held held'
 
--- The source was read to its end. Its bytes are no trace, and this is their first fault.
+-- The source was read to its end, its bytes are no trace, and this is their first fault.
 pub record Faulty (left left' : Option (List ℕ)) (line : ℕ) (cause : Cause) : Type 0 where
   pub bytes : List ℕ
   pub whole : ReadWhole left left' bytes

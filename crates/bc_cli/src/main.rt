@@ -22,10 +22,13 @@
 // for.
 #![tactic(auto)]
 
-ghost use Rattle.std.specs.Prelude.{◌≡◌, ◌≢◌, IfErr, IfOk, map, string_bytes, None};
-ghost use Rattle.bc_cli.specs.Outcomes.{Faulty, IfBadTrace, IfStatusOutOfHeap, IsOrNoMemory, RanOutOfHeap};
+ghost use Rattle.std.specs.Prelude.{◌≡◌, ◌≢◌, ℕ, IfErr, IfOk, IfSome, map, string_bytes, None};
+ghost use Rattle.bc_cli.specs.Accounts.{KeepsAccount};
+ghost use Rattle.bc_cli.specs.Churns.{ChurnsDone};
+ghost use Rattle.bc_cli.specs.Outcomes.{Faulty, IfBadTrace, IfHeapless, IfStatusOutOfHeap, IsOrNoMemory, RanOutOfHeap, Replayed, workers_of};
 ghost use Rattle.bc_words.specs.Commands.{IsCommandOf};
 ghost use Rattle.bc_words.specs.declared.command.Command.{Command};
+ghost use Rattle.bc_words.specs.declared.command.Command.TheVariants.{Run, Churn};
 
 mod churn;
 mod input;
@@ -84,18 +87,26 @@ fn borrowed(alloc: Global, words: &[String]) -> Result<Vec<&str>, AllocError>
     Ok(texts)
 }
 
-/// Does what the words ask for, over these streams.
+/// Does what the words ask for, over these streams. No stream tells its bytes, so what is said of them holds of some bytes.
 fn run_words<R, I, O>(rt: &R, words: &[String], input: I, output: O) -> Outcome
 where
     R: AllocGlobal + Threads + Sync,
     I: Read + Drop,
     O: Write + Drop,
+    ensures done { (workers : ℕ) → IsCommandOf (map (λ w. string_bytes w) words.now) (Run workers) →
+        result.status ≡ Status.Done → Replayed None None None None result.heap }
+    ensures churn_done { (start ops workers : ℕ) → IsCommandOf (map (λ w. string_bytes w) words.now) (Churn start ops workers) →
+        result.status ≡ Status.Done → ChurnsDone start ops None None result.heap }
     ensures bad_words { result.status ≡ Status.BadWords →
         (command : Command) → ¬ IsCommandOf (map (λ w. string_bytes w) words.now) command }
     ensures refused { ((command : Command) → ¬ IsCommandOf (map (λ w. string_bytes w) words.now) command) →
         IsOrNoMemory result.status Status.BadWords }
     ensures bad_trace { IfBadTrace result.status (λ line cause. Faulty None None line cause) }
     ensures out_of_heap { IfStatusOutOfHeap result.status (λ need. RanOutOfHeap None None None None result.heap need) }
+    ensures none { IfHeapless result.status (result.heap ≡ None) }
+    ensures workers { (command : Command) → IsCommandOf (map (λ w. string_bytes w) words.now) command →
+        IfSome result.heap (λ engine. engine.workers ≡ workers_of command) }
+    ensures account { IfSome result.heap KeepsAccount }
 {
     let Ok(texts) = borrowed(rt.alloc(), words) else {
         return Outcome::without_heap(Status::NoMemory);

@@ -12,7 +12,7 @@ use bc_engine::Engine;
 #[derive(Drop)]
 pub struct Outcome {
     pub status: Status,
-    /// The heap as it stands at the end, where a trace was read and memory didn't run out.
+    /// The heap as it stands at the end, where a trace was read or drawn, and memory didn't run out.
     pub heap: Option<Engine>,
 }
 

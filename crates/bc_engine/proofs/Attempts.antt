@@ -30,7 +30,8 @@ use Rattle.bc_superpages.specs.Layout.{Layout, superpages}
 use Rattle.bc_superpages.specs.RootWords.{RootWords}
 use Rattle.bc_engine.specs.EngineFacts.{CanRunLanes, IsUnrecorded}
 use Rattle.bc_engine.specs.Lanes.{Does, Stops}
-use Rattle.bc_engine.proofs.Sizes.{fits-moved, fits-step, op-of_state}
+use Rattle.bc_engine.proofs.Sizes.{fits-moved, fits-step}
+use Rattle.bc_lane.proofs.WholeLemmas.{op-fits}
 
 -- what the operation is to every state that the heap stands for
 abbrev pub IsStep : ℕ → Op → RunningView → RunningView → Reply → Type 0
@@ -54,7 +55,7 @@ does-step {setup} {r} {q} lane op reply ready within fits stays is =
     let before = births-count r.holders r.serials lane state st in
     let now = births-count q.holders q.serials lane (step state lane op).0 next in
     let made : lane < length state.made = omega (arith, within, ready.lanes, ready.fits.lanes, st.lanes) in
-    let few = made-step state lane op lane st.consistent made (op-of_state r.heap r.holders r.serials state op st fits) in
+    let few = made-step state lane op lane st.consistent made (op-fits r.heap r.holders r.serials state op st fits) in
     record {
       means = is;
       own = omega (arith, before, now, few);

@@ -25,7 +25,7 @@ use Rattle.bc_whole_heap.specs.LaneStates.{StandsAs}
 use Rattle.bc_running.specs.Running.{RunningView}
 use Rattle.bc_running.specs.RunningFacts.{running_of}
 use Rattle.bc_turn.specs.Taking.{HasAllReplyRoom}
-use Rattle.bc_running.proofs.BesideLemmas.{KeepsSizesOf, laid-running, laid-stands, lane-did, ops_done, order-did, sizes-at, sizes-beside, sizes-did, sizes-laid, sizes-then}
+use Rattle.bc_running.proofs.BesideLemmas.{KeepsSizesOf, lane-did, ops_done, order-did, sizes-at, sizes-beside, sizes-did, sizes-laid, sizes-then}
 use Rattle.bc_running.proofs.FirstLists.{with_first, with_first-all, with_first-in, with_first-long, with_first-map, with_first-more, with_first-past}
 use Rattle.bc_engine.specs.EngineFacts.{CanRunLanes}
 use Rattle.bc_engine.specs.Lanes.{of_lane, BirthsWithin, EachStopped, LanesRan, LanesWentOn, LeavesCells, StopsInTurn}
@@ -33,6 +33,7 @@ use Rattle.bc_engine.proofs.GoingLemmas.{other-one, own-one, ops-one}
 use Rattle.bc_engine.proofs.RunLemmas.{runs-none, runs-same, runs-then, serials-later}
 use Rattle.bc_engine.proofs.Sizes.{fits-beside}
 use Rattle.bc_engine.proofs.StepLists.{ops_by-append}
+use Rattle.bc_turn.proofs.BackLemmas.{lies-back-running, lies-back-stands}
 
 -- the steps of a lane that does these operations
 abbrev steps_of : ℕ → List Op → List LaneOp
@@ -287,13 +288,13 @@ last-ran {lanes} {r} {q} {before} {after} b n all =
     let is : q ≡ end = λ i. record { heap = q.heap; holders = held i; serials = nexts i } in
     let runs : LanesRan lanes (run_to b n) after end after =
     runs-none lanes (run_to b n) end after refl refl
-    (λ state stands. laid-stands (b.ran.at n) q.heap hs serials state back stands)
+    (λ state stands. lies-back-stands (b.ran.at n) q.heap hs serials state back stands)
     (λ setup ready. record {
       range = ready.range;
-      order = laid-running (b.ran.at n) q.heap hs back ready.order;
+      order = lies-back-running (b.ran.at n) q.heap hs back ready.order;
       fits = fits-beside setup (sizes-laid (b.ran.at n) q.heap back) ready.fits;
       lanes = ready.lanes;
-      meant = (ready.meant.0, laid-stands (b.ran.at n) q.heap hs serials ready.meant.0 back ready.meant.1);
+      meant = (ready.meant.0, lies-back-stands (b.ran.at n) q.heap hs serials ready.meant.0 back ready.meant.1);
     }) in
     subst (λ (x : RunningView). LanesRan lanes (run_to b n) (told_to before after n) x after) (sym is)
     (subst (λ (vs : List (Vec Reply Global)). LanesRan lanes (run_to b n) vs end after) (sym told) runs)

@@ -8,8 +8,9 @@ use Rattle.bc_model.specs.Step.{step}
 use Rattle.bc_model.specs.declared.operations.Op.{Op}
 use Rattle.bc_model.specs.declared.operations.Reply.{Reply}
 use Rattle.bc_engine.specs.Lanes.{of_lane, Does, LanesWentOn}
-use Rattle.bc_engine.proofs.StepLists.{all-append, after_steps-append, ops_by-append, replies_by-append, after_steps-one, replies_by-one, after_steps-none, replies_by-none}
+use Rattle.bc_engine.proofs.StepLists.{after_steps-append, ops_by-append, replies_by-append, after_steps-one, replies_by-one, after_steps-none, replies_by-none}
 use Rattle.bc_running.specs.Running.{RunningView, RunningStands}
+use Rattle.bc_model.proofs.RunStates.{all-append}
 
 -- no operation was done: the heap stands for what it stood for
 pub goes-none : (lanes : List (List Op)) (r q : RunningView) (told : List (List Reply)) → ((state : State) → RunningStands r state → RunningStands q state) → LanesWentOn lanes r told q told

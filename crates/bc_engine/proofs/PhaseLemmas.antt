@@ -34,7 +34,8 @@ use Rattle.bc_engine.specs.Rounds.{RoundsWentOn, IsRoomFor, IsThrough, IsTooSmal
 use Rattle.bc_model.proofs.NeedFound.{need-found}
 use Rattle.bc_model.proofs.RunStates.{length-cut_lanes}
 use Rattle.bc_engine.proofs.CutLemmas.{mixed-cut, mixed-whole, run-lanes}
-use Rattle.bc_engine.proofs.Sizes.{no-object, op-of_heap, op-of_state}
+use Rattle.bc_engine.proofs.Sizes.{no-object, op-of_heap}
+use Rattle.bc_lane.proofs.WholeLemmas.{op-fits}
 
 -- room for a birth by each operation of the phase
 fits-births : (e : EngineView) (p : PhaseLists) (told : List (List Reply)) → HasRoomForOps e p.lanes 0 → HasSerialsLeft p.lanes e.running.serials told
@@ -80,7 +81,7 @@ all-weaker P Q f (x ∷ xs) h = (f x h.0, all-weaker P Q f xs h.1)
 ops-fit : (e : EngineView) (lanes : List (List Op)) (s : State) → CanRunLanes e.setup e.running → EngineStands e s → AllByRecursion (AllByRecursion (IsOp e.setup)) lanes → AllByRecursion (AllByRecursion (IsOp (sizes_of s))) lanes
 ops-fit e lanes s ready st ops =
     all-weaker (AllByRecursion (IsOp e.setup)) (AllByRecursion (IsOp (sizes_of s)))
-    (λ os fits. all-weaker (IsOp e.setup) (IsOp (sizes_of s)) (λ o fit. op-of_state e.running.heap e.running.holders e.running.serials s o st (op-of_heap e.setup e.running.heap o ready.fits fit)) os fits) lanes ops
+    (λ os fits. all-weaker (IsOp e.setup) (IsOp (sizes_of s)) (λ o fit. op-fits e.running.heap e.running.holders e.running.serials s o st (op-of_heap e.setup e.running.heap o ready.fits fit)) os fits) lanes ops
 
 -- what the lanes of a phase did, up to a cut
 pub record IsCutOf (lanes : List (List Op)) (q : RunningView) (answers : List (List Reply)) (s : State) : Type 0 where

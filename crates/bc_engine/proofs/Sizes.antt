@@ -1,20 +1,16 @@
 -- What an operation and an emptying leave as it was: the sizes of a heap, and which operations fit it.
-use Rattle.std.proofs.Common.{◌≡◌, ℕ, false, List, [], ◌∷◌, length, None, sym, ap, subst, ◌∙◌, inl, inr, arith}
+use Rattle.std.proofs.Common.{◌≡◌, ℕ, List, [], ◌∷◌, None, sym, ap, subst, ◌∙◌, inl, inr}
 use Rattle.std.proofs.lemmas.Bool.{cases_eq}
 use Rattle.bc_bookmarks.specs.Moves.{MovesPages}
 use Rattle.bc_whole_heap.specs.Closed.{buffer_of}
 use Rattle.bc_whole_heap.specs.LaneChunks.{chunk_of}
 use Rattle.bc_whole_heap.specs.Heaps.{object_in, HeapView}
 use Rattle.bc_whole_heap.proofs.ChunkLemmas.{object_in-none}
-use Rattle.bc_whole_heap.specs.LaneStates.{StandsAs}
-use Rattle.bc_model.specs.StateSizes.{sizes_of}
-use Rattle.bc_model.specs.State.{State}
 use Rattle.bc_model.specs.WellFormed.{IsOp}
 use Rattle.bc_model.specs.declared.operations.Op.{Op}
 use Rattle.bc_model.specs.declared.traces.Setup.{Setup}
 use Rattle.bc_mutator.specs.Operations.{IsOpOf}
 use Rattle.bc_nursery.specs.Entries.{Entries}
-use Rattle.bc_nursery.specs.Objects.{has_object}
 use Rattle.bc_nursery.specs.Nurseries.{Nursery}
 use Rattle.bc_promotion.specs.Promises.{HasDomainsBelow}
 use Rattle.bc_superpages.specs.Layout.{Layout, superpages}
@@ -24,6 +20,7 @@ use Rattle.bc_running.specs.RunningFacts.{StaysBut}
 use Rattle.bc_running.proofs.BesideLemmas.{KeepsSizesOf}
 use Rattle.std.specs.List.{AllByRecursion}
 use Rattle.bc_engine.specs.EngineFacts.{HasSetup}
+use Rattle.bc_cycle.proofs.OpeningLemmas.{none-in}
 
 -- an operation fits whatever has as many domains and slots
 made_up : ℕ → ℕ → Setup
@@ -46,12 +43,6 @@ ops-of_heap setup h (op ∷ ops) fits all = (op-of_heap setup h op fits all.0, o
 pub lanes-of_heap : (setup : Setup) (h : HeapView) (lanes : List (List Op)) → HasSetup h setup → AllByRecursion (AllByRecursion (IsOp setup)) lanes → AllByRecursion (AllByRecursion (IsOpOf h.roots)) lanes
 lanes-of_heap setup h [] fits all = tt
 lanes-of_heap setup h (ops ∷ lanes) fits all = (ops-of_heap setup h ops fits all.0, lanes-of_heap setup h lanes fits all.1)
-
-pub op-of_state : (h : HeapView) (hs serials : List ℕ) (state : State) (o : Op) → StandsAs h hs serials state → IsOpOf h.roots o → IsOp (sizes_of state) o
-unfolding made_up
-op-of_state h hs serials state o st op =
-    let like = op-like (made_up h.roots.domains h.roots.slots) (length state.holders) state.width o (sym st.domains) (sym st.slots) op in
-    like
 
 -- an operation of a lane leaves the sizes
 pub fits-step : (setup : Setup) {lane : ℕ} {r q : RunningView} → StaysBut lane r q → HasSetup r.heap setup → HasSetup q.heap setup
@@ -102,8 +93,5 @@ fits-beside setup sizes fits = record {
 }
 
 -- an empty chunk has no object, nor has a list of empty chunks
-none-in : (c : Nursery) (a : ℕ) → c.objects ≡ [] → has_object c a ≡ false
-none-in c a none = grind (arith, none)
-
 pub no-object : (cs : List Nursery) → ((l : ℕ) → (chunk_of cs l).objects ≡ []) → (a : ℕ) → object_in cs a ≡ None
 no-object cs none a = object_in-none cs a (λ k lt. none-in (chunk_of cs k) a (none k))

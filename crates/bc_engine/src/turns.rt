@@ -1,6 +1,6 @@
 //! A turn of the lanes: they run, the notices of the turn's line are answered, and the heap is settled.
 
-ghost use Rattle.std.specs.Prelude.{◌≡◌, ◌+◌, ◌≤◌, length, vec_capacity};
+ghost use Rattle.std.specs.Prelude.{◌+◌, ◌≤◌, length, vec_capacity};
 ghost use Rattle.bc_engine.specs.Lanes.{IsUnderway, LanesRan};
 ghost use Rattle.bc_engine.specs.Turns.{RanTurn};
 ghost use Rattle.bc_model.specs.Rows.{lists_of};

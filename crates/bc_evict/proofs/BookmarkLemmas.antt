@@ -1,6 +1,7 @@
 -- A page whose targets were bookmarked, and which was counted in each superpage that has one, may be made Gone.
 use Rattle.std.proofs.Common.{◌≡◌, ℕ, ◌+◌, ◌*◌, ◌/◌, ◌%◌, ◌<◌, ◌||◌, Bool, true, false, nat_lt, List, [], slice_index, Some, refl, ap, sym, subst, ◌∙◌, arith}
-use Rattle.std.proofs.lemmas.Bool.{ltb-true}
+use Rattle.std.proofs.lemmas.Bool.{ltb-true, or_left}
+use Rattle.std.proofs.lemmas.Option.{same_Some}
 use Rattle.bc_bits.specs.Bits.{has}
 use Rattle.bc_bits.specs.Counting.{one_if}
 use Rattle.bc_bits.proofs.BitLemmas.{has-beyond}
@@ -36,15 +37,12 @@ use Rattle.bc_evict.proofs.ContentLemmas.{target-allocated, names-allocated, fie
 use Rattle.bc_evict.proofs.PageLemmas.{cell-named}
 use Rattle.bc_evict.proofs.MarkLemmas.{reads-then, Marks-same}
 
-some_hand : (x y : Hand) → Some x ≡ Some y → x ≡ y
-some_hand x y e = cc
-
 -- a page that was taken may be bookmarked
 pub may-bookmark : (v : View) (seat : Seat) (page : ℕ) (held : Held) → Grasps v seat page held → Takes v page held.remembered held.homed → held.remembered ≡ false → HasCell v.about.opening page → MayBookmark seat held
 may-bookmark v seat page held g t quiet there =
     let was = may_put_taken v seat page held g t in
     let in_hand : (hand : Hand) → (view_of seat).hand ≡ Some hand → hand ≡ record { page = page; remembered = held.remembered; frame = held.homed.frame; content = held.homed.page; counted = []; marked = []; looked = [] } =
-    λ hand had. some_hand _ _ (sym had ∙ ap (λ (w : View). w.hand) g.view) in
+    λ hand had. same_Some _ _ (sym had ∙ ap (λ (w : View). w.hand) g.view) in
     record {
       as_taken = record {
         content = λ hand had. ap (λ (h : Hand). h.content) (in_hand hand had);
@@ -74,7 +72,7 @@ walked-at pins seat held at holds may = record {
 -- a page in hand stays so where the seat changed its marks and counts alone
 pub holds-after : (a b : Seat) (held : Held) (h g : Hand) → IsSameSeat a b → slots_of b ≡ slots_of a → (view_of a).hand ≡ Some h → (view_of b).hand ≡ Some g → g.page ≡ h.page → g.frame ≡ h.frame → HoldsPage a held → HoldsPage b held
 holds-after a b held h g same slots has_h has_g page frame holds =
-    let e : holds.hand ≡ h = some_hand _ _ (sym holds.has ∙ has_h) in
+    let e : holds.hand ≡ h = same_Some _ _ (sym holds.has ∙ has_h) in
     record {
       hand = g;
       has = has_g;
@@ -94,8 +92,8 @@ walked-after pins a b held met more f w m =
       at = at_after pins a b w.at m.seat;
       holds = holds-after a b held h (record h { marked = one.0 }) m.seat m.slots w.holds.has has_b refl refl w.holds;
       as_taken = record {
-        content = λ g has_g. sym (ap (λ (x : Hand). x.content) (some_hand _ _ (sym has_b ∙ has_g))) ∙ w.as_taken.content h w.holds.has;
-        taken = λ g has_g. sym (ap (λ (x : Hand). x.remembered) (some_hand _ _ (sym has_b ∙ has_g))) ∙ w.as_taken.taken h w.holds.has;
+        content = λ g has_g. sym (ap (λ (x : Hand). x.content) (same_Some _ _ (sym has_b ∙ has_g))) ∙ w.as_taken.content h w.holds.has;
+        taken = λ g has_g. sym (ap (λ (x : Hand). x.remembered) (same_Some _ _ (sym has_b ∙ has_g))) ∙ w.as_taken.taken h w.holds.has;
         quiet = w.as_taken.quiet;
       };
       there = subst (λ (k : Key). HasCell k.opening held.page) (sym m.seat.about) w.there;
@@ -106,9 +104,6 @@ walked-after pins a b held met more f w m =
 or_false : (b : Bool) → (b || false) ≡ b
 or_false true = refl
 or_false false = refl
-
-or_true : (a b : Bool) → a ≡ true → (a || b) ≡ true
-or_true a b e = ap (λ (x : Bool). x || b) e
 
 -- where the bits of the page's targets were set, and then the superpages counted that were met
 module _ (pins : Pins) (a b d : Seat) (held : Held) (met : List ℕ) (walked : IsWalked pins a held) (unmarked : HasNoMarks a)
@@ -188,7 +183,7 @@ module _ (pins : Pins) (a b d : Seat) (held : Held) (met : List ℕ) (walked : I
       omega arith
 
   pub has_bookmarked : (g : Hand) → v.hand ≡ Some g → HasBookmarked v g w
-  has_bookmarked g has_g = subst (λ (x : Hand). HasBookmarked v x w) (some_hand _ _ (sym walked.holds.has ∙ has_g)) record {
+  has_bookmarked g has_g = subst (λ (x : Hand). HasBookmarked v x w) (same_Some _ _ (sym walked.holds.has ∙ has_g)) record {
     now = h2;
     same_hand = refl;
     same = (counts.same h1 has_b).1 ∙ ap (λ (x : View). record x { hand = Some h2; read = w.read }) (set.same h walked.holds.has).1
@@ -208,7 +203,7 @@ module _ (pins : Pins) (a b d : Seat) (held : Held) (met : List ℕ) (walked : I
         within = omega arith;
         few = few;
         starts = is_cell-start s.classes s.cells x allocated;
-        bit = ltb-true 0 _ (bits (superpage_of x) (cell_number (class_at s x) x) few ∙ or_true _ _ (cell-named s h.page h.content layout lt_page x on));
+        bit = ltb-true 0 _ (bits (superpage_of x) (cell_number (class_at s x) x) few ∙ or_left _ _ (cell-named s h.page h.content layout lt_page x on));
       }
 
   may_leave : MayLeave v.about w h2
@@ -217,11 +212,11 @@ module _ (pins : Pins) (a b d : Seat) (held : Held) (met : List ℕ) (walked : I
   pub may_relinquish : MayRelinquish d held
   may_relinquish = record {
     as_taken = record {
-      content = λ g has_g. sym (ap (λ (x : Hand). x.content) (some_hand h2 g (sym has_d ∙ has_g))) ∙ content;
-      taken = λ g has_g. sym (ap (λ (x : Hand). x.remembered) (some_hand h2 g (sym has_d ∙ has_g))) ∙ walked.as_taken.taken h walked.holds.has;
+      content = λ g has_g. sym (ap (λ (x : Hand). x.content) (same_Some h2 g (sym has_d ∙ has_g))) ∙ content;
+      taken = λ g has_g. sym (ap (λ (x : Hand). x.remembered) (same_Some h2 g (sym has_d ∙ has_g))) ∙ walked.as_taken.taken h walked.holds.has;
       quiet = walked.as_taken.quiet;
     };
-    bookmarked = λ g has_g. subst (λ (x : Hand). MayLeave w.about w x) (some_hand h2 g (sym has_d ∙ has_g)) (subst (λ (k : Key). MayLeave k w h2) (sym seat.about) may_leave);
+    bookmarked = λ g has_g. subst (λ (x : Hand). MayLeave w.about w x) (same_Some h2 g (sym has_d ∙ has_g)) (subst (λ (k : Key). MayLeave k w h2) (sym seat.about) may_leave);
   }
 
   pub still_holds : HoldsPage d held

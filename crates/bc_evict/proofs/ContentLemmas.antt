@@ -1,6 +1,7 @@
 -- The objects of a page in hand, by its words, and what these refer to.
 use Rattle.std.proofs.Common.{◌≡◌, ℕ, ◌+◌, ◌%◌, ◌<◌, Bool, true, false, if◌then◌else◌, inl, inr, List, length, slice_index, slice_index_or, Some, None, ap, sym, subst, ◌∙◌, arith}
 use Rattle.std.proofs.lemmas.Bool.{cases_Bool, and_from, and_left, eq-eqb}
+use Rattle.std.proofs.lemmas.Option.{same_Some}
 use Rattle.bc_bits.specs.Bits.{has}
 use Rattle.bc_bits.specs.Counting.{any_below}
 use Rattle.bc_word.specs.declared.words.Word.{Word}
@@ -22,16 +23,13 @@ use Rattle.bc_bookmarks.specs.Targets.{is_target, some_field}
 use Rattle.bc_bookmarks.proofs.TargetLemmas.{refers-target, target-refers}
 use Rattle.bc_pins.specs.Contents.{IsFieldOn, NamesFixed, IsYoung, IsContent, RefersYoung, objects_in, field_bits}
 
-some_is : (x y : Cell) → Some x ≡ Some y → x ≡ y
-some_is x y e = cc
-
 none_is : (x : Cell) → None ≡ Some x → ⊥
 none_is x e = cc
 
 -- an object that lies at an address
 pub object-at : (s : Layout) (c : List ℕ) (x : ℕ) (o : Cell) → objects_in s c x ≡ Some o → IsAllocated s x × (o ≡ cell_on c (offset_of x))
 object-at s c x o found = elim (cases_Bool (is_cell s.classes s.cells x)) [
-  | inl on ↦ (on, some_is _ _ (sym found ∙ ap (λ (b : Bool). if b then Some (cell_on c (offset_of x)) else None) on))
+  | inl on ↦ (on, same_Some _ _ (sym found ∙ ap (λ (b : Bool). if b then Some (cell_on c (offset_of x)) else None) on))
   | inr off ↦ absurd (none_is o (sym (ap (λ (b : Bool). if b then Some (cell_on c (offset_of x)) else None) off) ∙ found))
 ]
 

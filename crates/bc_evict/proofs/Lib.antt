@@ -12,5 +12,3 @@ pub mod BookmarkLemmas
 pub mod GoneLemmas
 -- Rights to frames, and pages that are made Absent
 pub mod RightLemmas
--- What the tests need
-pub mod TestLemmas

@@ -4,6 +4,7 @@ use Rattle.std.specs.Int.{bit_at}
 use Rattle.std.proofs.lemmas.Bool.{cases_eq, eq-eqb, ne_eqb, lt-ltb}
 use Rattle.std.proofs.lemmas.Nat.{one_shl}
 use Rattle.std.proofs.lemmas.Nat.Bits.{bit_at-pow_same, bit_at-pow_other}
+use Rattle.std.proofs.lemmas.Option.{same_Some}
 use Rattle.bc_bits.specs.Bits.{has}
 use Rattle.bc_bits.specs.BitChanges.{with_bit}
 use Rattle.bc_bits.specs.Counting.{one_if}
@@ -18,7 +19,7 @@ use Rattle.bc_superpages.specs.Kept.{IsLayout}
 use Rattle.bc_superpages.specs.Calls.{class_at}
 use Rattle.bc_superpages.proofs.HandLemmas.{allocated-is_class, allocated-superpage}
 use Rattle.bc_bookmarks.specs.Targets.{names_in, names_cell, is_target}
-use Rattle.bc_bookmarks.proofs.ReadingLemmas.{meets-inserted}
+use Rattle.bc_bookmarks.proofs.ReadingLemmas.{meets-inserted, or_assoc_right}
 use Rattle.bc_pins.specs.declared.views.Hand.{Hand}
 use Rattle.bc_pins.specs.declared.views.View.{View}
 use Rattle.bc_pins.specs.declared.pins.Seat.{Seat}
@@ -48,10 +49,6 @@ reads-then v w u about first next = record {
 -- a view with its hand as it is
 pub hand-same : (v : View) (h : Hand) → v.hand ≡ Some h → v ≡ record v { hand = Some h }
 hand-same v h has = ap (λ (o : Option Hand). record v { hand = o }) has
-
-or_assoc_right : (a b c : Bool) → (a || (b || c)) ≡ ((a || b) || c)
-or_assoc_right true b c = refl
-or_assoc_right false b c = refl
 
 -- no word was gone over yet
 pub Marks-none : (a : Seat) (met : List ℕ) (f : (Word → Bool) → Bool) → ((test : Word → Bool) → f test ≡ false) → Marks a met f a met
@@ -174,9 +171,6 @@ marks-other a met word none = record {
     no_superpage q (Num v) none_w = refl
     no_superpage q (Ref x) none_w = absurd (none_w x refl)
 
-some_hand : (x y : Hand) → Some x ≡ Some y → x ≡ y
-some_hand x y e = cc
-
 -- a reference is marked by the bit of its cell
 pub marks-ref : (old new : Seat) (met more : List ℕ) (word : Word) (h : Hand) (q n w bits found a : ℕ) → IsSameSeat old new → slots_of new ≡ slots_of old
     → (view_of old).hand ≡ Some h → view_of new ≡ bookmarking (view_of old) h w bits found → word ≡ Ref (record { 0 = a })
@@ -186,7 +180,7 @@ marks-ref old new met more word h q n w bits found a seat slots has_h view is is
   seat = seat;
   slots = slots;
   same = λ g has_g.
-      subst (λ (z : Hand). (marked : List (ℕ × ℕ)) × (view_of new ≡ record (view_of old) { hand = Some (record z { marked = marked }); bookmarked = (view_of new).bookmarked; read = (view_of new).read })) (some_hand h g (sym has_h ∙ has_g))
+      subst (λ (z : Hand). (marked : List (ℕ × ℕ)) × (view_of new ≡ record (view_of old) { hand = Some (record z { marked = marked }); bookmarked = (view_of new).bookmarked; read = (view_of new).read })) (same_Some h g (sym has_h ∙ has_g))
       ((w, bits) ∷ h.marked, subst (λ (x : View). x ≡ record (view_of old) { hand = Some (record h { marked = (w, bits) ∷ h.marked }); bookmarked = x.bookmarked; read = x.read }) (sym view) refl);
   bits = λ r b small.
       sets-more (view_of old) h.page q n a (view_of new).bookmarked is_q is_n few

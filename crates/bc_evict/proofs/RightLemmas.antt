@@ -16,7 +16,8 @@ use Rattle.bc_pins.specs.Totals.{times}
 use Rattle.bc_pins.specs.Contents.{IsBarePage}
 use Rattle.bc_pins.specs.Steps.{given_back, giving, AreRights, MayVacate, both_slots}
 use Rattle.bc_pins.specs.Calls.{key_of, view_of, slots_of, IsAt, HoldsPage}
-use Rattle.bc_pins.proofs.TotalLemmas.{one_same, one_other}
+use Rattle.bc_pins.proofs.TotalLemmas.{one_other}
+use Rattle.bc_pins.proofs.CloseLemmas.{none_times}
 use Rattle.bc_evict.specs.Evicting.{HasGiven, MayDiscard, reads_of}
 use Rattle.bc_evict.proofs.MarkLemmas.{reads-else}
 
@@ -88,12 +89,8 @@ has-given v w f n found is step =
     }
 
 -- no right is left where each was given back
-no-rights : (l : List ℕ) → ((f : ℕ) → times f l ≡ 0) → l ≡ []
-no-rights [] none = refl
-no-rights (f ∷ l) none = let one = one_same f in let z = none f in absurd (omega arith)
-
 given-all : (f : ℕ) (l : List ℕ) → times f l ≡ 0 → ((g : ℕ) → g ≢ f → times g l ≡ times g (f ∷ [])) → l ≡ []
-given-all f l none others = no-rights l (λ g. elim (cases_eq g f) [
+given-all f l none others = none_times l (λ g. elim (cases_eq g f) [
   | inl e ↦ ap (λ (i : ℕ). times i l) e ∙ none
   | inr ne ↦ let z = others g ne in let o = one-else f g (λ e. ne (sym e)) in omega arith
 ])

@@ -36,6 +36,3 @@ pub use bookmarking::bookmark;
 pub use laws::law_gone_pages;
 pub use leaving::{discard, relinquish};
 pub use rights::{FrameRight, give_frame};
-
-#[cfg(test)]
-mod tests;

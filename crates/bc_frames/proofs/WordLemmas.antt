@@ -1,53 +1,21 @@
 -- A pool's words of 64 frames: a new pool's, what a word tells, and frames that are given word by word.
-use Rattle.std.proofs.Common.{◌≡◌, ◌≢◌, ℕ, ◌+◌, ◌-◌, ◌*◌, ◌/◌, ◌%◌, ◌^◌, ◌<◌, ◌≤◌, ◌==◌, ◌||◌, inl, inr, min, max, Bool, true, false, not, List, length, set, get_or, replicate, nat_lt, bit_and, bit_or, refl, ap, sym, ◌∙◌, arith, rules, tests, w64, length-set, get_or-set_same, get_or-set_other}
+use Rattle.std.proofs.Common.{◌≡◌, ◌≢◌, ℕ, ◌+◌, ◌-◌, ◌*◌, ◌/◌, ◌%◌, ◌^◌, ◌<◌, ◌≤◌, ◌==◌, ◌||◌, inl, inr, min, max, Bool, true, false, not, List, length, set, get_or, replicate, nat_lt, bit_and, bit_or, refl, ap, sym, ◌∙◌, arith, tests, w64, length-set, get_or-set_same, get_or-set_other}
 use Prim.Native.Nat.{zero, suc}
 use Rattle.std.specs.Int.{bit_at, bit_not, trailing_ones}
 use Rattle.std.specs.Int.Count.{ones}
 use Rattle.std.proofs.lemmas.Bool.{cases_eq, cases_lt, lt-ltb}
-use Rattle.std.proofs.lemmas.Nat.{mod-pow-add, ones_cat, and_le_l}
+use Rattle.std.proofs.lemmas.Nat.{and_le_l}
 use Rattle.std.proofs.lemmas.Nat.Bits.{bit_at_and, bit_at_or, bit_at_not, bit_at-lt, bit_at-zero, bit_at_ones, ones_shl, bit_at_mask_inside, bit_at_mask_below, bit_at-trailing_ones}
 use Rattle.std.proofs.lemmas.List.{length-replicate}
 use Rattle.bc_bits.specs.Bits.{has}
 use Rattle.bc_bits.specs.BitChanges.{AreWords}
 use Rattle.bc_bits.specs.Counting.{one_if, count_below}
 use Rattle.bc_bits.proofs.BitLemmas.{has-zeros, AreWords-zeros}
+use Rattle.bc_bits.proofs.WordLemmas.{ones-count, has-word}
 use Rattle.bc_frames.specs.Pool.{is_free, free_count}
 use Rattle.bc_frames.specs.FrameBits.{flags_in, HasFrameBits}
 use Rattle.bc_frames.proofs.PoolLemmas.{free_count-set, free_count-all, is_free-all}
 use Rattle.bc_frames.proofs.FlagLemmas.{length-flags_in, is_free-in, is_free-out, flags_in-are}
-
--- how many bits of a word are set
-one-bit : (b : ℕ) → b < 2 → ones b ≡ one_if (b == 1)
-unfolding ones
-one-bit zero lt = refl
-one-bit (suc zero) lt = refl
-one-bit (suc (suc b)) lt = absurd (omega arith)
-
-ones-below : (w k : ℕ) → ones (w % 2 ^ k) ≡ count_below (λ j. bit_at w j == 1) k
-unfolding count_below
-ones-below w zero = let none : w % 2 ^ 0 ≡ 0 = omega arith in ap ones none ∙ one-bit 0 (omega arith)
-ones-below w (suc k) =
-    let next : suc k ≡ 1 + k = omega arith in
-    let word = ap (λ (n : ℕ). ones (w % 2 ^ n)) next ∙ ap ones (mod-pow-add w 1 k) ∙ ones_cat k (bit_at w k) (w % 2 ^ k) (small w k) in
-    let rest = ones-below w k in
-    let bit = one-bit (bit_at w k) (bit_at-lt w k) in
-    omega arith
-  where
-    small : (n k : ℕ) → n % 2 ^ k < 2 ^ k
-    small n k = search rules
-
-ones-count : (w : ℕ) → w < 2 ^ 64 → ones w ≡ count_below (λ j. bit_at w j == 1) 64
-ones-count w lt =
-    let same : w % 2 ^ 64 ≡ w = omega arith in
-    ap ones (sym same) ∙ ones-below w 64
-
--- the bit of a frame in its word
-pub has-word : (ws : List ℕ) (w b : ℕ) → b < 64 → has ws (64 * w + b) ≡ (bit_at (get_or ws w 0) b == 1)
-unfolding has
-has-word ws w b lt =
-    let word : (64 * w + b) / 64 ≡ w = omega arith in
-    let place : (64 * w + b) % 64 ≡ b = omega arith in
-    rw (word, place) refl
 
 bit-of : (n : ℕ) (c : Bool) → n < 2 → (n == 1) ≡ c → n ≡ one_if c
 bit-of n c lt e = grind (arith, tests)

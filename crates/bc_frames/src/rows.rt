@@ -1,6 +1,6 @@
 //! The pages that were never used. Room for them is taken at once, in rows, and a row is touched only when a page of it is wanted.
 
-ghost use Rattle.std.specs.Prelude.{◌≡◌, ℕ, ◌+◌, ◌-◌, ◌*◌, ◌/◌, ◌<◌, ◌≤◌, [], List, length, replicate, drop, vec_capacity, IfOk};
+ghost use Rattle.std.specs.Prelude.{◌≡◌, ℕ, ◌+◌, ◌-◌, ◌*◌, ◌/◌, ◌<◌, ◌≤◌, [], length, replicate, vec_capacity, IfOk};
 
 use crate::pages::Page;
 use std::alloc::{AllocError, Global};

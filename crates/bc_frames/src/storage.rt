@@ -1,6 +1,6 @@
 //! The store, where the boxes of pages lie that aren't resident.
 
-ghost use Rattle.std.specs.Prelude.{◌≡◌, ℕ, ◌+◌, ◌-◌, ◌^◌, ◌<◌, Option, Some, None, [], length, min, slice_set, replicate, IfOk, IsSome};
+ghost use Rattle.std.specs.Prelude.{◌≡◌, ◌+◌, ◌-◌, ◌^◌, ◌<◌, Some, None, [], length, min, slice_set, replicate, IfOk, IsSome};
 ghost use Rattle.bc_frames.specs.Places.{StoreView, place_at, one_more};
 
 use crate::pages::Page;

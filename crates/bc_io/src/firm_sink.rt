@@ -1,6 +1,6 @@
 //! A sink in memory that never fails.
 
-ghost use Rattle.std.specs.Prelude.{◌≡◌, ℕ, ◌<◌, ◌≤◌, [], max, length, take, IfOk, IsOk, OnOk, OnErr, Ok, Some};
+ghost use Rattle.std.specs.Prelude.{◌≡◌, ◌<◌, ◌≤◌, [], max, length, take, IfOk, IsOk, OnOk, OnErr, Ok, Some};
 ghost use Rattle.bc_io.specs.Faults.{Rose};
 ghost use Rattle.bc_io.specs.Told.{HasRoom, HeldGrows};
 ghost use Rattle.bc_io.specs.Pieces.{RoomFalls};

@@ -1,6 +1,6 @@
 //! The edge over std's writers.
 
-ghost use Rattle.std.specs.Prelude.{◌≡◌, ℕ, ◌<◌, ◌≤◌, ◌⊎◌, length, IfOk, OnOk, OnErr, Ok, None, IsErr, IsTrue, IsFalse, is_ok, if◌then◌else◌};
+ghost use Rattle.std.specs.Prelude.{◌≡◌, ◌<◌, ◌≤◌, ◌⊎◌, length, IfOk, OnOk, OnErr, Ok, None, IsErr, IsTrue, IsFalse, is_ok, if◌then◌else◌};
 ghost use Rattle.std.specs.Io.KnownBytes.{WriteAppends};
 ghost use Rattle.bc_io.specs.Faults.{Rose};
 ghost use Rattle.bc_io.specs.FaultCounts.{counted};

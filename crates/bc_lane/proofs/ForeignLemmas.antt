@@ -1,5 +1,6 @@
 -- An operation that looks at a cell of another lane's is told so, and changes nothing.
-use Rattle.std.proofs.Common.{◌≡◌, ◌≢◌, ℕ, ◌==◌, true, List, get_or, Some, inl, inr, refl, ap, sym, ◌∙◌}
+use Rattle.std.proofs.Common.{◌≡◌, ◌≢◌, ℕ, ◌==◌, true, List, get_or, inl, inr, refl, ap, sym, ◌∙◌}
+use Rattle.std.proofs.lemmas.Option.{same_Some}
 use Rattle.std.specs.List.{list_all}
 use Rattle.bc_lane.specs.Turns.{LooksForeign}
 use Rattle.bc_memory.specs.Memory.{Cell}
@@ -14,7 +15,7 @@ use Rattle.bc_mutator.specs.Objects.{MayOperate, Refuses, RefusesField, cell_of,
 use Rattle.bc_mutator.specs.Operations.{StoresYoung}
 use Rattle.bc_mutator.proofs.ChangeLemmas.{foreign-changes}
 use Rattle.bc_mutator.proofs.MeaningLemmas.{refuses-before, refuses-foreign}
-use Rattle.bc_mutator.proofs.ObjectLemmas.{allocated-below, cell_of-below, one_address}
+use Rattle.bc_mutator.proofs.ObjectLemmas.{cell_of-below, one_address}
 use Rattle.bc_mutator.proofs.RootLemmas.{done-answers}
 use Rattle.bc_mutator.proofs.StepLemmas.{did-step}
 use Rattle.bc_mutator.proofs.TellingLemmas.{len-refuses, who-refuses, word-read}
@@ -23,12 +24,10 @@ use Rattle.bc_superpages.specs.Memory as space
 use Rattle.bc_superpages.proofs.HandLemmas.{allocated-object}
 use Rattle.bc_superpages.proofs.MemoryLemmas.{memory_of-cell}
 use Rattle.bc_whole_heap.specs.Heaps.{HeapView}
+use Rattle.bc_whole_heap.proofs.HeapLemmas.{allocated-below}
 use Rattle.bc_word.specs.Addresses.{superpage_of}
 use Rattle.bc_word.specs.declared.addresses.Address.{Address}
 use Rattle.bc_word.specs.declared.words.Word.TheVariants.{Ref}
-
-one-cell : (x y : Cell) → Some x ≡ Some y → x ≡ y
-one-cell x y e = cc
 
 module _ (h : HeapView) (hs : List ℕ) (lane : ℕ) (ready : MayOperate h hs lane) (p : Slot) (a : Address) (e : slot_word h.roots p ≡ Ref a) (there : IsAllocated h.space a.0) (off : get_or hs (get_or h.space.domains (superpage_of a.0) 0) 0 ≢ lane) where
   domain-is : (space.cell_at h.space.pages a.0).head.domain ≡ get_or h.space.domains (superpage_of a.0) 0
@@ -67,7 +66,7 @@ module _ (h : HeapView) (hs : List ℕ) (lane : ℕ) (ready : MayOperate h hs la
       let t = y.target in
       let same : t.cell ≡ a = one_address t.cell a (sym t.to ∙ e) in
       let is : t.content ≡ space.cell_at h.space.pages a.0 =
-      one-cell t.content _ (sym t.is ∙ ap (λ (x : Address). space.memory h.space x.0) same ∙ memory_of-cell h.space.classes h.space.cells h.space.pages a.0 there) in
+      same_Some t.content _ (sym t.is ∙ ap (λ (x : Address). space.memory h.space x.0) same ∙ memory_of-cell h.space.classes h.space.cells h.space.pages a.0 there) in
       off (ap (λ (d : ℕ). get_or hs d 0) (sym (ap (λ (c : Cell). c.head.domain) is ∙ domain-is)) ∙ t.held)
 
 foreign-answers : (h : HeapView) (hs : List ℕ) (lane : ℕ) (op : Op) → MayOperate h hs lane → LooksForeign h hs lane op → Answers h hs lane op Foreign

@@ -1,15 +1,15 @@
 -- Where an operation of a lane looks.
-use Rattle.std.proofs.Common.{◌≡◌, ◌≢◌, ℕ, ◌+◌, ◌/◌, ◌<◌, ◌==◌, Bool, true, false, List, [], ◌∷◌, length, get_or, Option, Some, None, inl, inr, refl, ap, sym, subst, ◌∙◌, arith, eqb-true}
+use Rattle.std.proofs.Common.{◌≡◌, ◌≢◌, ℕ, ◌+◌, ◌/◌, ◌<◌, ◌==◌, Bool, true, false, List, [], ◌∷◌, length, get_or, Option, Some, None, inl, inr, refl, ap, sym, subst, ◌∙◌, arith}
 use Rattle.std.specs.List.{list_all}
 use Rattle.std.specs.Prelude.{IfNone, IfSome, OnSome}
-use Rattle.std.proofs.lemmas.Bool.{and_parts, cases_lt}
+use Rattle.std.proofs.lemmas.Bool.{cases_lt}
 use Rattle.std.proofs.lemmas.List.{get_or_default}
 use Rattle.bc_lane.specs.Shown.{ShowsPages}
 use Rattle.bc_lane.specs.Turns.{LaneHoldsAll, IsLaneTable, IsWhole, LeadsToPageWhere, LooksAtObject, LooksOn, LooksOwn, LooksTold, SlotsOf}
 use Rattle.bc_lane.specs.declared.looking.Looking.TheVariants.{Foreign}
 use Rattle.bc_lane.specs.declared.parts.LanePart.{LanePart}
-use Rattle.bc_lane.proofs.PageLemmas.{opened-allocated}
 use Rattle.bc_lane.proofs.SlotLemmas.{own-place, own-start, own-word}
+use Rattle.bc_lane.proofs.PageLemmas.{allocated-opened}
 use Rattle.bc_model.specs.Step.{domains_of}
 use Rattle.bc_model.specs.WellFormed.{IsSlot}
 use Rattle.bc_model.specs.declared.operations.Op.{Op}
@@ -20,6 +20,7 @@ use Rattle.bc_mutator.specs.Operations.{IsOpOf, WantsMore, setup_of}
 use Rattle.bc_mutator.specs.Parts.{TouchesHand, touched_slot}
 use Rattle.bc_mutator.proofs.MeaningLemmas.{own-slot}
 use Rattle.bc_mutator.proofs.ObjectLemmas.{there-below}
+use Rattle.bc_mutator.proofs.ActLemmas.{held-first}
 use Rattle.bc_pins.specs.declared.holding.Held.{Held}
 use Rattle.bc_pins.specs.declared.views.View.{View}
 use Rattle.bc_pins.specs.Contents.{IsBarePage}
@@ -61,17 +62,14 @@ touched-slot r (Copy q t) p e fits = none-some p e
 touched-slot r (Clear q) p e fits = none-some p e
 touched-slot r (Same q t) p e fits = none-some p e
 
-first-held : (hs : List ℕ) (lane d : ℕ) (rest : List ℕ) → list_all (λ x. get_or hs x 0 == lane) (d ∷ rest) ≡ true → get_or hs d 0 ≡ lane
-first-held hs lane d rest e = eqb-true (get_or hs d 0) lane (and_parts (get_or hs d 0 == lane) (list_all (λ x. get_or hs x 0 == lane) rest) e).0
-
 pub touched-own : (hs : List ℕ) (lane : ℕ) (op : Op) (p : Slot) → touched_slot op ≡ Some p → list_all (λ d. get_or hs d 0 == lane) (domains_of op) ≡ true → get_or hs p.domain 0 ≡ lane
 touched-own hs lane (New q n) p e held = none-some p e
-touched-own hs lane (Who q) p e held = subst (λ (x : Slot). get_or hs x.domain 0 ≡ lane) (some-slot q p e) (first-held hs lane q.domain [] held)
-touched-own hs lane (Len q) p e held = subst (λ (x : Slot). get_or hs x.domain 0 ≡ lane) (some-slot q p e) (first-held hs lane q.domain [] held)
-touched-own hs lane (Set q i v) p e held = subst (λ (x : Slot). get_or hs x.domain 0 ≡ lane) (some-slot q p e) (first-held hs lane q.domain [] held)
-touched-own hs lane (Cut q i) p e held = subst (λ (x : Slot). get_or hs x.domain 0 ≡ lane) (some-slot q p e) (first-held hs lane q.domain [] held)
-touched-own hs lane (Link q i t) p e held = subst (λ (x : Slot). get_or hs x.domain 0 ≡ lane) (some-slot q p e) (first-held hs lane q.domain (t.domain ∷ []) held)
-touched-own hs lane (Load q i t) p e held = subst (λ (x : Slot). get_or hs x.domain 0 ≡ lane) (some-slot q p e) (first-held hs lane q.domain (t.domain ∷ []) held)
+touched-own hs lane (Who q) p e held = subst (λ (x : Slot). get_or hs x.domain 0 ≡ lane) (some-slot q p e) (held-first hs lane q.domain [] held)
+touched-own hs lane (Len q) p e held = subst (λ (x : Slot). get_or hs x.domain 0 ≡ lane) (some-slot q p e) (held-first hs lane q.domain [] held)
+touched-own hs lane (Set q i v) p e held = subst (λ (x : Slot). get_or hs x.domain 0 ≡ lane) (some-slot q p e) (held-first hs lane q.domain [] held)
+touched-own hs lane (Cut q i) p e held = subst (λ (x : Slot). get_or hs x.domain 0 ≡ lane) (some-slot q p e) (held-first hs lane q.domain [] held)
+touched-own hs lane (Link q i t) p e held = subst (λ (x : Slot). get_or hs x.domain 0 ≡ lane) (some-slot q p e) (held-first hs lane q.domain (t.domain ∷ []) held)
+touched-own hs lane (Load q i t) p e held = subst (λ (x : Slot). get_or hs x.domain 0 ≡ lane) (some-slot q p e) (held-first hs lane q.domain (t.domain ∷ []) held)
 touched-own hs lane (Copy q t) p e held = none-some p e
 touched-own hs lane (Clear q) p e held = none-some p e
 touched-own hs lane (Same q t) p e held = none-some p e
@@ -172,7 +170,7 @@ module _ (part : LanePart) (k : Key) (v : View) (hand : Option Held) (end : ℕ)
   opened-layout = subst (λ (a : Key). IsLayout a.opening) about w.belongs.space.opening
 
   pub looked-opened : IsAllocated k.opening at.0
-  looked-opened = opened-allocated h.space k.opening at.0 opened-same looked-there
+  looked-opened = allocated-opened h.space k.opening at.0 opened-same looked-there
 
   pub looked-superpage : superpage_of at.0 < superpages k.opening
   looked-superpage = allocated-superpage k.opening at.0 opened-layout looked-opened

@@ -1,11 +1,10 @@
 -- What a space has of the pages of a lane's domains, when one is taken, written, remembered or put back.
-use Rattle.std.proofs.Common.{◌≡◌, ◌≢◌, ℕ, ◌+◌, ◌*◌, ◌<◌, ◌==◌, ◌&&◌, Bool, true, false, if◌then◌else◌, List, [], ◌∷◌, length, get_or, set, Option, Some, None, inl, inr, refl, ap, sym, subst, ◌∙◌, arith, get_or-set_same, get_or-set_other}
-use Rattle.std.proofs.lemmas.Bool.{cases_Bool, cases_eq, lt-ltb}
+use Rattle.std.proofs.Common.{◌≡◌, ◌≢◌, ◌⊎◌, ℕ, ◌+◌, ◌*◌, ◌<◌, ◌==◌, Bool, true, false, if◌then◌else◌, List, [], ◌∷◌, length, get_or, set, Option, Some, None, inl, inr, refl, ap, sym, subst, ◌∙◌, arith, get_or-set_same, get_or-set_other, ◌&&◌}
+use Rattle.std.proofs.lemmas.Bool.{cases_Bool, cases_eq, lt-ltb, both_ways}
 use Rattle.bc_bits.specs.Counting.{one_if}
 use Rattle.bc_lane.specs.Shown.{HasPage, IsOwnPage, ShowsHeld, ShowsPage, ShowsPages}
 use Rattle.bc_mutator.specs.Effects.{Remembers}
 use Rattle.bc_mutator.specs.Parts.{HasField, MayHold}
-use Rattle.bc_mutator.proofs.ObjectLemmas.{allocated-below}
 use Rattle.bc_mutator.proofs.StateLemmas.{remembers-home}
 use Rattle.bc_pins.specs.declared.holding.Held.{Held}
 use Rattle.bc_pins.specs.declared.taking.Want.TheVariants.{Work}
@@ -37,9 +36,7 @@ use Rattle.bc_word.specs.declared.words.Word.{Word}
 use Rattle.bc_word.specs.declared.words.Word.TheVariants.{Nil, Num, Ref}
 use Rattle.bc_word.proofs.WordLemmas.{word_of_bits-word_bits}
 use Rattle.bc_word.proofs.WordsLemmas.{get_or-words_from}
-
-not-both : (b : Bool) → b ≡ true → b ≡ false → ⊥
-not-both b on off = cc
+use Rattle.bc_whole_heap.proofs.HeapLemmas.{allocated-below}
 
 pub owns-page : (v : View) (p : ℕ) → IsOwnPage v p → owns v p ≡ true
 owns-page v p own = lt-ltb 0 _ own
@@ -81,7 +78,7 @@ given-here v held s shown =
           | inr off ↦ shown.remembered.1 (shown.kept (let none : one_if held.remembered ≡ 0 = ap one_if off in omega arith))
         ],
       );
-      gone = λ is. absurd (not-both _ is shown.here);
+      gone = λ is. absurd (both_ways _ shown.here is);
     }
 
 given-other : (v : View) (held : Held) (s : Layout) (p : ℕ) → p ≢ held.page → ShowsPage v s p → ShowsPage (given v held) s p
@@ -218,11 +215,8 @@ shows-taken v p end false homed s own takes shown =
     }
 
 -- what the space at the opening has of a cell of this one
-allocated-opened : (s o : Layout) (a : ℕ) → s ≡ record o { states = s.states; pages = s.pages } → IsAllocated s a → IsAllocated o a
+pub allocated-opened : (s o : Layout) (a : ℕ) → s ≡ record o { states = s.states; pages = s.pages } → IsAllocated s a → IsAllocated o a
 allocated-opened s o a same on = subst (λ (x : Layout). IsAllocated x a) same on
-
-pub opened-allocated : (s o : Layout) (a : ℕ) → s ≡ record o { states = s.states; pages = s.pages } → IsAllocated s a → IsAllocated o a
-opened-allocated s o a same on = allocated-opened s o a same on
 
 same-superpages : (s o : Layout) → s ≡ record o { states = s.states; pages = s.pages } → superpages s ≡ superpages o
 same-superpages s o same = ap superpages same

@@ -33,11 +33,13 @@ use Rattle.bc_whole_heap.specs.LaneStates.{StandsAs}
 abbrev sized : ℕ → ℕ → Setup
 sized d w = record { lanes = 0; domains = d; slots = w; superpages = 0; nursery = 0; buffer = 0; frames = 0 }
 
-op-fits : (h : HeapView) (hs serials : List ℕ) (state : State) (op : Op) → StandsAs h hs serials state → IsOpOf h.roots op → IsOp (sizes_of state) op
+-- an operation that fits the roots of a heap fits the state that it stands for
+pub op-fits : (h : HeapView) (hs serials : List ℕ) (state : State) (op : Op) → StandsAs h hs serials state → IsOpOf h.roots op → IsOp (sizes_of state) op
 op-fits h hs serials state op st fits =
     subst (λ (n : ℕ). IsOp (sized n state.width) op) st.domains (subst (λ (n : ℕ). IsOp (sized h.roots.domains n) op) st.slots fits)
 
-lane-serial : (h : HeapView) (hs serials : List ℕ) (state : State) (lane : ℕ) → StandsAs h hs serials state → lane < length h.chunks → lane < length serials
+-- each lane of a heap has its serial
+pub lane-serial : (h : HeapView) (hs serials : List ℕ) (state : State) (lane : ℕ) → StandsAs h hs serials state → lane < length h.chunks → lane < length serials
 lane-serial h hs serials state lane st lt =
     let a = ap length st.births in
     let b = length-map state.made length in

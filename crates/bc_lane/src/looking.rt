@@ -1,6 +1,6 @@
 //! Where an operation looks: at a cell of the lane's own, at a cell of another lane's, or at none.
 
-ghost use Rattle.std.specs.Prelude.{◌≡◌, ℕ, ◌<◌, Option, IfNone, IfSome, OnSome};
+ghost use Rattle.std.specs.Prelude.{◌≡◌, ◌<◌, Option, IfNone, IfSome, OnSome};
 ghost use Rattle.bc_lane.specs.Turns.{LaneHoldsAll, IsLaneTable, IsWhole, LeadsToPageWhere, LooksAtObject, LooksTold};
 ghost use Rattle.bc_mutator.specs.Operations.{IsOpOf};
 ghost use Rattle.bc_mutator.specs.Parts.{touched_slot};
@@ -13,8 +13,8 @@ ghost use Rattle.bc_word.specs.declared.words.Word.TheVariants.{Ref};
 
 use crate::parts::LanePart;
 use crate::slots::word_in;
-use bc_model::{Op, Slot};
-use bc_mutator::holds_all;
+use bc_model::Op;
+use bc_mutator::{holds_all, touched};
 use bc_pins::Pins;
 use bc_word::{Address, Word};
 
@@ -89,20 +89,5 @@ fn referred_below(word: Word, end: u32) -> Option<Address>
     match word {
         Word::Ref(at) => { if at.0 < end { Some(at) } else { None } }
         Word::Nil | Word::Num(_) => None,
-    }
-}
-
-/// The slot whose object an operation looks at, if it does.
-fn touched(op: &Op) -> Option<Slot>
-    ensures { result ≡ touched_slot op.now }
-{
-    match *op {
-        Op::Who(slot)
-        | Op::Len(slot)
-        | Op::Set(slot, _, _)
-        | Op::Cut(slot, _)
-        | Op::Link(slot, _, _)
-        | Op::Load(slot, _, _) => Some(slot),
-        Op::New(_, _) | Op::Copy(_, _) | Op::Clear(_) | Op::Same(_, _) => None,
     }
 }

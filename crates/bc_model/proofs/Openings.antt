@@ -23,7 +23,8 @@ made_by-opening n j =
       | inr past ↦ get_or_past (replicate n []) j [] (let e = length-replicate {A = List Object} n [] in omega (arith, past, e))
     ]
 
-length-holders : (s : Setup) → length (opening s).holders ≡ s.domains
+-- each domain has a holder at the opening
+pub length-holders : (s : Setup) → length (opening s).holders ≡ s.domains
 length-holders s = length-map (numbers_below s.domains) (λ d. d % s.lanes) ∙ length-numbers_below s.domains
 
 length-lanes : (s : Setup) → length (opening s).made ≡ s.lanes

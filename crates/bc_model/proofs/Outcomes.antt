@@ -104,7 +104,8 @@ same-birth s o p q b c lp lq eb ec = go (sym ec ∙ ap (slot_of s) (looks-one o 
     go : Obj c ≡ Obj b → c ≡ b
     go e = cc
 
-true-false : (b : Bool) → b ≡ true → b ≡ false → ⊥
+-- a test that passes and fails
+pub true-false : (b : Bool) → b ≡ true → b ≡ false → ⊥
 true-false b t f = cc
 
 -- the reasons exclude one another
@@ -284,7 +285,7 @@ load-outcome s j p i q h = on_field-outcome s j (op.Load p i q) p i _ h (refl, r
 ))
 
 -- the two slots hold the same value
-same-held : (v w : Value) → is_same v w ≡ true → v ≡ w
+pub same-held : (v w : Value) → is_same v w ≡ true → v ≡ w
 same-held Nil Nil h = refl
 same-held (Num v) (Num w) h = ap Num (eqb-true v w h)
 same-held (Obj b) (Obj c) h = births (eqb-true b.lane c.lane (and_parts _ _ h).0) (eqb-true b.serial c.serial (and_parts _ _ h).1)

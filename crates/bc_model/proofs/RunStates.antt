@@ -1,5 +1,5 @@
 -- Every state of a run of a well-formed trace is one: before each phase, and after any part of a phase.
-use Rattle.std.proofs.Common.{length-set, ◌≡◌, ℕ, ◌+◌, ◌<◌, ◌≤◌, zero, suc, List, [], ◌∷◌, length, take, refl, sym, ap, subst, ◌∙◌, inl, inr, arith}
+use Rattle.std.proofs.Common.{length-set, ◌≡◌, ℕ, ◌+◌, ◌<◌, ◌≤◌, zero, suc, List, [], ◌∷◌, length, take, refl, sym, ap, subst, ◌∙◌, inl, inr, arith, ◌++◌}
 use Rattle.std.specs.List.{AllByRecursion}
 use Rattle.std.proofs.lemmas.Bool.{cases_lt}
 use Rattle.std.proofs.lemmas.List.{get_or_past}
@@ -73,17 +73,22 @@ OfSetup-before t k h =
     OfSetup-after_phases t.setup (opening t.setup) k t.phases
     (record { state = IsState-opening t.setup h.setup; sizes = HasSizes-opening t.setup }) h.phases
 
--- a cut's operations fit where the lanes' do
-fits-take : (P : Op → Type 0) (n : ℕ) (ops : List Op) → AllByRecursion P ops → AllByRecursion P (take n ops)
-fits-take P zero ops h = tt
-fits-take P (suc n) [] h = tt
-fits-take P (suc n) (o ∷ ops) h = (h.0, fits-take P n ops h.1)
+-- what holds of all of two lists holds of all of the one after the other
+pub all-append : {X : Type 0} (P : X → Type 0) (xs ys : List X) → AllByRecursion P xs → AllByRecursion P ys → AllByRecursion P (xs ++ ys)
+all-append P [] ys h k = k
+all-append P (x ∷ xs) ys h k = (h.0, all-append P xs ys h.1 k)
+
+-- what holds of all operations of a list holds of those at its front
+pub all-take : (P : Op → Type 0) (n : ℕ) (ops : List Op) → AllByRecursion P ops → AllByRecursion P (take n ops)
+all-take P zero ops h = tt
+all-take P (suc n) [] h = tt
+all-take P (suc n) (o ∷ ops) h = (h.0, all-take P n ops h.1)
 
 pub fits-cut : (P : Op → Type 0) (cut : List ℕ) (lanes : List (List Op)) → AllByRecursion (AllByRecursion P) lanes → AllByRecursion (AllByRecursion P) (cut_lanes cut lanes)
 unfolding cut_lanes
 fits-cut P cut [] h = tt
 fits-cut P [] (ops ∷ lanes) h = (tt, fits-cut P [] lanes h.1)
-fits-cut P (n ∷ cut) (ops ∷ lanes) h = (fits-take P n ops h.0, fits-cut P cut lanes h.1)
+fits-cut P (n ∷ cut) (ops ∷ lanes) h = (all-take P n ops h.0, fits-cut P cut lanes h.1)
 
 pub length-cut_lanes : (cut : List ℕ) (lanes : List (List Op)) → length (cut_lanes cut lanes) ≡ length lanes
 unfolding cut_lanes

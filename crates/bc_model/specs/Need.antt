@@ -1,5 +1,5 @@
 -- How many superpages a state needs at least.
-use Rattle.std.specs.Prelude.{◌≡◌, ℕ, ◌+◌, ◌-◌, ◌/◌, ◌==◌, ◌&&◌, ◌↔◌, Bool, List, [], ◌∷◌, length}
+use Rattle.std.specs.Prelude.{◌≡◌, ℕ, ◌+◌, ◌-◌, ◌/◌, ◌==◌, ◌&&◌, ◌↔◌, Bool, List, length}
 use Rattle.std.specs.List.{sum_by, count_by}
 use Rattle.bc_classes.specs.Classes.{class_of, cap, classes}
 use Rattle.bc_reach.specs.Distinct.{Has, Distinct}

@@ -36,6 +36,7 @@ pub record IsBorn (made : List (List Object)) (b : Birth) : Type 0 where
 abbrev pub object_of : List (List Object) → Birth → Object
 object_of made b = slice_index_or (made_by made b.lane) (b.serial - 1) no_object
 
+-- the same objects, but another in the place of a birth
 abbrev pub with_born : List (List Object) → Birth → Object → List (List Object)
 with_born made b o = slice_set made b.lane (slice_set (made_by made b.lane) (b.serial - 1) o)
 
@@ -63,6 +64,7 @@ field_of s b i = slice_index_or (object_of s.made b).fields i Nil
 abbrev pub with_value : Object → ℕ → Value → Object
 with_value o i v = record o { fields = slice_set o.fields i v }
 
+-- the state with another value in a field of an object that was born
 abbrev pub with_born_field : State → Birth → ℕ → Value → State
 with_born_field s b i v = record s { made = with_born s.made b (with_value (object_of s.made b) i v) }
 

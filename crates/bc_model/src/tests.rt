@@ -82,7 +82,7 @@ fn of_lane_0(serial: u32) -> Reply {
 }
 
 #[test]
-fn every_reply(rt: HostRuntime) -> Result<(), Fail> {
+fn each_kind_of_reply_is_given(rt: HostRuntime) -> Result<(), Fail> {
     let mut bench = Bench::new(rt.alloc())?;
     bench.expect(&rt, 0, Op::Len(A), Reply::NotObj)?;
     bench.expect(&rt, 0, Op::New(A, 1), of_lane_0(1))?;
@@ -100,7 +100,7 @@ fn every_reply(rt: HostRuntime) -> Result<(), Fail> {
 }
 
 #[test]
-fn give_and_take(rt: HostRuntime) -> Result<(), Fail> {
+fn a_domain_that_was_given_away_is_foreign_until_it_is_back(rt: HostRuntime) -> Result<(), Fail> {
     let mut bench = Bench::new(rt.alloc())?;
     bench.expect(&rt, 0, Op::New(A, 1), of_lane_0(1))?;
     bench.expect(&rt, 0, Op::New(C, 0), of_lane_0(2))?;

@@ -43,7 +43,7 @@ pub did-as : (h k : HeapView) (hs : List ℕ) (lane serial next : ℕ) (op o : O
 did-as h k hs lane serial next op o reply e done = subst (λ (x : Op). DidAct h k hs lane serial next x reply) (sym e) done
 
 -- the lane holds the domains that are named
-held-first : (hs : List ℕ) (lane d : ℕ) (rest : List ℕ) → list_all (λ x. get_or hs x 0 == lane) (d ∷ rest) ≡ true → get_or hs d 0 ≡ lane
+pub held-first : (hs : List ℕ) (lane d : ℕ) (rest : List ℕ) → list_all (λ x. get_or hs x 0 == lane) (d ∷ rest) ≡ true → get_or hs d 0 ≡ lane
 held-first hs lane d rest e = eqb-true (get_or hs d 0) lane (and_parts (get_or hs d 0 == lane) (list_all (λ x. get_or hs x 0 == lane) rest) e).0
 
 held-second : (hs : List ℕ) (lane d e : ℕ) → list_all (λ x. get_or hs x 0 == lane) (d ∷ e ∷ []) ≡ true → get_or hs e 0 ≡ lane

@@ -1,5 +1,5 @@
 -- A layout with one page made Remembered is a layout, and so is one with a field of a cell written.
-use Rattle.std.proofs.Common.{◌≡◌, ◌≢◌, ◌⊎◌, ℕ, ◌+◌, ◌/◌, ◌%◌, ◌<◌, true, List, [], length, map, get_or, set, sym, ap, subst, ◌∙◌, inl, inr, arith, rules, get_or-set_same, get_or-set_other, length-set}
+use Rattle.std.proofs.Common.{◌≡◌, ◌≢◌, ◌⊎◌, ℕ, ◌+◌, ◌/◌, ◌%◌, ◌<◌, true, List, [], length, map, get_or, set, sym, ap, subst, ◌∙◌, inl, inr, arith, get_or-set_same, get_or-set_other, length-set}
 use Rattle.std.proofs.lemmas.Bool.{cases_eq, cases_lt}
 use Rattle.std.proofs.lemmas.List.{set_past}
 use Rattle.std.proofs.lemmas.List.FromFn.{get_or-map-range_with_len, length-map-range_with_len}
@@ -18,12 +18,12 @@ use Rattle.bc_superpages.proofs.CellLemmas.{is_cell-address, is_cell-bit}
 use Rattle.bc_superpages.proofs.FieldLemmas.{content-long, field-offset, field-room}
 use Rattle.bc_superpages.proofs.HandLemmas.{allocated-is_class, allocated-page, allocated-superpage, field-page}
 use Rattle.bc_superpages.proofs.KeptLemmas.{AreSuperpages-field}
+use Rattle.bc_superpages.proofs.PlaceLemmas.{IsPacked-word_bits}
 use Rattle.bc_word.specs.Addresses.{cell_number, offset_of, page_of, superpage_of}
 use Rattle.bc_word.specs.CellAddresses.{cell_address}
 use Rattle.bc_word.specs.Heads.{fields_of_bits}
-use Rattle.bc_word.specs.WordBits.{FitsWord, IsPacked, word_bits}
+use Rattle.bc_word.specs.WordBits.{FitsWord, word_bits}
 use Rattle.bc_word.specs.declared.words.Word.{Word}
-use Rattle.bc_word.specs.declared.words.Word.TheVariants.{Nil, Num, Ref}
 
 -- an item of a list in which one is another is as it was, or is that one
 pub set-cases : {X : Type 0} (xs : List X) (i k : ℕ) (x d : X) → (get_or (set xs i x) k d ≡ get_or xs k d) ⊎ ((k ≡ i) × (get_or (set xs i x) k d ≡ x))
@@ -98,12 +98,6 @@ IsLayout-remembered s p k = record {
   each_page = k.each_page;
   each = λ q lt. superpage-remembered s p q (k.each q lt);
 }
-
--- a word's bits are packed
-IsPacked-word_bits : (w : Word) → FitsWord w → IsPacked (word_bits w)
-IsPacked-word_bits Nil fits = search rules
-IsPacked-word_bits (Num n) fits = search rules
-IsPacked-word_bits (Ref a) fits = search rules
 
 -- its headers as a list
 headers_of : Layout → List Header

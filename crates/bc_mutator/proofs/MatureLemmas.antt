@@ -2,6 +2,7 @@
 use Rattle.std.proofs.Common.{◌≡◌, ◌≢◌, ◌⊎◌, ℕ, ◌<◌, true, false, List, [], ◌∷◌, length, get_or, set, Option, Some, refl, sym, ap, subst, ◌∙◌, inl, inr, arith, get_or-set_same, get_or-set_other, length-set}
 use Rattle.std.proofs.lemmas.Bool.{cases_eq, cases_lt, false≢true}
 use Rattle.std.proofs.lemmas.List.{get_or_append_left, get_or_push, length_push}
+use Rattle.std.proofs.lemmas.Option.{same_Some}
 use Rattle.bc_bits.specs.Bits.{has}
 use Rattle.bc_bookmarks.specs.Summarised.{IsSummarised, gone_in, LeavesSummary}
 use Rattle.bc_bookmarks.proofs.SummaryLemmas.{SummarisedOn-left}
@@ -10,7 +11,7 @@ use Rattle.bc_whole_heap.specs.LaneChunks.{chunk_of}
 use Rattle.bc_whole_heap.specs.Heaps.{end_of, heap_memory}
 use Rattle.bc_whole_heap.specs.HeapFacts.{AreChunks, AreApart, view_of}
 use Rattle.bc_whole_heap.specs.Running.{IsRunning}
-use Rattle.bc_whole_heap.proofs.HeapLemmas.{memory-below, memory-above}
+use Rattle.bc_whole_heap.proofs.HeapLemmas.{memory-below, memory-above, allocated-below}
 use Rattle.bc_memory.specs.Memory.{Cell, Memory}
 use Rattle.bc_memory.specs.MemoryChanges.{with_cell, with_field}
 use Rattle.bc_memory.proofs.MemoryLemmas.{with_cell-same, with_cell-other, with_cell-is}
@@ -38,7 +39,7 @@ use Rattle.bc_word.specs.declared.words.Word.{Word}
 use Rattle.bc_word.specs.declared.words.Word.TheVariants.{Nil, Ref}
 use Rattle.bc_mutator.specs.Effects.{Records, WroteCell, with_entry}
 use Rattle.bc_mutator.specs.Objects.{LieBehind, IsOwn, cell_of}
-use Rattle.bc_mutator.proofs.ObjectLemmas.{allocated-below, cell_of-below, memory-there}
+use Rattle.bc_mutator.proofs.ObjectLemmas.{cell_of-below, memory-there}
 use Rattle.bc_mutator.proofs.StateLemmas.{state-after}
 
 -- a write to a field of a cell that the lane may do
@@ -80,9 +81,6 @@ pub record HasAlike (s : Layout) (a : ℕ) (c : Cell) : Type 0 where
   pub same_head : c.head ≡ cell.head
   pub same_count : length c.fields ≡ length cell.fields
 
-some_cell : (x y : Cell) → Some x ≡ Some y → x ≡ y
-some_cell x y e = cc
-
 -- an entry more
 more-recorded : (b : Entries) (at : Address) (index cell i : ℕ) → IsRecorded b cell i → IsRecorded (with_entry b at index) cell i
 more-recorded b at index cell i h = (
@@ -119,7 +117,7 @@ module _ (s t : Layout) (r : RootWords) (cs : List Nursery) (bs es : List Entrie
   had-cell : (a : ℕ) (c : Cell) → space.memory t a ≡ Some c → HasAlike s a c
   had-cell a c e = elim (cases_eq a at.0) [
     | inl here ↦
-        let is : with_field old_cell index word ≡ c = some_cell (with_field old_cell index word) c (sym after ∙ ap (space.memory t) (sym here) ∙ e) in
+        let is : with_field old_cell index word ≡ c = same_Some (with_field old_cell index word) c (sym after ∙ ap (space.memory t) (sym here) ∙ e) in
         record {
           cell = old_cell;
           there = ap (space.memory s) here ∙ before;
@@ -133,7 +131,7 @@ module _ (s t : Layout) (r : RootWords) (cs : List Nursery) (bs es : List Entrie
   has-cell : (a : ℕ) (c : Cell) → space.memory s a ≡ Some c → HasAlike t a c
   has-cell a c e = elim (cases_eq a at.0) [
     | inl here ↦
-        let is : old_cell ≡ c = some_cell old_cell c (sym before ∙ ap (space.memory s) (sym here) ∙ e) in
+        let is : old_cell ≡ c = same_Some old_cell c (sym before ∙ ap (space.memory s) (sym here) ∙ e) in
         record {
           cell = with_field old_cell index word;
           there = ap (space.memory t) here ∙ after;
@@ -209,7 +207,7 @@ module _ (s t : Layout) (r : RootWords) (cs : List Nursery) (bs es : List Entrie
   unfolding old_cell
   mature-kept a k c b e f = elim (cases_eq a at.0) [
     | inl here ↦
-        let is : with_field old_cell index word ≡ c = some_cell (with_field old_cell index word) c (sym after ∙ ap (space.memory t) (sym here) ∙ e) in
+        let is : with_field old_cell index word ≡ c = same_Some (with_field old_cell index word) c (sym after ∙ ap (space.memory t) (sym here) ∙ e) in
         let held : lane ≡ get_or hs c.head.domain 0 = sym w.held ∙ ap (λ (x : Cell). get_or hs x.head.domain 0) is in
         subst (λ (x : ℕ). IsAllocated t b.0 ⊎ ((has_object (chunk_of cs (get_or hs c.head.domain 0)) b.0 ≡ true) × IsRecorded (buffer_of es (get_or hs c.head.domain 0)) x k)) (sym here)
         (subst (λ (l : ℕ). IsAllocated t b.0 ⊎ ((has_object (chunk_of cs l) b.0 ≡ true) × IsRecorded (buffer_of es l) at.0 k)) held

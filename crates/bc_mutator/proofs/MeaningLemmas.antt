@@ -1,7 +1,7 @@
 -- What the words of a heap are read as in the state that it stands for.
 use Rattle.std.proofs.Common.{◌≡◌, ◌≢◌, ℕ, ◌+◌, ◌*◌, ◌<◌, ◌≤◌, nat_lt, Bool, true, false, if◌then◌else◌, List, length, get_or, Some, option_map, refl, sym, ap, ap₂, subst, ◌∙◌, arith, eq-eqb, mul_comm}
 use Rattle.std.proofs.Math.ListN.{get_or-map}
-use Rattle.std.proofs.lemmas.Bool.{ne_eqb, lt-ltb, le-ltb}
+use Rattle.std.proofs.lemmas.Bool.{ne_eqb, lt-ltb, le-ltb, cond-true}
 use Rattle.bc_reach.specs.Reach.{begin, onward}
 use Rattle.bc_whole_heap.specs.Heaps.{HeapView}
 use Rattle.bc_whole_heap.specs.HeapFacts.{view_of}
@@ -85,17 +85,13 @@ on_object-none state lane value.Nil next none = refl
 on_object-none state lane (value.Num n) next none = refl
 on_object-none state lane (value.Obj b) next none = absurd (none b refl)
 
-held_if : {X : Type 0} (t : Bool) (x y : X) → t ≡ true → (if t then x else y) ≡ x
-held_if true x y e = refl
-held_if false x y e = cc
-
 other_if : {X : Type 0} (t : Bool) (x y : X) → t ≡ false → (if t then x else y) ≡ y
 other_if true x y e = cc
 other_if false x y e = refl
 
 pub on_object-held : (state : State) (lane : ℕ) (v : Value) (b : Birth) (next : Birth → State × Reply) → v ≡ value.Obj b → holds state lane (object_of state.made b).domain ≡ true → on_object state lane v next ≡ next b
 on_object-held state lane v b next e held =
-    ap (λ (x : Value). on_object state lane x next) e ∙ held_if (holds state lane (object_of state.made b).domain) (next b) (state, reply.Foreign) held
+    ap (λ (x : Value). on_object state lane x next) e ∙ cond-true (holds state lane (object_of state.made b).domain) (next b) (state, reply.Foreign) held
 
 pub on_object-foreign : (state : State) (lane : ℕ) (v : Value) (b : Birth) (next : Birth → State × Reply) → v ≡ value.Obj b → holds state lane (object_of state.made b).domain ≡ false → on_object state lane v next ≡ (state, reply.Foreign)
 on_object-foreign state lane v b next e off =
@@ -134,7 +130,7 @@ acts-on_field h hs lane i w a ready of acts lt = λ serials state v means read n
     let at = memory-there h.space h.chunks lane a.0 ready.layout ready.apart ready.lane_within of.there in
     let home = home-ref (whole_memory h) (root_words h.roots) state w v a c means.stands of.refers at read in
     acts serials state v means read (λ b. if nat_lt i (length (object_of state.made b).fields) then next b else (state, reply.Range))
-    ∙ held_if (nat_lt i (length (object_of state.made (birth_of c.head)).fields)) (next (birth_of c.head)) (state, reply.Range)
+    ∙ cond-true (nat_lt i (length (object_of state.made (birth_of c.head)).fields)) (next (birth_of c.head)) (state, reply.Range)
     (lt-ltb i (length (object_of state.made (birth_of c.head)).fields) (let n = home.count in omega arith))
 
 pub refuses-range : (h : HeapView) (hs : List ℕ) (lane i : ℕ) (w : Word) (a : Address) → MayOperate h hs lane → IsOfLane h hs lane w a → ActsOn h hs lane w a → (cell_of h.space (own_chunk h lane) a.0).head.fields ≤ i → RefusesField h hs lane w i reply.Range

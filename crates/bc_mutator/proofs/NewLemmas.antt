@@ -14,7 +14,7 @@ use Rattle.bc_whole_heap.specs.Heaps.{end_of, heap_memory, root_words, no_chunk,
 use Rattle.bc_whole_heap.specs.HeapFacts.{AreApart, view_of}
 use Rattle.bc_whole_heap.specs.Running.{IsRunning}
 use Rattle.bc_whole_heap.specs.LaneStates.{StandsAs}
-use Rattle.bc_whole_heap.proofs.ChunkLemmas.{object_in-at, object_in-none}
+use Rattle.bc_whole_heap.proofs.ChunkLemmas.{object_in-at, object_in-none, chunk_of-set}
 use Rattle.bc_whole_heap.proofs.HeapLemmas.{memory-below, memory-above}
 use Rattle.bc_memory.specs.Memory.{Cell, Memory}
 use Rattle.bc_memory.specs.MemoryChanges.{with_cell}
@@ -49,7 +49,7 @@ use Rattle.bc_mutator.specs.Objects.{MayOperate, AreWhole, IsOwn, own_chunk}
 use Rattle.bc_mutator.specs.Operations.{NoneLater}
 use Rattle.bc_mutator.proofs.MeaningLemmas.{same_place}
 use Rattle.bc_mutator.proofs.RootLemmas.{buffers-same, running-root, root_words-set, slots-other}
-use Rattle.bc_mutator.proofs.YoungLemmas.{chunk-own, chunk-other, chunks-whole, length-chunks, laid-kept}
+use Rattle.bc_mutator.proofs.YoungLemmas.{chunk-other, chunks-whole, length-chunks, laid-kept}
 
 -- a new object of the lane's chunk, which has room for it
 pub record MakesYoung (s : Layout) (r : RootWords) (cs ds : List Nursery) (bs : List Entries) (hs : List ℕ) (lane : ℕ) (head : Head) : Type 0 where
@@ -74,7 +74,7 @@ module _ (s : Layout) (r : RootWords) (cs ds : List Nursery) (bs : List Entries)
   made_at = nursery.chunk_end (chunk_of cs lane)
 
   chunk-is : chunk_of ds lane ≡ with_young_object (chunk_of cs lane) head
-  chunk-is = chunk-own cs ds lane (with_young_object (chunk_of cs lane) head) w.lane_within w.chunks
+  chunk-is = chunk_of-set cs ds lane (with_young_object (chunk_of cs lane) head) w.lane_within w.chunks
 
   object-new : object_at (chunk_of ds lane) made_at ≡ Some (new_object made_at head)
   object-new = ap (λ (c : Nursery). object_at c made_at) chunk-is ∙ object_at-new (chunk_of cs lane) (w.whole lane w.lane_within) head
@@ -359,7 +359,7 @@ done-new h chunks roots hs lane serial n p object ready domain slot few lanes se
     root_is = written ∙ ap (λ (k : ℕ). let a : Address = record { 0 = k } in with_root h.roots p (Ref a)) at
 
     chunk_is : chunk_of chunks lane ≡ with_young_object (own_chunk h lane) head
-    chunk_is = chunk-own h.chunks chunks lane (with_young_object (own_chunk h lane) head) ready.lane_within is
+    chunk_is = chunk_of-set h.chunks chunks lane (with_young_object (own_chunk h lane) head) ready.lane_within is
 
     makes : MakesYoung h.space h.roots h.chunks chunks h.buffers hs lane head
     makes = record {

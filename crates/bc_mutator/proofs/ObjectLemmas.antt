@@ -6,13 +6,14 @@ use Rattle.bc_whole_heap.specs.Closed.{IsCellOrYoung, IsClosedHeap}
 use Rattle.bc_whole_heap.specs.LaneChunks.{chunk_of}
 use Rattle.bc_whole_heap.specs.Heaps.{end_of, heap_memory, young, no_chunk}
 use Rattle.bc_whole_heap.specs.HeapFacts.{AreChunks, AreApart, view_of}
-use Rattle.bc_whole_heap.proofs.ChunkLemmas.{has-some, object_in-at}
-use Rattle.bc_whole_heap.proofs.HeapLemmas.{memory-below, memory-above, allocated-here}
+use Rattle.bc_whole_heap.proofs.ChunkLemmas.{object_in-at}
+use Rattle.bc_whole_heap.proofs.HeapLemmas.{memory-below, memory-above, allocated-here, allocated-below}
 use Rattle.bc_memory.specs.Memory.{Cell}
 use Rattle.bc_nursery.specs.Entries.{Entries}
 use Rattle.bc_nursery.specs.Objects.{IsChunk, has_object, the_object}
 use Rattle.bc_nursery.specs.Nurseries.{Nursery}
 use Rattle.bc_nursery.proofs.ObjectLemmas.{words-inside}
+use Rattle.bc_nursery.proofs.MappedLemmas.{has-some}
 use Rattle.bc_superpages.specs.Calls.{IsAtHand}
 use Rattle.bc_superpages.specs.Headers.{is_gone}
 use Rattle.bc_superpages.specs.Kept.{IsLayout}
@@ -21,7 +22,6 @@ use Rattle.bc_superpages.specs.LayoutAt.{IsAllocated, state_at, word_at}
 use Rattle.bc_superpages.specs.Memory as space
 use Rattle.bc_superpages.specs.RootWords.{RootWords}
 use Rattle.bc_word.proofs.WordsLemmas.{length-words_from}
-use Rattle.bc_superpages.proofs.HandLemmas.{allocated-superpage}
 use Rattle.bc_superpages.proofs.MemoryLemmas.{memory_of-cell}
 use Rattle.bc_word.specs.Addresses.{page_of, offset_of}
 use Rattle.bc_word.specs.Heads.{fields_of_bits}
@@ -33,10 +33,7 @@ use Rattle.bc_mutator.specs.Objects.{LieBehind, cell_of}
 pub one_address : (x y : Address) → Ref x ≡ Ref y → x ≡ y
 one_address x y e = cc
 
--- cells lie below the end of the superpages, and the lane's chunk behind it
-pub allocated-below : (s : Layout) (a : ℕ) → IsLayout s → IsAllocated s a → a < end_of s
-allocated-below s a k on = let q = allocated-superpage s a k on in omega arith
-
+-- the lane's chunk lies behind the superpages
 pub LieBehind-laid : (s : Layout) (words : ℕ) (cs : List Nursery) (l : ℕ) → AreChunks (end_of s) words cs → l < length cs → IsChunk (chunk_of cs l) → LieBehind s (chunk_of cs l)
 LieBehind-laid s words cs l laid lt whole = λ a on.
     let base = laid.base l lt in

@@ -4,7 +4,7 @@ use Rattle.bc_model.specs.WellFormed.{IsSlot}
 use Rattle.bc_model.specs.declared.operations.Op.{Op}
 use Rattle.bc_model.specs.declared.values.Slot.{Slot}
 use Rattle.bc_nursery.specs.Entries.{Entries}
-use Rattle.bc_nursery.specs.Objects.{changed, head_at, has_object}
+use Rattle.bc_nursery.specs.Objects.{changed, head_at}
 use Rattle.bc_nursery.specs.Nurseries.{Nursery}
 use Rattle.bc_nursery.specs.Objects as nursery
 use Rattle.bc_superpages.specs.declared.headers.PageState.TheVariants.{Remembered}

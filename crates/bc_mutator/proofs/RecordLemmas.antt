@@ -1,9 +1,11 @@
 -- What a write to a field records, and so what a link does.
-use Rattle.std.proofs.Common.{◌≡◌, ℕ, ◌+◌, ◌<◌, ◌==◌, true, false, List, length, get_or, Some, refl, sym, ap, subst, ◌∙◌, inl, inr, arith}
+use Rattle.std.proofs.Common.{◌≡◌, ℕ, ◌+◌, ◌<◌, ◌==◌, true, false, List, length, get_or, refl, sym, ap, subst, ◌∙◌, inl, inr, arith}
+use Rattle.std.proofs.lemmas.Option.{same_Some}
 use Rattle.std.specs.List.{list_all}
 use Rattle.bc_whole_heap.specs.Heaps.{HeapView}
 use Rattle.bc_whole_heap.specs.Closed.{buffer_of}
 use Rattle.bc_whole_heap.specs.Heaps.{end_of}
+use Rattle.bc_whole_heap.proofs.HeapLemmas.{allocated-below}
 use Rattle.bc_memory.specs.Memory.{Cell}
 use Rattle.bc_model.specs.Step.{domains_of}
 use Rattle.bc_model.specs.declared.operations.Op.{Op}
@@ -24,11 +26,8 @@ use Rattle.bc_word.specs.declared.words.Word.TheVariants.{Ref}
 use Rattle.bc_mutator.specs.Effects.{HasRecorded, FindsFull, Records, RecordsField, RecordsNothing, RecordsWrite, StoresAt, StopsAt, Wrote}
 use Rattle.bc_mutator.specs.Objects.{MayOperate, IsOwn, IsOfLane, own_chunk, cell_of, slot_word}
 use Rattle.bc_mutator.specs.Operations.{NeedsEntry, RefersToField, StoresYoung}
-use Rattle.bc_mutator.proofs.ObjectLemmas.{allocated-below, cell_of-below, one_address}
+use Rattle.bc_mutator.proofs.ObjectLemmas.{cell_of-below, one_address}
 use Rattle.bc_mutator.proofs.WritingLemmas.{CanWrite, own-cell, refers-young}
-
-one_cell : (x y : Cell) → Some x ≡ Some y → x ≡ y
-one_cell x y e = cc
 
 -- a field of a cell that the lane may write is one that the slot refers to
 pub field-named : (h : HeapView) (hs : List ℕ) (lane : ℕ) (p : Slot) (target : Word) (at : Address) (index : ℕ) (word : Word) → CanWrite h hs lane target at index word → target ≡ slot_word h.roots p → at.0 < end_of h.space → (f : RefersToField hs lane h.space h.roots p index) × (f.cell ≡ at)
@@ -55,7 +54,7 @@ field-found : (h : HeapView) (hs : List ℕ) (lane : ℕ) (p : Slot) (target : W
 field-found h hs lane p target index ready e none f =
     let below = allocated-below h.space f.cell.0 ready.layout f.mature in
     let is : f.content ≡ space.cell_at h.space.pages f.cell.0 =
-    one_cell f.content (space.cell_at h.space.pages f.cell.0) (sym f.is ∙ memory_of-cell h.space.classes h.space.cells h.space.pages f.cell.0 f.mature) in
+    same_Some f.content (space.cell_at h.space.pages f.cell.0) (sym f.is ∙ memory_of-cell h.space.classes h.space.cells h.space.pages f.cell.0 f.mature) in
     let there : f.content ≡ cell_of h.space (own_chunk h lane) f.cell.0 = is ∙ sym (cell_of-below h.space (own_chunk h lane) f.cell.0 below) in
     let less : index < length (space.cell_at h.space.pages f.cell.0).fields = subst (λ (c : Cell). index < length c.fields) is f.less in
     let long = length-words_from (content_at h.space.pages (page_of f.cell.0)) (offset_of f.cell.0 + 1) (fields_of_bits (word_at h.space.pages f.cell.0)) in

@@ -1,6 +1,5 @@
 -- The states of pages, where one page is made Remembered.
-use Rattle.std.proofs.Common.{◌≡◌, ◌≢◌, ◌⊎◌, ℕ, ◌*◌, ◌/◌, ◌%◌, ◌<◌, List, [], length, get_or, set, refl, sym, ap, ◌∙◌, inl, inr, arith, get_or-set_same, get_or-set_other}
-use Rattle.std.proofs.lemmas.List.{set-get_or}
+use Rattle.std.proofs.Common.{◌≡◌, ◌⊎◌, ℕ, ◌*◌, ◌/◌, ◌%◌, ◌<◌, List, [], length, get_or, set, refl, sym, ap, ◌∙◌, inl, inr, arith, get_or-set_same}
 use Rattle.std.proofs.lemmas.Bool.{cases_eq}
 use Rattle.bc_nursery.specs.Entries.{Entries}
 use Rattle.bc_superpages.specs.declared.headers.PageState.{PageState}
@@ -12,23 +11,13 @@ use Rattle.bc_word.specs.Addresses.{page_of}
 use Rattle.bc_word.specs.declared.addresses.Address.{Address}
 use Rattle.bc_word.specs.declared.words.Word.{Word}
 use Rattle.bc_mutator.specs.Effects.{Records, Remembers}
+use Rattle.bc_bookmarks.proofs.StateLemmas.{state-other, with_state-same}
 
--- the state of the page, and of every other page
+-- the state of the page
 pub state_at-same : (states : List (List PageState)) (p : ℕ) (x : PageState) → p / 4 < length states → p % 4 < length (states_of states (p / 4)) → state_at (with_state states p x) p ≡ x
 state_at-same states p x within less =
     ap (λ (row : List PageState). get_or row (p % 4) Absent) (get_or-set_same states (p / 4) (set (states_of states (p / 4)) (p % 4) x) [] within)
     ∙ get_or-set_same (states_of states (p / 4)) (p % 4) x Absent less
-
-pub state_at-other : (states : List (List PageState)) (p q : ℕ) (x : PageState) → p / 4 < length states → q ≢ p → state_at (with_state states p x) q ≡ state_at states q
-state_at-other states p q x within ne = elim (cases_eq (q / 4) (p / 4)) [
-  | inl e ↦
-      let apart : q % 4 ≢ p % 4 = λ f. ne (omega arith) in
-      ap (λ (k : ℕ). get_or (states_of (with_state states p x) k) (q % 4) Absent) e
-      ∙ ap (λ (row : List PageState). get_or row (q % 4) Absent) (get_or-set_same states (p / 4) (set (states_of states (p / 4)) (p % 4) x) [] within)
-      ∙ get_or-set_other (states_of states (p / 4)) (p % 4) (q % 4) x Absent apart
-      ∙ ap (λ (k : ℕ). get_or (states_of states k) (q % 4) Absent) (sym e)
-  | inr off ↦ ap (λ (row : List PageState). get_or row (q % 4) Absent) (get_or-set_other states (p / 4) (q / 4) (set (states_of states (p / 4)) (p % 4) x) [] off)
-]
 
 -- a page was made Remembered, or was so before
 pub remembers-home : (s t : Layout) (p : ℕ) → IsLayout s → p < 4 * superpages s → t ≡ record s { states = with_state s.states p Remembered } → Remembers s t p
@@ -41,15 +30,9 @@ remembers-home s t p k lt is =
       states = record {
         same = states;
         here = ap (λ (x : List (List PageState)). state_at x p) states ∙ state_at-same s.states p Remembered within row;
-        others = λ q ne. ap (λ (x : List (List PageState)). state_at x q) states ∙ state_at-other s.states p q Remembered within ne;
+        others = λ q ne. ap (λ (x : List (List PageState)). state_at x q) states ∙ state-other s.states p q Remembered within ne;
       };
     }
-
-with_state-same : (states : List (List PageState)) (p : ℕ) (x : PageState) → state_at states p ≡ x → with_state states p x ≡ states
-with_state-same states p x e =
-    ap (λ (y : PageState). with_state states p y) (sym e)
-    ∙ ap (λ (row : List PageState). set states (p / 4) row) (set-get_or (states_of states (p / 4)) (p % 4) Absent)
-    ∙ set-get_or states (p / 4) []
 
 pub remembers-already : (s : Layout) (p : ℕ) → state_at s.states p ≡ Remembered → Remembers s s p
 remembers-already s p e = record {

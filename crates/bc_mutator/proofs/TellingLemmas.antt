@@ -1,6 +1,6 @@
 -- What a lane is told that asks about its slots.
-use Rattle.std.proofs.Common.{◌≡◌, ◌≢◌, ℕ, Bool, true, false, if◌then◌else◌, List, length, Some, refl, sym, ap, subst, ◌∙◌, inl, inr, eq-eqb, eqb-true}
-use Rattle.std.proofs.lemmas.Bool.{cases_Bool, and_parts}
+use Rattle.std.proofs.Common.{◌≡◌, ◌≢◌, ℕ, Bool, true, false, if◌then◌else◌, List, length, Some, refl, sym, ap, subst, ◌∙◌, inl, inr, eq-eqb}
+use Rattle.std.proofs.lemmas.Bool.{cases_Bool}
 use Rattle.bc_whole_heap.specs.Heaps.{HeapView}
 use Rattle.bc_whole_heap.specs.Running.{IsRunning}
 use Rattle.bc_whole_heap.specs.LaneStates.{StandsAs}
@@ -15,7 +15,7 @@ use Rattle.bc_model.specs.declared.values.Birth.{Birth}
 use Rattle.bc_model.specs.declared.values.Slot.{Slot}
 use Rattle.bc_model.specs.declared.values.Value.{Value}
 use Rattle.bc_model.specs.declared.values.Value.TheVariants as value
-use Rattle.bc_model.proofs.Objects.{same_birth}
+use Rattle.bc_model.proofs.Outcomes.{same-held}
 use Rattle.bc_standing.specs.Standing.{birth_of, births, read}
 use Rattle.bc_standing.proofs.Reading.{read_birth}
 use Rattle.bc_word.specs.declared.addresses.Address.{Address}
@@ -95,19 +95,6 @@ same-itself value.Nil = refl
 same-itself (value.Num n) = eq-eqb n n refl
 same-itself (value.Obj b) = rw (eq-eqb b.lane b.lane refl) (eq-eqb b.serial b.serial refl)
 
-same-value : (v w : Value) → is_same v w ≡ true → v ≡ w
-same-value value.Nil value.Nil e = refl
-same-value value.Nil (value.Num n) e = cc
-same-value value.Nil (value.Obj c) e = cc
-same-value (value.Num n) value.Nil e = cc
-same-value (value.Num n) (value.Num k) e = ap (λ (x : ℕ). value.Num x) (eqb-true n k e)
-same-value (value.Num n) (value.Obj c) e = cc
-same-value (value.Obj b) value.Nil e = cc
-same-value (value.Obj b) (value.Num n) e = cc
-same-value (value.Obj b) (value.Obj c) e =
-    let parts = and_parts _ _ e in
-    ap (λ (x : Birth). value.Obj x) (same_birth b c (eqb-true b.lane c.lane parts.0) (eqb-true b.serial c.serial parts.1))
-
 pub same-yes : (h : HeapView) (hs : List ℕ) (lane : ℕ) (p q : Slot) → slot_word h.roots p ≡ slot_word h.roots q → Answers h hs lane (Same p q) reply.Yes
 same-yes h hs lane p q e = λ serials state means.
     let first = word-read h hs serials state p (slot_word h.roots p) refl means in
@@ -166,7 +153,7 @@ same-no h hs lane p q runs ne = λ serials state means.
     let off : is_same (slot_of state p) (slot_of state q) ≡ false =
     elim (cases_Bool (is_same (slot_of state p) (slot_of state q))) [
       | inl on ↦ absurd (ne (one-word (whole_memory h) state (slot_word h.roots p) (slot_word h.roots q) (slot_of state p) runs.once first
-          (subst (λ (v : Value). IsRead (whole_memory h) state (slot_word h.roots q) v) (sym (same-value (slot_of state p) (slot_of state q) on)) second)))
+          (subst (λ (v : Value). IsRead (whole_memory h) state (slot_word h.roots q) v) (sym (same-held (slot_of state p) (slot_of state q) on)) second)))
       | inr out ↦ out
     ] in
     ap (λ (t : Bool). let pair : State × Reply = (state, if t then reply.Yes else reply.No) in pair) off

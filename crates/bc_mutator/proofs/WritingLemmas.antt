@@ -9,6 +9,7 @@ use Rattle.bc_whole_heap.specs.Closed.{no_buffer, buffer_of}
 use Rattle.bc_whole_heap.specs.Heaps.{end_of, heap_memory, root_words}
 use Rattle.bc_whole_heap.specs.Running.{IsRunning}
 use Rattle.bc_whole_heap.specs.LaneStates.{StandsAs}
+use Rattle.bc_whole_heap.proofs.ChunkLemmas.{chunk_of-set}
 use Rattle.bc_memory.specs.Memory.{Cell, Memory}
 use Rattle.bc_memory.specs.MemoryChanges.{with_cell}
 use Rattle.bc_memory.specs.MemoryChanges as memory
@@ -54,7 +55,7 @@ use Rattle.bc_mutator.proofs.MeaningLemmas.{read-ref}
 use Rattle.bc_mutator.proofs.ObjectLemmas.{there-below, there-above, cell_of-below, memory-there}
 use Rattle.bc_mutator.proofs.RootLemmas.{buffers-same, chunks-same, value-held, same_serials}
 use Rattle.bc_mutator.proofs.TellingLemmas.{word-read}
-use Rattle.bc_mutator.proofs.YoungLemmas.{YoungWrite, young-memory, young-births, young-running, chunk-own, chunks-whole}
+use Rattle.bc_mutator.proofs.YoungLemmas.{YoungWrite, young-memory, young-births, young-running, chunks-whole}
 
 -- a field that a lane may write
 pub record CanWrite (h : HeapView) (hs : List ℕ) (lane : ℕ) (target : Word) (at : Address) (index : ℕ) (word : Word) : Type 0 where
@@ -222,7 +223,7 @@ written-leaves h k hs lane target at index word can (inl wrote) = subst (λ (x :
 })
 written-leaves h k hs lane target at index word can (inr wrote) = subst (λ (x : HeapView). Leaves hs lane h x) (sym wrote.rest)
     (let d = changed (own_chunk h lane) at.0 (nursery.with_young_field index word) in
-    let is = chunk-own h.chunks k.chunks lane d can.ready.lane_within wrote.chunks in
+    let is = chunk_of-set h.chunks k.chunks lane d can.ready.lane_within wrote.chunks in
     record {
       chunks = wrote.chunks ∙ ap (λ (x : Nursery). set h.chunks lane x) (sym is);
       buffers = buffers-same h.buffers lane;

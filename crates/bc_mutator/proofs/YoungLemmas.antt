@@ -7,7 +7,7 @@ use Rattle.bc_whole_heap.specs.LaneChunks.{chunk_of}
 use Rattle.bc_whole_heap.specs.Heaps.{end_of, heap_memory, no_chunk, young, object_in}
 use Rattle.bc_whole_heap.specs.HeapFacts.{AreChunks, AreApart, view_of}
 use Rattle.bc_whole_heap.specs.Running.{IsRunning}
-use Rattle.bc_whole_heap.proofs.ChunkLemmas.{has-some, object_in-at, object_in-set, object_in-set_other}
+use Rattle.bc_whole_heap.proofs.ChunkLemmas.{object_in-at, object_in-set, object_in-set_other, chunk_of-set}
 use Rattle.bc_whole_heap.proofs.HeapLemmas.{memory-below, memory-above}
 use Rattle.bc_memory.specs.Memory.{Cell}
 use Rattle.bc_memory.specs.MemoryChanges.{with_cell}
@@ -18,6 +18,7 @@ use Rattle.bc_nursery.specs.Entries.{Entries}
 use Rattle.bc_nursery.specs.Objects.{IsChunk, has_object, the_object, object_or, changed, with_young_field}
 use Rattle.bc_nursery.specs.Nurseries.{ChunkObject, Nursery, object_at}
 use Rattle.bc_nursery.proofs.ObjectLemmas.{find-changed, find-kept}
+use Rattle.bc_nursery.proofs.MappedLemmas.{has-some}
 use Rattle.bc_standing.specs.Standing.{births}
 use Rattle.bc_standing.proofs.Writing.{births-with_cell}
 use Rattle.bc_superpages.specs.Kept.{IsLayout}
@@ -32,9 +33,6 @@ use Rattle.bc_mutator.specs.Objects.{AreWhole, IsOwn, cell_of}
 use Rattle.bc_mutator.proofs.ObjectLemmas.{cell_of-above, memory-there}
 
 -- a chunk is replaced by one of its own base and size
-pub chunk-own : (cs ds : List Nursery) (lane : ℕ) (d : Nursery) → lane < length cs → ds ≡ set cs lane d → chunk_of ds lane ≡ d
-chunk-own cs ds lane d lt is = ap (λ (xs : List Nursery). chunk_of xs lane) is ∙ get_or-set_same cs lane d no_chunk lt
-
 pub chunk-other : (cs ds : List Nursery) (lane l : ℕ) (d : Nursery) → ds ≡ set cs lane d → l ≢ lane → chunk_of ds l ≡ chunk_of cs l
 chunk-other cs ds lane l d is ne = ap (λ (xs : List Nursery). chunk_of xs l) is ∙ get_or-set_other cs lane l d no_chunk ne
 
@@ -43,7 +41,7 @@ length-chunks cs ds lane d is = ap length is ∙ length-set cs lane d
 
 pub chunks-whole : (cs ds : List Nursery) (lane : ℕ) (d : Nursery) → lane < length cs → ds ≡ set cs lane d → IsChunk d → AreWhole cs → AreWhole ds
 chunks-whole cs ds lane d lt is one whole = λ l less. elim (cases_eq l lane) [
-  | inl here ↦ subst IsChunk (sym (ap (λ (x : ℕ). chunk_of ds x) here ∙ chunk-own cs ds lane d lt is)) one
+  | inl here ↦ subst IsChunk (sym (ap (λ (x : ℕ). chunk_of ds x) here ∙ chunk_of-set cs ds lane d lt is)) one
   | inr ne ↦ subst IsChunk (sym (chunk-other cs ds lane l d is ne)) (whole l (let n = length-chunks cs ds lane d is in omega arith))
 ]
 
@@ -51,13 +49,13 @@ pub laid-kept : (end words : ℕ) (cs ds : List Nursery) (lane : ℕ) (d : Nurse
 laid-kept end words cs ds lane d lt is base long laid = record {
   base = λ l less. elim (cases_eq l lane) [
     | inl here ↦
-        ap (λ (x : ℕ). (chunk_of ds x).base) here ∙ ap (λ (x : Nursery). x.base) (chunk-own cs ds lane d lt is) ∙ base
+        ap (λ (x : ℕ). (chunk_of ds x).base) here ∙ ap (λ (x : Nursery). x.base) (chunk_of-set cs ds lane d lt is) ∙ base
         ∙ ap (λ (x : ℕ). (chunk_of cs x).base) (sym here) ∙ laid.base l (let n = length-chunks cs ds lane d is in omega arith)
     | inr ne ↦ ap (λ (x : Nursery). x.base) (chunk-other cs ds lane l d is ne) ∙ laid.base l (let n = length-chunks cs ds lane d is in omega arith)
   ];
   long = λ l less. elim (cases_eq l lane) [
     | inl here ↦
-        ap (λ (x : ℕ). (chunk_of ds x).words) here ∙ ap (λ (x : Nursery). x.words) (chunk-own cs ds lane d lt is) ∙ long
+        ap (λ (x : ℕ). (chunk_of ds x).words) here ∙ ap (λ (x : Nursery). x.words) (chunk_of-set cs ds lane d lt is) ∙ long
         ∙ ap (λ (x : ℕ). (chunk_of cs x).words) (sym here) ∙ laid.long l (let n = length-chunks cs ds lane d is in omega arith)
     | inr ne ↦ ap (λ (x : Nursery). x.words) (chunk-other cs ds lane l d is ne) ∙ laid.long l (let n = length-chunks cs ds lane d is in omega arith)
   ];
@@ -85,7 +83,7 @@ some_or f (Some o) e = refl
 module _ (s : Layout) (r : RootWords) (cs ds : List Nursery) (bs : List Entries) (hs : List ℕ) (lane at index : ℕ) (word : Word) (w : YoungWrite s r cs ds bs hs lane at index word) where
   -- the chunk as it was, and as it is
   chunk-is : chunk_of ds lane ≡ changed (chunk_of cs lane) at (with_young_field index word)
-  chunk-is = chunk-own cs ds lane (changed (chunk_of cs lane) at (with_young_field index word)) w.lane_within w.chunks
+  chunk-is = chunk_of-set cs ds lane (changed (chunk_of cs lane) at (with_young_field index word)) w.lane_within w.chunks
 
   object-here : object_at (chunk_of ds lane) at ≡ option_map (with_young_field index word) (object_at (chunk_of cs lane) at)
   object-here = ap (λ (c : Nursery). object_at c at) chunk-is ∙ find-changed (with_young_field index word) (λ o. refl) at (chunk_of cs lane).objects

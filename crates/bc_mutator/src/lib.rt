@@ -27,7 +27,7 @@
 // written again its entry stays, so an entry may name a field that refers to no chunk.
 //
 // An operation stops, and has changed nothing, exactly where a new object's words are more than what is left of the
-// chunk, and only where a field would have to be recorded and the buffer is at capacity. It is done again after a collection.
+// chunk, and only where a field would have to be recorded and the buffer is at capacity. It is done again once the nurseries were emptied.
 //
 // No operation takes memory or walks over the heap. In the heap as one memory it makes one object, or writes one field of
 // an object that the lane holds the domain of, or changes nothing (`IsChangedBy`). That births stay different needs one fact
@@ -52,5 +52,5 @@ mod telling;
 mod writing;
 
 pub use cells::Cells;
-pub use operations::{Stop, holds_all, law_births, operate_parts};
+pub use operations::{Stop, holds_all, law_births, operate_parts, touched};
 pub use root_slots::RootSlots;

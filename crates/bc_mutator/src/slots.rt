@@ -2,7 +2,7 @@
 
 ghost use Rattle.std.specs.Prelude.{◌≡◌, ℕ, slice_index};
 ghost use Rattle.bc_model.specs.WellFormed.{IsSlot};
-ghost use Rattle.bc_model.specs.declared.operations.Op.TheVariants.{Copy, Clear, Load};
+ghost use Rattle.bc_model.specs.declared.operations.Op.TheVariants.{Load};
 ghost use Rattle.bc_superpages.specs.RootWords.{RootWords};
 ghost use Rattle.bc_whole_heap.specs.Heaps.{HeapView};
 ghost use Rattle.bc_word.specs.WordBits.{FitsWord};

@@ -6,3 +6,5 @@ pub mod LookLemmas
 pub mod TakenLemmas
 -- Answers, one after another
 pub mod ServeLemmas
+-- What the tests need
+mod TestLemmas

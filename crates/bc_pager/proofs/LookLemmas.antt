@@ -75,8 +75,8 @@ pub looked-then : (k : Key) (v u w : View) (a b : List (ℕ × ℕ)) → HasLook
 looked-then k v u w a b first next = record {
   none = took-none k b a next.none first.none;
   view = next.view
-      ∙ ap (λ (x : View). record x { read = b ++ x.read; seen = w.seen; gone = w.gone }) first.view
-      ∙ ap (λ (l : List (ℕ × ℕ)). record v { read = l; seen = w.seen; gone = w.gone }) (sym (append_assoc b a v.read));
+      ∙ ap (λ (x : View). record x { read = b ++ x.read; seen = w.seen; gone = w.gone; busy = w.busy }) first.view
+      ∙ ap (λ (l : List (ℕ × ℕ)). record v { read = l; seen = w.seen; gone = w.gone; busy = w.busy }) (sym (append_assoc b a v.read));
 }
 
 -- one word that isn't Home's
@@ -87,7 +87,7 @@ no_one false n ne = refl
 pub looked-once : (k : Key) (v w : View) (page n : ℕ) → n ≢ 1 → w ≡ having_read v page n → HasLooked k v w ((page_at page, n) ∷ [])
 looked-once k v w page n ne view = record {
   none = λ q lt. no_one (page_at page == page_at q) n ne;
-  view = subst (λ (x : View). x ≡ record v { read = (page_at page, n) ∷ v.read; seen = x.seen; gone = x.gone }) (sym view) refl;
+  view = subst (λ (x : View). x ≡ record v { read = (page_at page, n) ∷ v.read; seen = x.seen; gone = x.gone; busy = x.busy }) (sym view) refl;
 }
 
 pub found-once : (page n : ℕ) → 0 < times n (reads_at page ((page_at page, n) ∷ []))

@@ -1,6 +1,7 @@
 -- Pages that are taken and given up.
 use Rattle.std.proofs.Common.{◌≡◌, ℕ, ◌+◌, ◌-◌, ◌*◌, ◌/◌, ◌<◌, ◌≤◌, ◌⊎◌, Bool, true, false, if◌then◌else◌, List, [], ◌∷◌, ◌++◌, length, inl, inr, Option, Some, None, refl, ap, sym, subst, ◌∙◌, arith, append_assoc, length-append}
 use Rattle.std.proofs.lemmas.Bool.{cases_lt, cases_Bool}
+use Rattle.std.proofs.lemmas.Option.{same_Some}
 use Rattle.bc_bits.specs.Counting.{any_below}
 use Rattle.bc_bits.proofs.AnyLemmas.{any_below-some, any_below-at}
 use Rattle.bc_word.specs.Addresses.{page_of}
@@ -29,9 +30,6 @@ use Rattle.bc_pager.specs.Taking.{HasLooked, HasTriedAll, IsTakenFor, HasTakenFi
 use Rattle.bc_pager.specs.Answering.{TookAfter, HasDiscarded, HasEvicted, HasDeclined}
 use Rattle.bc_pager.proofs.LookLemmas.{reads-append, found-first, found-last, found-as, stays-so, looked-then}
 
-some_hand : (x y : Hand) → Some x ≡ Some y → x ≡ y
-some_hand x y e = cc
-
 -- a page that was taken is in hand, and may be given up as its kind says
 module _ (k : Key) (kind : Kind) (u : View) (seat : Seat) (held : Held) (t : IsTakenFor k kind u seat held) (about : u.about ≡ k) where
   takes : Takes u held.page held.remembered held.homed
@@ -39,7 +37,7 @@ module _ (k : Key) (kind : Kind) (u : View) (seat : Seat) (held : Held) (t : IsT
 
   in_hand : (hand : Hand) → (view_of seat).hand ≡ Some hand
       → hand ≡ record { page = held.page; remembered = held.remembered; frame = held.homed.frame; content = held.homed.page; counted = []; marked = []; looked = [] }
-  in_hand hand has = some_hand hand _ (sym has ∙ ap (λ (w : View). w.hand) t.grasps.view)
+  in_hand hand has = same_Some hand _ (sym has ∙ ap (λ (w : View). w.hand) t.grasps.view)
 
   about_now : (view_of seat).about ≡ k
   about_now = ap (λ (w : View). w.about) t.grasps.view ∙ about
@@ -173,21 +171,23 @@ tried-rights k kind v u t none = ap (λ (x : View). x.rights) t.looked.view ∙ 
 pub has-discarded : (k : Key) (v : View) (hint : ℕ) (seat : Seat) (held : Held) (w : View) → v.hand ≡ None → HasTakenFirst k Bare hint v seat held → HasVacated k (view_of seat) held.page w → HasDiscarded k v held.page w
 has-discarded k v hint seat held w nothing f d =
     let u = f.ready in
-    let full : w ≡ record v { hand = None; emptied = held.page ∷ v.emptied; read = w.read; seen = u.seen; gone = u.gone } =
+    let full : w ≡ record v { hand = None; emptied = held.page ∷ v.emptied; read = w.read; seen = u.seen; gone = u.gone; busy = u.busy } =
     d.view
     ∙ ap (λ (x : View). record x { hand = None; emptied = held.page ∷ x.emptied; read = w.read }) f.taken.grasps.view
     ∙ ap (λ (x : View). record x { hand = None; emptied = held.page ∷ x.emptied; read = w.read }) f.looked.view in
     let seen : w.seen ≡ u.seen = ap (λ (x : View). x.seen) full in
     let gone : w.gone ≡ u.gone = ap (λ (x : View). x.gone) full in
+    let busy : w.busy ≡ u.busy = ap (λ (x : View). x.busy) full in
     record {
       looks = f.looks;
       inside = f.taken.inside;
       bare = f.taken.is_kind;
       took = took_after k Bare v u seat held w f.looks f.looked f.taken d.reads;
       view = full
-          ∙ ap (λ (h : Option Hand). record v { hand = h; emptied = held.page ∷ v.emptied; read = w.read; seen = u.seen; gone = u.gone }) (sym nothing)
-          ∙ ap (λ (l : List ℕ). record v { emptied = held.page ∷ v.emptied; read = w.read; seen = l; gone = u.gone }) (sym seen)
-          ∙ ap (λ (l : List ℕ). record v { emptied = held.page ∷ v.emptied; read = w.read; seen = w.seen; gone = l }) (sym gone);
+          ∙ ap (λ (h : Option Hand). record v { hand = h; emptied = held.page ∷ v.emptied; read = w.read; seen = u.seen; gone = u.gone; busy = u.busy }) (sym nothing)
+          ∙ ap (λ (l : List ℕ). record v { emptied = held.page ∷ v.emptied; read = w.read; seen = l; gone = u.gone; busy = u.busy }) (sym seen)
+          ∙ ap (λ (l : List ℕ). record v { emptied = held.page ∷ v.emptied; read = w.read; seen = w.seen; gone = l; busy = u.busy }) (sym gone)
+          ∙ ap (λ (l : List ℕ). record v { emptied = held.page ∷ v.emptied; read = w.read; seen = w.seen; gone = w.gone; busy = l }) (sym busy);
     }
 
 -- an allocated cell lies on the page, or none does
@@ -228,12 +228,13 @@ module _ (k : Key) (behind : (q : ℕ) → pages_of k ≤ q → opened_state k q
   has-evicted v u hint seat held w nothing one f d =
       let x = f.ready in
       let all = looked-then k v u x one.looks f.looks one.looked f.looked in
-      let full : w ≡ record v { hand = None; left = held.page ∷ v.left; bookmarked = w.bookmarked; read = w.read; seen = x.seen; gone = x.gone } =
+      let full : w ≡ record v { hand = None; left = held.page ∷ v.left; bookmarked = w.bookmarked; read = w.read; seen = x.seen; gone = x.gone; busy = x.busy } =
       d.view
       ∙ ap (λ (y : View). record y { hand = None; left = held.page ∷ y.left; bookmarked = w.bookmarked; read = w.read }) f.taken.grasps.view
       ∙ ap (λ (y : View). record y { hand = None; left = held.page ∷ y.left; bookmarked = w.bookmarked; read = w.read }) all.view in
       let seen : w.seen ≡ x.seen = ap (λ (y : View). y.seen) full in
       let gone : w.gone ≡ x.gone = ap (λ (y : View). y.gone) full in
+      let busy : w.busy ≡ x.busy = ap (λ (y : View). y.busy) full in
       record {
         looks = f.looks ++ one.looks;
         inside = f.taken.inside;
@@ -247,7 +248,8 @@ module _ (k : Key) (behind : (q : ℕ) → pages_of k ≤ q → opened_state k q
             inl (near, found-first f.looks one.looks q MayStayFilled (f.before q near there comes));
         took = took_after k Filled v x seat held w (f.looks ++ one.looks) all f.taken d.reads;
         view = full
-            ∙ ap (λ (h : Option Hand). record v { hand = h; left = held.page ∷ v.left; bookmarked = w.bookmarked; read = w.read; seen = x.seen; gone = x.gone }) (sym nothing)
-            ∙ ap (λ (l : List ℕ). record v { left = held.page ∷ v.left; bookmarked = w.bookmarked; read = w.read; seen = l; gone = x.gone }) (sym seen)
-            ∙ ap (λ (l : List ℕ). record v { left = held.page ∷ v.left; bookmarked = w.bookmarked; read = w.read; seen = w.seen; gone = l }) (sym gone);
+            ∙ ap (λ (h : Option Hand). record v { hand = h; left = held.page ∷ v.left; bookmarked = w.bookmarked; read = w.read; seen = x.seen; gone = x.gone; busy = x.busy }) (sym nothing)
+            ∙ ap (λ (l : List ℕ). record v { left = held.page ∷ v.left; bookmarked = w.bookmarked; read = w.read; seen = l; gone = x.gone; busy = x.busy }) (sym seen)
+            ∙ ap (λ (l : List ℕ). record v { left = held.page ∷ v.left; bookmarked = w.bookmarked; read = w.read; seen = w.seen; gone = l; busy = x.busy }) (sym gone)
+            ∙ ap (λ (l : List ℕ). record v { left = held.page ∷ v.left; bookmarked = w.bookmarked; read = w.read; seen = w.seen; gone = w.gone; busy = l }) (sym busy);
       }

@@ -23,7 +23,7 @@ pub record HasDiscarded (k : Key) (v : View) (page : ℕ) (w : View) : Type 0 wh
   pub inside : page < pages_of k
   pub bare : IsBarePage k.opening page
   pub took : TookAfter k v looks page w
-  pub view : w ≡ record v { emptied = page ∷ v.emptied; read = w.read; seen = w.seen; gone = w.gone }
+  pub view : w ≡ record v { emptied = page ∷ v.emptied; read = w.read; seen = w.seen; gone = w.gone; busy = w.busy }
 
 -- the page had an allocated cell, and it was taken from Home and made Gone. Each page without an allocated cell was looked at before and
 -- was Absent, Held or Remembered. Each page with one that comes before it, going round from the hint, was looked at and was Held,
@@ -35,14 +35,14 @@ pub record HasEvicted (k : Key) (v : View) (hint page : ℕ) (w : View) : Type 0
   pub spare : (q : ℕ) → q < all_pages k → IsBarePage k.opening q → IsAccountedFor k looks q MayStayBare
   pub before : (q : ℕ) → q < all_pages k → HasCell k.opening q → ComesBefore k hint q page → IsAccountedFor k looks q MayStayFilled
   pub took : TookAfter k v looks page w
-  pub view : w ≡ record v { left = page ∷ v.left; bookmarked = w.bookmarked; read = w.read; seen = w.seen; gone = w.gone }
+  pub view : w ≡ record v { left = page ∷ v.left; bookmarked = w.bookmarked; read = w.read; seen = w.seen; gone = w.gone; busy = w.busy }
 
 -- each page was looked at and was Absent, Held, Remembered or Gone. Nothing was taken
 pub record HasDeclined (k : Key) (v w : View) : Type 0 where
   pub looks : List (ℕ × ℕ)
   pub each : (q : ℕ) → q < all_pages k → IsAccountedFor k looks q MayStay
   pub none : TookNone k looks
-  pub view : w ≡ record v { read = looks ++ v.read; seen = w.seen; gone = w.gone }
+  pub view : w ≡ record v { read = looks ++ v.read; seen = w.seen; gone = w.gone; busy = w.busy }
 
 -- what an answer to a notice with this hint says
 abbrev pub IsAnswer : Key → View → ℕ → Answer → View → Type 0

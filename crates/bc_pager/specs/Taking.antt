@@ -29,7 +29,7 @@ first_page k hint = if nat_lt (hint % all_pages k) (pages_of k) then hint % all_
 -- words were read with nothing in hand, and nothing else changed
 pub record HasLooked (k : Key) (v w : View) (looks : List (ℕ × ℕ)) : Type 0 where
   pub none : TookNone k looks
-  pub view : w ≡ record v { read = looks ++ v.read; seen = w.seen; gone = w.gone }
+  pub view : w ≡ record v { read = looks ++ v.read; seen = w.seen; gone = w.gone; busy = w.busy }
 
 -- one page was tried, where it is of the kind: it couldn't be had
 pub record HasTried (k : Key) (kind : Kind) (page : ℕ) (v w : View) : Type 0 where

@@ -10,7 +10,7 @@
 // It works at the table of a turn (`bc_pins`) with a seat of its own, beside the others, and waits for nobody. A page can be had if
 // its word says Home when the pager tries to take it: a Remembered page is named by a write buffer, a Held one is in another's hands,
 // and the others have no frame. So an answer can't say that no page was at home at some moment; it says what was read of each
-// page's word since the notice was taken, with nothing in the pager's own hands.
+// page's word since the notice was given, with nothing in the pager's own hands.
 //
 // That is the definition (`specs/Answering.antt`), and the theorem is the contract of `serve`: each notice that it took has one answer,
 // in order, that the definition allows (`HasServed`), and no page is made Gone or Absent but those that the answers name. An answer

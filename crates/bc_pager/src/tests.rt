@@ -1,4 +1,4 @@
-//! Tests of the pager at a table: pages that are absent, in another's hands, and without cells.
+//! Tests of the pager at a table: pages that are absent, in another's hands, and without cells; and of a page that is given up there.
 
 ghost use Rattle.std.specs.Prelude.{◌≡◌, ◌<◌, []};
 ghost use Rattle.bc_pins.specs.Key.{pages_of};
@@ -7,6 +7,7 @@ ghost use Rattle.bc_pins.specs.Calls.{key_of, view_of, IsAt, IsSameSeat, IsFree}
 mod beside;
 mod evicting;
 mod furnished;
+mod giving_up;
 mod telling;
 
 use super::*;

@@ -1,15 +1,12 @@
 //! Going round the pages, and taking the first of a kind that can be had.
 
 ghost use Rattle.std.specs.Prelude.{◌≡◌, ℕ, ◌+◌, ◌*◌, ◌^◌, ◌<◌, ◌≤◌, true, false, IfSome, IfNone};
-ghost use Rattle.bc_bits.specs.Bits.{has};
 ghost use Rattle.bc_bookmarks.specs.Targets.{HasCell};
 ghost use Rattle.bc_pins.specs.Key.{pages_of};
-ghost use Rattle.bc_pins.specs.Contents.{IsBarePage};
 ghost use Rattle.bc_pins.specs.Calls.{key_of, view_of, IsAt, IsSameSeat, IsFree};
 ghost use Rattle.bc_pager.specs.Looking.{steps_behind};
 ghost use Rattle.bc_pager.specs.Taking.{IsOfKind, first_page, HasTried, HasTriedAll, IsTakenFor, HasTakenFirst};
 
-use bc_bits::first_outside;
 use bc_classes::PAGE_WORDS;
 use bc_pins::{Held, Pins, Seat, Want};
 
@@ -96,10 +93,9 @@ fn kind_of(pins: &Pins, page: u32) -> Kind
 {
     pins.facts();
     let header = pins.header(page / 4);
-    let cells = PAGE_WORDS / header.class;
-    let first = page % 4 * cells;
-    match first_outside(&header.cells, &[0; 16], first, first + cells) {
-        Some(_cell) => Kind::Filled,
-        None => Kind::Bare,
+    if header.holds_cell(page % 4) {
+        Kind::Filled
+    } else {
+        Kind::Bare
     }
 }

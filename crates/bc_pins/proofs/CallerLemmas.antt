@@ -28,7 +28,8 @@ use Rattle.bc_pins.specs.Views.{has_role}
 use Rattle.bc_pins.specs.Steps.{Mine, fresh}
 use Rattle.bc_pins.specs.Opening.{IsOpenable, IsReady}
 use Rattle.bc_pins.specs.Seating.{IsDealt, AreDealt}
-use Rattle.bc_pins.specs.Closing.{seen_by, IsBack, AreBack}
+use Rattle.bc_pins.specs.Calls.{view_of}
+use Rattle.bc_pins.specs.Closing.{IsBack, AreBack}
 use Rattle.bc_pins.proofs.TotalLemmas.{one_other, one_few}
 use Rattle.bc_pins.proofs.SumLemmas.{sum_same, total_sum, times_total, total_map}
 
@@ -40,7 +41,7 @@ none_some c e = cc
 
 dealt_is_back : (id : TableId) (k : Key) (role : Role) (seat : Seat) → IsDealt id k role seat → IsBack id k seat
 dealt_is_back id k role seat d =
-    let view : seen_by seat ≡ fresh k (role_number role ∷ []) = ap (λ (m : Mine). m.0) d.me in
+    let view : view_of seat ≡ fresh k (role_number role ∷ []) = ap (λ (m : Mine). m.0) d.me in
     record {
       table = d.table;
       about = ap (λ (v : View). v.about) view;
@@ -61,10 +62,10 @@ dealt_back id k roles seats dealt some roles_are =
     }
   where
     sums : (r : ℕ) (ss : List Seat) → length ss ≡ length roles → ((j : ℕ) → j < length roles → (d : Seat) → IsDealt id k (get_or roles j (Lane 0)) (get_or ss j d))
-        → total (λ (s : Seat). has_role (seen_by s) r) ss ≡ times r (map role_number roles)
+        → total (λ (s : Seat). has_role (view_of s) r) ss ≡ times r (map role_number roles)
     sums r [] size each = absurd (omega arith)
     sums r (s ∷ ss) size each =
-        let f : Seat → ℕ = λ x. has_role (seen_by x) r in
+        let f : Seat → ℕ = λ x. has_role (view_of x) r in
         let g : Role → ℕ = λ x. one_if (role_number x == r) in
         total_sum f (s ∷ ss) s
         ∙ ap (sum_to (λ i. f (get_or (s ∷ ss) i s))) size

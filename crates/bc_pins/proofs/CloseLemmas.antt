@@ -23,7 +23,8 @@ use Rattle.bc_pins.proofs.ReadLemmas.{remembered_word}
 use Rattle.bc_pins.proofs.JoinLemmas.{look_none}
 use Rattle.bc_pins.proofs.SumLemmas.{sum_same}
 
-none_times : (l : List ℕ) → ((r : ℕ) → times r l ≡ 0) → l ≡ []
+-- a list in which nothing stands is empty
+pub none_times : (l : List ℕ) → ((r : ℕ) → times r l ≡ 0) → l ≡ []
 none_times [] each = refl
 none_times (x ∷ xs) each = let a = each x in let b = one_same x in absurd (omega arith)
 

@@ -42,7 +42,8 @@ use Rattle.bc_pins.specs.Rule.{Rule}
 use Rattle.bc_pins.specs.Lodging.{Replaced, box_of, place_of}
 use Rattle.bc_pins.specs.Opening.{HasClosed, IsRest}
 use Rattle.bc_pins.specs.Resting.{RestView}
-use Rattle.bc_pins.specs.Closing.{Gathered, StatesSet, SummariesSet, HeadersSet, PoolSet, seen_by, opens_of, ClosedState, ClosedBit, Closed}
+use Rattle.bc_pins.specs.Calls.{view_of}
+use Rattle.bc_pins.specs.Closing.{Gathered, StatesSet, SummariesSet, HeadersSet, PoolSet, opens_of, ClosedState, ClosedBit, Closed}
 use Rattle.bc_pins.proofs.TallyLemmas.{GoneBy, gone_word, tally, none_behind, target_in, set_bit, bit_set, bit_in, in_bit, bit_few, few_bits, number_few}
 use Rattle.bc_pins.proofs.TotalLemmas.{one_is, total_in}
 use Rattle.bc_pins.proofs.WithholdLemmas.{foreign_none}
@@ -124,6 +125,7 @@ module _ (id : TableId) (k : Key) (all : List Seat) (root : Worker Lodged View) 
   ended_parts reads f t = record {
     kept = rw (t.headers_are, t.boxes_are, t.pool, t.nursery, t.places_are) (closed_kept k whole parts e.rest e.layout e.pool e.nursery e.frames v e.gathered.hand e.gathered.rights words slots e.closed headers e.states_are boxes e.box places e.place now e.pool_set);
     ends = rw (t.headers_are, t.end) (closed_ends k whole parts e.rest e.layout e.pool e.nursery e.frames v e.gathered.hand e.gathered.rights words slots e.closed headers e.states_are boxes e.box places e.place now e.pool_set);
+    blank = rw (t.headers_are, t.end) (λ q le. let near = e.rest.near in (e.states_are.behind q (omega arith)).0 ∙ e.rest.kept.blank q le);
   }
 
   abbrev made : ℕ → Layout
@@ -192,10 +194,10 @@ module _ (id : TableId) (k : Key) (all : List Seat) (root : Worker Lodged View) 
       }
 
   -- a page that a seat read as Gone is Gone for the root, into which it was joined
-  read_gone : (j : ℕ) → j < length all → (d : Seat) (p : ℕ) → 0 < times p (seen_by (get_or all j d)).gone → state_at (map (λ (h : Header). h.pages) headers) p ≡ state.Gone
+  read_gone : (j : ℕ) → j < length all → (d : Seat) (p : ℕ) → 0 < times p (view_of (get_or all j d)).gone → state_at (map (λ (h : Header). h.pages) headers) p ≡ state.Gone
   read_gone j lt d p some =
       let sum = e.gathered.gone p in
-      let least = total_in (λ (s : Seat). times p (seen_by s).gone) all j d lt in
+      let least = total_in (λ (s : Seat). times p (view_of s).gone) all j d lt in
       let gone = e.closed.gone p (omega arith) in
       word_gone _ (word_is p gone.0 ∙ gone.1)
 

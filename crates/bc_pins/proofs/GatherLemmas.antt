@@ -12,36 +12,37 @@ use Rattle.bc_pins.specs.Totals.{total, times}
 use Rattle.bc_pins.specs.Tidy.{IsTidy}
 use Rattle.bc_pins.specs.Views.{has_role, sets_bit, entries, look_up, opened_content, record_of}
 use Rattle.bc_pins.specs.Steps.{Mine, united}
-use Rattle.bc_pins.specs.Closing.{seen_by, IsBack, AreBack, Gathered, opens_of}
+use Rattle.bc_pins.specs.Calls.{view_of}
+use Rattle.bc_pins.specs.Closing.{IsBack, AreBack, Gathered, opens_of}
 use Rattle.bc_pins.proofs.TotalLemmas.{total_append, times_append}
 use Rattle.bc_pins.proofs.JoinLemmas.{entries_append, sets_append, look_skips, look_first}
 use Rattle.bc_pins.proofs.DealLemmas.{front_of, end_of}
 
 -- what moves from a seat to the root
 moved : (f : View → List ℕ) (v : View) (front : List Seat) (seat : Seat) (p n : ℕ)
-    → times p (f v) + total (λ (s : Seat). times p (f (seen_by s))) (front ++ seat ∷ []) ≡ n
-    → times p (f v ++ f (seen_by seat)) + total (λ (s : Seat). times p (f (seen_by s))) front ≡ n
+    → times p (f v) + total (λ (s : Seat). times p (f (view_of s))) (front ++ seat ∷ []) ≡ n
+    → times p (f v ++ f (view_of seat)) + total (λ (s : Seat). times p (f (view_of s))) front ≡ n
 moved f v front seat p n e =
-    let a = times_append p (f v) (f (seen_by seat)) in
-    let b = total_append (λ (s : Seat). times p (f (seen_by s))) front (seat ∷ []) in
+    let a = times_append p (f v) (f (view_of seat)) in
+    let b = total_append (λ (s : Seat). times p (f (view_of s))) front (seat ∷ []) in
     omega arith
 
 first_moved : (f : View → List ℕ) (front : List Seat) (seat : Seat) (p : ℕ)
-    → times p (f (seen_by seat)) + total (λ (s : Seat). times p (f (seen_by s))) front ≡ total (λ (s : Seat). times p (f (seen_by s))) (front ++ seat ∷ [])
-first_moved f front seat p = let b = total_append (λ (s : Seat). times p (f (seen_by s))) front (seat ∷ []) in omega arith
+    → times p (f (view_of seat)) + total (λ (s : Seat). times p (f (view_of s))) front ≡ total (λ (s : Seat). times p (f (view_of s))) (front ++ seat ∷ [])
+first_moved f front seat p = let b = total_append (λ (s : Seat). times p (f (view_of s))) front (seat ∷ []) in omega arith
 
 -- the same of bits
 set_moved : (v : View) (front : List Seat) (seat : Seat) (w b n : ℕ)
-    → sets_bit w b v.bookmarked + total (λ (s : Seat). sets_bit w b (seen_by s).bookmarked) (front ++ seat ∷ []) ≡ n
-    → sets_bit w b (v.bookmarked ++ (seen_by seat).bookmarked) + total (λ (s : Seat). sets_bit w b (seen_by s).bookmarked) front ≡ n
+    → sets_bit w b v.bookmarked + total (λ (s : Seat). sets_bit w b (view_of s).bookmarked) (front ++ seat ∷ []) ≡ n
+    → sets_bit w b (v.bookmarked ++ (view_of seat).bookmarked) + total (λ (s : Seat). sets_bit w b (view_of s).bookmarked) front ≡ n
 set_moved v front seat w b n e =
-    let a = sets_append w b v.bookmarked (seen_by seat).bookmarked in
-    let c = total_append (λ (s : Seat). sets_bit w b (seen_by s).bookmarked) front (seat ∷ []) in
+    let a = sets_append w b v.bookmarked (view_of seat).bookmarked in
+    let c = total_append (λ (s : Seat). sets_bit w b (view_of s).bookmarked) front (seat ∷ []) in
     omega arith
 
 first_set : (front : List Seat) (seat : Seat) (w b : ℕ)
-    → sets_bit w b (seen_by seat).bookmarked + total (λ (s : Seat). sets_bit w b (seen_by s).bookmarked) front ≡ total (λ (s : Seat). sets_bit w b (seen_by s).bookmarked) (front ++ seat ∷ [])
-first_set front seat w b = let c = total_append (λ (s : Seat). sets_bit w b (seen_by s).bookmarked) front (seat ∷ []) in omega arith
+    → sets_bit w b (view_of seat).bookmarked + total (λ (s : Seat). sets_bit w b (view_of s).bookmarked) front ≡ total (λ (s : Seat). sets_bit w b (view_of s).bookmarked) (front ++ seat ∷ [])
+first_set front seat w b = let c = total_append (λ (s : Seat). sets_bit w b (view_of s).bookmarked) front (seat ∷ []) in omega arith
 
 pub entries_none : (k : Key) (v : View) (p : ℕ) → IsTidy v → v.about ≡ k → has_role v (owner k p) ≡ 0 → entries p v.changed ≡ 0
 entries_none k v p tidy about z = tidy p (subst (λ (a : Key). has_role v (owner a p) ≡ 0) (sym about) z)
@@ -70,18 +71,18 @@ module _ (id : TableId) (k : Key) (apart : (r : ℕ) → times r k.roles ≤ 1) 
         tidy = b.tidy;
         fewer = omega arith;
         same = λ j lt d. sym (ap (λ (l : List Seat). get_or l j d) is ∙ front_of d front seat j lt);
-        roles = λ r. first_moved (λ v. v.roles) front seat r ∙ ap (total (λ (s : Seat). has_role (seen_by s) r)) (sym is) ∙ back.roles r;
-        recorded = λ p. first_moved (λ v. v.recorded) front seat p ∙ ap (total (λ (s : Seat). times p (seen_by s).recorded)) (sym is);
-        left = λ p. first_moved (λ v. v.left) front seat p ∙ ap (total (λ (s : Seat). times p (seen_by s).left)) (sym is);
-        emptied = λ p. first_moved (λ v. v.emptied) front seat p ∙ ap (total (λ (s : Seat). times p (seen_by s).emptied)) (sym is);
-        bookmarked = λ w b. first_set front seat w b ∙ ap (total (λ (s : Seat). sets_bit w b (seen_by s).bookmarked)) (sym is);
-        fetched = λ p. first_moved (λ v. v.fetched) front seat p ∙ ap (total (λ (s : Seat). times p (seen_by s).fetched)) (sym is);
-        returned = λ p. first_moved (λ v. v.returned) front seat p ∙ ap (total (λ (s : Seat). times p (seen_by s).returned)) (sym is);
-        gone = λ p. first_moved (λ v. v.gone) front seat p ∙ ap (total (λ (s : Seat). times p (seen_by s).gone)) (sym is);
-        busy = λ p. first_moved (λ v. v.busy) front seat p ∙ ap (total (λ (s : Seat). times p (seen_by s).busy)) (sym is);
+        roles = λ r. first_moved (λ v. v.roles) front seat r ∙ ap (total (λ (s : Seat). has_role (view_of s) r)) (sym is) ∙ back.roles r;
+        recorded = λ p. first_moved (λ v. v.recorded) front seat p ∙ ap (total (λ (s : Seat). times p (view_of s).recorded)) (sym is);
+        left = λ p. first_moved (λ v. v.left) front seat p ∙ ap (total (λ (s : Seat). times p (view_of s).left)) (sym is);
+        emptied = λ p. first_moved (λ v. v.emptied) front seat p ∙ ap (total (λ (s : Seat). times p (view_of s).emptied)) (sym is);
+        bookmarked = λ w b. first_set front seat w b ∙ ap (total (λ (s : Seat). sets_bit w b (view_of s).bookmarked)) (sym is);
+        fetched = λ p. first_moved (λ v. v.fetched) front seat p ∙ ap (total (λ (s : Seat). times p (view_of s).fetched)) (sym is);
+        returned = λ p. first_moved (λ v. v.returned) front seat p ∙ ap (total (λ (s : Seat). times p (view_of s).returned)) (sym is);
+        gone = λ p. first_moved (λ v. v.gone) front seat p ∙ ap (total (λ (s : Seat). times p (view_of s).gone)) (sym is);
+        busy = λ p. first_moved (λ v. v.busy) front seat p ∙ ap (total (λ (s : Seat). times p (view_of s).busy)) (sym is);
         mine = λ j le lt d p has.
             let e : get_or all j d ≡ seat = (let z : j ≡ length front = omega arith in ap (λ (i : ℕ). get_or all i d) z ∙ here d) in
-            (subst (λ (s : Seat). 0 < has_role (seen_by s) (owner k p)) e has, sym (ap (λ (s : Seat). record_of (seen_by s) p) e));
+            (subst (λ (s : Seat). 0 < has_role (view_of s) (owner k p)) e has, sym (ap (λ (s : Seat). record_of (view_of s) p) e));
       }
 
   seat_back : (root : Worker Lodged View) → Gathered id k all (front ++ seat ∷ []) root → ((d : Seat) → get_or all (length front) d ≡ seat) × IsBack id k seat
@@ -100,10 +101,10 @@ module _ (id : TableId) (k : Key) (apart : (r : ℕ) → times r k.roles ≤ 1) 
       let here = both.0 in
       let b = both.1 in
       let v : View = root.me.0 in
-      let w : View = seen_by seat in
+      let w : View = view_of seat in
       let view : new.me.0 ≡ united v w = ap (λ (m : Mine). m.0) me in
       let one_has : (r : ℕ) → has_role v r + has_role w r ≤ 1 = λ r.
-      (let a = g.roles r in let c = total_append (λ (s : Seat). has_role (seen_by s) r) front (seat ∷ []) in let d = apart r in omega arith) in
+      (let a = g.roles r in let c = total_append (λ (s : Seat). has_role (view_of s) r) front (seat ∷ []) in let d = apart r in omega arith) in
       record {
         table = table ∙ g.table;
         about = ap (λ (u : View). u.about) view ∙ g.about;
@@ -113,15 +114,15 @@ module _ (id : TableId) (k : Key) (apart : (r : ℕ) → times r k.roles ≤ 1) 
         tidy = subst IsTidy (sym view) (tidy_united k v w g.tidy b.tidy g.about b.about);
         fewer = omega arith;
         same = λ j lt d. sym (front_of d front seat j lt) ∙ g.same j (omega arith) d;
-        roles = λ r. ap (λ (u : View). times r u.roles + total (λ (s : Seat). has_role (seen_by s) r) front) view ∙ moved (λ u. u.roles) v front seat r _ (g.roles r);
-        recorded = λ p. ap (λ (u : View). times p u.recorded + total (λ (s : Seat). times p (seen_by s).recorded) front) view ∙ moved (λ u. u.recorded) v front seat p _ (g.recorded p);
-        left = λ p. ap (λ (u : View). times p u.left + total (λ (s : Seat). times p (seen_by s).left) front) view ∙ moved (λ u. u.left) v front seat p _ (g.left p);
-        emptied = λ p. ap (λ (u : View). times p u.emptied + total (λ (s : Seat). times p (seen_by s).emptied) front) view ∙ moved (λ u. u.emptied) v front seat p _ (g.emptied p);
-        bookmarked = λ x b. ap (λ (u : View). sets_bit x b u.bookmarked + total (λ (s : Seat). sets_bit x b (seen_by s).bookmarked) front) view ∙ set_moved v front seat x b _ (g.bookmarked x b);
-        fetched = λ p. ap (λ (u : View). times p u.fetched + total (λ (s : Seat). times p (seen_by s).fetched) front) view ∙ moved (λ u. u.fetched) v front seat p _ (g.fetched p);
-        returned = λ p. ap (λ (u : View). times p u.returned + total (λ (s : Seat). times p (seen_by s).returned) front) view ∙ moved (λ u. u.returned) v front seat p _ (g.returned p);
-        gone = λ p. ap (λ (u : View). times p u.gone + total (λ (s : Seat). times p (seen_by s).gone) front) view ∙ moved (λ u. u.gone) v front seat p _ (g.gone p);
-        busy = λ p. ap (λ (u : View). times p u.busy + total (λ (s : Seat). times p (seen_by s).busy) front) view ∙ moved (λ u. u.busy) v front seat p _ (g.busy p);
+        roles = λ r. ap (λ (u : View). times r u.roles + total (λ (s : Seat). has_role (view_of s) r) front) view ∙ moved (λ u. u.roles) v front seat r _ (g.roles r);
+        recorded = λ p. ap (λ (u : View). times p u.recorded + total (λ (s : Seat). times p (view_of s).recorded) front) view ∙ moved (λ u. u.recorded) v front seat p _ (g.recorded p);
+        left = λ p. ap (λ (u : View). times p u.left + total (λ (s : Seat). times p (view_of s).left) front) view ∙ moved (λ u. u.left) v front seat p _ (g.left p);
+        emptied = λ p. ap (λ (u : View). times p u.emptied + total (λ (s : Seat). times p (view_of s).emptied) front) view ∙ moved (λ u. u.emptied) v front seat p _ (g.emptied p);
+        bookmarked = λ x b. ap (λ (u : View). sets_bit x b u.bookmarked + total (λ (s : Seat). sets_bit x b (view_of s).bookmarked) front) view ∙ set_moved v front seat x b _ (g.bookmarked x b);
+        fetched = λ p. ap (λ (u : View). times p u.fetched + total (λ (s : Seat). times p (view_of s).fetched) front) view ∙ moved (λ u. u.fetched) v front seat p _ (g.fetched p);
+        returned = λ p. ap (λ (u : View). times p u.returned + total (λ (s : Seat). times p (view_of s).returned) front) view ∙ moved (λ u. u.returned) v front seat p _ (g.returned p);
+        gone = λ p. ap (λ (u : View). times p u.gone + total (λ (s : Seat). times p (view_of s).gone) front) view ∙ moved (λ u. u.gone) v front seat p _ (g.gone p);
+        busy = λ p. ap (λ (u : View). times p u.busy + total (λ (s : Seat). times p (view_of s).busy) front) view ∙ moved (λ u. u.busy) v front seat p _ (g.busy p);
         mine = λ j le lt d p has.
             let sum = times_append (owner k p) v.roles w.roles in
             let one = one_has (owner k p) in
@@ -130,11 +131,11 @@ module _ (id : TableId) (k : Key) (apart : (r : ℕ) → times r k.roles ≤ 1) 
             elim (cases_eq j (length front)) [
               | inl e ↦
                   let is : get_or all j d ≡ seat = ap (λ (i : ℕ). get_or all i d) e ∙ here d in
-                  let w_has : 0 < has_role w (owner k p) = subst (λ (s : Seat). 0 < has_role (seen_by s) (owner k p)) is has in (
+                  let w_has : 0 < has_role w (owner k p) = subst (λ (s : Seat). 0 < has_role (view_of s) (owner k p)) is has in (
                     omega arith,
                     record_is ∙ look_skips p v.changed w.changed (opened_content v.about p) (entries_none k v p g.tidy g.about (omega arith))
                         ∙ ap (λ (a : Key). look_up p w.changed (opened_content a p)) (g.about ∙ sym b.about)
-                        ∙ sym (ap (λ (s : Seat). record_of (seen_by s) p) is),
+                        ∙ sym (ap (λ (s : Seat). record_of (view_of s) p) is),
                   )
               | inr ne ↦
                   let old = g.mine j (omega arith) lt d p has in

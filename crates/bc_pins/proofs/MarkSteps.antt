@@ -6,6 +6,7 @@ use lib.ListN.{get_elem?}
 use Rattle.std.specs.Int.{bit_at}
 use Rattle.std.proofs.lemmas.Bool.{cases_eq, cases_lt, cases_Bool, eq-eqb, eqb-true, ne_eqb}
 use Rattle.std.proofs.lemmas.Nat.Bits.{bit_at_or}
+use Rattle.std.proofs.lemmas.Option.{same_Some}
 use Rattle.atomic_table.specs.Table.{Allows, step, keeps}
 use Rattle.bc_bits.specs.Bits.{has}
 use Rattle.bc_bits.specs.Counting.{one_if}
@@ -57,11 +58,8 @@ both_are true true n lt = (refl, refl, lt)
 both_are true false n lt = absurd (omega arith)
 both_are false b n lt = absurd (omega arith)
 
-cell_is : (a b : Cell) → Some a ≡ Some b → a ≡ b
-cell_is a b e = cc
-
 object_there : (b : Bool) (c d : Cell) → (if b then Some c else None) ≡ Some d → (b ≡ true) × (c ≡ d)
-object_there true c d e = (refl, cell_is c d e)
+object_there true c d e = (refl, same_Some c d e)
 object_there false c d e = absurd (cc)
 
 abbrev number_of : Word → ℕ

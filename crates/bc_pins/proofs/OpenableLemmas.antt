@@ -1,7 +1,8 @@
 -- A space over which a table may be opened is one as the rule uses it, and a closed table gives back such a one.
-use Rattle.std.proofs.Common.{◌≡◌, ℕ, ◌+◌, ◌*◌, ◌/◌, ◌%◌, ◌<◌, ◌≤◌, ◌&&◌, Bool, true, false, List, length, get_or, slice_index, Some, inl, inr, refl, ap, sym, subst, ◌∙◌, arith}
+use Rattle.std.proofs.Common.{◌≡◌, ℕ, ◌+◌, ◌*◌, ◌/◌, ◌%◌, ◌<◌, ◌≤◌, ◌&&◌, Bool, true, false, List, length, get_or, slice_index, inl, inr, refl, ap, sym, subst, ◌∙◌, arith}
 use Rattle.std.specs.Prelude.{slice_index_or}
 use Rattle.std.proofs.lemmas.Bool.{cases_lt, cases_Bool}
+use Rattle.std.proofs.lemmas.Option.{same_Some}
 use Rattle.bc_memory.specs.Memory.{Cell}
 use Rattle.bc_word.specs.declared.words.Word.{Word}
 use Rattle.bc_word.specs.declared.words.Word.TheVariants.{Nil, Num, Ref}
@@ -20,11 +21,12 @@ use Rattle.bc_superpages.specs.Kept.{IsLayout}
 use Rattle.bc_superpages.proofs.HandLemmas.{allocated-superpage}
 use Rattle.bc_superpages.proofs.MemoryLemmas.{memory_of-cell}
 use Rattle.bc_superpages.proofs.BringLemmas.{allocated-not_absent}
+use Rattle.bc_superpages.proofs.MoveLemmas.{memory-allocated}
 use Rattle.bc_bookmarks.specs.Targets.{RefersTo, has_target_in}
 use Rattle.bc_bookmarks.specs.Summarised.{IsSummarised, gone_in}
 use Rattle.bc_bits.proofs.CountLemmas.{count_below-none}
 use Rattle.bc_bookmarks.proofs.TargetLemmas.{refers-target, in-target}
-use Rattle.bc_bookmarks.proofs.SummaryLemmas.{allocated-by-memory, targets-taken}
+use Rattle.bc_bookmarks.proofs.SummaryLemmas.{targets-taken}
 use Rattle.bc_pins.specs.Key.{Key, pages_of}
 use Rattle.bc_pins.specs.Contents.{field_bits, IsFieldOn, NamesFixed, IsYoung, IsContent, RefersYoung}
 use Rattle.bc_pins.specs.Opening.{IsOpenable, IsReady}
@@ -34,9 +36,6 @@ clash e = cc
 
 home_clash : state.Home ≡ state.Remembered → ⊥
 home_clash e = cc
-
-cell_is : (a b : Cell) → Some a ≡ Some b → a ≡ b
-cell_is a b e = cc
 
 -- what a Gone page of a summarised space refers to is a cell
 gone_names : (s : Layout) (p cell index : ℕ) → IsLayout s → IsSummarised s → p < 4 * superpages s → gone_in s p ≡ true → IsFieldOn s p cell index
@@ -148,8 +147,8 @@ module _ (k : Key) (states : List (List PageState)) (pages bits : List (List ℕ
 
   closed : IsClosed t
   closed a c found i lt =
-      let there = allocated-by-memory t a c found in
-      let same : cell_at pages a ≡ c = cell_is _ _ (sym (memory_of-cell s.classes s.cells pages a there) ∙ found) in
+      let there = memory-allocated t a c found in
+      let same : cell_at pages a ≡ c = same_Some _ _ (sym (memory_of-cell s.classes s.cells pages a there) ∙ found) in
       subst (λ (d : Cell). i < length d.fields → CanName t (slice_index_or d.fields i Nil)) same (field_named a i there) lt
 
   pub still_openable : IsSummarised t → IsOpenable t

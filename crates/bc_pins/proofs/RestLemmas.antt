@@ -43,4 +43,5 @@ pub kept_same : (a b : SpaceParts) → SameParts a b → AreParts a → AreParts
 kept_same a b s k = record {
   kept = rw (s.headers, s.pool, s.nursery, s.boxes, s.places) k.kept;
   ends = rw (s.headers, s.end) k.ends;
+  blank = rw (s.headers, s.end) k.blank;
 }

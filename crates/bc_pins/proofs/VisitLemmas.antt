@@ -13,8 +13,9 @@ use Rattle.bc_superpages.specs.LayoutAt.{IsAllocated, state_at}
 use Rattle.bc_superpages.specs.Kept.{IsLayout}
 use Rattle.bc_superpages.specs.Calls.{new_space, with_page, NoPromiseNamed}
 use Rattle.bc_superpages.proofs.CellLemmas.{is_cell-bit}
+use Rattle.bc_superpages.proofs.MoveLemmas.{memory-allocated}
 use Rattle.bc_bookmarks.specs.Summarised.{gone_in, HasNoBookmarks}
-use Rattle.bc_bookmarks.proofs.SummaryLemmas.{SummarisedOn-none, allocated-by-memory}
+use Rattle.bc_bookmarks.proofs.SummaryLemmas.{SummarisedOn-none}
 use Rattle.bc_bookmarks.proofs.StateLemmas.{gone-put}
 use Rattle.bc_pins.specs.declared.key.Role.{Role}
 use Rattle.bc_pins.specs.declared.pins.Pins.{Pins}
@@ -34,7 +35,7 @@ use Rattle.bc_pins.specs.Steps.{Mine, fresh, both_slots, Takes}
 use Rattle.bc_pins.specs.Opening.{IsOpenable}
 use Rattle.bc_pins.specs.Seating.{IsDealt, AreDealt}
 use Rattle.bc_pins.specs.Calls.{key_of, view_of, IsAt, IsSameSeat, IsFree, HoldsPage, Grasps, MayPut, tried}
-use Rattle.bc_pins.specs.Closing.{seen_by, IsBack, AreBack}
+use Rattle.bc_pins.specs.Closing.{IsBack, AreBack}
 use Rattle.bc_pins.proofs.TotalLemmas.{one_same}
 use Rattle.bc_pins.proofs.TakeLemmas.{some_hand}
 use Rattle.bc_pins.proofs.CallerLemmas.{clash, bare_ready, set_bare, opening_ready}
@@ -157,7 +158,7 @@ at_after pins a b at same = record {
 
 -- a seat that was dealt is at its table, with nothing in hand
 module _ (pins : Pins) (role : Role) (seat : Seat) (d : IsDealt pins.table.shared.table_id (key_of pins) role seat) where
-  dealt_view : seen_by seat ≡ fresh (key_of pins) (role_number role ∷ [])
+  dealt_view : view_of seat ≡ fresh (key_of pins) (role_number role ∷ [])
   dealt_view = ap (λ (m : Mine). m.0) d.me
 
   pub dealt_at : IsAt pins seat
@@ -174,7 +175,7 @@ module _ (pins : Pins) (role : Role) (seat : Seat) (d : IsDealt pins.table.share
   dealt_free = record { hand = ap (λ (v : View). v.hand) dealt_view; slots = ap (λ (m : Mine). m.1) d.me }
 
   -- after calls that left it that seat, it may come back
-  pub visited_back : (new : Seat) → IsSameSeat seat new → IsFree new → (view_of new).rights ≡ (view_of seat).rights → IsTidy (seen_by new)
+  pub visited_back : (new : Seat) → IsSameSeat seat new → IsFree new → (view_of new).rights ≡ (view_of seat).rights → IsTidy (view_of new)
       → IsBack pins.table.shared.table_id (key_of pins) new
   visited_back new same free rights tidy = record {
     table = same.table ∙ d.table;
@@ -185,12 +186,12 @@ module _ (pins : Pins) (role : Role) (seat : Seat) (d : IsDealt pins.table.share
     tidy = tidy;
   }
 
-  pub visited_roles : (new : Seat) → IsSameSeat seat new → (r : ℕ) → has_role (seen_by new) r ≡ times r (role_number role ∷ [])
+  pub visited_roles : (new : Seat) → IsSameSeat seat new → (r : ℕ) → has_role (view_of new) r ≡ times r (role_number role ∷ [])
   visited_roles new same r = ap (times r) (same.roles ∙ ap (λ (v : View). v.roles) dealt_view)
 
 -- the two seats of a table, which come back after their calls
 pub two_back : (id : TableId) (k : Key) (one two : Role) (a b : Seat) → IsBack id k a → IsBack id k b
-    → ((r : ℕ) → has_role (seen_by a) r ≡ times r (role_number one ∷ [])) → ((r : ℕ) → has_role (seen_by b) r ≡ times r (role_number two ∷ []))
+    → ((r : ℕ) → has_role (view_of a) r ≡ times r (role_number one ∷ [])) → ((r : ℕ) → has_role (view_of b) r ≡ times r (role_number two ∷ []))
     → k.roles ≡ map role_number (one ∷ two ∷ []) → AreBack id k (a ∷ b ∷ [])
 two_back id k one two a b back_a back_b roles_a roles_b are = record {
   some = omega arith;
@@ -290,7 +291,7 @@ new_cells n f y q b = set_bare (λ (h : Header). h.cells) n q b refl
 
 -- in a space without cells no promise is named
 pub nothing_named : (s : Layout) → ((q b : ℕ) → has (set_of s.cells q) b ≡ false) → NoPromiseNamed s
-nothing_named s none_has a c found k lt = absurd (no_cell s a none_has (allocated-by-memory s a c found))
+nothing_named s none_has a c found k lt = absurd (no_cell s a none_has (memory-allocated s a c found))
 
 -- a space with the states, bookmarks and counters of a new one
 pub none_like : (n f y : ℕ) (t : Layout) → t.states ≡ (new_space n f y).states → t.bookmarks ≡ (new_space n f y).bookmarks → t.incoming ≡ (new_space n f y).incoming → superpages t ≡ superpages (new_space n f y) → HasNoBookmarks t

@@ -2,7 +2,7 @@
 use Rattle.std.proofs.Common.{◌≡◌, ℕ, ◌<◌, ◌≤◌, ◌≢◌, ◌==◌, ◌&&◌, Bool, true, false, List, ◌∷◌, Option, Some, None, if◌then◌else◌, inl, inr, refl, ap, sym, subst, ◌∙◌, arith}
 use mathlib.Core.Option.{some, some-injective}
 use lib.ListN.{get_elem?}
-use Rattle.std.proofs.lemmas.Bool.{cases_eq, eq-eqb, ne_eqb, eqb-true, and_parts, and_from, lt-ltb, ltb-true}
+use Rattle.std.proofs.lemmas.Bool.{cases_eq, eq-eqb, ne_eqb, eqb-true, and_parts, ltb-true}
 use Rattle.bc_bits.specs.Counting.{one_if}
 use Rattle.bc_pins.specs.declared.views.Hand.{Hand}
 use Rattle.bc_pins.specs.declared.views.View.{View}
@@ -12,7 +12,7 @@ use Rattle.bc_pins.specs.Views.{is_empty_handed, grips, has_role, grips_foreign,
 use Rattle.bc_pins.specs.Facts.{Table, page_word}
 use Rattle.bc_pins.specs.Rule.{Rule}
 use Rattle.bc_pins.specs.Steps.{owns, having_read}
-use Rattle.bc_pins.proofs.TotalLemmas.{total_two, total_less_at, one_same, one_other}
+use Rattle.bc_pins.proofs.TotalLemmas.{total_two, total_less_at, one_other}
 
 -- a page in hand is foreign where its lane is another's
 pub foreign_all : (k : Key) (p : ℕ) (v : View) → has_role v (owner k p) ≡ 0 → grips_foreign k p v ≡ grips p v.hand
@@ -83,9 +83,3 @@ noted_busy k s r p id v near at about more =
     let both = and_parts (owns v p) (is_empty_handed v.hand) all.1 in
     let mine : 0 < has_role v (owner v.about p) = ltb-true 0 _ both.0 in
     held_foreign k s r p id v near at (empty_hand v.hand both.1) (subst (λ (a : Key). 0 < has_role v (owner a p)) about mine) (eqb-true (page_word s p) 3 all.0)
-
-pub read_busy : (v : View) (p : ℕ) → v.hand ≡ None → 0 < has_role v (owner v.about p) → 0 < times p (having_read v p 3).busy
-read_busy v p nothing mine =
-    let on : (owns v p && is_empty_handed v.hand) ≡ true = and_from (owns v p) (is_empty_handed v.hand) (lt-ltb 0 (has_role v (owner v.about p)) mine) (ap is_empty_handed nothing) in
-    let one = one_same p in
-    subst (λ (b : Bool). 0 < times p (if b then p ∷ v.busy else v.busy)) (sym on) (omega arith)

@@ -91,9 +91,9 @@ refusal_word Remembered = 2
 refusal_word Busy = 3
 refusal_word Gone = 4
 
--- the refusal is what the last step on the page's word read; Remembered comes with Victim alone, and what was read as
--- Remembered before is Busy then. Busy is noted where the seat holds the page's domain. No allocated cell lies on a page that is
--- Absent, and one lies on a page that is Gone
+-- the refusal is what the last step on the page's word read; Remembered comes with Victim alone. What was read as Remembered
+-- before is refused as that or as Busy, and what is known to be Gone as Gone. Busy is noted where the seat holds the page's domain.
+-- No allocated cell lies on a page that is Absent, and one lies on a page that is Gone
 pub record IsTakeRefused (v : View) (page : ℕ) (want : Want) (no : TakeNo) (w : View) : Type 0 where
   pub read : (w ≡ having_read v page (refusal_word no)) ⊎ ((want ≡ Work) × (w ≡ having_read (having_read v page 2) page (refusal_word no)))
   pub victim : no ≡ Remembered → want ≡ Victim

@@ -25,24 +25,22 @@ use Rattle.bc_pins.specs.Totals.{total, times}
 use Rattle.bc_pins.specs.Opening.{IsOpenable}
 use Rattle.bc_pins.specs.Tidy.{IsTidy}
 use Rattle.bc_pins.specs.Views.{state_word, opened_word, opened_state, opened_content, has_role, sets_bit, record_of}
-
-abbrev pub seen_by : Seat → View
-seen_by seat = seat.inner.me.0
+use Rattle.bc_pins.specs.Calls.{view_of}
 
 -- a seat of this table with no page and no frame right in hand
 pub record IsBack (id : TableId) (k : Key) (seat : Seat) : Type 0 where
   pub table : seat.inner.table_id ≡ id
-  pub about : (seen_by seat).about ≡ k
-  pub hand : (seen_by seat).hand ≡ None
+  pub about : (view_of seat).about ≡ k
+  pub hand : (view_of seat).hand ≡ None
   pub slots : seat.inner.me.1 ≡ []
-  pub rights : (seen_by seat).rights ≡ []
-  pub tidy : IsTidy (seen_by seat)
+  pub rights : (view_of seat).rights ≡ []
+  pub tidy : IsTidy (view_of seat)
 
 -- all seats of a table: between them they have each role that was given out
 pub record AreBack (id : TableId) (k : Key) (seats : List Seat) : Type 0 where
   pub some : 0 < length seats
   pub each : (j : ℕ) → j < length seats → (d : Seat) → IsBack id k (slice_index_or seats j d)
-  pub roles : (r : ℕ) → total (λ (seat : Seat). has_role (seen_by seat) r) seats ≡ times r k.roles
+  pub roles : (r : ℕ) → total (λ (seat : Seat). has_role (view_of seat) r) seats ≡ times r k.roles
 
 -- a seat into which those from a place on were joined: it has all that they had
 pub record Gathered (id : TableId) (k : Key) (all front : List Seat) (root : Worker Lodged View) : Type 0 where
@@ -54,17 +52,17 @@ pub record Gathered (id : TableId) (k : Key) (all front : List Seat) (root : Wor
   pub tidy : IsTidy root.me.0
   pub fewer : length front ≤ length all
   pub same : (j : ℕ) → j < length front → (d : Seat) → slice_index_or front j d ≡ slice_index_or all j d
-  pub roles : (r : ℕ) → times r root.me.0.roles + total (λ (seat : Seat). has_role (seen_by seat) r) front ≡ times r k.roles
-  pub recorded : (p : ℕ) → times p root.me.0.recorded + total (λ (seat : Seat). times p (seen_by seat).recorded) front ≡ total (λ (seat : Seat). times p (seen_by seat).recorded) all
-  pub left : (p : ℕ) → times p root.me.0.left + total (λ (seat : Seat). times p (seen_by seat).left) front ≡ total (λ (seat : Seat). times p (seen_by seat).left) all
-  pub emptied : (p : ℕ) → times p root.me.0.emptied + total (λ (seat : Seat). times p (seen_by seat).emptied) front ≡ total (λ (seat : Seat). times p (seen_by seat).emptied) all
-  pub bookmarked : (w b : ℕ) → sets_bit w b root.me.0.bookmarked + total (λ (seat : Seat). sets_bit w b (seen_by seat).bookmarked) front ≡ total (λ (seat : Seat). sets_bit w b (seen_by seat).bookmarked) all
-  pub fetched : (p : ℕ) → times p root.me.0.fetched + total (λ (seat : Seat). times p (seen_by seat).fetched) front ≡ total (λ (seat : Seat). times p (seen_by seat).fetched) all
-  pub returned : (p : ℕ) → times p root.me.0.returned + total (λ (seat : Seat). times p (seen_by seat).returned) front ≡ total (λ (seat : Seat). times p (seen_by seat).returned) all
-  pub gone : (p : ℕ) → times p root.me.0.gone + total (λ (seat : Seat). times p (seen_by seat).gone) front ≡ total (λ (seat : Seat). times p (seen_by seat).gone) all
-  pub busy : (p : ℕ) → times p root.me.0.busy + total (λ (seat : Seat). times p (seen_by seat).busy) front ≡ total (λ (seat : Seat). times p (seen_by seat).busy) all
-  pub mine : (j : ℕ) → length front ≤ j → j < length all → (d : Seat) (p : ℕ) → 0 < has_role (seen_by (slice_index_or all j d)) (owner k p)
-      → (0 < has_role root.me.0 (owner k p)) × (record_of root.me.0 p ≡ record_of (seen_by (slice_index_or all j d)) p)
+  pub roles : (r : ℕ) → times r root.me.0.roles + total (λ (seat : Seat). has_role (view_of seat) r) front ≡ times r k.roles
+  pub recorded : (p : ℕ) → times p root.me.0.recorded + total (λ (seat : Seat). times p (view_of seat).recorded) front ≡ total (λ (seat : Seat). times p (view_of seat).recorded) all
+  pub left : (p : ℕ) → times p root.me.0.left + total (λ (seat : Seat). times p (view_of seat).left) front ≡ total (λ (seat : Seat). times p (view_of seat).left) all
+  pub emptied : (p : ℕ) → times p root.me.0.emptied + total (λ (seat : Seat). times p (view_of seat).emptied) front ≡ total (λ (seat : Seat). times p (view_of seat).emptied) all
+  pub bookmarked : (w b : ℕ) → sets_bit w b root.me.0.bookmarked + total (λ (seat : Seat). sets_bit w b (view_of seat).bookmarked) front ≡ total (λ (seat : Seat). sets_bit w b (view_of seat).bookmarked) all
+  pub fetched : (p : ℕ) → times p root.me.0.fetched + total (λ (seat : Seat). times p (view_of seat).fetched) front ≡ total (λ (seat : Seat). times p (view_of seat).fetched) all
+  pub returned : (p : ℕ) → times p root.me.0.returned + total (λ (seat : Seat). times p (view_of seat).returned) front ≡ total (λ (seat : Seat). times p (view_of seat).returned) all
+  pub gone : (p : ℕ) → times p root.me.0.gone + total (λ (seat : Seat). times p (view_of seat).gone) front ≡ total (λ (seat : Seat). times p (view_of seat).gone) all
+  pub busy : (p : ℕ) → times p root.me.0.busy + total (λ (seat : Seat). times p (view_of seat).busy) front ≡ total (λ (seat : Seat). times p (view_of seat).busy) all
+  pub mine : (j : ℕ) → length front ≤ j → j < length all → (d : Seat) (p : ℕ) → 0 < has_role (view_of (slice_index_or all j d)) (owner k p)
+      → (0 < has_role root.me.0 (owner k p)) × (record_of root.me.0 p ≡ record_of (view_of (slice_index_or all j d)) p)
 
 -- how many boxes the seats opened
 abbrev pub opens_of : List Seat → ℕ
@@ -118,28 +116,28 @@ pub record HeadersSet (k : Key) (old new : List Header) (words : List ℕ) : Typ
 -- Absent by the opening and by what the seats made of it. In a mark turn no page became Remembered. A page that its lane read as
 -- Held with nothing in hand was made Gone or Absent, or put back by a seat that isn't that lane's
 pub record ClosedState (k : Key) (seats : List Seat) (st : PageState) (p : ℕ) : Type 0 where
-  pub remembered : 0 < one_if (opened_word k p == 2) + total (λ (seat : Seat). times p (seen_by seat).recorded) seats → st ≡ state.Remembered
+  pub remembered : 0 < one_if (opened_word k p == 2) + total (λ (seat : Seat). times p (view_of seat).recorded) seats → st ≡ state.Remembered
   pub as_opened : k.lanes ≡ false → st ≡ state.Remembered → opened_word k p ≡ 2
-  pub recorded : st ≡ state.Remembered → 0 < one_if (opened_word k p == 2) + total (λ (seat : Seat). times p (seen_by seat).recorded) seats
-  pub gone : one_if (state_word st == 4) + total (λ (seat : Seat). times p (seen_by seat).fetched) seats
-      ≡ one_if (opened_word k p == 4) + total (λ (seat : Seat). times p (seen_by seat).left) seats
-  pub absent : one_if (state_word st == 0) ≡ one_if (opened_word k p == 0) + total (λ (seat : Seat). times p (seen_by seat).emptied) seats
-  pub busy : 0 < total (λ (seat : Seat). times p (seen_by seat).busy) seats
-      → 0 < total (λ (seat : Seat). times p (seen_by seat).left) seats + total (λ (seat : Seat). times p (seen_by seat).emptied) seats + total (λ (seat : Seat). times p (seen_by seat).returned) seats
+  pub recorded : st ≡ state.Remembered → 0 < one_if (opened_word k p == 2) + total (λ (seat : Seat). times p (view_of seat).recorded) seats
+  pub gone : one_if (state_word st == 4) + total (λ (seat : Seat). times p (view_of seat).fetched) seats
+      ≡ one_if (opened_word k p == 4) + total (λ (seat : Seat). times p (view_of seat).left) seats
+  pub absent : one_if (state_word st == 0) ≡ one_if (opened_word k p == 0) + total (λ (seat : Seat). times p (view_of seat).emptied) seats
+  pub busy : 0 < total (λ (seat : Seat). times p (view_of seat).busy) seats
+      → 0 < total (λ (seat : Seat). times p (view_of seat).left) seats + total (λ (seat : Seat). times p (view_of seat).emptied) seats + total (λ (seat : Seat). times p (view_of seat).returned) seats
 
 -- bit b of a bookmark word is that of a target of a page that a seat made Gone
 pub record IsOfPageLeft (k : Key) (seats : List Seat) (s : Layout) (w b : ℕ) : Type 0 where
   pub page : ℕ
   pub inside : page < pages_of k
-  pub left : 0 < total (λ (seat : Seat). times page (seen_by seat).left) seats
+  pub left : 0 < total (λ (seat : Seat). times page (view_of seat).left) seats
   pub gone : state_at s.states page ≡ state.Gone
   pub bit : IsBitOfTarget k page (content_at s.pages page) w b
 
 -- a bookmark bit once the table is closed, by its word, of which each superpage has sixteen, and its place there
 pub record ClosedBit (k : Key) (seats : List Seat) (s : Layout) (w b : ℕ) : Type 0 where
-  pub kept : 0 < opened_bit k w b + total (λ (seat : Seat). sets_bit w b (seen_by seat).bookmarked) seats → has (set_of s.bookmarks (w / 16)) (64 * (w % 16) + b) ≡ true
+  pub kept : 0 < opened_bit k w b + total (λ (seat : Seat). sets_bit w b (view_of seat).bookmarked) seats → has (set_of s.bookmarks (w / 16)) (64 * (w % 16) + b) ≡ true
   pub new : has (set_of s.bookmarks (w / 16)) (64 * (w % 16) + b) ≡ true → opened_bit k w b ≡ 0 → IsOfPageLeft k seats s w b
-  pub only : has (set_of s.bookmarks (w / 16)) (64 * (w % 16) + b) ≡ true → 0 < opened_bit k w b + total (λ (seat : Seat). sets_bit w b (seen_by seat).bookmarked) seats
+  pub only : has (set_of s.bookmarks (w / 16)) (64 * (w % 16) + b) ≡ true → 0 < opened_bit k w b + total (λ (seat : Seat). sets_bit w b (view_of seat).bookmarked) seats
 
 -- the space that a closed table gives back: as it was opened, but for the states of pages, their contents, bookmarks and
 -- counters, the free frames and the reads. Each page has the content that its lane's seat records, or else the opening's. A bookmark bit is
@@ -148,12 +146,12 @@ pub record ClosedBit (k : Key) (seats : List Seat) (s : Layout) (w b : ℕ) : Ty
 pub record Closed (k : Key) (seats : List Seat) (s : Layout) : Type 0 where
   pub same : s ≡ record k.opening { states = s.states; pages = s.pages; bookmarks = s.bookmarks; incoming = s.incoming; free = s.free; reads = s.reads }
   pub reads : s.reads ≡ min (k.opening.reads + opens_of seats) (2 ^ 64 - 1)
-  pub mine : (j : ℕ) → j < length seats → (d : Seat) (p : ℕ) → p < pages_of k → 0 < has_role (seen_by (slice_index_or seats j d)) (owner k p)
-      → content_at s.pages p ≡ record_of (seen_by (slice_index_or seats j d)) p
+  pub mine : (j : ℕ) → j < length seats → (d : Seat) (p : ℕ) → p < pages_of k → 0 < has_role (view_of (slice_index_or seats j d)) (owner k p)
+      → content_at s.pages p ≡ record_of (view_of (slice_index_or seats j d)) p
   pub unowned : (p : ℕ) → p < pages_of k → times (owner k p) k.roles ≡ 0 → content_at s.pages p ≡ opened_content k p
   pub behind : (p : ℕ) → pages_of k ≤ p → p < 4 * superpages k.opening → (state_at s.states p ≡ opened_state k p) × (content_at s.pages p ≡ opened_content k p)
   pub states_are : (p : ℕ) → p < pages_of k → ClosedState k seats (state_at s.states p) p
-  pub read_gone : (j : ℕ) → j < length seats → (d : Seat) (p : ℕ) → 0 < times p (seen_by (slice_index_or seats j d)).gone → state_at s.states p ≡ state.Gone
+  pub read_gone : (j : ℕ) → j < length seats → (d : Seat) (p : ℕ) → 0 < times p (view_of (slice_index_or seats j d)).gone → state_at s.states p ≡ state.Gone
   pub bits : (w b : ℕ) → w < 16 * k.supers → b < 64 → ClosedBit k seats s w b
   pub bits_behind : (q : ℕ) → k.supers ≤ q → set_of s.bookmarks q ≡ set_of k.opening.bookmarks q
   pub fixed : (p : ℕ) → p < pages_of k → IsContent k.opening p (content_at s.pages p)

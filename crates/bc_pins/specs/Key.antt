@@ -46,9 +46,9 @@ pages_of k = 4 * k.supers
 abbrev pub owner : Key → ℕ → ℕ
 owner k page = slice_index k.owners (slice_index k.opening.domains (page / 4))
 
--- Where the words lie: first a word for each page, then by superpage its counter, then its sixteen bookmark words, then
--- the frame words, then the next notice. A mark turn has besides by superpage sixteen mark words, then sixteen finished
--- words, then the queue words.
+-- Where the words lie: first sixteen words for each superpage, of which its pages have the first four, then by superpage its
+-- counter, then its sixteen bookmark words, then the frame words, then the next notice. A mark turn has besides by superpage
+-- sixteen mark words, then sixteen finished words, then the queue words.
 -- The words of a superpage's four pages stand together, and twelve that nobody uses stand behind them. So no two superpages have
 -- words of pages in one cache line of eight words, wherever the list begins, and the next one's are two lines away, since a
 -- processor may fetch lines in pairs

@@ -30,6 +30,7 @@ pub record Opened (space : Layout) (turn : Turn) (holders : List ℕ) (roles : L
 pub record IsKeyOf (parts : SpaceParts) (supers : ℕ) (turn : Turn) (holders : List ℕ) (roles : List Role) (k : Key) : Type 0 where
   pub kept : AreParts parts
   pub within : supers ≤ length parts.headers.items
+  pub near : 4 * supers < parts.end + 4
   pub behind : (p : ℕ) → 4 * supers ≤ p → state_in parts.headers.items p ≡ Absent
   pub absent : (p : ℕ) → 4 * supers ≤ p → state_at k.opening.states p ≡ Absent
   pub layout : parts_layout parts ≡ k.opening

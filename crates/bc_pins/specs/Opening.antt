@@ -101,10 +101,11 @@ pub record Emptied (whole parts : SpaceParts) (pages : ℕ) : Type 0 where
   pub boxes : Replaced None whole.boxes.items parts.boxes.items pages (λ p. None)
   pub places : Replaced None whole.store.places parts.store.places pages (λ p. None)
 
--- what is left of a space's parts while its first pages are in a table. The other pages are Absent
+-- what is left of a space's parts while its first pages are in a table: those of the superpages up to the end. The other pages are Absent
 pub record IsRest (whole parts : SpaceParts) (pages : ℕ) : Type 0 where
   pub kept : AreParts whole
   pub within : pages ≤ 4 * length whole.headers.items
+  pub near : pages < whole.end + 4
   pub behind : (p : ℕ) → pages ≤ p → state_in whole.headers.items p ≡ state.Absent
   pub emptied : Emptied whole parts pages
 

@@ -1,5 +1,5 @@
 -- What one view says: what it has in hand, which content it records of a page, which roles it has.
-use Rattle.std.specs.Prelude.{ℕ, ◌+◌, ◌==◌, ◌&&◌, ◌<◌, Bool, true, false, if◌then◌else◌, List, [], ◌∷◌, Option, Some, None}
+use Rattle.std.specs.Prelude.{ℕ, ◌+◌, ◌==◌, ◌&&◌, Bool, if◌then◌else◌, List, [], ◌∷◌, true, false, Option, Some, None}
 use Rattle.std.specs.Int.{bit_at}
 use Rattle.bc_bits.specs.Counting.{one_if}
 use Rattle.bc_superpages.specs.declared.headers.PageState.{PageState}
@@ -52,10 +52,6 @@ has_role v role = times role v.roles
 abbrev pub is_empty_handed : Option Hand → Bool
 is_empty_handed None = true
 is_empty_handed (Some h) = false
-
--- is the view that of the lane which holds the page's domain?
-abbrev pub Owns : Key → View → ℕ → Type 0
-Owns k v page = 0 < has_role v (owner k page)
 
 -- how often the view has the page in hand where it isn't that of this lane; and how often it keeps, or kept, the page from the
 -- lane: it has it in hand so, put it back so, or made it Gone or Absent

@@ -1,10 +1,10 @@
 //! Closing a table.
 
-ghost use Rattle.std.specs.Prelude.{◌≡◌};
 ghost use Rattle.bc_pins.specs.Calls.{key_of};
 ghost use Rattle.bc_pins.specs.Closing.{AreBack, Closed};
 
 use crate::gathering::{drain, give_frames, set_states, set_summaries, unite_all};
+use crate::key::frame_entry;
 use crate::pins::{Pins, Seat};
 use crate::rest::{Rest, put_boxes_back};
 use bc_superpages::Space;
@@ -33,7 +33,7 @@ impl Pins {
         drain(&mut closed, &mut slots);
         set_states(&mut parts.headers, &closed, pages);
         set_summaries(&mut parts.headers, &closed, superpages);
-        give_frames(&mut parts.pool, &closed, 33 * superpages);
+        give_frames(&mut parts.pool, &closed, frame_entry(0, superpages));
         closed.free();
         put_boxes_back(&mut parts, pages, slots);
         Space::close_up(parts)

@@ -1,13 +1,13 @@
 //! The words of a table at its opening.
 
-ghost use Rattle.std.specs.Prelude.{◌≡◌, ℕ, ◌+◌, ◌*◌, ◌/◌, ◌%◌, ◌^◌, ◌<◌, ◌≤◌, if◌then◌else◌, nat_lt, [], length, slice_index, slice_index_or, vec_capacity};
+ghost use Rattle.std.specs.Prelude.{◌≡◌, ◌+◌, ◌*◌, ◌/◌, ◌%◌, ◌^◌, ◌<◌, ◌≤◌, if◌then◌else◌, nat_lt, [], length, slice_index, slice_index_or, vec_capacity};
 ghost use Rattle.bc_superpages.specs.Headers.{unused_header};
 ghost use Rattle.bc_superpages.specs.declared.headers.PageState.TheVariants.{Absent};
 ghost use Rattle.bc_pins.specs.Views.{state_word};
 ghost use Rattle.bc_pins.specs.Key.{Key, table_words};
 ghost use Rattle.bc_pins.specs.Filling.{Extends, AddsFrames, AddsStates, IsSized, IsFilled, HasMarkWords, set_in};
 
-use crate::key::Turn;
+use crate::key::{Turn, frame_entry};
 use bc_frames::FramePool;
 use bc_superpages::{Header, PageState};
 
@@ -122,7 +122,7 @@ pub(crate) fn word_count(superpages: usize, frames: usize, turn: Turn) -> usize
     requires { (superpages ≤ 4096) × (frames < 2 ^ 32) }
     ensures { result ≡ table_words superpages frames turn }
 {
-    let lanes = 33 * superpages + (frames + 63) / 64 + 1;
+    let lanes = frame_entry((frames + 63) / 64, superpages) + 1;
     match turn {
         Turn::Lanes => lanes,
         Turn::Mark => lanes + (32 * superpages + (4 * superpages + 63) / 64),

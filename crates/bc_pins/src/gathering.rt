@@ -9,7 +9,7 @@ ghost use Rattle.bc_pins.specs.Totals.{times};
 ghost use Rattle.bc_pins.specs.Views.{state_word};
 ghost use Rattle.bc_pins.specs.Closing.{AreBack, Gathered, StatesSet, SummarySet, SummariesSet, PoolSet, opens_of};
 
-use crate::key::{About, page_entry};
+use crate::key::{About, bookmark_entry, counter_entry, page_entry};
 use crate::pins::Seat;
 use crate::rule::{TurnRule, Unite};
 use crate::views::{Lodged, View};
@@ -109,9 +109,9 @@ fn set_summary(
     requires sixteen { IsCellSet header.old.bookmarks }
     ensures set { SummarySet header.old header.new superpage superpages (slots_items closed.now.words) 16 }
 {
-    header.incoming = closed.word(16 * superpages + superpage);
+    header.incoming = closed.word(counter_entry(superpage, superpages));
     for word in 0..16 {
-        header.bookmarks[word] = closed.word(17 * superpages + (16 * superpage + word));
+        header.bookmarks[word] = closed.word(bookmark_entry(16 * superpage + word, superpages));
     }
 }
 

@@ -1,7 +1,7 @@
 //! What a table is told once, when it is made.
 
-ghost use Rattle.std.specs.Prelude.{◌≡◌, ◌<◌, ◌^◌};
-ghost use Rattle.bc_pins.specs.Key.{page_at};
+ghost use Rattle.std.specs.Prelude.{◌≡◌, ◌+◌, ◌*◌, ◌<◌, ◌^◌};
+ghost use Rattle.bc_pins.specs.Key.{page_at, home_slot};
 
 use bc_frames::{Frame, FramePool};
 use bc_superpages::Space;
@@ -50,6 +50,46 @@ pub(crate) fn page_entry(page: usize) -> usize
     ensures { result ≡ page_at page }
 {
     16 * (page / 4) + page % 4
+}
+
+/// Where a superpage's counter lies among the words of a table of so many superpages.
+pub(crate) fn counter_entry(superpage: usize, superpages: usize) -> usize
+    requires { (superpage < 2 ^ 32) × (superpages < 2 ^ 32) }
+    ensures { result ≡ 16 * superpages + superpage }
+{
+    16 * superpages + superpage
+}
+
+/// Where a bookmark word lies among the words of a table of so many superpages, each of which has sixteen.
+pub(crate) fn bookmark_entry(word: usize, superpages: usize) -> usize
+    requires { (word < 2 ^ 32) × (superpages < 2 ^ 32) }
+    ensures { result ≡ 17 * superpages + word }
+{
+    17 * superpages + word
+}
+
+/// Where a word of frames lies among the words of a table of so many superpages.
+pub(crate) fn frame_entry(word: usize, superpages: usize) -> usize
+    requires { (word < 2 ^ 32) × (superpages < 2 ^ 32) }
+    ensures { result ≡ 33 * superpages + word }
+{
+    33 * superpages + word
+}
+
+/// Where the slot for a page's frame lies among the slots of a table; the one for its place in the store is four behind.
+pub(crate) fn home_entry(page: usize) -> usize
+    requires { page < 2 ^ 32 }
+    ensures { result ≡ home_slot page }
+{
+    8 * (page / 4) + page % 4
+}
+
+/// Where the slot for a page's place in the store lies among the slots of a table.
+pub(crate) fn store_entry(page: usize) -> usize
+    requires { page < 2 ^ 32 }
+    ensures { result ≡ home_slot page + 4 }
+{
+    home_entry(page) + 4
 }
 
 impl Model for About {

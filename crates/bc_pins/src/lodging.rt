@@ -6,6 +6,7 @@ ghost use Rattle.bc_pins.specs.declared.views.Lodged.TheVariants.{Nothing};
 ghost use Rattle.bc_pins.specs.Key.{home_slot};
 ghost use Rattle.bc_pins.specs.Lodging.{Replaced, AreOut, LiesOnce, home_of, away_of, box_of, place_of};
 
+use crate::key::{home_entry, store_entry};
 use crate::views::Lodged;
 use bc_frames::Store;
 use bc_superpages::Homed;
@@ -105,9 +106,9 @@ pub(crate) fn put_all_back(
     ensures places { Replaced None store.old.places store.new.places pages (λ p. place_of (slice_index_or slots.entry.items (home_slot p + 4) Nothing)) }
 {
     for page in 0..pages {
-        let slot = 8 * (page / 4) + page % 4;
+        let slot = home_entry(page);
         let frame = mem::replace(&mut slots[slot], Lodged::Nothing);
-        let away = mem::replace(&mut slots[slot + 4], Lodged::Nothing);
+        let away = mem::replace(&mut slots[store_entry(page)], Lodged::Nothing);
         put_back(boxes, store, page, frame, away);
     }
 }

@@ -1,10 +1,7 @@
 //! Opening a table.
 
-ghost use Rattle.std.specs.Prelude.{◌≡◌, ℕ, ◌+◌, ◌*◌, ◌^◌, ◌<◌, ◌≤◌, false, [], length, map, slice_index_or, vec_capacity, IfOk, IfErr};
-ghost use Rattle.bc_superpages.specs.declared.headers.PageState.TheVariants.{Absent};
-ghost use Rattle.bc_superpages.specs.LayoutAt.{state_at};
-ghost use Rattle.bc_superpages.specs.Parts.{AreParts, parts_layout, state_in};
-ghost use Rattle.bc_pins.specs.Key.{Key, pages_of, table_words, is_lanes, lane_role, role_number};
+ghost use Rattle.std.specs.Prelude.{◌≡◌, ℕ, ◌+◌, ◌*◌, ◌<◌, ◌≤◌, false, [], length, map, vec_capacity, IfOk, IfErr};
+ghost use Rattle.bc_pins.specs.Key.{table_words, is_lanes, role_number};
 ghost use Rattle.bc_pins.specs.Totals.{times};
 ghost use Rattle.bc_pins.specs.Opening.{IsOpenable, key_for};
 ghost use Rattle.bc_pins.specs.Opened.{IsKeyOf, Opened};

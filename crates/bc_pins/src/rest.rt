@@ -1,7 +1,7 @@
 //! What is left of a space's parts while its pages are in a table.
 
 ghost use Rattle.std.specs.Prelude.{◌≡◌, ℕ, ◌+◌, ◌*◌, ◌%◌, ◌^◌, ◌<◌, ◌≤◌, [], None, length, slice_index_or, vec_capacity};
-ghost use Rattle.bc_superpages.specs.Parts.{AreParts, parts_layout};
+ghost use Rattle.bc_superpages.specs.Parts.{AreParts};
 ghost use Rattle.bc_frames.specs.Places.{place_at};
 ghost use Rattle.bc_pins.specs.declared.views.Lodged.TheVariants.{Nothing};
 ghost use Rattle.bc_pins.specs.Key.{home_slot};

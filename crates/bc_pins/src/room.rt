@@ -1,10 +1,8 @@
 //! The memory that a table takes, and the seats that are dealt.
 
-ghost use Rattle.std.specs.Prelude.{◌≡◌, ℕ, ◌+◌, ◌<◌, ◌≤◌, true, [], ◌∷◌, length, map, drop, slice_get, slice_index_or, Some, IfOk, vec_capacity};
+ghost use Rattle.std.specs.Prelude.{◌≡◌, ◌<◌, ◌≤◌, [], length, slice_index_or, IfOk, vec_capacity};
 ghost use Rattle.bc_pins.specs.declared.key.Role.TheVariants.{Lane};
-ghost use Rattle.bc_pins.specs.Key.{role_number};
 ghost use Rattle.bc_pins.specs.Tidy.{IsTidy};
-ghost use Rattle.bc_pins.specs.Steps.{fresh};
 ghost use Rattle.bc_pins.specs.Seating.{AreDealt, IsRoot};
 
 use crate::key::{About, Role};

@@ -1,14 +1,14 @@
 //! Taking a page and putting it back.
 
-ghost use Rattle.std.specs.Prelude.{◌≡◌, ◌≢◌, ℕ, ◌<◌, ◌≤◌, ◌==◌, true, false, IfOk, IfErr};
+ghost use Rattle.std.specs.Prelude.{◌≡◌, ◌≢◌, ◌<◌, ◌≤◌, ◌==◌, true, IfOk, IfErr};
 ghost use Rattle.bc_pins.specs.Key.{pages_of};
 ghost use Rattle.bc_pins.specs.Views.{state_word, home_word};
-ghost use Rattle.bc_pins.specs.Steps.{having_read, gripping, ReadsWord, Takes};
+ghost use Rattle.bc_pins.specs.Steps.{having_read, ReadsWord, Takes};
 ghost use Rattle.bc_pins.specs.declared.taking.TakeNo.TheVariants.{Busy};
-ghost use Rattle.bc_pins.specs.Calls.{key_of, view_of, IsAt, IsSameSeat, IsFree, HoldsPage, Grasps, MayWork, MayPut, tried, refusal_word, IsPlainVictim, IsTakeRefused, WasSeen, put_back};
+ghost use Rattle.bc_pins.specs.Calls.{key_of, view_of, IsAt, IsSameSeat, IsFree, HoldsPage, Grasps, MayWork, MayPut, tried, IsPlainVictim, IsTakeRefused, WasSeen, put_back};
 
 use crate::holding::Held;
-use crate::key::page_entry;
+use crate::key::{home_entry, page_entry};
 use crate::pins::{Pins, Seat};
 use crate::rule::{Look, Release, Take};
 use crate::views::Lodged;
@@ -99,7 +99,7 @@ impl Pins {
             × ReadsWord (view_of seat.old) page found) }
     {
         let words = &self.table.shared;
-        let slot = 8 * (page as usize / 4) + page as usize % 4;
+        let slot = home_entry(page as usize);
         let found = words.compare_exchange::<Take>(
             &mut seat.inner,
             page_entry(page as usize),
@@ -134,7 +134,7 @@ impl Pins {
             homed,
         } = held;
         let words = &self.table.shared;
-        let slot = 8 * (page as usize / 4) + page as usize % 4;
+        let slot = home_entry(page as usize);
         words.exchange(&mut seat.inner, slot, Lodged::Home(homed));
         words.store::<Release>(
             &mut seat.inner,

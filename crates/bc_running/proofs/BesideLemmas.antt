@@ -1,5 +1,5 @@
 -- Lanes that ran side by side: the heap that each of them leaves is running and stands for a state, and has the sizes that it had.
-use Rattle.std.proofs.Common.{◌≡◌, ◌⊎◌, ℕ, ◌+◌, ◌<◌, ◌≤◌, inl, inr, List, [], ◌∷◌, length, get_or, set, vec_capacity, drop, take, Result, Ok, Err, OnOk, OnErr, refl, sym, ap, subst, ◌∙◌, arith}
+use Rattle.std.proofs.Common.{◌≡◌, ℕ, ◌+◌, ◌<◌, ◌≤◌, inl, inr, List, [], ◌∷◌, length, get_or, set, vec_capacity, drop, take, Result, Ok, Err, OnOk, OnErr, refl, sym, ap, subst, ◌∙◌, arith}
 use Prim.Native.Nat.{zero, suc}
 use Rattle.std.proofs.lemmas.Bool.{cases_eq}
 use Rattle.std.proofs.lemmas.List.{get_or-set_same, get_or-set_other, length-set, set-get_or, set-set}
@@ -15,29 +15,20 @@ use Rattle.bc_mutator.specs.Objects.{own_chunk}
 use Rattle.bc_mutator.proofs.NewLemmas.{none-later}
 use Rattle.bc_nursery.specs.Entries.{Entries}
 use Rattle.bc_nursery.specs.Nurseries.{Nursery}
-use Rattle.bc_nursery.specs.Survivors.{entry_at}
 use Rattle.bc_promotion.proofs.ListingLemmas.{words_in-same}
-use Rattle.bc_bookmarks.specs.Summarised.{IsSummarised}
-use Rattle.bc_reach.specs.Distinct.{Has}
-use Rattle.bc_superpages.specs.declared.headers.PageState.{PageState}
-use Rattle.bc_superpages.specs.declared.headers.PageState.TheVariants.{Remembered}
 use Rattle.bc_superpages.specs.Layout.{Layout}
-use Rattle.bc_superpages.specs.LayoutAt.{IsAllocated, state_at}
 use Rattle.bc_superpages.specs.RootWords.{RootWords}
 use Rattle.bc_turn.specs.Beside.{IsLaidBack, RanBeside}
-use Rattle.bc_whole_heap.specs.Closed.{buffer_of, no_buffer, IsClosedHeap}
-use Rattle.bc_whole_heap.specs.HeapFacts.{HasTwoFrames, view_of}
+use Rattle.bc_whole_heap.specs.Closed.{buffer_of, no_buffer}
+use Rattle.bc_whole_heap.specs.HeapFacts.{HasTwoFrames}
 use Rattle.bc_whole_heap.specs.Heaps.{HeapView, no_chunk}
 use Rattle.bc_whole_heap.specs.LaneChunks.{chunk_of}
 use Rattle.bc_whole_heap.specs.LaneStates.{StandsAs}
 use Rattle.bc_whole_heap.specs.Running.{IsRunning}
-use Rattle.bc_word.specs.Addresses.{page_of}
-use Rattle.bc_word.specs.declared.addresses.Address.{Address}
-use Rattle.bc_word.specs.declared.words.Word.TheVariants.{Ref}
-use Rattle.bc_word.specs.Words.{word_of_bits}
 use Rattle.bc_running.specs.Running.{RunningView}
 use Rattle.bc_running.specs.RunningFacts.{IsSound, running_of}
 use Rattle.bc_running.proofs.FirstLists.{with_first, with_first-all, with_first-long, with_first-more, with_first-past}
+use Rattle.bc_turn.proofs.BackLemmas.{lies-back-running, lies-back-stands}
 
 -- lanes can run on the heap, and it stands for a state in which each lane has its number of births
 pub record IsInOrder (h : HeapView) (hs serials : List ℕ) : Type 0 where
@@ -121,72 +112,10 @@ order-did hs lane (op ∷ ops) (reply ∷ replies) {h} {k} serials next within o
     subst (λ (ns : List ℕ). IsInOrder k hs ns) (set-set serials lane n next)
     (order-did hs lane ops replies later next (omega (arith, within, length-set serials lane n)) mid rest)
 
--- a heap that was laid back: what is Remembered is so still, and what refers to a chunk is noted
-closed-laid : (s : Layout) (states : List (List PageState)) (free : ℕ) (bits : List (List ℕ)) (counters : List ℕ) (reads : ℕ) (r : RootWords) (noted : List ℕ) (cs : List Nursery) (bs : List Entries) (hs : List ℕ) → ((p : ℕ) → state_at s.states p ≡ Remembered → state_at states p ≡ Remembered)
-    → ((i : ℕ) → (a : Address) → i < length r.words → word_of_bits (get_or r.words i 0) ≡ Ref a → IsAllocated s a.0 ⊎ Has noted i)
-    → IsClosedHeap (view_of s r cs bs) hs → IsClosedHeap (view_of (record s { states = states; free = free; bookmarks = bits; incoming = counters; reads = reads }) (record r { noted = noted }) cs bs) hs
-closed-laid s states free bits counters reads r noted cs bs hs still written c = record {
-  lanes = c.lanes;
-  domains = c.domains;
-  holder = c.holder;
-  root = c.root;
-  noted = written;
-  young_domain = c.young_domain;
-  young = c.young;
-  mature_domain = c.mature_domain;
-  mature = c.mature;
-  entries = λ l i lt less.
-      let e = c.entries l i lt less in
-      record { object = e.object; there = e.there; field = e.field; held = e.held; remembered = still (page_of (entry_at (buffer_of bs l) i).0.0) e.remembered };
-}
-
--- that heap, made of the one before
-abbrev laid_heap : HeapView → HeapView → HeapView
-laid_heap h k = view_of
-    (record h.space { states = k.space.states; free = k.space.free; bookmarks = k.space.bookmarks; incoming = k.space.incoming; reads = k.space.reads })
-    (record h.roots { noted = k.roots.noted }) h.chunks h.buffers
-
-laid-is : (h k : HeapView) → IsLaidBack h k → k ≡ laid_heap h k
-laid-is h k laid =
-    let space = laid.pages.same in
-    let roots = laid.roots in
-    let chunks = laid.chunks in
-    let buffers = laid.buffers in
-    λ i. record { space = space i; roots = roots i; chunks = chunks i; buffers = buffers i }
-
-pub laid-running : (h k : HeapView) (hs : List ℕ) → IsLaidBack h k → IsRunning h hs → IsRunning k hs
-laid-running h k hs laid run =
-    let same = laid.pages.same in
-    let words : k.roots.words ≡ h.roots.words = ap (λ (r : RootWords). r.words) laid.roots in
-    subst (λ (x : HeapView). IsRunning x hs) (sym (laid-is h k laid)) (record {
-      summarised = subst IsSummarised same laid.pages.summarised;
-      none_promised = run.none_promised;
-      laid = run.laid;
-      once = run.once;
-      closed = closed-laid h.space k.space.states k.space.free k.space.bookmarks k.space.incoming k.space.reads h.roots k.roots.noted h.chunks h.buffers hs (λ p. (laid.pages.remembered p).0)
-          (λ i a lt to.
-          subst (λ (s : Layout). IsAllocated s a.0 ⊎ Has k.roots.noted i) same
-          (laid.noted i a (omega (arith, lt, ap length words)) (ap (λ (ws : List ℕ). word_of_bits (get_or ws i 0)) words ∙ to)))
-          run.closed;
-    })
-
-pub laid-stands : (h k : HeapView) (hs serials : List ℕ) (state : State) → IsLaidBack h k → StandsAs h hs serials state → StandsAs k hs serials state
-laid-stands h k hs serials state laid stands =
-    subst (λ (x : HeapView). StandsAs x hs serials state) (sym (laid-is h k laid)) (record {
-      consistent = stands.consistent;
-      stands = stands.stands;
-      born = stands.born;
-      held = stands.held;
-      births = stands.births;
-      domains = stands.domains;
-      slots = stands.slots;
-      lanes = stands.lanes;
-    })
-
 pub order-laid : (h k : HeapView) (hs serials : List ℕ) → IsLaidBack h k → IsInOrder h hs serials → IsInOrder k hs serials
 order-laid h k hs serials laid order = record {
-  running = laid-running h k hs laid order.running;
-  meant = (order.meant.0, laid-stands h k hs serials order.meant.0 laid order.meant.1);
+  running = lies-back-running h k hs laid order.running;
+  meant = (order.meant.0, lies-back-stands h k hs serials order.meant.0 laid order.meant.1);
 }
 
 pub sizes-laid : (h k : HeapView) → IsLaidBack h k → KeepsSizesOf h k

@@ -12,7 +12,7 @@ use Rattle.bc_model.specs.declared.values.Slot.{Slot}
 use Rattle.bc_mutator.specs.Objects.{AreWhole, slot_word}
 use Rattle.bc_mutator.specs.Operations.{IsOpOf, WantsMore, setup_of}
 use Rattle.bc_mutator.specs.Parts.{touched_slot}
-use Rattle.bc_mutator.proofs.ObjectLemmas.{LieBehind-laid, allocated-below, there-below}
+use Rattle.bc_mutator.proofs.ObjectLemmas.{LieBehind-laid, there-below, one_address}
 use Rattle.bc_nursery.specs.Entries.{Entries}
 use Rattle.bc_nursery.specs.Nurseries.{Nursery}
 use Rattle.bc_superpages.specs.declared.headers.PageState.TheVariants.{Gone}
@@ -26,9 +26,9 @@ use Rattle.bc_whole_heap.specs.LaneChunks.{chunk_of}
 use Rattle.bc_whole_heap.specs.Heaps.{end_of}
 use Rattle.bc_whole_heap.specs.HeapFacts.{NoneRemembered, view_of}
 use Rattle.bc_whole_heap.specs.Running.{IsRunning}
+use Rattle.bc_whole_heap.proofs.HeapLemmas.{allocated-below}
 use Rattle.bc_word.specs.Addresses.{page_of}
 use Rattle.bc_word.specs.declared.addresses.Address.{Address}
-use Rattle.bc_word.specs.declared.words.Word.TheVariants.{Ref}
 use Rattle.bc_running.specs.Running.{RunningView}
 use Rattle.bc_running.specs.RunningFacts.{IsSound}
 use Rattle.bc_running.specs.Touching.{BringsHome, IsHere, IsTouching, LeadsToPage, LooksAtGone, TouchesHere}
@@ -97,11 +97,8 @@ looks-at (Same p q) fits h leads = absurd leads
 same_page : {hs : List ℕ} {lane : ℕ} {s : Layout} {r : RootWords} {op : Op} {page : ℕ} → LeadsToPage r (touched_slot op) page → (looks : LooksAtGone hs lane s r op) → page_of looks.at.0 ≡ page
 same_page {hs} {lane} {s} {r} {op} {page} leads looks =
     let there : LeadsToPage r (Some looks.slot) page = subst (λ (x : Option Slot). LeadsToPage r x page) looks.touched leads in
-    let same : looks.at ≡ there.0 = one_place looks.at there.0 (sym looks.to ∙ there.1) in
+    let same : looks.at ≡ there.0 = one_address looks.at there.0 (sym looks.to ∙ there.1) in
     ap (λ (x : Address). page_of x.0) same ∙ there.2
-  where
-    one_place : (x y : Address) → Ref x ≡ Ref y → x ≡ y
-    one_place x y e = cc
 
 -- what is found of a page that is Gone to which the operation's slot leads
 pub record FindsGone (hs : List ℕ) (lane : ℕ) (s : Layout) (r : RootWords) (op : Op) (page : ℕ) : Type 0 where

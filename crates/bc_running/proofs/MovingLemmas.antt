@@ -32,11 +32,11 @@ use Rattle.bc_whole_heap.specs.HeapFacts.{HasTwoFrames}
 use Rattle.bc_whole_heap.proofs.MovingLemmas.{memory-moved, running-moved}
 use Rattle.bc_word.specs.Addresses.{page_of}
 use Rattle.bc_word.specs.declared.addresses.Address.{Address}
-use Rattle.bc_word.specs.declared.words.Word.TheVariants.{Ref}
 use Rattle.bc_running.specs.Running.{RunningView}
 use Rattle.bc_running.specs.RunningFacts.{IsSound, StaysBut, with_space}
 use Rattle.bc_running.specs.Serving.{GivesUpFor, GivesUpFirst}
 use Rattle.bc_running.specs.Touching.{IsTouching, LeadsToPage, TouchesHere}
+use Rattle.bc_mutator.proofs.ObjectLemmas.{one_address}
 
 later-moved : {s t : Layout} (cs : List Nursery) (lane serial : ℕ) → MovesPages s t → NoneLater s cs lane serial → NoneLater t cs lane serial
 later-moved cs lane serial moves none a b there = none a b (subst (λ (m : Memory). births m a ≡ Some b) (memory-moved cs moves) there)
@@ -118,13 +118,10 @@ needs-kept {s} {t} hs lane r c b op moves needs =
     subst (λ (x : Layout). NeedsEntry hs lane x r c b op) (sym moves.same) (needs-after s t.states t.free t.bookmarks t.incoming t.reads hs lane r c b op needs)
 
 -- what a slot leads to isn't Gone where its page is Home
-one_place : (x y : Address) → Ref x ≡ Ref y → x ≡ y
-one_place x y e = cc
-
 pub here-leads : (t : Layout) (r : RootWords) (slot : Option Slot) (page : ℕ) → LeadsToPage r slot page → state_at t.states page ≡ Home → TouchesHere t r slot
 here-leads t r None page leads home = absurd leads
 here-leads t r (Some p) page leads home = λ a refers below.
-    let same : a ≡ leads.0 = one_place a leads.0 (sym refers ∙ leads.1) in
+    let same : a ≡ leads.0 = one_address a leads.0 (sym refers ∙ leads.1) in
     ap (λ (x : Address). is_gone (state_at t.states (page_of x.0))) same ∙ ap (λ (x : ℕ). is_gone (state_at t.states x)) leads.2 ∙ ap is_gone home
 
 -- whichever answer is given for a hint

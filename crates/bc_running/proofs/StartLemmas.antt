@@ -28,12 +28,13 @@ use Rattle.bc_word.specs.declared.words.Word.TheVariants.{Nil}
 use Rattle.bc_word.specs.Words.{word_of_bits}
 use Rattle.bc_word.proofs.WordLemmas.{word_of_bits-nil}
 
-nil-words : (n : ℕ) → map word_of_bits (replicate n 0) ≡ replicate n Nil
+-- zeros read as words are nil
+pub nil-words : (n : ℕ) → map word_of_bits (replicate n 0) ≡ replicate n Nil
 nil-words zero = refl
 nil-words (suc n) = ap (λ (w : Word). w ∷ map word_of_bits (replicate n 0)) word_of_bits-nil ∙ ap (λ (ws : List Word). Nil ∷ ws) (nil-words n)
 
 -- the opening state reaches nothing
-none-reached : (setup : Setup) (b : Birth) → Reached (opening setup).slots (opening setup).made b → ⊥
+pub none-reached : (setup : Setup) (b : Birth) → Reached (opening setup).slots (opening setup).made b → ⊥
 none-reached setup b r =
     Reach-least (Holds (opening setup).slots) (FieldHolds (opening setup).made) (λ x. ⊥)
     (λ x held. nil_obj x (sym (replicate_default (setup.slots * setup.domains) held.0 value.Nil) ∙ held.1))

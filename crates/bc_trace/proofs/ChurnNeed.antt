@@ -1,5 +1,5 @@
 -- No state of the churn needs more than 27 superpages: what is reached was made in this phase or in the one before it.
-use Rattle.std.proofs.Common.{◌≡◌, ◌≢◌, ℕ, ◌+◌, ◌-◌, ◌*◌, ◌/◌, ◌%◌, ◌<◌, ◌≤◌, ◌⊎◌, List, [], ◌∷◌, ◌++◌, map, zero, suc, length, take, get_or, replicate, slice_index, refl, sym, ap, subst, ◌∙◌, inl, inr, arith, length-append}
+use Rattle.std.proofs.Common.{◌≡◌, ℕ, ◌+◌, ◌-◌, ◌*◌, ◌/◌, ◌%◌, ◌<◌, ◌≤◌, List, [], ◌∷◌, ◌++◌, map, zero, suc, length, take, get_or, slice_index, refl, sym, ap, subst, ◌∙◌, inl, inr, arith}
 use Rattle.std.specs.List.{AllByRecursion}
 use Rattle.std.proofs.lemmas.Bool.{cases_eq, cases_lt}
 use Rattle.std.proofs.lemmas.List.{get_or_past, get_or-map, length-map, map-append, take_all, take-append-le}
@@ -17,7 +17,7 @@ use Rattle.bc_model.specs.declared.values.Slot.{Slot}
 use Rattle.bc_model.specs.declared.values.Value.TheVariants.{Nil}
 use Rattle.bc_model.proofs.NeedFound.{reached-born}
 use Rattle.bc_model.proofs.Openings.{length-numbers_below, made_by-opening}
-use Rattle.bc_model.proofs.RunStates.{OfSetup, OfSetup-before, OfSetup-after_cut}
+use Rattle.bc_model.proofs.RunStates.{OfSetup, OfSetup-before, OfSetup-after_cut, all-take, all-append}
 use Rattle.bc_reach.proofs.Reaching.{Reach-least}
 use Rattle.bc_trace.specs.declared.words.Verb.{Verb}
 use Rattle.bc_trace.specs.declared.words.Verb.TheVariants as verbs
@@ -27,7 +27,7 @@ use Rattle.bc_trace.proofs.Cleared.{InRange, news, phase-clean, lanes-clean, lan
 use Rattle.bc_trace.proofs.Counting.{numbers_below-at}
 use Rattle.bc_trace.proofs.Drawing.{holders-suc}
 use Rattle.bc_trace.proofs.Few.{InTwo, few-births, need-bound}
-use Rattle.bc_trace.proofs.Formed.{all-append, all-flat, all-map, all-of, churn-formed, clears-formed, draw-below, drawn-formed}
+use Rattle.bc_trace.proofs.Formed.{all-flat, all-map, all-of, churn-formed, clears-formed, draw-below, drawn-formed}
 use Rattle.bc_trace.proofs.Young.{AreSmall, Clean, IsSmallNew, Refers, Young, new_of, nil-at, set-either}
 
 -- ---- the lanes of a phase
@@ -84,11 +84,6 @@ news-take zero xs = omega arith
 news-take (suc n) [] = omega arith
 news-take (suc n) (x ∷ xs) = omega (arith, news-take n xs)
 
-all-take : (P : Op → Type 0) (n : ℕ) (xs : List Op) → AllByRecursion P xs → AllByRecursion P (take n xs)
-all-take P zero xs h = tt
-all-take P (suc n) [] h = tt
-all-take P (suc n) (x ∷ xs) h = (h.0, all-take P n xs h.1)
-
 -- operations that the setup allows, and that make at most a thousand small objects
 record IsWork (os : List Op) : Type 0 where
   fits : AllByRecursion (IsOp churn_setup) os
@@ -121,7 +116,8 @@ lane-work n x holders j h =
 
 -- ---- the states before each phase
 
-after_phases-append : (s : State) (ps qs : List PhaseLists) → after_phases s (ps ++ qs) ≡ after_phases (after_phases s ps) qs
+-- after one list of phases and then another
+pub after_phases-append : (s : State) (ps qs : List PhaseLists) → after_phases s (ps ++ qs) ≡ after_phases (after_phases s ps) qs
 unfolding after_phases
 after_phases-append s [] qs = refl
 after_phases-append s (p ∷ ps) qs = after_phases-append (after_phase s p) ps qs

@@ -2,7 +2,7 @@
 -- that were made in it.
 use Rattle.std.proofs.Common.{◌≡◌, ℕ, ◌+◌, ◌-◌, ◌<◌, ◌≤◌, ◌⊎◌, ◌==◌, ◌&&◌, Bool, true, false, if◌then◌else◌, List, [], ◌∷◌, ◌++◌, map, zero, suc, length, get_or, set, slice_index, refl, sym, ap, subst, ◌∙◌, inl, inr, arith, length-set, get_or-set_same}
 use Rattle.std.specs.List.{AllByRecursion, list_all}
-use Rattle.std.proofs.lemmas.Bool.{cases_eq, cases_lt, eqb-true, eqb-false}
+use Rattle.std.proofs.lemmas.Bool.{cases_eq, cases_lt, eqb-true, eqb-false, cond-true}
 use Rattle.std.proofs.lemmas.List.{get_or_past, map-append}
 use Rattle.bc_model.specs.Run.{after_ops, after_lanes}
 use Rattle.bc_model.specs.State.{State, Object, made_by, no_object, place_of, with_slot, holds, numbers_below}
@@ -61,11 +61,8 @@ small-ops s j (o ∷ os) few h = small-ops (step s j o).0 j os few.1 (small-step
 pub clean-weaker : (old : List (List Object)) (a b : Slot → Type 0) (s : State) → ((p : Slot) → b p → a p) → Clean old a s → Clean old b s
 clean-weaker old a b s w c = record { grown = c.grown; roots = λ p h. c.roots p (w p h); fields = c.fields }
 
-if-true : {X : Type 0} (b : Bool) (x y : X) → b ≡ true → (if b then x else y) ≡ x
-if-true b x y e = ap (λ (c : Bool). if c then x else y) e
-
 clear-done : (s : State) (j : ℕ) (p : Slot) → holds s j p.domain ≡ true → (step s j (op.Clear p)).0 ≡ with_slot s p Nil
-clear-done s j p held = ap (λ (x : State × Reply). x.0) (if-true (list_all (holds s j) (p.domain ∷ [])) _ _ (ap (λ (b : Bool). b && true) held))
+clear-done s j p held = ap (λ (x : State × Reply). x.0) (cond-true (list_all (holds s j) (p.domain ∷ [])) _ _ (ap (λ (b : Bool). b && true) held))
 
 nil-set : (xs : List Value) (k : ℕ) → get_or (set xs k Nil) k Nil ≡ Nil
 nil-set xs k =
@@ -86,9 +83,6 @@ cleared old a b s j p c held more =
       ];
       fields = c.fields;
     })
-
-clear_of : ℕ → ℕ → Op
-clear_of d t = op.Clear (record { domain = d; slot = t })
 
 same_slot : (r : Slot) (d t : ℕ) → r.domain ≡ d → r.slot ≡ t → r ≡ record { domain = d; slot = t }
 same_slot r d t e f =

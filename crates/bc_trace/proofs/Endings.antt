@@ -22,8 +22,9 @@ use Rattle.bc_trace.specs.Fronts.{Begins, GoesOnWith}
 use Rattle.bc_trace.specs.Drafts.{DraftLists, empty_draft}
 use Rattle.bc_trace.specs.Reading.{trace_of_draft}
 use Rattle.bc_trace.proofs.ReadOfFault.{put_all, put_all-state}
-use Rattle.bc_trace.proofs.ReadOfTrace.{follow-append, product_small, right_count, op_numbers, trace_passes}
+use Rattle.bc_trace.proofs.ReadOfTrace.{follow-append, product_small, op_numbers, trace_passes}
 use Rattle.bc_trace.proofs.FollowLines.{Shape, steps, at_start, passing_lines}
+use Rattle.bc_trace.proofs.LinesAhead.{count-op}
 
 -- some lines go on to the end
 record Ends (s : Progress) : Type 0 where
@@ -206,7 +207,7 @@ unfolding may_stand
 open_op v s k h =
     let o = zero_op v in
     let fits = zero_fits v s h in
-    record { line = op o; word = ap (λ x. words.Op x) (zero_verb v); pass = record { stands = refl; count = right_count o; numbers = op_numbers s h o fits; range = fits; frames = tt } }
+    record { line = op o; word = ap (λ x. words.Op x) (zero_verb v); pass = record { stands = refl; count = count-op o; numbers = op_numbers s h o fits; range = fits; frames = tt } }
 
 first_give : Give
 first_give = record { domain = 0; lane = 0 }

@@ -1,5 +1,5 @@
 -- How many there can be: different numbers below a bound, and the superpages that objects of few pairs of domain and class take.
-use Rattle.std.proofs.Common.{◌≡◌, ℕ, ◌+◌, ◌-◌, ◌*◌, ◌<◌, ◌≤◌, ◌⊎◌, ◌==◌, ◌&&◌, Bool, true, false, if◌then◌else◌, List, [], ◌∷◌, map, zero, suc, length, refl, sym, ap, subst, ◌∙◌, inl, inr, arith}
+use Rattle.std.proofs.Common.{◌≡◌, ℕ, ◌+◌, ◌-◌, ◌*◌, ◌<◌, ◌≤◌, ◌⊎◌, ◌==◌, ◌&&◌, Bool, true, false, if◌then◌else◌, List, [], ◌∷◌, map, zero, suc, length, refl, sym, subst, ◌∙◌, inl, inr, arith}
 use Rattle.std.specs.List.{sum_by, count_by}
 use Rattle.std.proofs.lemmas.Bool.{cases_eq, ne_eqb}
 use Rattle.std.proofs.lemmas.List.Sums.{sum_by-cons}
@@ -9,6 +9,7 @@ use Rattle.bc_classes.specs.Classes.{class_of, classes}
 use Rattle.bc_model.specs.Need.{is_of, superpages_for, need_of, count_of}
 use Rattle.bc_model.specs.State.{Object, object_of}
 use Rattle.bc_model.specs.declared.values.Birth.{Birth}
+use Rattle.bc_model.proofs.Objects.{same_birth}
 use Rattle.bc_reach.specs.Distinct.{Has, Distinct}
 use Rattle.bc_reach.proofs.Mapped.{Has-from_map, Distinct-map}
 use Rattle.bc_reach.proofs.Pushed.{Has-decided}
@@ -61,11 +62,6 @@ number-below : (x y m : ℕ) (b : Birth) → InTwo x y m b → number x y m b < 
 unfolding number
 number-below x y m b (inl h) = let e = if-lane b.lane (b.serial - x - 1) (m + (b.serial - y - 1)) h.0 in omega (arith, e, h.1, h.2)
 number-below x y m b (inr h) = let e = if-other b.lane (b.serial - x - 1) (m + (b.serial - y - 1)) h.0 in omega (arith, e, h.1, h.2)
-
-same_birth : (b c : Birth) → b.lane ≡ c.lane → b.serial ≡ c.serial → b ≡ c
-same_birth b c p q =
-    let first : b ≡ record { lane = c.lane; serial = b.serial } = ap (λ (l : ℕ). let r : Birth = record { lane = l; serial = b.serial } in r) p in
-    first ∙ ap (λ (n : ℕ). let r : Birth = record { lane = c.lane; serial = n } in r) q
 
 number-tells : (x y m : ℕ) (b c : Birth) → InTwo x y m b → InTwo x y m c → number x y m b ≡ number x y m c → b ≡ c
 unfolding number

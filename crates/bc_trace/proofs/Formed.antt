@@ -1,23 +1,21 @@
 -- The trace of `churn` is well formed.
-use Rattle.std.proofs.Common.{ℕ, ◌^◌, ◌<◌, ◌≤◌, ◌==◌, if◌then◌else◌, List, [], ◌∷◌, ◌++◌, map, Bool, true, false, zero, suc, slice_index, refl, arith}
+use Rattle.std.proofs.Common.{ℕ, ◌^◌, ◌<◌, ◌≤◌, ◌==◌, if◌then◌else◌, List, [], ◌∷◌, map, Bool, true, false, zero, suc, slice_index, refl, arith}
 use Rattle.std.specs.List.{flat_map, AllByRecursion, filter}
 use Rattle.bc_model.specs.State.{numbers_below}
 use Rattle.bc_model.specs.WellFormed.{IsTrace, IsPhase, IsSetup, IsOp, IsTurn}
 use Rattle.bc_model.specs.declared.operations.Op.TheVariants as ops
+use Rattle.bc_model.proofs.RunStates.{all-append}
 use Rattle.bc_trace.specs.declared.words.Verb.{Verb}
 use Rattle.bc_trace.specs.declared.words.Verb.TheVariants as verbs
 use Rattle.bc_trace.specs.Draws.{draw, number_after, drawn_with, drawn_op, number_after_ops}
 use Rattle.bc_trace.specs.Churn.{churn_setup, drawn_hints, number_before_lane, drawn_ops, held_below, domain_clears, clears_below, lane_clears, churn_lane, phase_from, phases_of, churn_phase, churn_trace}
+use Rattle.bc_trace.proofs.Fitting.{all-weaker}
 
 pub draw-below : (x m : ℕ) → 0 < m → draw x m < m
 unfolding draw
 draw-below x m h = omega (arith, h)
 
 -- ---- what holds of all of a list
-
-pub all-append : {X : Type 0} (P : X → Type 0) (xs ys : List X) → AllByRecursion P xs → AllByRecursion P ys → AllByRecursion P (xs ++ ys)
-all-append P [] ys h k = k
-all-append P (x ∷ xs) ys h k = (h.0, all-append P xs ys h.1 k)
 
 pub all-map : {X Y : Type 0} (P : Y → Type 0) (f : X → Y) (xs : List X) → AllByRecursion (λ x. P (f x)) xs → AllByRecursion P (map f xs)
 all-map P f [] h = tt
@@ -38,10 +36,6 @@ all-filter P test (x ∷ xs) h = all-if P (test x) x (filter test xs) h.0 (all-f
 pub all-of : {X : Type 0} (P : X → Type 0) (xs : List X) → ((x : X) → P x) → AllByRecursion P xs
 all-of P [] h = tt
 all-of P (x ∷ xs) h = (h x, all-of P xs h)
-
-pub all-weaker : {X : Type 0} (P Q : X → Type 0) (xs : List X) → ((x : X) → P x → Q x) → AllByRecursion P xs → AllByRecursion Q xs
-all-weaker P Q [] w h = tt
-all-weaker P Q (x ∷ xs) w h = (w x h.0, all-weaker P Q xs w h.1)
 
 pub all-below : (n m : ℕ) → n ≤ m → AllByRecursion (λ i. i < m) (numbers_below n)
 all-below zero m h = tt

@@ -64,7 +64,7 @@ module _ (hints : List ℕ) (count hint : ℕ) (lt : count < length hints) where
 
 -- ---- what passes
 
-count-op : (o : Op) → IsCount (words.Op (verb_of_op o)) (length (operands_of_op o))
+pub count-op : (o : Op) → IsCount (words.Op (verb_of_op o)) (length (operands_of_op o))
 unfolding arity
 count-op (ops.New p n) = refl
 count-op (ops.Who p) = refl

@@ -13,12 +13,13 @@ use Rattle.bc_trace.specs.declared.grammar.Stage.{Stage}
 use Rattle.bc_trace.specs.declared.grammar.Stage.TheVariants as stages
 use Rattle.bc_trace.specs.declared.grammar.Progress.{Progress}
 use Rattle.bc_trace.specs.declared.words.Keyword.TheVariants as words
-use Rattle.bc_trace.specs.Lines.{Line, version, phase, turn, lane, op, give, end, done, verb_of_op, operands_of_op, setup_lines, lane_lines, phase_lines, trace_lines, trace_text, line_text}
-use Rattle.bc_trace.specs.Grammar.{start, may_stand, same_setting, arity, IsCount, Passes, after, after_all, Follow}
+use Rattle.bc_trace.specs.Lines.{Line, version, phase, turn, lane, op, give, end, done, operands_of_op, setup_lines, lane_lines, phase_lines, trace_lines, trace_text, line_text}
+use Rattle.bc_trace.specs.Grammar.{start, may_stand, same_setting, arity, Passes, after, after_all, Follow}
 use Rattle.bc_trace.specs.Drafts.{DraftLists, empty_draft, put, put_lists}
 use Rattle.bc_trace.specs.Reading.{lines_of, ended, reading, read_of}
 use Rattle.bc_trace.proofs.Runs.{reading-end, read_of-is}
 use Rattle.bc_trace.proofs.ReadOfFault.{put_all, put_all-state, forward}
+use Rattle.bc_trace.proofs.LinesAhead.{count-op}
 
 -- the lines pass, and make one draft of the other
 record Runs (d : DraftLists) (ls : List Line) (d' : DraftLists) : Type 0 where
@@ -90,19 +91,6 @@ module _ (s : Setup) (ps : List PhaseLists) where
 
 -- ---- operations and lanes
 
-pub right_count : (o : Op) → IsCount (words.Op (verb_of_op o)) (length (operands_of_op o))
-unfolding arity
-right_count (ops.New p n) = refl
-right_count (ops.Who p) = refl
-right_count (ops.Len p) = refl
-right_count (ops.Set p i v) = refl
-right_count (ops.Cut p i) = refl
-right_count (ops.Link p i q) = refl
-right_count (ops.Load p i q) = refl
-right_count (ops.Copy p q) = refl
-right_count (ops.Clear p) = refl
-right_count (ops.Same p q) = refl
-
 module _ (s : Setup) (setup : IsSetup s) where
   pub op_numbers : (o : Op) → IsOp s o → AllByRecursion IsNumber (operands_of_op o)
   op_numbers (ops.New p n) h = (omega (arith, h.0, setup.domains), (omega (arith, h.0, setup.slots), (omega (arith, h.1), tt)))
@@ -124,7 +112,7 @@ module _ (s : Setup) (setup : IsSetup s) where
     unfolding may_stand put_lists ops_draft
     runs_ops [] k ls os h = record { pass = tt; makes = ap (λ (xs : List Op). draft (progress stages.Ops s k) ps ts ls xs []) (sym (append-nil os)) }
     runs_ops (o ∷ more) k ls os h =
-        let line : Passes (progress stages.Ops s k) (op o) = record { stands = refl; count = right_count o; numbers = op_numbers o h.0; range = h.0; frames = tt } in
+        let line : Passes (progress stages.Ops s k) (op o) = record { stands = refl; count = count-op o; numbers = op_numbers o h.0; range = h.0; frames = tt } in
         let rest = runs_ops more k ls (os ++ o ∷ []) h.1 in
         runs-cons (ops_draft k ls os) (ops_draft k ls (os ++ o ∷ more)) (op o) (map op more) line
         (runs-at (ops_draft k ls (os ++ o ∷ [])) (ops_draft k ls ((os ++ o ∷ []) ++ more)) (ops_draft k ls (os ++ o ∷ more)) (map op more) (ap (λ (xs : List Op). draft (progress stages.Ops s k) ps ts ls xs []) (append_assoc os (o ∷ []) more)) rest)

@@ -20,7 +20,7 @@ churn_setup = record { lanes = 2; domains = 4; slots = 8; superpages = 32; nurse
 abbrev pub drawn_hints : ℕ → List ℕ
 drawn_hints x = draws x (128 ∷ 128 ∷ 128 ∷ [])
 
--- behind the hints of two turns each lane draws n operations
+-- the number before lane j's draws: behind six hints, and n operations of each lane before it
 abbrev pub number_before_lane : ℕ → ℕ → ℕ → ℕ
 number_before_lane n x zero = number_after 6 x
 number_before_lane n x (suc j) = number_after_ops n (number_before_lane n x j)
@@ -29,7 +29,7 @@ number_before_lane n x (suc j) = number_after_ops n (number_before_lane n x j)
 abbrev pub drawn_ops : ℕ → ℕ → List Op
 drawn_ops n x = map (λ i. drawn_op (number_after_ops i x)) (numbers_below n)
 
--- those of the first n domains that the lane holds
+-- those of the first n domains that lane j holds
 abbrev pub held_below : List ℕ → ℕ → ℕ → List ℕ
 held_below holders j n = filter (λ d. slice_index holders d == j) (numbers_below n)
 
@@ -37,7 +37,7 @@ held_below holders j n = filter (λ d. slice_index holders d == j) (numbers_belo
 unfoldable pub domain_clears : ℕ → List Op
 domain_clears d = map (λ s. ops.Clear (record { domain = d; slot = s })) (numbers_below 8)
 
--- and their clears
+-- a clear of each slot of those of the first n domains that the lane holds
 unfoldable pub clears_below : List ℕ → ℕ → ℕ → List Op
 clears_below holders j n = flat_map domain_clears (held_below holders j n)
 
@@ -53,7 +53,7 @@ churn_lane n x holders j = lane_clears holders j ++ drawn_ops n (number_before_l
 abbrev pub churn_give : ℕ → ℕ → ℕ → Give
 churn_give k n x = record { domain = (k + 1) % 4; lane = draw (number_before_lane n x 2) 2 }
 
--- phase k with n drawn operations a lane, from the number x before it and whose the domains are then
+-- phase k with n drawn operations a lane, from the number x before it and the lanes that hold the domains then
 unfoldable pub phase_from : ℕ → ℕ → ℕ → List ℕ → PhaseLists
 phase_from k n x holders = record {
   turns = drawn_hints x ∷ drawn_hints (number_after 3 x) ∷ [];
@@ -61,7 +61,7 @@ phase_from k n x holders = record {
   gives = churn_give k n x ∷ [];
 }
 
--- the give is the last draw
+-- the number after a phase's draws, of which the give is the last
 unfoldable pub number_after_phase : ℕ → ℕ → ℕ
 number_after_phase n x = next_number (number_before_lane n x 2)
 

@@ -1,7 +1,7 @@
 //! The fast way over a line: each function takes off what good text begins with, in one look at each byte.
 //!
 //! Where it answers None nothing is said: such text is left to the exact way, which tells the fault.
-ghost use Rattle.std.specs.Prelude.{◌≡◌, ◌<◌, ◌≤◌, ◌^◌, ◌∷◌, ◌++◌, length, take, IfSome};
+ghost use Rattle.std.specs.Prelude.{◌≡◌, ◌<◌, ◌≤◌, ◌^◌, ◌∷◌, ◌++◌, take, IfSome};
 ghost use Rattle.std.specs.List.{AllByRecursion};
 ghost use Rattle.std.specs.Fmt.{decimal};
 ghost use Rattle.bc_model.specs.WellFormed.{IsNumber, IsSlot};

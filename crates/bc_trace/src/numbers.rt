@@ -1,5 +1,5 @@
 //! Numbers and operands, as the language writes them.
-ghost use Rattle.std.specs.Prelude.{◌≡◌, ◌<◌, ◌≤◌, ℕ, if◌then◌else◌, length, take, Some, None, IfSome, IfNone};
+ghost use Rattle.std.specs.Prelude.{◌≡◌, ◌<◌, ◌≤◌, if◌then◌else◌, length, take, Some, None, IfSome, IfNone};
 ghost use Rattle.bc_trace.specs.Reading.{digits_of, number_of, read_numbers, words_after};
 
 use crate::cutting::first_word;

@@ -5,17 +5,18 @@ ghost use Rattle.std.specs.Fmt.{decimal};
 ghost use Rattle.bc_model.specs.WellFormed.{IsTrace};
 ghost use Rattle.bc_trace.specs.Lines.{setting as setting_line, turn as turn_line, lane as lane_line, op as op_line, give as give_line, setup_lines, lane_lines, phase_lines, trace_text, spelling, line_text};
 
+use crate::rooms::put_number;
 use crate::words::{Keyword, Setting, Verb};
 use bc_model::{Give, Op, Phase, Setup, Slot, Trace};
-use itoa::Buffer;
 use std::alloc::{AllocError, Global};
 
 /// Puts the number at the end, in decimal.
 fn push_number(out: &mut Vec<u8>, number: u64) -> Result<(), AllocError>
     ensures { OnOk result (out.new.items ≡ out.old.items ++ decimal number) }
 {
-    let mut buffer = Buffer::new();
-    out.extend_from_slice(buffer.format(number).as_bytes())
+    out.reserve(20)?;
+    put_number(out, number);
+    Ok(())
 }
 
 /// Puts each number behind a space at the end.

@@ -1,6 +1,6 @@
 -- A pager alone at a table: no lane has operations left.
 use Rattle.std.proofs.Common.{◌≡◌, ℕ, ◌+◌, ◌^◌, ◌<◌, List, [], ◌∷◌, ◌++◌, length, get_or, refl, ap, sym, subst, ◌∙◌, arith}
-use Rattle.std.proofs.lemmas.List.{get_or_push}
+use Rattle.std.proofs.lemmas.List.{get_or_push, length_push}
 use Rattle.bc_pager.specs.Answering.{AreAnswered}
 use Rattle.bc_pager.specs.declared.answers.Answer.{Answer}
 use Rattle.bc_pins.specs.Calls.{key_of, view_of}
@@ -28,7 +28,7 @@ use Rattle.bc_turn.proofs.BegunLemmas.{IsPagerBack, paged-back}
 use Rattle.bc_turn.proofs.BesideLemmas.{turn-table}
 use Rattle.bc_turn.proofs.PassLemmas.{passes-none}
 use Rattle.bc_turn.proofs.TableLemmas.{AreSeatsBack, IsTurnTable, lies-back}
-use Rattle.bc_turn.proofs.TakingLemmas.{length-push, no-items}
+use Rattle.bc_turn.proofs.TakingLemmas.{no-items}
 use Rattle.bc_whole_heap.specs.Heaps.{HeapView}
 
 -- a space that was neither opened nor changed lies as it did
@@ -38,7 +38,7 @@ lies-still s openable = record { same = refl; remembered = λ p. (λ is. is, λ 
 -- the only seat is the pager's
 module _ (pins : Pins) (h : HeapView) (hs : List ℕ) (seats : List Seat) (pager : Seat) (opened : Opened h.space Lanes hs (turn_roles []) pins (seats ++ pager ∷ [])) where
   none-else : seats ≡ []
-  none-else = let all = opened.seats_are.long in let long = length-push seats pager in no-items seats (omega arith)
+  none-else = let all = opened.seats_are.long in let long = length_push seats pager in no-items seats (omega arith)
 
   pub alone-dealt : IsDealt pins.table.shared.table_id (key_of pins) (Pager 0) pager
   alone-dealt =

@@ -5,7 +5,8 @@ use Rattle.std.proofs.lemmas.List.{get_or_past}
 use Rattle.bc_bits.specs.Counting.{one_if}
 use Rattle.bc_pager.specs.Answering.{AreAnswered, says_discarded, says_evicted}
 use Rattle.bc_pager.specs.declared.answers.Answer.{Answer}
-use Rattle.bc_pins.specs.Closing.{Closed, opens_of, seen_by}
+use Rattle.bc_pins.specs.Calls.{view_of}
+use Rattle.bc_pins.specs.Closing.{Closed, opens_of}
 use Rattle.bc_pins.specs.Key.{Key, pages_of, role_number}
 use Rattle.bc_pins.specs.Steps.{fresh, no_key}
 use Rattle.bc_pins.specs.Totals.{times, total}
@@ -59,10 +60,10 @@ state-behind s p layout far =
 -- what the seats have between them of the pages that were made Gone, made Absent and taken from Gone is what the answers say, none
 -- returned a page of another's, and none opened a box
 pub record ArePagers (seats : List Seat) (told : List Answer) : Type 0 where
-  pub fetched : (p : ℕ) → total (λ (seat : Seat). times p (seen_by seat).fetched) seats ≡ 0
-  pub left : (p : ℕ) → total (λ (seat : Seat). times p (seen_by seat).left) seats ≡ total (says_evicted p) told
-  pub emptied : (p : ℕ) → total (λ (seat : Seat). times p (seen_by seat).emptied) seats ≡ total (says_discarded p) told
-  pub returned : (p : ℕ) → total (λ (seat : Seat). times p (seen_by seat).returned) seats ≡ 0
+  pub fetched : (p : ℕ) → total (λ (seat : Seat). times p (view_of seat).fetched) seats ≡ 0
+  pub left : (p : ℕ) → total (λ (seat : Seat). times p (view_of seat).left) seats ≡ total (says_evicted p) told
+  pub emptied : (p : ℕ) → total (λ (seat : Seat). times p (view_of seat).emptied) seats ≡ total (says_discarded p) told
+  pub returned : (p : ℕ) → total (λ (seat : Seat). times p (view_of seat).returned) seats ≡ 0
   pub opens : opens_of seats ≡ 0
 
 module _ (k : Key) (s t : Layout) (seats : List Seat) (told : List Answer) (opening : k.opening ≡ s) (closed : Closed k seats t) (before : IsLayout s) (after : IsLayout t)

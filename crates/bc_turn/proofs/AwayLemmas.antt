@@ -3,7 +3,8 @@ use Rattle.std.proofs.Common.{◌≡◌, ◌⊎◌, ℕ, ◌+◌, ◌<◌, ◌�
 use Rattle.std.proofs.lemmas.Bool.{cases_lt}
 use Rattle.bc_bits.specs.Counting.{one_if}
 use Rattle.bc_pager.specs.declared.answers.Answer.{Answer}
-use Rattle.bc_pins.specs.Closing.{Closed, seen_by}
+use Rattle.bc_pins.specs.Calls.{view_of}
+use Rattle.bc_pins.specs.Closing.{Closed}
 use Rattle.bc_pins.specs.Key.{Key, pages_of}
 use Rattle.bc_pins.specs.Totals.{times}
 use Rattle.bc_pins.specs.Views.{state_word}
@@ -37,11 +38,11 @@ module _ (k : Key) (s t : Layout) (seats : List Seat) (told : List Answer) (open
   still-there : (cell : ℕ) → IsAllocated s cell → IsAllocated t cell
   still-there cell there = subst (λ (x : Layout). IsAllocated x cell) (sym closed.same) (subst (λ (x : Layout). IsAllocated x cell) (sym opening) there)
 
-  gone-word : (i page cell : ℕ) (d : Seat) → i < length seats → IsAllocated s cell → page_of cell ≡ page → page < pages_of k → 0 < times page (seen_by (get_or seats i d)).busy
+  gone-word : (i page cell : ℕ) (d : Seat) → i < length seats → IsAllocated s cell → page_of cell ≡ page → page < pages_of k → 0 < times page (view_of (get_or seats i d)).busy
       → 0 < one_if (state_word (state_at t.states page) == 4)
   gone-word i page cell d lt there on near busy =
       let states = closed.states_are page near in
-      let all = total_in (λ (seat : Seat). times page (seen_by seat).busy) seats i d lt in
+      let all = total_in (λ (seat : Seat). times page (view_of seat).busy) seats i d lt in
       let why = states.busy (omega arith) in
       let gone = states.gone in
       let absent = states.absent in
@@ -50,7 +51,7 @@ module _ (k : Key) (s t : Layout) (seats : List Seat) (told : List Answer) (open
       let present = present-word (state_at t.states page) (λ is. allocated-not_absent t cell after (still-there cell there) (ap (state_at t.states) on ∙ is)) in
       omega arith
 
-  pub notes-gone : (i : ℕ) (d : Seat) → i < length seats → NotesGone (seen_by (get_or seats i d)) s t
+  pub notes-gone : (i : ℕ) (d : Seat) → i < length seats → NotesGone (view_of (get_or seats i d)) s t
   notes-gone i d lt page cell there on noted = elim noted [
     | inl gone ↦ closed.read_gone i lt d page gone
     | inr busy ↦ elim (cases_lt page (pages_of k)) [

@@ -1,22 +1,12 @@
 -- The list of the lanes that have operations left.
-use Rattle.std.proofs.Common.{◌≡◌, ◌⊎◌, ℕ, ◌<◌, List, [], ◌∷◌, length, get_or, inl, inr, refl, subst, arith}
+use Rattle.std.proofs.Common.{◌≡◌, ◌⊎◌, ℕ, ◌<◌, List, [], ◌∷◌, length, get_or, inl, inr, subst, arith}
 use Rattle.std.proofs.lemmas.Bool.{cases_eq, cases_lt}
-use Prim.Native.Nat.{zero, suc}
+use Prim.Native.Nat.{suc}
 use Rattle.bc_model.specs.declared.operations.Op.{Op}
 use Rattle.bc_model.specs.declared.operations.Reply.{Reply}
 use Rattle.bc_reach.specs.Distinct.{Has}
 use Rattle.bc_turn.specs.Begun.{AreBusyLanes, HasLeft}
-
--- where a number stands in a list
-pub has-index : (xs : List ℕ) (i : ℕ) → i < length xs → Has xs (get_or xs i 0)
-has-index [] i lt = absurd (omega arith)
-has-index (x ∷ xs) zero lt = inl refl
-has-index (x ∷ xs) (suc i) lt = inr (has-index xs i (omega arith))
-
-pub index-has : (xs : List ℕ) (n : ℕ) → Has xs n → (i : ℕ) × (i < length xs) × (get_or xs i 0 ≡ n)
-index-has [] n has = absurd has
-index-has (x ∷ xs) n (inl e) = (0, omega arith, e)
-index-has (x ∷ xs) n (inr has) = let r = index-has xs n has in (suc r.0, (let lt = r.1 in omega arith), r.2)
+use Rattle.bc_reach.proofs.Pushed.{place_of}
 
 pub find-index : (xs : List ℕ) (n : ℕ) → ((i : ℕ) × (i < length xs) × (get_or xs i 0 ≡ n)) ⊎ (Has xs n → ⊥)
 find-index [] n = inr (λ has. has)
@@ -44,4 +34,4 @@ module _ (lanes : List (List Op)) (before : List (List Reply)) (busy : List ℕ)
 
   -- one that stands there has operations left, and one that doesn't has none
   pub has-left : (l : ℕ) → Has busy l → HasLeft lanes before l
-  has-left l has = let r = index-has busy l has in subst (HasLeft lanes before) r.2 (are.more r.0 r.1)
+  has-left l has = let r = place_of busy l has in subst (HasLeft lanes before) r.2 (are.more r.0 r.1)

@@ -1,9 +1,9 @@
 -- Lanes lay back what is their own, one after another.
-use Rattle.std.proofs.Common.{◌≡◌, ℕ, ◌+◌, ◌-◌, ◌*◌, ◌<◌, ◌≤◌, List, [], ◌∷◌, ◌++◌, length, set, get_or, Vec, vec_capacity, inl, inr, refl, ap, sym, subst, ◌∙◌, arith, length-append, length-set, get_or-set_same, get_or-set_other, append_assoc}
+use Rattle.std.proofs.Common.{◌≡◌, ℕ, ◌+◌, ◌-◌, ◌*◌, ◌<◌, ◌≤◌, List, [], ◌∷◌, ◌++◌, length, set, get_or, Vec, vec_capacity, inl, inr, refl, ap, sym, subst, ◌∙◌, arith, length-set, get_or-set_same, get_or-set_other, append_assoc}
 use Rattle.std.specs.declared.alloc.Global.{Global}
 use Rattle.std.proofs.Math.Seq.{get_or-append_seam}
 use Rattle.std.proofs.lemmas.Bool.{cases_eq, cases_lt}
-use Rattle.std.proofs.lemmas.List.{get_or_push, get_or_append_left, map-append}
+use Rattle.std.proofs.lemmas.List.{get_or_push, get_or_append_left, map-append, length_push}
 use Rattle.bc_model.specs.declared.operations.Op.{Op}
 use Rattle.bc_model.specs.declared.operations.Reply.{Reply}
 use Rattle.bc_pins.specs.declared.pins.Seat.{Seat}
@@ -28,9 +28,6 @@ pub record Gathering (all runs : List Run) (seats : List Seat) : Type 0 where
   pub front : runs ++ behind ≡ all
   pub count : length seats + length runs ≡ length all
   pub seats_are : (i : ℕ) → i < length seats → (d : Run) → (e : Seat) → get_or seats i e ≡ seat_at d all i
-
-length-push : {X : Type 0} (xs : List X) (y : X) → length (xs ++ y ∷ []) ≡ length xs + 1
-length-push xs y = length-append xs (y ∷ []) ∙ refl
 
 append-nil : {X : Type 0} (xs : List X) → xs ++ [] ≡ xs
 append-nil [] = refl
@@ -77,7 +74,7 @@ module _ (all runs left : List Run) (seats : List Seat) (is : Gathering all runs
   split = sym (append_assoc left (run ∷ []) is.behind) ∙ ap (λ (xs : List Run). xs ++ is.behind) (sym runs_are) ∙ is.front
 
   pub runs-count : length runs ≡ length left + 1
-  runs-count = ap length runs_are ∙ length-push left run
+  runs-count = ap length runs_are ∙ length_push left run
 
   pub all-count : length all ≡ length seats + (length left + 1)
   all-count = let c = is.count in let r = runs-count in omega arith
@@ -89,7 +86,7 @@ module _ (all runs left : List Run) (seats : List Seat) (is : Gathering all runs
 
   pub gathering-more : (seat : Seat) → seat ≡ run.seat → Gathering all left (seats ++ seat ∷ [])
   gathering-more seat e =
-      let p = length-push seats seat in
+      let p = length_push seats seat in
       let a = all-count in
       record {
         behind = run ∷ is.behind;
@@ -143,7 +140,7 @@ module _ (all runs left : List Run) (seats : List Seat) (is : Gathering all runs
       laid = λ d.
           let back = subst (λ (t : LaneTurn). LaysBack hs t k births told n nexts after) (ap (λ (r : Run). r.turn) (sym (next-run d))) (subst (λ (xs : List ℕ). LaysBack xs run.turn k births told n nexts after) holders-are lays) in
           let w = are.within (length seats) there in
-          subst (λ (m : ℕ). AreLaidBack hs busy (turn_at d all) m g serials before n nexts after) (sym (length-push seats seat))
+          subst (λ (m : ℕ). AreLaidBack hs busy (turn_at d all) m g serials before n nexts after) (sym (length_push seats seat))
           (laid-next hs busy (turn_at d all) (length seats) g serials before k births told n nexts after (ending.laid d) back (are.lane_is (length seats) there d) there are.rising w (omega arith) (omega arith) (omega arith));
     }
 

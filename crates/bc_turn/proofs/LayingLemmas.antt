@@ -8,11 +8,11 @@ use Rattle.bc_reach.specs.Distinct.{Has}
 use Rattle.bc_superpages.specs.Layout.{Layout}
 use Rattle.bc_superpages.specs.RootSlots.{root_at}
 use Rattle.bc_superpages.specs.RootWords.{RootWords}
-use Rattle.bc_turn.proofs.BusyLemmas.{has-index}
 use Rattle.bc_turn.specs.Begun.{lane_replies}
 use Rattle.bc_turn.specs.Laying.{AreLaidBack, LaysBack}
 use Rattle.bc_whole_heap.specs.Closed.{buffer_of, no_buffer}
 use Rattle.bc_whole_heap.specs.Heaps.{HeapView, no_chunk}
+use Rattle.bc_reach.proofs.Pushed.{Has-get_or}
 
 -- an element of a list of which one is replaced
 replaced-here : {A : Type 0} (xs ys : List A) (l m : ℕ) (x d : A) → ys ≡ set xs l x → l < length xs → m ≡ l → get_or ys m d ≡ x
@@ -29,7 +29,7 @@ module _ (hs busy : List ℕ) (turn : ℕ → LaneTurn) (n : ℕ) (h : HeapView)
   l = (turn n).part.lane
 
   not-has : (m : ℕ) → (Has busy m → ⊥) → m ≡ l → ⊥
-  not-has m none e = none (subst (Has busy) (sym (e ∙ lane_is)) (has-index busy n lt))
+  not-has m none e = none (subst (Has busy) (sym (e ∙ lane_is)) (Has-get_or busy n lt))
 
   earlier : (i : ℕ) → i < n + 1 → (i ≡ n → ⊥) → i < n
   earlier i less ne = elim (cases_lt i n) [

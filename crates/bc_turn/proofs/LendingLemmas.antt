@@ -1,9 +1,9 @@
 -- Lanes take what is their own out of the heap, one after another, the last lane first.
-use Rattle.std.proofs.Common.{◌≡◌, ◌≢◌, ℕ, ◌+◌, ◌-◌, ◌<◌, ◌≤◌, List, [], ◌∷◌, ◌++◌, length, set, get_or, Vec, vec_capacity, inl, inr, refl, ap, sym, subst, ◌∙◌, arith, length-append, length-set, get_or-set_other, append_assoc}
+use Rattle.std.proofs.Common.{◌≡◌, ◌≢◌, ℕ, ◌+◌, ◌-◌, ◌<◌, ◌≤◌, List, [], ◌∷◌, ◌++◌, length, set, get_or, Vec, vec_capacity, inl, inr, refl, ap, sym, subst, ◌∙◌, arith, length-set, get_or-set_other, append_assoc}
 use Rattle.std.specs.declared.alloc.Global.{Global}
 use Rattle.std.proofs.Math.Seq.{get_or-append_seam}
 use Rattle.std.proofs.lemmas.Bool.{cases_lt}
-use Rattle.std.proofs.lemmas.List.{get_or_push, get_or_append_left, get_or-map, length-map, map-append, map-set}
+use Rattle.std.proofs.lemmas.List.{get_or_push, get_or_append_left, get_or-map, length-map, map-append, map-set, length_push}
 use Rattle.bc_model.specs.Rows.{lists_of}
 use Rattle.bc_model.specs.declared.operations.Op.{Op}
 use Rattle.bc_model.specs.declared.operations.Reply.{Reply}
@@ -38,9 +38,6 @@ pub record Lending (hs serials : List ℕ) (lanes : List (List Op)) (h : HeapVie
   pub away : AreAway (running_lanes runs) h (lists_of before) k (lists_of after)
   pub room : HasReplyRoom lanes after (running_lanes runs)
 
-length-push : {X : Type 0} (xs : List X) (y : X) → length (xs ++ y ∷ []) ≡ length xs + 1
-length-push xs y = length-append xs (y ∷ []) ∙ refl
-
 pub lending-none : (hs serials : List ℕ) (lanes : List (List Op)) (h : HeapView) (before : List (Vec Reply Global)) (spares : List Spare) (seats : List Seat) (runs : List Run)
     → length seats ≡ length spares → runs ≡ [] → HasReplyRoom lanes before [] → Lending hs serials lanes h before spares seats spares seats h before runs
 lending-none hs serials lanes h before spares seats runs even none room = record {
@@ -73,10 +70,10 @@ module _ (hs serials : List ℕ) (lanes : List (List Op)) (h : HeapView) (before
   seats-split = sym (append_assoc places (seat ∷ []) is.seats_behind) ∙ ap (λ (xs : List Seat). xs ++ is.seats_behind) (sym seats_are) ∙ is.seats_front
 
   pub left-count : length spares ≡ length left + 1
-  left-count = ap length spares_are ∙ length-push left spare
+  left-count = ap length spares_are ∙ length_push left spare
 
   pub places-count : length seats ≡ length places + 1
-  places-count = ap length seats_are ∙ length-push places seat
+  places-count = ap length seats_are ∙ length_push places seat
 
   pub left-even : length places ≡ length left
   left-even = let a = left-count in let b = places-count in let e = is.even in omega arith
@@ -146,7 +143,7 @@ module _ (hs serials : List ℕ) (lanes : List (List Op)) (h : HeapView) (before
     lanes-pushed = map-append (λ (r : Run). r.turn.part.lane) runs (run ∷ []) ∙ ap (λ (x : ℕ). running_lanes runs ++ x ∷ []) lane-is
 
     runs-pushed : length (runs ++ run ∷ []) ≡ length runs + 1
-    runs-pushed = length-push runs run
+    runs-pushed = length_push runs run
 
     lanes-long : length (running_lanes runs) ≡ length runs
     lanes-long = length-map runs (λ (r : Run). r.turn.part.lane)

@@ -8,7 +8,8 @@ use Rattle.bc_bits.specs.Counting.{one_if}
 use Rattle.bc_bits.proofs.BitLemmas.{has-beyond}
 use Rattle.bc_bookmarks.specs.Targets.{has_target_at, is_target}
 use Rattle.bc_bookmarks.proofs.TargetLemmas.{target-at}
-use Rattle.bc_pins.specs.Closing.{Closed, ClosedBit, IsOfPageLeft, opens_of, seen_by}
+use Rattle.bc_pins.specs.Calls.{view_of}
+use Rattle.bc_pins.specs.Closing.{Closed, ClosedBit, IsOfPageLeft, opens_of}
 use Rattle.bc_pins.specs.Facts.{IsBitOfTarget, opened_bit}
 use Rattle.bc_pins.specs.Key.{Key}
 use Rattle.bc_pins.specs.Totals.{times, total}
@@ -61,7 +62,7 @@ few-set s q b layout on = elim (cases_lt q (superpages s)) [
 ]
 
 module _ (k : Key) (s t : Layout) (seats : List Seat) (opening : k.opening ≡ s) (closed : Closed k seats t) (before : IsLayout s) (after : IsLayout t)
-    (unfetched : (p : ℕ) → total (λ (seat : Seat). times p (seen_by seat).fetched) seats ≡ 0) where
+    (unfetched : (p : ℕ) → total (λ (seat : Seat). times p (view_of seat).fetched) seats ≡ 0) where
   -- the sets of superpages behind the table
   set-behind : (q : ℕ) → k.supers ≤ q → set_of t.bookmarks q ≡ set_of s.bookmarks q
   set-behind q far = closed.bits_behind q far ∙ ap (λ (x : Layout). set_of x.bookmarks q) opening

@@ -2,7 +2,7 @@
 use Rattle.std.proofs.Common.{◌≡◌, ℕ, ◌+◌, ◌*◌, ◌<◌, ◌≤◌, true, inl, inr, List, Some, length, get_or, refl, sym, ap, ◌∙◌, arith}
 use Rattle.bc_memory.specs.Memory.{Cell}
 use Rattle.bc_mutator.specs.Objects.{AreWhole}
-use Rattle.bc_mutator.proofs.ObjectLemmas.{LieBehind-laid, allocated-below}
+use Rattle.bc_mutator.proofs.ObjectLemmas.{LieBehind-laid}
 use Rattle.bc_nursery.specs.Objects.{has_object}
 use Rattle.bc_nursery.specs.Survivors.{entry_at}
 use Rattle.bc_pins.specs.Contents.{IsFieldOn, IsYoung, field_bits}
@@ -18,6 +18,7 @@ use Rattle.bc_whole_heap.specs.Closed.{IsRecorded, buffer_of}
 use Rattle.bc_whole_heap.specs.Heaps.{HeapView}
 use Rattle.bc_whole_heap.specs.LaneChunks.{chunk_of}
 use Rattle.bc_whole_heap.specs.Running.{IsRunning}
+use Rattle.bc_whole_heap.proofs.HeapLemmas.{allocated-below}
 use Rattle.bc_word.specs.Addresses.{offset_of, page_of}
 use Rattle.bc_word.specs.declared.addresses.Address.{Address}
 use Rattle.bc_word.specs.declared.words.Word.{Word}

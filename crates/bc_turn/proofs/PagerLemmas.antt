@@ -1,5 +1,5 @@
 -- What a pager's answers leave as it was, and which pages they name.
-use Rattle.std.proofs.Common.{◌≡◌, ℕ, ◌+◌, ◌⊎◌, ◌<◌, ◌≤◌, List, [], ◌∷◌, ◌++◌, length, take, Option, Some, None, inl, inr, refl, ap, sym, subst, ◌∙◌, arith}
+use Rattle.std.proofs.Common.{◌≡◌, ℕ, ◌+◌, ◌⊎◌, ◌<◌, ◌≤◌, List, [], ◌∷◌, ◌++◌, length, take, inl, inr, refl, ap, sym, subst, ◌∙◌, arith}
 use Prim.Native.Nat.{zero, suc}
 use Rattle.bc_frames.specs.Places.{one_more}
 use Rattle.bc_pager.specs.Answering.{AreAnswered, IsAnswer, says_discarded, says_evicted}
@@ -131,10 +131,3 @@ one-more-some n m is = subst (λ (x : ℕ). 0 < x) (sym is) (go n)
   where
     go : (x : ℕ) → 0 < one_more x
     go x = omega arith
-
-pub some-same : (xs ys : List ℕ) → Some xs ≡ Some ys → xs ≡ ys
-some-same xs ys e = ap (λ (o : Option (List ℕ)). or-none o) e
-  where
-    or-none : Option (List ℕ) → List ℕ
-    or-none None = []
-    or-none (Some zs) = zs

@@ -2,7 +2,7 @@
 use Rattle.std.proofs.Common.{◌≡◌, ℕ, ◌+◌, ◌*◌, ◌<◌, ◌≤◌, nat_lt, cond, Bool, true, false, filter, List, [], ◌∷◌, ◌++◌, length, get_or, Vec, vec_capacity, inl, inr, refl, ap, sym, subst, ◌∙◌, arith}
 use Prim.Native.Nat.{zero, suc}
 use Rattle.std.proofs.lemmas.Bool.{cases_lt, lt-ltb, ltb-true}
-use Rattle.std.proofs.lemmas.List.{get_or-map, get_or_append_left, get_or_past, get_or_push, length-map}
+use Rattle.std.proofs.lemmas.List.{get_or-map, get_or_append_left, get_or_past, get_or_push, length-map, length_push}
 use Rattle.std.specs.declared.alloc.Global.{Global}
 use Rattle.bc_lane.specs.declared.parts.LanePart.{LanePart}
 use Rattle.bc_lane.specs.declared.turns.LaneRoom.{LaneRoom}
@@ -16,9 +16,9 @@ use Rattle.bc_turn.specs.declared.rooms.TurnRoom.{TurnRoom}
 use Rattle.bc_turn.specs.Begun.{AreBusyLanes, lane_ops, lane_replies}
 use Rattle.bc_turn.specs.Beside.{RanBeside}
 use Rattle.bc_turn.specs.Taking.{AreHeldDomains, AreSparesOf, HasBusyAmong, IsRoomKept, IsSpareOf, LiesRight, spare_lanes}
-use Rattle.bc_turn.proofs.BusyLemmas.{has-index, index-has}
-use Rattle.bc_turn.proofs.TakingLemmas.{length-push, spares-more}
+use Rattle.bc_turn.proofs.TakingLemmas.{spares-more}
 use Rattle.bc_whole_heap.specs.Heaps.{HeapView}
+use Rattle.bc_reach.proofs.Pushed.{Has-get_or, place_of}
 
 -- lists with the same numbers in the same places
 pub same-numbers : (xs ys : List ℕ) → length xs ≡ length ys → ((i : ℕ) → i < length xs → get_or xs i 0 ≡ get_or ys i 0) → xs ≡ ys
@@ -85,7 +85,7 @@ Rises xs = (i j : ℕ) → i < j → j < length xs → get_or xs i 0 < get_or xs
 
 rises-cons : (x : ℕ) (ys : List ℕ) → Rises ys → ((n : ℕ) → Has ys n → x < n) → (b : Bool) → Rises (cond b (x ∷ ys) ys)
 rises-cons x ys rest first true zero zero less lt = absurd (omega arith)
-rises-cons x ys rest first true zero (suc j) less lt = first (get_or ys j 0) (has-index ys j (omega arith))
+rises-cons x ys rest first true zero (suc j) less lt = first (get_or ys j 0) (Has-get_or ys j (omega arith))
 rises-cons x ys rest first true (suc i) zero less lt = absurd (omega arith)
 rises-cons x ys rest first true (suc i) (suc j) less lt = rest i j (omega arith) (omega arith)
 rises-cons x ys rest first false i j less lt = rest i j less lt
@@ -95,7 +95,7 @@ filter-rises test [] rises = λ i j less lt. absurd (omega arith)
 filter-rises test (x ∷ xs) rises =
     rises-cons x (filter test xs) (filter-rises test xs (λ i j less lt. rises (suc i) (suc j) (omega arith) (omega arith)))
     (λ n has.
-    let r = index-has xs n (filter-from test xs n has).0 in
+    let r = place_of xs n (filter-from test xs n has).0 in
     let up = rises 0 (suc r.0) (omega arith) (let lt = r.1 in omega arith) in
     let is = r.2 in
     omega arith) (test x)
@@ -110,12 +110,12 @@ module _ (lanes : List (List Op)) (replies : List (List Reply)) (kept : List ℕ
   left-ones = filter (is_busy lanes replies) kept
 
   left-from : (i : ℕ) → i < length left-ones → Has kept (get_or left-ones i 0) × (is_busy lanes replies (get_or left-ones i 0) ≡ true)
-  left-from i lt = filter-from (is_busy lanes replies) kept (get_or left-ones i 0) (has-index left-ones i lt)
+  left-from i lt = filter-from (is_busy lanes replies) kept (get_or left-ones i 0) (Has-get_or left-ones i lt)
 
   pub busy-kept : AreBusyLanes lanes replies left-ones
   busy-kept = record {
     within = λ i lt.
-        let r = index-has kept (get_or left-ones i 0) (left-from i lt).0 in
+        let r = place_of kept (get_or left-ones i 0) (left-from i lt).0 in
         let w = among.within r.0 r.1 in
         let is = r.2 in
         omega arith;
@@ -123,8 +123,8 @@ module _ (lanes : List (List Op)) (replies : List (List Reply)) (kept : List ℕ
     rising = filter-rises (is_busy lanes replies) kept among.rising;
     all = λ lane left.
         let r = among.all lane left in
-        index-has left-ones lane
-        (filter-to (is_busy lanes replies) kept lane (lt-ltb (length (lane_replies replies lane)) (length (lane_ops lanes lane)) left) (subst (Has kept) r.2 (has-index kept r.0 r.1)));
+        place_of left-ones lane
+        (filter-to (is_busy lanes replies) kept lane (lt-ltb (length (lane_replies replies lane)) (length (lane_ops lanes lane)) left) (subst (Has kept) r.2 (Has-get_or kept r.0 r.1)));
   }
 
 -- the room of those
@@ -190,7 +190,7 @@ pub returned-more : (hs : List ℕ) (slots : ℕ) (busy : List ℕ) (spares : Li
 returned-more hs slots busy spares spare are one lane = record {
   spares_are = spares-more hs slots spares spare are.spares_are one;
   lanes_are = λ i lt.
-      let long = length-push spares spare in
+      let long = length_push spares spare in
       get_or-map (λ (s : Spare). s.lane) (spares ++ spare ∷ []) i spare 0 lt
       ∙ elim (cases_lt i (length spares)) [
         | inl near ↦

@@ -2,7 +2,6 @@
 use Rattle.std.proofs.Common.{◌≡◌, ◌⊎◌, ℕ, ◌+◌, ◌*◌, ◌<◌, ◌≤◌, List, [], ◌∷◌, ◌++◌, length, map, get_or, set, take, drop, None, inl, inr, refl, ap, sym, subst, ◌∙◌, arith, length-append, get_or-set_same, get_or-set_other}
 use Prim.Native.Nat.{zero, suc}
 use Rattle.std.proofs.lemmas.Bool.{cases_eq, cases_lt}
-use Rattle.std.proofs.lemmas.List.{length-map}
 use Rattle.std.specs.List.{AllByRecursion}
 use Rattle.bc_lane.specs.Doing.{DidAll}
 use Rattle.bc_lane.specs.Turns.{IsReadStop, IsWhole, LaneRan, StopsOp, WhyStopped}
@@ -28,8 +27,8 @@ use Rattle.bc_reach.specs.Distinct.{Has}
 use Rattle.bc_superpages.specs.Layout.{Layout}
 use Rattle.bc_superpages.specs.LayoutAt.{IsAllocated}
 use Rattle.bc_superpages.specs.RootWords.{RootWords}
+use Rattle.bc_turn.proofs.BusyLemmas.{has-left, same-index}
 use Rattle.bc_turn.proofs.AwayLemmas.{NotesGone}
-use Rattle.bc_turn.proofs.BusyLemmas.{has-index, has-left, same-index}
 use Rattle.bc_turn.proofs.OtherLemmas.{IsSeatOf, other-whole}
 use Rattle.bc_turn.proofs.PassLemmas.{Passed, Passes, passed, passes-none, passes-then, passes-wider, ready-each}
 use Rattle.bc_turn.specs.Begun.{AllRan, AreBegun, HasLeft, lane_ops, lane_replies}
@@ -38,6 +37,8 @@ use Rattle.bc_turn.specs.Laying.{AreLaidBack}
 use Rattle.bc_whole_heap.specs.Closed.{buffer_of}
 use Rattle.bc_whole_heap.specs.Heaps.{HeapView, end_of}
 use Rattle.bc_whole_heap.specs.LaneStates.{StandsAs}
+use Rattle.bc_lane.proofs.WholeLemmas.{lane-serial}
+use Rattle.bc_reach.proofs.Pushed.{Has-get_or}
 
 -- the heap that the lanes below n left. What each busy lane has belongs to it: what it has after its operations where it is below n,
 -- and else what it began with
@@ -61,13 +62,6 @@ pub record Link (hs : List ℕ) (n : ℕ) (ops : List Op) (serial : ℕ) (told :
   pub did : DidAll hs n (take (length new) (drop (length told) ops)) new g serial k next
   pub births : next ≤ serial + length new
   pub stopped : IsAtEndOr ops after (λ op. StopsBeside hs n op k t)
-
-lane-below : (h : HeapView) (hs serials : List ℕ) (state : State) (lane : ℕ) → StandsAs h hs serials state → lane < length h.chunks → lane < length serials
-lane-below h hs serials state lane st lt =
-    let a = ap length st.births in
-    let b = length-map state.made length in
-    let c = st.lanes in
-    omega arith
 
 whole-end : (part : LanePart) (v : View) (end : ℕ) (h : HeapView) → IsWhole part v None end h → IsWhole part v None (end_of h.space) h
 whole-end part v end h w = subst (λ (n : ℕ). IsWhole part v None n h) w.belongs.space.end_is w
@@ -152,7 +146,7 @@ module _ (pins : Pins) (h : HeapView) (hs serials : List ℕ) (lanes : List (Lis
   module _ (n : ℕ) (s : At n) (none : Has busy n → ⊥) where
     below : (i : ℕ) → i < length busy → lane i < suc n → lane i < n
     below i lt less = elim (cases_eq (lane i) n) [
-      | inl e ↦ absurd (none (subst (Has busy) e (has-index busy i lt)))
+      | inl e ↦ absurd (none (subst (Has busy) e (Has-get_or busy i lt)))
       | inr ne ↦ elim (cases_lt (lane i) n) [
         | inl l ↦ l
         | inr le ↦ absurd (ne (omega arith))
@@ -202,7 +196,7 @@ module _ (pins : Pins) (h : HeapView) (hs serials : List ℕ) (lanes : List (Lis
     run = (ran.each i lt).ran s.heap here
 
     fits-at : (k : HeapView) → Passes hs (Has busy) h k → AllByRecursion (IsOpOf k.roots) (lane_ops lanes (lane i))
-    fits-at k passes = subst (λ (r : RootWords). AllByRecursion (IsOpOf r) (lane_ops lanes (lane i))) (sym passes.roots) (ops (lane i) (has-index busy i lt))
+    fits-at k passes = subst (λ (r : RootWords). AllByRecursion (IsOpOf r) (lane_ops lanes (lane i))) (sym passes.roots) (ops (lane i) (Has-get_or busy i lt))
 
     abbrev Made : Type 0
     Made = (k : HeapView) × IsWhole w.part (view_of (after i)) None (end_of s.heap.space) k
@@ -236,7 +230,7 @@ module _ (pins : Pins) (h : HeapView) (hs serials : List ℕ) (lanes : List (Lis
     within = subst (λ (l : ℕ). l < length s.heap.chunks) is (s.ready i lt).lane_within
 
     below-births : n < length s.births
-    below-births = lane-below s.heap hs s.births s.state n s.stands within
+    below-births = lane-serial s.heap hs s.births s.state n s.stands within
 
     passed-n : Passed hs n s.heap k s.births w.part.serial
     passed-n =
@@ -246,7 +240,7 @@ module _ (pins : Pins) (h : HeapView) (hs serials : List ℕ) (lanes : List (Lis
     passes-h : Passes hs (Has busy) h k
     passes-h =
         passes-then hs (Has busy) h s.heap k s.passes
-        (passes-wider hs (λ l. l ≡ n) (Has busy) s.heap k (λ l e. subst (Has busy) (is ∙ sym e) (has-index busy i lt)) passed-n.passes)
+        (passes-wider hs (λ l. l ≡ n) (Has busy) s.heap k (λ l e. subst (Has busy) (is ∙ sym e) (Has-get_or busy i lt)) passed-n.passes)
 
     abbrev births : List ℕ
     births = set s.births n w.part.serial

@@ -1,9 +1,9 @@
 -- What a lane takes into a turn: the domains that it holds, the words of their slots, and room for both.
-use Rattle.std.proofs.Common.{◌≡◌, ◌≢◌, ℕ, ◌+◌, ◌*◌, ◌<◌, ◌≤◌, List, [], ◌∷◌, ◌++◌, length, take, drop, get_or, Vec, vec_len, inl, inr, refl, ap, sym, subst, ◌∙◌, arith, length-append}
+use Rattle.std.proofs.Common.{◌≡◌, ◌≢◌, ℕ, ◌+◌, ◌*◌, ◌<◌, ◌≤◌, List, [], ◌∷◌, ◌++◌, length, take, drop, get_or, Vec, vec_len, inl, inr, refl, ap, sym, subst, ◌∙◌, arith}
 use Rattle.std.proofs.Math.Nat.{mul-le-mul_right}
 use Rattle.std.proofs.lemmas.Bool.{cases_eq, cases_lt}
 use Rattle.std.specs.declared.alloc.Global.{Global}
-use Rattle.std.proofs.lemmas.List.{drop_all, get_or_push, get_or_append_left, get_or_past, get_or-map, length-map, map-append}
+use Rattle.std.proofs.lemmas.List.{drop_all, get_or_push, get_or_append_left, get_or_past, get_or-map, length-map, map-append, length_push}
 use Rattle.std.proofs.Math.Seq.{take-append_seam}
 use Rattle.bc_lane.specs.declared.turns.LaneRoots.{LaneRoots}
 use Rattle.bc_lane.specs.declared.turns.LaneTurn.{LaneTurn}
@@ -25,21 +25,18 @@ use Rattle.bc_whole_heap.specs.Closed.{buffer_of}
 use Rattle.bc_whole_heap.specs.Heaps.{HeapView}
 use Rattle.bc_word.specs.WordBits.{IsPacked}
 
-pub length-push : {X : Type 0} (xs : List X) (y : X) → length (xs ++ y ∷ []) ≡ length xs + 1
-length-push xs y = length-append xs (y ∷ []) ∙ refl
-
 -- what is true of all numbers of a list and of one more is true of the longer list's
 push-each : (P : ℕ → Type 0) (xs : List ℕ) (y : ℕ) → ((i : ℕ) → i < length xs → P (get_or xs i 0)) → P y → (i : ℕ) → i < length (xs ++ y ∷ []) → P (get_or (xs ++ y ∷ []) i 0)
 push-each P xs y all one i lt = elim (cases_lt i (length xs)) [
   | inl near ↦ subst P (sym (get_or_append_left xs (y ∷ []) 0 i near)) (all i near)
-  | inr far ↦ let long = length-push xs y in subst P (sym (get_or_push xs y 0 i (omega arith))) one
+  | inr far ↦ let long = length_push xs y in subst P (sym (get_or_push xs y 0 i (omega arith))) one
 ]
 
 -- a list that rises still does with a larger number at its end
 push-rising : (xs : List ℕ) (y : ℕ) → ((i j : ℕ) → i < j → j < length xs → get_or xs i 0 < get_or xs j 0) → ((i : ℕ) → i < length xs → get_or xs i 0 < y)
     → (i j : ℕ) → i < j → j < length (xs ++ y ∷ []) → get_or (xs ++ y ∷ []) i 0 < get_or (xs ++ y ∷ []) j 0
 push-rising xs y rising below i j less lt =
-    let long = length-push xs y in
+    let long = length_push xs y in
     let near : i < length xs = omega arith in
     let first : get_or (xs ++ y ∷ []) i 0 ≡ get_or xs i 0 = get_or_append_left xs (y ∷ []) 0 i near in
     elim (cases_lt j (length xs)) [
@@ -53,10 +50,10 @@ push-rising xs y rising below i j less lt =
 
 -- where a number stands in the longer list
 push-found : (xs : List ℕ) (y a : ℕ) → (i : ℕ) × (i < length xs) × (get_or xs i 0 ≡ a) → (i : ℕ) × (i < length (xs ++ y ∷ [])) × (get_or (xs ++ y ∷ []) i 0 ≡ a)
-push-found xs y a f = let long = length-push xs y in (f.0, omega (arith, f.1), get_or_append_left xs (y ∷ []) 0 f.0 f.1 ∙ f.2)
+push-found xs y a f = let long = length_push xs y in (f.0, omega (arith, f.1), get_or_append_left xs (y ∷ []) 0 f.0 f.1 ∙ f.2)
 
 push-last : (xs : List ℕ) (y : ℕ) → (i : ℕ) × (i < length (xs ++ y ∷ [])) × (get_or (xs ++ y ∷ []) i 0 ≡ y)
-push-last xs y = let long = length-push xs y in (length xs, omega arith, get_or_push xs y 0 (length xs) refl)
+push-last xs y = let long = length_push xs y in (length xs, omega arith, get_or_push xs y 0 (length xs) refl)
 
 -- domains that a lane holds
 pub held-none : (hs : List ℕ) (lane : ℕ) → AreHeldBelow hs lane 0 []
@@ -101,7 +98,7 @@ copied-none r d ws = record {
 pub copied-more : (r : RootWords) (d n bits : ℕ) (old new : List ℕ) → HasCopied r d n old new → bits ≡ root_at r d n → IsPacked bits → HasCopied r d (n + 1) old (new ++ bits ∷ [])
 copied-more r d n bits old new is word packed =
     let long = is.long in
-    let longer = length-push new bits in
+    let longer = length_push new bits in
     record {
       long = omega arith;
       kept = λ k lt. get_or_append_left new (bits ∷ []) 0 k (omega arith) ∙ is.kept k lt;
@@ -196,7 +193,7 @@ busy-all lanes replies busy are = record {
 pub spares-more : (hs : List ℕ) (slots : ℕ) (spares : List Spare) (spare : Spare) → AreSparesOf hs slots spares → IsSpareOf hs slots spare → AreSparesOf hs slots (spares ++ spare ∷ [])
 spares-more hs slots spares spare all one i lt d = elim (cases_lt i (length spares)) [
   | inl near ↦ subst (IsSpareOf hs slots) (sym (get_or_append_left spares (spare ∷ []) d i near)) (all i near d)
-  | inr far ↦ let long = length-push spares spare in subst (IsSpareOf hs slots) (sym (get_or_push spares spare d i (omega arith))) one
+  | inr far ↦ let long = length_push spares spare in subst (IsSpareOf hs slots) (sym (get_or_push spares spare d i (omega arith))) one
 ]
 
 pub lanes-more : (spares : List Spare) (spare : Spare) (lane : ℕ) → spare.lane ≡ lane → spare_lanes (spares ++ spare ∷ []) ≡ spare_lanes spares ++ lane ∷ []
@@ -206,8 +203,8 @@ pub nil-packed : IsPacked 0
 nil-packed = (omega arith, λ _. omega arith)
 
 -- as many words as one domain more has
-pub room-fits : (n count slots : ℕ) → n < count → n * slots + slots ≤ count * slots
-room-fits n count slots lt =
+pub stretch-fits : (n count slots : ℕ) → n < count → n * slots + slots ≤ count * slots
+stretch-fits n count slots lt =
     let le : (n + 1) * slots ≤ count * slots = mul-le-mul_right slots (omega arith) in
     let one : (n + 1) * slots ≡ n * slots + slots = grind arith in
     omega arith

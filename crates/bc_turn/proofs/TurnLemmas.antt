@@ -5,7 +5,7 @@ use Rattle.std.specs.declared.alloc.Global.{Global}
 use Rattle.std.specs.List.{AllByRecursion}
 use Rattle.std.proofs.Math.ListN as list
 use Rattle.std.proofs.lemmas.Bool.{cases_lt, eq-eqb, eqb-true}
-use Rattle.std.proofs.lemmas.List.{get_or-map, get_or_append_left, get_or_push, length-map}
+use Rattle.std.proofs.lemmas.List.{get_or-map, get_or_append_left, get_or_push, length-map, length_push}
 use Rattle.bc_lane.specs.declared.parts.LanePart.{LanePart}
 use Rattle.bc_lane.specs.declared.stops.Stop.{Stop}
 use Rattle.bc_lane.specs.declared.stops.Stop.TheVariants as stop
@@ -49,7 +49,6 @@ use Rattle.bc_turn.proofs.BesideLemmas.{ran-beside, turn-table}
 use Rattle.bc_turn.proofs.LayingLemmas.{laid-space}
 use Rattle.bc_turn.proofs.RoomLemmas.{beside-longer, busy-among, busy-later, same-numbers}
 use Rattle.bc_turn.proofs.TableLemmas.{IsTurnTable}
-use Rattle.bc_turn.proofs.TakingLemmas.{length-push}
 use Rattle.bc_whole_heap.specs.Heaps.{HeapView, end_of}
 use Rattle.bc_whole_heap.specs.LaneStates.{StandsAs}
 use Rattle.bc_whole_heap.specs.Running.{IsRunning}
@@ -86,7 +85,7 @@ back-place n i lt = omega arith
 
 -- the roles of a turn: each lane's, and the pager's behind them
 pub roles-long : (busy : List ℕ) → length (turn_roles busy) ≡ length busy + 1
-roles-long busy = length-push (map (λ (l : ℕ). Lane l) busy) (Pager 0) ∙ ap (λ (n : ℕ). n + 1) (length-map busy (λ (l : ℕ). Lane l))
+roles-long busy = length_push (map (λ (l : ℕ). Lane l) busy) (Pager 0) ∙ ap (λ (n : ℕ). n + 1) (length-map busy (λ (l : ℕ). Lane l))
 
 lane-role-at : (busy : List ℕ) (i : ℕ) → i < length busy → get_or (turn_roles busy) i (Lane 0) ≡ Lane (get_or busy i 0)
 lane-role-at busy i lt =
@@ -128,7 +127,7 @@ module _ (h : HeapView) (hs serials : List ℕ) (lanes : List (List Op)) (before
   table = turn-table h.space hs busy pins (seats ++ pager ∷ []) set.opened
 
   lane-seats : length seats ≡ length busy
-  lane-seats = let all = set.opened.seats_are.long in let roles = roles-long busy in let long = length-push seats pager in omega arith
+  lane-seats = let all = set.opened.seats_are.long in let roles = roles-long busy in let long = length_push seats pager in omega arith
 
   -- the pager's seat, which is the last
   pub pager-dealt : IsDealt pins.table.shared.table_id (key_of pins) (Pager 0) pager
@@ -332,7 +331,7 @@ module _ (h : HeapView) (hs serials : List ℕ) (lanes : List (List Op)) (before
           all-are i lt e = let long = seats-long in get_or_append_left back (later.seat ∷ []) e i (omega arith) ∙ seats-are i lt e
 
           all-long : length whole-list ≡ length busy + 1
-          all-long = length-push back later.seat ∙ ap (λ (n : ℕ). n + 1) seats-long
+          all-long = length_push back later.seat ∙ ap (λ (n : ℕ). n + 1) seats-long
 
           pub all-back : AreBack pins.table.shared.table_id (key_of pins) whole-list
           all-back =

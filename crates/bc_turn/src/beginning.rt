@@ -4,9 +4,8 @@ ghost use Rattle.std.specs.Prelude.{◌≡◌, ℕ, List, Vec, ◌+◌, ◌*◌,
 ghost use Rattle.std.specs.declared.alloc.Global.{Global};
 ghost use Rattle.bc_cycle.specs.Emptying.{heap_view};
 ghost use Rattle.bc_model.specs.Rows.{lists_of};
-ghost use Rattle.bc_superpages.specs.RootSlots.{root_at};
 ghost use Rattle.bc_turn.specs.Begun.{AreBusyLanes, HasLeft, lane_ops};
-ghost use Rattle.bc_turn.specs.Taking.{AreFirstWords, AreSparesOf, AreTaken, AreWordsOf, FitsLanes, HasCopied, HasReplyRoom, IsSpareOf, TakesAlong, spare_lanes};
+ghost use Rattle.bc_turn.specs.Taking.{AreSparesOf, AreTaken, AreWordsOf, FitsLanes, HasCopied, HasReplyRoom, IsSpareOf, TakesAlong, spare_lanes};
 
 use crate::rooms::Spare;
 use crate::runs::Run;

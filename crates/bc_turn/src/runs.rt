@@ -1,17 +1,10 @@
 //! Lanes at work, each on a thread of its own, and a pager beside them.
 
-ghost use Rattle.std.specs.Prelude.{◌<◌, length, None};
+ghost use Rattle.std.specs.Prelude.{◌<◌, length};
 ghost use Rattle.std.specs.Thread.{IsSync};
-ghost use Rattle.std.specs.List.{AllByRecursion};
-ghost use Rattle.bc_lane.specs.declared.stops.Stop.{Stop};
-ghost use Rattle.bc_lane.specs.Turns.{IsGoing, IsWhole};
 ghost use Rattle.bc_model.specs.Rows.{lists_of};
-ghost use Rattle.bc_mutator.specs.Operations.{IsOpOf};
-ghost use Rattle.bc_pins.specs.Calls.{view_of};
-ghost use Rattle.bc_turn.specs.Begun.{RanLane, lane_ops};
 ghost use Rattle.bc_turn.specs.Paging.{HasPaged, IsPagerReady};
 ghost use Rattle.bc_turn.specs.Taking.{CanAllRun, CanRun, HaveRun, LaneHasRun};
-ghost use Rattle.bc_whole_heap.specs.Heaps.{HeapView, end_of};
 
 use crate::paging::{Paging, serve_all};
 use bc_gates::Gate;

@@ -1,6 +1,6 @@
 -- Chunks that are empty, by their first objects.
-use Rattle.std.proofs.Common.{◌≡◌, ℕ, ◌<◌, ◌≤◌, Bool, true, false, inl, inr, List, [], ◌∷◌, length, get_or, Option, None, sym, ap, subst, ◌∙◌, refl, arith}
-use Rattle.std.proofs.lemmas.Bool.{cases_lt}
+use Rattle.std.proofs.Common.{◌≡◌, ℕ, ◌<◌, true, false, inl, inr, List, [], ◌∷◌, length, get_or, Option, None, sym, ap, ◌∙◌, refl}
+use Rattle.std.proofs.lemmas.Bool.{cases_lt, both_ways}
 use Rattle.std.proofs.lemmas.List.{get_or_past, get_or_read}
 use Rattle.std.specs.List.{find}
 use Rattle.std.specs.Option.{is_some, option_map}
@@ -9,9 +9,6 @@ use Rattle.bc_nursery.specs.Objects.{address_of, is_after, next_of}
 use Rattle.bc_whole_heap.specs.Heaps.{no_chunk}
 use Rattle.bc_whole_heap.specs.LaneChunks.{chunk_of}
 use Rattle.bc_word.specs.declared.addresses.Address.{Address}
-
-false_true : {X : Type 0} (b : Bool) → b ≡ false → b ≡ true → X
-false_true b off on = absurd (let e : false ≡ true = sym off ∙ on in cc)
 
 first-none : (os : List ChunkObject) → is_some (option_map address_of (find (λ o. is_after None o.address) os)) ≡ false → os ≡ []
 first-none [] off = refl
@@ -28,7 +25,7 @@ pub none-empty : (cs : List Nursery) (k : ℕ) (c : Nursery) (first : Option Add
 none-empty cs k c first lt is next on empty =
     let here : c.objects ≡ [] = ap (λ (x : Nursery). x.objects) (get_or_read cs k c lt is no_chunk) ∙ empty k in
     let off : is_some first ≡ false = ap is_some next ∙ ap (λ (os : List ChunkObject). is_some (option_map address_of (find (λ o. is_after None o.address) os))) here in
-    false_true (is_some first) off on
+    both_ways (is_some first) off on
 
 -- behind the last chunk of the list there is an empty one
 pub all-empty : (cs : List Nursery) → ((k : ℕ) → k < length cs → (chunk_of cs k).objects ≡ []) → (l : ℕ) → (chunk_of cs l).objects ≡ []

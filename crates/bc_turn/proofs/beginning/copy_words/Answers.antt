@@ -1,6 +1,6 @@
 use Rattle.std.proofs.Common.{length, refl, sym, subst, ◌∙◌, arith}
 use Rattle.bc_turn.specs.Taking.{AreFirstWords}
-use Rattle.bc_turn.proofs.TakingLemmas.{words-none, words-more, nil-packed, room-fits}
+use Rattle.bc_turn.proofs.TakingLemmas.{words-none, words-more, nil-packed, stretch-fits}
 use Rattle.bc_turn.proofs.beginning.copy_words.Goals as goal
 
 pub loop-domain-init : goal.loop-domain-init
@@ -15,7 +15,7 @@ copy_slots-requires-clause-room c =
     let long = inv.words.long in
     let room = inv.room in
     let enough = c.requires.room in
-    let fits = room-fits c.loop-domain.domain-index (length c.args.domains.now) c.args.roots.now.slots c.loop-domain-test.true in
+    let fits = stretch-fits c.loop-domain.domain-index (length c.args.domains.now) c.args.roots.now.slots c.loop-domain-test.true in
     omega arith
 
 pub loop-domain-preserved : goal.loop-domain-preserved

@@ -1,6 +1,6 @@
 use Rattle.std.proofs.Common.{◌≡◌, ℕ, ◌+◌, ◌-◌, List, length, get_or, Vec, refl, ap, sym, subst, ◌∙◌, arith}
 use Rattle.std.specs.declared.alloc.Global.{Global}
-use Rattle.std.proofs.lemmas.List.{length-map}
+use Rattle.std.proofs.lemmas.List.{length-map, length_push}
 use Rattle.bc_cycle.specs.declared.heaps.Heap.{Heap}
 use Rattle.bc_cycle.specs.Emptying.{heap_view}
 use Rattle.bc_model.specs.Rows.{lists_of}
@@ -10,7 +10,7 @@ use Rattle.bc_turn.specs.declared.runs.Run.{Run}
 use Rattle.bc_turn.specs.Laying.{AreLaidBack}
 use Rattle.bc_turn.specs.Taking.{HasReplyRoom, HasRoomForLane, IsSpareOf, running_lanes, turn_at}
 use Rattle.bc_turn.proofs.RoomLemmas.{AreReturned, returned-all, returned-more, returned-none}
-use Rattle.bc_turn.proofs.TakingLemmas.{length-push, no-items}
+use Rattle.bc_turn.proofs.TakingLemmas.{no-items}
 use Rattle.bc_turn.proofs.EndingLemmas.{Ending, Gathering, all-count, ending-more, ending-none, gathering-more, gathering-none, holders-are, lane-is, lane-within, lies-right, next-run, room-more, runs-count}
 use Rattle.bc_turn.proofs.ending.end_all.Goals as goal
 
@@ -110,8 +110,8 @@ loop-run-preserved c =
           let even = inv.even in
           let a = ap length c.push_reserved-in-Some.ensures.items in
           let b = ap length pushed in
-          let d = length-push c.loop-run.spares.items c.end_lane-seat.result.1 in
-          let e = length-push seats c.end_lane-seat.result.0 in
+          let d = length_push c.loop-run.spares.items c.end_lane-seat.result.1 in
+          let e = length_push seats c.end_lane-seat.result.0 in
           omega arith;
       spare_capacity = c.push_reserved-in-Some.ensures.capacity ∙ inv.spare_capacity;
     }

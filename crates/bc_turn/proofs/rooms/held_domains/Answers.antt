@@ -1,6 +1,7 @@
 use Rattle.std.proofs.Common.{rules, ◌≡◌, ◌+◌, [], length, ap, sym, subst, arith}
+use Rattle.std.proofs.lemmas.List.{length_push}
 use Rattle.bc_turn.specs.Taking.{AreHeldBelow}
-use Rattle.bc_turn.proofs.TakingLemmas.{held-none, held-more, held-same, length-push}
+use Rattle.bc_turn.proofs.TakingLemmas.{held-none, held-more, held-same}
 use Rattle.bc_turn.proofs.rooms.held_domains.Goals as goal
 
 pub loop-domain-init : goal.loop-domain-init
@@ -18,7 +19,7 @@ loop-domain-preserved c =
     let few = c.loop-domain.invariant.few in
     let items = c.in_ok-push.ensures.items in
     let more = ap length items in
-    let long = length-push c.loop-domain.domains.items c.loop-domain.domain in
+    let long = length_push c.loop-domain.domains.items c.loop-domain.domain in
     record {
       few = omega arith;
       held = subst (AreHeldBelow c.args.holders.now c.args.lane (c.loop-domain.domain + 1)) (sym items) (held-more c.args.holders.now c.args.lane c.loop-domain.domain c.loop-domain.domains.items c.loop-domain.invariant.held c.if-holders-domain.false);

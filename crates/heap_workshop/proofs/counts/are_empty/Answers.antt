@@ -1,4 +1,4 @@
-use Rattle.std.proofs.Common.{◌≡◌, ℕ, ◌<◌, ◌≤◌, true, false, length, below_more, refl, sym, ◌∙◌, arith}
+use Rattle.std.proofs.Common.{◌≡◌, true, false, below_more, refl, sym, ◌∙◌, arith}
 use Rattle.heap_workshop.proofs.EmptyLemmas.{all-empty, none-empty, empty-one}
 use Rattle.heap_workshop.proofs.counts.are_empty.Goals as goal
 

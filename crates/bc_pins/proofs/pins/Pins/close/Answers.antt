@@ -44,6 +44,7 @@ give_frames-requires-clause-words c =
     let pool : length c.rest.inside.parts.pool ≡ length self.table.shared.key.pool =
     ap length (c.rest.invariant.emptied.pool ∙ ap (λ (r : RestView). r.whole.pool) c.rest.view_is ∙ self.pooled) in
     let frames = self.frames in
+    let start = c.frame_entry.ensures in
     (subst IsFull (sym c.drain.ensures.words) full, omega arith)
 
 pub close_up-requires : goal.close_up-requires
@@ -56,7 +57,7 @@ close_up-requires c =
     let out = c.rest.invariant.emptied in
     let ended = ended_from _ _ c.args.seats.items c.unite_all-root.result self.rest inside.whole.value inside.parts inside.pages _ _ _ _ c.set_states.new.headers.items c.set_summaries.new.headers.items _ _ c.give_frames.new.pool c.unite_all-root.new.store c.put_boxes_back.new.parts.boxes.items c.put_boxes_back.new.parts.store.places
     (ap (λ (r : RestView). r.whole) c.rest.view_is) (ap (λ (r : RestView). r.pages) c.rest.view_is) c.rest.invariant self.paged self.opened self.pooled self.young self.frames unite.gathered final.2
-    (ap slots_items c.drain.ensures.words) c.drain.ensures.items c.set_states.ensures.set self.counted c.set_summaries.ensures.set (let many = self.counted in omega arith) c.give_frames.ensures.set (ap (λ (s : StoreView). s.places) unite.store) back.boxes back.places in
+    (ap slots_items c.drain.ensures.words) c.drain.ensures.items c.set_states.ensures.set self.counted c.set_summaries.ensures.set (let many = self.counted in let start = c.frame_entry.ensures in omega arith) c.give_frames.ensures.set (ap (λ (s : StoreView). s.places) unite.store) back.boxes back.places in
     record {
       kept = ended_parts _ _ _ _ _ _ _ _ _ _ _ _ ended _ _ (record {
         headers_are = ap (λ (p : SpaceParts). p.headers.items) back.same;
@@ -79,7 +80,7 @@ returns c =
     let out = c.rest.invariant.emptied in
     let ended = ended_from _ _ c.args.seats.items c.unite_all-root.result self.rest inside.whole.value inside.parts inside.pages _ _ _ _ c.set_states.new.headers.items c.set_summaries.new.headers.items _ _ c.give_frames.new.pool c.unite_all-root.new.store c.put_boxes_back.new.parts.boxes.items c.put_boxes_back.new.parts.store.places
     (ap (λ (r : RestView). r.whole) c.rest.view_is) (ap (λ (r : RestView). r.pages) c.rest.view_is) c.rest.invariant self.paged self.opened self.pooled self.young self.frames unite.gathered final.2
-    (ap slots_items c.drain.ensures.words) c.drain.ensures.items c.set_states.ensures.set self.counted c.set_summaries.ensures.set (let many = self.counted in omega arith) c.give_frames.ensures.set (ap (λ (s : StoreView). s.places) unite.store) back.boxes back.places in
+    (ap slots_items c.drain.ensures.words) c.drain.ensures.items c.set_states.ensures.set self.counted c.set_summaries.ensures.set (let many = self.counted in let start = c.frame_entry.ensures in omega arith) c.give_frames.ensures.set (ap (λ (s : StoreView). s.places) unite.store) back.boxes back.places in
     record {
       closed = ended_space _ _ _ _ _ _ _ _ _ _ _ _ ended c.unite_all-root.new.store c.put_boxes_back.new.parts.store c.put_boxes_back.new.parts _ unite.store (ap (λ (p : SpaceParts). p.store) back.same) (record {
         headers_are = ap (λ (p : SpaceParts). p.headers.items) back.same;

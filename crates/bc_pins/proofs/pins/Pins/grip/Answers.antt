@@ -1,4 +1,5 @@
-use Rattle.std.proofs.Common.{◌∙◌, ap, arith}
+use Rattle.std.proofs.Common.{ℕ, ◌∷◌, ◌∙◌, ap, sym, arith}
+use Rattle.atomic_table.specs.Table.{rest}
 use Rattle.bc_pins.specs.declared.views.Lodged.TheVariants.{Home}
 use Rattle.bc_pins.specs.Steps.{Mine}
 use Rattle.bc_pins.proofs.TakeLemmas.{takes_from}
@@ -18,5 +19,10 @@ compare_exchange-found-requires c =
 pub exchange-requires : goal.exchange-requires
 exchange-requires c =
     let took = c.compare_exchange-found.ensures in
-    let hit = took.2.hit c.args.page c.page_entry.ensures c.if-found-old.false in
-    (took.0 ∙ c.requires.seat.table, (Home hit.0, headed _ _ _ (ap (λ (m : Mine). m.1) hit.1)))
+    let hit = took.2.hit c.args.page c.page_entry.ensures c.if-found-old.false in (
+      took.0 ∙ c.requires.seat.table,
+      (
+        Home hit.0,
+        headed _ _ _ (ap (λ (m : Mine). m.1) hit.1) ∙ ap (λ (i : ℕ). (i, Home hit.0) ∷ rest c.compare_exchange-found.new.seat.me.1) (sym c.home_entry-slot.ensures),
+      ),
+    )

@@ -8,7 +8,6 @@ use Rattle.bc_pins.specs.Opening.{IsOpenable, key_for}
 use Rattle.bc_pins.specs.Totals.{times}
 use Rattle.bc_pins.proofs.pins.Pins.open.Goals as goal
 
--- src/opening.rt:79:9
 pub draw-requires-clause-drawn : goal.draw-requires-clause-drawn
 draw-requires-clause-drawn c =
     let parts = c.open_up-parts.result in
@@ -20,6 +19,7 @@ draw-requires-clause-drawn c =
     record {
       kept = c.open_up-parts.ensures.kept;
       within = omega arith;
+      near = omega arith;
       behind = λ p lt. ends.absent p (omega arith);
       absent = λ p lt. subst (λ (s : Layout). state_at s.states p ≡ Absent) (sym opening) (c.open_up-parts.ensures.absent p (omega arith));
       layout = c.open_up-parts.ensures.layout ∙ sym opening;

@@ -22,7 +22,7 @@ store-requires c =
     let v : View = c.args.seat.now.inner.me.0 in
     let p : ℕ = c.args.held.page in
     let slots = ap rest holds.slots ∙ ap (λ (a : Key). (store_slot a p, Nothing) ∷ []) seat.about in
-    let is = c.exchange.ensures.3 ∙ ap (λ (l : List (ℕ × Lodged)). (v, (home_slot p, Home c.args.held.homed) ∷ l)) slots in
+    let is = c.exchange.ensures.3 ∙ ap (λ (i : ℕ). (v, (i, Home c.args.held.homed) ∷ rest c.args.seat.now.inner.me.1)) c.home_entry-slot.ensures ∙ ap (λ (l : List (ℕ × Lodged)). (v, (home_slot p, Home c.args.held.homed) ∷ l)) slots in
     let inside : p < pages_of c.args.self.now.table.shared.key = subst (λ (a : Key). p < pages_of a) seat.about holds.inside in (
       c.exchange.ensures.0 ∙ seat.table,
       omega arith,
@@ -33,7 +33,7 @@ store-requires c =
 pub returns-clause-same : goal.returns-clause-same
 returns-clause-same c =
     let swapped = c.exchange.ensures.3 in
-    let slots = ap (λ (m : Mine). m.1) swapped in
+    let slots = ap (λ (m : Mine). m.1) swapped ∙ ap (λ (i : ℕ). (i, Home c.args.held.homed) ∷ rest c.args.seat.now.inner.me.1) c.home_entry-slot.ensures in
     let was = ap (λ (m : Mine). m.0) swapped in
     let view = c.store.ensures.2.view c.args.held.page c.args.held.homed c.page_entry.ensures (headed _ _ _ slots) in
     record {
@@ -49,7 +49,7 @@ returns-clause-same c =
 pub returns-clause-free : goal.returns-clause-free
 returns-clause-free c =
     let swapped = c.exchange.ensures.3 in
-    let slots = ap (λ (m : Mine). m.1) swapped in
+    let slots = ap (λ (m : Mine). m.1) swapped ∙ ap (λ (i : ℕ). (i, Home c.args.held.homed) ∷ rest c.args.seat.now.inner.me.1) c.home_entry-slot.ensures in
     let view = c.store.ensures.2.view c.args.held.page c.args.held.homed c.page_entry.ensures (headed _ _ _ slots) in
     record {
       hand = ap (λ (u : View). u.hand) view;
@@ -59,7 +59,7 @@ returns-clause-free c =
 pub invariant_of-seat : goal.invariant_of-seat
 invariant_of-seat c =
     let swapped = c.exchange.ensures.3 in
-    let slots = ap (λ (m : Mine). m.1) swapped in
+    let slots = ap (λ (m : Mine). m.1) swapped ∙ ap (λ (i : ℕ). (i, Home c.args.held.homed) ∷ rest c.args.seat.now.inner.me.1) c.home_entry-slot.ensures in
     let was = ap (λ (m : Mine). m.0) swapped in
     let held = c.args.held in
     let view = c.store.ensures.2.view held.page held.homed c.page_entry.ensures (headed _ _ _ slots) in
@@ -68,7 +68,7 @@ invariant_of-seat c =
 pub returns-clause-view : goal.returns-clause-view
 returns-clause-view c =
     let swapped = c.exchange.ensures.3 in
-    let slots = ap (λ (m : Mine). m.1) swapped in
+    let slots = ap (λ (m : Mine). m.1) swapped ∙ ap (λ (i : ℕ). (i, Home c.args.held.homed) ∷ rest c.args.seat.now.inner.me.1) c.home_entry-slot.ensures in
     let was = ap (λ (m : Mine). m.0) swapped in
     let held = c.args.held in
     let v : View = c.args.seat.now.inner.me.0 in
