@@ -5,7 +5,7 @@ use Rattle.bc_lane.specs.Shown.{HasPage, IsOwnPage, ShowsPages}
 use Rattle.bc_lane.specs.Turns.{HasInHand, IsReadStop, ReadLast, ReadsOn}
 use Rattle.bc_lane.specs.declared.stops.Stop.{Stop}
 use Rattle.bc_lane.specs.declared.stops.Stop.TheVariants as stop
-use Rattle.bc_lane.proofs.PageLemmas.{recorded-else, shows-back, shows-given, shows-read, shows-taken}
+use Rattle.bc_lane.proofs.PageLemmas.{owns-page, recorded-else, shows-back, shows-given, shows-read, shows-taken}
 use Rattle.bc_pins.specs.declared.holding.Held.{Held}
 use Rattle.bc_pins.specs.declared.pins.Seat.{Seat}
 use Rattle.bc_pins.specs.declared.taking.TakeNo.{TakeNo}
@@ -168,7 +168,7 @@ put-reads seat w held has own e =
     let v = view_of seat in
     subst (λ (x : View). ReadsOn v x) (sym e)
     (record {
-      same = refl;
+      same = ap (λ (b : Bool). record (put_back v held) { returned = if b then v.returned else held.page ∷ v.returned }) (owns-page v held.page own);
       more = [];
       read = refl;
       behind = λ q far. put-else v held q (λ is. absurd (let inside = has.inside in omega arith));

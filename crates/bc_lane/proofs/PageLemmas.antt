@@ -38,7 +38,7 @@ use Rattle.bc_word.proofs.WordLemmas.{word_of_bits-word_bits}
 use Rattle.bc_word.proofs.WordsLemmas.{get_or-words_from}
 use Rattle.bc_whole_heap.proofs.HeapLemmas.{allocated-below}
 
-owns-page : (v : View) (p : ℕ) → IsOwnPage v p → owns v p ≡ true
+pub owns-page : (v : View) (p : ℕ) → IsOwnPage v p → owns v p ≡ true
 owns-page v p own = lt-ltb 0 _ own
 
 -- a page that its own lane puts back is recorded as remembered exactly where it is put back so
