@@ -53,11 +53,11 @@ abbrev pub is_empty_handed : Option Hand → Bool
 is_empty_handed None = true
 is_empty_handed (Some h) = false
 
--- how often the view has the page in hand where it isn't that of this lane; and how often it keeps, or kept, the page from the
--- lane: it has it in hand so, put it back so, or made it Gone or Absent
+-- how often the view has the page in hand and isn't that of its lane
 abbrev pub grips_foreign : Key → ℕ → View → ℕ
 grips_foreign k page v = if has_role v (owner k page) == 0 then grips page v.hand else 0
 
+-- and how often it keeps the page from its lane, or kept it: it has it in hand so, put it back so, or made it Gone or Absent
 abbrev pub withholds : Key → ℕ → View → ℕ
 withholds k page v = grips_foreign k page v + (times page v.returned + (times page v.left + times page v.emptied))
 
