@@ -25,12 +25,11 @@ use Rattle.bc_pins.specs.declared.views.View.{View}
 use Rattle.bc_pins.specs.declared.pins.Seat.{Seat}
 use Rattle.bc_pins.specs.Key.{Key, pages_of, page_at, bookmark_at, frame_at}
 use Rattle.bc_pins.specs.Contents.{objects_in}
-use Rattle.bc_pins.specs.Views.{sets_bit}
+use Rattle.bc_pins.specs.Views.{sets_bit, reads_of}
 use Rattle.bc_pins.specs.Steps.{bookmarking, IsTargetBit}
 use Rattle.bc_pins.specs.Calls.{view_of, slots_of, IsSameSeat}
 use Rattle.bc_pins.proofs.TallyLemmas.{number_few}
 use Rattle.bc_pins.proofs.VisitLemmas.{same_after}
-use Rattle.bc_evict.specs.Evicting.{reads_of}
 use Rattle.bc_evict.specs.Marking.{sets_cell, ReadsNoPage, Marks}
 
 pub same_seat : (a : Seat) → IsSameSeat a a

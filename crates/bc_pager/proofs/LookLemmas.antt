@@ -5,7 +5,6 @@ use Rattle.bc_bits.specs.Counting.{one_if}
 use Rattle.bc_superpages.specs.declared.headers.PageState.{PageState}
 use Rattle.bc_superpages.specs.declared.headers.PageState.TheVariants as state
 use Rattle.bc_bookmarks.specs.Targets.{HasCell}
-use Rattle.bc_evict.specs.Evicting.{reads_of}
 use Rattle.bc_pins.specs.declared.holding.Held.{Held}
 use Rattle.bc_pins.specs.declared.pins.Seat.{Seat}
 use Rattle.bc_pins.specs.declared.taking.Want.TheVariants.{Work, Victim}
@@ -15,13 +14,13 @@ use Rattle.bc_pins.specs.declared.views.View.{View}
 use Rattle.bc_pins.specs.Key.{Key, pages_of, page_at}
 use Rattle.bc_pins.specs.Totals.{times}
 use Rattle.bc_pins.specs.Contents.{IsBarePage}
-use Rattle.bc_pins.specs.Views.{state_word}
+use Rattle.bc_pins.specs.Views.{reads_of, reads_at, state_word}
 use Rattle.bc_pins.specs.Steps.{having_read}
 use Rattle.bc_pins.specs.Calls.{refusal_word, IsTakeRefused}
 use Rattle.bc_pins.proofs.TotalLemmas.{times_append, one_same}
 use Rattle.bc_pager.specs.declared.walking.Kind.{Kind}
 use Rattle.bc_pager.specs.declared.walking.Kind.TheVariants.{Bare, Filled}
-use Rattle.bc_pager.specs.Looking.{reads_at, MayStay, TookNone, WasFound, all_pages, steps_behind}
+use Rattle.bc_pager.specs.Looking.{MayStay, TookNone, WasFound, all_pages, steps_behind}
 use Rattle.bc_pager.specs.Taking.{IsOfKind, MayStayAs, first_page, HasLooked, HasTried, HasTriedUpTo, IsTakenFor, HasTakenFirst}
 use Rattle.bc_pager.proofs.RoundLemmas.{one_place, order_kept}
 

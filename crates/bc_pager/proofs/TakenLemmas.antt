@@ -9,7 +9,7 @@ use Rattle.bc_superpages.specs.declared.headers.PageState.TheVariants as state
 use Rattle.bc_superpages.specs.Layout.{Layout, is_cell}
 use Rattle.bc_superpages.specs.LayoutAt.{IsAllocated}
 use Rattle.bc_bookmarks.specs.Targets.{HasCell}
-use Rattle.bc_evict.specs.Evicting.{MayBookmark, MayDiscard, HasGiven, given_up, discarded, reads_of}
+use Rattle.bc_evict.specs.Evicting.{MayBookmark, MayDiscard, HasGiven, given_up, discarded}
 use Rattle.bc_evict.specs.Marking.{HasBookmarked, ReadsNoPage}
 use Rattle.bc_evict.proofs.BookmarkLemmas.{may-bookmark}
 use Rattle.bc_evict.proofs.RightLemmas.{rights-gone}
@@ -19,7 +19,7 @@ use Rattle.bc_pins.specs.declared.views.Hand.{Hand}
 use Rattle.bc_pins.specs.declared.views.View.{View}
 use Rattle.bc_pins.specs.Key.{Key, pages_of, page_at, frame_at}
 use Rattle.bc_pins.specs.Contents.{IsBarePage}
-use Rattle.bc_pins.specs.Views.{opened_state}
+use Rattle.bc_pins.specs.Views.{reads_of, opened_state}
 use Rattle.bc_pins.specs.Steps.{Takes}
 use Rattle.bc_pins.specs.Calls.{view_of, HoldsPage}
 use Rattle.bc_pins.proofs.VisitLemmas.{holds_taken, may_put_taken}
