@@ -14,12 +14,13 @@ use Rattle.bc_pins.specs.declared.holding.Held.{Held}
 use Rattle.bc_pins.specs.Key.{Key, frame_at}
 use Rattle.bc_pins.specs.Totals.{times}
 use Rattle.bc_pins.specs.Contents.{IsBarePage}
+use Rattle.bc_pins.specs.Views.{reads_of}
 use Rattle.bc_pins.specs.Steps.{given_back, giving, AreRights, MayVacate, both_slots}
 use Rattle.bc_pins.specs.Calls.{key_of, view_of, slots_of, IsAt, HoldsPage}
 use Rattle.bc_pins.proofs.TotalLemmas.{one_other}
+use Rattle.bc_pins.proofs.LogLemmas.{reads-else}
 use Rattle.bc_pins.proofs.CloseLemmas.{none_times}
-use Rattle.bc_evict.specs.Evicting.{HasGiven, MayDiscard, reads_of}
-use Rattle.bc_evict.proofs.MarkLemmas.{reads-else}
+use Rattle.bc_evict.specs.Evicting.{HasGiven, MayDiscard}
 
 -- is the frame's bit one of these?
 abbrev hits : ℕ → ℕ → ℕ → Bool

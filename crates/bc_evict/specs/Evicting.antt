@@ -1,5 +1,5 @@
 -- What a seat may give up of the page in its hands, and what it has then.
-use Rattle.std.specs.Prelude.{◌≡◌, ◌≢◌, ℕ, ◌/◌, ◌%◌, ◌^◌, ◌<◌, ◌==◌, false, true, if◌then◌else◌, List, [], ◌∷◌, ◌++◌, Some, None}
+use Rattle.std.specs.Prelude.{◌≡◌, ◌≢◌, ℕ, ◌/◌, ◌%◌, ◌^◌, ◌<◌, false, true, List, [], ◌∷◌, ◌++◌, Some, None}
 use Rattle.bc_bookmarks.specs.Targets.{HasCell}
 use Rattle.bc_pins.specs.declared.views.Hand.{Hand}
 use Rattle.bc_pins.specs.declared.views.View.{View}
@@ -9,6 +9,7 @@ use Rattle.bc_pins.specs.Key.{frame_at}
 use Rattle.bc_pins.specs.Totals.{times}
 use Rattle.bc_pins.specs.Contents.{IsContent, RefersYoung, IsBarePage}
 use Rattle.bc_pins.specs.Steps.{MayLeave, given_back}
+use Rattle.bc_pins.specs.Views.{reads_of}
 use Rattle.bc_pins.specs.Calls.{view_of}
 use Rattle.bc_evict.specs.declared.rights.FrameRight.{FrameRight}
 
@@ -55,11 +56,6 @@ given_up v held = record v { hand = None; left = held.page ∷ v.left; rights = 
 
 abbrev pub discarded : View → Held → View
 discarded v held = record v { hand = None; emptied = held.page ∷ v.emptied; rights = held.homed.frame ∷ v.rights }
-
--- what was read of a word, the last first
-abbrev pub reads_of : ℕ → List (ℕ × ℕ) → List ℕ
-reads_of i [] = []
-reads_of i (e ∷ es) = if e.0 == i then e.1 ∷ reads_of i es else reads_of i es
 
 -- the right was given up: it is no right any more, all others are, and nothing else changed that the view says but what was read
 -- of the frame's word

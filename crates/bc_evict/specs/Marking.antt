@@ -15,9 +15,9 @@ use Rattle.bc_pins.specs.Key.{pages_of, page_at, frame_at}
 use Rattle.bc_pins.specs.Totals.{times}
 use Rattle.bc_pins.specs.Contents.{IsContent, RefersYoung, objects_in}
 use Rattle.bc_pins.specs.Facts.{points}
-use Rattle.bc_pins.specs.Views.{sets_bit}
+use Rattle.bc_pins.specs.Views.{sets_bit, reads_of}
 use Rattle.bc_pins.specs.Calls.{view_of, slots_of, IsAt, IsSameSeat, HoldsPage}
-use Rattle.bc_evict.specs.Evicting.{IsAsTaken, reads_of}
+use Rattle.bc_evict.specs.Evicting.{IsAsTaken}
 
 -- did the view set the bookmark bit of cell b of superpage q?
 abbrev pub sets_cell : View → ℕ → ℕ → Bool

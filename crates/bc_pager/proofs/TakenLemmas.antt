@@ -9,7 +9,7 @@ use Rattle.bc_superpages.specs.declared.headers.PageState.TheVariants as state
 use Rattle.bc_superpages.specs.Layout.{Layout, is_cell}
 use Rattle.bc_superpages.specs.LayoutAt.{IsAllocated}
 use Rattle.bc_bookmarks.specs.Targets.{HasCell}
-use Rattle.bc_evict.specs.Evicting.{MayBookmark, MayDiscard, HasGiven, given_up, discarded, reads_of}
+use Rattle.bc_evict.specs.Evicting.{MayBookmark, MayDiscard, HasGiven, given_up, discarded}
 use Rattle.bc_evict.specs.Marking.{HasBookmarked, ReadsNoPage}
 use Rattle.bc_evict.proofs.BookmarkLemmas.{may-bookmark}
 use Rattle.bc_evict.proofs.RightLemmas.{rights-gone}
@@ -19,16 +19,17 @@ use Rattle.bc_pins.specs.declared.views.Hand.{Hand}
 use Rattle.bc_pins.specs.declared.views.View.{View}
 use Rattle.bc_pins.specs.Key.{Key, pages_of, page_at, frame_at}
 use Rattle.bc_pins.specs.Contents.{IsBarePage}
-use Rattle.bc_pins.specs.Views.{opened_state}
+use Rattle.bc_pins.specs.Views.{reads_of, opened_state}
 use Rattle.bc_pins.specs.Steps.{Takes}
 use Rattle.bc_pins.specs.Calls.{view_of, HoldsPage}
+use Rattle.bc_pins.proofs.LogLemmas.{reads-append}
 use Rattle.bc_pins.proofs.VisitLemmas.{holds_taken, may_put_taken}
 use Rattle.bc_pager.specs.declared.walking.Kind.{Kind}
 use Rattle.bc_pager.specs.declared.walking.Kind.TheVariants.{Bare, Filled}
 use Rattle.bc_pager.specs.Looking.{MayStay, MayStayBare, MayStayFilled}
 use Rattle.bc_pager.specs.Taking.{HasLooked, HasTriedAll, IsTakenFor, HasTakenFirst, ReadNoPage, HasVacated, HasEvacuated}
 use Rattle.bc_pager.specs.Answering.{TookAfter, HasDiscarded, HasEvicted, HasDeclined}
-use Rattle.bc_pager.proofs.LookLemmas.{reads-append, found-first, found-last, found-as, stays-so, looked-then}
+use Rattle.bc_pager.proofs.LookLemmas.{found-first, found-last, found-as, stays-so, looked-then}
 
 -- a page that was taken is in hand, and may be given up as its kind says
 module _ (k : Key) (kind : Kind) (u : View) (seat : Seat) (held : Held) (t : IsTakenFor k kind u seat held) (about : u.about ≡ k) where

@@ -6,9 +6,10 @@ use Rattle.bc_bookmarks.specs.Targets.{HasCell}
 use Rattle.bc_pins.specs.declared.views.View.{View}
 use Rattle.bc_pins.specs.Key.{Key, pages_of, page_at}
 use Rattle.bc_pins.specs.Contents.{IsBarePage}
+use Rattle.bc_pins.specs.Views.{reads_at}
 use Rattle.bc_pager.specs.declared.answers.Answer.{Answer}
 use Rattle.bc_pager.specs.declared.answers.Answer.TheVariants.{Discarded, Evicted, Declined}
-use Rattle.bc_pager.specs.Looking.{reads_at, MayStay, MayStayBare, MayStayFilled, TookNone, IsAccountedFor, all_pages, ComesBefore}
+use Rattle.bc_pager.specs.Looking.{MayStay, MayStayBare, MayStayFilled, TookNone, IsAccountedFor, all_pages, ComesBefore}
 
 -- of page words first the looks were made, with no page in hand, and then this page was taken from Home; after that none was read
 pub record TookAfter (k : Key) (v : View) (looks : List (ℕ × ℕ)) (page : ℕ) (w : View) : Type 0 where
@@ -77,3 +78,9 @@ abbrev pub says_discarded : ℕ → Answer → ℕ
 says_discarded page (Discarded other) = one_if (other == page)
 says_discarded page (Evicted other) = 0
 says_discarded page Declined = 0
+
+-- does it say that no page could be had?
+abbrev pub says_declined : Answer → ℕ
+says_declined (Discarded other) = 0
+says_declined (Evicted other) = 0
+says_declined Declined = 1

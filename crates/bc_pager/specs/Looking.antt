@@ -3,10 +3,9 @@ use Rattle.std.specs.Prelude.{◌≡◌, ℕ, ◌+◌, ◌-◌, ◌*◌, ◌%◌
 use Rattle.bc_superpages.specs.declared.headers.PageState.{PageState}
 use Rattle.bc_superpages.specs.declared.headers.PageState.TheVariants as state
 use Rattle.bc_superpages.specs.Layout.{superpages}
-use Rattle.bc_evict.specs.Evicting.{reads_of}
-use Rattle.bc_pins.specs.Key.{Key, pages_of, page_at}
+use Rattle.bc_pins.specs.Key.{Key, pages_of}
 use Rattle.bc_pins.specs.Totals.{times}
-use Rattle.bc_pins.specs.Views.{state_word, opened_state}
+use Rattle.bc_pins.specs.Views.{reads_at, state_word, opened_state}
 
 -- where a page may be that a pager can't have: without an allocated cell, with one, and either
 abbrev pub MayStayBare : PageState → Type 0
@@ -29,10 +28,6 @@ MayStay state.Home = ⊥
 MayStay state.Remembered = Unit {0}
 MayStay state.Held = Unit {0}
 MayStay state.Gone = Unit {0}
-
--- what was read of a page's word
-abbrev pub reads_at : ℕ → List (ℕ × ℕ) → List ℕ
-reads_at page reads = reads_of (page_at page) reads
 
 -- no page was read as Home. A pager gets a page into its hands only by a step that reads its word as Home; so where nothing was in
 -- its hands before these words were read, nothing was while they were

@@ -7,11 +7,12 @@ use Rattle.bc_pins.specs.declared.pins.Seat.{Seat}
 use Rattle.bc_pins.specs.declared.views.View.{View}
 use Rattle.bc_pins.specs.Key.{Key, pages_of}
 use Rattle.bc_pins.specs.Contents.{IsBarePage}
+use Rattle.bc_pins.specs.Views.{reads_at}
 use Rattle.bc_pins.specs.Steps.{Takes}
 use Rattle.bc_pins.specs.Calls.{Grasps}
 use Rattle.bc_pager.specs.declared.walking.Kind.{Kind}
 use Rattle.bc_pager.specs.declared.walking.Kind.TheVariants.{Bare, Filled}
-use Rattle.bc_pager.specs.Looking.{reads_at, MayStayBare, MayStayFilled, TookNone, WasFound, all_pages, steps_behind, ComesBefore}
+use Rattle.bc_pager.specs.Looking.{MayStayBare, MayStayFilled, TookNone, WasFound, all_pages, steps_behind, ComesBefore}
 
 -- what lies on a page of this kind, and where one may be that can't be had
 abbrev pub IsOfKind : Key → Kind → ℕ → Type 0

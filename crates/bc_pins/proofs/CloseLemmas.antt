@@ -1,7 +1,7 @@
 -- What a table leaves when it is closed by a seat into which all others were joined.
-use Rattle.std.proofs.Common.{◌≡◌, ℕ, ◌+◌, ◌<◌, ◌*◌, ◌≢◌, ◌==◌, if◌then◌else◌, List, [], ◌∷◌, length, map, None, inl, inr, refl, ap, sym, subst, ◌∙◌, arith, ◌/◌, ◌%◌}
+use Rattle.std.proofs.Common.{◌≡◌, ℕ, ◌+◌, ◌<◌, ◌*◌, ◌≢◌, ◌==◌, ◌⊎◌, if◌then◌else◌, List, [], ◌∷◌, length, map, None, inl, inr, refl, ap, sym, subst, ◌∙◌, arith, ◌/◌, ◌%◌}
 use Prim.Native.Nat.{zero, suc}
-use mathlib.Core.Option.{some, some-injective, some-ne-none}
+use mathlib.Core.Option.{some, some-injective}
 use mathlib.Core.Option as maybe
 use lib.ListN.{get_elem?}
 use Rattle.std.proofs.lemmas.Bool.{cases_lt}
@@ -13,8 +13,8 @@ use Rattle.bc_pins.specs.declared.views.View.{View}
 use Rattle.bc_pins.specs.Key.{Key, pages_of, counter_at, owner, frame_slot, store_slot}
 use Rattle.bc_pins.specs.Totals.{total, times, sum_to}
 use Rattle.bc_pins.specs.Contents.{IsContent, RefersYoung}
-use Rattle.bc_pins.specs.Views.{grips, grips_remembered, frame_in_hand, counted_for, sets_bit, has_role, withholds, opened_content, record_of}
-use Rattle.bc_pins.specs.Facts.{Table, Slot, word, Lies, Summary, Frames, frame_lodged, points, adds_to, Bits, IsIdle, page_word, IsBitOfTarget}
+use Rattle.bc_pins.specs.Views.{grips, grips_remembered, frame_in_hand, counted_for, sets_bit, has_role, withholds, reads_at, reads_as, opened_content, record_of}
+use Rattle.bc_pins.specs.Facts.{Table, Slot, word, Lies, Summary, Frames, frame_lodged, points, adds_to, Bits, IsIdle, page_word, remembered_now, IsBitOfTarget}
 use Rattle.bc_pins.specs.Rule.{Rule}
 use Rattle.bc_pins.specs.Opening.{ClosesPage, HasClosed}
 use Rattle.bc_pins.proofs.TotalLemmas.{total_at, total_only, total_two, one_same}
@@ -113,10 +113,33 @@ module _ (k : Key) (s : Table) (r : Rule k s) (id : ℕ) (v : View) (at : get_el
   abbrev last : Table
   last = record { words = s.words; homes = map some xs; views = v ∷ [] }
 
+  -- what was read, this seat read
+  only_read : (p n : ℕ) → total (reads_as p n) s.views ≡ reads_as p n v
+  only_read p n = only (reads_as p n) (λ u i. ap (λ (l : List (ℕ × ℕ)). times n (reads_at p l)) i.read)
+
+  held_closed : (p : ℕ) → p < pages_of k → 0 < reads_as p 3 v → 0 < reads_as p 1 v + reads_as p 2 v
+  held_closed p near lt =
+      let one = only_read p 1 in
+      let two = only_read p 2 in
+      let three = only_read p 3 in
+      let a = (r.standing p near).held (omega arith) in
+      omega arith
+
+  away_closed : (p : ℕ) → p < pages_of k → 0 < reads_as p 0 v + reads_as p 2 v + reads_as p 4 v → (page_word s p ≡ 0) ⊎ ((page_word s p ≡ 4) ⊎ (0 < remembered_now last p))
+  away_closed p near lt =
+      let none_is = only_read p 0 in
+      let two = only_read p 2 in
+      let four = only_read p 4 in
+      let grips_now = only (λ u. grips_remembered p u.hand) (λ u i. ap (grips_remembered p) i.hand) in
+      elim ((r.standing p near).away (omega arith)) [
+        | inl e ↦ inl e
+        | inr other ↦ elim other [ inl e ↦ inr (inl e) | inr was ↦ inr (inr (omega arith)) ]
+      ]
+
   page_closed : (p : ℕ) → p < pages_of k → ClosesPage k v s.words xs p
-  page_closed p lt =
-      let content = r.content p lt in
-      let old = r.standing p lt in
+  page_closed p near =
+      let content = r.content p near in
+      let old = r.standing p near in
       let same = record_is p in
       let grips_now = only (λ u. grips_remembered p u.hand) (λ u i. ap (grips_remembered p) i.hand) in
       let recorded = only (λ u. times p u.recorded) (λ u i. ap (times p) i.recorded) in
@@ -128,11 +151,11 @@ module _ (k : Key) (s : Table) (r : Rule k s) (id : ℕ) (v : View) (at : get_el
       let gone = old.gone in
       let absent = old.absent in
       record {
-        not_held = not_held p lt;
+        not_held = not_held p near;
         lies = subst (λ (c : List ℕ). Lies (page_word s p) (get_elem? (map some xs) (frame_slot k p)) (get_elem? (map some xs) (store_slot k p)) c) same
-            (subst (λ (hs : List (maybe.Option Lodged)). Lies (page_word s p) (get_elem? hs (frame_slot k p)) (get_elem? hs (store_slot k p)) (r.rec p)) homes_are (r.place p lt).lies);
+            (subst (λ (hs : List (maybe.Option Lodged)). Lies (page_word s p) (get_elem? hs (frame_slot k p)) (get_elem? hs (store_slot k p)) (r.rec p)) homes_are (r.place p near).lies);
         fixed = subst (IsContent k.opening p) same content.fixed;
-        young = λ y. remembered_word k s r p lt (not_held p lt) (content.young (subst (RefersYoung k.opening p) (sym same) y));
+        young = λ y. remembered_word k s r p near (not_held p near) (content.young (subst (RefersYoung k.opening p) (sym same) y));
         bare = content.bare;
         gone = λ e. subst (Summary k s.words p) same (content.gone e);
         standing = record {
@@ -142,6 +165,8 @@ module _ (k : Key) (s : Table) (r : Rule k s) (id : ℕ) (v : View) (at : get_el
           gone = omega arith;
           absent = omega arith;
           busy = λ lt. let a = old.busy (omega arith) in omega arith;
+          held = λ lt. let a = held_closed p near (omega arith) in omega arith;
+          away = λ lt. away_closed p near (omega arith);
         };
       }
 

@@ -1,5 +1,5 @@
 -- What closing a table gives.
-use Rattle.std.proofs.Common.{◌≡◌, ℕ, ◌+◌, ◌-◌, ◌*◌, ◌/◌, ◌%◌, ◌^◌, ◌<◌, ◌≤◌, ◌==◌, ◌⊎◌, List, [], length, map, get_or, slice_index, min, Option, None, refl, ap, sym, subst, ◌∙◌, arith, inl, inr, true, false, Bool, ◌&&◌, ◌∷◌, if◌then◌else◌}
+use Rattle.std.proofs.Common.{◌≡◌, ℕ, ◌+◌, ◌-◌, ◌*◌, ◌/◌, ◌%◌, ◌^◌, ◌<◌, ◌≤◌, ◌≢◌, ◌==◌, ◌⊎◌, List, [], length, map, get_or, slice_index, min, Option, None, refl, ap, sym, subst, ◌∙◌, arith, inl, inr, true, false, Bool, ◌&&◌, ◌∷◌, if◌then◌else◌}
 use Rattle.std.proofs.lemmas.Bool.{cases_lt, eqb-true, eq-eqb, and_from}
 use Rattle.std.proofs.lemmas.List.{length-map, get_or-map, get_or_past}
 use Rattle.atomic_table.specs.Table.{Final, Seen}
@@ -36,8 +36,8 @@ use Rattle.bc_pins.specs.declared.views.View.{View}
 use Rattle.bc_pins.specs.declared.pins.Seat.{Seat}
 use Rattle.bc_pins.specs.Key.{Key, pages_of, owner, frame_at, page_at, home_slot}
 use Rattle.bc_pins.specs.Contents.{IsContent, RefersYoung}
-use Rattle.bc_pins.specs.Totals.{times}
-use Rattle.bc_pins.specs.Views.{grips_remembered, state_word, opened_state, opened_content, record_of, sets_bit, sets_for}
+use Rattle.bc_pins.specs.Totals.{total, times}
+use Rattle.bc_pins.specs.Views.{grips_remembered, state_word, opened_state, opened_content, record_of, reads_as, sets_bit, sets_for}
 use Rattle.bc_pins.specs.Rule.{Rule}
 use Rattle.bc_pins.specs.Lodging.{Replaced, box_of, place_of}
 use Rattle.bc_pins.specs.Opening.{HasClosed, IsRest}
@@ -161,11 +161,33 @@ module _ (id : TableId) (k : Key) (all : List Seat) (root : Worker Lodged View) 
   word_is : (p : ℕ) → p < pages_of k → state_word (state_at (map (λ (h : Header). h.pages) headers) p) ≡ get_or words (page_at p) 0
   word_is p lt = let a = e.rest.within in ap state_word (state_new p (omega arith)) ∙ e.states_are.near p lt
 
+  held_once : (p : ℕ) → p < pages_of k → 0 < total (λ (s : Seat). reads_as p 3 (view_of s)) all → 0 < total (λ (s : Seat). reads_as p 1 (view_of s)) all + total (λ (s : Seat). reads_as p 2 (view_of s)) all
+  held_once p near lt =
+      let one = e.gathered.read p 1 in
+      let two = e.gathered.read p 2 in
+      let three = e.gathered.read p 3 in
+      let a = (e.closed.pages p near).standing.held (omega arith) in
+      omega arith
+
+  away_once : (p : ℕ) → p < pages_of k → 0 < total (λ (s : Seat). reads_as p 0 (view_of s)) all + total (λ (s : Seat). reads_as p 2 (view_of s)) all + total (λ (s : Seat). reads_as p 4 (view_of s)) all
+      → state_at (map (λ (h : Header). h.pages) headers) p ≢ state.Home
+  away_once p near lt home =
+      let none_is = e.gathered.read p 0 in
+      let two = e.gathered.read p 2 in
+      let four = e.gathered.read p 4 in
+      let is : get_or words (page_at p) 0 ≡ 1 = sym (word_is p near) ∙ ap state_word home in
+      let one : one_if (get_or words (page_at p) 0 == 2) ≡ 0 = ap (λ (n : ℕ). one_if (n == 2)) is in
+      let hand : grips_remembered p v.hand ≡ 0 = ap (grips_remembered p) e.gathered.hand in
+      elim ((e.closed.pages p near).standing.away (omega arith)) [
+        | inl zero_is ↦ omega arith
+        | inr other ↦ elim other [ inl four_is ↦ omega arith | inr lt ↦ omega arith ]
+      ]
+
   states_closed : (p : ℕ) → p < pages_of k → ClosedState k all (state_at (map (λ (h : Header). h.pages) headers) p) p
-  states_closed p lt =
-      let page = (e.closed.pages p lt).standing in
+  states_closed p near =
+      let page = (e.closed.pages p near).standing in
       let g = e.gathered in
-      let word = word_is p lt in
+      let word = word_is p near in
       let r = g.recorded p in
       let f = g.fetched p in
       let l = g.left p in
@@ -173,7 +195,7 @@ module _ (id : TableId) (k : Key) (all : List Seat) (root : Worker Lodged View) 
       let back = g.returned p in
       let busy = g.busy p in
       let none_held = foreign_none k p v g.hand in
-      let held = (e.closed.pages p lt).not_held in
+      let held = (e.closed.pages p near).not_held in
       let gone = page.gone in
       let absent = page.absent in
       let four : one_if (state_word (state_at (map (λ (h : Header). h.pages) headers) p) == 4) ≡ one_if (get_or words (page_at p) 0 == 4) = ap (λ (n : ℕ). one_if (n == 4)) word in
@@ -191,6 +213,8 @@ module _ (id : TableId) (k : Key) (all : List Seat) (root : Worker Lodged View) 
         gone = omega arith;
         absent = omega arith;
         busy = λ lt. let a = page.busy (omega arith) in omega arith;
+        held = held_once p near;
+        away = away_once p near;
       }
 
   -- a page that a seat read as Gone is Gone for the root, into which it was joined

@@ -7,14 +7,15 @@ use Rattle.bc_frames.specs.Places.{StoreView}
 use Rattle.bc_pins.specs.declared.views.Lodged.{Lodged}
 use Rattle.bc_pins.specs.declared.views.View.{View}
 use Rattle.bc_pins.specs.declared.pins.Seat.{Seat}
-use Rattle.bc_pins.specs.Key.{Key, owner}
+use Rattle.bc_pins.specs.Key.{Key, owner, page_at}
 use Rattle.bc_pins.specs.Totals.{total, times}
 use Rattle.bc_pins.specs.Tidy.{IsTidy}
-use Rattle.bc_pins.specs.Views.{has_role, sets_bit, entries, look_up, opened_content, record_of}
+use Rattle.bc_pins.specs.Views.{has_role, sets_bit, reads_at, reads_as, entries, look_up, opened_content, record_of}
 use Rattle.bc_pins.specs.Steps.{Mine, united}
 use Rattle.bc_pins.specs.Calls.{view_of}
 use Rattle.bc_pins.specs.Closing.{IsBack, AreBack, Gathered, opens_of}
 use Rattle.bc_pins.proofs.TotalLemmas.{total_append, times_append}
+use Rattle.bc_pins.proofs.LogLemmas.{times-reads}
 use Rattle.bc_pins.proofs.JoinLemmas.{entries_append, sets_append, look_skips, look_first}
 use Rattle.bc_pins.proofs.DealLemmas.{front_of, end_of}
 
@@ -43,6 +44,15 @@ set_moved v front seat w b n e =
 first_set : (front : List Seat) (seat : Seat) (w b : ℕ)
     → sets_bit w b (view_of seat).bookmarked + total (λ (s : Seat). sets_bit w b (view_of s).bookmarked) front ≡ total (λ (s : Seat). sets_bit w b (view_of s).bookmarked) (front ++ seat ∷ [])
 first_set front seat w b = let c = total_append (λ (s : Seat). sets_bit w b (view_of s).bookmarked) front (seat ∷ []) in omega arith
+
+-- and of what was read of a page's word
+read_moved : (v : View) (front : List Seat) (seat : Seat) (p n m : ℕ)
+    → reads_as p n v + total (λ (s : Seat). reads_as p n (view_of s)) (front ++ seat ∷ []) ≡ m
+    → times n (reads_at p (v.read ++ (view_of seat).read)) + total (λ (s : Seat). reads_as p n (view_of s)) front ≡ m
+read_moved v front seat p n m e =
+    let a = times-reads n (page_at p) v.read (view_of seat).read in
+    let b = total_append (λ (s : Seat). reads_as p n (view_of s)) front (seat ∷ []) in
+    omega arith
 
 pub entries_none : (k : Key) (v : View) (p : ℕ) → IsTidy v → v.about ≡ k → has_role v (owner k p) ≡ 0 → entries p v.changed ≡ 0
 entries_none k v p tidy about z = tidy p (subst (λ (a : Key). has_role v (owner a p) ≡ 0) (sym about) z)
@@ -80,6 +90,7 @@ module _ (id : TableId) (k : Key) (apart : (r : ℕ) → times r k.roles ≤ 1) 
         returned = λ p. first_moved (λ v. v.returned) front seat p ∙ ap (total (λ (s : Seat). times p (view_of s).returned)) (sym is);
         gone = λ p. first_moved (λ v. v.gone) front seat p ∙ ap (total (λ (s : Seat). times p (view_of s).gone)) (sym is);
         busy = λ p. first_moved (λ v. v.busy) front seat p ∙ ap (total (λ (s : Seat). times p (view_of s).busy)) (sym is);
+        read = λ p n. first_moved (λ v. reads_at p v.read) front seat n ∙ ap (total (λ (s : Seat). reads_as p n (view_of s))) (sym is);
         mine = λ j le lt d p has.
             let e : get_or all j d ≡ seat = (let z : j ≡ length front = omega arith in ap (λ (i : ℕ). get_or all i d) z ∙ here d) in
             (subst (λ (s : Seat). 0 < has_role (view_of s) (owner k p)) e has, sym (ap (λ (s : Seat). record_of (view_of s) p) e));
@@ -123,6 +134,7 @@ module _ (id : TableId) (k : Key) (apart : (r : ℕ) → times r k.roles ≤ 1) 
         returned = λ p. ap (λ (u : View). times p u.returned + total (λ (s : Seat). times p (view_of s).returned) front) view ∙ moved (λ u. u.returned) v front seat p _ (g.returned p);
         gone = λ p. ap (λ (u : View). times p u.gone + total (λ (s : Seat). times p (view_of s).gone) front) view ∙ moved (λ u. u.gone) v front seat p _ (g.gone p);
         busy = λ p. ap (λ (u : View). times p u.busy + total (λ (s : Seat). times p (view_of s).busy) front) view ∙ moved (λ u. u.busy) v front seat p _ (g.busy p);
+        read = λ p n. ap (λ (u : View). reads_as p n u + total (λ (s : Seat). reads_as p n (view_of s)) front) view ∙ read_moved v front seat p n _ (g.read p n);
         mine = λ j le lt d p has.
             let sum = times_append (owner k p) v.roles w.roles in
             let one = one_has (owner k p) in

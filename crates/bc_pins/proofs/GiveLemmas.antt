@@ -352,7 +352,12 @@ module _ (k : Key) (s : Table) (r : Rule k s) (id x role : ℕ) (v : View) (g : 
         noted_busy = λ lt. absurd (omega arith);
         else_returned = λ q ne. returned_other (owns v p) q p v.returned ne;
         else_busy = λ q ne. refl;
-        stays = λ e _. absurd (not_four e);
+        stays = λ e. absurd (not_four e);
+        stays_absent = λ e. absurd (let a = was_held in omega arith);
+        read_more = λ n. omega arith;
+        read_held = λ lt. absurd (omega arith);
+        read_away = λ lt. absurd (omega arith);
+        else_read = λ q n ne. refl;
         count = λ q lt. let a = hand_counted p q in let b = never_four (points k p (rec' p) q) in let c = was_no_four (points k p (r.rec p) q) in omega arith;
         else_count = λ j q ne. sym (hand_counted j q);
         bookmarked = refl;
@@ -365,7 +370,7 @@ module _ (k : Key) (s : Table) (r : Rule k s) (id x role : ℕ) (v : View) (g : 
           idle = λ e. let z : has_role v role ≡ 0 = ap (times role) e in absurd (omega arith);
         };
         records = records_kept;
-        saw = saw_kept k s p x homes id v w at wide fewer else_flag refl refl refl (λ e. absurd (not_four e)) facts.saw;
+        saw = saw_kept k s p x homes id v w at wide fewer else_flag refl refl refl (λ e. absurd (not_four e)) (λ q lt. absurd (omega arith)) facts.saw;
       }
 
   pub give_rule : Rule k (after s p x homes id w)

@@ -7,14 +7,15 @@ use Rattle.atomic_table.specs.Table.{Joins}
 use Rattle.atomic_table.proofs.Lists.{at_set, set_else}
 use Rattle.bc_bits.specs.Counting.{one_if}
 use Rattle.bc_pins.specs.declared.views.View.{View}
-use Rattle.bc_pins.specs.Key.{Key, owner}
+use Rattle.bc_pins.specs.Key.{Key, owner, page_at}
 use Rattle.bc_pins.specs.Totals.{total, times}
-use Rattle.bc_pins.specs.Views.{grips, grips_remembered, frame_in_hand, counted_for, sets_bit, marked_for, has_role, withholds, entries, look_up, opened_content, record_of, sets_for}
+use Rattle.bc_pins.specs.Views.{grips, grips_remembered, frame_in_hand, counted_for, sets_bit, marked_for, has_role, withholds, reads_as, entries, look_up, opened_content, record_of, sets_for}
 use Rattle.bc_pins.specs.Facts.{Table}
 use Rattle.bc_pins.specs.Rule.{SeatFacts, Rule}
 use Rattle.bc_pins.specs.Steps.{united, nobody}
 use Rattle.bc_pins.proofs.TotalLemmas.{total_set, total_two, times_append}
 use Rattle.bc_pins.proofs.WithholdLemmas.{foreign_none}
+use Rattle.bc_pins.proofs.LogLemmas.{times-reads}
 use Rattle.bc_pins.proofs.SeatLemmas.{with_views, SameSums, now_same, views_step, seat_kept, no_hand, no_marking, no_targets}
 
 -- a seat is joined into another
@@ -111,6 +112,7 @@ module _ (k : Key) (s : Table) (r : Rule k s) (id other : ℕ) (v w : View) (at 
     left = λ p. sum_of (λ u. times p u.left) refl (times_append p v.left w.left);
     emptied = λ p. sum_of (λ u. times p u.emptied) refl (times_append p v.emptied w.emptied);
     withheld = λ a p. sum_of (withholds a p) (foreign_nobody a p) (both_withhold a p);
+    read = λ p n. sum_of (reads_as p n) refl (times-reads n (page_at p) v.read w.read);
     busy = λ p. sum_of (λ u. times p u.busy) refl (times_append p v.busy w.busy);
     roles = λ p. sum_of (λ u. times p u.roles) refl (times_append p v.roles w.roles);
     count = λ p q. sum_of (λ u. counted_for p q u.hand) refl (let a : counted_for p q w.hand ≡ 0 = ap (counted_for p q) nothing in omega arith);
@@ -167,6 +169,7 @@ module _ (k : Key) (s : Table) (r : Rule k s) (id other : ℕ) (v w : View) (at 
             returned = none_of v.returned w.returned a.returned b.returned;
             fetched = none_of v.fetched w.fetched a.fetched b.fetched;
             bookmarked = ap (λ (l : List (ℕ × ℕ × ℕ)). l ++ w.bookmarked) a.bookmarked ∙ b.bookmarked;
+            read = ap (λ (l : List (ℕ × ℕ)). l ++ w.read) a.read ∙ b.read;
           };
     };
     records = record {
@@ -200,6 +203,11 @@ module _ (k : Key) (s : Table) (r : Rule k s) (id other : ℕ) (v w : View) (at 
             | inl has ↦ let a = mine.saw.gone p has in let b = a.1 in (a.0, omega arith, a.2)
             | inr le ↦ let a = theirs.saw.gone p (omega arith) in let b = a.1 in (a.0, omega arith, a.2)
           ];
+      taken = λ p lt.
+          let a = mine.saw.taken p lt in
+          let one = times-reads 1 (page_at p) v.read w.read in
+          let two = times-reads 2 (page_at p) v.read w.read in
+          omega arith;
     };
     marking = record {
       once = mine.marking.once;
@@ -230,9 +238,9 @@ module _ (k : Key) (s : Table) (r : Rule k s) (id other : ℕ) (v w : View) (at 
 
   spent : SeatFacts k (with_views s views) r.rec nobody
   spent = record {
-    seated = record { about = λ e. absurd (not_alive e); unfetched = refl; idle = λ _. record { hand = refl; rights = refl; recorded = refl; left = refl; emptied = refl; returned = refl; fetched = refl; bookmarked = refl } };
+    seated = record { about = λ e. absurd (not_alive e); unfetched = refl; idle = λ _. record { hand = refl; rights = refl; recorded = refl; left = refl; emptied = refl; returned = refl; fetched = refl; bookmarked = refl; read = refl } };
     records = record { mine = λ p lt. absurd (omega arith); others = λ p _. refl; unrecorded = λ p _. refl; in_hand = λ h e. absurd (no_hand h e) };
-    saw = record { seen = λ p lt. absurd (omega arith); gone = λ p lt. absurd (omega arith) };
+    saw = record { seen = λ p lt. absurd (omega arith); gone = λ p lt. absurd (omega arith); taken = λ p lt. absurd (omega arith) };
     marking = no_marking nobody refl refl;
     targets = no_targets k r.rec nobody refl;
   }

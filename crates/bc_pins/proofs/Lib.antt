@@ -2,6 +2,8 @@
 pub mod TotalLemmas
 -- Pages that are kept from the lane which holds their domain
 pub mod WithholdLemmas
+-- What was read of a word when another word is read besides, and when two views are put together.
+pub mod LogLemmas
 -- What a step on a page word owes, and that the rule then holds after it.
 pub mod PageSteps
 -- What was read stays so, through a step on a page word, and a word that is read alone.

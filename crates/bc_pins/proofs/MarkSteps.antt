@@ -38,6 +38,7 @@ use Rattle.bc_pins.proofs.SumLemmas.{sum_few_below, sum_one}
 use Rattle.bc_pins.proofs.TakeLemmas.{some_hand}
 use Rattle.bc_pins.proofs.TallyLemmas.{in_bit, bit_few}
 use Rattle.bc_pins.proofs.MarkedLemmas.{KeepsBits}
+use Rattle.bc_pins.proofs.LogLemmas.{reads-else, reads-more}
 use Rattle.bc_pins.proofs.SideSteps.{aside, SideStep, side_step, counters_same, bits_same, frames_same}
 
 -- what is counted for a page is no more than that it is in hand
@@ -246,6 +247,8 @@ module _ (k : Key) (s : Table) (r : Rule k s) (id role : ℕ) (v : View) (h : Ha
           seen = refl;
           gone = refl;
           roles = refl;
+          read = λ j ne. reads-else j (bookmark_at v.about w) found v.read (λ e. ne (sym e ∙ ap (λ (a : Key). bookmark_at a w) about));
+          read_more = λ j n. reads-more j (bookmark_at v.about w) found n v.read;
           seated = seated_kept u refl refl refl;
           records = records_kept u (record h { marked = (w, bits) ∷ h.marked }) refl refl refl refl refl refl refl;
           marking = marking_now;
@@ -371,6 +374,8 @@ module _ (k : Key) (s : Table) (r : Rule k s) (id role : ℕ) (v : View) (h : Ha
           seen = refl;
           gone = refl;
           roles = refl;
+          read = λ j ne. reads-else j (counter_at v.about q) found v.read (λ e. ne (sym e ∙ ap (λ (a : Key). counter_at a q) about));
+          read_more = λ j n. reads-more j (counter_at v.about q) found n v.read;
           seated = seated_kept c_view refl refl refl;
           records = records_kept c_view (record h { counted = q ∷ h.counted }) refl refl refl refl refl refl refl;
           marking = c_marking;

@@ -14,7 +14,7 @@ use Rattle.bc_pins.specs.Key.{Key, pages_of, owner, counter_at, bookmark_at, fra
 use Rattle.std.specs.Int.{bit_at}
 use Rattle.bc_pins.specs.Totals.{total, times}
 use Rattle.bc_pins.specs.Contents.{IsContent, RefersYoung, IsBarePage}
-use Rattle.bc_pins.specs.Views.{grips, grips_remembered, frame_in_hand, counted_for, sets_bit, has_role, withholds, opened_content, sets_for, marked_for}
+use Rattle.bc_pins.specs.Views.{grips, grips_remembered, frame_in_hand, counted_for, sets_bit, has_role, withholds, reads_as, opened_content, sets_for, marked_for}
 use Rattle.bc_pins.specs.Facts.{Table, word, Lies, Place, remembered_now, Summary, Content, Standing, RecordsContent, Saw, Seated, Marking, Roles, frame_lodged, Frames, points, adds_to, Counters, bookmark_bit, is_clear, Bits, Still, page_word, IsBitOfTarget, MarksTargets}
 use Rattle.bc_pins.specs.Rule.{SeatFacts, Rule}
 use Rattle.bc_pins.proofs.TotalLemmas.{total_set, total_at, total_two, one_few, total_none, one_is}
@@ -64,7 +64,14 @@ pub record PageStep (k : Key) (s : Table) (rec rec' : ℕ → List ℕ) (p x : �
   pub noted_busy : times p v.busy < times p w.busy → 0 < total (withholds k p) s.views
   pub else_returned : (q : ℕ) → q ≢ p → times q w.returned ≡ times q v.returned
   pub else_busy : (q : ℕ) → q ≢ p → times q w.busy ≡ times q v.busy
-  pub stays : page_word s p ≡ 4 → has_role v (owner k p) ≡ 0 → x ≡ 4
+  -- none is taken from Gone or Absent
+  pub stays : page_word s p ≡ 4 → x ≡ 4
+  pub stays_absent : page_word s p ≡ 0 → x ≡ 0
+  -- what its word was read as
+  pub read_more : (n : ℕ) → reads_as p n v ≤ reads_as p n w
+  pub read_held : reads_as p 3 v < reads_as p 3 w → 0 < total (reads_as p 1) s.views + total (reads_as p 2) s.views
+  pub read_away : reads_as p 0 v + reads_as p 2 v + reads_as p 4 v < reads_as p 0 w + reads_as p 2 w + reads_as p 4 w → (x ≡ 0) ⊎ ((x ≡ 4) ⊎ (0 < one_if (x == 2) + grips_remembered p w.hand))
+  pub else_read : (q n : ℕ) → q ≢ p → reads_as q n w ≡ reads_as q n v
   -- counters and bits
   pub count : (q : ℕ) → q < k.supers → (if x == 4 then points k p (rec' p) q else 0) + counted_for p q w.hand ≡ (if page_word s p == 4 then points k p (rec p) q else 0) + counted_for p q v.hand
   pub else_count : (r q : ℕ) → r ≢ p → counted_for r q w.hand ≡ counted_for r q v.hand
@@ -193,9 +200,28 @@ module _ (k : Key) (s : Table) (r : Rule k s) (rec' : ℕ → List ℕ) (p x : �
       let e = d.else_emptied q ne in
       omega arith
 
+  held_there : (q : ℕ) → q ≢ p → q < pages_of k → 0 < total (reads_as q 3) t.views → 0 < total (reads_as q 1) t.views + total (reads_as q 2) t.views
+  held_there q ne near lt =
+      let one = same_sum (reads_as q 1) (d.else_read q 1 ne) in
+      let two = same_sum (reads_as q 2) (d.else_read q 2 ne) in
+      let three = same_sum (reads_as q 3) (d.else_read q 3 ne) in
+      let a = (r.standing q near).held (omega arith) in
+      omega arith
+
+  away_there : (q : ℕ) → q ≢ p → q < pages_of k → 0 < total (reads_as q 0) t.views + total (reads_as q 2) t.views + total (reads_as q 4) t.views → (page_word t q ≡ 0) ⊎ ((page_word t q ≡ 4) ⊎ (0 < remembered_now t q))
+  away_there q ne near lt =
+      let none_is = same_sum (reads_as q 0) (d.else_read q 0 ne) in
+      let two = same_sum (reads_as q 2) (d.else_read q 2 ne) in
+      let four = same_sum (reads_as q 4) (d.else_read q 4 ne) in
+      let now = else_now q ne in
+      elim ((r.standing q near).away (omega arith)) [
+        | inl e ↦ inl (there q ne ∙ e)
+        | inr other ↦ elim other [ inl e ↦ inr (inl (there q ne ∙ e)) | inr was ↦ inr (inr (omega arith)) ]
+      ]
+
   standing_there : (q : ℕ) → q ≢ p → q < pages_of k → Standing k t q
-  standing_there q ne lt =
-      let old = r.standing q lt in
+  standing_there q ne near =
+      let old = r.standing q near in
       let now = else_now q ne in
       let ever = same_sum (λ u. times q u.recorded) (d.else_recorded q ne) in
       let f = same_sum (λ u. times q u.fetched) (d.else_fetched q ne) in
@@ -214,6 +240,8 @@ module _ (k : Key) (s : Table) (r : Rule k s) (rec' : ℕ → List ℕ) (p x : �
         gone = omega arith;
         absent = omega arith;
         busy = λ lt. let a = old.busy (omega arith) in omega arith;
+        held = held_there q ne near;
+        away = away_there q ne near;
       }
 
   busy_here : p < pages_of k → 0 < total (λ (u : View). times p u.busy) t.views → 0 < total (withholds k p) t.views
@@ -224,6 +252,36 @@ module _ (k : Key) (s : Table) (r : Rule k s) (rec' : ℕ → List ℕ) (p x : �
       elim (cases_lt (times p v.busy) (times p w.busy)) [
         | inl newly ↦ let a = d.noted_busy newly in omega arith
         | inr before ↦ let a = (r.standing p near).busy (omega arith) in omega arith
+      ]
+
+  -- it was read as Held by one who may not have it, while another does, who took it
+  held_here : p < pages_of k → 0 < total (reads_as p 3) t.views → 0 < total (reads_as p 1) t.views + total (reads_as p 2) t.views
+  held_here near lt =
+      let one = sum (reads_as p 1) in
+      let two = sum (reads_as p 2) in
+      let three = sum (reads_as p 3) in
+      let more = d.read_more 1 in
+      let and_more = d.read_more 2 in
+      elim (cases_lt (reads_as p 3 v) (reads_as p 3 w)) [
+        | inl newly ↦ let a = d.read_held newly in omega arith
+        | inr before ↦ let a = (r.standing p near).held (omega arith) in omega arith
+      ]
+
+  away_here : p < pages_of k → 0 < total (reads_as p 0) t.views + total (reads_as p 2) t.views + total (reads_as p 4) t.views → (page_word t p ≡ 0) ⊎ ((page_word t p ≡ 4) ⊎ (0 < remembered_now t p))
+  away_here near lt =
+      let none_is = sum (reads_as p 0) in
+      let two = sum (reads_as p 2) in
+      let four = sum (reads_as p 4) in
+      let more = grown p in
+      elim (cases_lt (reads_as p 0 v + reads_as p 2 v + reads_as p 4 v) (reads_as p 0 w + reads_as p 2 w + reads_as p 4 w)) [
+        | inl newly ↦ elim (d.read_away newly) [
+          | inl e ↦ inl (here ∙ e)
+          | inr other ↦ elim other [ inl e ↦ inr (inl (here ∙ e)) | inr now ↦ inr (inr (held_by now)) ]
+        ]
+        | inr before ↦ elim ((r.standing p near).away (omega arith)) [
+          | inl e ↦ inl (here ∙ d.stays_absent e)
+          | inr other ↦ elim other [ inl e ↦ inr (inl (here ∙ d.stays e)) | inr was ↦ inr (inr (omega arith)) ]
+        ]
       ]
 
   standing_here : p < pages_of k → Standing k t p
@@ -263,6 +321,8 @@ module _ (k : Key) (s : Table) (r : Rule k s) (rec' : ℕ → List ℕ) (p x : �
         gone = omega arith;
         absent = omega arith;
         busy = busy_here lt;
+        held = held_here lt;
+        away = away_here lt;
       }
 
   -- another view
@@ -288,14 +348,9 @@ module _ (k : Key) (s : Table) (r : Rule k s) (rec' : ℕ → List ℕ) (p x : �
     | inr other ↦ d.else_rec h.page other
   ]
 
-  word_four : (u : View) (j : ℕ) → j ≢ id → get_elem? s.views j ≡ some u → (q : ℕ) → q < pages_of k → 0 < has_role u (owner k q) → page_word s q ≡ 4 → page_word t q ≡ 4
-  word_four u j ne is q lt mine four = elim (cases_eq q p) [
-    | inl e ↦
-        let two = total_two (λ (z : View). times (owner k q) z.roles) s.views j id u v ne is at in
-        let each = r.roles.each (owner k q) in
-        let apart = r.roles.apart (owner k q) in
-        let nothing : has_role v (owner k q) ≡ 0 = omega arith in
-        ap (page_word t) e ∙ here ∙ d.stays (ap (page_word s) (sym e) ∙ four) (subst (λ (n : ℕ). has_role v (owner k n) ≡ 0) e nothing)
+  word_four : (q : ℕ) → page_word s q ≡ 4 → page_word t q ≡ 4
+  word_four q four = elim (cases_eq q p) [
+    | inl e ↦ ap (page_word t) e ∙ here ∙ d.stays (ap (page_word s) (sym e) ∙ four)
     | inr other ↦ there q other ∙ four
   ]
 
@@ -338,7 +393,8 @@ module _ (k : Key) (s : Table) (r : Rule k s) (rec' : ℕ → List ℕ) (p x : �
         };
         saw = record {
           seen = λ q lt. let was = old.saw.seen q lt in let has = was.1 in let more = grown q in (was.0, omega arith);
-          gone = λ q lt. let was = old.saw.gone q lt in (was.0, was.1, word_four u j ne is q was.0 was.1 was.2);
+          gone = λ q lt. let was = old.saw.gone q lt in (was.0, was.1, word_four q was.2);
+          taken = old.saw.taken;
         };
         marking = old.marking;
         targets = targets_else j u ne is;

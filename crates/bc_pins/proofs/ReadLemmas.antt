@@ -12,14 +12,15 @@ use Rattle.bc_pins.specs.declared.views.Lodged.{Lodged}
 use Rattle.bc_pins.specs.declared.views.Hand.{Hand}
 use Rattle.bc_pins.specs.declared.views.View.{View}
 use Rattle.bc_pins.specs.Key.{Key, pages_of, owner, page_at}
-use Rattle.bc_pins.specs.Totals.{times}
+use Rattle.bc_pins.specs.Totals.{total, times}
 use Rattle.bc_pins.specs.Contents.{IsBarePage}
-use Rattle.bc_pins.specs.Views.{is_empty_handed, grips, grips_remembered, has_role}
+use Rattle.bc_pins.specs.Views.{is_empty_handed, grips, grips_remembered, has_role, reads_as}
 use Rattle.bc_pins.specs.Facts.{Table, Lies, remembered_now, Saw, page_word}
 use Rattle.bc_pins.specs.Rule.{Rule}
 use Rattle.bc_pins.specs.Steps.{Mine, owns, having_read, ReadsWord, Looked}
 use Rattle.bc_pins.proofs.TotalLemmas.{total_set, one_other, one_is, total_less}
 use Rattle.bc_pins.proofs.WithholdLemmas.{added_other, noted_busy}
+use Rattle.bc_pins.proofs.LogLemmas.{reads-here, reads-more, pages-else, held_read}
 use Rattle.bc_pins.proofs.PageSteps.{after, page_step}
 
 -- no two pages have one word
@@ -67,9 +68,9 @@ module _ (k : Key) (s : Table) (p x : ℕ) (homes : List (maybe.Option Lodged)) 
         omega arith
   ]
 
-  -- a seat that read nothing more
-  pub saw_kept : w.seen ≡ v.seen → w.gone ≡ v.gone → w.roles ≡ v.roles → (page_word s p ≡ 4 → x ≡ 4) → Saw k s v → Saw k t w
-  saw_kept seen gone roles stays old = record {
+  -- a seat that read nothing more, but where it took a page
+  pub saw_kept : w.seen ≡ v.seen → w.gone ≡ v.gone → w.roles ≡ v.roles → (page_word s p ≡ 4 → x ≡ 4) → ((q : ℕ) → 0 < grips q w.hand → 0 < reads_as q 1 w + reads_as q 2 w) → Saw k s v → Saw k t w
+  saw_kept seen gone roles stays took old = record {
     seen = λ q lt. let was = old.seen q (subst (λ l. 0 < times q l) seen lt) in let has = was.1 in let more = now_grows q in (was.0, omega arith);
     gone = λ q lt.
         let was = old.gone q (subst (λ l. 0 < times q l) gone lt) in (
@@ -80,6 +81,7 @@ module _ (k : Key) (s : Table) (p x : ℕ) (homes : List (maybe.Option Lodged)) 
             | inr ne ↦ word_there q ne ∙ was.2
           ],
         );
+    taken = took;
   }
 
 pub choice_less : (b : Bool) (n : ℕ) → (if b then n else 0) ≤ n
@@ -155,11 +157,36 @@ looked_saw k s p id v at long near about old =
               same q ∙ ap (page_word s) new.0 ∙ eqb-true (page_word s p) 4 both.0,
             )
       ];
+      taken = λ q lt.
+          let a = old.taken q lt in
+          let one = reads-more (page_at q) (page_at p) (page_word s p) 1 v.read in
+          let two = reads-more (page_at q) (page_at p) (page_word s p) 2 v.read in
+          omega arith;
     }
 
-pub look_step : (k : Key) (s : Table) (r : Rule k s) (p id : ℕ) (v : View) → get_elem? s.views id ≡ some v → p < pages_of k → v.about ≡ k
+-- a word that was read as Held, and as Absent, Remembered or Gone
+read_held : (k : Key) (s : Table) (r : Rule k s) (p : ℕ) (v : View) → p < pages_of k → reads_as p 3 v < reads_as p 3 (having_read v p (page_word s p)) → 0 < total (reads_as p 1) s.views + total (reads_as p 2) s.views
+read_held k s r p v near more =
+    let a = reads-here (page_at p) (page_word s p) 3 v.read in
+    held_read k s r p near (one_is (page_word s p) 3 (omega arith))
+
+read_away : (n p : ℕ) (v : View) → reads_as p 0 v + reads_as p 2 v + reads_as p 4 v < reads_as p 0 (having_read v p n) + reads_as p 2 (having_read v p n) + reads_as p 4 (having_read v p n)
+    → (n ≡ 0) ⊎ ((n ≡ 4) ⊎ (0 < one_if (n == 2) + grips_remembered p v.hand))
+read_away n p v more =
+    let a = reads-here (page_at p) n 0 v.read in
+    let b = reads-here (page_at p) n 2 v.read in
+    let c = reads-here (page_at p) n 4 v.read in
+    elim (cases_eq n 0) [
+      | inl e ↦ inl e
+      | inr there ↦ elim (cases_eq n 4) [
+        | inl e ↦ inr (inl e)
+        | inr here ↦ inr (inr (let x = one_other n 0 there in let y = one_other n 4 here in omega arith))
+      ]
+    ]
+
+pub look_step : (k : Key) (s : Table) (r : Rule k s) (p id role : ℕ) (v : View) → get_elem? s.views id ≡ some v → p < pages_of k → v.about ≡ k → 0 < has_role v role
     → Rule k (after s p (page_word s p) s.homes id (having_read v p (page_word s p)))
-look_step k s r p id v at near about =
+look_step k s r p id role v at near about some_role =
     let w : View = having_read v p (page_word s p) in
     let long = r.words in
     let wide : page_at p < length s.words = omega arith in
@@ -196,7 +223,12 @@ look_step k s r p id v at near about =
       noted_busy = noted_busy k s r p id v near at about;
       else_returned = λ q ne. refl;
       else_busy = λ q ne. added_other ((page_word s p == 3) && (owns v p && is_empty_handed v.hand)) q p v.busy ne;
-      stays = λ e _. e;
+      stays = λ e. e;
+      stays_absent = λ e. e;
+      read_more = λ n. reads-more (page_at p) (page_at p) (page_word s p) n v.read;
+      read_held = read_held k s r p v near;
+      read_away = read_away (page_word s p) p v;
+      else_read = λ q n ne. pages-else p q (page_word s p) n v.read ne;
       count = λ q lt. refl;
       else_count = λ j q ne. refl;
       bookmarked = refl;
@@ -206,24 +238,24 @@ look_step k s r p id v at near about =
       seated = record {
         about = facts.seated.about;
         unfetched = facts.seated.unfetched;
-        idle = λ e. let a = facts.seated.idle e in record { hand = a.hand; rights = a.rights; recorded = a.recorded; left = a.left; emptied = a.emptied; returned = a.returned; fetched = a.fetched; bookmarked = a.bookmarked };
+        idle = λ e. let z : has_role v role ≡ 0 = ap (times role) e in absurd (omega arith);
       };
       records = record { mine = facts.records.mine; others = facts.records.others; unrecorded = facts.records.unrecorded; in_hand = facts.records.in_hand };
       saw = looked_saw k s p id v at wide near about facts.saw;
     }
 
 -- whatever the table is, a look keeps the rule and tells what it found
-looks : (k : Key) (slots p id : ℕ) (me : Mine) → p < pages_of k → me.0.about ≡ k → Allows (Rule k) slots id me (page_at p) (λ n. n) (Looked (step slots (page_at p) 0 0 maybe.none) me)
-looks k slots p id me near about s r size at fits = (
+looks : (k : Key) (slots p id role : ℕ) (me : Mine) → p < pages_of k → me.0.about ≡ k → 0 < has_role me.0 role → Allows (Rule k) slots id me (page_at p) (λ n. n) (Looked (step slots (page_at p) 0 0 maybe.none) me)
+looks k slots p id role me near about some_role s r size at fits = (
   having_read me.0 p (page_word s p),
   keeps,
   tt,
-  look_step k s r p id me.0 at near about,
+  look_step k s r p id role me.0 at near about some_role,
   record {
     view = λ q e. ap (λ (n : ℕ). (having_read me.0 n (page_word s p), me.1)) (same_page p q e);
     reads = λ q e. subst (λ (n : ℕ). ReadsWord me.0 n (page_word s p)) (same_page p q e) (reads k s r p id me.0 near at about);
   },
 )
 
-pub looked : (k : Key) (slots p i id : ℕ) (me : Mine) → i ≡ page_at p → p < pages_of k → me.0.about ≡ k → Allows (Rule k) slots id me i (λ n. n) (Looked (step slots i 0 0 maybe.none) me)
-looked k slots p i id me is near about = subst (λ (j : ℕ). Allows (Rule k) slots id me j (λ n. n) (Looked (step slots j 0 0 maybe.none) me)) (sym is) (looks k slots p id me near about)
+pub looked : (k : Key) (slots p i id role : ℕ) (me : Mine) → i ≡ page_at p → p < pages_of k → me.0.about ≡ k → 0 < has_role me.0 role → Allows (Rule k) slots id me i (λ n. n) (Looked (step slots i 0 0 maybe.none) me)
+looked k slots p i id role me is near about some_role = subst (λ (j : ℕ). Allows (Rule k) slots id me j (λ n. n) (Looked (step slots j 0 0 maybe.none) me)) (sym is) (looks k slots p id role me near about some_role)

@@ -1,5 +1,5 @@
 -- Only views change: no word and no slot does, and what the views have together stays. So a seat is split off.
-use Rattle.std.proofs.Common.{◌≡◌, ℕ, ◌+◌, List, [], ◌∷◌, ◌++◌, take, drop, set, Some, None, inl, inr, refl, ap, sym, subst, ◌∙◌, arith}
+use Rattle.std.proofs.Common.{◌≡◌, ℕ, ◌+◌, ◌<◌, ◌⊎◌, List, [], ◌∷◌, ◌++◌, take, drop, set, Some, None, inl, inr, refl, ap, sym, subst, ◌∙◌, arith}
 use mathlib.Core.Option.{some}
 use lib.ListN.{get_elem?}
 use Rattle.atomic_table.specs.Table.{Splits}
@@ -8,8 +8,8 @@ use Rattle.bc_pins.specs.declared.views.Hand.{Hand}
 use Rattle.bc_pins.specs.declared.views.View.{View}
 use Rattle.bc_pins.specs.Key.{Key, pages_of, owner}
 use Rattle.bc_pins.specs.Totals.{total, times}
-use Rattle.bc_pins.specs.Views.{grips, grips_remembered, frame_in_hand, counted_for, sets_bit, withholds, marked_for, entries, look_up, opened_content, sets_for}
-use Rattle.bc_pins.specs.Facts.{IsIdle, Table, remembered_now, adds_to, Marking, MarksTargets}
+use Rattle.bc_pins.specs.Views.{grips, grips_remembered, frame_in_hand, counted_for, sets_bit, withholds, reads_as, marked_for, entries, look_up, opened_content, sets_for}
+use Rattle.bc_pins.specs.Facts.{IsIdle, Table, page_word, remembered_now, adds_to, Marking, MarksTargets}
 use Rattle.bc_pins.specs.Rule.{SeatFacts, Rule}
 use Rattle.bc_pins.specs.Steps.{dealer, dealt}
 use Rattle.bc_pins.proofs.TotalLemmas.{total_set, total_append}
@@ -29,6 +29,7 @@ pub record SameSums (old new : List View) : Type 0 where
   pub left : (p : ℕ) → total (λ (v : View). times p v.left) new ≡ total (λ (v : View). times p v.left) old
   pub emptied : (p : ℕ) → total (λ (v : View). times p v.emptied) new ≡ total (λ (v : View). times p v.emptied) old
   pub withheld : (k : Key) (p : ℕ) → total (withholds k p) new ≡ total (withholds k p) old
+  pub read : (p n : ℕ) → total (reads_as p n) new ≡ total (reads_as p n) old
   pub busy : (p : ℕ) → total (λ (v : View). times p v.busy) new ≡ total (λ (v : View). times p v.busy) old
   pub roles : (r : ℕ) → total (λ (v : View). times r v.roles) new ≡ total (λ (v : View). times r v.roles) old
   pub count : (p q : ℕ) → total (λ (v : View). counted_for p q v.hand) new ≡ total (λ (v : View). counted_for p q v.hand) old
@@ -37,6 +38,26 @@ pub record SameSums (old new : List View) : Type 0 where
 
 pub now_same : (s : Table) (views : List View) → SameSums s.views views → (p : ℕ) → remembered_now (with_views s views) p ≡ remembered_now s p
 now_same s views sums p = let a = sums.flag p in omega arith
+
+held_kept : (k : Key) (s : Table) (r : Rule k s) (views : List View) → SameSums s.views views → (p : ℕ) → p < pages_of k → 0 < total (reads_as p 3) views → 0 < total (reads_as p 1) views + total (reads_as p 2) views
+held_kept k s r views sums p near lt =
+    let one = sums.read p 1 in
+    let two = sums.read p 2 in
+    let three = sums.read p 3 in
+    let a = (r.standing p near).held (omega arith) in
+    omega arith
+
+away_kept : (k : Key) (s : Table) (r : Rule k s) (views : List View) → SameSums s.views views → (p : ℕ) → p < pages_of k → 0 < total (reads_as p 0) views + total (reads_as p 2) views + total (reads_as p 4) views
+    → (page_word s p ≡ 0) ⊎ ((page_word s p ≡ 4) ⊎ (0 < remembered_now (with_views s views) p))
+away_kept k s r views sums p near lt =
+    let none_is = sums.read p 0 in
+    let two = sums.read p 2 in
+    let four = sums.read p 4 in
+    let now = now_same s views sums p in
+    elim ((r.standing p near).away (omega arith)) [
+      | inl e ↦ inl e
+      | inr other ↦ elim other [ inl e ↦ inr (inl e) | inr was ↦ inr (inr (omega arith)) ]
+    ]
 
 pub views_step : (k : Key) (s : Table) (r : Rule k s) (views : List View) → SameSums s.views views
     → ((j : ℕ) (u : View) → get_elem? views j ≡ some u → SeatFacts k (with_views s views) r.rec u) → Rule k (with_views s views)
@@ -50,8 +71,8 @@ views_step k s r views sums each = record {
       let old = r.content p lt in
       let now = now_same s views sums p in
       record { fixed = old.fixed; young = λ y. let a = old.young y in omega arith; bare = old.bare; gone = old.gone };
-  standing = λ p lt.
-      let old = r.standing p lt in
+  standing = λ p near.
+      let old = r.standing p near in
       let now = now_same s views sums p in
       let ever = sums.recorded p in
       let f = sums.fetched p in
@@ -68,6 +89,8 @@ views_step k s r views sums each = record {
         gone = omega arith;
         absent = omega arith;
         busy = λ lt. let a = old.busy (omega arith) in omega arith;
+        held = held_kept k s r views sums p near;
+        away = away_kept k s r views sums p near;
       };
   seats = each;
   roles = record { each = λ n. sums.roles n ∙ r.roles.each n; apart = r.roles.apart; nobody = r.roles.nobody };
@@ -90,6 +113,7 @@ seat_kept k s rec views sums u old = record {
   saw = record {
     seen = λ p lt. let a = old.saw.seen p lt in let b = a.1 in let now = now_same s views sums p in (a.0, omega arith);
     gone = old.saw.gone;
+    taken = old.saw.taken;
   };
   marking = old.marking;
   targets = old.targets;
@@ -144,6 +168,7 @@ module _ (k : Key) (s : Table) (r : Rule k s) (id : ℕ) (v : View) (at : get_el
     left = λ p. split_sum (λ u. times p u.left) s.views id v (dealer v) (dealt v) at (omega arith);
     emptied = λ p. split_sum (λ u. times p u.emptied) s.views id v (dealer v) (dealt v) at (omega arith);
     withheld = λ a p. split_sum (withholds a p) s.views id v (dealer v) (dealt v) at (split_withheld a p);
+    read = λ p n. split_sum (reads_as p n) s.views id v (dealer v) (dealt v) at (omega arith);
     busy = λ p. split_sum (λ u. times p u.busy) s.views id v (dealer v) (dealt v) at (omega arith);
     roles = λ p. split_sum (λ u. times p u.roles) s.views id v (dealer v) (dealt v) at (cut_times p v.roles);
     count = λ p q. split_sum (λ u. counted_for p q u.hand) s.views id v (dealer v) (dealt v) at (omega arith);
@@ -152,7 +177,7 @@ module _ (k : Key) (s : Table) (r : Rule k s) (id : ℕ) (v : View) (at : get_el
   }
 
   idle_rest : IsIdle (dealer v)
-  idle_rest = record { hand = unused.hand; rights = unused.rights; recorded = unused.recorded; left = unused.left; emptied = unused.emptied; returned = unused.returned; fetched = unused.fetched; bookmarked = unused.bookmarked }
+  idle_rest = record { hand = unused.hand; rights = unused.rights; recorded = unused.recorded; left = unused.left; emptied = unused.emptied; returned = unused.returned; fetched = unused.fetched; bookmarked = unused.bookmarked; read = unused.read }
 
   keeps_rest : SeatFacts k (with_views s views) r.rec (dealer v)
   keeps_rest = record {
@@ -166,6 +191,7 @@ module _ (k : Key) (s : Table) (r : Rule k s) (id : ℕ) (v : View) (at : get_el
     saw = record {
       seen = λ p lt. let a = facts.saw.seen p lt in let b = a.1 in let now = now_same s views sums p in (a.0, omega arith);
       gone = λ p lt. let z : times p v.gone ≡ 0 = ap (times p) no_gone in absurd (omega arith);
+      taken = facts.saw.taken;
     };
     marking = record { once = facts.marking.once; whose = facts.marking.whose; unmarked = facts.marking.unmarked };
     targets = record { each = facts.targets.each };
@@ -173,14 +199,14 @@ module _ (k : Key) (s : Table) (r : Rule k s) (id : ℕ) (v : View) (at : get_el
 
   has_first : SeatFacts k (with_views s views) r.rec (dealt v)
   has_first = record {
-    seated = record { about = facts.seated.about; unfetched = refl; idle = λ _. record { hand = refl; rights = refl; recorded = refl; left = refl; emptied = refl; returned = refl; fetched = refl; bookmarked = refl } };
+    seated = record { about = facts.seated.about; unfetched = refl; idle = λ _. record { hand = refl; rights = refl; recorded = refl; left = refl; emptied = refl; returned = refl; fetched = refl; bookmarked = refl; read = refl } };
     records = record {
       mine = λ p lt. let c = cut_times (owner k p) v.roles in facts.records.mine p (omega arith) ∙ ap (λ (l : List (ℕ × List ℕ)). look_up p l (opened_content v.about p)) no_change;
       others = λ p _. refl;
       unrecorded = λ p _. refl;
       in_hand = λ h e. absurd (no_hand h e);
     };
-    saw = record { seen = λ p lt. absurd (omega arith); gone = λ p lt. absurd (omega arith) };
+    saw = record { seen = λ p lt. absurd (omega arith); gone = λ p lt. absurd (omega arith); taken = λ p lt. absurd (omega arith) };
     marking = no_marking (dealt v) refl refl;
     targets = no_targets k r.rec (dealt v) refl;
   }

@@ -1,6 +1,6 @@
 -- What a step on a word that is no page's owes, and that the rule then holds after it: no box moves, and what is in hand and
 -- remembered stays. What it changes of counters, bits and frames each kind of step says itself.
-use Rattle.std.proofs.Common.{◌≡◌, ℕ, ◌+◌, ◌*◌, ◌<◌, ◌≤◌, ◌/◌, ◌%◌, ◌≢◌, ◌==◌, ◌&&◌, nat_lt, if◌then◌else◌, List, get_or, set, inl, inr, ap, sym, subst, ◌∙◌, arith, get_or-set_other}
+use Rattle.std.proofs.Common.{◌≡◌, ℕ, ◌+◌, ◌*◌, ◌<◌, ◌≤◌, ◌/◌, ◌%◌, ◌≢◌, ◌==◌, ◌&&◌, ◌⊎◌, nat_lt, if◌then◌else◌, List, get_or, set, inl, inr, ap, sym, subst, ◌∙◌, arith, get_or-set_other}
 use mathlib.Core.Option.{some}
 use lib.ListN.{get_elem?}
 use Rattle.std.proofs.lemmas.List.{length-set}
@@ -10,7 +10,7 @@ use Rattle.bc_pins.specs.declared.views.View.{View}
 use Rattle.bc_pins.specs.Key.{Key, pages_of, owner, counter_at, bookmark_at, frame_at, notice_at, mark_at, finished_at, page_at, pages_end}
 use Rattle.std.specs.Int.{bit_at}
 use Rattle.bc_pins.specs.Totals.{total, times}
-use Rattle.bc_pins.specs.Views.{grips, grips_remembered, frame_in_hand, counted_for, sets_bit, withholds}
+use Rattle.bc_pins.specs.Views.{grips, grips_remembered, frame_in_hand, counted_for, sets_bit, withholds, reads_of, reads_as}
 use Rattle.bc_pins.specs.Facts.{Table, word, Place, remembered_now, Content, Standing, RecordsContent, Saw, Seated, Marking, Frames, points, adds_to, Counters, bookmark_bit, is_clear, Bits, page_word, MarksTargets}
 use Rattle.bc_pins.specs.Rule.{SeatFacts, Rule}
 use Rattle.bc_pins.proofs.TotalLemmas.{total_set}
@@ -37,6 +37,8 @@ pub record SideStep (k : Key) (s : Table) (rec : ℕ → List ℕ) (i x id : ℕ
   pub seen : w.seen ≡ v.seen
   pub gone : w.gone ≡ v.gone
   pub roles : w.roles ≡ v.roles
+  pub read : (j : ℕ) → j ≢ i → reads_of j w.read ≡ reads_of j v.read
+  pub read_more : (j n : ℕ) → times n (reads_of j v.read) ≤ times n (reads_of j w.read)
   pub seated : Seated k w
   pub records : RecordsContent k rec w
   pub marking : Marking w
@@ -93,16 +95,39 @@ module _ (k : Key) (s : Table) (r : Rule k s) (i x id : ℕ) (v w : View) (at : 
       let e = ap (times p) d.emptied in
       omega arith
 
+  -- of page words nothing was read
+  read_same : (p n : ℕ) → p < pages_of k → total (reads_as p n) t.views ≡ total (reads_as p n) s.views
+  read_same p n lt = same_sum (reads_as p n) (ap (times n) (let far = d.far in d.read (page_at p) (λ e. omega arith)))
+
+  held_kept : (p : ℕ) → p < pages_of k → 0 < total (reads_as p 3) t.views → 0 < total (reads_as p 1) t.views + total (reads_as p 2) t.views
+  held_kept p near lt =
+      let one = read_same p 1 near in
+      let two = read_same p 2 near in
+      let three = read_same p 3 near in
+      let a = (r.standing p near).held (omega arith) in
+      omega arith
+
+  away_kept : (p : ℕ) → p < pages_of k → 0 < total (reads_as p 0) t.views + total (reads_as p 2) t.views + total (reads_as p 4) t.views → (page_word t p ≡ 0) ⊎ ((page_word t p ≡ 4) ⊎ (0 < remembered_now t p))
+  away_kept p near lt =
+      let none_is = read_same p 0 near in
+      let two = read_same p 2 near in
+      let four = read_same p 4 near in
+      let now = now_same p near in
+      elim ((r.standing p near).away (omega arith)) [
+        | inl e ↦ inl (page_same p near ∙ e)
+        | inr other ↦ elim other [ inl e ↦ inr (inl (page_same p near ∙ e)) | inr was ↦ inr (inr (omega arith)) ]
+      ]
+
   standing_kept : (p : ℕ) → p < pages_of k → Standing k t p
-  standing_kept p lt =
-      let old = r.standing p lt in
-      let now = now_same p lt in
+  standing_kept p near =
+      let old = r.standing p near in
+      let now = now_same p near in
       let ever = same_sum (λ u. times p u.recorded) (ap (times p) d.recorded) in
       let f = same_sum (λ u. times p u.fetched) (ap (times p) d.fetched) in
       let l = same_sum (λ u. times p u.left) (ap (times p) d.left) in
       let e = same_sum (λ u. times p u.emptied) (ap (times p) d.emptied) in
-      let four : one_if (page_word t p == 4) ≡ one_if (page_word s p == 4) = ap (λ (n : ℕ). one_if (n == 4)) (page_same p lt) in
-      let zeros : one_if (page_word t p == 0) ≡ one_if (page_word s p == 0) = ap (λ (n : ℕ). one_if (n == 0)) (page_same p lt) in
+      let four : one_if (page_word t p == 4) ≡ one_if (page_word s p == 4) = ap (λ (n : ℕ). one_if (n == 4)) (page_same p near) in
+      let zeros : one_if (page_word t p == 0) ≡ one_if (page_word s p == 0) = ap (λ (n : ℕ). one_if (n == 0)) (page_same p near) in
       let busy = same_sum (λ u. times p u.busy) (ap (times p) d.busy) in
       let kept_from = same_sum (withholds k p) (withheld_same p) in
       let gone = old.gone in
@@ -114,12 +139,15 @@ module _ (k : Key) (s : Table) (r : Rule k s) (i x id : ℕ) (v w : View) (at : 
         gone = omega arith;
         absent = omega arith;
         busy = λ lt. let a = old.busy (omega arith) in omega arith;
+        held = held_kept p near;
+        away = away_kept p near;
       }
 
   saw_same : (u : View) → Saw k s u → Saw k t u
   saw_same u old = record {
     seen = λ p lt. let was = old.seen p lt in let has = was.1 in let now = now_same p was.0 in (was.0, omega arith);
     gone = λ p lt. let was = old.gone p lt in (was.0, was.1, page_same p was.0 ∙ was.2);
+    taken = old.taken;
   }
 
   -- the seat has read nothing more
@@ -131,6 +159,12 @@ module _ (k : Key) (s : Table) (r : Rule k s) (i x id : ℕ) (v w : View) (at : 
         gone = λ p lt.
             let was = old.gone p (subst (λ (l : List ℕ). 0 < times p l) d.gone lt) in
             (was.0, subst (λ (l : List ℕ). 0 < times (owner k p) l) (sym d.roles) was.1, was.2);
+        taken = λ p lt.
+            let grip = d.grip p in
+            let was = old.taken p (omega arith) in
+            let one = d.read_more (page_at p) 1 in
+            let two = d.read_more (page_at p) 2 in
+            omega arith;
       }
 
   seat_else : (j : ℕ) (u : View) → get_elem? s.views j ≡ some u → SeatFacts k t r.rec u

@@ -17,12 +17,13 @@ use Rattle.bc_pins.specs.declared.views.View.{View}
 use Rattle.bc_pins.specs.Key.{Key, pages_of, owner, page_at, frame_slot, store_slot}
 use Rattle.bc_pins.specs.Totals.{total, times}
 use Rattle.bc_pins.specs.Contents.{IsContent, RefersYoung}
-use Rattle.bc_pins.specs.Views.{grips, grips_remembered, frame_in_hand, counted_for, marked_for, has_role, opened_content, opened_word}
+use Rattle.bc_pins.specs.Views.{grips, grips_remembered, frame_in_hand, counted_for, marked_for, has_role, reads_as, opened_content, opened_word}
 use Rattle.bc_pins.specs.Facts.{Table, slot, IsHomed, Lies, remembered_now, RecordsContent, Seated, Marking, frame_lodged, points, page_word}
 use Rattle.bc_pins.specs.Rule.{Rule}
 use Rattle.bc_pins.specs.Steps.{Mine, both_slots, gripping, having_read, ReadsWord, Takes, Took}
-use Rattle.bc_pins.proofs.TotalLemmas.{total_set, total_at, total_none, total_only, total_two, one_same, one_other}
+use Rattle.bc_pins.proofs.TotalLemmas.{total_set, total_at, total_none, total_only, total_two, one_same, one_other, one_is}
 use Rattle.bc_pins.proofs.WithholdLemmas.{foreign_none}
+use Rattle.bc_pins.proofs.LogLemmas.{reads-more, pages-else, gripped_read, gripped_two, gripped_not}
 use Rattle.bc_pins.proofs.PageSteps.{after, PageStep, page_step}
 use Rattle.bc_pins.proofs.ReadLemmas.{same_page, saw_kept, remembered_word, reads, look_step}
 
@@ -144,6 +145,19 @@ module _ (k : Key) (s : Table) (r : Rule k s) (p id old role : ℕ) (v : View) (
         unmarked = λ g e _ lt. given_up g.page lt;
       }
 
+  -- the page was read as what it was
+  took : (q : ℕ) → 0 < grips q w.hand → 0 < reads_as q 1 w + reads_as q 2 w
+  took q lt = subst (λ (n : ℕ). 0 < reads_as n 1 w + reads_as n 2 w) (one_is p q lt) (gripped_read flag p v.read)
+
+  -- and as Remembered only where it is in hand so
+  read_two : reads_as p 0 v + reads_as p 2 v + reads_as p 4 v < reads_as p 0 w + reads_as p 2 w + reads_as p 4 w → 0 < grips_remembered p w.hand
+  read_two lt =
+      let a = gripped_not flag p 0 v.read (λ x. omega arith) (λ x. omega arith) in
+      let b = gripped_two flag p v.read in
+      let c = gripped_not flag p 4 v.read (λ x. omega arith) (λ x. omega arith) in
+      let d = gripped in
+      omega arith
+
   hit_step : PageStep k s r.rec r.rec p 3 homes id v w
   hit_step =
       let slots = r.slots in
@@ -190,7 +204,12 @@ module _ (k : Key) (s : Table) (r : Rule k s) (p id old role : ℕ) (v : View) (
         noted_busy = λ lt. absurd (omega arith);
         else_returned = λ q ne. refl;
         else_busy = λ q ne. refl;
-        stays = λ x _. absurd (not_four x);
+        stays = λ x. absurd (not_four x);
+        stays_absent = λ x. absurd (omega arith);
+        read_more = λ n. reads-more (page_at p) (page_at p) (if flag then 2 else 1) n v.read;
+        read_held = λ lt. absurd (let a = gripped_not flag p 3 v.read (λ x. omega arith) (λ x. omega arith) in omega arith);
+        read_away = λ lt. inr (inr (let a = read_two lt in omega arith));
+        else_read = λ q n ne. pages-else p q (if flag then 2 else 1) n v.read ne;
         count = λ q lt. let a = no_count p q in let b = hand_counts p q in let c = not_gone (points k p (r.rec p) q) in omega arith;
         else_count = λ j q ne. hand_counts j q ∙ sym (no_count j q);
         bookmarked = refl;
@@ -199,7 +218,7 @@ module _ (k : Key) (s : Table) (r : Rule k s) (p id old role : ℕ) (v : View) (
         roles = refl;
         seated = seated_kept;
         records = records_kept;
-        saw = saw_kept k s p 3 homes id v w at wide fewer else_flag refl refl refl (λ x. absurd (not_four x)) (r.seats id v at).saw;
+        saw = saw_kept k s p 3 homes id v w at wide fewer else_flag refl refl refl (λ x. absurd (not_four x)) took (r.seats id v at).saw;
       }
 
   -- no other seat has the role of the lane that holds the page's domain, so none records that the page is remembered
@@ -269,7 +288,7 @@ taken k slots p id old role v near lo hi about nothing some_role s r size at fit
       having_read v p (page_word s p),
       keeps,
       tt,
-      look_step k s r p id v at near about,
+      look_step k s r p id role v at near about some_role,
       record {
         hit = λ q is e. absurd (ne e);
         miss = λ q is _. (

@@ -66,6 +66,10 @@ total_same f g (x ∷ xs) each =
     let t = total_same f g xs each in
     omega arith
 
+pub total_both : {A : Type 0} (f g : A → ℕ) (vs : List A) → total (λ (v : A). f v + g v) vs ≡ total f vs + total g vs
+total_both f g [] = refl
+total_both f g (x ∷ xs) = let t = total_both f g xs in omega arith
+
 pub times_append : (n : ℕ) (xs ys : List ℕ) → times n (xs ++ ys) ≡ times n xs + times n ys
 times_append n [] ys = omega arith
 times_append n (x ∷ xs) ys = let t = times_append n xs ys in omega arith

@@ -1,5 +1,5 @@
 -- What closing a table requires, and what it gives.
-use Rattle.std.specs.Prelude.{◌≡◌, ℕ, ◌+◌, ◌-◌, ◌*◌, ◌/◌, ◌%◌, ◌^◌, ◌<◌, ◌≤◌, ◌==◌, ◌||◌, Bool, true, false, List, [], length, min, None, slice_index, slice_index_or}
+use Rattle.std.specs.Prelude.{◌≡◌, ℕ, ◌+◌, ◌-◌, ◌*◌, ◌/◌, ◌%◌, ◌^◌, ◌<◌, ◌≤◌, ◌≢◌, ◌==◌, ◌||◌, Bool, true, false, List, [], length, min, None, slice_index, slice_index_or}
 use Rattle.atomic_table.specs.declared.shared.Seat.{Seat as Worker}
 use Rattle.atomic_table.specs.Seated.{TableId}
 use Rattle.bc_bits.specs.Counting.{one_if}
@@ -24,7 +24,7 @@ use Rattle.bc_pins.specs.Key.{Key, pages_of, page_at, owner, counter_at, bookmar
 use Rattle.bc_pins.specs.Totals.{total, times}
 use Rattle.bc_pins.specs.Opening.{IsOpenable}
 use Rattle.bc_pins.specs.Tidy.{IsTidy}
-use Rattle.bc_pins.specs.Views.{state_word, opened_word, opened_state, opened_content, has_role, sets_bit, record_of}
+use Rattle.bc_pins.specs.Views.{state_word, opened_word, opened_state, opened_content, has_role, sets_bit, reads_as, record_of}
 use Rattle.bc_pins.specs.Calls.{view_of}
 
 -- a seat of this table with no page and no frame right in hand
@@ -61,6 +61,7 @@ pub record Gathered (id : TableId) (k : Key) (all front : List Seat) (root : Wor
   pub returned : (p : ℕ) → times p root.me.0.returned + total (λ (seat : Seat). times p (view_of seat).returned) front ≡ total (λ (seat : Seat). times p (view_of seat).returned) all
   pub gone : (p : ℕ) → times p root.me.0.gone + total (λ (seat : Seat). times p (view_of seat).gone) front ≡ total (λ (seat : Seat). times p (view_of seat).gone) all
   pub busy : (p : ℕ) → times p root.me.0.busy + total (λ (seat : Seat). times p (view_of seat).busy) front ≡ total (λ (seat : Seat). times p (view_of seat).busy) all
+  pub read : (p n : ℕ) → reads_as p n root.me.0 + total (λ (seat : Seat). reads_as p n (view_of seat)) front ≡ total (λ (seat : Seat). reads_as p n (view_of seat)) all
   pub mine : (j : ℕ) → length front ≤ j → j < length all → (d : Seat) (p : ℕ) → 0 < has_role (view_of (slice_index_or all j d)) (owner k p)
       → (0 < has_role root.me.0 (owner k p)) × (record_of root.me.0 p ≡ record_of (view_of (slice_index_or all j d)) p)
 
@@ -114,7 +115,8 @@ pub record HeadersSet (k : Key) (old new : List Header) (words : List ℕ) : Typ
 
 -- where a page is once the table is closed: Remembered exactly where it was so at the opening or a seat put it back so; Gone and
 -- Absent by the opening and by what the seats made of it. In a mark turn no page became Remembered. A page that its lane read as
--- Held with nothing in hand was made Gone or Absent, or put back by a seat that isn't that lane's
+-- Held with nothing in hand was made Gone or Absent, or put back by a seat that isn't that lane's. One that any seat read as Held
+-- some seat read as Home or Remembered, and one that any seat read as Absent, Remembered or Gone isn't Home
 pub record ClosedState (k : Key) (seats : List Seat) (st : PageState) (p : ℕ) : Type 0 where
   pub remembered : 0 < one_if (opened_word k p == 2) + total (λ (seat : Seat). times p (view_of seat).recorded) seats → st ≡ state.Remembered
   pub as_opened : k.lanes ≡ false → st ≡ state.Remembered → opened_word k p ≡ 2
@@ -124,6 +126,10 @@ pub record ClosedState (k : Key) (seats : List Seat) (st : PageState) (p : ℕ) 
   pub absent : one_if (state_word st == 0) ≡ one_if (opened_word k p == 0) + total (λ (seat : Seat). times p (view_of seat).emptied) seats
   pub busy : 0 < total (λ (seat : Seat). times p (view_of seat).busy) seats
       → 0 < total (λ (seat : Seat). times p (view_of seat).left) seats + total (λ (seat : Seat). times p (view_of seat).emptied) seats + total (λ (seat : Seat). times p (view_of seat).returned) seats
+  pub held : 0 < total (λ (seat : Seat). reads_as p 3 (view_of seat)) seats
+      → 0 < total (λ (seat : Seat). reads_as p 1 (view_of seat)) seats + total (λ (seat : Seat). reads_as p 2 (view_of seat)) seats
+  pub away : 0 < total (λ (seat : Seat). reads_as p 0 (view_of seat)) seats + total (λ (seat : Seat). reads_as p 2 (view_of seat)) seats + total (λ (seat : Seat). reads_as p 4 (view_of seat)) seats
+      → st ≢ state.Home
 
 -- bit b of a bookmark word is that of a target of a page that a seat made Gone
 pub record IsOfPageLeft (k : Key) (seats : List Seat) (s : Layout) (w b : ℕ) : Type 0 where

@@ -21,7 +21,7 @@ use Rattle.bc_pins.specs.declared.views.View.{View}
 use Rattle.bc_pins.specs.Key.{Key, pages_of, owner, page_at, counter_at, bookmark_at, mark_at, finished_at, frame_at, frame_words, frame_slot, store_slot}
 use Rattle.bc_pins.specs.Totals.{total, times, sum_to}
 use Rattle.bc_pins.specs.Contents.{IsContent, RefersYoung, IsBarePage, objects_in}
-use Rattle.bc_pins.specs.Views.{grips, grips_remembered, frame_in_hand, counted_for, sets_bit, sets_for, marked_for, has_role, withholds, entries, opened_word, record_of}
+use Rattle.bc_pins.specs.Views.{grips, grips_remembered, frame_in_hand, counted_for, sets_bit, sets_for, marked_for, has_role, withholds, reads_as, entries, opened_word, record_of}
 
 abbrev pub Table : Type 0
 Table = State Lodged View
@@ -105,7 +105,9 @@ remembered_ever k s page = one_if (opened_word k page == 2) + total (λ (v : Vie
 
 -- Words: a page is Remembered, or in hand so, exactly where it was at the opening or some view put it back so; it is Gone, and
 -- Absent, by the opening and by what the views made of it. In a mark turn no page becomes Remembered. A page that its lane read as
--- Held with nothing in hand is in another's hands, or was and has been put back by that one, made Gone or made Absent
+-- Held with nothing in hand is in another's hands, or was and has been put back by that one, made Gone or made Absent. One that any
+-- view read as Held was taken, so somebody read it as Home or Remembered. One that any view read as Absent, Remembered or Gone is one
+-- of these, or in hand to be put back as Remembered, since none is taken from Absent or Gone yet
 pub record Standing (k : Key) (s : Table) (page : ℕ) : Type 0 where
   pub remembered : 0 < remembered_ever k s page → 0 < remembered_now s page
   pub recorded : 0 < remembered_now s page → 0 < remembered_ever k s page
@@ -113,6 +115,9 @@ pub record Standing (k : Key) (s : Table) (page : ℕ) : Type 0 where
   pub gone : one_if (page_word s page == 4) + total (λ (v : View). times page v.fetched) s.views ≡ one_if (opened_word k page == 4) + total (λ (v : View). times page v.left) s.views
   pub absent : one_if (page_word s page == 0) ≡ one_if (opened_word k page == 0) + total (λ (v : View). times page v.emptied) s.views
   pub busy : 0 < total (λ (v : View). times page v.busy) s.views → 0 < total (withholds k page) s.views
+  pub held : 0 < total (reads_as page 3) s.views → 0 < total (reads_as page 1) s.views + total (reads_as page 2) s.views
+  pub away : 0 < total (reads_as page 0) s.views + total (reads_as page 2) s.views + total (reads_as page 4) s.views
+      → (page_word s page ≡ 0) ⊎ ((page_word s page ≡ 4) ⊎ (0 < remembered_now s page))
 
 -- Content, of one seat: the lane that holds a page's domain records its content and that it is remembered, and nobody else does. What
 -- a seat has in hand has the content that it took
@@ -122,12 +127,14 @@ pub record RecordsContent (k : Key) (rec : ℕ → List ℕ) (v : View) : Type 0
   pub unrecorded : (p : ℕ) → has_role v (owner k p) ≡ 0 → times p v.recorded ≡ 0
   pub in_hand : (h : Hand) → v.hand ≡ Some h → (h.page < pages_of k) × (h.content ≡ rec h.page)
 
--- Seen: a page that was read as Remembered is Remembered or in hand so, and an own page that was read as Gone is Gone
+-- Seen: a page that was read as Remembered is Remembered or in hand so, and an own page that was read as Gone is Gone. A page that
+-- is in hand was read as Home or Remembered when it was taken
 pub record Saw (k : Key) (s : Table) (v : View) : Type 0 where
   pub seen : (p : ℕ) → 0 < times p v.seen → (p < pages_of k) × (0 < remembered_now s p)
   pub gone : (p : ℕ) → 0 < times p v.gone → (p < pages_of k) × (0 < has_role v (owner k p)) × (page_word s p ≡ 4)
+  pub taken : (p : ℕ) → 0 < grips p v.hand → 0 < reads_as p 1 v + reads_as p 2 v
 
--- a seat that has done nothing and has nothing in hand
+-- a seat that has done and read nothing and has nothing in hand
 pub record IsIdle (v : View) : Type 0 where
   pub hand : v.hand ≡ None
   pub rights : v.rights ≡ []
@@ -137,6 +144,7 @@ pub record IsIdle (v : View) : Type 0 where
   pub returned : v.returned ≡ []
   pub fetched : v.fetched ≡ []
   pub bookmarked : v.bookmarked ≡ []
+  pub read : v.read ≡ []
 
 -- a seat knows what the table was told, and one without a role has done nothing. None has taken a page from Gone: no step does yet
 pub record Seated (k : Key) (v : View) : Type 0 where

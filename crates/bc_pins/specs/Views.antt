@@ -8,7 +8,7 @@ use Rattle.bc_superpages.specs.Layout.{content_at}
 use Rattle.bc_superpages.specs.LayoutAt.{state_at}
 use Rattle.bc_pins.specs.declared.views.Hand.{Hand}
 use Rattle.bc_pins.specs.declared.views.View.{View}
-use Rattle.bc_pins.specs.Key.{Key, owner}
+use Rattle.bc_pins.specs.Key.{Key, owner, page_at}
 use Rattle.bc_pins.specs.Totals.{times}
 
 -- how often the view has the page in hand: once or not. And the same where it says remembered
@@ -60,6 +60,19 @@ grips_foreign k page v = if has_role v (owner k page) == 0 then grips page v.han
 -- and how often it keeps the page from its lane, or kept it: it has it in hand so, put it back so, or made it Gone or Absent
 abbrev pub withholds : Key → ℕ → View → ℕ
 withholds k page v = grips_foreign k page v + (times page v.returned + (times page v.left + times page v.emptied))
+
+-- what was read of a word, the last first
+abbrev pub reads_of : ℕ → List (ℕ × ℕ) → List ℕ
+reads_of i [] = []
+reads_of i (e ∷ es) = if e.0 == i then e.1 ∷ reads_of i es else reads_of i es
+
+-- what was read of a page's word
+abbrev pub reads_at : ℕ → List (ℕ × ℕ) → List ℕ
+reads_at page reads = reads_of (page_at page) reads
+
+-- how often the view read the page's word as this
+abbrev pub reads_as : ℕ → ℕ → View → ℕ
+reads_as page n v = times n (reads_at page v.read)
 
 -- how many entries of the list are of the page, and the content that the first of them has
 abbrev pub entries : ℕ → List (ℕ × List ℕ) → ℕ

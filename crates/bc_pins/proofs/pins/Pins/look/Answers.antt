@@ -7,4 +7,4 @@ load-found-requires c =
     let size = c.args.self.now.words in
     let lt = c.requires.page in
     let entry = c.page_entry.ensures in
-    (c.requires.seat.table, omega arith, looked _ _ _ _ _ _ entry lt c.requires.seat.about)
+    (c.requires.seat.table, omega arith, looked _ _ _ _ _ _ _ entry lt c.requires.seat.about c.requires.seat.role)
