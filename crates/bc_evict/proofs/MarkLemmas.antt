@@ -29,6 +29,7 @@ use Rattle.bc_pins.specs.Views.{sets_bit, reads_of}
 use Rattle.bc_pins.specs.Steps.{bookmarking, IsTargetBit}
 use Rattle.bc_pins.specs.Calls.{view_of, slots_of, IsSameSeat}
 use Rattle.bc_pins.proofs.TallyLemmas.{number_few}
+use Rattle.bc_pins.proofs.LogLemmas.{reads-else}
 use Rattle.bc_pins.proofs.VisitLemmas.{same_after}
 use Rattle.bc_evict.specs.Marking.{sets_cell, ReadsNoPage, Marks}
 
@@ -144,10 +145,6 @@ sets-more v page q n a more is_q is_n few is r b small =
     ∙ ap (λ (m : ℕ). nat_lt 0 (m + y)) (bit-of q n r b few small)
     ∙ some_more ((q == r) && (n == b)) y
     ∙ ap (λ (x : Bool). x || nat_lt 0 y) (class-same v.about.opening.classes q r a n b is_n ∙ ap (λ (j : ℕ). (j == r) && (cell_number (slice_index v.about.opening.classes r) a == b)) is_q)
-
--- what was read of a word stays where another was read
-pub reads-else : (i j n : ℕ) (l : List (ℕ × ℕ)) → j ≢ i → reads_of i ((j, n) ∷ l) ≡ reads_of i l
-reads-else i j n l ne = ap (λ (b : Bool). if b then n ∷ reads_of i l else reads_of i l) (ne_eqb j i ne)
 
 -- a word that is no reference
 pub marks-other : (a : Seat) (met : List ℕ) (word : Word) → ((x : Address) → word ≡ Ref x → ⊥) → Marks a met (λ test. test word) a met

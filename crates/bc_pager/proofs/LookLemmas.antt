@@ -1,6 +1,6 @@
 -- What was read of pages, and what a refused take tells.
 use Rattle.std.proofs.Common.{◌≡◌, ◌≢◌, ℕ, ◌+◌, ◌%◌, ◌<◌, ◌≤◌, ◌==◌, Bool, true, false, if◌then◌else◌, List, [], ◌∷◌, ◌++◌, inl, inr, refl, ap, sym, subst, ◌∙◌, arith, append_assoc}
-use Rattle.std.proofs.lemmas.Bool.{cases_lt, cases_Bool, eq-eqb, ne_eqb}
+use Rattle.std.proofs.lemmas.Bool.{cases_lt, eq-eqb, ne_eqb}
 use Rattle.bc_bits.specs.Counting.{one_if}
 use Rattle.bc_superpages.specs.declared.headers.PageState.{PageState}
 use Rattle.bc_superpages.specs.declared.headers.PageState.TheVariants as state
@@ -14,31 +14,16 @@ use Rattle.bc_pins.specs.declared.views.View.{View}
 use Rattle.bc_pins.specs.Key.{Key, pages_of, page_at}
 use Rattle.bc_pins.specs.Totals.{times}
 use Rattle.bc_pins.specs.Contents.{IsBarePage}
-use Rattle.bc_pins.specs.Views.{reads_of, reads_at, state_word}
+use Rattle.bc_pins.specs.Views.{reads_at, state_word}
 use Rattle.bc_pins.specs.Steps.{having_read}
 use Rattle.bc_pins.specs.Calls.{refusal_word, IsTakeRefused}
-use Rattle.bc_pins.proofs.TotalLemmas.{times_append, one_same}
+use Rattle.bc_pins.proofs.TotalLemmas.{one_same}
+use Rattle.bc_pins.proofs.LogLemmas.{times-reads}
 use Rattle.bc_pager.specs.declared.walking.Kind.{Kind}
 use Rattle.bc_pager.specs.declared.walking.Kind.TheVariants.{Bare, Filled}
 use Rattle.bc_pager.specs.Looking.{MayStay, TookNone, WasFound, all_pages, steps_behind}
 use Rattle.bc_pager.specs.Taking.{IsOfKind, MayStayAs, first_page, HasLooked, HasTried, HasTriedUpTo, IsTakenFor, HasTakenFirst}
 use Rattle.bc_pager.proofs.RoundLemmas.{one_place, order_kept}
-
-pub reads-append : (i : ℕ) (a b : List (ℕ × ℕ)) → reads_of i (a ++ b) ≡ reads_of i a ++ reads_of i b
-reads-append i [] b = refl
-reads-append i (e ∷ es) b = elim (cases_Bool (e.0 == i)) [
-  | inl on ↦
-      ap (λ (x : Bool). if x then e.1 ∷ reads_of i (es ++ b) else reads_of i (es ++ b)) on
-      ∙ ap (λ (l : List ℕ). e.1 ∷ l) (reads-append i es b)
-      ∙ sym (ap (λ (x : Bool). (if x then e.1 ∷ reads_of i es else reads_of i es) ++ reads_of i b) on)
-  | inr off ↦
-      ap (λ (x : Bool). if x then e.1 ∷ reads_of i (es ++ b) else reads_of i (es ++ b)) off
-      ∙ reads-append i es b
-      ∙ sym (ap (λ (x : Bool). (if x then e.1 ∷ reads_of i es else reads_of i es) ++ reads_of i b) off)
-]
-
-times-reads : (n i : ℕ) (a b : List (ℕ × ℕ)) → times n (reads_of i (a ++ b)) ≡ times n (reads_of i a) + times n (reads_of i b)
-times-reads n i a b = ap (times n) (reads-append i a b) ∙ times_append n (reads_of i a) (reads_of i b)
 
 -- what was found is found among more
 pub found-first : (a b : List (ℕ × ℕ)) (q : ℕ) (Where : PageState → Type 0) → WasFound a q Where → WasFound (a ++ b) q Where

@@ -22,13 +22,14 @@ use Rattle.bc_pins.specs.Contents.{IsBarePage}
 use Rattle.bc_pins.specs.Views.{reads_of, opened_state}
 use Rattle.bc_pins.specs.Steps.{Takes}
 use Rattle.bc_pins.specs.Calls.{view_of, HoldsPage}
+use Rattle.bc_pins.proofs.LogLemmas.{reads-append}
 use Rattle.bc_pins.proofs.VisitLemmas.{holds_taken, may_put_taken}
 use Rattle.bc_pager.specs.declared.walking.Kind.{Kind}
 use Rattle.bc_pager.specs.declared.walking.Kind.TheVariants.{Bare, Filled}
 use Rattle.bc_pager.specs.Looking.{MayStay, MayStayBare, MayStayFilled}
 use Rattle.bc_pager.specs.Taking.{HasLooked, HasTriedAll, IsTakenFor, HasTakenFirst, ReadNoPage, HasVacated, HasEvacuated}
 use Rattle.bc_pager.specs.Answering.{TookAfter, HasDiscarded, HasEvicted, HasDeclined}
-use Rattle.bc_pager.proofs.LookLemmas.{reads-append, found-first, found-last, found-as, stays-so, looked-then}
+use Rattle.bc_pager.proofs.LookLemmas.{found-first, found-last, found-as, stays-so, looked-then}
 
 -- a page that was taken is in hand, and may be given up as its kind says
 module _ (k : Key) (kind : Kind) (u : View) (seat : Seat) (held : Held) (t : IsTakenFor k kind u seat held) (about : u.about ≡ k) where
