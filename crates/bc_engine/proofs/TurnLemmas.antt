@@ -28,7 +28,7 @@ use Rattle.bc_engine.specs.Lanes.{of_lane, EachStopped, LanesRan, LeavesCells, S
 use Rattle.bc_engine.specs.Turns.{RanTurn, hints_at, hints_of, line_behind}
 
 -- the lanes ran side by side, beside them notices were answered, and then the heap was settled
-pub turn-together : {lanes : List (List Op)} {r q x : RunningView} {told replies : List (Vec Reply Global)} {asked answers : List Answer} {hints : List ℕ} → LanesRan lanes r told q replies → LeavesCells r q → EachStopped (StopsInTurn q.heap.space) lanes r told q replies → AnsweredBeside r.heap.space hints asked answers q.heap.space → Settled q.heap.space x.heap.space → x ≡ with_space q x.heap.space → RanTurn lanes r told asked hints x replies answers
+pub turn-together : {lanes : List (List Op)} {r q x : RunningView} {told replies : List (Vec Reply Global)} {asked answers : List Answer} {hints : List ℕ} → LanesRan lanes r told q replies → LeavesCells r q → EachStopped (StopsInTurn q.heap.space) lanes r told q replies → AnsweredBeside r.holders lanes (lists_of told) r.heap.space hints asked answers q.heap.space → Settled q.heap.space x.heap.space → x ≡ with_space q x.heap.space → RanTurn lanes r told asked hints x replies answers
 turn-together {lanes} {r} {q} {x} ran leaves stopped answered settled rest =
     record { mid = q; ran = ran; leaves = leaves; way = inl (stopped, answered, settled); rest = rest }
 

@@ -32,7 +32,7 @@ hints_of lines turn = hints_at lines (turn % length lines)
 abbrev pub RanTogether : List (List Op) → RunningView → List (Vec Reply Global) → List Answer → List ℕ → RunningView → RunningView → List (Vec Reply Global) → List Answer → Type 0
 RanTogether lanes r before kept hints mid q after told =
     EachStopped (StopsInTurn mid.heap.space) lanes r before mid after
-    × AnsweredBeside r.heap.space hints kept told mid.heap.space
+    × AnsweredBeside r.holders lanes (lists_of before) r.heap.space hints kept told mid.heap.space
     × Settled mid.heap.space q.heap.space
 
 -- the lanes ran one after another, by attempts alone, and then the notices were answered where nobody worked beside. Then the heap was settled

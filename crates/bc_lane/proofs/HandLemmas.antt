@@ -1,6 +1,6 @@
 -- A seat that takes an own page, and puts it back.
 use Rattle.std.proofs.Common.{◌≡◌, ◌≢◌, ℕ, ◌<◌, ◌≤◌, Bool, true, false, if◌then◌else◌, List, [], ◌∷◌, ◌++◌, length, Option, Some, None, inl, inr, refl, ap, sym, subst, ◌∙◌, append_assoc, length-append, arith}
-use Rattle.std.proofs.lemmas.Bool.{lt-ltb}
+use Rattle.std.proofs.lemmas.Bool.{cases_eq, cases_lt, lt-ltb}
 use Rattle.bc_lane.specs.Shown.{HasPage, IsOwnPage, ShowsPages}
 use Rattle.bc_lane.specs.Turns.{HasInHand, IsReadStop, ReadLast, ReadsOn}
 use Rattle.bc_lane.specs.declared.stops.Stop.{Stop}
@@ -19,8 +19,10 @@ use Rattle.bc_pins.specs.Contents.{IsBarePage}
 use Rattle.bc_pins.specs.Key.{Key, owner, page_at, pages_of}
 use Rattle.bc_pins.specs.Steps.{Takes, both_slots, gripping, having_read, owns}
 use Rattle.bc_pins.specs.Totals.{times}
-use Rattle.bc_pins.specs.Views.{entries, has_role}
+use Rattle.bc_pins.specs.Views.{entries, has_role, reads_at}
 use Rattle.bc_pins.specs.declared.views.Lodged.TheVariants.{Nothing}
+use Rattle.bc_pins.proofs.LogLemmas.{reads-append, reads-else}
+use Rattle.bc_pins.proofs.ReadLemmas.{same_page}
 use Rattle.bc_pins.proofs.TakeLemmas.{some_hand}
 use Rattle.bc_pins.proofs.TotalLemmas.{one_other, one_same}
 use Rattle.bc_pins.proofs.VisitLemmas.{holds_taken}
@@ -68,7 +70,14 @@ some-back v hand end s is shown = subst (λ (x : Option Held). ShowsPages v x en
 
 -- a seat reads on
 pub none-reads : (v : View) → ReadsOn v v
-none-reads v = record { same = refl; more = []; read = refl; behind = λ q far. (refl, refl); others = λ q none. (refl, refl) }
+none-reads v = record { same = refl; more = []; read = refl; behind = λ q far. (refl, refl); own = λ q lt. absurd (omega arith); others = λ q none. (refl, refl) }
+
+-- what one read of a page's word and others make is of the pages of these
+one-read : (page q found : ℕ) → 0 < length (reads_at q ((page_at page, found) ∷ [])) → page ≡ q
+one-read page q found lt = elim (cases_eq page q) [
+  | inl is ↦ is
+  | inr ne ↦ let none = ap length (reads-else (page_at q) (page_at page) found [] (λ e. ne (same_page page q e))) in absurd (omega arith)
+]
 
 pub then-reads : (u v w : View) → ReadsOn u v → ReadsOn v w → ReadsOn u w
 then-reads u v w x y = record {
@@ -79,14 +88,27 @@ then-reads u v w x y = record {
       let one = x.behind q far in
       let two = y.behind q (subst (λ (k : Key). pages_of k ≤ q) (sym (ap (λ (z : View). z.about) x.same)) far) in
       (two.0 ∙ one.0, two.1 ∙ one.1);
+  own = λ q lt.
+      let all = ap length (reads-append (page_at q) y.more x.more) ∙ length-append (reads_at q y.more) (reads_at q x.more) in
+      elim (cases_lt 0 (length (reads_at q x.more))) [
+        | inl before ↦ x.own q before
+        | inr none ↦ subst (λ (z : View). IsOwnPage z q) x.same (y.own q (omega arith))
+      ];
   others = λ q none.
       let one = x.others q none in
       let two = y.others q (subst (λ (z : View). has_role z (owner z.about q) ≡ 0) (sym x.same) none) in
       (two.0 ∙ one.0, two.1 ∙ one.1);
 }
 
-reads-word : (v : View) (page found : ℕ) → ReadsOn v (having_read v page found)
-reads-word v page found = record { same = refl; more = (page_at page, found) ∷ []; read = refl; behind = λ q far. (refl, refl); others = λ q none. (refl, refl) }
+reads-word : (v : View) (page found : ℕ) → IsOwnPage v page → ReadsOn v (having_read v page found)
+reads-word v page found own = record {
+  same = refl;
+  more = (page_at page, found) ∷ [];
+  read = refl;
+  behind = λ q far. (refl, refl);
+  own = λ q lt. subst (IsOwnPage v) (one-read page q found lt) own;
+  others = λ q none. (refl, refl);
+}
 
 -- a page was taken
 pub tried-about : (v : View) (page : ℕ) (b : Bool) → (tried v page Work b).about ≡ v.about
@@ -103,18 +125,29 @@ shown-taken v seat page held end s g takes own shown =
     (subst (λ (p : ℕ). ShowsPages (gripping (tried v page Work held.remembered) page held.remembered held.homed) (Some (record { page = p; remembered = held.remembered; homed = held.homed })) end s) (sym g.is)
     (shows-taken v page end held.remembered held.homed s own takes shown))
 
-tried-reads : (v : View) (page : ℕ) (b : Bool) → ReadsOn v (tried v page Work b)
-tried-reads v page true = reads-word v page 2
-tried-reads v page false = none-reads v
+tried-reads : (v : View) (page : ℕ) (b : Bool) → IsOwnPage v page → ReadsOn v (tried v page Work b)
+tried-reads v page true own = reads-word v page 2 own
+tried-reads v page false own = none-reads v
 
-gripping-reads : (v : View) (page : ℕ) (remembered : Bool) (homed : Homed) → ReadsOn v (gripping v page remembered homed)
-gripping-reads v page remembered homed = record { same = refl; more = (page_at page, if remembered then 2 else 1) ∷ []; read = refl; behind = λ q far. (refl, refl); others = λ q none. (refl, refl) }
+tried-own : (v : View) (page : ℕ) (b : Bool) → IsOwnPage v page → IsOwnPage (tried v page Work b) page
+tried-own v page true own = own
+tried-own v page false own = own
 
-pub taken-reads : (v : View) (seat : Seat) (page : ℕ) (held : Held) → Grasps (tried v page Work held.remembered) seat page held → ReadsOn v (view_of seat)
-taken-reads v seat page held g =
+gripping-reads : (v : View) (page : ℕ) (remembered : Bool) (homed : Homed) → IsOwnPage v page → ReadsOn v (gripping v page remembered homed)
+gripping-reads v page remembered homed own = record {
+  same = refl;
+  more = (page_at page, if remembered then 2 else 1) ∷ [];
+  read = refl;
+  behind = λ q far. (refl, refl);
+  own = λ q lt. subst (IsOwnPage v) (one-read page q (if remembered then 2 else 1) lt) own;
+  others = λ q none. (refl, refl);
+}
+
+pub taken-reads : (v : View) (seat : Seat) (page : ℕ) (held : Held) → Grasps (tried v page Work held.remembered) seat page held → IsOwnPage v page → ReadsOn v (view_of seat)
+taken-reads v seat page held g own =
     let u : View = tried v page Work held.remembered in
     subst (λ (w : View). ReadsOn v w) (sym g.view)
-    (then-reads v u (gripping u page held.remembered held.homed) (tried-reads v page held.remembered) (gripping-reads u page held.remembered held.homed))
+    (then-reads v u (gripping u page held.remembered held.homed) (tried-reads v page held.remembered own) (gripping-reads u page held.remembered held.homed (tried-own v page held.remembered own)))
 
 -- or refused
 pub refused-read : (v w : View) (page : ℕ) (want : Want) (refusal : TakeNo) → IsTakeRefused v page want refusal w → ReadLast w page (refusal_word refusal)
@@ -123,11 +156,11 @@ refused-read v w page want refusal r = elim r.read [
   | inr e ↦ ((page_at page, 2) ∷ v.read, ap (λ (x : View). x.read) e.1)
 ]
 
-pub refused-reads : (v w : View) (page : ℕ) (want : Want) (refusal : TakeNo) → IsTakeRefused v page want refusal w → ReadsOn v w
-refused-reads v w page want refusal r = elim r.read [
-  | inl e ↦ subst (λ (x : View). ReadsOn v x) (sym e) (reads-word v page (refusal_word refusal))
+pub refused-reads : (v w : View) (page : ℕ) (want : Want) (refusal : TakeNo) → IsTakeRefused v page want refusal w → IsOwnPage v page → ReadsOn v w
+refused-reads v w page want refusal r own = elim r.read [
+  | inl e ↦ subst (λ (x : View). ReadsOn v x) (sym e) (reads-word v page (refusal_word refusal) own)
   | inr e ↦ subst (λ (x : View). ReadsOn v x) (sym e.1)
-      (then-reads v (having_read v page 2) (having_read (having_read v page 2) page (refusal_word refusal)) (reads-word v page 2) (reads-word (having_read v page 2) page (refusal_word refusal)))
+      (then-reads v (having_read v page 2) (having_read (having_read v page 2) page (refusal_word refusal)) (reads-word v page 2 own) (reads-word (having_read v page 2) page (refusal_word refusal) own))
 ]
 
 -- so the page that stops the lane was read since
@@ -171,6 +204,7 @@ put-reads seat w held has own e =
       same = ap (λ (b : Bool). record (put_back v held) { returned = if b then v.returned else held.page ∷ v.returned }) (owns-page v held.page own);
       more = [];
       read = refl;
+      own = λ q lt. absurd (omega arith);
       behind = λ q far. put-else v held q (λ is. absurd (let inside = has.inside in omega arith));
       others = λ q none. put-else v held q (λ is. absurd (let mine = subst (λ (p : ℕ). IsOwnPage v p) is own in omega arith));
     })

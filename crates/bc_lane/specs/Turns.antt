@@ -34,7 +34,7 @@ use Rattle.bc_pins.specs.Calls.{HoldsPage, IsAt, IsFree, key_of}
 use Rattle.bc_pins.specs.Contents.{IsBarePage}
 use Rattle.bc_pins.specs.Key.{Key, lane_role, owner, page_at, pages_of}
 use Rattle.bc_pins.specs.Totals.{times}
-use Rattle.bc_pins.specs.Views.{entries, has_role, opened_state}
+use Rattle.bc_pins.specs.Views.{entries, has_role, opened_state, reads_at}
 use Rattle.bc_superpages.specs.declared.headers.PageState.TheVariants.{Absent}
 use Rattle.bc_superpages.specs.LayoutAt.{IsAllocated}
 use Rattle.bc_superpages.specs.RootWords.{RootWords}
@@ -131,13 +131,14 @@ LooksOn h op page = (at : Address) × LooksAtObject h.roots (touched_slot op) at
 abbrev pub ReadLast : View → ℕ → ℕ → Type 0
 ReadLast v page found = (rest : List (ℕ × ℕ)) × (v.read ≡ (page_at page, found) ∷ rest)
 
--- a seat read on, and took and put back pages of the table, of domains that its lane holds alone. What else it knows is as before:
--- so it made no page Gone or Absent, bookmarked and counted nothing, and has the rights to frames that it had
+-- a seat read on, and took and put back pages of the table: words of pages of its lane's domains, and such pages, alone. What else it
+-- knows is as before: so it made no page Gone or Absent, bookmarked and counted nothing, and has the rights to frames that it had
 pub record ReadsOn (v w : View) : Type 0 where
   pub same : w ≡ record v { hand = w.hand; changed = w.changed; recorded = w.recorded; seen = w.seen; gone = w.gone; busy = w.busy; read = w.read }
   pub more : List (ℕ × ℕ)
   pub read : w.read ≡ more ++ v.read
   pub behind : (page : ℕ) → pages_of v.about ≤ page → (entries page w.changed ≡ entries page v.changed) × (times page w.recorded ≡ times page v.recorded)
+  pub own : (page : ℕ) → 0 < length (reads_at page more) → 0 < has_role v (owner v.about page)
   pub others : (page : ℕ) → has_role v (owner v.about page) ≡ 0 → (entries page w.changed ≡ entries page v.changed) × (times page w.recorded ≡ times page v.recorded)
 
 -- a stop at a page is one that the seat read since, and the seat notes what it read: that the page is gone, or in another's hands

@@ -1,5 +1,5 @@
 -- A pager alone at a table: no lane has operations left.
-use Rattle.std.proofs.Common.{◌≡◌, ℕ, ◌+◌, ◌^◌, ◌<◌, List, [], ◌∷◌, ◌++◌, length, get_or, refl, ap, sym, subst, ◌∙◌, arith}
+use Rattle.std.proofs.Common.{◌≡◌, ℕ, ◌+◌, ◌^◌, ◌<◌, List, [], ◌∷◌, ◌++◌, length, get_or, refl, ap, sym, subst, ◌∙◌, arith, ◌/◌, inl}
 use Rattle.std.proofs.lemmas.List.{get_or_push, length_push}
 use Rattle.bc_pager.specs.Answering.{AreAnswered}
 use Rattle.bc_pager.specs.declared.answers.Answer.{Answer}
@@ -30,6 +30,9 @@ use Rattle.bc_turn.proofs.PassLemmas.{passes-none}
 use Rattle.bc_turn.proofs.TableLemmas.{AreSeatsBack, IsTurnTable, lies-back}
 use Rattle.bc_turn.proofs.TakingLemmas.{no-items}
 use Rattle.bc_whole_heap.specs.Heaps.{HeapView}
+use Rattle.bc_pins.specs.Views.{reads_as}
+use Rattle.bc_turn.proofs.DeclinedLemmas.{answers-home, declined-home}
+use Rattle.bc_turn.proofs.PagerLemmas.{name-none}
 
 -- a space that was neither opened nor changed lies as it did
 pub lies-still : (s : Layout) → IsOpenable s → LiesBack s s
@@ -101,8 +104,15 @@ module _ (pins : Pins) (h : HeapView) (hs : List ℕ) (seats : List Seat) (pager
         opens = (let one = back.opens in omega arith);
       })
 
-      pub alone-answered : h.space.reads < 2 ^ 64 → (hints : List ℕ) (kept told : List Answer) → old.notices.hints ≡ hints → old.answers.list ≡ kept → told ≡ later.answers.list → AnsweredBeside h.space hints kept told t
+      pub alone-answered : h.space.reads < 2 ^ 64 → (hints : List ℕ) (kept told : List Answer) → old.notices.hints ≡ hints → old.answers.list ≡ kept → told ≡ later.answers.list → AnsweredBeside hs [] [] h.space hints kept told t
       alone-answered few hints kept told hints_are kept_are all_are =
-          answered (key_of pins) h.space t all hints kept told paged.told (view_of later.seat) opened.opening closed before given few pagers
+          answered hs [] [] (key_of pins) h.space t all hints kept told paged.told (view_of later.seat) opened.opening closed before given few pagers
           (all_are ∙ paged.kept ∙ ap (λ (list_before : List Answer). list_before ++ paged.told) kept_are)
           (subst (λ (xs : List ℕ). AreAnswered (key_of pins) xs paged.told (fresh (key_of pins) (role_number (Pager 0) ∷ [])) (view_of later.seat)) hints_are paged.each)
+          (declined-home (key_of pins) h.space t all old.notices.hints paged.told (fresh (key_of pins) (role_number (Pager 0) ∷ [])) (view_of later.seat) [] [] (λ p. get_or hs (get_or h.space.domains (p / 4) 0) 0) opened.opening closed before given pagers
+          (name-none (key_of pins) old.notices.hints paged.told (fresh (key_of pins) (role_number (Pager 0) ∷ [])) (view_of later.seat) paged.each) paged.each
+          (λ p n. let sum = ap (total (λ (s : Seat). reads_as p n (view_of s))) only in omega arith)
+          (λ p near some.
+          let sum = ap (total (λ (s : Seat). reads_as p 1 (view_of s))) only in
+          let named = answers-home (key_of pins) old.notices.hints paged.told (fresh (key_of pins) (role_number (Pager 0) ∷ [])) (view_of later.seat) paged.each p near in
+          inl (omega arith)))

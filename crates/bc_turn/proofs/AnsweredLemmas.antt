@@ -3,7 +3,9 @@ use Rattle.std.proofs.Common.{◌≡◌, ◌⊎◌, ℕ, ◌+◌, ◌*◌, ◌/�
 use Rattle.std.proofs.lemmas.Bool.{cases_lt}
 use Rattle.std.proofs.lemmas.List.{get_or_past}
 use Rattle.bc_bits.specs.Counting.{one_if}
-use Rattle.bc_pager.specs.Answering.{AreAnswered, says_discarded, says_evicted}
+use Rattle.bc_model.specs.declared.operations.Op.{Op}
+use Rattle.bc_model.specs.declared.operations.Reply.{Reply}
+use Rattle.bc_pager.specs.Answering.{AreAnswered, says_declined, says_discarded, says_evicted}
 use Rattle.bc_pager.specs.declared.answers.Answer.{Answer}
 use Rattle.bc_pins.specs.Calls.{view_of}
 use Rattle.bc_pins.specs.Closing.{Closed, opens_of}
@@ -22,6 +24,7 @@ use Rattle.bc_superpages.specs.LayoutAt.{state_at}
 use Rattle.bc_turn.proofs.NewBitLemmas.{bits-none, new-bits, reads-same}
 use Rattle.bc_turn.proofs.PagerLemmas.{name-none}
 use Rattle.bc_turn.specs.Answered.{AnsweredBeside}
+use Rattle.bc_turn.specs.Begun.{HasLeft}
 
 -- a state by its word
 pub is-gone : (st : PageState) → 0 < one_if (state_word st == 4) → st ≡ Gone
@@ -72,7 +75,7 @@ module _ (k : Key) (s t : Layout) (seats : List Seat) (told : List Answer) (open
   opened-as p = ap (λ (x : Layout). state_at x.states p) (sym opening)
 
   -- a page behind the table
-  far-same : (p : ℕ) → pages_of k ≤ p → state_at t.states p ≡ state_at s.states p
+  pub far-same : (p : ℕ) → pages_of k ≤ p → state_at t.states p ≡ state_at s.states p
   far-same p far = elim (cases_lt p (4 * superpages k.opening)) [
     | inl inside ↦ (closed.behind p far inside).0 ∙ sym (opened-as p)
     | inr out ↦
@@ -82,7 +85,7 @@ module _ (k : Key) (s t : Layout) (seats : List Seat) (told : List Answer) (open
   ]
 
   -- how often a page of the table is Gone, or Absent
-  gone-count : (p : ℕ) → p < pages_of k → one_if (state_word (state_at t.states p) == 4) ≡ one_if (state_word (state_at s.states p) == 4) + total (says_evicted p) told
+  pub gone-count : (p : ℕ) → p < pages_of k → one_if (state_word (state_at t.states p) == 4) ≡ one_if (state_word (state_at s.states p) == 4) + total (says_evicted p) told
   gone-count p near =
       let all = (closed.states_are p near).gone in
       let fetched = pagers.fetched p in
@@ -90,7 +93,7 @@ module _ (k : Key) (s t : Layout) (seats : List Seat) (told : List Answer) (open
       let same = ap (λ (st : PageState). one_if (state_word st == 4)) (opened-as p) in
       omega arith
 
-  absent-count : (p : ℕ) → p < pages_of k → one_if (state_word (state_at t.states p) == 0) ≡ one_if (state_word (state_at s.states p) == 0) + total (says_discarded p) told
+  pub absent-count : (p : ℕ) → p < pages_of k → one_if (state_word (state_at t.states p) == 0) ≡ one_if (state_word (state_at s.states p) == 0) + total (says_discarded p) told
   absent-count p near =
       let all = (closed.states_are p near).absent in
       let emptied = pagers.emptied p in
@@ -160,9 +163,10 @@ module _ (k : Key) (s t : Layout) (seats : List Seat) (told : List Answer) (open
   ]
 
 -- the notices were answered beside the lanes
-pub answered : (k : Key) (s t : Layout) (seats : List Seat) (hints : List ℕ) (kept after : List Answer) (told : List Answer) (end : View) → k.opening ≡ s → Closed k seats t → IsLayout s → IsLayout t
-    → s.reads < 2 ^ 64 → ArePagers seats told → after ≡ kept ++ told → AreAnswered k hints told (fresh k (role_number (Pager 0) ∷ [])) end → AnsweredBeside s hints kept after t
-answered k s t seats hints kept after told end opening closed before layout few pagers is each =
+pub answered : (hs : List ℕ) (lanes : List (List Op)) (replies : List (List Reply)) (k : Key) (s t : Layout) (seats : List Seat) (hints : List ℕ) (kept after : List Answer) (told : List Answer) (end : View) → k.opening ≡ s → Closed k seats t → IsLayout s → IsLayout t
+    → s.reads < 2 ^ 64 → ArePagers seats told → after ≡ kept ++ told → AreAnswered k hints told (fresh k (role_number (Pager 0) ∷ [])) end
+    → (0 < total says_declined told → (p : ℕ) → state_at t.states p ≡ Home → HasLeft lanes replies (get_or hs (get_or s.domains (p / 4) 0) 0)) → AnsweredBeside hs lanes replies s hints kept after t
+answered hs lanes replies k s t seats hints kept after told end opening closed before layout few pagers is each declined =
     let none = name-none k hints told (fresh k (role_number (Pager 0) ∷ [])) end each in
     record {
       key = k;
@@ -174,6 +178,7 @@ answered k s t seats hints kept after told end opening closed before layout few 
       gone = λ p. (gone-from k s t seats told opening closed before layout pagers none p, gone-to k s t seats told opening closed before layout pagers none p);
       absent = λ p. (absent-from k s t seats told opening closed before layout pagers none p, absent-to k s t seats told opening closed before layout pagers none p);
       once = once k s t seats told opening closed before layout pagers none;
+      declined = declined;
       bookmarks = new-bits k s t seats opening closed before layout pagers.fetched;
       reads = reads-same k s t seats opening closed few pagers.opens;
     }
@@ -187,8 +192,8 @@ no-hints [] none = refl
 no-hints (h ∷ hints) none = absurd (omega arith)
 
 -- where there are no notices, none is answered
-pub answered-none : (s : Layout) (hints : List ℕ) (kept : List Answer) → length hints ≡ 0 → AnsweredBeside s hints kept kept s
-answered-none s hints kept none = record {
+pub answered-none : (hs : List ℕ) (lanes : List (List Op)) (replies : List (List Reply)) (s : Layout) (hints : List ℕ) (kept : List Answer) → length hints ≡ 0 → AnsweredBeside hs lanes replies s hints kept kept s
+answered-none hs lanes replies s hints kept none = record {
   key = record no_key { opening = s };
   opening = refl;
   end = fresh (record no_key { opening = s }) (role_number (Pager 0) ∷ []);
@@ -199,6 +204,24 @@ answered-none s hints kept none = record {
   gone = λ p. (λ is. inl is, λ from. elim from [ inl was ↦ was | inr some ↦ absurd (omega arith) ]);
   absent = λ p. (λ is. inl is, λ from. elim from [ inl was ↦ was | inr some ↦ absurd (omega arith) ]);
   once = λ p. omega arith;
+  declined = λ some. absurd (omega arith);
   bookmarks = bits-none s;
   reads = refl;
+}
+
+-- where no lane had operations left, it is so of any lanes
+pub answered-lanes : (hs : List ℕ) (lanes : List (List Op)) (replies : List (List Reply)) (s : Layout) (hints : List ℕ) (kept after : List Answer) (t : Layout) → AnsweredBeside hs [] [] s hints kept after t → AnsweredBeside hs lanes replies s hints kept after t
+answered-lanes hs lanes replies s hints kept after t is = record {
+  key = is.key;
+  opening = is.opening;
+  end = is.end;
+  told = is.told;
+  kept = is.kept;
+  each = is.each;
+  gone = is.gone;
+  absent = is.absent;
+  once = is.once;
+  declined = λ some p home. absurd (let left = is.declined some p home in omega arith);
+  bookmarks = is.bookmarks;
+  reads = is.reads;
 }

@@ -34,6 +34,8 @@ pub mod PagerLemmas
 pub mod NewBitLemmas
 -- What a closed table makes of the pages that answers name
 pub mod AnsweredLemmas
+-- What a pager's log says of a notice that was declined
+pub mod DeclinedLemmas
 -- A page that stopped a lane is Gone once the table is closed
 pub mod AwayLemmas
 -- Room that is kept from turn to turn

@@ -1,6 +1,6 @@
 -- What a lane has belongs to the heap that another lane's operations make.
 use Rattle.std.proofs.Common.{◌≡◌, ◌≢◌, ℕ, ◌*◌, ◌/◌, ◌<◌, List, [], ◌∷◌, length, map, get_or, true, None, inl, inr, ap, sym, subst, ◌∙◌, arith}
-use Rattle.std.proofs.lemmas.List.{get_or-map}
+use Rattle.std.proofs.lemmas.List.{get_or-map, get_or_past, length-map}
 use Rattle.bc_lane.specs.Shown.{IsOwnPage, ShowsPage, ShowsPages}
 use Rattle.bc_lane.specs.Turns.{IsWhole, SlotsOf}
 use Rattle.bc_lane.specs.declared.parts.LanePart.{LanePart}
@@ -10,13 +10,14 @@ use Rattle.bc_pins.specs.Key.{lane_role, owner}
 use Rattle.bc_pins.specs.Totals.{times}
 use Rattle.bc_pins.specs.Views.{has_role}
 use Rattle.bc_pins.specs.declared.views.View.{View}
-use Rattle.bc_pins.proofs.TotalLemmas.{one_is}
+use Rattle.bc_pins.proofs.TotalLemmas.{one_is, one_other}
 use Rattle.bc_superpages.specs.Headers.{is_gone}
 use Rattle.bc_superpages.specs.Layout.{Layout}
 use Rattle.bc_superpages.specs.RootWords.{RootWords}
 use Rattle.bc_turn.proofs.PassLemmas.{IsOthersPage, Passes}
 use Rattle.bc_whole_heap.specs.Heaps.{HeapView, end_of}
 use Rattle.bc_whole_heap.specs.LaneStates.{StandsAs}
+use Rattle.std.proofs.lemmas.Bool.{cases_lt}
 
 -- what a lane's seat is at a table whose pages these lanes own
 pub record IsSeatOf (hs : List ℕ) (lane : ℕ) (v : View) : Type 0 where
@@ -32,6 +33,20 @@ own-holder hs lane page v seat own within =
     let d : ℕ = get_or v.about.opening.domains (page / 4) 0 in
     let owner_is : owner v.about page ≡ lane_role (get_or hs d 0) = ap (λ (l : List ℕ). get_or l d 0) seat.owners ∙ get_or-map lane_role hs d 0 0 within in
     sym (one-role (get_or hs d 0) lane (subst (λ (rs : List ℕ). 0 < times (lane_role (get_or hs d 0)) rs) seat.roles (subst (λ (r : ℕ). 0 < has_role v r) owner_is own)))
+
+-- and its domain is one of the domains
+pub own-within : (hs : List ℕ) (lane page : ℕ) (v : View) → IsSeatOf hs lane v → IsOwnPage v page → get_or v.about.opening.domains (page / 4) 0 < length hs
+own-within hs lane page v seat own =
+    let d : ℕ = get_or v.about.opening.domains (page / 4) 0 in
+    elim (cases_lt d (length hs)) [
+      | inl within ↦ within
+      | inr out ↦
+          let long = length-map hs lane_role in
+          let nobody : owner v.about page ≡ 0 = ap (λ (l : List ℕ). get_or l d 0) seat.owners ∙ get_or_past (map lane_role hs) d 0 (omega arith) in
+          let has : 0 < times 0 (lane_role lane ∷ []) = subst (λ (rs : List ℕ). 0 < times 0 rs) seat.roles (subst (λ (r : ℕ). 0 < has_role v r) nobody own) in
+          let none = one_other (lane_role lane) 0 (λ e. absurd (omega arith)) in
+          absurd (omega arith)
+    ]
 
 module _ (hs : List ℕ) (lane : ℕ) (part : LanePart) (v : View) (end : ℕ) (h k : HeapView) (seat : IsSeatOf hs part.lane v) (holders : part.holders.items ≡ hs) (other : part.lane ≢ lane)
     (whole : IsWhole part v None end h) (passes : Passes hs (λ l. l ≡ lane) h k) (long : length k.roots.words ≡ k.roots.domains * k.roots.slots) where

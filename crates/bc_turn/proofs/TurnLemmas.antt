@@ -1,5 +1,5 @@
 -- A turn put together: what its steps tell makes the lanes' begin, their runs, and what they lay back.
-use Rattle.std.proofs.Common.{◌≡◌, ℕ, ◌+◌, ◌-◌, ◌*◌, ◌^◌, ◌<◌, ◌≤◌, ◌==◌, true, false, List, [], ◌∷◌, ◌++◌, length, map, get_or, None, Vec, vec_capacity, inl, inr, refl, ap, sym, subst, ◌∙◌, arith}
+use Rattle.std.proofs.Common.{◌≡◌, ℕ, ◌+◌, ◌-◌, ◌*◌, ◌^◌, ◌<◌, ◌≤◌, ◌==◌, true, false, List, [], ◌∷◌, ◌++◌, length, map, get_or, None, Vec, vec_capacity, inl, inr, refl, ap, sym, subst, ◌∙◌, arith, ◌/◌}
 use Prim.Native.Nat.{zero, suc}
 use Rattle.std.specs.declared.alloc.Global.{Global}
 use Rattle.std.specs.List.{AllByRecursion}
@@ -44,7 +44,7 @@ use Rattle.bc_turn.specs.Laying.{AreLaidBack}
 use Rattle.bc_turn.specs.Paging.{HasPaged}
 use Rattle.bc_turn.specs.Taking.{AreHeldDomains, AreRunsOf, AreSparesOf, AreTaken, CanRun, HasBusyAmong, HasReplyRoom, HasRoomForLane, LaneHasRun, IsRoomKept, LiesRight, running_lanes, seat_at, spare_lanes, turn_at, turn_roles}
 use Rattle.bc_turn.proofs.AnsweredLemmas.{ArePagers, answered}
-use Rattle.bc_turn.proofs.BegunLemmas.{IsPagerBack, are-back, are-pagers, are-recorded, begun-lane, may-operate, ops-each, paged-back}
+use Rattle.bc_turn.proofs.BegunLemmas.{IsPagerBack, are-back, are-pagers, are-recorded, begun-lane, may-operate, ops-each, paged-back, are-homes, pager-logged}
 use Rattle.bc_turn.proofs.BesideLemmas.{ran-beside, turn-table}
 use Rattle.bc_turn.proofs.LayingLemmas.{laid-space}
 use Rattle.bc_turn.proofs.RoomLemmas.{beside-longer, busy-among, busy-later, same-numbers}
@@ -52,6 +52,8 @@ use Rattle.bc_turn.proofs.TableLemmas.{IsTurnTable}
 use Rattle.bc_whole_heap.specs.Heaps.{HeapView, end_of}
 use Rattle.bc_whole_heap.specs.LaneStates.{StandsAs}
 use Rattle.bc_whole_heap.specs.Running.{IsRunning}
+use Rattle.bc_turn.proofs.DeclinedLemmas.{declined-home}
+use Rattle.bc_turn.proofs.PagerLemmas.{name-none}
 
 -- a list has an element
 pub first-of : {X : Type 0} (xs : List X) → 0 < length xs → X
@@ -353,11 +355,17 @@ module _ (h : HeapView) (hs serials : List ℕ) (lanes : List (List Op)) (before
               paged.told pagers
 
           pub answered-beside : (t : Layout) → Closed (key_of pins) whole-list t → IsLayout t → h.space.reads < 2 ^ 64 → (hints : List ℕ) (kept all : List Answer) → old.notices.hints ≡ hints → old.answers.list ≡ kept → all ≡ later.answers.list
-              → AnsweredBeside h.space hints kept all t
+              → AnsweredBeside hs lanes (lists_of before) h.space hints kept all t
           answered-beside t closed given few hints kept all hints_are kept_are all_are =
-              answered (key_of pins) h.space t whole-list hints kept all paged.told (view_of later.seat) set.opened.opening closed set.layout given few
+              answered hs lanes (lists_of before) (key_of pins) h.space t whole-list hints kept all paged.told (view_of later.seat) set.opened.opening closed set.layout given few
               pagers (all_are ∙ paged.kept ∙ ap (λ (list_before : List Answer). list_before ++ paged.told) kept_are)
               (subst (λ (hs : List ℕ). AreAnswered (key_of pins) hs paged.told (fresh (key_of pins) (role_number (Pager 0) ∷ [])) (view_of later.seat)) hints_are paged.each)
+              (declined-home (key_of pins) h.space t whole-list old.notices.hints paged.told (fresh (key_of pins) (role_number (Pager 0) ∷ [])) (view_of later.seat) lanes (lists_of before)
+              (λ p. get_or hs (get_or h.space.domains (p / 4) 0) 0) set.opened.opening closed set.layout given pagers
+              (name-none (key_of pins) old.notices.hints paged.told (fresh (key_of pins) (role_number (Pager 0) ∷ [])) (view_of later.seat) paged.each) paged.each
+              (pager-logged pins h hs serials lanes (lists_of before) busy (turn_at d runs) (seat_at d runs) (turn_at d new) (seat_at d new) (begun d) (all-ran d) back later.seat table seats-long seats-are pager-back)
+              (are-homes pins h hs serials lanes (lists_of before) busy (turn_at d runs) (seat_at d runs) (turn_at d new) (seat_at d new) (begun d) (all-ran d) back later.seat table seats-long seats-are pager-back
+              old.notices.hints paged.told paged.each))
 
 -- room that came back is kept for the next turn
 pub room-returned : (hs : List ℕ) (slots : ℕ) (lanes : List (List Op)) (h : HeapView) (serials : List ℕ) (before : List (List Reply)) (k : HeapView) (nexts : List ℕ) (after : List (List Reply)) (busy : List ℕ) (room : TurnRoom)

@@ -18,7 +18,7 @@ returns-in-Ok-clause-shows c = λ end s shown.
     shown-taken (view_of c.args.seat.now) c.take.new.seat c.args.page c.in-Ok.held end s c.in-Ok.ensures.ok c.in-Ok.ensures.taken c.requires.own shown
 
 pub returns-in-Ok-clause-reads : goal.returns-in-Ok-clause-reads
-returns-in-Ok-clause-reads c = taken-reads (view_of c.args.seat.now) c.take.new.seat c.args.page c.in-Ok.held c.in-Ok.ensures.ok
+returns-in-Ok-clause-reads c = taken-reads (view_of c.args.seat.now) c.take.new.seat c.args.page c.in-Ok.held c.in-Ok.ensures.ok c.requires.own
 
 pub returns-in-Err-Busy-clause-err : goal.returns-in-Err-Busy-clause-err
 returns-in-Err-Busy-clause-err c =
@@ -33,7 +33,7 @@ returns-in-Err-Busy-clause-still c =
 pub returns-in-Err-Busy-clause-reads : goal.returns-in-Err-Busy-clause-reads
 returns-in-Err-Busy-clause-reads c =
     let r = rw c.in-Err-Busy.field-0-is at c.in-Err-Busy.ensures.err in
-    refused-reads (view_of c.args.seat.now) (view_of c.take.new.seat) c.args.page Work Busy r.1
+    refused-reads (view_of c.args.seat.now) (view_of c.take.new.seat) c.args.page Work Busy r.1 c.requires.own
 
 pub returns-in-Err-Gone-clause-err : goal.returns-in-Err-Gone-clause-err
 returns-in-Err-Gone-clause-err c =
@@ -48,7 +48,7 @@ returns-in-Err-Gone-clause-still c =
 pub returns-in-Err-Gone-clause-reads : goal.returns-in-Err-Gone-clause-reads
 returns-in-Err-Gone-clause-reads c =
     let r = rw c.in-Err-Gone.field-0-is at c.in-Err-Gone.ensures.err in
-    refused-reads (view_of c.args.seat.now) (view_of c.take.new.seat) c.args.page Work Gone r.1
+    refused-reads (view_of c.args.seat.now) (view_of c.take.new.seat) c.args.page Work Gone r.1 c.requires.own
 
 pub unreachable-requires : goal.unreachable-requires
 unreachable-requires c =
