@@ -12,9 +12,11 @@
 // The rule (`specs/Rule.antt`, made of the turn facts of `specs/Facts.antt`) holds between any two steps, whatever order the
 // threads' steps take: a page's box lies where its word says, with the record as its content; a page is in one view's hands at
 // most; a page whose record refers to a nursery is remembered; what was read as Remembered stays so, and an own page that was
-// read as Gone is Gone until it is taken; a Gone page is summarised by the table's bookmark bits; counters count Gone pages and
-// what is counted for those in hand; each role is in one view; each frame is in one place. `proofs/PageSteps.antt` has the
-// one lemma by which every step on a page's word keeps it, and `proofs/SideSteps.antt` the one for a step on another word.
+// read as Gone is Gone until it is taken; a page that was read as Held was taken by somebody, and an own page so read is in
+// another's hands, or that one put it back, or made it Gone or Absent; what was read as Absent, Remembered or Gone isn't Home; a
+// Gone page is summarised by the table's bookmark bits; counters count Gone pages and what is counted for those in hand; each role
+// is in one view; each frame is in one place. `proofs/PageSteps.antt` has the one lemma by which every step on a page's word keeps
+// it, and `proofs/SideSteps.antt` the one for a step on another word.
 //
 // A page in hand is given up in single steps: `bookmark_bit` for its targets, `counter_add` for each superpage that has one,
 // `store_in`, and `relinquish_word`, after which its word says Gone; or `store_in` and `absent_word` where no cell lies on it. The
