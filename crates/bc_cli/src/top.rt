@@ -83,7 +83,7 @@ where
         ⊎ ReplayedTo (S.left source.old) (S.left source.new) (K.held sink.old) (K.held sink.new) }
     ensures none { IfHeapless result.status (result.heap ≡ None) }
 
-    // `churn` reads nothing, and ends done, by a failed write or for want of memory alone; then nothing is written.
+    // `churn` reads nothing. It ends done, by a failed write, or for want of memory, where nothing is written.
     ensures churn_ending { (start ops workers : ℕ) → IsCommandOf (map (λ w. w.now) words.now) (Churn start ops workers) →
         IsChurnEnding result.status × (source.new ≡ source.old) }
     ensures churn_write_fault { (start ops workers : ℕ) → IsCommandOf (map (λ w. w.now) words.now) (Churn start ops workers) →

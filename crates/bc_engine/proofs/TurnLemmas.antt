@@ -1,5 +1,5 @@
 -- A turn: the lanes run, and the notices of its line are answered.
-use Rattle.std.proofs.Common.{Vec, Global, ◌≡◌, ℕ, ◌+◌, ◌%◌, ◌<◌, ◌≤◌, Bool, true, false, if◌then◌else◌, inl, inr, Some, List, [], ◌∷◌, length, nat_lt, refl, sym, ap, subst, ◌∙◌, arith, tests}
+use Rattle.std.proofs.Common.{Vec, Global, ◌≡◌, ℕ, ◌+◌, ◌%◌, ◌<◌, ◌≤◌, Bool, true, false, if◌then◌else◌, inl, inr, Some, List, [], ◌∷◌, length, nat_lt, refl, sym, ap, subst, ◌∙◌, arith, tests, slice_index_or}
 use Prim.Native.Nat.{suc}
 use Rattle.std.proofs.Math.Nat.{mod-eq_of_lt, mod-lt, mod_self, suc-mod, zero-mod}
 use Rattle.std.proofs.lemmas.Bool.{cases_lt}
@@ -25,7 +25,7 @@ use Rattle.bc_turn.specs.declared.rooms.TurnRoom.{TurnRoom}
 use Rattle.bc_turn.proofs.RoomLemmas.{room-kept}
 use Rattle.bc_engine.specs.Attempts.{EachAlone, RanByAttempts, StoppedAlone}
 use Rattle.bc_engine.specs.Lanes.{of_lane, EachStopped, LanesRan, LeavesCells, StopsInTurn}
-use Rattle.bc_engine.specs.Turns.{RanTurn, hints_at, hints_of, line_behind}
+use Rattle.bc_engine.specs.Turns.{RanTurn, hints_of, line_behind}
 
 -- the lanes ran side by side, beside them notices were answered, and then the heap was settled
 pub turn-together : {lanes : List (List Op)} {r q x : RunningView} {told replies : List (Vec Reply Global)} {asked answers : List Answer} {hints : List ℕ} → LanesRan lanes r told q replies → LeavesCells r q → EachStopped (StopsInTurn q.heap.space) lanes r told q replies → AnsweredBeside r.holders lanes (lists_of told) r.heap.space hints asked answers q.heap.space → Settled q.heap.space x.heap.space → x ≡ with_space q x.heap.space → RanTurn lanes r told asked hints x replies answers
@@ -74,9 +74,9 @@ IsLineOf lines turn next = 0 < length lines → next ≡ turn % length lines
 pub line-begun : (lines : List (List ℕ)) → IsLineOf lines 0 0
 line-begun lines some = sym (zero-mod (length lines))
 
-line-hints : (lines : List (List ℕ)) (turn next : ℕ) → IsLineOf lines turn next → hints_at lines next ≡ hints_of lines turn
+line-hints : (lines : List (List ℕ)) (turn next : ℕ) → IsLineOf lines turn next → slice_index_or lines next [] ≡ hints_of lines turn
 line-hints [] turn next is = get_or_past [] next [] (omega arith) ∙ sym (get_or_past [] (turn % 0) [] (omega arith))
-line-hints (hints ∷ lines) turn next is = ap (hints_at (hints ∷ lines)) (is (omega arith))
+line-hints (hints ∷ lines) turn next is = ap (λ (i : ℕ). slice_index_or (hints ∷ lines) i []) (is (omega arith))
 
 -- behind the line of a turn comes that of the next turn
 behind : (length turn : ℕ) → 0 < length → (if nat_lt (turn % length + 1) length then turn % length + 1 else 0) ≡ (turn + 1) % length
@@ -116,26 +116,26 @@ pub turns-begun : (lanes : List (List Op)) (lines : List (List ℕ)) (e : Engine
 turns-begun lanes lines e told = record { count = 0; rounds = (refl, refl); line = line-begun lines }
 
 -- one round more
-round-more : {lanes : List (List Op)} {lines : List (List ℕ)} {e f : EngineView} {told mid : List (Vec Reply Global)} {next : ℕ} (g : EngineView) (replies : List (Vec Reply Global)) → (at : IsAtTurn lanes lines e told f mid next) → RanRound lanes f mid (hints_at lines next) g replies → RanRounds lanes lines e told (suc at.count) g replies
+round-more : {lanes : List (List Op)} {lines : List (List ℕ)} {e f : EngineView} {told mid : List (Vec Reply Global)} {next : ℕ} (g : EngineView) (replies : List (Vec Reply Global)) → (at : IsAtTurn lanes lines e told f mid next) → RanRound lanes f mid (slice_index_or lines next []) g replies → RanRounds lanes lines e told (suc at.count) g replies
 round-more {lanes} {lines} {e} {f} {told} {mid} {next} g replies at round =
     (f, mid, at.rounds, subst (λ (hints : List ℕ). RanRound lanes f mid hints g replies) (line-hints lines at.count next at.line) round)
 
-pub turns-more : {lanes : List (List Op)} {lines : List (List ℕ)} {e f : EngineView} {told mid : List (Vec Reply Global)} {next : ℕ} (g : EngineView) (replies : List (Vec Reply Global)) (behind_it : ℕ) → IsAtTurn lanes lines e told f mid next → behind_it ≡ line_behind lines next → RanRound lanes f mid (hints_at lines next) g replies → IsAtTurn lanes lines e told g replies behind_it
+pub turns-more : {lanes : List (List Op)} {lines : List (List ℕ)} {e f : EngineView} {told mid : List (Vec Reply Global)} {next : ℕ} (g : EngineView) (replies : List (Vec Reply Global)) (behind_it : ℕ) → IsAtTurn lanes lines e told f mid next → behind_it ≡ line_behind lines next → RanRound lanes f mid (slice_index_or lines next []) g replies → IsAtTurn lanes lines e told g replies behind_it
 turns-more {lanes} {lines} {e} {f} {told} {mid} {next} g replies behind_it at moved round = record {
   count = suc at.count;
   rounds = round-more g replies at round;
   line = line-next lines at.count next behind_it moved at.line;
 }
 
-pub turns-all : {lanes : List (List Op)} {lines : List (List ℕ)} {e f : EngineView} {told mid : List (Vec Reply Global)} {next : ℕ} (g : EngineView) (replies : List (Vec Reply Global)) → IsAtTurn lanes lines e told f mid next → LastRound lanes f mid (hints_at lines next) g replies → RanAll lanes lines e told g replies
+pub turns-all : {lanes : List (List Op)} {lines : List (List ℕ)} {e f : EngineView} {told mid : List (Vec Reply Global)} {next : ℕ} (g : EngineView) (replies : List (Vec Reply Global)) → IsAtTurn lanes lines e told f mid next → LastRound lanes f mid (slice_index_or lines next []) g replies → RanAll lanes lines e told g replies
 turns-all {lanes} {lines} {e} {f} {told} {mid} {next} g replies at last =
     (at.count, f, mid, at.rounds, subst (λ (hints : List ℕ). LastRound lanes f mid hints g replies) (line-hints lines at.count next at.line) last)
 
-pub turns-cut : {lanes : List (List Op)} {lines : List (List ℕ)} {e f : EngineView} {told mid : List (Vec Reply Global)} {next : ℕ} (g : EngineView) (replies : List (Vec Reply Global)) → IsAtTurn lanes lines e told f mid next → CutRound lanes f mid (hints_at lines next) g replies → RanToCut lanes lines e told g replies
+pub turns-cut : {lanes : List (List Op)} {lines : List (List ℕ)} {e f : EngineView} {told mid : List (Vec Reply Global)} {next : ℕ} (g : EngineView) (replies : List (Vec Reply Global)) → IsAtTurn lanes lines e told f mid next → CutRound lanes f mid (slice_index_or lines next []) g replies → RanToCut lanes lines e told g replies
 turns-cut {lanes} {lines} {e} {f} {told} {mid} {next} g replies at cut =
     (at.count, f, mid, at.rounds, subst (λ (hints : List ℕ). CutRound lanes f mid hints g replies) (line-hints lines at.count next at.line) cut)
 
-pub turns-want : {lanes : List (List Op)} {lines : List (List ℕ)} {e f : EngineView} {told mid : List (Vec Reply Global)} {next : ℕ} (g : EngineView) (replies : List (Vec Reply Global)) (kept : Vec Answer Global) → IsAtTurn lanes lines e told f mid next → g ≡ f → replies ≡ mid → HasNoRoomFor kept (length (hints_at lines next)) → RanToWant lanes lines e told g replies kept
+pub turns-want : {lanes : List (List Op)} {lines : List (List ℕ)} {e f : EngineView} {told mid : List (Vec Reply Global)} {next : ℕ} (g : EngineView) (replies : List (Vec Reply Global)) (kept : Vec Answer Global) → IsAtTurn lanes lines e told f mid next → g ≡ f → replies ≡ mid → HasNoRoomFor kept (length (slice_index_or lines next [])) → RanToWant lanes lines e told g replies kept
 turns-want {lanes} {lines} {e} {f} {told} {mid} {next} g replies kept at same back wants = (
   at.count,
   subst (λ (x : EngineView). RanRounds lanes lines e told at.count x replies) (sym same)

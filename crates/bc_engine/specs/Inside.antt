@@ -2,6 +2,7 @@
 use Rattle.bc_engine.specs.Engines.{EngineView}
 use Rattle.bc_engine.specs.declared.engines.Engine.TheInside.{Inside}
 
+-- an engine as contracts see it, by what it has inside
 abbrev pub engine_of : Inside → EngineView
 engine_of e = record {
   running = e.running;

@@ -21,12 +21,9 @@ use Rattle.bc_running.specs.Running.{RunningView, RunningStands}
 use Rattle.bc_running.specs.Touching.{LooksAtGone}
 use Rattle.bc_superpages.specs.Layout.{Layout}
 use Rattle.bc_turn.specs.Beside.{StopsBeside}
+pub use Rattle.bc_turn.specs.Begun.{of_lane}
 pub use Rattle.bc_turn.specs.Beside.{IsAtEndOr}
 use Rattle.bc_turn.specs.Taking.{HasAllReplyRoom}
-
--- the operations of a lane, or its replies
-abbrev pub of_lane : {X : Type 0} → List (List X) → ℕ → List X
-of_lane lists lane = slice_index_or lists lane []
 
 -- an operation of a lane was done: it is the step of every state that the heap stands for. The lane makes at most one object,
 -- and no other lane makes any

@@ -1,5 +1,5 @@
 -- The turns of a phase, from its beginning to its end, to its cut or to a want of room for answers.
-use Rattle.std.specs.Prelude.{◌≡◌, ℕ, ◌+◌, List, [], length, Some, Vec}
+use Rattle.std.specs.Prelude.{◌≡◌, ℕ, ◌+◌, List, [], length, Some, Vec, slice_index_or}
 use Prim.Native.Nat.{zero, suc}
 use Rattle.std.specs.declared.alloc.Global.{Global}
 use Rattle.bc_model.specs.Lists.{PhaseLists}
@@ -9,7 +9,7 @@ use Rattle.bc_pager.specs.declared.answers.Answer.{Answer}
 use Rattle.bc_engine.specs.EngineFacts.{with_answers, with_holders}
 use Rattle.bc_engine.specs.Engines.{EngineView}
 use Rattle.bc_engine.specs.Rounds.{IsRoomFor, RanAll, RanToCut, RanToWant}
-use Rattle.bc_engine.specs.Turns.{hints_at, hints_of}
+use Rattle.bc_engine.specs.Turns.{hints_of}
 use Rattle.bc_engine.specs.declared.engines.Ended.TheVariants.{NoMemory}
 
 -- room for the replies was taken, the rounds of the phase were run with its lines, and then domains changed hands. There was no answer
@@ -44,7 +44,7 @@ pub record HadTurnsToWant (e : EngineView) (p : PhaseLists) (f : EngineView) : T
 
 -- no turn has a notice: each line is empty
 abbrev pub HasNoHints : List (List ℕ) → Type 0
-HasNoHints lines = (n : ℕ) → hints_at lines n ≡ []
+HasNoHints lines = (n : ℕ) → slice_index_or lines n [] ≡ []
 
 -- how many notices the first n turns of a phase have
 abbrev pub hints_before : List (List ℕ) → ℕ → ℕ

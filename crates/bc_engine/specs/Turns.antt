@@ -14,10 +14,6 @@ use Rattle.bc_turn.specs.Answered.{AnsweredBeside}
 use Rattle.bc_engine.specs.Attempts.{EachAlone, RanByAttempts}
 use Rattle.bc_engine.specs.Lanes.{EachStopped, LanesRan, LeavesCells, StopsInTurn}
 
--- the hints of a line. Where there is none, there are no hints
-abbrev pub hints_at : List (List ℕ) → ℕ → List ℕ
-hints_at lines n = slice_index_or lines n []
-
 -- the line behind one, and the first one behind the last
 abbrev pub line_behind : List (List ℕ) → ℕ → ℕ
 line_behind lines n = if nat_lt (n + 1) (length lines) then n + 1 else 0
@@ -25,7 +21,7 @@ line_behind lines n = if nat_lt (n + 1) (length lines) then n + 1 else 0
 -- the hints of the turn of this number, counted from 0: lines are used in order, one for each turn, and from the first one again when they
 -- are used up
 abbrev pub hints_of : List (List ℕ) → ℕ → List ℕ
-hints_of lines turn = hints_at lines (turn % length lines)
+hints_of lines turn = slice_index_or lines (turn % length lines) []
 
 -- the lanes ran side by side, and beside them a pager answered the notices with these hints. Each stop has a cause of that way. Then the
 -- heap was settled

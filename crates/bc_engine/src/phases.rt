@@ -43,9 +43,11 @@ impl Engine {
     /// It answers `OutOfHeap` where an emptying of the nurseries finds that the heap is too small, with the replies up to there,
     /// and `NoMemory` where there is no memory for all replies, before anything is done, or for the answers to the notices of a turn, before that
     /// turn: nothing else can be refused for want of memory. Both end the engine. One that ended for want of heap answers the same need
-    /// again with no replies, and changes nothing; one that ended for want of memory answers that alone. In each turn of the lanes a page is given
-    /// up for each hint of the turn's line, where one can be had (beside lanes at a table) or can leave (on the heap itself), which no reply tells, but the engine's answers do: the n-th turn has the n-th
-    /// line, and behind the last line comes the first one again.
+    /// again with no replies, and changes nothing; one that ended for want of memory answers that alone.
+    ///
+    /// In each turn of the lanes a page is given up for each hint of the turn's line: beside lanes at a table one that can be had, on the heap
+    /// itself one that can leave; none where there is no such page. No reply tells that, but the engine's answers do. The n-th turn has the
+    /// n-th line, and behind the last line comes the first one again.
     pub fn phase<R, G>(
         &mut self,
         rt: &R,

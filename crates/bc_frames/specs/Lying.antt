@@ -3,7 +3,7 @@ use Rattle.std.specs.Prelude.{ℕ, ◌≤◌, Bool, true, false, List, Option, S
 use Rattle.bc_frames.specs.declared.storage.Place.{Place}
 use Rattle.bc_frames.specs.declared.storage.Place.TheVariants.{Empty, Unused, Full}
 
--- a page that was never used has zeros
+-- the words of what lies in a place, if anything does: a page that was never used has zeros
 abbrev pub lying_in : Place → Option (List ℕ)
 lying_in Empty = None
 lying_in Unused = Some (replicate 512 0)

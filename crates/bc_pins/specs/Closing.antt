@@ -113,7 +113,7 @@ pub record HeadersSet (k : Key) (old new : List Header) (words : List ℕ) : Typ
   pub behind : (q : ℕ) → k.supers ≤ q
       → ((slice_index_or new q unused_header).bookmarks ≡ (slice_index_or old q unused_header).bookmarks) × ((slice_index_or new q unused_header).incoming ≡ (slice_index_or old q unused_header).incoming)
 
--- where a page is once the table is closed: Remembered exactly where it was so at the opening or a seat put it back so; Gone and
+-- where a page is once the table is closed: Remembered exactly where it was so at the opening or its lane's seat put it back so; Gone and
 -- Absent by the opening and by what the seats made of it. In a mark turn no page became Remembered. A page that its lane read as
 -- Held with nothing in hand was made Gone or Absent, or put back by a seat that isn't that lane's. One that any seat read as Held
 -- some seat read as Home or Remembered, and one that any seat read as Absent, Remembered or Gone isn't Home

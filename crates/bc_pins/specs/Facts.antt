@@ -99,11 +99,11 @@ pub record Content (k : Key) (s : Table) (rec : ℕ → List ℕ) (page : ℕ) :
 abbrev pub IsUnheld : Key → Type 0
 IsUnheld k = k.lanes ≡ false → (page : ℕ) → times (owner k page) k.roles ≡ 0
 
--- how often the page was Remembered at the opening or was put back so
+-- how often the page was Remembered at the opening or was put back so by its lane
 abbrev pub remembered_ever : Key → Table → ℕ → ℕ
 remembered_ever k s page = one_if (opened_word k page == 2) + total (λ (v : View). times page v.recorded) s.views
 
--- Words: a page is Remembered, or in hand so, exactly where it was at the opening or some view put it back so; it is Gone, and
+-- Words: a page is Remembered, or in hand so, exactly where it was at the opening or its lane put it back so; it is Gone, and
 -- Absent, by the opening and by what the views made of it. In a mark turn no page becomes Remembered. A page that its lane read as
 -- Held with nothing in hand is in another's hands, or was and has been put back by that one, made Gone or made Absent. One that any
 -- view read as Held was taken, so somebody read it as Home or Remembered. One that any view read as Absent, Remembered or Gone is one

@@ -30,7 +30,7 @@ abbrev pub counted_for : ℕ → ℕ → Option Hand → ℕ
 counted_for page superpage None = 0
 counted_for page superpage (Some h) = if h.page == page then times superpage h.counted else 0
 
--- how often this bit of a bookmark word was set, and how often bits were set for the page: by the page, word and bits of each step
+-- how often this bit of a bookmark word was set, by the page, word and bits of each step
 abbrev pub sets_bit : ℕ → ℕ → List (ℕ × ℕ × ℕ) → ℕ
 sets_bit word bit [] = 0
 sets_bit word bit (e ∷ es) = (if e.1 == word then bit_at e.2 bit else 0) + sets_bit word bit es
@@ -40,6 +40,7 @@ abbrev pub sets_for : ℕ → ℕ → ℕ → List (ℕ × ℕ × ℕ) → ℕ
 sets_for page word bit [] = 0
 sets_for page word bit (e ∷ es) = (if (e.0 == page) && (e.1 == word) then bit_at e.2 bit else 0) + sets_for page word bit es
 
+-- how often bits were set for the page
 abbrev pub marked_for : ℕ → List (ℕ × ℕ × ℕ) → ℕ
 marked_for page [] = 0
 marked_for page (e ∷ es) = one_if (e.0 == page) + marked_for page es

@@ -7,7 +7,7 @@
 //
 // A worker steps with a seat, which has a role: a lane, a marker or a pager. A lane may change pages of the domains that it
 // holds; everybody else puts back what it took. What a seat has done and read is its view, which exists in proofs alone. The
-// record of a page is the content that its lane put back last, or else the opening's.
+// record of a page is the content that its lane put back last, or else the opening's; its lane alone records whether it is remembered.
 //
 // The rule (`specs/Rule.antt`, made of the turn facts of `specs/Facts.antt`) holds between any two steps, whatever order the
 // threads' steps take: a page's box lies where its word says, with the record as its content; a page is in one view's hands at

@@ -13,6 +13,7 @@ use Rattle.bc_mutator.specs.Operations.{NoneLater}
 use Rattle.bc_superpages.specs.Layout.{Layout}
 use Rattle.bc_running.specs.Running.{RunningView}
 
+-- a heap that lanes run on: a heap, who holds each domain, and each lane's births
 abbrev pub running_of : HeapView → List ℕ → List ℕ → RunningView
 running_of heap holders serials = record { heap = heap; holders = holders; serials = serials }
 

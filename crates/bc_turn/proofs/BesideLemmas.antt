@@ -32,7 +32,7 @@ use Rattle.bc_turn.proofs.HeapLemmas.{laid-back}
 use Rattle.bc_turn.proofs.OpenableLemmas.{openable}
 use Rattle.bc_turn.proofs.StageLemmas.{Link, Stage, first, first-ran, linked, new-holders, new-lane, new-seat, nothing-did, nothing-more, stages}
 use Rattle.bc_turn.proofs.TableLemmas.{AreRecorded, AreSeatsBack, IsTurnTable, lies-back, role-numbers}
-use Rattle.bc_turn.specs.Begun.{AllRan, AreBegun, AreBusyLanes, lane_ops, lane_replies}
+use Rattle.bc_turn.specs.Begun.{AllRan, AreBegun, AreBusyLanes, of_lane}
 use Rattle.bc_turn.specs.Beside.{IsAtEndOr, IsLaidBack, LiesBack, RanBeside, StopsBeside}
 use Rattle.bc_turn.specs.Laying.{AreLaidBack}
 use Rattle.bc_turn.specs.Taking.{turn_roles}
@@ -51,7 +51,7 @@ turn-table s hs busy pins seats opened = record {
 
 module _ (pins : Pins) (h : HeapView) (hs serials : List ℕ) (lanes : List (List Op)) (before : List (List Reply)) (busy : List ℕ) (old : ℕ → LaneTurn) (seat : ℕ → Seat) (new : ℕ → LaneTurn) (after : ℕ → Seat)
     (begun : AreBegun pins h hs serials lanes before busy old seat) (ran : AllRan lanes busy old seat new after) (state : State) (stands : StandsAs h hs serials state)
-    (words : length h.roots.words ≡ h.roots.domains * h.roots.slots) (ops : (j : ℕ) → Has busy j → AllByRecursion (IsOpOf h.roots) (lane_ops lanes j))
+    (words : length h.roots.words ≡ h.roots.domains * h.roots.slots) (ops : (j : ℕ) → Has busy j → AllByRecursion (IsOpOf h.roots) (of_lane lanes j))
     (running : IsRunning h hs) (layout : IsLayout h.space) (whole : AreWhole h.chunks) (some : 0 < length busy)
     (seats : List Seat) (table : IsTurnTable (key_of pins) h.space hs busy) (seats_long : length seats ≡ length busy + 1) (seats_are : (i : ℕ) → i < length busy → (d : Seat) → get_or seats i d ≡ after i)
     (k : HeapView) (nexts : List ℕ) (told : List (List Reply)) (closed : Closed (key_of pins) seats k.space) (given : IsLayout k.space)
@@ -71,7 +71,7 @@ module _ (pins : Pins) (h : HeapView) (hs serials : List ℕ) (lanes : List (Lis
   abbrev count : ℕ
   count = length lanes
 
-  link : (n : ℕ) → Link hs n (lane_ops lanes n) (get_or serials n 0) (lane_replies before n) (at n) (at (suc n)) (get_or nexts n 0) (lane_replies told n) k.space
+  link : (n : ℕ) → Link hs n (of_lane lanes n) (get_or serials n 0) (of_lane before n) (at n) (at (suc n)) (get_or nexts n 0) (of_lane told n) k.space
   link n = linked pins h hs serials lanes before busy old seat new after begun ran state stands words ops k nexts told laid notes n
 
   one-more : (n : ℕ) → suc n ≡ n + 1
@@ -114,18 +114,18 @@ module _ (pins : Pins) (h : HeapView) (hs serials : List ℕ) (lanes : List (Lis
     new = λ n. (link n).new;
     told = λ n lt. (link n).told_are;
     did = λ n lt.
-        subst (λ (q : ℕ). DidAll hs n (take (length (link n).new) (drop (length (lane_replies before n)) (lane_ops lanes n))) (link n).new (at n) (get_or serials n 0) (at q) (get_or nexts n 0))
+        subst (λ (q : ℕ). DidAll hs n (take (length (link n).new) (drop (length (of_lane before n)) (of_lane lanes n))) (link n).new (at n) (get_or serials n 0) (at q) (get_or nexts n 0))
         (one-more n) (link n).did;
     births = λ n lt. (link n).births;
-    stopped = λ n lt. subst (λ (q : ℕ). IsAtEndOr (lane_ops lanes n) (lane_replies told n) (λ op. StopsBeside hs n op (at q) k.space)) (one-more n) (link n).stopped;
+    stopped = λ n lt. subst (λ (q : ℕ). IsAtEndOr (of_lane lanes n) (of_lane told n) (λ op. StopsBeside hs n op (at q) k.space)) (one-more n) (link n).stopped;
     back = laid-all;
     long = (laid.births_long, laid.replies_long);
   }
 
 -- no lane has operations left
 module _ (h : HeapView) (hs serials : List ℕ) (lanes : List (List Op)) (before : List (List Reply)) (busy : List ℕ) (are : AreBusyLanes lanes before busy) (none : length busy ≡ 0) (running : IsRunning h hs) where
-  all-done : (n : ℕ) → length (lane_ops lanes n) ≤ length (lane_replies before n)
-  all-done n = elim (cases_lt (length (lane_replies before n)) (length (lane_ops lanes n))) [
+  all-done : (n : ℕ) → length (of_lane lanes n) ≤ length (of_lane before n)
+  all-done n = elim (cases_lt (length (of_lane before n)) (length (of_lane lanes n))) [
     | inl lt ↦ let b = are.all n lt in let there = b.1 in absurd (omega arith)
     | inr le ↦ le
   ]
@@ -152,8 +152,8 @@ module _ (h : HeapView) (hs serials : List ℕ) (lanes : List (List Op)) (before
       at = λ n. h;
       first = refl;
       new = λ n. [];
-      told = λ n lt. nothing-more (lane_replies before n);
-      did = λ n lt. nothing-did hs n (drop (length (lane_replies before n)) (lane_ops lanes n)) h (get_or serials n 0);
+      told = λ n lt. nothing-more (of_lane before n);
+      did = λ n lt. nothing-did hs n (drop (length (of_lane before n)) (of_lane lanes n)) h (get_or serials n 0);
       births = λ n lt. omega arith;
       stopped = λ n lt. inl (all-done n);
       back = still-laid;

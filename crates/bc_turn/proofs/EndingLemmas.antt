@@ -12,7 +12,7 @@ use Rattle.bc_reach.specs.Distinct.{Has}
 use Rattle.bc_reach.proofs.Pushed.{Has-from_push}
 use Rattle.bc_superpages.specs.RootWords.{RootWords}
 use Rattle.bc_turn.specs.declared.runs.Run.{Run}
-use Rattle.bc_turn.specs.Begun.{lane_ops}
+use Rattle.bc_turn.specs.Begun.{of_lane}
 use Rattle.bc_turn.specs.Laying.{AreLaidBack, LaysBack}
 use Rattle.bc_turn.specs.Taking.{AreRunsOf, FitsLanes, HasReplyRoom, HasRoomForLane, LiesRight, running_lanes, seat_at, turn_at}
 use Rattle.bc_turn.proofs.LayingLemmas.{laid-next}
@@ -153,7 +153,7 @@ module _ (all runs left : List Run) (seats : List Seat) (is : Gathering all runs
       elim (cases_eq j run.turn.part.lane) [
         | inl same ↦
             let here : v ≡ run.turn.replies = at ∙ ap (λ (i : ℕ). get_or (set vs run.turn.part.lane run.turn.replies) i v) same ∙ get_or-set_same vs run.turn.part.lane run.turn.replies v (omega arith) in
-            subst (λ (u : Vec Reply Global). length (lane_ops lanes j) ≤ vec_capacity u) (sym here) (subst (λ (i : ℕ). length (lane_ops lanes i) ≤ vec_capacity run.turn.replies) (sym same) enough)
+            subst (λ (u : Vec Reply Global). length (of_lane lanes j) ≤ vec_capacity u) (sym here) (subst (λ (i : ℕ). length (of_lane lanes i) ≤ vec_capacity run.turn.replies) (sym same) enough)
         | inr ne ↦
             room j v (omega arith)
             (λ has. elim (Has-from_push (running_lanes left) run.turn.part.lane j (subst (λ (xs : List ℕ). Has xs j) lanes_are has)) [ inl h ↦ off h | inr q ↦ ne (sym q) ])

@@ -8,7 +8,7 @@ use Rattle.bc_reach.specs.Distinct.{Has}
 use Rattle.bc_superpages.specs.Layout.{Layout}
 use Rattle.bc_superpages.specs.RootSlots.{root_at}
 use Rattle.bc_superpages.specs.RootWords.{RootWords}
-use Rattle.bc_turn.specs.Begun.{lane_replies}
+use Rattle.bc_turn.specs.Begun.{of_lane}
 use Rattle.bc_turn.specs.Laying.{AreLaidBack, LaysBack}
 use Rattle.bc_whole_heap.specs.Closed.{buffer_of, no_buffer}
 use Rattle.bc_whole_heap.specs.Heaps.{HeapView, no_chunk}
@@ -67,7 +67,7 @@ module _ (hs busy : List ℕ) (turn : ℕ → LaneTurn) (n : ℕ) (h : HeapView)
       let before_it = earlier i less ne in
       replaced-else births nexts l (get_or busy i 0) (turn n).part.serial 0 one.births (not-last i before_it) ∙ laid.births i before_it
 
-  reply : (i : ℕ) → i < n + 1 → (i ≡ n) ⊎ (i ≡ n → ⊥) → lane_replies after (get_or busy i 0) ≡ (turn i).replies.items
+  reply : (i : ℕ) → i < n + 1 → (i ≡ n) ⊎ (i ≡ n → ⊥) → of_lane after (get_or busy i 0) ≡ (turn i).replies.items
   reply i less (inl e) =
       replaced-here told after l (get_or busy i 0) (turn n).replies.items [] one.replies (let long = laid.replies_long in let is = lane_is in omega arith) (same-lane i e)
       ∙ ap (λ (j : ℕ). (turn j).replies.items) (sym e)

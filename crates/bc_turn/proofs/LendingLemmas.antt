@@ -17,7 +17,7 @@ use Rattle.bc_lane.specs.Turns.{IsPreparedTurn}
 use Rattle.bc_superpages.specs.RootWords.{RootWords}
 use Rattle.bc_turn.specs.declared.rooms.Spare.{Spare}
 use Rattle.bc_turn.specs.declared.runs.Run.{Run}
-use Rattle.bc_turn.specs.Begun.{AreBusyLanes, HasLeft, lane_ops}
+use Rattle.bc_turn.specs.Begun.{AreBusyLanes, HasLeft, of_lane}
 use Rattle.bc_turn.specs.Taking.{AreAway, AreSparesOf, AreTaken, AreWordsOf, FitsLanes, HasReplyRoom, HasRoomForLane, IsSpareOf, TakesAlong, running_lanes, spare_lanes, turn_at}
 use Rattle.bc_whole_heap.specs.Closed.{buffer_of, no_buffer}
 use Rattle.bc_whole_heap.specs.Heaps.{HeapView, no_chunk}
@@ -114,7 +114,7 @@ module _ (hs serials : List ℕ) (lanes : List (List Op)) (h : HeapView) (before
   pub spare-left : HasLeft lanes (lists_of after) spare.lane
   spare-left =
       let more = subst (HasLeft lanes (lists_of before)) next-lane (busy.more (length left) lane-there) in
-      subst (λ (rs : List Reply). length rs < length (lane_ops lanes spare.lane)) (sym (is.away.replies spare.lane spare-off)) more
+      subst (λ (rs : List Reply). length rs < length (of_lane lanes spare.lane)) (sym (is.away.replies spare.lane spare-off)) more
 
   pub spare-fits : (serial_count : ℕ) → FitsLanes (length lanes) h serial_count (length before) → FitsLanes (length lanes) k serial_count (length after)
   spare-fits n fits =
@@ -124,7 +124,7 @@ module _ (hs serials : List ℕ) (lanes : List (List Op)) (h : HeapView) (before
       let d = a.replies_long in
       record { chunks = a.chunks_long ∙ fits.chunks; buffers = a.buffers_long ∙ fits.buffers; births = fits.births; told = (let t = fits.told in omega arith) }
 
-  pub spare-room : (v : Vec Reply Global) → length before ≡ length lanes → v ≡ get_or after spare.lane v → length (lane_ops lanes spare.lane) ≤ vec_capacity v
+  pub spare-room : (v : Vec Reply Global) → length before ≡ length lanes → v ≡ get_or after spare.lane v → length (of_lane lanes spare.lane) ≤ vec_capacity v
   spare-room v long e =
       let b = length-map before (λ (u : Vec Reply Global). u.items) in
       let c = length-map after (λ (u : Vec Reply Global). u.items) in
@@ -133,7 +133,7 @@ module _ (hs serials : List ℕ) (lanes : List (List Op)) (h : HeapView) (before
       is.room spare.lane v (omega arith) spare-off e
 
   -- the lane has taken along what is its own
-  module _ (g : HeapView) (told : List (Vec Reply Global)) (run : Run) (takes : TakesAlong k hs serials lanes (lists_of after) spare.lane run.turn) (enough : length (lane_ops lanes spare.lane) ≤ vec_capacity run.turn.replies)
+  module _ (g : HeapView) (told : List (Vec Reply Global)) (run : Run) (takes : TakesAlong k hs serials lanes (lists_of after) spare.lane run.turn) (enough : length (of_lane lanes spare.lane) ≤ vec_capacity run.turn.replies)
       (seat_is : run.seat ≡ seat) (same : g ≡ record k { chunks = g.chunks; buffers = g.buffers }) (chunk : Nursery) (chunks_are : g.chunks ≡ set k.chunks spare.lane chunk) (buffer : Entries) (buffers_are : g.buffers ≡ set k.buffers spare.lane buffer)
       (none : Vec Reply Global) (told_are : told ≡ set after spare.lane none) where
     lane-is : run.turn.part.lane ≡ spare.lane
@@ -155,7 +155,7 @@ module _ (hs serials : List ℕ) (lanes : List (List Op)) (h : HeapView) (before
     roots-same = ap (λ (v : HeapView). v.roots) is.away.same
 
     abbrev prepared : ℕ → Nursery → Entries → Type 0
-    prepared slots c b = IsPreparedTurn spare.lane hs slots takes.roots c b (get_or serials spare.lane 0) takes.told (length (lane_ops lanes spare.lane)) run.turn
+    prepared slots c b = IsPreparedTurn spare.lane hs slots takes.roots c b (get_or serials spare.lane 0) takes.told (length (of_lane lanes spare.lane)) run.turn
 
     takes-first : TakesAlong h hs serials lanes (lists_of before) spare.lane run.turn
     takes-first = record {
@@ -232,7 +232,7 @@ module _ (hs serials : List ℕ) (lanes : List (List Op)) (h : HeapView) (before
         | inl near ↦ subst (λ (x : Run). HasRoomForLane lanes x.turn) (sym (old-run r d near)) (is.enough r near d)
         | inr far ↦
             let e : r ≡ length runs = (let p = runs-pushed in omega arith) in
-            subst (λ (x : Run). HasRoomForLane lanes x.turn) (sym (new-run r d e)) (subst (λ (l : ℕ). length (lane_ops lanes l) ≤ vec_capacity run.turn.replies) (sym lane-is) enough)
+            subst (λ (x : Run). HasRoomForLane lanes x.turn) (sym (new-run r d e)) (subst (λ (l : ℕ). length (of_lane lanes l) ≤ vec_capacity run.turn.replies) (sym lane-is) enough)
       ];
       away = away-more;
       room = room-more;

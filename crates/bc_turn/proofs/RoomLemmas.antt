@@ -13,7 +13,7 @@ use Rattle.bc_reach.specs.Distinct.{Has}
 use Rattle.bc_superpages.specs.RootWords.{RootWords}
 use Rattle.bc_turn.specs.declared.rooms.Spare.{Spare}
 use Rattle.bc_turn.specs.declared.rooms.TurnRoom.{TurnRoom}
-use Rattle.bc_turn.specs.Begun.{AreBusyLanes, lane_ops, lane_replies}
+use Rattle.bc_turn.specs.Begun.{AreBusyLanes, of_lane}
 use Rattle.bc_turn.specs.Beside.{RanBeside}
 use Rattle.bc_turn.specs.Taking.{AreHeldDomains, AreSparesOf, HasBusyAmong, IsRoomKept, IsSpareOf, LiesRight, spare_lanes}
 use Rattle.bc_turn.proofs.TakingLemmas.{spares-more}
@@ -29,24 +29,24 @@ same-numbers (x ∷ xs) (y ∷ ys) long each =
     ap (λ (a : ℕ). a ∷ xs) (each 0 (omega arith)) ∙ ap (λ (t : List ℕ). y ∷ t) (same-numbers xs ys (omega arith) (λ i lt. each (suc i) (omega arith)))
 
 -- where replies only get longer
-pub busy-later : (lanes : List (List Op)) (before after : List (List Reply)) (kept : List ℕ) → ((j : ℕ) → length (lane_replies before j) ≤ length (lane_replies after j)) → HasBusyAmong lanes before kept → HasBusyAmong lanes after kept
+pub busy-later : (lanes : List (List Op)) (before after : List (List Reply)) (kept : List ℕ) → ((j : ℕ) → length (of_lane before j) ≤ length (of_lane after j)) → HasBusyAmong lanes before kept → HasBusyAmong lanes after kept
 busy-later lanes before after kept longer among = record {
   rising = among.rising;
   within = among.within;
   all = λ lane left. among.all lane (let more = longer lane in omega (arith, left));
 }
 
-pub room-kept : (hs : List ℕ) (slots : ℕ) (lanes : List (List Op)) (before after : List (List Reply)) (room : TurnRoom) → ((j : ℕ) → length (lane_replies before j) ≤ length (lane_replies after j))
+pub room-kept : (hs : List ℕ) (slots : ℕ) (lanes : List (List Op)) (before after : List (List Reply)) (room : TurnRoom) → ((j : ℕ) → length (of_lane before j) ≤ length (of_lane after j))
     → IsRoomKept hs slots lanes before room → IsRoomKept hs slots lanes after room
 room-kept hs slots lanes before after room longer (inl none) = inl none
 room-kept hs slots lanes before after room longer (inr kept) = inr (kept.0, busy-later lanes before after (spare_lanes room.spares.items) longer kept.1)
 
 -- lanes that run make them so
 pub beside-longer : (hs : List ℕ) (lanes : List (List Op)) (h : HeapView) (serials : List ℕ) (before : List (List Reply)) (k : HeapView) (nexts : List ℕ) (after : List (List Reply)) → length before ≡ length lanes
-    → RanBeside hs lanes h serials before k nexts after → (j : ℕ) → length (lane_replies before j) ≤ length (lane_replies after j)
+    → RanBeside hs lanes h serials before k nexts after → (j : ℕ) → length (of_lane before j) ≤ length (of_lane after j)
 beside-longer hs lanes h serials before k nexts after sizes ran j = elim (cases_lt j (length lanes)) [
-  | inl lt ↦ subst (λ (rs : List Reply). length (lane_replies before j) ≤ length rs) (sym (ran.told j lt)) (longer (lane_replies before j) (ran.new j))
-  | inr out ↦ subst (λ (rs : List Reply). length rs ≤ length (lane_replies after j)) (sym (get_or_past before j [] (omega arith))) (omega arith)
+  | inl lt ↦ subst (λ (rs : List Reply). length (of_lane before j) ≤ length rs) (sym (ran.told j lt)) (longer (of_lane before j) (ran.new j))
+  | inr out ↦ subst (λ (rs : List Reply). length rs ≤ length (of_lane after j)) (sym (get_or_past before j [] (omega arith))) (omega arith)
 ]
   where
     longer : (xs ys : List Reply) → length xs ≤ length (xs ++ ys)
@@ -102,7 +102,7 @@ filter-rises test (x ∷ xs) rises =
 
 -- has the lane operations left?
 abbrev pub is_busy : List (List Op) → List (List Reply) → ℕ → Bool
-is_busy lanes replies lane = nat_lt (length (lane_replies replies lane)) (length (lane_ops lanes lane))
+is_busy lanes replies lane = nat_lt (length (of_lane replies lane)) (length (of_lane lanes lane))
 
 -- those among the lanes that have operations left
 module _ (lanes : List (List Op)) (replies : List (List Reply)) (kept : List ℕ) (among : HasBusyAmong lanes replies kept) where
@@ -119,12 +119,12 @@ module _ (lanes : List (List Op)) (replies : List (List Reply)) (kept : List ℕ
         let w = among.within r.0 r.1 in
         let is = r.2 in
         omega arith;
-    more = λ i lt. ltb-true (length (lane_replies replies (get_or left-ones i 0))) (length (lane_ops lanes (get_or left-ones i 0))) (left-from i lt).1;
+    more = λ i lt. ltb-true (length (of_lane replies (get_or left-ones i 0))) (length (of_lane lanes (get_or left-ones i 0))) (left-from i lt).1;
     rising = filter-rises (is_busy lanes replies) kept among.rising;
     all = λ lane left.
         let r = among.all lane left in
         place_of left-ones lane
-        (filter-to (is_busy lanes replies) kept lane (lt-ltb (length (lane_replies replies lane)) (length (lane_ops lanes lane)) left) (subst (Has kept) r.2 (Has-get_or kept r.0 r.1)));
+        (filter-to (is_busy lanes replies) kept lane (lt-ltb (length (of_lane replies lane)) (length (of_lane lanes lane)) left) (subst (Has kept) r.2 (Has-get_or kept r.0 r.1)));
   }
 
 -- the room of those

@@ -31,7 +31,7 @@ use Rattle.bc_turn.proofs.BusyLemmas.{has-left, same-index}
 use Rattle.bc_turn.proofs.AwayLemmas.{NotesGone}
 use Rattle.bc_turn.proofs.OtherLemmas.{IsSeatOf, other-whole}
 use Rattle.bc_turn.proofs.PassLemmas.{Passed, Passes, passed, passes-none, passes-then, passes-wider, ready-each}
-use Rattle.bc_turn.specs.Begun.{AllRan, AreBegun, HasLeft, lane_ops, lane_replies}
+use Rattle.bc_turn.specs.Begun.{AllRan, AreBegun, HasLeft, of_lane}
 use Rattle.bc_turn.specs.Beside.{IsAtEndOr, StopsBeside}
 use Rattle.bc_turn.specs.Laying.{AreLaidBack}
 use Rattle.bc_whole_heap.specs.Closed.{buffer_of}
@@ -91,7 +91,7 @@ stops-beside hs n end part u v k t op why eh el whole fits notes since stops =
 
 module _ (pins : Pins) (h : HeapView) (hs serials : List ℕ) (lanes : List (List Op)) (before : List (List Reply)) (busy : List ℕ) (old : ℕ → LaneTurn) (seat : ℕ → Seat) (new : ℕ → LaneTurn) (after : ℕ → Seat)
     (begun : AreBegun pins h hs serials lanes before busy old seat) (ran : AllRan lanes busy old seat new after) (state : State) (stands : StandsAs h hs serials state)
-    (words : length h.roots.words ≡ h.roots.domains * h.roots.slots) (ops : (j : ℕ) → Has busy j → AllByRecursion (IsOpOf h.roots) (lane_ops lanes j)) where
+    (words : length h.roots.words ≡ h.roots.domains * h.roots.slots) (ops : (j : ℕ) → Has busy j → AllByRecursion (IsOpOf h.roots) (of_lane lanes j)) where
   abbrev end : ℕ
   end = end_of h.space
 
@@ -102,7 +102,7 @@ module _ (pins : Pins) (h : HeapView) (hs serials : List ℕ) (lanes : List (Lis
   lane i = get_or busy i 0
 
   -- what a run tells of the heap at the beginning
-  pub first-ran : (i : ℕ) → i < length busy → LaneRan (lane_ops lanes (lane i)) end (old i) (view_of (seat i)) None (new i) (view_of (after i)) None
+  pub first-ran : (i : ℕ) → i < length busy → LaneRan (of_lane lanes (lane i)) end (old i) (view_of (seat i)) None (new i) (view_of (after i)) None
   first-ran i lt = (ran.each i lt).ran h (begun.each i lt).whole
 
   pub new-holders : (i : ℕ) → i < length busy → (new i).part.holders.items ≡ hs
@@ -168,16 +168,16 @@ module _ (pins : Pins) (h : HeapView) (hs serials : List ℕ) (lanes : List (Lis
       done = λ i lt less. s.done i lt (below i lt less);
     }
 
-    link-same : (next : ℕ) (told : List Reply) (t : Layout) → next ≡ get_or serials n 0 → told ≡ lane_replies before n → (HasLeft lanes before n → ⊥) → Link hs n (lane_ops lanes n) (get_or serials n 0) (lane_replies before n) s.heap s.heap next told t
+    link-same : (next : ℕ) (told : List Reply) (t : Layout) → next ≡ get_or serials n 0 → told ≡ of_lane before n → (HasLeft lanes before n → ⊥) → Link hs n (of_lane lanes n) (get_or serials n 0) (of_lane before n) s.heap s.heap next told t
     link-same next told t en et all = record {
       new = [];
-      told_are = et ∙ nothing-more (lane_replies before n);
-      did = subst (λ (m : ℕ). DidAll hs n (take 0 (drop (length (lane_replies before n)) (lane_ops lanes n))) [] s.heap (get_or serials n 0) s.heap m) (sym en)
-          (nothing-did hs n (drop (length (lane_replies before n)) (lane_ops lanes n)) s.heap (get_or serials n 0));
+      told_are = et ∙ nothing-more (of_lane before n);
+      did = subst (λ (m : ℕ). DidAll hs n (take 0 (drop (length (of_lane before n)) (of_lane lanes n))) [] s.heap (get_or serials n 0) s.heap m) (sym en)
+          (nothing-did hs n (drop (length (of_lane before n)) (of_lane lanes n)) s.heap (get_or serials n 0));
       births = omega arith;
-      stopped = inl (elim (cases_lt (length (lane_replies before n)) (length (lane_ops lanes n))) [
+      stopped = inl (elim (cases_lt (length (of_lane before n)) (length (of_lane lanes n))) [
         | inl lt ↦ absurd (all lt)
-        | inr le ↦ subst (λ (l : List Reply). length (lane_ops lanes n) ≤ length l) (sym et) le
+        | inr le ↦ subst (λ (l : List Reply). length (of_lane lanes n) ≤ length l) (sym et) le
       ]);
     }
 
@@ -192,15 +192,15 @@ module _ (pins : Pins) (h : HeapView) (hs serials : List ℕ) (lanes : List (Lis
     here : IsWhole o.part (view_of (seat i)) None (end_of s.heap.space) s.heap
     here = whole-end o.part (view_of (seat i)) end s.heap (s.waits i lt (omega arith))
 
-    run : LaneRan (lane_ops lanes (lane i)) (end_of s.heap.space) o (view_of (seat i)) None w (view_of (after i)) None
+    run : LaneRan (of_lane lanes (lane i)) (end_of s.heap.space) o (view_of (seat i)) None w (view_of (after i)) None
     run = (ran.each i lt).ran s.heap here
 
-    fits-at : (k : HeapView) → Passes hs (Has busy) h k → AllByRecursion (IsOpOf k.roots) (lane_ops lanes (lane i))
-    fits-at k passes = subst (λ (r : RootWords). AllByRecursion (IsOpOf r) (lane_ops lanes (lane i))) (sym passes.roots) (ops (lane i) (Has-get_or busy i lt))
+    fits-at : (k : HeapView) → Passes hs (Has busy) h k → AllByRecursion (IsOpOf k.roots) (of_lane lanes (lane i))
+    fits-at k passes = subst (λ (r : RootWords). AllByRecursion (IsOpOf r) (of_lane lanes (lane i))) (sym passes.roots) (ops (lane i) (Has-get_or busy i lt))
 
     abbrev Made : Type 0
     Made = (k : HeapView) × IsWhole w.part (view_of (after i)) None (end_of s.heap.space) k
-        × DidAll o.part.holders.items o.part.lane (take (length run.replies) (drop o.next (lane_ops lanes (lane i)))) run.replies s.heap o.part.serial k w.part.serial
+        × DidAll o.part.holders.items o.part.lane (take (length run.replies) (drop o.next (of_lane lanes (lane i)))) run.replies s.heap o.part.serial k w.part.serial
 
     made : Made
     made = let d = run.done s.heap here (fits-at s.heap s.passes) in (d.0, d.1, d.3)
@@ -211,20 +211,20 @@ module _ (pins : Pins) (h : HeapView) (hs serials : List ℕ) (lanes : List (Lis
     lane-n : o.part.lane ≡ n
     lane-n = begun.lane_is i lt ∙ is
 
-    next-n : o.next ≡ length (lane_replies before n)
-    next-n = (begun.each i lt).next ∙ ap (λ (l : ℕ). length (lane_replies before l)) lane-n
+    next-n : o.next ≡ length (of_lane before n)
+    next-n = (begun.each i lt).next ∙ ap (λ (l : ℕ). length (of_lane before l)) lane-n
 
     serial-n : o.part.serial ≡ get_or serials n 0
     serial-n = (begun.each i lt).serial_is ∙ ap (λ (l : ℕ). get_or serials l 0) lane-n
 
-    did : DidAll hs n (take (length run.replies) (drop (length (lane_replies before n)) (lane_ops lanes n))) run.replies s.heap (get_or serials n 0) k w.part.serial
+    did : DidAll hs n (take (length run.replies) (drop (length (of_lane before n)) (of_lane lanes n))) run.replies s.heap (get_or serials n 0) k w.part.serial
     did =
         let m : ℕ = length run.replies in
-        subst (λ (q : ℕ). DidAll hs n (take m (drop (length (lane_replies before n)) (lane_ops lanes n))) run.replies s.heap q k w.part.serial) serial-n
-        (subst (λ (q : ℕ). DidAll hs n (take m (drop (length (lane_replies before n)) (lane_ops lanes q))) run.replies s.heap o.part.serial k w.part.serial) is
-        (subst (λ (q : ℕ). DidAll hs n (take m (drop q (lane_ops lanes (lane i)))) run.replies s.heap o.part.serial k w.part.serial) next-n
-        (subst (λ (q : ℕ). DidAll hs q (take m (drop o.next (lane_ops lanes (lane i)))) run.replies s.heap o.part.serial k w.part.serial) lane-n
-        (subst (λ (l : List ℕ). DidAll l o.part.lane (take m (drop o.next (lane_ops lanes (lane i)))) run.replies s.heap o.part.serial k w.part.serial) (begun.each i lt).holders_are made.2))))
+        subst (λ (q : ℕ). DidAll hs n (take m (drop (length (of_lane before n)) (of_lane lanes n))) run.replies s.heap q k w.part.serial) serial-n
+        (subst (λ (q : ℕ). DidAll hs n (take m (drop (length (of_lane before n)) (of_lane lanes q))) run.replies s.heap o.part.serial k w.part.serial) is
+        (subst (λ (q : ℕ). DidAll hs n (take m (drop q (of_lane lanes (lane i)))) run.replies s.heap o.part.serial k w.part.serial) next-n
+        (subst (λ (q : ℕ). DidAll hs q (take m (drop o.next (of_lane lanes (lane i)))) run.replies s.heap o.part.serial k w.part.serial) lane-n
+        (subst (λ (l : List ℕ). DidAll l o.part.lane (take m (drop o.next (of_lane lanes (lane i)))) run.replies s.heap o.part.serial k w.part.serial) (begun.each i lt).holders_are made.2))))
 
     within : n < length s.heap.chunks
     within = subst (λ (l : ℕ). l < length s.heap.chunks) is (s.ready i lt).lane_within
@@ -234,7 +234,7 @@ module _ (pins : Pins) (h : HeapView) (hs serials : List ℕ) (lanes : List (Lis
 
     passed-n : Passed hs n s.heap k s.births w.part.serial
     passed-n =
-        passed hs n (take (length run.replies) (drop (length (lane_replies before n)) (lane_ops lanes n))) run.replies s.heap k (get_or serials n 0) w.part.serial s.births s.state did s.stands
+        passed hs n (take (length run.replies) (drop (length (of_lane before n)) (of_lane lanes n))) run.replies s.heap k (get_or serials n 0) w.part.serial s.births s.state did s.stands
         (s.births_are n (omega arith)) below-births (subst (λ (l : ℕ). MayOperate s.heap hs l) is (s.ready i lt))
 
     passes-h : Passes hs (Has busy) h k
@@ -307,35 +307,35 @@ module _ (pins : Pins) (h : HeapView) (hs serials : List ℕ) (lanes : List (Lis
     }
 
     -- its replies, and why it stopped
-    replies-are : w.replies.items ≡ lane_replies before n ++ run.replies
-    replies-are = run.kept ∙ ap (λ (l : List Reply). l ++ run.replies) ((begun.each i lt).replies_are ∙ ap (lane_replies before) lane-n)
+    replies-are : w.replies.items ≡ of_lane before n ++ run.replies
+    replies-are = run.kept ∙ ap (λ (l : List Reply). l ++ run.replies) ((begun.each i lt).replies_are ∙ ap (of_lane before) lane-n)
 
-    next-is : w.next ≡ length (lane_replies before n ++ run.replies)
-    next-is = run.next ∙ ap (λ (q : ℕ). q + length run.replies) next-n ∙ sym (length-append (lane_replies before n) run.replies)
+    next-is : w.next ≡ length (of_lane before n ++ run.replies)
+    next-is = run.next ∙ ap (λ (q : ℕ). q + length run.replies) next-n ∙ sym (length-append (of_lane before n) run.replies)
 
-    stopped-n : (told : List Reply) (t : Layout) → told ≡ w.replies.items → NotesGone (view_of (after i)) h.space t → IsAtEndOr (lane_ops lanes n) told (λ op. StopsBeside hs n op k t)
+    stopped-n : (told : List Reply) (t : Layout) → told ≡ w.replies.items → NotesGone (view_of (after i)) h.space t → IsAtEndOr (of_lane lanes n) told (λ op. StopsBeside hs n op k t)
     stopped-n told t et notes =
-        subst (λ (l : List Reply). IsAtEndOr (lane_ops lanes n) l (λ op. StopsBeside hs n op k t)) (sym (et ∙ replies-are))
-        (subst (λ (q : ℕ). IsAtEndOr (lane_ops lanes q) (lane_replies before n ++ run.replies) (λ op. StopsBeside hs n op k t)) is
+        subst (λ (l : List Reply). IsAtEndOr (of_lane lanes n) l (λ op. StopsBeside hs n op k t)) (sym (et ∙ replies-are))
+        (subst (λ (q : ℕ). IsAtEndOr (of_lane lanes q) (of_lane before n ++ run.replies) (λ op. StopsBeside hs n op k t)) is
         (why ((ran.each i lt).stopped s.heap here)))
       where
-        why : WhyStopped (lane_ops lanes (lane i)) (end_of s.heap.space) w (view_of (after i)) None (ran.why i) → IsAtEndOr (lane_ops lanes (lane i)) (lane_replies before n ++ run.replies) (λ op. StopsBeside hs n op k t)
-        why (inl e) = inl (subst (λ (q : ℕ). length (lane_ops lanes (lane i)) ≤ q) next-is e.1)
+        why : WhyStopped (of_lane lanes (lane i)) (end_of s.heap.space) w (view_of (after i)) None (ran.why i) → IsAtEndOr (of_lane lanes (lane i)) (of_lane before n ++ run.replies) (λ op. StopsBeside hs n op k t)
+        why (inl e) = inl (subst (λ (q : ℕ). length (of_lane lanes (lane i)) ≤ q) next-is e.1)
         why (inr e) = inr (
           e.0,
-          subst (λ (q : ℕ). q < length (lane_ops lanes (lane i))) next-is e.1,
-          subst (λ (q : ℕ). e.0 ≡ get_or (lane_ops lanes (lane i)) q e.0) next-is e.2,
+          subst (λ (q : ℕ). q < length (of_lane lanes (lane i))) next-is e.1,
+          subst (λ (q : ℕ). e.0 ≡ get_or (of_lane lanes (lane i)) q e.0) next-is e.2,
           stops-beside hs n (end_of s.heap.space) w.part (view_of (seat i)) (view_of (after i)) k t e.0 (ran.why i) (new-holders i lt) (new-lane i lt ∙ is) made.1
-              (subst (IsOpOf k.roots) (sym e.2) (at-index (IsOpOf k.roots) (lane_ops lanes (lane i)) w.next e.0 (fits-at k passes-h) e.1))
+              (subst (IsOpOf k.roots) (sym e.2) (at-index (IsOpOf k.roots) (of_lane lanes (lane i)) w.next e.0 (fits-at k passes-h) e.1))
               (λ page cell there. notes page cell (subst (λ (x : Layout). IsAllocated x cell) passes-h.space there)) (ran.each i lt).since e.3,
         )
 
     link-next : (next : ℕ) (told : List Reply) (t : Layout) → next ≡ w.part.serial → told ≡ w.replies.items → NotesGone (view_of (after i)) h.space t
-        → Link hs n (lane_ops lanes n) (get_or serials n 0) (lane_replies before n) s.heap k next told t
+        → Link hs n (of_lane lanes n) (get_or serials n 0) (of_lane before n) s.heap k next told t
     link-next next told t en et notes = record {
       new = run.replies;
       told_are = et ∙ replies-are;
-      did = subst (λ (m : ℕ). DidAll hs n (take (length run.replies) (drop (length (lane_replies before n)) (lane_ops lanes n))) run.replies s.heap (get_or serials n 0) k m) (sym en) did;
+      did = subst (λ (m : ℕ). DidAll hs n (take (length run.replies) (drop (length (of_lane before n)) (of_lane lanes n))) run.replies s.heap (get_or serials n 0) k m) (sym en) did;
       births = (let few = run.serial in let from = serial-n in omega arith);
       stopped = stopped-n told t et notes;
     }
@@ -344,22 +344,22 @@ module _ (pins : Pins) (h : HeapView) (hs serials : List ℕ) (lanes : List (Lis
   module _ (end_heap : HeapView) (nexts : List ℕ) (told : List (List Reply)) (laid : AreLaidBack hs busy new (length busy) h serials before end_heap nexts told)
       (notes : (i : ℕ) → i < length busy → NotesGone (view_of (after i)) h.space end_heap.space) where
     abbrev Linked : (n : ℕ) → At n → At (suc n) → Type 0
-    Linked n s t = Link hs n (lane_ops lanes n) (get_or serials n 0) (lane_replies before n) s.heap t.heap (get_or nexts n 0) (lane_replies told n) end_heap.space
+    Linked n s t = Link hs n (of_lane lanes n) (get_or serials n 0) (of_lane before n) s.heap t.heap (get_or nexts n 0) (of_lane told n) end_heap.space
 
     go-on : (n : ℕ) (s : At n) → (t : At (suc n)) × Linked n s t
     unfolding stage-next stage-same
-    go-on n s = elim (cases_lt (length (lane_replies before n)) (length (lane_ops lanes n))) [
+    go-on n s = elim (cases_lt (length (of_lane before n)) (length (of_lane lanes n))) [
       | inl lt ↦
           let b = begun.busy_are.all n lt in (
             stage-next n s b.0 b.1 b.2,
-            link-next n s b.0 b.1 b.2 (get_or nexts n 0) (lane_replies told n) end_heap.space
-                (ap (λ (l : ℕ). get_or nexts l 0) (sym b.2) ∙ laid.births b.0 b.1) (ap (lane_replies told) (sym b.2) ∙ laid.replies b.0 b.1) (notes b.0 b.1),
+            link-next n s b.0 b.1 b.2 (get_or nexts n 0) (of_lane told n) end_heap.space
+                (ap (λ (l : ℕ). get_or nexts l 0) (sym b.2) ∙ laid.births b.0 b.1) (ap (of_lane told) (sym b.2) ∙ laid.replies b.0 b.1) (notes b.0 b.1),
           )
       | inr le ↦
           let all : HasLeft lanes before n → ⊥ = (λ lt. absurd (omega arith)) in
           let none : Has busy n → ⊥ = (λ has. all (has-left lanes before busy begun.busy_are n has)) in (
             stage-same n s none,
-            link-same n s none (get_or nexts n 0) (lane_replies told n) end_heap.space (laid.births_else n none) (laid.replies_else n none) all,
+            link-same n s none (get_or nexts n 0) (of_lane told n) end_heap.space (laid.births_else n none) (laid.replies_else n none) all,
           )
     ]
 

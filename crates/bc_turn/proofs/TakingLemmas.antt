@@ -19,7 +19,7 @@ use Rattle.bc_nursery.specs.Nurseries.{Nursery}
 use Rattle.bc_superpages.specs.RootSlots.{root_at}
 use Rattle.bc_superpages.specs.RootWords.{RootWords}
 use Rattle.bc_turn.specs.declared.rooms.Spare.{Spare}
-use Rattle.bc_turn.specs.Begun.{AreBusyLanes, HasLeft, lane_ops, lane_replies}
+use Rattle.bc_turn.specs.Begun.{AreBusyLanes, HasLeft, of_lane}
 use Rattle.bc_turn.specs.Taking.{AreFirstWords, AreHeldBelow, AreHeldDomains, AreSparesOf, AreWordsOf, TakesAlong, HasCopied, IsSpareOf, spare_lanes}
 use Rattle.bc_whole_heap.specs.Closed.{buffer_of}
 use Rattle.bc_whole_heap.specs.Heaps.{HeapView}
@@ -185,7 +185,7 @@ busy-all lanes replies busy are = record {
   rising = are.rising;
   all = λ lane left. elim (cases_lt lane (length lanes)) [
     | inl lt ↦ are.all lane lt left
-    | inr out ↦ let none : length (lane_ops lanes lane) ≡ 0 = ap length (get_or_past lanes lane [] out) in absurd (omega (arith, left))
+    | inr out ↦ let none : length (of_lane lanes lane) ≡ 0 = ap length (get_or_past lanes lane [] out) in absurd (omega (arith, left))
   ];
 }
 
@@ -215,22 +215,22 @@ list-at {X} vs i v lt e = get_or-map (λ (u : Vec X Global). u.items) vs i v [] 
 
 -- what a lane takes along, by what it was prepared with
 pub takes-of : (h : HeapView) (hs serials : List ℕ) (lanes : List (List Op)) (before : List (List Reply)) (lane : ℕ) (turn : LaneTurn) (roots : LaneRoots) (told : Vec Reply Global) (slots count : ℕ) (chunk : Nursery) (buffer : Entries)
-    → AreHeldDomains hs lane roots.domains.items → AreWordsOf h.roots roots.domains.items roots.words.items → told.items ≡ lane_replies before lane → slots ≡ h.roots.slots → chunk ≡ own_chunk h lane
-    → buffer ≡ buffer_of h.buffers lane → count ≡ length (lane_ops lanes lane) → IsPreparedTurn lane hs slots roots chunk buffer (get_or serials lane 0) told count turn → TakesAlong h hs serials lanes before lane turn
+    → AreHeldDomains hs lane roots.domains.items → AreWordsOf h.roots roots.domains.items roots.words.items → told.items ≡ of_lane before lane → slots ≡ h.roots.slots → chunk ≡ own_chunk h lane
+    → buffer ≡ buffer_of h.buffers lane → count ≡ length (of_lane lanes lane) → IsPreparedTurn lane hs slots roots chunk buffer (get_or serials lane 0) told count turn → TakesAlong h hs serials lanes before lane turn
 takes-of h hs serials lanes before lane turn roots told slots count chunk buffer domains words told_are slots_are chunk_is buffer_is count_is prepared = record {
   roots = roots;
   domains = domains;
   words = words;
   told = told;
   told_are = told_are;
-  prepared = subst (λ (s : ℕ). IsPreparedTurn lane hs s roots (own_chunk h lane) (buffer_of h.buffers lane) (get_or serials lane 0) told (length (lane_ops lanes lane)) turn) slots_are
-      (subst (λ (c : Nursery). IsPreparedTurn lane hs slots roots c (buffer_of h.buffers lane) (get_or serials lane 0) told (length (lane_ops lanes lane)) turn) chunk_is
-      (subst (λ (b : Entries). IsPreparedTurn lane hs slots roots chunk b (get_or serials lane 0) told (length (lane_ops lanes lane)) turn) buffer_is
+  prepared = subst (λ (s : ℕ). IsPreparedTurn lane hs s roots (own_chunk h lane) (buffer_of h.buffers lane) (get_or serials lane 0) told (length (of_lane lanes lane)) turn) slots_are
+      (subst (λ (c : Nursery). IsPreparedTurn lane hs slots roots c (buffer_of h.buffers lane) (get_or serials lane 0) told (length (of_lane lanes lane)) turn) chunk_is
+      (subst (λ (b : Entries). IsPreparedTurn lane hs slots roots chunk b (get_or serials lane 0) told (length (of_lane lanes lane)) turn) buffer_is
       (subst (λ (n : ℕ). IsPreparedTurn lane hs slots roots chunk buffer (get_or serials lane 0) told n turn) count_is prepared)));
 }
 
 -- the operations of a lane, by the vector in its place
-pub ops-at : (vs : List (Vec Op Global)) (lane : ℕ) (v : Vec Op Global) (ops : List Op) → lane < length vs → v ≡ get_or vs lane v → ops ≡ v.items → ops ≡ lane_ops (lists_of vs) lane
+pub ops-at : (vs : List (Vec Op Global)) (lane : ℕ) (v : Vec Op Global) (ops : List Op) → lane < length vs → v ≡ get_or vs lane v → ops ≡ v.items → ops ≡ of_lane (lists_of vs) lane
 ops-at vs lane v ops lt is value = value ∙ sym (list-at vs lane v lt is)
 
 -- what was read of a place is what stands there
@@ -252,7 +252,7 @@ pub ops-within : (vs : List (Vec Op Global)) (lane : ℕ) → lane < length (lis
 ops-within vs lane lt = let long = length-map vs (λ (v : Vec Op Global). v.items) in omega arith
 
 -- the same where the place is told by a number
-pub ops-of : (vs : List (Vec Op Global)) (lane place : ℕ) (v : Vec Op Global) (ops : List Op) → lane < length (lists_of vs) → place ≡ lane → v ≡ get_or vs place v → ops ≡ v.items → ops ≡ lane_ops (lists_of vs) lane
+pub ops-of : (vs : List (Vec Op Global)) (lane place : ℕ) (v : Vec Op Global) (ops : List Op) → lane < length (lists_of vs) → place ≡ lane → v ≡ get_or vs place v → ops ≡ v.items → ops ≡ of_lane (lists_of vs) lane
 ops-of vs lane place v ops lt e is value = ops-at vs lane v ops (ops-within vs lane lt) (is ∙ ap (λ (i : ℕ). get_or vs i v) e) value
 
 -- a list whose first elements were written back into it, all of them

@@ -38,7 +38,7 @@ use Rattle.bc_turn.specs.declared.paging.Paging.{Paging}
 use Rattle.bc_turn.specs.declared.rooms.TurnRoom.{TurnRoom}
 use Rattle.bc_turn.specs.declared.runs.Run.{Run}
 use Rattle.bc_turn.specs.Answered.{AnsweredBeside}
-use Rattle.bc_turn.specs.Begun.{AllRan, AreBegun, AreBusyLanes, IsBegunLane, RanLane, lane_ops, lane_replies}
+use Rattle.bc_turn.specs.Begun.{AllRan, AreBegun, AreBusyLanes, IsBegunLane, RanLane, of_lane}
 use Rattle.bc_turn.specs.Beside.{RanBeside}
 use Rattle.bc_turn.specs.Laying.{AreLaidBack}
 use Rattle.bc_turn.specs.Paging.{HasPaged}
@@ -109,7 +109,7 @@ pub record Setting (h : HeapView) (hs serials : List ℕ) (lanes : List (List Op
   pub long : length h.roots.words ≡ h.roots.domains * h.roots.slots
   pub sizes : length lanes ≡ length h.chunks
   pub ops : AllByRecursion (AllByRecursion (IsOpOf h.roots)) lanes
-  pub births : (j : ℕ) → get_or serials j 0 + (length (lane_ops lanes j) - length (lane_replies (lists_of before) j)) < 2 ^ 32
+  pub births : (j : ℕ) → get_or serials j 0 + (length (of_lane lanes j) - length (of_lane (lists_of before) j)) < 2 ^ 32
   pub busy_are : AreBusyLanes lanes (lists_of before) busy
   pub opened : Opened h.space Lanes hs (turn_roles busy) pins (seats ++ pager ∷ [])
   pub taken : AreTaken (record h { space = s }) hs serials lanes before busy seats k after runs
@@ -166,7 +166,7 @@ module _ (h : HeapView) (hs serials : List ℕ) (lanes : List (List Op)) (before
     lane_is = λ i lt. (taken.each i lt d).prepared.lane_is;
   }
 
-  ops-at : (i : ℕ) → i < length busy → (d : Run) → AllByRecursion (IsOpOf h.roots) (lane_ops lanes (turn_at d runs i).part.lane)
+  ops-at : (i : ℕ) → i < length busy → (d : Run) → AllByRecursion (IsOpOf h.roots) (of_lane lanes (turn_at d runs i).part.lane)
   ops-at i lt d = ops-each h.roots lanes (turn_at d runs i).part.lane (begun-at i lt d).within set.ops
 
   pub can-run : (r : ℕ) → (d : Run) → r < length runs → CanRun pins lanes (get_or runs r d)
@@ -183,11 +183,11 @@ module _ (h : HeapView) (hs serials : List ℕ) (lanes : List (List Op)) (before
         let all = taken.long in
         subst (λ (n : ℕ). LaneHasRun lanes (get_or runs (length runs - (i + 1)) d) (get_or new (n - (i + 1)) d)) (sym new_long) (ran (length runs - (i + 1)) d (omega arith))
 
-    causes : (i : ℕ) → (d : Run) → (why : Stop) × (i < length busy → RanLane (lane_ops lanes (get_or busy i 0)) (turn_at d runs i) (seat_at d runs i) (turn_at d new i) (seat_at d new i) why)
+    causes : (i : ℕ) → (d : Run) → (why : Stop) × (i < length busy → RanLane (of_lane lanes (get_or busy i 0)) (turn_at d runs i) (seat_at d runs i) (turn_at d new i) (seat_at d new i) why)
     causes i d = elim (cases_lt i (length busy)) [
       | inl lt ↦ (
         (has-run i lt d).why,
-        λ _. subst (λ (l : ℕ). RanLane (lane_ops lanes l) (turn_at d runs i) (seat_at d runs i) (turn_at d new i) (seat_at d new i) (has-run i lt d).why) (taken.each i lt d).prepared.lane_is (has-run i lt d).ran,
+        λ _. subst (λ (l : ℕ). RanLane (of_lane lanes l) (turn_at d runs i) (seat_at d runs i) (turn_at d new i) (seat_at d new i) (has-run i lt d).why) (taken.each i lt d).prepared.lane_is (has-run i lt d).ran,
       )
       | inr out ↦ (stop.End, λ lt. absurd (omega arith))
     ]
@@ -199,7 +199,7 @@ module _ (h : HeapView) (hs serials : List ℕ) (lanes : List (List Op)) (before
     }
 
     lane-ran : (i : ℕ) → i < length busy → (d : Run)
-        → LaneRan (lane_ops lanes (turn_at d runs i).part.lane) (end_of h.space) (turn_at d runs i) (view_of (seat_at d runs i)) None (turn_at d new i) (view_of (seat_at d new i)) None
+        → LaneRan (of_lane lanes (turn_at d runs i).part.lane) (end_of h.space) (turn_at d runs i) (view_of (seat_at d runs i)) None (turn_at d new i) (view_of (seat_at d new i)) None
     lane-ran i lt d = (has-run i lt d).ran.ran h (begun-at i lt d).whole
 
     lane-is : (i : ℕ) → i < length busy → (d : Run) → (turn_at d new i).part.lane ≡ get_or busy i 0
@@ -254,8 +254,8 @@ module _ (h : HeapView) (hs serials : List ℕ) (lanes : List (List Op)) (before
         let lane : (turn_at d new i).part.lane ≡ (turn_at d runs i).part.lane = (lane-ran i inside d).same.lane in
         let capacity : vec_capacity (turn_at d new i).replies ≡ vec_capacity (turn_at d runs i).replies = (lane-ran i inside d).room in
         subst (λ (q : ℕ). HasRoomForLane lanes (get_or new q d).turn) (back-place (length new) r lt)
-        (subst (λ (l : ℕ). length (lane_ops lanes l) ≤ vec_capacity (turn_at d new i).replies) (sym lane)
-        (subst (λ (c : ℕ). length (lane_ops lanes (turn_at d runs i).part.lane) ≤ c) (sym capacity) (taken.enough i inside d)))
+        (subst (λ (l : ℕ). length (of_lane lanes l) ≤ vec_capacity (turn_at d new i).replies) (sym lane)
+        (subst (λ (c : ℕ). length (of_lane lanes (turn_at d runs i).part.lane) ≤ c) (sym capacity) (taken.enough i inside d)))
 
     same-lanes : (d : Run) → running_lanes new ≡ running_lanes runs
     same-lanes d =

@@ -13,16 +13,13 @@ use Rattle.bc_pins.specs.declared.pins.Pins.{Pins}
 use Rattle.bc_pins.specs.declared.pins.Seat.{Seat}
 use Rattle.bc_whole_heap.specs.Heaps.{HeapView, end_of}
 
--- the operations of a lane, and its replies so far
-abbrev pub lane_ops : List (List Op) → ℕ → List Op
-lane_ops lanes lane = slice_index_or lanes lane []
-
-abbrev pub lane_replies : List (List Reply) → ℕ → List Reply
-lane_replies replies lane = slice_index_or replies lane []
+-- the operations of a lane, or its replies so far
+abbrev pub of_lane : {X : Type 0} → List (List X) → ℕ → List X
+of_lane lists lane = slice_index_or lists lane []
 
 -- the lane has operations left
 abbrev pub HasLeft : List (List Op) → List (List Reply) → ℕ → Type 0
-HasLeft lanes replies lane = length (lane_replies replies lane) < length (lane_ops lanes lane)
+HasLeft lanes replies lane = length (of_lane replies lane) < length (of_lane lanes lane)
 
 -- the lanes that have operations left, in ascending order
 pub record AreBusyLanes (lanes : List (List Op)) (replies : List (List Reply)) (busy : List ℕ) : Type 0 where
@@ -34,14 +31,14 @@ pub record AreBusyLanes (lanes : List (List Op)) (replies : List (List Reply)) (
 -- a lane that begins: its seat has done nothing and opened no box, what it takes into the turn belongs to the heap, and its replies are those so far
 pub record IsBegunLane (pins : Pins) (h : HeapView) (holders serials : List ℕ) (lanes : List (List Op)) (before : List (List Reply)) (turn : LaneTurn) (seat : Seat) : Type 0 where
   pub within : turn.part.lane < length lanes
-  pub going : IsGoing pins (lane_ops lanes turn.part.lane) turn seat None
+  pub going : IsGoing pins (of_lane lanes turn.part.lane) turn seat None
   pub view : view_of seat ≡ fresh (key_of pins) (lane_role turn.part.lane ∷ [])
   pub opens : seat.opens ≡ 0
   pub whole : IsWhole turn.part (view_of seat) None (end_of h.space) h
   pub holders_are : turn.part.holders.items ≡ holders
   pub serial_is : turn.part.serial ≡ slice_index serials turn.part.lane
-  pub next : turn.next ≡ length (lane_replies before turn.part.lane)
-  pub replies_are : turn.replies.items ≡ lane_replies before turn.part.lane
+  pub next : turn.next ≡ length (of_lane before turn.part.lane)
+  pub replies_are : turn.replies.items ≡ of_lane before turn.part.lane
 
 -- all lanes that have operations left begin: the busy lane of number i has this turn and this seat
 pub record AreBegun (pins : Pins) (h : HeapView) (holders serials : List ℕ) (lanes : List (List Op)) (before : List (List Reply)) (busy : List ℕ) (turn : ℕ → LaneTurn) (seat : ℕ → Seat) : Type 0 where
@@ -62,4 +59,4 @@ pub record RanLane (ops : List Op) (old : LaneTurn) (seat : Seat) (new : LaneTur
 -- so did all lanes that began
 pub record AllRan (lanes : List (List Op)) (busy : List ℕ) (old : ℕ → LaneTurn) (seat : ℕ → Seat) (new : ℕ → LaneTurn) (after : ℕ → Seat) : Type 0 where
   pub why : ℕ → Stop
-  pub each : (i : ℕ) → i < length busy → RanLane (lane_ops lanes (slice_index busy i)) (old i) (seat i) (new i) (after i) (why i)
+  pub each : (i : ℕ) → i < length busy → RanLane (of_lane lanes (slice_index busy i)) (old i) (seat i) (new i) (after i) (why i)

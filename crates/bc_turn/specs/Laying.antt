@@ -7,7 +7,7 @@ use Rattle.bc_mutator.specs.Objects.{own_chunk}
 use Rattle.bc_reach.specs.Distinct.{Has}
 use Rattle.bc_superpages.specs.RootSlots.{root_at}
 use Rattle.bc_superpages.specs.RootWords.{RootWords}
-use Rattle.bc_turn.specs.Begun.{lane_replies}
+use Rattle.bc_turn.specs.Begun.{of_lane}
 use Rattle.bc_whole_heap.specs.Closed.{buffer_of}
 use Rattle.bc_whole_heap.specs.Heaps.{HeapView}
 
@@ -43,13 +43,13 @@ pub record AreLaidBack (holders busy : List ℕ) (turn : ℕ → LaneTurn) (n : 
   pub chunk : (i : ℕ) → i < n → own_chunk k (slice_index busy i) ≡ (turn i).part.chunk
   pub buffer : (i : ℕ) → i < n → buffer_of k.buffers (slice_index busy i) ≡ (turn i).part.buffer
   pub births : (i : ℕ) → i < n → slice_index nexts (slice_index busy i) ≡ (turn i).part.serial
-  pub replies : (i : ℕ) → i < n → lane_replies after (slice_index busy i) ≡ (turn i).replies.items
+  pub replies : (i : ℕ) → i < n → of_lane after (slice_index busy i) ≡ (turn i).replies.items
   pub words : (i d t : ℕ) → i < n → d < length holders → slice_index holders d ≡ slice_index busy i → t < h.roots.slots
       → root_at k.roots d t ≡ slice_index (turn i).part.words.items (slice_index (turn i).part.starts.items d + t)
   pub chunk_else : (l : ℕ) → (Has busy l → ⊥) → own_chunk k l ≡ own_chunk h l
   pub buffer_else : (l : ℕ) → (Has busy l → ⊥) → buffer_of k.buffers l ≡ buffer_of h.buffers l
   pub births_else : (l : ℕ) → (Has busy l → ⊥) → slice_index nexts l ≡ slice_index serials l
-  pub replies_else : (l : ℕ) → (Has busy l → ⊥) → lane_replies after l ≡ lane_replies before l
+  pub replies_else : (l : ℕ) → (Has busy l → ⊥) → of_lane after l ≡ of_lane before l
   pub words_else : (d t : ℕ) → d < length holders → (Has busy (slice_index holders d) → ⊥) → t < h.roots.slots → root_at k.roots d t ≡ root_at h.roots d t
   pub kept : (i : ℕ) → Has h.roots.noted i → Has k.roots.noted i
   pub written : (i : ℕ) → (slice_index k.roots.words i ≡ slice_index h.roots.words i) ⊎ Has k.roots.noted i

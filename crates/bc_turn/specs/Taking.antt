@@ -20,7 +20,7 @@ use Rattle.bc_pins.specs.declared.pins.Seat.{Seat}
 use Rattle.bc_reach.specs.Distinct.{Has}
 use Rattle.bc_superpages.specs.RootSlots.{root_at}
 use Rattle.bc_superpages.specs.RootWords.{RootWords}
-use Rattle.bc_turn.specs.Begun.{HasLeft, RanLane, lane_ops, lane_replies}
+use Rattle.bc_turn.specs.Begun.{HasLeft, RanLane, of_lane}
 use Rattle.bc_turn.specs.declared.rooms.Spare.{Spare}
 use Rattle.bc_turn.specs.declared.rooms.TurnRoom.{TurnRoom}
 use Rattle.bc_turn.specs.declared.runs.Run.{Run}
@@ -91,8 +91,8 @@ pub record TakesAlong (h : HeapView) (holders serials : List ℕ) (lanes : List 
   pub domains : AreHeldDomains holders lane roots.domains.items
   pub words : AreWordsOf h.roots roots.domains.items roots.words.items
   pub told : Vec Reply Global
-  pub told_are : told.items ≡ lane_replies before lane
-  pub prepared : IsPreparedTurn lane holders h.roots.slots roots (own_chunk h lane) (buffer_of h.buffers lane) (slice_index serials lane) told (length (lane_ops lanes lane)) turn
+  pub told_are : told.items ≡ of_lane before lane
+  pub prepared : IsPreparedTurn lane holders h.roots.slots roots (own_chunk h lane) (buffer_of h.buffers lane) (slice_index serials lane) told (length (of_lane lanes lane)) turn
 
 -- the lanes that run
 abbrev pub running_lanes : List Run → List ℕ
@@ -108,7 +108,7 @@ seat_at d runs i = (slice_index_or runs (length runs - (i + 1)) d).seat
 -- there is room for all replies of each lane but these
 abbrev pub HasReplyRoom : List (List Op) → List (Vec Reply Global) → List ℕ → Type 0
 HasReplyRoom lanes replies away =
-    (j : ℕ) → (v : Vec Reply Global) → j < length replies → (Has away j → ⊥) → v ≡ slice_index_or replies j v → length (lane_ops lanes j) ≤ vec_capacity v
+    (j : ℕ) → (v : Vec Reply Global) → j < length replies → (Has away j → ⊥) → v ≡ slice_index_or replies j v → length (of_lane lanes j) ≤ vec_capacity v
 
 -- the chunks, write buffers and replies of these lanes are out of their places, and nothing else has changed
 pub record AreAway (away : List ℕ) (h : HeapView) (before : List (List Reply)) (k : HeapView) (after : List (List Reply)) : Type 0 where
@@ -118,7 +118,7 @@ pub record AreAway (away : List ℕ) (h : HeapView) (before : List (List Reply))
   pub replies_long : length after ≡ length before
   pub chunk : (l : ℕ) → (Has away l → ⊥) → own_chunk k l ≡ own_chunk h l
   pub buffer : (l : ℕ) → (Has away l → ⊥) → buffer_of k.buffers l ≡ buffer_of h.buffers l
-  pub replies : (l : ℕ) → (Has away l → ⊥) → lane_replies after l ≡ lane_replies before l
+  pub replies : (l : ℕ) → (Has away l → ⊥) → of_lane after l ≡ of_lane before l
 
 -- as many lists as lanes
 pub record FitsLanes (lanes : ℕ) (h : HeapView) (serials replies : ℕ) : Type 0 where
@@ -159,15 +159,15 @@ pub record LaysDomains (old : RootWords) (domains words : List ℕ) (count : ℕ
 -- a lane can run: it has operations, its seat is free, and there is a whole heap to which belongs what it has
 pub record CanRun (pins : Pins) (lanes : List (List Op)) (run : Run) : Type 0 where
   pub within : run.turn.part.lane < length lanes
-  pub going : IsGoing pins (lane_ops lanes run.turn.part.lane) run.turn run.seat None
+  pub going : IsGoing pins (of_lane lanes run.turn.part.lane) run.turn run.seat None
   pub heap : HeapView
   pub whole : IsWhole run.turn.part (view_of run.seat) None (end_of heap.space) heap
-  pub ops : AllByRecursion (IsOpOf heap.roots) (lane_ops lanes run.turn.part.lane)
+  pub ops : AllByRecursion (IsOpOf heap.roots) (of_lane lanes run.turn.part.lane)
 
 -- and it has run, and stopped for some cause
 pub record LaneHasRun (lanes : List (List Op)) (old new : Run) : Type 0 where
   pub why : Stop
-  pub ran : RanLane (lane_ops lanes old.turn.part.lane) old.turn old.seat new.turn new.seat why
+  pub ran : RanLane (of_lane lanes old.turn.part.lane) old.turn old.seat new.turn new.seat why
 
 -- so have all of a list
 pub record HaveRun (lanes : List (List Op)) (old new : List Run) : Type 0 where
@@ -180,7 +180,7 @@ CanAllRun pins lanes runs = (i : ℕ) → (d : Run) → i < length runs → CanR
 
 -- there is room for all replies of the lane
 abbrev pub HasRoomForLane : List (List Op) → LaneTurn → Type 0
-HasRoomForLane lanes turn = length (lane_ops lanes turn.part.lane) ≤ vec_capacity turn.replies
+HasRoomForLane lanes turn = length (of_lane lanes turn.part.lane) ≤ vec_capacity turn.replies
 
 -- all busy lanes took along what is their own: their turns and seats stand in the list, the last first
 pub record AreTaken (h : HeapView) (holders serials : List ℕ) (lanes : List (List Op)) (before : List (Vec Reply Global)) (busy : List ℕ) (seats : List Seat) (k : HeapView) (after : List (Vec Reply Global)) (runs : List Run) : Type 0 where
@@ -210,4 +210,4 @@ pub record AreRunsOf (holders busy : List ℕ) (h : HeapView) (runs : List Run) 
 -- there is room for all replies of every lane
 abbrev pub HasAllReplyRoom : List (List Op) → List (Vec Reply Global) → Type 0
 HasAllReplyRoom lanes replies =
-    (j : ℕ) → (v : Vec Reply Global) → j < length replies → v ≡ slice_index_or replies j v → length (lane_ops lanes j) ≤ vec_capacity v
+    (j : ℕ) → (v : Vec Reply Global) → j < length replies → v ≡ slice_index_or replies j v → length (of_lane lanes j) ≤ vec_capacity v

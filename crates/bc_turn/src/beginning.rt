@@ -4,7 +4,7 @@ ghost use Rattle.std.specs.Prelude.{◌≡◌, ℕ, List, Vec, ◌+◌, ◌*◌,
 ghost use Rattle.std.specs.declared.alloc.Global.{Global};
 ghost use Rattle.bc_cycle.specs.Emptying.{heap_view};
 ghost use Rattle.bc_model.specs.Rows.{lists_of};
-ghost use Rattle.bc_turn.specs.Begun.{AreBusyLanes, HasLeft, lane_ops};
+ghost use Rattle.bc_turn.specs.Begun.{AreBusyLanes, HasLeft, of_lane};
 ghost use Rattle.bc_turn.specs.Taking.{AreSparesOf, AreTaken, AreWordsOf, FitsLanes, HasCopied, HasReplyRoom, IsSpareOf, TakesAlong, spare_lanes};
 
 use crate::rooms::Spare;
@@ -62,9 +62,9 @@ fn begin_lane(
     requires spare { IsSpareOf spare.room.holders.items heap.old.roots.slots spare }
     requires domains { length spare.room.holders.items ≡ heap.old.roots.domains }
     requires left { HasLeft (lists_of lanes.now) (lists_of replies.old) spare.lane }
-    requires room { (v : Vec Reply Global) → v ≡ slice_index_or replies.old spare.lane v → length (lane_ops (lists_of lanes.now) spare.lane) ≤ vec_capacity v }
+    requires room { (v : Vec Reply Global) → v ≡ slice_index_or replies.old spare.lane v → length (of_lane (lists_of lanes.now) spare.lane) ≤ vec_capacity v }
     ensures takes { TakesAlong (heap_view heap.old) spare.room.holders.items serials.now (lists_of lanes.now) (lists_of replies.old) spare.lane result.turn }
-    ensures room { length (lane_ops (lists_of lanes.now) spare.lane) ≤ vec_capacity result.turn.replies }
+    ensures room { length (of_lane (lists_of lanes.now) spare.lane) ≤ vec_capacity result.turn.replies }
     ensures seat { result.seat ≡ seat }
     ensures same { heap.new ≡ record heap.old { chunks = heap.new.chunks; buffers = heap.new.buffers } }
     ensures chunks { heap.new.chunks.items ≡ slice_set heap.old.chunks.items spare.lane spare.chunk }

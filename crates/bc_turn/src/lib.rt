@@ -3,10 +3,11 @@
 //
 // Between turns a heap lies in one value. For a turn it is taken apart: the space becomes a table (`bc_pins`), at which each lane that
 // runs has a seat and a pager has the last one, and each of these lanes takes what is its own out of the heap (`bc_lane`): the words of
-// its domains' root slots, its chunk, its write buffer, the number of its births and its replies so far. Then they work, on threads that
-// the call joins (`run_beside`). A lane runs until it is at its end or its next operation can't be done in this turn: its chunk or its
-// write buffer has no room, or the operation looks at an object whose page is gone or in other hands. When all are through each lane
-// lays back what it took, the table is closed, and the heap is one value again.
+// its domains' root slots, its chunk, its write buffer, the number of its births and its replies so far. Then they work, on threads
+// that the call joins (`run_beside`). A lane runs until it is at its end or its next operation can't be done in this turn: its chunk or
+// its write buffer has no room, or the operation looks at an object whose page is gone or in other hands. The page is Gone after the
+// turn then (`StopsBeside`), since a pager puts none back. When all are through each lane lays back what it took, the table is closed,
+// and the heap is one value again.
 //
 // The pager (`bc_pager`) takes the notices with the turn's hints, in order, and gives up a page for each, or declines it. Who comes first
 // has a page, and nobody waits: a lane that has it in hand keeps it, and the pager goes on to another; a page that the pager got first is
@@ -16,7 +17,8 @@
 //
 // Each notice has one answer (`AnsweredBeside`): by what the pager did and read, behind the answers that the caller's list had. Lanes
 // make no page Gone or Absent, so the pages that are so at the close and weren't before are those that the answers name. Nor do they
-// bookmark anything or read a page back, so the bookmark bits that came are those of targets of pages that the pager made Gone.
+// bookmark anything or read a page back, so the bookmark bits that came are those of targets of pages that the pager made Gone. Where a
+// notice was declined, a page that is Home afterwards is of a domain whose lane had operations left (`declined`).
 //
 // What takes memory comes first: room for what each lane takes along (`fit_room`), with a chunk, a write buffer and a list of replies
 // without words that stand in the heap's places meanwhile; the roles, the notices and the list of runs; and the table (`open_table`).
@@ -31,8 +33,9 @@
 // What holds meanwhile, of each lane that runs: what it has belongs to the heap that was, before it runs, and after it to that heap with
 // its operations done; and what another lane does changes nothing of what belongs to it. So the lanes may be put one behind another,
 // in the order of their numbers: lane j finds the heap `at j` and leaves the heap `at (j + 1)`, though no heap was ever like that, and
-// the heap after the turn is the last of them, but for pages that moved (`RanBeside`, `IsLaidBack`). A pager changes where pages lie, and
-// nothing of what they hold, so none of that speaks of it.
+// the heap after the turn is the last of them, but for pages that moved (`RanBeside`, `IsLaidBack`). Pages that are Remembered
+// afterwards are those that the operations make so, and no others. A pager changes where pages lie, and nothing of what they hold, so
+// none of that speaks of it.
 //
 // The theorem is the contract of `take_turn`: clause `ran` tells of the lanes, clause `answered` of the notices. That lanes can run on the
 // heap afterwards, and that it stands for what the last of those heaps stands for, is `law_back`.

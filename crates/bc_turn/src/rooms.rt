@@ -4,7 +4,7 @@
 ghost use Rattle.std.specs.Prelude.{◌≡◌, ◌<◌, ◌≤◌, [], length, nat_lt, slice_index_or, IfOk, OnOk, OnErr};
 ghost use Rattle.std.specs.List.{filter};
 ghost use Rattle.bc_model.specs.Rows.{lists_of};
-ghost use Rattle.bc_turn.specs.Begun.{AreBusyLanes, lane_ops, lane_replies};
+ghost use Rattle.bc_turn.specs.Begun.{AreBusyLanes, of_lane};
 ghost use Rattle.bc_turn.specs.Taking.{AreHeldDomains, AreSparesOf, IsRoomKept, IsSpareOf, spare_lanes, turn_roles};
 
 use bc_lane::{LaneRoom, LaneRoots};
@@ -74,14 +74,14 @@ pub(crate) fn fit_room(
 
 /// Drops the room of lanes that have no operations left.
 fn drop_idle(spares: &mut Vec<Spare>, lanes: &[Vec<Op>], replies: &[Vec<Reply>])
-    ensures kept { spares.new.items ≡ filter (λ (spare : Spare). nat_lt (length (lane_replies (lists_of replies.now) spare.lane)) (length (lane_ops (lists_of lanes.now) spare.lane))) spares.old.items }
+    ensures kept { spares.new.items ≡ filter (λ (spare : Spare). nat_lt (length (of_lane (lists_of replies.now) spare.lane)) (length (of_lane (lists_of lanes.now) spare.lane))) spares.old.items }
 {
     spares.retain(|spare| has_left(lanes, replies, spare.lane));
 }
 
 /// Has the lane operations left?
 fn has_left(lanes: &[Vec<Op>], replies: &[Vec<Reply>], lane: u32) -> bool
-    ensures { result ≡ nat_lt (length (lane_replies (lists_of replies.now) lane)) (length (lane_ops (lists_of lanes.now) lane)) }
+    ensures { result ≡ nat_lt (length (of_lane (lists_of replies.now) lane)) (length (of_lane (lists_of lanes.now) lane)) }
 {
     count_of(replies, lane) < count_of(lanes, lane)
 }

@@ -5,7 +5,7 @@ use Rattle.bc_lane.specs.Turns.{IsRoomOf}
 use Rattle.bc_cycle.specs.Emptying.{heap_view}
 use Rattle.bc_model.specs.Rows.{lists_of}
 use Rattle.bc_model.specs.declared.operations.Reply.{Reply}
-use Rattle.bc_turn.specs.Begun.{lane_ops}
+use Rattle.bc_turn.specs.Begun.{of_lane}
 use Rattle.bc_turn.specs.Taking.{AreWordsOf}
 use Rattle.bc_turn.proofs.TakingLemmas.{list-at, ops-at, told-at, takes-of}
 use Rattle.bc_turn.proofs.beginning.begin_lane.Goals as goal
@@ -58,7 +58,7 @@ returns-clause-takes c =
 
 pub returns-clause-room : goal.returns-clause-room
 returns-clause-room c =
-    subst (λ (v : Vec Reply Global). length (lane_ops (lists_of c.args.lanes.now) c.args.spare.lane) ≤ vec_capacity v) (sym c.prepare.ensures.prepared.replies_are) (c.requires.room c.replace-told.result (told-at c.args.replies.now c.args.spare.lane c.index-replies-index.result c.replace-told.result c.replace-told.ensures.value c.index-replies-index.is))
+    subst (λ (v : Vec Reply Global). length (of_lane (lists_of c.args.lanes.now) c.args.spare.lane) ≤ vec_capacity v) (sym c.prepare.ensures.prepared.replies_are) (c.requires.room c.replace-told.result (told-at c.args.replies.now c.args.spare.lane c.index-replies-index.result c.replace-told.result c.replace-told.ensures.value c.index-replies-index.is))
 
 pub returns-clause-chunks : goal.returns-clause-chunks
 returns-clause-chunks c = ap (set c.args.heap.now.chunks.items c.args.spare.lane) c.replace-chunk.ensures.after
