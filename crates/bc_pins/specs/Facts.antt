@@ -134,7 +134,7 @@ pub record Saw (k : Key) (s : Table) (v : View) : Type 0 where
   pub gone : (p : ℕ) → 0 < times p v.gone → (p < pages_of k) × (0 < has_role v (owner k p)) × (page_word s p ≡ 4)
   pub taken : (p : ℕ) → 0 < grips p v.hand → 0 < reads_as p 1 v + reads_as p 2 v
 
--- a seat that has done nothing and has nothing in hand
+-- a seat that has done and read nothing and has nothing in hand
 pub record IsIdle (v : View) : Type 0 where
   pub hand : v.hand ≡ None
   pub rights : v.rights ≡ []

@@ -61,11 +61,12 @@ grips_foreign k page v = if has_role v (owner k page) == 0 then grips page v.han
 abbrev pub withholds : Key → ℕ → View → ℕ
 withholds k page v = grips_foreign k page v + (times page v.returned + (times page v.left + times page v.emptied))
 
--- what was read of a word, the last first, and of a page's word
+-- what was read of a word, the last first
 abbrev pub reads_of : ℕ → List (ℕ × ℕ) → List ℕ
 reads_of i [] = []
 reads_of i (e ∷ es) = if e.0 == i then e.1 ∷ reads_of i es else reads_of i es
 
+-- what was read of a page's word
 abbrev pub reads_at : ℕ → List (ℕ × ℕ) → List ℕ
 reads_at page reads = reads_of (page_at page) reads
 
