@@ -15,7 +15,7 @@ use Rattle.bc_pins.specs.Totals.{times, total}
 use Rattle.bc_pins.specs.Views.{reads_as, reads_at, state_word}
 use Rattle.bc_pins.specs.declared.pins.Seat.{Seat}
 use Rattle.bc_pins.specs.declared.views.View.{View}
-use Rattle.bc_pins.proofs.LogLemmas.{pages-else, reads-here, reads-more, times-reads}
+use Rattle.bc_pins.proofs.LogLemmas.{pages-else, reads-here, times-reads}
 use Rattle.bc_pins.proofs.TotalLemmas.{one_other}
 use Rattle.bc_superpages.specs.declared.headers.PageState.{PageState}
 use Rattle.bc_superpages.specs.declared.headers.PageState.TheVariants.{Absent, Gone, Held, Home, Remembered}
@@ -29,18 +29,18 @@ use Rattle.bc_turn.specs.Begun.{HasLeft}
 took-home : (k : Key) (v : View) (looks : List (ℕ × ℕ)) (page : ℕ) (w : View) → TookAfter k v looks page w → (p : ℕ) → p < pages_of k → times 1 (reads_at p w.read) ≡ one_if (page == p) + times 1 (reads_at p v.read)
 took-home k v looks page w took p near =
     let whole = ap (λ (l : List (ℕ × ℕ)). times 1 (reads_at p l)) took.read in
-    let later = times-reads 1 (page_at p) took.later ((page_at page, 1) ∷ (looks ++ v.read)) in
+    let all = times-reads 1 (page_at p) (took.later ++ (page_at page, 1) ∷ looks) v.read in
+    let since = times-reads 1 (page_at p) took.later ((page_at page, 1) ∷ looks) in
     let none_later = ap (times 1) (took.else_none p near) in
-    let before = times-reads 1 (page_at p) looks v.read in
     let none = took.none p near in
     elim (cases_eq page p) [
       | inl is ↦
-          let here = reads-here (page_at p) 1 1 (looks ++ v.read) in
-          let same = ap (λ (q : ℕ). times 1 (reads_at p ((page_at q, 1) ∷ (looks ++ v.read)))) is in
+          let here = reads-here (page_at p) 1 1 looks in
+          let same = ap (λ (q : ℕ). times 1 (reads_at p ((page_at q, 1) ∷ looks))) is in
           let one : one_if (page == p) ≡ 1 = ap one_if (eq-eqb page p is) in
           omega arith
       | inr ne ↦
-          let other = pages-else page p 1 1 (looks ++ v.read) (λ e. ne (sym e)) in
+          let other = pages-else page p 1 1 looks (λ e. ne (sym e)) in
           let zero_is = one_other page p ne in
           omega arith
     ]
@@ -57,7 +57,7 @@ answer-home k v hint Declined w is p near =
 
 pub answers-home : (k : Key) (hints : List ℕ) (told : List Answer) (v w : View) → AreAnswered k hints told v w → (p : ℕ) → p < pages_of k
     → times 1 (reads_at p w.read) ≡ (total (says_evicted p) told + total (says_discarded p) told) + times 1 (reads_at p v.read)
-answers-home k [] [] v w is p near = ap (λ (x : View). times 1 (reads_at p x.read)) is
+answers-home k [] [] v w is p near = let same = ap (λ (x : View). times 1 (reads_at p x.read)) is in omega arith
 answers-home k [] (answer ∷ told) v w is p near = absurd is
 answers-home k (hint ∷ hints) [] v w is p near = absurd is
 answers-home k (hint ∷ hints) (answer ∷ told) v w is p near =
@@ -69,9 +69,7 @@ answers-home k (hint ∷ hints) (answer ∷ told) v w is p near =
 took-more : (k : Key) (v : View) (looks : List (ℕ × ℕ)) (page : ℕ) (w : View) → TookAfter k v looks page w → (p n : ℕ) → times n (reads_at p v.read) ≤ times n (reads_at p w.read)
 took-more k v looks page w took p n =
     let whole = ap (λ (l : List (ℕ × ℕ)). times n (reads_at p l)) took.read in
-    let later = times-reads n (page_at p) took.later ((page_at page, 1) ∷ (looks ++ v.read)) in
-    let here = reads-more (page_at p) (page_at page) 1 n (looks ++ v.read) in
-    let before = times-reads n (page_at p) looks v.read in
+    let all = times-reads n (page_at p) (took.later ++ (page_at page, 1) ∷ looks) v.read in
     omega arith
 
 answer-more : (k : Key) (v : View) (hint : ℕ) (answer : Answer) (w : View) → IsAnswer k v hint answer w → (p n : ℕ) → times n (reads_at p v.read) ≤ times n (reads_at p w.read)
