@@ -6,7 +6,8 @@ FONT = '-apple-system, BlinkMacSystemFont, "Segoe UI", "Noto Sans", Helvetica, A
 # what is drawn, in the light scheme and in the dark one
 COLORS = {
     'paper': ('#ffffff', '#0d1117'), 'edge': ('#d1d9e0', '#3d444d'), 'text': ('#1f2328', '#f0f6fc'), 'faint': ('#59636e', '#9198a1'),
-    'grid': ('#e4e8ec', '#262c36'), 'bookmarks': ('#0969da', '#58a6ff'), 'touch-all': ('#bc4c00', '#f0883e'), 'none': ('#1a7f37', '#3fb950'),
+    'grid': ('#e4e8ec', '#262c36'), 'bookmarks': ('#0969da', '#58a6ff'), 'none': ('#1a7f37', '#3fb950'),
+    'mark-sweep': ('#bc4c00', '#f0883e'), 'packing': ('#8250df', '#a371f7'),
     'home': ('#54aeff', '#1f6feb'), 'gone': ('#f3b061', '#bd561d'), 'absent': ('#eaeef2', '#30363d'), 'alarm': ('#cf222e', '#ff7b72'),
 }
 

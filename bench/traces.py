@@ -170,6 +170,15 @@ def moving_working_set(setup, rounds, window=4):
     return whole(setup, phases)
 
 
+def random_writes(setup, count):
+    """An object of 127 fields in each root slot, and so many writes to such objects without any order, in phases of 50."""
+    rng = random.Random(7)
+    slots = [(domain, slot) for domain in range(setup.domains) for slot in range(setup.slots)]
+    made = setup.phase(''.join(f'new {domain} {slot} 127\n' for domain, slot in slots))
+    writes = [f'set {domain} {slot} 0 7\n' for domain, slot in rng.choices(slots, k=count)]
+    return whole(setup, [made] + [setup.phase(''.join(writes[first:first + 50])) for first in range(0, count, 50)])
+
+
 @dataclass(frozen=True)
 class Shape:
     """A kind of trace. `make` takes a setup and a size: bytes of a mix, else the number of what the shape repeats."""
@@ -275,3 +284,6 @@ SETUPS = [
      lambda setup: moving_working_set(setup, 100)),
     ('64 notices a phase, few pages in use', Setup(1, 1, 2, 8, 1, 1), Setup(16, 64, 256, 4096, 1, 1), lambda setup: notices(setup, 200)),
 ]
+
+# Heaps of 64 and of 1,024 superpages, 15 of 16 of which are full of objects of 127 fields: four a page.
+WRITTEN = [Setup(1, superpages // 16, 240, superpages, 4, 64) for superpages in (64, 1024)]

@@ -4,20 +4,25 @@ use super::*;
 
 #[test]
 fn fields_and_capacities_of_the_seven_classes(rt: HostRuntime) {
-    assert_eq!(rt; class_of(0), 2);
-    assert_eq!(rt; class_of(1), 2);
-    assert_eq!(rt; class_of(2), 4);
-    assert_eq!(rt; class_of(3), 4);
-    assert_eq!(rt; class_of(4), 8);
-    assert_eq!(rt; class_of(7), 8);
-    assert_eq!(rt; class_of(8), 16);
-    assert_eq!(rt; class_of(15), 16);
-    assert_eq!(rt; class_of(16), 32);
-    assert_eq!(rt; class_of(31), 32);
-    assert_eq!(rt; class_of(32), 64);
-    assert_eq!(rt; class_of(63), 64);
-    assert_eq!(rt; class_of(64), 128);
-    assert_eq!(rt; class_of(127), 128);
+    for (fields, words) in [
+        (0, 2),
+        (1, 2),
+        (2, 4),
+        (3, 4),
+        (4, 8),
+        (7, 8),
+        (8, 16),
+        (15, 16),
+        (16, 32),
+        (31, 32),
+        (32, 64),
+        (63, 64),
+        (64, 128),
+        (127, 128),
+    ] {
+        assert!(rt; fields <= MAX_FIELDS);
+        assert_eq!(rt; class_of(fields), words);
+    }
     assert_eq!(rt; cap(2), 1024);
     assert_eq!(rt; cap(4), 512);
     assert_eq!(rt; cap(8), 256);

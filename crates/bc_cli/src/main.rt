@@ -8,8 +8,8 @@
 // that was read ends and what its heap stands for then, `Churns` the same of one that was drawn, `Outcomes` what each status says.
 // Which words are a command is said by `bc_words`.
 //
-// `main` only makes the real source and sink, calls `top`, prints the fault of its outcome and ends with
-// the outcome's exit status. What it does is shown by `.ci/examples` and `.ci/statuses` on the built program.
+// `main` only makes the real source and sink, calls `top`, prints the line that `report` tells of its outcome, and ends with the exit
+// status that it tells. What it does is shown by `.ci/examples` and `.ci/statuses` on the built program.
 //
 //     words -> command_of -> read_trace -> run_trace:  for each phase, texts_room -> run_phase -> put_texts -> write_texts
 //                         -> churn: draw -> replay: for each phase, run_phase -> counts; then put_churn -> write_all
@@ -23,9 +23,11 @@
 #![tactic(auto)]
 
 ghost use Rattle.std.specs.Prelude.{◌≡◌, ◌≢◌, ℕ, IfErr, IfOk, IfSome, map, string_bytes, None};
+ghost use Rattle.std.specs.Process.{exit_status};
 ghost use Rattle.bc_cli.specs.Accounts.{KeepsAccount};
 ghost use Rattle.bc_cli.specs.Churns.{ChurnsDone};
 ghost use Rattle.bc_cli.specs.Outcomes.{Faulty, IfBadTrace, IfHeapless, IfStatusOutOfHeap, IsOrNoMemory, RanOutOfHeap, Replayed, workers_of};
+ghost use Rattle.bc_cli.specs.Statuses.{exit_code_of, fault_of};
 ghost use Rattle.bc_words.specs.Commands.{IsCommandOf};
 ghost use Rattle.bc_words.specs.declared.command.Command.{Command};
 ghost use Rattle.bc_words.specs.declared.command.Command.TheVariants.{Run, Churn};
@@ -116,15 +118,25 @@ where
     top(rt, rt.alloc(), &texts, &mut source, &mut sink, &OpenGate)
 }
 
+/// What a run tells that ended so: the line for standard error, which says what is wrong with it, if it wasn't done, and the exit
+/// status of the program.
+fn report(outcome: Outcome) -> (Option<Fault>, ExitCode)
+    ensures line { result.0 ≡ fault_of outcome.status }
+    ensures status { exit_status result.1 ≡ exit_code_of outcome.status }
+{
+    (outcome.fault(), ExitCode::from(outcome.exit_code()))
+}
+
 fn main(rt: HostRuntime) -> ExitCode {
     let outcome = match words_of(&rt) {
         Ok(words) => run_words(&rt, &words, rt.stdin(), rt.stdout()),
         Err(status) => Outcome::without_heap(status),
     };
-    if let Some(fault) = outcome.fault() {
-        let _ = eprintln!(rt; "{fault}");
+    let (line, status) = report(outcome);
+    if let Some(line) = line {
+        let _ = eprintln!(rt; "{line}");
     }
-    ExitCode::from(outcome.exit_code())
+    status
 }
 
 #[cfg(test)]

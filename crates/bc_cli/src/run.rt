@@ -1,9 +1,12 @@
 //! The replay of a trace that was read: each phase's text is written as soon as the phase has run.
 
-ghost use Rattle.std.specs.Prelude.{◌≡◌, ◌≢◌, ◌^◌, ◌<◌, ◌≤◌, ◌⊎◌, None, IfSome, length};
+ghost use Rattle.std.specs.Prelude.{◌≡◌, ◌≢◌, ◌^◌, ◌<◌, ◌≤◌, ◌⊎◌, None, IfOk, IfSome, length};
+ghost use Rattle.bc_engine.specs.EngineFacts.{new_engine};
+ghost use Rattle.bc_engine.specs.Engines.{EngineStands, HasEmptyChunks};
 ghost use Rattle.bc_io.specs.Faults.{Rose};
 ghost use Rattle.bc_model.specs.RunLengths.{all_ops_of};
-ghost use Rattle.bc_model.specs.WellFormed.{IsTrace};
+ghost use Rattle.bc_model.specs.Run.{opening};
+ghost use Rattle.bc_model.specs.WellFormed.{IsSetup, IsTrace};
 ghost use Rattle.bc_cli.specs.Accounts.{KeepsAccount};
 ghost use Rattle.bc_cli.specs.Endings.{EndsDone, EndsOutOfHeap, EndsInFault, StopsBefore, HasRunRoom};
 ghost use Rattle.bc_cli.specs.Outcomes.{IfStatusOutOfHeap, IfHeapless};
@@ -12,22 +15,42 @@ ghost use Rattle.bc_cli.specs.PartEndings.{IsEnding};
 use crate::outcome::Outcome;
 use crate::phases::write_phases;
 use crate::status::{Ending, Status};
-use bc_engine::Engine;
+use bc_engine::{Engine, Pacing};
 use bc_gates::Gate;
 use bc_io::{Sink, write_all};
-use bc_model::Trace;
-use std::alloc::Global;
+use bc_model::{Setup, Trace};
+use std::alloc::{AllocError, Global};
 use std::thread::Threads;
 
 /// The last line of a run that is done.
 const DONE: &[u8] = b"done\n";
 
-/// Replays a trace on a new heap: writes the text of each phase as soon as it has run, and then the last line.
+/// An engine in the opening state of a setup, whose turns run so. The error is out of memory.
+fn open_paced(
+    alloc: Global,
+    setup: &Setup,
+    workers: u32,
+    pacing: Pacing,
+) -> Result<Engine, AllocError>
+    requires setup { IsSetup setup.now }
+    requires workers { (1 ≤ workers) × (workers ≤ 16) }
+    ensures new { IfOk result (λ engine. engine ≡ new_engine setup.now workers) }
+    ensures opening { IfOk result (λ engine. EngineStands engine (opening setup.now)) }
+    ensures setup { IfOk result (λ engine. (engine.setup ≡ setup.now) × (engine.ended ≡ None) × HasEmptyChunks engine.running.heap × (engine.workers ≡ workers)) }
+{
+    let mut engine = Engine::open(alloc, setup, workers)?;
+    engine.set_pacing(pacing);
+    Ok(engine)
+}
+
+/// Replays a trace on a new heap: writes the text of each phase as soon as it has run, and then the last line. `pacing` says how the turns
+/// of its lanes run.
 pub(crate) fn run_trace<R, K, G>(
     rt: &R,
     alloc: Global,
     trace: &Trace,
     workers: u32,
+    pacing: Pacing,
     sink: &mut K,
     gate: &G,
 ) -> Outcome
@@ -54,7 +77,7 @@ where
     ensures workers { IfSome result.heap (λ engine. engine.workers ≡ workers) }
     ensures account { IfSome result.heap KeepsAccount }
 {
-    let Ok(mut engine) = Engine::open(alloc, &trace.setup, workers) else {
+    let Ok(mut engine) = open_paced(alloc, &trace.setup, workers, pacing) else {
         return Outcome::without_heap(Status::NoMemory);
     };
     match write_phases(rt, alloc, &mut engine, trace, sink, gate) {

@@ -21,6 +21,7 @@ use crate::input::read_trace;
 use crate::outcome::Outcome;
 use crate::run::run_trace;
 use crate::status::Status;
+use bc_engine::Pacing;
 use bc_gates::Gate;
 use bc_io::{Sink, Source};
 use bc_words::{Command, command_of};
@@ -119,7 +120,7 @@ where
     };
     match found {
         Some(Command::Run { workers }) => match read_trace(alloc, source) {
-            Ok(trace) => run_trace(rt, alloc, &trace, workers, sink, gate),
+            Ok(trace) => run_trace(rt, alloc, &trace, workers, Pacing::Learned, sink, gate),
             Err(status) => Outcome::without_heap(status),
         },
         Some(

@@ -30,7 +30,7 @@ use Rattle.bc_running.proofs.FirstLists.{with_first, with_first-all, with_first-
 use Rattle.bc_engine.specs.EngineFacts.{CanRunLanes}
 use Rattle.bc_engine.specs.Lanes.{of_lane, BirthsWithin, EachStopped, LanesRan, LanesWentOn, LeavesCells, StopsInTurn}
 use Rattle.bc_engine.proofs.GoingLemmas.{other-one, own-one, ops-one}
-use Rattle.bc_engine.proofs.RunLemmas.{runs-none, runs-same, runs-then, serials-later}
+use Rattle.bc_engine.proofs.RunLemmas.{runs-moved, runs-none, runs-then, serials-later}
 use Rattle.bc_engine.proofs.Sizes.{fits-beside}
 use Rattle.bc_engine.proofs.StepLists.{ops_by-append}
 use Rattle.bc_turn.proofs.BackLemmas.{lies-back-running, lies-back-stands}
@@ -270,9 +270,10 @@ lane-ran {lanes} {r} {q} {before} {after} b n lt =
     (subst (λ (rs : List (List Reply)). BirthsWithin lanes serials told (with_first (suc n) q.serials r.serials) rs) (sym (lists-to before after (suc n))) (births-to ran n lt b.each count)))
     refl
 
--- so are those of the first n lanes
+-- so are those of the first n lanes, behind a stretch in which pages come back
 first-ran : {lanes : List (List Op)} {r q : RunningView} {before after : List (Vec Reply Global)} (b : RanAbreast lanes r before q after) (n : ℕ) → n ≤ length lanes → LanesRan lanes r before (run_to b n) (told_to before after n)
-first-ran {lanes} {r} {q} {before} {after} b zero le = runs-same lanes r (run_to b 0) before (ap (λ (h : HeapView). running_of h r.holders r.serials) b.ran.first)
+first-ran {lanes} {r} {q} {before} {after} b zero le =
+    runs-moved lanes r (run_to b 0) before (b.ran.first.0, ap (λ (h : HeapView). running_of h r.holders r.serials) b.ran.first.1)
 first-ran b (suc n) le = runs-then (first-ran b n (omega arith)) (lane-ran b n (omega arith))
 
 -- then pages and notes of root slots go back to where they belong

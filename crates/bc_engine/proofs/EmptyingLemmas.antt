@@ -1,5 +1,5 @@
 -- What an emptying of the nurseries, or its refusal, means to an engine.
-use Rattle.std.proofs.Common.{Vec, Global, ◌≡◌, ℕ, List, length, map, sym, ap, subst, ◌∙◌}
+use Rattle.std.proofs.Common.{Vec, Global, ◌≡◌, ℕ, inl, inr, List, length, map, sym, ap, subst, ◌∙◌}
 use Rattle.std.proofs.Math.ListN.{get_or-map}
 use Rattle.std.proofs.lemmas.List.{length-map}
 use Rattle.bc_cycle.specs.Emptying.{outline_nursery, IsEmptied, KeepsMeaning}
@@ -26,9 +26,10 @@ use Rattle.bc_running.specs.RunningFacts.{running_of, IsSound}
 use Rattle.bc_whole_heap.specs.Running.{IsRunning}
 use Rattle.bc_engine.specs.Lanes.{LanesRan, LanesWentOn}
 use Rattle.bc_engine.proofs.GoingLemmas.{goes-none}
-use Rattle.bc_engine.proofs.RunLemmas.{runs-none}
+use Rattle.bc_engine.proofs.RunLemmas.{runs-none, runs-same}
 use Rattle.bc_engine.specs.Engines.{HasEmptyChunks}
 use Rattle.bc_engine.specs.EngineFacts.{HasSetup, CanRunLanes, IsUnrecorded}
+use Rattle.bc_engine.specs.Rounds.{MayCollect}
 
 -- what is true of a heap with the holders and births that there were is true with those that there are, which are the same
 through : (r q : RunningView) (P : RunningView → Type 0) → q.holders ≡ r.holders → q.serials ≡ r.serials → P (running_of q.heap r.holders r.serials) → P q
@@ -129,3 +130,19 @@ goes-refused lanes {r} {q} told held same is =
 pub ready-refused : (setup : Setup) {r q : RunningView} → q.holders ≡ r.holders → q.serials ≡ r.serials → KeepsMeaning r.heap q.heap → IsSound q → CanRunLanes setup r → CanRunLanes setup q
 ready-refused setup {r} {q} held same is sound ready =
     through r q (CanRunLanes setup) held same (ready-kept setup is (subst (IsRunning q.heap) held sound.running) ready)
+
+-- what lanes can run on, and what it stands for, stays where a bookmark collection may have come
+pub runs-collected : (lanes : List (List Op)) {n : ℕ} {r q : RunningView} (told : List (Vec Reply Global)) → MayCollect n r q → IsSound q → LanesRan lanes r told q told
+runs-collected lanes {n} {r} {q} told collects sound = elim collects.way [
+  | inl same ↦ runs-same lanes r q told same
+  | inr collected ↦
+      runs-none lanes r q told collects.lanes.0 collects.lanes.1
+      (λ state st. through r q (λ (x : RunningView). RunningStands x state) collects.lanes.0 collects.lanes.1 (stands-refused state collected.1.meaning st))
+      (λ setup ready. ready-refused setup collects.lanes.0 collects.lanes.1 collected.1.meaning sound ready)
+]
+
+pub slots-collected : {n : ℕ} {r q : RunningView} → MayCollect n r q → q.heap.roots.slots ≡ r.heap.roots.slots
+slots-collected {n} {r} {q} collects = elim collects.way [
+  | inl same ↦ ap (λ (x : RunningView). x.heap.roots.slots) same
+  | inr collected ↦ ap (λ (x : RootWords). x.slots) collected.1.meaning.sizes.roots
+]

@@ -46,17 +46,17 @@ refused-at T cause need P is told = subst (λ (x : CycleNo). IfOutOfHeap {T = T}
 pub small-at : (T : Type 0) (stop : RoundsNo) (need : ℕ) (P : ℕ → Type 0) → stop ≡ TooSmall need → IfTooSmall {T = T} (Err stop) P → P need
 small-at T stop need P is told = subst (λ (x : RoundsNo). IfTooSmall {T = T} (Err x) P) is told
 
-pub room-at : (T : Type 0) (stop : RoundsNo) (P : Type 0) → stop ≡ NoRoom → IfNoRoom {T = T} (Err stop) P → P
+pub room-at : {other : RoundsNo} (T : Type 0) (stop : RoundsNo) (P : Type 0) → stop ≡ other → IfNoRoom {T = T} (Err stop) P → IfNoRoom {T = T} (Err other) P
 room-at T stop P is told = subst (λ (x : RoundsNo). IfNoRoom {T = T} (Err x) P) is told
 
 -- of the same end of a longer stretch of rounds
 pub small-weaker : (T U : Type 0) (stop : RoundsNo) (P Q : ℕ → Type 0) → ((need : ℕ) → P need → Q need) → IfTooSmall {T = T} (Err stop) P → IfTooSmall {T = U} (Err stop) Q
 small-weaker T U (TooSmall need) P Q f told = f need told
-small-weaker T U NoRoom P Q f told = tt
+small-weaker T U (NoRoom error) P Q f told = tt
 
 pub room-both : (T U : Type 0) (stop : RoundsNo) (P Q R : Type 0) → (P → Q → R) → IfNoRoom {T = T} (Err stop) P → IfNoRoom {T = T} (Err stop) Q → IfNoRoom {T = U} (Err stop) R
 room-both T U (TooSmall need) P Q R f told more = tt
-room-both T U NoRoom P Q R f told more = f told more
+room-both T U (NoRoom error) P Q R f told more = f told more
 
 -- an end for want of heap is what the phase is cut by
 pub too-small : {lanes : List (List Op)} {e : EngineView} (f : EngineView) {r : RunningView} {told replies : List (Vec Reply Global)} (need : ℕ) → KeepsMeaning r.heap f.running.heap → NeedOfHeap f.running.heap.space f.running.heap.roots f.running.heap.chunks need × (superpages f.running.heap.space < need) → f.running.holders ≡ r.holders → f.running.serials ≡ r.serials → f.ended ≡ Some (OutOfHeap need) → IsAt lanes e told r replies → IsTooSmall lanes e told f replies need

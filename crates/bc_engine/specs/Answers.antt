@@ -27,10 +27,10 @@ IsNoMemory (Err NoMemory) = Unit {0}
 abbrev pub IfTooSmall : {T : Type 0} → Result T RoundsNo → (ℕ → Type 0) → Type 0
 IfTooSmall (Ok x) P = Unit {0}
 IfTooSmall (Err (TooSmall need)) P = P need
-IfTooSmall (Err NoRoom) P = Unit {0}
+IfTooSmall (Err (NoRoom error)) P = Unit {0}
 
 -- of rounds that end since there is no room for answers
 abbrev pub IfNoRoom : {T : Type 0} → Result T RoundsNo → Type 0 → Type 0
 IfNoRoom (Ok x) P = Unit {0}
 IfNoRoom (Err (TooSmall need)) P = Unit {0}
-IfNoRoom (Err NoRoom) P = P
+IfNoRoom (Err (NoRoom error)) P = P

@@ -1,8 +1,8 @@
 -- The rounds of a phase: the lanes go on until each is at its end or stops, and then the nurseries are emptied.
-use Rattle.std.specs.Prelude.{◌≡◌, ℕ, ◌+◌, ◌<◌, ◌≤◌, List, [], length, Some, None, Vec, vec_capacity, slice_index_or}
+use Rattle.std.specs.Prelude.{◌≡◌, ◌⊎◌, ℕ, ◌+◌, ◌*◌, ◌<◌, ◌≤◌, List, [], length, Some, None, Vec, vec_capacity, slice_index_or}
 use Prim.Native.Nat.{zero, suc}
 use Rattle.std.specs.declared.alloc.Global.{Global}
-use Rattle.bc_cycle.specs.Collecting.{HasKeptWhereItFits, StaysSettled}
+use Rattle.bc_cycle.specs.Collecting.{HasKeptWhereItFits, IsCollectedHeap, StaysSettled}
 use Rattle.bc_cycle.specs.Emptying.{IsEmptied, KeepsMeaning, LeavesPages, StayInPlace, SurvivorsFit}
 use Rattle.bc_failsafe.specs.Packing.{NeedOfHeap}
 use Rattle.bc_model.specs.Rows.{lists_of}
@@ -48,6 +48,12 @@ pub record IsTooSmall (lanes : List (List Op)) (e : EngineView) (before : List (
 abbrev pub SameLanes : RunningView → RunningView → Type 0
 SameLanes r q = (q.holders ≡ r.holders) × (q.serials ≡ r.serials)
 
+-- between a turn and its emptying: nothing, or, where fewer frames were free than the nurseries have pages, a bookmark collection. That keeps
+-- what the heap stands for, and no page leaves, comes home or is read by it
+pub record MayCollect (nurseries : ℕ) (r q : RunningView) : Type 0 where
+  pub way : (q ≡ r) ⊎ ((r.heap.space.free < nurseries) × IsCollectedHeap r.heap q.heap)
+  pub lanes : SameLanes r q
+
 -- the nurseries were emptied: nothing was freed, moved or read back where the survivors fit, and no page was read back where they fit what a
 -- bookmark collection keeps
 pub record EmptiesNurseries (r q : RunningView) : Type 0 where
@@ -57,14 +63,16 @@ pub record EmptiesNurseries (r q : RunningView) : Type 0 where
   pub kept : (SurvivorsFit r.heap → ⊥) → HasKeptWhereItFits r.heap q.heap
   pub lanes : SameLanes r q
 
--- a round: the lanes had their turn, in which the notices with these hints were answered, and the nurseries were emptied. Some lane wasn't at
--- its end, and each such lane did one operation more, and nothing else was done. The answers are the engine's
+-- a round: the lanes had their turn, in which the notices with these hints were answered, a bookmark collection may have come, and the nurseries
+-- were emptied. Some lane wasn't at its end, and each such lane did one operation more, and nothing else was done. The answers are the engine's
 pub record RanRound (lanes : List (List Op)) (e : EngineView) (before : List (Vec Reply Global)) (hints : List ℕ) (f : EngineView) (after : List (Vec Reply Global)) : Type 0 where
   pub turned : RunningView
   pub told : List (Vec Reply Global)
   pub turn : RanTurn lanes e.running before e.answers hints turned told f.answers
+  pub collected : RunningView
+  pub collects : MayCollect (e.setup.lanes * e.setup.nursery) turned collected
   pub emptied : RunningView
-  pub empties : EmptiesNurseries turned emptied
+  pub empties : EmptiesNurseries collected emptied
   pub more : HasMore lanes (lists_of told)
   pub steps : LanesRan lanes emptied told f.running after
   pub attempts : RanByAttempts lanes emptied (lists_of told) f.running (lists_of after)
@@ -72,20 +80,25 @@ pub record RanRound (lanes : List (List Op)) (e : EngineView) (before : List (Ve
   pub each : EachFurther (length lanes) lanes (lists_of told) (lists_of after)
   pub rest : f ≡ record e { running = f.running; answers = f.answers }
 
--- the last round: in their turn all lanes came to their ends, and the nurseries were emptied
+-- the last round: in their turn all lanes came to their ends, a bookmark collection may have come, and the nurseries were emptied
 pub record LastRound (lanes : List (List Op)) (e : EngineView) (before : List (Vec Reply Global)) (hints : List ℕ) (f : EngineView) (after : List (Vec Reply Global)) : Type 0 where
   pub turned : RunningView
   pub turn : RanTurn lanes e.running before e.answers hints turned after f.answers
   pub done : AreDone lanes (lists_of after)
-  pub empties : EmptiesNurseries turned f.running
+  pub collected : RunningView
+  pub collects : MayCollect (e.setup.lanes * e.setup.nursery) turned collected
+  pub empties : EmptiesNurseries collected f.running
   pub rest : f ≡ record e { running = f.running; answers = f.answers }
 
--- a round that was cut: the lanes had their turn, and the nurseries couldn't be emptied, which left each page where it was
+-- a round that was cut: the lanes had their turn, a bookmark collection may have come, and the nurseries couldn't be emptied, which left each
+-- page where it was
 pub record CutRound (lanes : List (List Op)) (e : EngineView) (before : List (Vec Reply Global)) (hints : List ℕ) (f : EngineView) (after : List (Vec Reply Global)) : Type 0 where
   pub turned : RunningView
   pub turn : RanTurn lanes e.running before e.answers hints turned after f.answers
-  pub refused : KeepsMeaning turned.heap f.running.heap × SameLanes turned f.running
-  pub settled : StaysSettled turned.heap f.running.heap
+  pub collected : RunningView
+  pub collects : MayCollect (e.setup.lanes * e.setup.nursery) turned collected
+  pub refused : KeepsMeaning collected.heap f.running.heap × SameLanes collected f.running
+  pub settled : StaysSettled collected.heap f.running.heap
   pub rest : f ≡ record e { running = f.running; ended = f.ended; answers = f.answers }
 
 -- so many rounds with others to come, one after another. The notices of the n-th one are those of the n-th turn of the phase

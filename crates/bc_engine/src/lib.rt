@@ -7,11 +7,11 @@
 //
 // A phase (`phases`) begins by taking room for the replies to all its operations. Then it goes in rounds (`rounds`). A round
 // begins with a turn of the lanes (`turns`): each does operations until it is at its end or one stops. The lanes run side by
-// side, each on a thread of its own, over a table of the heap's pages (`bc_turn`), and beside them a pager answers the notices of
-// the turn's line, for each of which it gives up a page if it gets one (`bc_pager`). A lane stops where its chunk or its write
+// side, each on a thread of its own where these pay, over a table of the heap's pages (`bc_turn`), and beside them a pager answers the
+// notices of the turn's line, for each of which it gives up a page if it gets one (`bc_pager`). A lane stops where its chunk or its write
 // buffer is full, and where it looks at an object in a cell whose page is gone or in another's hands. What the lanes do so is
-// what they do one after another (`RanBeside`), so a turn is a stretch of the phase like any other. Where no notice came and a
-// table wouldn't pay (`paces`), or where there is no memory for one, they do run one after another (`lanes`), and then the notices
+// what they do one after another (`RanBeside`), so a turn is a stretch of the phase like any other. Where tables
+// of its kind don't pay (`paces`), or where there is no memory for one, they do run one after another (`lanes`), and then the notices
 // are answered: then a page that is gone comes back, and a lane stops for it only where no frame is free and no other page can
 // leave. So a turn takes memory and is never refused for want of it. An operation that stops has at most moved pages.
 // Then the heap is settled. The lines of a phase are used in order, one for each turn, and from the first one again when they
@@ -58,4 +58,5 @@ mod turns;
 pub use bc_pager::Answer;
 pub use engines::Engine;
 pub use laws::law_answers;
+pub use paces::Pacing;
 pub use phases::PhaseNo;

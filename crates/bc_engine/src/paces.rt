@@ -1,8 +1,9 @@
-//! When turns have a table: where one is likely to pay, and not again at once where one didn't.
+//! How turns run: at a table where one is likely to pay, and not again at once where one didn't; and on threads where these pay.
 
 ghost use Rattle.std.specs.Prelude.{◌≡◌, length};
 
 use bc_model::{Op, Reply, Setup};
+use bc_turn::TurnThreads;
 
 /// To open a table and to close it takes at least the time of so many operations besides.
 const OPERATIONS_A_TABLE: u64 = 128;
@@ -59,26 +60,70 @@ impl Wait {
     }
 }
 
-/// How the tables of earlier turns paid. A turn that was likely to be long did little where its lanes came to pages that are gone; one that
-/// was short from the first had little to do.
+/// How the turns of an engine run. What they reply is the same.
+#[derive(Clone, Copy, PartialEq, Eq, Debug)]
+pub enum Pacing {
+    /// Each as is likely to pay, by what earlier turns cost: at a table or on the heap itself, on threads or on the caller's alone.
+    Learned,
+    /// Each at a table, with a thread for each lane that has operations left, and one for the pager if there are notices. So a test may hold
+    /// one of them up until another has come.
+    SideBySide,
+}
+
+/// How a turn runs.
+#[derive(Clone, Copy, PartialEq, Eq, Debug)]
+pub(crate) enum TurnWay {
+    /// One lane after another on the heap itself, and then the notices.
+    Plain,
+    /// At a table, on these threads.
+    AtTable(TurnThreads),
+}
+
+/// A kind of turn, of whose tables is learnt apart from those of others.
+#[derive(Clone, Copy, PartialEq, Eq, Debug)]
+enum TurnKind {
+    /// Notices came to it.
+    Asked,
+    /// No notice came, and it is likely to be long.
+    Long,
+    /// No notice came, and it has little to do.
+    Short,
+}
+
+/// How the tables of earlier turns paid. Where a table doesn't pay a lane did little at it: it came to a page that is gone while no frame was
+/// free, its chunk or its write buffer was soon full, or it had little to do.
 #[derive(Drop)]
 pub(crate) struct Pace {
+    pub(crate) pacing: Pacing,
+    asked: Wait,
     long: Wait,
     short: Wait,
     /// What the table of the turn under way costs, as so many operations; 0 where it has none of which is to be learnt.
     costs: u64,
-    /// Was the turn under way likely to be long?
-    is_long: bool,
+    /// Of which kind the turn under way is.
+    kind: TurnKind,
 }
 
 impl Pace {
     /// No turn was taken yet.
     pub(crate) fn new() -> Pace {
         Pace {
+            pacing: Pacing::Learned,
+            asked: Wait::none(),
             long: Wait::none(),
             short: Wait::none(),
             costs: 0,
-            is_long: false,
+            kind: TurnKind::Short,
+        }
+    }
+
+    /// Is the turn under way, which is of this kind, to go without a table since tables of its kind didn't pay?
+    fn is_waiting(&mut self, kind: TurnKind) -> bool {
+        self.kind = kind;
+        match kind {
+            TurnKind::Asked => self.asked.is_waiting(),
+            TurnKind::Long => self.long.is_waiting(),
+            TurnKind::Short => self.short.is_waiting(),
         }
     }
 
@@ -88,10 +133,10 @@ impl Pace {
             return;
         }
         let paid = done >= self.costs / 4;
-        if self.is_long {
-            self.long.note(paid);
-        } else {
-            self.short.note(paid);
+        match self.kind {
+            TurnKind::Asked => self.asked.note(paid),
+            TurnKind::Long => self.long.note(paid),
+            TurnKind::Short => self.short.note(paid),
         }
     }
 }
@@ -105,37 +150,46 @@ pub(crate) fn replies_told(replies: &[Vec<Reply>]) -> u64 {
     told
 }
 
-/// Is the turn to have a table? Where notices came it is, so that a pager works beside the lanes. Else it is where it is likely to be
-/// long, and the first turn of a phase is where it has some operations for what a table looks at, unless such a table didn't pay
-/// lately. `pace` then knows of the turn what it needs to learn whether its table pays.
-pub(crate) fn is_worth_a_table(
+/// How the turn runs. A turn to which notices came has a table, so that a pager works beside the lanes. One to which none came has a table
+/// where it is likely to be long, and the first turn of a phase where it has some operations for what a table looks at. No turn has one
+/// while tables of its kind are waited with, since they didn't pay. Lanes at a table have threads where these are likely to pay. `pace`
+/// then knows of the turn what it needs to learn whether its table pays.
+pub(crate) fn way_of_turn(
     setup: &Setup,
     pace: &mut Pace,
     lanes: &[Vec<Op>],
     replies: &[Vec<Reply>],
     hints: &[u32],
-) -> bool
+) -> TurnWay
     requires { length replies.now ≡ length lanes.now }
 {
     pace.costs = 0;
-    if !hints.is_empty() {
-        return true;
+    if pace.pacing == Pacing::SideBySide {
+        return TurnWay::AtTable(TurnThreads::Each);
     }
-    let costs = table_costs(setup, lanes, replies);
     let ahead = all_ahead(setup, lanes, replies);
-    pace.is_long = ahead > costs;
-    if pace.is_long {
-        if pace.long.is_waiting() {
-            return false;
-        }
-    } else if replies_told(replies) > 0
-        || ahead <= looked_at(setup) / 8
-        || pace.short.is_waiting()
-    {
-        return false;
+    let threads = threads_cost(lanes, replies, hints);
+    let is_wide = ahead > threads;
+    let kind = if !hints.is_empty() {
+        TurnKind::Asked
+    } else if ahead > looked_at(setup).saturating_add(threads) {
+        TurnKind::Long
+    } else if replies_told(replies) > 0 || ahead <= looked_at(setup) / 8 {
+        return TurnWay::Plain;
+    } else {
+        TurnKind::Short
+    };
+    if pace.is_waiting(kind) {
+        return TurnWay::Plain;
     }
-    pace.costs = costs.saturating_add(OPERATIONS_A_TABLE);
-    true
+    let costs = looked_at(setup).saturating_add(OPERATIONS_A_TABLE);
+    if is_wide {
+        pace.costs = costs.saturating_add(threads);
+        TurnWay::AtTable(TurnThreads::Each)
+    } else {
+        pace.costs = costs;
+        TurnWay::AtTable(TurnThreads::One)
+    }
 }
 
 /// About how many operations all lanes do in a turn.
@@ -150,9 +204,9 @@ fn all_ahead(setup: &Setup, lanes: &[Vec<Op>], replies: &[Vec<Reply>]) -> u64
     ahead
 }
 
-/// What of a table's costs is known before it is opened, as so many operations: a look at the lanes' root slots and at the frames, and a
-/// thread for each lane that has operations left but one.
-fn table_costs(setup: &Setup, lanes: &[Vec<Op>], replies: &[Vec<Reply>]) -> u64
+/// What the threads of a turn cost, as so many operations: one for each lane that has operations left, and one for the pager where notices
+/// came; one of them all is the caller's.
+fn threads_cost(lanes: &[Vec<Op>], replies: &[Vec<Reply>], hints: &[u32]) -> u64
     requires { length replies.now ≡ length lanes.now }
 {
     let mut threads = 0u64;
@@ -161,10 +215,13 @@ fn table_costs(setup: &Setup, lanes: &[Vec<Op>], replies: &[Vec<Reply>]) -> u64
             threads = threads.saturating_add(OPERATIONS_A_THREAD);
         }
     }
-    looked_at(setup).saturating_add(threads.saturating_sub(OPERATIONS_A_THREAD))
+    if !hints.is_empty() {
+        threads = threads.saturating_add(OPERATIONS_A_THREAD);
+    }
+    threads.saturating_sub(OPERATIONS_A_THREAD)
 }
 
-/// How many root slots and frames there are.
+/// How many root slots and frames there are: what is known of a table's costs before it is opened.
 fn looked_at(setup: &Setup) -> u64 {
     setup.domains as u64 * setup.slots as u64 + setup.frames as u64
 }

@@ -184,7 +184,7 @@ impl Engine {
                 let replies = Replies { lanes: replies };
                 Err(PhaseNo::OutOfHeap { replies, need })
             }
-            Err(RoundsNo::NoRoom) => {
+            Err(RoundsNo::NoRoom(_)) => {
                 self.end_for_want();
                 Err(PhaseNo::NoMemory)
             }

@@ -8,7 +8,7 @@ ghost use Rattle.bc_model.specs.declared.traces.Setup.{Setup};
 ghost use Rattle.bc_turn.specs.Taking.{IsRoomKept};
 
 use crate::lanes::run_lanes;
-use crate::paces::{Pace, is_worth_a_table};
+use crate::paces::{Pace, TurnWay, way_of_turn};
 use bc_gates::Gate;
 use bc_model::{Op, Reply, Setup};
 use bc_pager::Answer;
@@ -18,8 +18,8 @@ use std::alloc::Global;
 use std::thread::Threads;
 
 /// A turn of the lanes: each does operations until it is at its end or stops, the notices with these hints are answered, and the heap is
-/// settled. Lanes and a pager work side by side, or, where there is little to do or no memory for that, one lane after another, and
-/// then the notices are answered. Answers are kept behind those that there are, for which there is room. `room` is what turns take for the
+/// settled. Lanes and a pager work at a table, side by side where threads pay, or, where a table doesn't pay or there is no memory for one,
+/// one lane after another on the heap itself, and then the notices are answered. Answers are kept behind those that there are, for which there is room. `room` is what turns take for the
 /// lanes, and `pace` tells how tables of earlier turns paid. A turn takes memory and can't be refused for want of it.
 pub(crate) fn lane_turn<R, G>(
     running: &mut Running,
@@ -44,10 +44,13 @@ where
     ensures turn { RanTurn (lists_of lanes.now) running.old replies.old answers.old.items hints.now running.new replies.new answers.new.items }
     ensures kept { IsRoomKept running.old.holders running.old.heap.roots.slots (lists_of lanes.now) (lists_of replies.new) room.new }
 {
-    if !is_worth_a_table(setup, pace, lanes, replies, hints) {
-        return turn_alone(running, lanes, replies, hints, answers);
-    }
-    match running.take_turn(rt, alloc, room, lanes, replies, hints, answers, gate) {
+    let threads = match way_of_turn(setup, pace, lanes, replies, hints) {
+        TurnWay::AtTable(threads) => threads,
+        TurnWay::Plain => return turn_alone(running, lanes, replies, hints, answers),
+    };
+    match running.take_turn(
+        rt, alloc, room, lanes, replies, hints, answers, threads, gate,
+    ) {
         Ok(()) => running.settle(),
         Err(_) => turn_alone(running, lanes, replies, hints, answers),
     }

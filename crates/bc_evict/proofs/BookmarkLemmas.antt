@@ -28,11 +28,12 @@ use Rattle.bc_pins.specs.Contents.{IsContent, RefersYoung, objects_in}
 use Rattle.bc_pins.specs.Views.{sets_bit}
 use Rattle.bc_pins.specs.Steps.{Takes, IsBookmarkedBy, MayLeave, both_slots}
 use Rattle.bc_pins.specs.Facts.{points}
+use Rattle.bc_pins.specs.Tracing.{tells, KnowsMarked}
 use Rattle.bc_pins.specs.Calls.{key_of, view_of, slots_of, IsAt, IsSameSeat, HoldsPage, Grasps}
 use Rattle.bc_pins.proofs.TallyLemmas.{number_few}
 use Rattle.bc_pins.proofs.VisitLemmas.{at_after, same_after, may_put_taken}
 use Rattle.bc_evict.specs.Evicting.{HasNoMarks, MayBookmark, MayRelinquish}
-use Rattle.bc_evict.specs.Marking.{sets_cell, HasBookmarked, IsWalked, IsTargetWord, Marks, Counts}
+use Rattle.bc_evict.specs.Marking.{sets_cell, knows_cell, HasBookmarked, IsWalked, IsTargetWord, Marks, Counts}
 use Rattle.bc_evict.proofs.ContentLemmas.{target-allocated, names-allocated, field-on, word-target}
 use Rattle.bc_evict.proofs.PageLemmas.{cell-named}
 use Rattle.bc_evict.proofs.MarkLemmas.{reads-then, Marks-same}
@@ -166,11 +167,20 @@ module _ (pins : Pins) (a b d : Seat) (held : Held) (met : List ℕ) (walked : I
   same_bits : w.bookmarked ≡ (view_of b).bookmarked
   same_bits = ap (λ (x : View). x.bookmarked) (counts.same h1 has_b).1
 
+  same_known : w.known ≡ (view_of b).known
+  same_known = ap (λ (x : View). x.known) (counts.same h1 has_b).1
+
+  same_won : w.won ≡ (view_of b).won
+  same_won = ap (λ (x : View). x.won) (counts.same h1 has_b).1
+
   seat : IsSameSeat a d
   seat = same_after a b d set.seat counts.seat
 
   bits : (q n : ℕ) → n < 1024 → sets_cell w q n ≡ (some_on (names_cell s.classes q n) (objects_in s h.content) h.page || sets_cell v q n)
   bits q n few = ap (λ (l : List (ℕ × ℕ × ℕ)). nat_lt 0 (sets_bit (16 * q + n / 64) (n % 64) l)) same_bits ∙ set.bits q n few
+
+  knows : v.about.lanes ≡ false → (q n : ℕ) → n < 1024 → knows_cell w q n ≡ (some_on (names_cell s.classes q n) (objects_in s h.content) h.page || knows_cell v q n)
+  knows turn q n few = ap (λ (l : List (ℕ × ℕ)). nat_lt 0 (tells (16 * q + n / 64) (n % 64) l)) same_known ∙ set.knows turn q n few
 
   counted : (q : ℕ) → q < v.about.supers → times q h2.counted ≡ points v.about h.page h.content q
   counted q lt =
@@ -187,8 +197,10 @@ module _ (pins : Pins) (a b d : Seat) (held : Held) (met : List ℕ) (walked : I
     now = h2;
     same_hand = refl;
     same = (counts.same h1 has_b).1 ∙ ap (λ (x : View). record x { hand = Some h2; read = w.read }) (set.same h walked.holds.has).1
-        ∙ ap (λ (l : List (ℕ × ℕ × ℕ)). record v { hand = Some h2; bookmarked = l; read = w.read }) (sym same_bits);
+        ∙ ap (λ (x : View). record v { hand = Some h2; bookmarked = x.bookmarked; known = x.known; won = x.won; read = w.read }) (sym (counts.same h1 has_b).1);
     bits = bits;
+    knows = knows;
+    unmarked = λ turn. let was = set.unmarked turn in (same_known ∙ was.0, same_won ∙ was.1);
     counted = counted;
     reads = reads-then v (view_of b) w set.seat.about set.reads counts.reads;
   }
@@ -206,8 +218,17 @@ module _ (pins : Pins) (a b d : Seat) (held : Held) (met : List ℕ) (walked : I
         bit = ltb-true 0 _ (bits (superpage_of x) (cell_number (class_at s x) x) few ∙ or_left _ _ (cell-named s h.page h.content layout lt_page x on));
       }
 
+  target_marked : v.about.lanes ≡ false → (x : ℕ) → IsAllocated s x → is_target (objects_in s h.content) h.page x ≡ true → KnowsMarked v.about w x
+  target_marked turn x allocated on =
+      let few = number_few (class_at s x) x (allocated-is_class s x layout allocated) in
+      record {
+        few = few;
+        starts = is_cell-start s.classes s.cells x allocated;
+        told = ltb-true 0 _ (knows turn (superpage_of x) (cell_number (class_at s x) x) few ∙ or_left _ _ (cell-named s h.page h.content layout lt_page x on));
+      }
+
   may_leave : MayLeave v.about w h2
-  may_leave = record { there = there; quiet = walked.as_taken.taken h walked.holds.has; targets = target_set; counts = counted }
+  may_leave = record { there = there; quiet = walked.as_taken.taken h walked.holds.has; targets = target_set; counts = counted; marked = target_marked }
 
   pub may_relinquish : MayRelinquish d held
   may_relinquish = record {

@@ -12,3 +12,12 @@ pub mod BookmarkLemmas
 pub mod GoneLemmas
 -- Rights to frames, and pages that are made Absent
 pub mod RightLemmas
+-- Frames that are claimed
+pub mod ClaimLemmas
+-- Superpages that are counted no more
+pub mod ReloadLemmas
+-- Going round the pages
+pub mod RoundLemmas
+pub mod LookLemmas
+-- A page that a seat takes to give it up
+pub mod VictimLemmas

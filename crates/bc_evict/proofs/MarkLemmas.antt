@@ -1,7 +1,7 @@
 -- Bookmark bits that a walk sets, and superpages that it meets.
 use Rattle.std.proofs.Common.{◌≡◌, ◌≢◌, ℕ, ◌+◌, ◌*◌, ◌/◌, ◌%◌, ◌^◌, ◌<◌, ◌≤◌, ◌==◌, ◌&&◌, ◌||◌, Bool, true, false, if◌then◌else◌, nat_lt, inl, inr, List, [], ◌∷◌, ◌++◌, length, replicate, slice_index, Option, Some, refl, ap, sym, subst, ◌∙◌, arith, append_assoc}
 use Rattle.std.specs.Int.{bit_at}
-use Rattle.std.proofs.lemmas.Bool.{cases_eq, eq-eqb, ne_eqb, lt-ltb}
+use Rattle.std.proofs.lemmas.Bool.{cases_eq, eq-eqb, ne_eqb, lt-ltb, ltb-true, or_left, and_from}
 use Rattle.std.proofs.lemmas.Nat.{one_shl}
 use Rattle.std.proofs.lemmas.Nat.Bits.{bit_at-pow_same, bit_at-pow_other}
 use Rattle.std.proofs.lemmas.Option.{same_Some}
@@ -17,24 +17,26 @@ use Rattle.bc_superpages.specs.Layout.{Layout}
 use Rattle.bc_superpages.specs.LayoutAt.{IsAllocated}
 use Rattle.bc_superpages.specs.Kept.{IsLayout}
 use Rattle.bc_superpages.specs.Calls.{class_at}
+use Rattle.bc_superpages.proofs.CellLemmas.{is_cell-start}
 use Rattle.bc_superpages.proofs.HandLemmas.{allocated-is_class, allocated-superpage}
 use Rattle.bc_bookmarks.specs.Targets.{names_in, names_cell, is_target}
 use Rattle.bc_bookmarks.proofs.ReadingLemmas.{meets-inserted, or_assoc_right}
 use Rattle.bc_pins.specs.declared.views.Hand.{Hand}
 use Rattle.bc_pins.specs.declared.views.View.{View}
 use Rattle.bc_pins.specs.declared.pins.Seat.{Seat}
-use Rattle.bc_pins.specs.Key.{Key, pages_of, page_at, bookmark_at, frame_at}
+use Rattle.bc_pins.specs.Key.{Key, pages_of, page_at, bookmark_at, frame_at, mark_at, notice_at}
 use Rattle.bc_pins.specs.Contents.{objects_in}
 use Rattle.bc_pins.specs.Views.{sets_bit, reads_of}
-use Rattle.bc_pins.specs.Steps.{bookmarking, IsTargetBit}
+use Rattle.bc_pins.specs.Steps.{bookmarking, shading, IsTargetBit, MayShade}
+use Rattle.bc_pins.specs.Tracing.{tells}
 use Rattle.bc_pins.specs.Calls.{view_of, slots_of, IsSameSeat}
 use Rattle.bc_pins.proofs.TallyLemmas.{number_few}
 use Rattle.bc_pins.proofs.LogLemmas.{reads-else}
 use Rattle.bc_pins.proofs.VisitLemmas.{same_after}
-use Rattle.bc_evict.specs.Marking.{sets_cell, ReadsNoPage, Marks}
+use Rattle.bc_evict.specs.Marking.{sets_cell, knows_cell, ReadsNoPage, IsSetCell, ShadesTarget, Marks}
 
 pub same_seat : (a : Seat) → IsSameSeat a a
-same_seat a = record { table = refl; id = refl; role = refl; opens = refl; about = refl; alive = refl; roles = refl }
+same_seat a = record { table = refl; id = refl; role = refl; opens = refl; about = refl; alive = refl; roles = refl; fetched = refl }
 
 pub reads-then : (v w u : View) → w.about ≡ v.about → ReadsNoPage v w → ReadsNoPage w u → ReadsNoPage v u
 reads-then v w u about first next = record {
@@ -43,7 +45,7 @@ reads-then v w u about first next = record {
     next.grows.1 ∙ ap (λ (l : List (ℕ × ℕ)). next.grows.0 ++ l) first.grows.1 ∙ sym (append_assoc next.grows.0 first.grows.0 v.read),
   );
   pages = λ i lt. next.pages i (subst (λ (k : Key). i < pages_of k) (sym about) lt) ∙ first.pages i lt;
-  frames = λ i le. next.frames i (subst (λ (k : Key). frame_at k 0 ≤ i) (sym about) le) ∙ first.frames i le;
+  frames = λ i le lt. next.frames i (subst (λ (k : Key). frame_at k 0 ≤ i) (sym about) le) (subst (λ (k : Key). i < notice_at k) (sym about) lt) ∙ first.frames i le lt;
 }
 
 -- a view with its hand as it is
@@ -57,8 +59,10 @@ Marks-none a met f none = record {
   slots = refl;
   same = λ h has. (h.marked, hand-same (view_of a) h has);
   bits = λ q b few. sym (ap (λ (x : Bool). x || sets_cell (view_of a) q b) (none (names_cell (view_of a).about.opening.classes q b)));
+  knows = λ turn q b few. sym (ap (λ (x : Bool). x || knows_cell (view_of a) q b) (none (names_cell (view_of a).about.opening.classes q b)));
+  unmarked = λ turn. (refl, refl);
   meets = λ q. sym (ap (λ (x : Bool). x || has met q) (none (names_in q)));
-  reads = record { grows = ([], refl); pages = λ i lt. refl; frames = λ i le. refl };
+  reads = record { grows = ([], refl); pages = λ i lt. refl; frames = λ i le lt. refl };
 }
 
 -- words that are told otherwise
@@ -68,6 +72,8 @@ Marks-same a b met more f g is m = record {
   slots = m.slots;
   same = m.same;
   bits = λ q c few. m.bits q c few ∙ ap (λ (x : Bool). x || sets_cell (view_of a) q c) (is (names_cell (view_of a).about.opening.classes q c));
+  knows = λ turn q c few. m.knows turn q c few ∙ ap (λ (x : Bool). x || knows_cell (view_of a) q c) (is (names_cell (view_of a).about.opening.classes q c));
+  unmarked = m.unmarked;
   meets = λ q. m.meets q ∙ ap (λ (x : Bool). x || has met q) (is (names_in q));
   reads = m.reads;
 }
@@ -80,12 +86,18 @@ Marks-then a b c met now more f g first next = record {
   same = λ h has.
       let one = first.same h has in
       let two = next.same (record h { marked = one.0 }) (ap (λ (v : View). v.hand) one.1) in
-      (two.0, two.1 ∙ ap (λ (v : View). record v { hand = Some (record h { marked = two.0 }); bookmarked = (view_of c).bookmarked; read = (view_of c).read }) one.1);
+      (two.0, two.1 ∙ ap (λ (v : View). record v { hand = Some (record h { marked = two.0 }); bookmarked = (view_of c).bookmarked; known = (view_of c).known; won = (view_of c).won; read = (view_of c).read }) one.1);
   bits = λ q n few.
       next.bits q n few
       ∙ ap (λ (k : Key). g (names_cell k.opening.classes q n) || sets_cell (view_of b) q n) first.seat.about
       ∙ ap (λ (x : Bool). g (names_cell (view_of a).about.opening.classes q n) || x) (first.bits q n few)
       ∙ or_assoc_right (g (names_cell (view_of a).about.opening.classes q n)) (f (names_cell (view_of a).about.opening.classes q n)) (sets_cell (view_of a) q n);
+  knows = λ turn q n few.
+      next.knows (ap (λ (k : Key). k.lanes) first.seat.about ∙ turn) q n few
+      ∙ ap (λ (k : Key). g (names_cell k.opening.classes q n) || knows_cell (view_of b) q n) first.seat.about
+      ∙ ap (λ (x : Bool). g (names_cell (view_of a).about.opening.classes q n) || x) (first.knows turn q n few)
+      ∙ or_assoc_right (g (names_cell (view_of a).about.opening.classes q n)) (f (names_cell (view_of a).about.opening.classes q n)) (knows_cell (view_of a) q n);
+  unmarked = λ turn. let two = next.unmarked (ap (λ (k : Key). k.lanes) first.seat.about ∙ turn) in let one = first.unmarked turn in (two.0 ∙ one.0, two.1 ∙ one.1);
   meets = λ q. next.meets q ∙ ap (λ (x : Bool). g (names_in q) || x) (first.meets q) ∙ or_assoc_right (g (names_in q)) (f (names_in q)) (has met q);
   reads = reads-then (view_of a) (view_of b) (view_of c) first.seat.about first.reads next.reads;
 }
@@ -146,6 +158,17 @@ sets-more v page q n a more is_q is_n few is r b small =
     ∙ some_more ((q == r) && (n == b)) y
     ∙ ap (λ (x : Bool). x || nat_lt 0 y) (class-same v.about.opening.classes q r a n b is_n ∙ ap (λ (j : ℕ). (j == r) && (cell_number (slice_index v.about.opening.classes r) a == b)) is_q)
 
+-- and what a view knows that marked one more
+pub knows-more : (v : View) (q n a : ℕ) (more : List (ℕ × ℕ)) → q ≡ superpage_of a → n ≡ cell_number (slice_index v.about.opening.classes q) a → n < 1024
+    → more ≡ (16 * q + n / 64, 1 * 2 ^ (n % 64) % 2 ^ 64) ∷ v.known
+    → (r b : ℕ) → b < 1024 → nat_lt 0 (tells (16 * r + b / 64) (b % 64) more) ≡ (names_cell v.about.opening.classes r b (Ref (record { 0 = a })) || knows_cell v r b)
+knows-more v q n a more is_q is_n few is r b small =
+    let y : ℕ = tells (16 * r + b / 64) (b % 64) v.known in
+    ap (λ (l : List (ℕ × ℕ)). nat_lt 0 (tells (16 * r + b / 64) (b % 64) l)) is
+    ∙ ap (λ (m : ℕ). nat_lt 0 (m + y)) (bit-of q n r b few small)
+    ∙ some_more ((q == r) && (n == b)) y
+    ∙ ap (λ (x : Bool). x || nat_lt 0 y) (class-same v.about.opening.classes q r a n b is_n ∙ ap (λ (j : ℕ). (j == r) && (cell_number (slice_index v.about.opening.classes r) a == b)) is_q)
+
 -- a word that is no reference
 pub marks-other : (a : Seat) (met : List ℕ) (word : Word) → ((x : Address) → word ≡ Ref x → ⊥) → Marks a met (λ test. test word) a met
 marks-other a met word none = record {
@@ -153,8 +176,10 @@ marks-other a met word none = record {
   slots = refl;
   same = λ h has_h. (h.marked, hand-same (view_of a) h has_h);
   bits = λ q b few. ap (λ (x : Bool). x || sets_cell (view_of a) q b) (sym (no_cell (view_of a).about.opening.classes q b word none));
+  knows = λ turn q b few. ap (λ (x : Bool). x || knows_cell (view_of a) q b) (sym (no_cell (view_of a).about.opening.classes q b word none));
+  unmarked = λ turn. (refl, refl);
   meets = λ q. ap (λ (x : Bool). x || has met q) (sym (no_superpage q word none));
-  reads = record { grows = ([], refl); pages = λ i lt. refl; frames = λ i le. refl };
+  reads = record { grows = ([], refl); pages = λ i lt. refl; frames = λ i le lt. refl };
 }
   where
     no_cell : (cs : List ℕ) (q b : ℕ) (w : Word) → ((x : Address) → w ≡ Ref x → ⊥) → names_cell cs q b w ≡ false
@@ -167,28 +192,113 @@ marks-other a met word none = record {
     no_superpage q (Num v) none_w = refl
     no_superpage q (Ref x) none_w = absurd (none_w x refl)
 
--- a reference is marked by the bit of its cell
-pub marks-ref : (old new : Seat) (met more : List ℕ) (word : Word) (h : Hand) (q n w bits found a : ℕ) → IsSameSeat old new → slots_of new ≡ slots_of old
-    → (view_of old).hand ≡ Some h → view_of new ≡ bookmarking (view_of old) h w bits found → word ≡ Ref (record { 0 = a })
+-- a reference is marked by the bit of its cell, and in a mark turn by its mark
+pub marks-ref : (old mid new : Seat) (met more : List ℕ) (word : Word) (h : Hand) (q n w bits found a : ℕ) → IsSameSeat old mid → slots_of mid ≡ slots_of old
+    → (view_of old).hand ≡ Some h → view_of mid ≡ bookmarking (view_of old) h w bits found → IsSameSeat mid new → slots_of new ≡ slots_of mid → ShadesTarget (view_of mid) q n (view_of new)
+    → word ≡ Ref (record { 0 = a })
     → q ≡ superpage_of a → q < (view_of old).about.supers → n ≡ cell_number (slice_index (view_of old).about.opening.classes q) a → n < 1024 → w ≡ 16 * q + n / 64 → bits ≡ 1 * 2 ^ (n % 64) % 2 ^ 64
     → q < 64 * length met → more ≡ with_bit met q → Marks old met (λ test. test word) new more
-marks-ref old new met more word h q n w bits found a seat slots has_h view is is_q near is_n few is_w is_bits lt inserted = record {
-  seat = seat;
-  slots = slots;
-  same = λ g has_g.
-      subst (λ (z : Hand). (marked : List (ℕ × ℕ)) × (view_of new ≡ record (view_of old) { hand = Some (record z { marked = marked }); bookmarked = (view_of new).bookmarked; read = (view_of new).read })) (same_Some h g (sym has_h ∙ has_g))
-      ((w, bits) ∷ h.marked, subst (λ (x : View). x ≡ record (view_of old) { hand = Some (record h { marked = (w, bits) ∷ h.marked }); bookmarked = x.bookmarked; read = x.read }) (sym view) refl);
-  bits = λ r b small.
-      sets-more (view_of old) h.page q n a (view_of new).bookmarked is_q is_n few
-      (ap (λ (v : View). v.bookmarked) view ∙ ap (λ (j : ℕ). (h.page, j, bits) ∷ (view_of old).bookmarked) is_w ∙ ap (λ (j : ℕ). (h.page, 16 * q + n / 64, j) ∷ (view_of old).bookmarked) is_bits) r b small
-      ∙ sym (ap (λ (v : Word). names_cell (view_of old).about.opening.classes r b v || sets_cell (view_of old) r b) is);
-  meets = λ r. ap (λ (l : List ℕ). has l r) inserted ∙ meets-inserted met q r lt ∙ ap (λ (j : ℕ). (j == r) || has met r) is_q ∙ sym (ap (λ (v : Word). names_in r v || has met r) is);
+marks-ref old mid new met more word h q n w bits found a seat slots has_h view seat_then slots_then shades is is_q near is_n few is_w is_bits lt inserted =
+    let known : (view_of mid).known ≡ (view_of old).known = ap (λ (v : View). v.known) view in
+    let won : (view_of mid).won ≡ (view_of old).won = ap (λ (v : View). v.won) view in
+    let set : (view_of new).bookmarked ≡ (h.page, w, bits) ∷ (view_of old).bookmarked = ap (λ (v : View). v.bookmarked) shades.same ∙ ap (λ (v : View). v.bookmarked) view in
+    let lanes : (view_of mid).about.lanes ≡ (view_of old).about.lanes = ap (λ (k : Key). k.lanes) seat.about in
+    record {
+      seat = same_after old mid new seat seat_then;
+      slots = slots_then ∙ slots;
+      same = λ g has_g.
+          subst (λ (z : Hand). (marked : List (ℕ × ℕ))
+          × (view_of new ≡ record (view_of old) { hand = Some (record z { marked = marked }); bookmarked = (view_of new).bookmarked; known = (view_of new).known; won = (view_of new).won; read = (view_of new).read })) (same_Some h g (sym has_h ∙ has_g)) (
+            (w, bits) ∷ h.marked,
+            shades.same
+                ∙ ap (λ (x : View). record x { known = (view_of new).known; won = (view_of new).won; read = (view_of new).read }) view
+                ∙ ap (λ (l : List (ℕ × ℕ × ℕ)). record (view_of old) { hand = Some (record h { marked = (w, bits) ∷ h.marked }); bookmarked = l; known = (view_of new).known; won = (view_of new).won; read = (view_of new).read }) (sym set),
+          );
+      bits = λ r b small.
+          sets-more (view_of old) h.page q n a (view_of new).bookmarked is_q is_n few
+          (set ∙ ap (λ (j : ℕ). (h.page, j, bits) ∷ (view_of old).bookmarked) is_w ∙ ap (λ (j : ℕ). (h.page, 16 * q + n / 64, j) ∷ (view_of old).bookmarked) is_bits) r b small
+          ∙ sym (ap (λ (v : Word). names_cell (view_of old).about.opening.classes r b v || sets_cell (view_of old) r b) is);
+      knows = λ turn r b small.
+          knows-more (view_of old) q n a (view_of new).known is_q is_n few
+          (shades.known (lanes ∙ turn) ∙ ap (λ (l : List (ℕ × ℕ)). (16 * q + n / 64, 1 * 2 ^ (n % 64) % 2 ^ 64) ∷ l) known) r b small
+          ∙ sym (ap (λ (v : Word). names_cell (view_of old).about.opening.classes r b v || knows_cell (view_of old) r b) is);
+      unmarked = λ turn. let two = shades.unmarked (lanes ∙ turn) in (two.0 ∙ known, two.1 ∙ won);
+      meets = λ r. ap (λ (l : List ℕ). has l r) inserted ∙ meets-inserted met q r lt ∙ ap (λ (j : ℕ). (j == r) || has met r) is_q ∙ sym (ap (λ (v : Word). names_in r v || has met r) is);
+      reads = reads-then (view_of old) (view_of mid) (view_of new) seat.about
+          (record {
+            grows = ((bookmark_at (view_of old).about w, found) ∷ [], ap (λ (v : View). v.read) view);
+            pages = λ p lt. ap (λ (v : View). reads_of (page_at p) v.read) view ∙ reads-else (page_at p) (bookmark_at (view_of old).about w) found (view_of old).read (λ e. absurd (omega arith));
+            frames = λ i le less. ap (λ (v : View). reads_of i v.read) view ∙ reads-else i (bookmark_at (view_of old).about w) found (view_of old).read (λ e. absurd (omega arith));
+          }) shades.reads;
+    }
+
+-- in a mark turn a cell was marked
+pub shades-cell : (old new : View) (q n w bits found : ℕ) → old.about.lanes ≡ false → w ≡ 16 * q + n / 64 → bits ≡ 1 * 2 ^ (n % 64) % 2 ^ 64 → new ≡ shading old w bits found → ShadesTarget old q n new
+shades-cell old new q n w bits found turn is_w is_bits view = record {
+  same = subst (λ (x : View). x ≡ record old { known = x.known; won = x.won; read = x.read }) (sym view) refl;
+  known = λ _. ap (λ (v : View). v.known) view ∙ ap (λ (j : ℕ). (j, bits) ∷ old.known) is_w ∙ ap (λ (j : ℕ). (16 * q + n / 64, j) ∷ old.known) is_bits;
+  unmarked = λ lanes. absurd (clash (sym turn ∙ lanes));
   reads = record {
-    grows = ((bookmark_at (view_of old).about w, found) ∷ [], ap (λ (v : View). v.read) view);
-    pages = λ p lt. ap (λ (v : View). reads_of (page_at p) v.read) view ∙ reads-else (page_at p) (bookmark_at (view_of old).about w) found (view_of old).read (λ e. absurd (omega arith));
-    frames = λ i le. ap (λ (v : View). reads_of i v.read) view ∙ reads-else i (bookmark_at (view_of old).about w) found (view_of old).read (λ e. absurd (omega arith));
+    grows = ((mark_at old.about w, found) ∷ [], ap (λ (v : View). v.read) view);
+    pages = λ p lt. ap (λ (v : View). reads_of (page_at p) v.read) view ∙ reads-else (page_at p) (mark_at old.about w) found old.read (λ e. absurd (omega arith));
+    frames = λ i le lt. ap (λ (v : View). reads_of i v.read) view ∙ reads-else i (mark_at old.about w) found old.read (λ e. absurd (omega arith));
   };
 }
+  where
+    clash : false ≡ true → ⊥
+    clash e = cc
+
+-- in a turn of lanes none is
+pub shades-none : (v : View) (q n : ℕ) → v.about.lanes ≡ true → ShadesTarget v q n v
+shades-none v q n turn = record {
+  same = refl;
+  known = λ mark. absurd (clash (sym mark ∙ turn));
+  unmarked = λ _. (refl, refl);
+  reads = record { grows = ([], refl); pages = λ i lt. refl; frames = λ i le lt. refl };
+}
+  where
+    clash : false ≡ true → ⊥
+    clash e = cc
+
+-- the bit of a cell that was bookmarked may be set in its mark word
+pub shade-bit : (k : Key) (v : View) (q n b : ℕ) → IsSetCell k v q n → b < 64 → 0 < bit_at (1 * 2 ^ (n % 64) % 2 ^ 64) b → MayShade k v (16 * q + n / 64) b
+shade-bit k v q n b c few set =
+    let shifted = one_shl (n % 64) 64 (omega arith) in
+    let bit : 0 < bit_at (2 ^ (n % 64)) b = subst (λ (m : ℕ). 0 < bit_at m b) shifted set in
+    let here : b ≡ n % 64 = elim (cases_eq b (n % 64)) [ inl e ↦ e | inr ne ↦ let z = bit_at-pow_other (n % 64) b ne in absurd (omega arith) ] in
+    let number = c.number in
+    let most = c.bookmarked.few in
+    let small : n < 1024 = omega arith in
+    record {
+      address = c.address;
+      bit = record { there = c.there; superpage = sym c.superpage ∙ omega arith; number = sym c.number ∙ omega arith };
+      why = inr c.bookmarked;
+    }
+
+-- a cell whose bit was set by the step is one whose bookmark bit the view set
+pub set-cell : (k : Key) (old new : View) (h : Hand) (q n w bits found a : ℕ) → old.about ≡ k → IsLayout k.opening → IsAllocated k.opening a → page_of a < pages_of k
+    → new ≡ bookmarking old h w bits found → q ≡ superpage_of a → n ≡ cell_number (slice_index k.opening.classes q) a → n < 1024 → w ≡ 16 * q + n / 64 → bits ≡ 1 * 2 ^ (n % 64) % 2 ^ 64
+    → IsSetCell new.about new q n
+set-cell k old new h q n w bits found a about layout there near view is_q is_n few is_w is_bits =
+    let about_new : new.about ≡ k = ap (λ (v : View). v.about) view ∙ about in
+    let number : n ≡ cell_number (class_at k.opening a) a = is_n ∙ ap (λ (j : ℕ). cell_number (slice_index k.opening.classes j) a) is_q in
+    let few_a : cell_number (class_at k.opening a) a < 1024 = omega arith in
+    subst (λ (x : Key). IsSetCell x new q n) (sym about_new) (record {
+      address = a;
+      there = there;
+      superpage = is_q;
+      number = number;
+      bookmarked = record {
+        within = omega arith;
+        few = few_a;
+        starts = is_cell-start k.opening.classes k.opening.cells a there;
+        bit = ltb-true 0 _ (
+            sets-more old h.page q n a new.bookmarked is_q (is_n ∙ ap (λ (x : Key). cell_number (slice_index x.opening.classes q) a) (sym about)) few
+            (ap (λ (v : View). v.bookmarked) view ∙ ap (λ (j : ℕ). (h.page, j, bits) ∷ old.bookmarked) is_w ∙ ap (λ (j : ℕ). (h.page, 16 * q + n / 64, j) ∷ old.bookmarked) is_bits) (superpage_of a) (cell_number (class_at k.opening a) a) few_a
+            ∙ or_left _ _ (and_from (superpage_of a == superpage_of a) _ (eq-eqb (superpage_of a) (superpage_of a) refl)
+            (eq-eqb (cell_number (slice_index old.about.opening.classes (superpage_of a)) a) (cell_number (class_at k.opening a) a) (ap (λ (x : Key). cell_number (slice_index x.opening.classes (superpage_of a)) a) about))));
+      };
+    })
 
 -- nothing was gone over yet, and nothing met
 pub Marks-start : (a : Seat) (more : List ℕ) (f : (Word → Bool) → Bool) → more ≡ replicate 64 0 → ((test : Word → Bool) → f test ≡ false) → Marks a [] f a more
@@ -197,8 +307,10 @@ Marks-start a more f is none = record {
   slots = refl;
   same = λ h has_h. (h.marked, hand-same (view_of a) h has_h);
   bits = λ q b few. sym (ap (λ (x : Bool). x || sets_cell (view_of a) q b) (none (names_cell (view_of a).about.opening.classes q b)));
+  knows = λ turn q b few. sym (ap (λ (x : Bool). x || knows_cell (view_of a) q b) (none (names_cell (view_of a).about.opening.classes q b)));
+  unmarked = λ turn. (refl, refl);
   meets = λ q. ap (λ (l : List ℕ). has l q) is ∙ has-zeros 64 q ∙ sym (ap (λ (x : Bool). x || has [] q) (none (names_in q)) ∙ has-beyond [] q (omega arith));
-  reads = record { grows = ([], refl); pages = λ i lt. refl; frames = λ i le. refl };
+  reads = record { grows = ([], refl); pages = λ i lt. refl; frames = λ i le lt. refl };
 }
 
 -- each bit of the word that is set for a reference is that of its target

@@ -6,7 +6,7 @@
 // yet. So the order is what counts here:
 //
 //     take          the page's word says Held: nobody else touches it
-//     bookmark      a bit for each of its targets, and then one count in each superpage that has one
+//     bookmark      a bit for each of its targets, in a mark turn a mark too, and then one count in each superpage that has one
 //     relinquish    the box goes into the store, and last of all the word says Gone
 //     give_frame    the bit of the frame is cleared
 //
@@ -17,22 +17,36 @@
 // Who made a page Gone or Absent has the right to its frame (`FrameRight`), and each right is one: it can't be copied, only the
 // calls here make one, and giving it up is handing it over. A table is closed with no right in anybody's hands.
 //
-// The theorems are the contracts. `bookmark` is exact (`HasBookmarked`): the bits are those of the page's targets, and a superpage
-// is counted exactly where one lies in it, once however many they are. `relinquish` may be called only where all of this was
-// done (`MayRelinquish`), and `law_gone_pages` says what that is for: whatever steps were made, and whoever makes one next, a
-// page whose word says Gone is summarised.
+// A lane brings an own page that is Gone back in the turn, into a frame of its own:
 //
-// What a call costs: `bookmark` looks at each word of the page once, steps once for each reference on it, and goes once through a
-// bit for each superpage of the table, 4,096 at most, on the stack. The others are a few steps each. Nothing takes memory, and
-// nothing waits.
+//     claim_frame   a frame that is free, word by word; where each frame word was full, none
+//     free_frame    or else a page that can be had is given up, and the right to its frame kept
+//     reload        the page is in hand, its box was opened, and it is counted nowhere any more
+//
+// The theorems are the contracts. `bookmark` is exact (`HasBookmarked`): the bits are those of the page's targets, and a superpage
+// is counted exactly where one lies in it, once however many they are. `reload` takes just these counts off again (`HasReloaded`),
+// and each refusal of `claim_frame`, `free_frame` and `reload` says what was read. `relinquish` may be called only where all of
+// this was done (`MayRelinquish`), and `law_gone_pages` says what that is for: whatever steps were made, and whoever makes one
+// next, a page whose word says Gone is summarised.
+//
+// What a call costs: `bookmark` looks at each word of the page once, steps once for each reference on it, in a mark turn twice,
+// and goes once through a bit for each superpage of the table, 4,096 at most, on the stack. `reload` does so too, and steps for
+// superpages alone. `claim_frame` steps once on each frame word at most and once more, `free_frame` once on each page's word at
+// most before it bookmarks. The others are a few steps each. Nothing takes memory, and nothing waits.
 #![tactic(auto)]
 
 mod bookmarking;
 mod laws;
 mod leaving;
+mod reloading;
 mod rights;
+mod victims;
+mod walking;
 
 pub use bookmarking::bookmark;
 pub use laws::law_gone_pages;
 pub use leaving::{discard, relinquish};
-pub use rights::{FrameRight, give_frame};
+pub use reloading::{ReloadNo, reload};
+pub use rights::{FrameRight, claim_frame, give_frame};
+pub use victims::free_frame;
+pub use walking::{Kind, take_first};

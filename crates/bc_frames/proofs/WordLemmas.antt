@@ -1,12 +1,12 @@
--- A pool's words of 64 frames: a new pool's, what a word tells, and frames that are given word by word.
-use Rattle.std.proofs.Common.{◌≡◌, ◌≢◌, ℕ, ◌+◌, ◌-◌, ◌*◌, ◌/◌, ◌%◌, ◌^◌, ◌<◌, ◌≤◌, ◌==◌, ◌||◌, inl, inr, min, max, Bool, true, false, not, List, length, set, get_or, replicate, nat_lt, bit_and, bit_or, refl, ap, sym, ◌∙◌, arith, tests, w64, length-set, get_or-set_same, get_or-set_other}
+-- A pool's words of 64 frames: a new pool's, what a word tells, and one that is put in place of another.
+use Rattle.std.proofs.Common.{◌≡◌, ◌≢◌, ℕ, ◌+◌, ◌-◌, ◌*◌, ◌/◌, ◌%◌, ◌^◌, ◌<◌, ◌≤◌, ◌==◌, inl, inr, max, Bool, true, false, not, List, length, set, get_or, replicate, nat_lt, bit_or, refl, ap, sym, ◌∙◌, arith, tests, w64, length-set, get_or-set_same, get_or-set_other}
 use Prim.Native.Nat.{zero, suc}
-use Rattle.std.specs.Int.{bit_at, bit_not, trailing_ones}
+use Rattle.std.specs.Int.{bit_at, trailing_ones}
 use Rattle.std.specs.Int.Count.{ones}
 use Rattle.std.proofs.lemmas.Bool.{cases_eq, cases_lt, lt-ltb}
-use Rattle.std.proofs.lemmas.Nat.{and_le_l}
-use Rattle.std.proofs.lemmas.Nat.Bits.{bit_at_and, bit_at_or, bit_at_not, bit_at-lt, bit_at-zero, bit_at_ones, ones_shl, bit_at_mask_inside, bit_at_mask_below, bit_at-trailing_ones}
-use Rattle.std.proofs.lemmas.List.{length-replicate}
+use Rattle.std.proofs.lemmas.Nat.{or_lt}
+use Rattle.std.proofs.lemmas.Nat.Bits.{bit_at_or, bit_at-lt, bit_at-zero, bit_at_ones, ones_shl, bit_at_mask_inside, bit_at_mask_below, bit_at-trailing_ones}
+use Rattle.std.proofs.lemmas.List.{length-replicate, get_or_past, set_past}
 use Rattle.bc_bits.specs.Bits.{has}
 use Rattle.bc_bits.specs.BitChanges.{AreWords}
 use Rattle.bc_bits.specs.Counting.{one_if, count_below}
@@ -71,112 +71,83 @@ no-bits start frames b le lt =
     let inside : nat_lt (start + b) frames ≡ true = lt-ltb (start + b) frames (omega arith) in
     bit_at-zero b ∙ sym (ap (λ (c : Bool). one_if (not c)) inside)
 
--- a flag is set where a test passes
-with_free : List Bool → ℕ → Bool → List Bool
-with_free fs f true = set fs f true
-with_free fs f false = fs
+-- so many flags from one on become what a test says, as far as there are flags
+set_to : List Bool → ℕ → (ℕ → Bool) → ℕ → List Bool
+set_to fs s h zero = fs
+set_to fs s h (suc k) = set (set_to fs s h k) (s + k) (h k)
 
-length-with_free : (fs : List Bool) (f : ℕ) (c : Bool) → length (with_free fs f c) ≡ length fs
-unfolding with_free
-length-with_free fs f true = length-set fs f true
-length-with_free fs f false = refl
+length-set_to : (fs : List Bool) (s : ℕ) (h : ℕ → Bool) (k : ℕ) → length (set_to fs s h k) ≡ length fs
+unfolding set_to
+length-set_to fs s h zero = refl
+length-set_to fs s h (suc k) = length-set (set_to fs s h k) (s + k) (h k) ∙ length-set_to fs s h k
 
-with_free-same : (fs : List Bool) (f : ℕ) (c : Bool) → f < length fs → is_free (with_free fs f c) f ≡ (is_free fs f || c)
-unfolding with_free
-with_free-same fs f true lt = get_or-set_same fs f true false lt ∙ or_true (is_free fs f)
-  where
-    or_true : (c : Bool) → true ≡ (c || true)
-    or_true true = refl
-    or_true false = refl
-with_free-same fs f false lt = or_false (is_free fs f)
-  where
-    or_false : (c : Bool) → c ≡ (c || false)
-    or_false true = refl
-    or_false false = refl
+set_to-else : (fs : List Bool) (s : ℕ) (h : ℕ → Bool) (k f : ℕ) → ((b : ℕ) → b < k → f ≢ s + b) → is_free (set_to fs s h k) f ≡ is_free fs f
+unfolding set_to
+set_to-else fs s h zero f out = refl
+set_to-else fs s h (suc k) f out = get_or-set_other (set_to fs s h k) (s + k) f (h k) false (out k (omega arith)) ∙ set_to-else fs s h k f (λ b lt. out b (omega arith))
 
-with_free-other : (fs : List Bool) (f g : ℕ) (c : Bool) → g ≢ f → is_free (with_free fs f c) g ≡ is_free fs g
-unfolding with_free
-with_free-other fs f g true ne = get_or-set_other fs f g true false ne
-with_free-other fs f g false ne = refl
-
-with_free-count : (fs : List Bool) (f : ℕ) (c : Bool) → (c ≡ true → (f < length fs) × (is_free fs f ≡ false)) → free_count (with_free fs f c) ≡ free_count fs + one_if c
-unfolding with_free
-with_free-count fs f true taken =
-    let at = taken refl in
-    let changed = free_count-set fs f true at.0 in
-    let none : one_if (is_free fs f) ≡ 0 = ap one_if at.1 in
-    omega arith
-with_free-count fs f false taken = omega arith
-
--- and so many flags from one on
-given_to : List Bool → ℕ → (ℕ → Bool) → ℕ → List Bool
-given_to fs s h zero = fs
-given_to fs s h (suc k) = with_free (given_to fs s h k) (s + k) (h k)
-
-length-given_to : (fs : List Bool) (s : ℕ) (h : ℕ → Bool) (k : ℕ) → length (given_to fs s h k) ≡ length fs
-unfolding given_to
-length-given_to fs s h zero = refl
-length-given_to fs s h (suc k) = length-with_free (given_to fs s h k) (s + k) (h k) ∙ length-given_to fs s h k
-
-given_to-else : (fs : List Bool) (s : ℕ) (h : ℕ → Bool) (k f : ℕ) → ((b : ℕ) → b < k → f ≢ s + b) → is_free (given_to fs s h k) f ≡ is_free fs f
-unfolding given_to
-given_to-else fs s h zero f out = refl
-given_to-else fs s h (suc k) f out = with_free-other (given_to fs s h k) (s + k) f (h k) (out k (omega arith)) ∙ given_to-else fs s h k f (λ b lt. out b (omega arith))
-
-given_to-here : (fs : List Bool) (s : ℕ) (h : ℕ → Bool) (k b : ℕ) → b < k → s + b < length fs → is_free (given_to fs s h k) (s + b) ≡ (is_free fs (s + b) || h b)
-unfolding given_to
-given_to-here fs s h zero b lt within = absurd (omega arith)
-given_to-here fs s h (suc k) b lt within =
+set_to-here : (fs : List Bool) (s : ℕ) (h : ℕ → Bool) (k b : ℕ) → b < k → s + b < length fs → is_free (set_to fs s h k) (s + b) ≡ h b
+unfolding set_to
+set_to-here fs s h zero b lt within = absurd (omega arith)
+set_to-here fs s h (suc k) b lt within =
     elim (cases_eq b k) [
       | inl same ↦
-          let size = length-given_to fs s h k in
-          let before = given_to-else fs s h k (s + k) (λ c less e. omega arith) in
-          rw same (with_free-same (given_to fs s h k) (s + k) (h k) (omega arith) ∙ ap (λ (c : Bool). c || h k) before)
-      | inr other ↦ with_free-other (given_to fs s h k) (s + k) (s + b) (h k) (λ e. other (omega arith)) ∙ given_to-here fs s h k b (omega arith) within
+          let size = length-set_to fs s h k in
+          rw same (get_or-set_same (set_to fs s h k) (s + k) (h k) false (omega arith))
+      | inr other ↦ get_or-set_other (set_to fs s h k) (s + k) (s + b) (h k) false (λ e. other (omega arith)) ∙ set_to-here fs s h k b (omega arith) within
     ]
 
-given_to-count : (fs : List Bool) (s : ℕ) (h : ℕ → Bool) (k : ℕ) → ((b : ℕ) → b < k → h b ≡ true → (s + b < length fs) × (is_free fs (s + b) ≡ false)) → free_count (given_to fs s h k) ≡ free_count fs + count_below h k
-unfolding given_to count_below
-given_to-count fs s h zero taken = omega arith
-given_to-count fs s h (suc k) taken =
-    let size = length-given_to fs s h k in
-    let before = given_to-else fs s h k (s + k) (λ c less e. omega arith) in
-    let here = with_free-count (given_to fs s h k) (s + k) (h k) (λ on. let at = taken k (omega arith) on in (omega (arith, at.0), before ∙ at.1)) in
-    let rest = given_to-count fs s h k (λ b lt on. taken b (omega arith) on) in
-    omega arith
+-- of so many places each has a flag that is set or a bit, before and after
+one_or_none : (c : Bool) → one_if c + one_if (not c) ≡ 1
+one_or_none true = refl
+one_or_none false = refl
 
--- The word that is kept of a pool's word, where the frames are given whose bits are clear, and the bits that become clear. Bits of no frame
--- are set in a third word, which is 1 at these.
-module _ (ws : List ℕ) (n free first w bits rest : ℕ) (h : HasFrameBits ws n free first) (within : w < length ws) (fits : bits < 2 ^ 64) (behind : (b : ℕ) → b < 64 → bit_at rest b ≡ one_if (not (nat_lt (64 * w + b) n))) where
+set_to-count : (fs : List Bool) (s : ℕ) (h was put : ℕ → Bool) (k : ℕ) → ((b : ℕ) → b < k → was b ≡ not (is_free fs (s + b))) → ((b : ℕ) → b < k → put b ≡ not (h b)) → ((b : ℕ) → b < k → length fs ≤ s + b → h b ≡ false)
+    → free_count (set_to fs s h k) + count_below put k ≡ free_count fs + count_below was k
+unfolding set_to count_below
+set_to-count fs s h was put zero old new out = refl
+set_to-count fs s h was put (suc k) old new out =
+    let rest = set_to-count fs s h was put k (λ b lt. old b (omega arith)) (λ b lt. new b (omega arith)) (λ b lt. out b (omega arith)) in
+    let o : one_if (was k) ≡ one_if (not (is_free fs (s + k))) = ap one_if (old k (omega arith)) in
+    let p : one_if (put k) ≡ one_if (not (h k)) = ap one_if (new k (omega arith)) in
+    let one = one_or_none (is_free fs (s + k)) in
+    let two = one_or_none (h k) in
+    elim (cases_lt (s + k) (length fs)) [
+      | inl below ↦
+          let size = length-set_to fs s h k in
+          let before : one_if (is_free (set_to fs s h k) (s + k)) ≡ one_if (is_free fs (s + k)) = ap one_if (set_to-else fs s h k (s + k) (λ c less e. omega arith)) in
+          let changed = free_count-set (set_to fs s h k) (s + k) (h k) (omega arith) in
+          omega arith
+      | inr past ↦
+          let size = length-set_to fs s h k in
+          let same : free_count (set (set_to fs s h k) (s + k) (h k)) ≡ free_count (set_to fs s h k) = ap free_count (set_past (set_to fs s h k) (s + k) (h k) (omega arith)) in
+          let none : one_if (is_free fs (s + k)) ≡ 0 = ap one_if (get_or_past fs (s + k) false past) in
+          let off : one_if (h k) ≡ 0 = ap one_if (out k (omega arith) past) in
+          omega arith
+    ]
+
+-- The word that is put in place of a pool's word: the bits that are wanted, and those of no frame, which are set in a third word
+module _ (ws : List ℕ) (n free first w bits rest : ℕ) (h : HasFrameBits ws n free first) (within : w < length ws) (fits : bits < 2 ^ 64) (rest_fits : rest < 2 ^ 64) (behind : (b : ℕ) → b < 64 → bit_at rest b ≡ one_if (not (nat_lt (64 * w + b) n))) where
   abbrev old : ℕ
   old = get_or ws w 0
 
-  abbrev kept : ℕ
-  kept = bit_and old (bit_or bits rest)
-
-  abbrev freed : ℕ
-  freed = bit_and old (bit_not w64 kept)
+  abbrev put : ℕ
+  put = bit_or bits rest
 
   abbrev is_given : ℕ → Bool
-  is_given b = bit_at freed b == 1
+  is_given b = not (bit_at put b == 1)
 
-  kept-fits : kept < 2 ^ 64
-  kept-fits = let le = and_le_l old (bit_or bits rest) in let lt = h.fits w in omega arith
+  pub put-fits : put < 2 ^ 64
+  put-fits = or_lt 64 bits rest fits rest_fits
 
-  freed-fits : freed < 2 ^ 64
-  freed-fits = let le = and_le_l old (bit_not w64 kept) in let lt = h.fits w in omega arith
-
-  kept-bit : (b : ℕ) → bit_at kept b ≡ min (bit_at old b) (max (bit_at bits b) (bit_at rest b))
-  kept-bit b = bit_at_and old (bit_or bits rest) b ∙ ap (min (bit_at old b)) (bit_at_or bits rest b)
-
-  freed-bit : (b : ℕ) → b < 64 → bit_at freed b ≡ min (bit_at old b) (1 - bit_at kept b)
-  freed-bit b lt = bit_at_and old (bit_not w64 kept) b ∙ ap (min (bit_at old b)) (bit_at_not w64 kept b kept-fits lt)
+  put-bit : (b : ℕ) → bit_at put b ≡ max (bit_at bits b) (bit_at rest b)
+  put-bit b = bit_at_or bits rest b
 
   -- the bit of a frame in the words after it
-  has-here : (b : ℕ) → b < 64 → has (set ws w kept) (64 * w + b) ≡ (bit_at kept b == 1)
-  has-here b lt = has-word (set ws w kept) w b lt ∙ ap (λ (x : ℕ). bit_at x b == 1) (get_or-set_same ws w kept 0 within)
+  has-here : (b : ℕ) → b < 64 → has (set ws w put) (64 * w + b) ≡ (bit_at put b == 1)
+  has-here b lt = has-word (set ws w put) w b lt ∙ ap (λ (x : ℕ). bit_at x b == 1) (get_or-set_same ws w put 0 within)
 
-  has-else : (f : ℕ) → f / 64 ≢ w → has (set ws w kept) f ≡ has ws f
+  has-else : (f : ℕ) → f / 64 ≢ w → has (set ws w put) f ≡ has ws f
   unfolding has
   has-else f ne = rw get_or-set_other refl
 
@@ -186,102 +157,92 @@ module _ (ws : List ℕ) (n free first w bits rest : ℕ) (h : HasFrameBits ws n
   rest-out : (b : ℕ) → b < 64 → n ≤ 64 * w + b → bit_at rest b ≡ 1
   rest-out b lt out = behind b lt ∙ (let no_frame : nat_lt (64 * w + b) n ≡ false = grind (arith, tests) in ap (λ (c : Bool). one_if (not c)) no_frame)
 
-  -- where it was not free before, it is now if its bit is clear
-  given-bits : (o k b r f : ℕ) → o < 2 → b < 2 → r ≡ 0 → k ≡ min o (max b r) → f ≡ min o (1 - k) → (not (k == 1) ≡ (not (o == 1) || (f == 1))) × ((not (o == 1) || (f == 1)) ≡ (not (o == 1) || (b == 0)))
-  given-bits zero k b r f lo lb none kk ff = (grind (arith, tests), refl)
-  given-bits (suc zero) k zero r f lo lb none kk ff = (grind (arith, tests), grind (arith, tests))
-  given-bits (suc zero) k (suc zero) r f lo lb none kk ff = (grind (arith, tests), grind (arith, tests))
-  given-bits (suc zero) k (suc (suc b)) r f lo lb none kk ff = absurd (omega arith)
-  given-bits (suc (suc o)) k b r f lo lb none kk ff = absurd (omega arith)
+  put-in : (b : ℕ) → b < 64 → 64 * w + b < n → bit_at put b ≡ bit_at bits b
+  put-in b lt below = let e = put-bit b in let none = rest-in b lt below in omega arith
 
-  old-free : (b : ℕ) → b < 64 → 64 * w + b < n → is_free (flags_in ws n) (64 * w + b) ≡ not (bit_at old b == 1)
-  old-free b lt below = is_free-in ws n (64 * w + b) below ∙ ap not (has-word ws w b lt)
-
-  each-bit : (b : ℕ) → b < 64 → 64 * w + b < n → (not (bit_at kept b == 1) ≡ (not (bit_at old b == 1) || (bit_at freed b == 1))) × ((not (bit_at old b == 1) || (bit_at freed b == 1)) ≡ (not (bit_at old b == 1) || (bit_at bits b == 0)))
-  each-bit b lt below = given-bits (bit_at old b) (bit_at kept b) (bit_at bits b) (bit_at rest b) (bit_at freed b) (bit_at-lt old b) (bit_at-lt bits b) (rest-in b lt below) (kept-bit b) (freed-bit b lt)
+  put-out : (b : ℕ) → b < 64 → n ≤ 64 * w + b → bit_at put b ≡ 1
+  put-out b lt out = let e = put-bit b in let one = rest-out b lt out in let few = bit_at-lt bits b in omega arith
 
   -- the flags after it
-  flags-after : flags_in (set ws w kept) n ≡ given_to (flags_in ws n) (64 * w) is_given 64
+  flags-after : flags_in (set ws w put) n ≡ set_to (flags_in ws n) (64 * w) is_given 64
   flags-after =
-      flags_in-are (set ws w kept) n (given_to (flags_in ws n) (64 * w) is_given 64) (length-given_to (flags_in ws n) (64 * w) is_given 64 ∙ length-flags_in ws n) (λ f lt.
+      flags_in-are (set ws w put) n (set_to (flags_in ws n) (64 * w) is_given 64) (length-set_to (flags_in ws n) (64 * w) is_given 64 ∙ length-flags_in ws n) (λ f lt.
       elim (cases_eq (f / 64) w) [
         | inl here ↦
             let place : f ≡ 64 * w + f % 64 = omega arith in
             let small : f % 64 < 64 = omega arith in
             rw place (here-is (f % 64) small (omega arith))
-        | inr other ↦ ap not (has-else f other) ∙ sym (is_free-in ws n f lt) ∙ sym (given_to-else (flags_in ws n) (64 * w) is_given 64 f (λ b less e. other (omega arith)))
+        | inr other ↦ ap not (has-else f other) ∙ sym (is_free-in ws n f lt) ∙ sym (set_to-else (flags_in ws n) (64 * w) is_given 64 f (λ b less e. other (omega arith)))
       ])
     where
-      here-is : (b : ℕ) → b < 64 → 64 * w + b < n → not (has (set ws w kept) (64 * w + b)) ≡ is_free (given_to (flags_in ws n) (64 * w) is_given 64) (64 * w + b)
-      here-is b lt below =
-          ap not (has-here b lt) ∙ (each-bit b lt below).0 ∙ ap (λ (c : Bool). c || is_given b) (sym (old-free b lt below))
-          ∙ sym (given_to-here (flags_in ws n) (64 * w) is_given 64 b lt (rw length-flags_in below))
+      here-is : (b : ℕ) → b < 64 → 64 * w + b < n → not (has (set ws w put) (64 * w + b)) ≡ is_free (set_to (flags_in ws n) (64 * w) is_given 64) (64 * w + b)
+      here-is b lt below = ap not (has-here b lt) ∙ sym (set_to-here (flags_in ws n) (64 * w) is_given 64 b lt (rw length-flags_in below))
 
-  -- they are those whose bits are clear
-  pub given-here : (f : ℕ) → f / 64 ≡ w → f < n → is_free (flags_in (set ws w kept) n) f ≡ (is_free (flags_in ws n) f || (bit_at bits (f % 64) == 0))
-  given-here f here lt =
+  -- those of the word are free whose bits are clear, and the others are as they were
+  clear-is : (x : ℕ) → x < 2 → not (x == 1) ≡ (x == 0)
+  clear-is x few = grind (arith, tests)
+
+  pub put-here : (f : ℕ) → f / 64 ≡ w → f < n → is_free (flags_in (set ws w put) n) f ≡ (bit_at bits (f % 64) == 0)
+  put-here f here lt =
       let place : f ≡ 64 * w + f % 64 = omega arith in
       let small : f % 64 < 64 = omega arith in
       let below : 64 * w + f % 64 < n = omega arith in
-      is_free-in (set ws w kept) n f lt ∙ ap (λ (g : ℕ). not (has (set ws w kept) g)) place ∙ ap not (has-here (f % 64) small) ∙ (each-bit (f % 64) small below).0 ∙ (each-bit (f % 64) small below).1
-      ∙ ap (λ (c : Bool). c || (bit_at bits (f % 64) == 0)) (sym (old-free (f % 64) small below) ∙ ap (is_free (flags_in ws n)) (sym place))
+      is_free-in (set ws w put) n f lt ∙ ap (λ (g : ℕ). not (has (set ws w put) g)) place ∙ ap not (has-here (f % 64) small) ∙ ap (λ (x : ℕ). not (x == 1)) (put-in (f % 64) small below)
+      ∙ clear-is (bit_at bits (f % 64)) (bit_at-lt bits (f % 64))
 
-  pub given-others : (f : ℕ) → f / 64 ≢ w → is_free (flags_in (set ws w kept) n) f ≡ is_free (flags_in ws n) f
-  given-others f other =
+  pub put-others : (f : ℕ) → f / 64 ≢ w → is_free (flags_in (set ws w put) n) f ≡ is_free (flags_in ws n) f
+  put-others f other =
       elim (cases_lt f n) [
-        | inl lt ↦ is_free-in (set ws w kept) n f lt ∙ ap not (has-else f other) ∙ sym (is_free-in ws n f lt)
-        | inr out ↦ is_free-out (set ws w kept) n f out ∙ sym (is_free-out ws n f out)
+        | inl lt ↦ is_free-in (set ws w put) n f lt ∙ ap not (has-else f other) ∙ sym (is_free-in ws n f lt)
+        | inr out ↦ is_free-out (set ws w put) n f out ∙ sym (is_free-out ws n f out)
       ]
 
-  -- and as many more are free as bits became clear
-  freed-was : (o k r f : ℕ) (b : ℕ) → o < 2 → b < 2 → k ≡ min o (max b r) → f ≡ min o (1 - k) → (f == 1) ≡ true → (o ≡ 1) × (r ≢ 1)
-  freed-was o k r f b lo lb kk ff on = let one : f ≡ 1 = grind (arith, tests) in (omega arith, λ e. omega arith)
+  -- and as many less are free as bits are more
+  twice : (c : Bool) → c ≡ not (not c)
+  twice true = refl
+  twice false = refl
 
-  was-taken : (b : ℕ) → b < 64 → is_given b ≡ true → (64 * w + b < length (flags_in ws n)) × (is_free (flags_in ws n) (64 * w + b) ≡ false)
-  was-taken b lt on =
-      let was = freed-was (bit_at old b) (bit_at kept b) (bit_at rest b) (bit_at freed b) (bit_at bits b) (bit_at-lt old b) (bit_at-lt bits b) (kept-bit b) (freed-bit b lt) on in
+  bit-was : (b : ℕ) → b < 64 → (bit_at old b == 1) ≡ not (is_free (flags_in ws n) (64 * w + b))
+  bit-was b lt =
       elim (cases_lt (64 * w + b) n) [
-        | inl below ↦ (rw length-flags_in below, old-free b lt below ∙ ap (λ (x : ℕ). not (x == 1)) was.0)
-        | inr out ↦ absurd (was.1 (rest-out b lt out))
+        | inl below ↦ sym (has-word ws w b lt) ∙ twice (has ws (64 * w + b)) ∙ ap not (sym (is_free-in ws n (64 * w + b) below))
+        | inr out ↦ let long = h.long in sym (has-word ws w b lt) ∙ h.behind (64 * w + b) out (omega arith) ∙ ap not (sym (is_free-out ws n (64 * w + b) out))
       ]
 
-  pub given-count : free + ones freed ≡ free_count (flags_in (set ws w kept) n)
-  given-count =
-      let bits_freed = ones-count freed freed-fits in
-      let count = given_to-count (flags_in ws n) (64 * w) is_given 64 was-taken in
+  pub put-count : free_count (flags_in (set ws w put) n) + ones put ≡ free + ones old
+  put-count =
+      let bits_put = ones-count put put-fits in
+      let bits_old = ones-count old (h.fits w) in
+      let size = length-flags_in ws n in
+      let count = set_to-count (flags_in ws n) (64 * w) is_given (λ b. bit_at old b == 1) (λ b. bit_at put b == 1) 64 bit-was (λ b lt. twice (bit_at put b == 1)) (λ b lt past. ap (λ (x : ℕ). not (x == 1)) (put-out b lt (omega arith))) in
       let before = h.count in
       let after = ap free_count flags-after in
       omega arith
 
-  set-fits : AreWords (set ws w kept)
+  set-fits : AreWords (set ws w put)
   set-fits i =
       elim (cases_eq i w) [
-        | inl here ↦ rw here (rw get_or-set_same kept-fits)
+        | inl here ↦ rw here (rw get_or-set_same put-fits)
         | inr other ↦ rw get_or-set_other (h.fits i)
       ]
 
-  pub bits-given : (low : ℕ) → low ≤ first → low ≤ w → HasFrameBits (set ws w kept) n (free + ones freed) low
-  bits-given low before under = record {
-    long = length-set ws w kept ∙ h.long;
+  pub bits-put : (low more : ℕ) → low ≤ first → low ≤ w → more + ones put ≡ free + ones old → HasFrameBits (set ws w put) n more low
+  bits-put low more before under count = record {
+    long = length-set ws w put ∙ h.long;
     fits = set-fits;
     behind = λ f le below. elim (cases_eq (f / 64) w) [
       | inl here ↦
           let place : f ≡ 64 * w + f % 64 = omega arith in
-          let size = length-set ws w kept in
-          let was = h.behind f le (omega arith) in
-          rw place (stays (f % 64) (omega arith) (omega arith) (rw place at was))
-      | inr other ↦ let size = length-set ws w kept in has-else f other ∙ h.behind f le (omega arith)
+          rw place (stays (f % 64) (omega arith) (omega arith))
+      | inr other ↦ let size = length-set ws w put in has-else f other ∙ h.behind f le (omega arith)
     ];
-    count = given-count;
-    none = λ f below. given-others f (λ e. omega arith) ∙ h.none f (omega arith);
+    count = let now = put-count in omega arith;
+    none = λ f below. put-others f (λ e. omega arith) ∙ h.none f (omega arith);
     few = h.few;
   }
     where
-      both : (o k b r : ℕ) → b < 2 → (o == 1) ≡ true → r ≡ 1 → k ≡ min o (max b r) → (k == 1) ≡ true
-      both o k b r lb on one kk = let was : o ≡ 1 = grind (arith, tests) in let now : k ≡ 1 = omega arith in rw now refl
-
-      stays : (b : ℕ) → b < 64 → n ≤ 64 * w + b → has ws (64 * w + b) ≡ true → has (set ws w kept) (64 * w + b) ≡ true
-      stays b lt out was = has-here b lt ∙ both (bit_at old b) (bit_at kept b) (bit_at bits b) (bit_at rest b) (bit_at-lt bits b) (sym (has-word ws w b lt) ∙ was) (rest-out b lt out) (kept-bit b)
+      stays : (b : ℕ) → b < 64 → n ≤ 64 * w + b → has (set ws w put) (64 * w + b) ≡ true
+      stays b lt out = has-here b lt ∙ ap (λ (x : ℕ). x == 1) (put-out b lt out)
 
 -- the words of a new pool: a bit is set where there is no frame
 pub record AreBlank (ws : List ℕ) (n : ℕ) : Type 0 where

@@ -1,6 +1,6 @@
 //! Frames, and the pool that claims and gives them.
 
-ghost use Rattle.std.specs.Prelude.{◌≡◌, ℕ, ◌+◌, ◌*◌, ◌/◌, ◌%◌, ◌^◌, ◌<◌, ◌≤◌, ◌≢◌, ◌==◌, ◌||◌, Bool, true, false, not, List, [], length, slice_set, replicate, IfOk, IfSome, IfNone, nat_lt};
+ghost use Rattle.std.specs.Prelude.{◌≡◌, ℕ, ◌+◌, ◌*◌, ◌/◌, ◌%◌, ◌^◌, ◌<◌, ◌≤◌, ◌≢◌, ◌==◌, Bool, true, false, not, List, [], length, slice_set, replicate, IfOk, IfSome, IfNone, nat_lt};
 ghost use Rattle.std.specs.Int.{bit_at};
 ghost use Rattle.bc_bits.specs.Bits.{has};
 ghost use Rattle.bc_bits.specs.Counting.{one_if};
@@ -174,17 +174,18 @@ impl FramePool {
         }
     }
 
-    /// Makes those of 64 frames free, from 64 times this number on, whose bits are clear. Others stay as they are.
-    pub fn give_clear(&mut self, word: u32, bits: u64)
+    /// Tells which of 64 frames are free, from 64 times this number on: those whose bits are clear. Others stay as they are.
+    pub fn put_word(&mut self, word: u32, bits: u64)
         ensures long { length self.new ≡ length self.old }
-        ensures here { (f : ℕ) → f / 64 ≡ word → f < length self.old → is_free self.new f ≡ (is_free self.old f || (bit_at bits (f % 64) == 0)) }
+        ensures here { (f : ℕ) → f / 64 ≡ word → f < length self.old → is_free self.new f ≡ (bit_at bits (f % 64) == 0) }
         ensures others { (f : ℕ) → f / 64 ≢ word → is_free self.new f ≡ is_free self.old f }
     {
         if (word as usize) < self.words.len() {
             let was = self.words[word as usize];
-            let kept = was & (bits | bits_behind(self.frames, word));
-            self.words[word as usize] = kept;
-            self.free += (was & !kept).count_ones();
+            let now = bits | bits_behind(self.frames, word);
+            self.words[word as usize] = now;
+            let free = self.free as u64 + was.count_ones() as u64 - now.count_ones() as u64;
+            self.free = free as u32;
             self.first = self.first.min(word);
         }
     }

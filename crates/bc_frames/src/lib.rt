@@ -18,7 +18,7 @@
 // While workers share a table of pages, the boxes of pages that aren't resident lie there shut (`Shut`): `lift` takes one out
 // of the store and `lower` puts it back, and neither is a read. Who opens a shut box counts it in an `Opens`, which can't be
 // dropped and can't be read: `Store::count` spends it and adds its number to `reads`. There too a frame is a bit of a
-// table, whose words are the pool's (`word`) and give frames back to it (`give_clear`). `Frame::number` and `Frame::of`
+// table, whose words are the pool's (`word`) and are put back into it one by one (`put_word`). `Frame::number` and `Frame::of`
 // take a right apart and make it again; that no two rights to one frame are in use is then kept by who makes them.
 //
 // The theorems are the contracts: `claim` gives a frame that was free and no longer is, and nothing exactly

@@ -65,7 +65,7 @@ fn words_tell_which_frames_are_not_free(rt: HostRuntime) -> Result<(), Fail> {
 }
 
 #[test]
-fn frames_are_given_by_words(rt: HostRuntime) -> Result<(), Fail> {
+fn frames_become_free_or_not_by_words(rt: HostRuntime) -> Result<(), Fail> {
     let mut pool = FramePool::new(rt.alloc(), 66)?;
     for number in 0..66 {
         assert_eq!(rt;
@@ -74,18 +74,18 @@ fn frames_are_given_by_words(rt: HostRuntime) -> Result<(), Fail> {
         );
     }
     assert!(rt; pool.claim().is_none());
-    pool.give_clear(1, 1);
+    pool.put_word(1, 1);
     assert_eq!(rt; pool.word(0), 18446744073709551615);
     assert_eq!(rt; pool.word(1), 18446744073709551613);
     assert_eq!(rt; pool.free(), 1);
-    pool.give_clear(1, 18446744073709551615);
-    pool.give_clear(2, 0);
-    assert_eq!(rt; pool.free(), 1);
-    pool.give_clear(0, 9223372036854775807);
+    pool.put_word(1, 18446744073709551615);
+    pool.put_word(2, 0);
+    assert_eq!(rt; pool.free(), 0);
+    pool.put_word(0, 9223372036854775807);
     assert!(rt; pool.is_free(63));
-    assert_eq!(rt; pool.free(), 2);
+    assert_eq!(rt; pool.free(), 1);
     assert_eq!(rt; pool.claim().expect(&rt, "a frame is free").number(), 63);
-    pool.give_clear(1, 0);
+    pool.put_word(1, 0);
     assert_eq!(rt; pool.word(1), 18446744073709551612);
     assert!(rt; !pool.is_free(66));
     assert_eq!(rt; pool.free(), 2);

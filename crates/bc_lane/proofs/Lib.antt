@@ -1,3 +1,5 @@
+-- A space and a whole heap with every page back
+pub mod BackLemmas
 -- What a space has of the pages of a lane's domains, when one is taken, written, remembered or put back
 pub mod PageLemmas
 -- What root words have of a lane's slots
@@ -20,3 +22,5 @@ pub mod AnswerLemmas
 pub mod TurnLemmas
 -- What a lane has at the opening of a turn
 pub mod OpenLemmas
+-- A page that comes back in a turn changes nothing of the whole heap
+pub mod ReloadLemmas

@@ -163,8 +163,8 @@ module _ (part : LanePart) (k : Key) (v : View) (hand : Option Held) (end : ℕ)
       let own = touched-own part.holders.items part.lane op p.0 p.1 held in
       there-below h.space (own_chunk h part.lane) at.0 w.ready.behind (own-slot h part.holders.items part.lane p.0 w.ready.running slot.0 slot.1 own at p.2) (let e = w.belongs.space.end_is in omega arith)
 
-  opened-same : h.space ≡ record k.opening { states = h.space.states; pages = h.space.pages }
-  opened-same = subst (λ (a : Key). h.space ≡ record a.opening { states = h.space.states; pages = h.space.pages }) about w.belongs.space.same
+  opened-same : h.space ≡ record k.opening { states = h.space.states; pages = h.space.pages; incoming = h.space.incoming }
+  opened-same = subst (λ (a : Key). h.space ≡ record a.opening { states = h.space.states; pages = h.space.pages; incoming = h.space.incoming }) about w.belongs.space.same
 
   opened-layout : IsLayout k.opening
   opened-layout = subst (λ (a : Key). IsLayout a.opening) about w.belongs.space.opening

@@ -1,6 +1,6 @@
 -- What a space has of the pages of a lane's domains, when one is taken, written, remembered or put back.
 use Rattle.std.proofs.Common.{◌≡◌, ◌≢◌, ℕ, ◌+◌, ◌*◌, ◌<◌, ◌==◌, Bool, true, false, if◌then◌else◌, List, [], ◌∷◌, length, get_or, set, Option, Some, None, inl, inr, refl, ap, sym, subst, ◌∙◌, arith, get_or-set_same, get_or-set_other, ◌&&◌}
-use Rattle.std.proofs.lemmas.Bool.{cases_Bool, cases_eq, lt-ltb, both_ways}
+use Rattle.std.proofs.lemmas.Bool.{cases_Bool, cases_eq, lt-ltb}
 use Rattle.bc_bits.specs.Counting.{one_if}
 use Rattle.bc_lane.specs.Shown.{HasPage, IsOwnPage, ShowsHeld, ShowsPage, ShowsPages}
 use Rattle.bc_mutator.specs.Effects.{Remembers}
@@ -78,7 +78,7 @@ given-here v held s shown =
           | inr off ↦ shown.remembered.1 (shown.kept (let none : one_if held.remembered ≡ 0 = ap one_if off in omega arith))
         ],
       );
-      gone = λ is. absurd (both_ways _ shown.here is);
+      here = shown.here;
     }
 
 given-other : (v : View) (held : Held) (s : Layout) (p : ℕ) → p ≢ held.page → ShowsPage v s p → ShowsPage (given v held) s p
@@ -88,7 +88,7 @@ given-other v held s p ne shown =
     record {
       content = shown.content ∙ sym (look_other (owns v held.page) p held.page held.homed.page (opened_content v.about p) v.changed ne');
       remembered = (λ is. let was = shown.remembered.0 is in omega arith, λ lt. shown.remembered.1 (omega arith));
-      gone = shown.gone;
+      here = shown.here;
     }
 
 pub shows-given : (v : View) (held : Held) (end : ℕ) (s : Layout) → ShowsPages v (Some held) end s → ShowsPages (put_back v held) None end s
@@ -111,7 +111,7 @@ back-other v held s p ne shown =
     record {
       content = shown.content ∙ look_other (owns v held.page) p held.page held.homed.page (opened_content v.about p) v.changed ne';
       remembered = (λ is. let was = shown.remembered.0 is in omega arith, λ lt. shown.remembered.1 (omega arith));
-      gone = shown.gone;
+      here = shown.here;
     }
 
 back-here : (v : View) (held : Held) (s t : Layout) → ShowsHeld v held t → ShowsPage (given v held) s held.page → ShowsHeld v held s
@@ -128,11 +128,7 @@ back-here v held s t first shown =
         λ on. shown.remembered.1 (let one : one_if held.remembered ≡ 1 = ap one_if on in omega arith),
       );
       kept = first.kept;
-      here = elim (cases_Bool (is_gone (state_at s.states held.page))) [
-        | inl on ↦ absurd (first.opened (shown.gone on))
-        | inr off ↦ off
-      ];
-      opened = first.opened;
+      here = shown.here;
       fixed = first.fixed;
       young = first.young;
       hand = first.hand;
@@ -155,7 +151,7 @@ shows-back v held end last s t first shown = record {
 
 -- a word of a page is read
 read-page : (v : View) (q found : ℕ) (s : Layout) (p : ℕ) → ShowsPage v s p → ShowsPage (having_read v q found) s p
-read-page v q found s p shown = record { content = shown.content; remembered = shown.remembered; gone = shown.gone }
+read-page v q found s p shown = record { content = shown.content; remembered = shown.remembered; here = shown.here }
 
 pub shows-read : (v : View) (q found end : ℕ) (s : Layout) → ShowsPages v None end s → ShowsPages (having_read v q found) None end s
 shows-read v q found end s shown = record {
@@ -171,7 +167,7 @@ abbrev box : ℕ → Bool → Homed → Held
 box page remembered homed = record { page = page; remembered = remembered; homed = homed }
 
 grips-page : (v : View) (q : ℕ) (b : Bool) (homed : Homed) (s : Layout) (p : ℕ) → ShowsPage v s p → ShowsPage (gripping v q b homed) s p
-grips-page v q b homed s p shown = record { content = shown.content; remembered = shown.remembered; gone = shown.gone }
+grips-page v q b homed s p shown = record { content = shown.content; remembered = shown.remembered; here = shown.here }
 
 grips-held : (v w : View) (p : ℕ) (b : Bool) (homed : Homed) (s : Layout) → w.about ≡ v.about → w.recorded ≡ v.recorded → IsOwnPage w p → ShowsPage v s p → Takes v p b homed → IsOwnPage v p
     → ShowsHeld (gripping w p b homed) (box p b homed) s
@@ -180,11 +176,7 @@ grips-held v w p b homed s same put own shown takes own_v = record {
   content = shown.content ∙ sym (takes.mine own_v);
   remembered = (λ is. takes.recorded (shown.remembered.0 is), λ on. shown.remembered.1 (takes.found on own_v));
   kept = λ lt. takes.recorded (subst (λ (l : List ℕ). 0 < one_if (opened_word v.about p == 2) + times p l) put (subst (λ (a : Key). 0 < one_if (opened_word a p == 2) + times p w.recorded) same lt));
-  opened = subst (λ (a : Key). opened_word a p ≢ 4) (sym same) takes.here;
-  here = elim (cases_Bool (is_gone (state_at s.states p))) [
-    | inl on ↦ absurd (takes.here (shown.gone on))
-    | inr off ↦ off
-  ];
+  here = shown.here;
   fixed = subst (λ a. IsContent a.opening p homed.page) (sym same) takes.fixed;
   young = λ y. takes.young (subst (λ a. RefersYoung a.opening p homed.page) same y);
   hand = record { page = p; remembered = b; frame = homed.frame; content = homed.page; counted = []; marked = []; looked = [] };
@@ -215,10 +207,10 @@ shows-taken v p end false homed s own takes shown =
     }
 
 -- what the space at the opening has of a cell of this one
-pub allocated-opened : (s o : Layout) (a : ℕ) → s ≡ record o { states = s.states; pages = s.pages } → IsAllocated s a → IsAllocated o a
+pub allocated-opened : (s o : Layout) (a : ℕ) → s ≡ record o { states = s.states; pages = s.pages; incoming = s.incoming } → IsAllocated s a → IsAllocated o a
 allocated-opened s o a same on = subst (λ (x : Layout). IsAllocated x a) same on
 
-same-superpages : (s o : Layout) → s ≡ record o { states = s.states; pages = s.pages } → superpages s ≡ superpages o
+same-superpages : (s o : Layout) → s ≡ record o { states = s.states; pages = s.pages; incoming = s.incoming } → superpages s ≡ superpages o
 same-superpages s o same = ap superpages same
 
 -- the words of a cell on the page in hand
@@ -244,7 +236,7 @@ module _ (v : View) (held : Held) (end : ℕ) (s : Layout) (cell : ℕ) (shown :
   }
 
 -- what may be held there is fixed
-named-fixed : (s o : Layout) (cell : ℕ) (w : Word) → s ≡ record o { states = s.states; pages = s.pages } → MayHold s cell w → NamesFixed o w
+named-fixed : (s o : Layout) (cell : ℕ) (w : Word) → s ≡ record o { states = s.states; pages = s.pages; incoming = s.incoming } → MayHold s cell w → NamesFixed o w
 named-fixed s o cell Nil same may = tt
 named-fixed s o cell (Num n) same may = tt
 named-fixed s o cell (Ref a) same may = elim (may a refl) [
@@ -253,7 +245,7 @@ named-fixed s o cell (Ref a) same may = elim (may a refl) [
 ]
 
 -- a word that refers to a nursery is held on a Remembered page alone
-young-remembered : (s o : Layout) (cell : ℕ) (w : Word) → IsLayout s → s ≡ record o { states = s.states; pages = s.pages } → MayHold s cell w → IsYoung o w → state_at s.states (page_of cell) ≡ Remembered
+young-remembered : (s o : Layout) (cell : ℕ) (w : Word) → IsLayout s → s ≡ record o { states = s.states; pages = s.pages; incoming = s.incoming } → MayHold s cell w → IsYoung o w → state_at s.states (page_of cell) ≡ Remembered
 young-remembered s o cell Nil l same may young = absurd young
 young-remembered s o cell (Num n) l same may young = absurd young
 young-remembered s o cell (Ref a) l same may young = elim (may a refl) [
@@ -316,7 +308,7 @@ module _ (v : View) (held : Held) (end : ℕ) (s : Layout) (cell index : ℕ) (w
   written-other p ne page = record {
     content = ap (λ (ps : List (List ℕ)). content_at ps p) pages-are ∙ get_or-set_other s.pages held.page p now [] ne ∙ page.content;
     remembered = page.remembered;
-    gone = page.gone;
+    here = page.here;
   }
 
   pub shows-written : ShowsPages v (Some box') end t
@@ -331,7 +323,6 @@ module _ (v : View) (held : Held) (end : ℕ) (s : Layout) (cell index : ℕ) (w
       remembered = shown.in_hand.remembered;
       kept = shown.in_hand.kept;
       here = shown.in_hand.here;
-      opened = shown.in_hand.opened;
       fixed = fixed';
       young = young';
       hand = shown.in_hand.hand;
@@ -374,7 +365,7 @@ module _ (v : View) (held : Held) (end : ℕ) (s : Layout) (page : ℕ) (shown :
       record {
         content = was.content;
         remembered = (λ e. was.remembered.0 (sym same ∙ e), λ lt. same ∙ was.remembered.1 lt);
-        gone = λ e. was.gone (ap is_gone (sym same) ∙ e);
+        here = ap is_gone same ∙ was.here;
       }
 
   pub shows-remembered : ShowsPages v (Some (record held { remembered = true })) end marked
@@ -391,7 +382,6 @@ module _ (v : View) (held : Held) (end : ℕ) (s : Layout) (page : ℕ) (shown :
           remembered = (λ _. refl, λ _. here);
           kept = λ _. refl;
           here = ap is_gone here;
-          opened = shown.in_hand.opened;
           fixed = shown.in_hand.fixed;
           young = λ _. refl;
           hand = shown.in_hand.hand;

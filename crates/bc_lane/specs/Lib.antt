@@ -1,3 +1,5 @@
+-- A space with every page back
+pub mod Back
 -- What a lane's pages and root slots in a turn may belong to
 pub mod Shown
 -- Operations of a lane, one after another

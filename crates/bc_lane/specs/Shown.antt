@@ -1,6 +1,6 @@
 -- Which whole spaces the pages of a lane's domains may belong to in a turn, and which root words its slots. The pages lie at the
 -- table, but for one that may be in the lane's hands; what its seat knows of them is the seat's view.
-use Rattle.std.specs.Prelude.{◌≡◌, ◌≢◌, ◌↔◌, ℕ, ◌+◌, ◌*◌, ◌<◌, ◌≤◌, ◌==◌, true, false, List, [], length, Option, Some, None, slice_index}
+use Rattle.std.specs.Prelude.{◌≡◌, ◌↔◌, ℕ, ◌+◌, ◌*◌, ◌<◌, ◌≤◌, ◌==◌, true, false, List, [], length, Option, Some, None, slice_index}
 use Rattle.bc_bits.specs.Counting.{one_if}
 use Rattle.bc_pins.specs.declared.holding.Held.{Held}
 use Rattle.bc_pins.specs.declared.views.Hand.{Hand}
@@ -24,21 +24,20 @@ abbrev pub IsOwnPage : View → ℕ → Type 0
 IsOwnPage v page = 0 < has_role v (owner v.about page)
 
 -- what a space has of an own page at the table: the content that the seat records. It is Remembered exactly where it was so at the
--- opening or the seat put it back so. It is Gone only where it was at the opening
+-- opening or the seat put it back so. It isn't Gone
 pub record ShowsPage (v : View) (s : Layout) (page : ℕ) : Type 0 where
   pub content : content_at s.pages page ≡ record_of v page
   pub remembered : (state_at s.states page ≡ Remembered) ↔ (0 < one_if (opened_word v.about page == 2) + times page v.recorded)
-  pub gone : is_gone (state_at s.states page) ≡ true → opened_word v.about page ≡ 4
+  pub here : is_gone (state_at s.states page) ≡ false
 
 -- and of the page in the lane's hands: the content in its box, which may be put back. It is Remembered exactly where the lane has it
--- so, as it has it where it was so at the opening or the seat put it back so. It wasn't Gone at the opening
+-- so, as it has it where it was so at the opening or the seat put it back so. It isn't Gone
 pub record ShowsHeld (v : View) (held : Held) (s : Layout) : Type 0 where
   pub own : IsOwnPage v held.page
   pub content : content_at s.pages held.page ≡ held.homed.page
   pub remembered : (state_at s.states held.page ≡ Remembered) ↔ (held.remembered ≡ true)
   pub kept : 0 < one_if (opened_word v.about held.page == 2) + times held.page v.recorded → held.remembered ≡ true
   pub here : is_gone (state_at s.states held.page) ≡ false
-  pub opened : opened_word v.about held.page ≢ 4
   pub fixed : IsContent v.about.opening held.page held.homed.page
   pub young : RefersYoung v.about.opening held.page held.homed.page → held.remembered ≡ true
   pub hand : Hand
@@ -59,10 +58,10 @@ abbrev pub ShowsHand : View → Option Held → Layout → Type 0
 ShowsHand v None s = Unit {0}
 ShowsHand v (Some held) s = ShowsHeld v held s
 
--- the pages of the lane's domains may belong to this space: it is the one at the opening but for states and contents of pages,
--- and has of each own page what is at the table or in hand
+-- the pages of the lane's domains may belong to this space: it is the one at the opening but for states and contents of pages and for
+-- counters, and has of each own page what is at the table or in hand. No own page is Gone in it, whether or not it was so at the opening
 pub record ShowsPages (v : View) (hand : Option Held) (end : ℕ) (s : Layout) : Type 0 where
-  pub same : s ≡ record v.about.opening { states = s.states; pages = s.pages }
+  pub same : s ≡ record v.about.opening { states = s.states; pages = s.pages; incoming = s.incoming }
   pub end_is : end ≡ end_of s
   pub opening : IsLayout v.about.opening
   pub others : (page : ℕ) → IsOwnPage v page → (HasPage hand page → ⊥) → ShowsPage v s page

@@ -12,7 +12,8 @@
 // ever taken.
 //
 // The theorem is the contract of `LaneTurn::run`: whatever whole heap what the lane has belonged to, it then belongs to that heap
-// with the lane's operations done, one after another, and answered so (`LaneRan`); and each stop has its cause (`WhyStopped`). What
+// with the lane's operations done, one after another, and answered so (`LaneRan`); and each stop has its cause (`WhyStopped`). These
+// heaps have none of the lane's pages Gone: the first is the one that was opened, with every page back (`law_opening`). What
 // other lanes have isn't among the arguments, so lanes side by side are lanes one after another.
 #![tactic(auto)]
 
@@ -30,7 +31,7 @@ mod stations;
 mod stops;
 mod turns;
 
-pub use laws::law_opening;
+pub use laws::{law_all_back, law_opening};
 pub use stops::Stop;
 pub use turns::{LaneDone, LaneRoom, LaneRoots, LaneTurn};
 

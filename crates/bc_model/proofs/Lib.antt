@@ -42,3 +42,7 @@ pub mod Outcomes
 pub mod Changes
 -- Each operation takes at most one serial, and a give none.
 pub mod Serials
+-- A step from two states that are alike as far as slots lead
+mod Resembling
+-- Runs from two such states
+mod ResemblingRuns

@@ -38,3 +38,5 @@ pub mod Interleaving
 pub mod Making
 -- The root slots that an operation names.
 pub mod Slots
+-- States that are alike as far as slots lead
+pub mod Resembles

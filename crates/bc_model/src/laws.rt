@@ -15,7 +15,8 @@ ghost use Rattle.bc_model.specs.Need.{IsNeed, superpages_for};
 ghost use Rattle.bc_model.specs.Reached.{Reached};
 ghost use Rattle.bc_model.specs.Paths.{HasPath};
 ghost use Rattle.bc_model.specs.Refused.{IsChange, IsRefused, LacksDomain, LacksField, LacksObject, Tells, TellsKind};
-ghost use Rattle.bc_model.specs.Run.{after_cut, before, cut_lanes, replies_of, replies_of_cut, replies_to_lanes};
+ghost use Rattle.bc_model.specs.Resembles.{Resembles};
+ghost use Rattle.bc_model.specs.Run.{after_cut, after_phases, before, cut_lanes, replies_of, replies_of_cut, replies_of_phases, replies_to_lanes};
 ghost use Rattle.bc_model.specs.State.{field_of, given, holds, IsBorn, made_by, next_birth, Object, object_of, slot_of, State};
 ghost use Rattle.bc_model.specs.Step.{loaded, step};
 ghost use Rattle.bc_model.specs.Refusals.{IsRefusal};
@@ -268,4 +269,15 @@ pub fn law_one_need()
 /// Law: the superpages that objects of a class take hold them, and fewer don't.
 pub fn law_rounded_up()
     ensures { (c n k : ℕ) → IsClass c → (n ≤ k * cap c) ↔ (superpages_for c n ≤ k) }
+{}
+
+/// Law: states that are alike as far as their slots lead give one reply to each operation, and are alike after it. So they
+/// give the same replies to phases that fit the setup.
+pub fn law_resembling()
+    ensures step { (s t : State) → (k : ℕ) → (o : Op) → k < length s.made → IsState s → Resembles s t
+        → Resembles (step s k o).0 (step t k o).0 × ((step t k o).1 ≡ (step s k o).1) }
+    ensures phases { (setup : Setup) → (s t : State) → (phases : List PhaseLists) → IsState s → HasSizes setup s
+        → AllByRecursion (IsPhase setup) phases → Resembles s t
+        → Resembles (after_phases s phases) (after_phases t phases)
+        × (replies_of_phases t phases ≡ replies_of_phases s phases) }
 {}

@@ -24,57 +24,13 @@ use Rattle.bc_pins.specs.Steps.{Takes}
 use Rattle.bc_pins.specs.Calls.{view_of, HoldsPage}
 use Rattle.bc_pins.proofs.LogLemmas.{reads-append}
 use Rattle.bc_pins.proofs.VisitLemmas.{holds_taken, may_put_taken}
-use Rattle.bc_pager.specs.declared.walking.Kind.{Kind}
-use Rattle.bc_pager.specs.declared.walking.Kind.TheVariants.{Bare, Filled}
-use Rattle.bc_pager.specs.Looking.{MayStay, MayStayBare, MayStayFilled}
-use Rattle.bc_pager.specs.Taking.{HasLooked, HasTriedAll, IsTakenFor, HasTakenFirst, ReadNoPage, HasVacated, HasEvacuated}
+use Rattle.bc_evict.specs.declared.walking.Kind.{Kind}
+use Rattle.bc_evict.specs.declared.walking.Kind.TheVariants.{Bare, Filled}
+use Rattle.bc_evict.specs.Looking.{MayStay, MayStayBare, MayStayFilled}
+use Rattle.bc_evict.specs.Taking.{HasLooked, HasTriedAll, IsTakenFor, HasTakenFirst, ReadNoPage, HasVacated, HasEvacuated}
 use Rattle.bc_pager.specs.Answering.{TookAfter, HasDiscarded, HasEvicted, HasDeclined}
-use Rattle.bc_pager.proofs.LookLemmas.{found-first, found-last, found-as, stays-so, looked-then}
-
--- a page that was taken is in hand, and may be given up as its kind says
-module _ (k : Key) (kind : Kind) (u : View) (seat : Seat) (held : Held) (t : IsTakenFor k kind u seat held) (about : u.about ≡ k) where
-  takes : Takes u held.page held.remembered held.homed
-  takes = subst (λ (b : Bool). Takes u held.page b held.homed) (sym t.quiet) t.takes
-
-  in_hand : (hand : Hand) → (view_of seat).hand ≡ Some hand
-      → hand ≡ record { page = held.page; remembered = held.remembered; frame = held.homed.frame; content = held.homed.page; counted = []; marked = []; looked = [] }
-  in_hand hand has = same_Some hand _ (sym has ∙ ap (λ (w : View). w.hand) t.grasps.view)
-
-  about_now : (view_of seat).about ≡ k
-  about_now = ap (λ (w : View). w.about) t.grasps.view ∙ about
-
-  pub taken-held : HoldsPage seat held
-  taken-held = holds_taken u seat held.page held t.grasps (subst (λ (x : Key). held.page < pages_of x) (sym about) t.inside)
-
-  pub taken-rights : u.rights ≡ [] → (view_of seat).rights ≡ []
-  taken-rights none = ap (λ (w : View). w.rights) t.grasps.view ∙ none
-
-  pub taken-bare : IsBarePage k.opening held.page → MayDiscard seat held
-  taken-bare bare =
-      let was = may_put_taken u seat held.page held t.grasps takes in
-      record {
-        as_taken = record {
-          content = λ hand has. ap (λ (h : Hand). h.content) (in_hand hand has);
-          taken = λ hand has. ap (λ (h : Hand). h.remembered) (in_hand hand has) ∙ t.quiet;
-          quiet = t.quiet;
-        };
-        unmarked = record { counted = was.counted; marked = was.marked };
-        bare = subst (λ (x : Key). IsBarePage x.opening held.page) (sym about_now) bare;
-      }
-
-  pub taken-filled : HasCell k.opening held.page → MayBookmark seat held
-  taken-filled there = may-bookmark u seat held.page held t.grasps takes t.quiet (subst (λ (x : Key). HasCell x.opening held.page) (sym about) there)
-
--- what was read of no page
-no_more : (a b : List ℕ) → a ++ b ≡ b → a ≡ []
-no_more [] b e = refl
-no_more (x ∷ a) b e = let size = ap length e in let sum = length-append (x ∷ a) b in absurd (omega arith)
-
-none_later : (i : ℕ) (later l : List (ℕ × ℕ)) → reads_of i (later ++ l) ≡ reads_of i l → reads_of i later ≡ []
-none_later i later l e = no_more (reads_of i later) (reads_of i l) (sym (reads-append i later l) ∙ e)
-
-none_both : (i : ℕ) (a b : List (ℕ × ℕ)) → reads_of i a ≡ [] → reads_of i b ≡ [] → reads_of i (a ++ b) ≡ []
-none_both i a b x y = reads-append i a b ∙ ap (λ (l : List ℕ). l ++ reads_of i b) x ∙ y
+use Rattle.bc_evict.proofs.LookLemmas.{found-first, found-last, found-as, stays-so, looked-then, none_later, none_both}
+use Rattle.bc_evict.proofs.VictimLemmas.{taken-held, taken-rights, taken-bare, taken-filled}
 
 -- frames were given back: no page's word was read
 given_reads : (k : Key) (v w : View) (frame : ℕ) → v.about ≡ k → HasGiven v frame w → ReadNoPage k v w
@@ -123,6 +79,8 @@ evacuated k v b u w hand held frame about none marked view is g =
     let about_b : b.about ≡ k = ap (λ (x : View). x.about) marked.same ∙ about in
     let reads = given_reads k u w frame (ap (λ (x : View). x.about) view ∙ about_b) g in
     let bits : w.bookmarked ≡ b.bookmarked = ap (λ (x : View). x.bookmarked) g.same ∙ ap (λ (x : View). x.bookmarked) view in
+    let known : w.known ≡ b.known = ap (λ (x : View). x.known) g.same ∙ ap (λ (x : View). x.known) view in
+    let won : w.won ≡ b.won = ap (λ (x : View). x.won) g.same ∙ ap (λ (x : View). x.won) view in
     record {
       reads = reads_then k v b w (bookmarked_reads k v b about marked.reads)
           (record { later = reads.later; read = reads.read ∙ ap (λ (x : View). reads.later ++ x.read) view; none = reads.none });
@@ -130,8 +88,11 @@ evacuated k v b u w hand held frame about none marked view is g =
           ∙ ap (λ (l : List ℕ). record u { rights = l; read = w.read }) gone
           ∙ ap (λ (x : View). record x { rights = []; read = w.read }) view
           ∙ ap (λ (x : View). record x { hand = None; left = held.page ∷ x.left; rights = []; read = w.read }) marked.same
-          ∙ ap (λ (l : List ℕ). record v { hand = None; left = held.page ∷ v.left; bookmarked = b.bookmarked; rights = l; read = w.read }) (sym none)
-          ∙ ap (λ (l : List (ℕ × ℕ × ℕ)). record v { hand = None; left = held.page ∷ v.left; bookmarked = l; read = w.read }) (sym bits);
+          ∙ ap (λ (l : List ℕ). record v { hand = None; left = held.page ∷ v.left; bookmarked = b.bookmarked; known = b.known; won = b.won; rights = l; read = w.read }) (sym none)
+          ∙ ap (λ (l : List (ℕ × ℕ × ℕ)). record v { hand = None; left = held.page ∷ v.left; bookmarked = l; known = b.known; won = b.won; read = w.read }) (sym bits)
+          ∙ ap (λ (l : List (ℕ × ℕ)). record v { hand = None; left = held.page ∷ v.left; bookmarked = w.bookmarked; known = l; won = b.won; read = w.read }) (sym known)
+          ∙ ap (λ (l : List (ℕ × ℕ)). record v { hand = None; left = held.page ∷ v.left; bookmarked = w.bookmarked; known = w.known; won = l; read = w.read }) (sym won);
+      unmarked = λ turn. let was = marked.unmarked (ap (λ (x : Key). x.lanes) about ∙ turn) in (known ∙ was.0, won ∙ was.1);
     }
 
 -- what was read when the page was taken, and then given up
@@ -229,10 +190,10 @@ module _ (k : Key) (behind : (q : ℕ) → pages_of k ≤ q → opened_state k q
   has-evicted v u hint seat held w nothing one f d =
       let x = f.ready in
       let all = looked-then k v u x one.looks f.looks one.looked f.looked in
-      let full : w ≡ record v { hand = None; left = held.page ∷ v.left; bookmarked = w.bookmarked; read = w.read; seen = x.seen; gone = x.gone; busy = x.busy } =
+      let full : w ≡ record v { hand = None; left = held.page ∷ v.left; bookmarked = w.bookmarked; known = w.known; won = w.won; read = w.read; seen = x.seen; gone = x.gone; busy = x.busy } =
       d.view
-      ∙ ap (λ (y : View). record y { hand = None; left = held.page ∷ y.left; bookmarked = w.bookmarked; read = w.read }) f.taken.grasps.view
-      ∙ ap (λ (y : View). record y { hand = None; left = held.page ∷ y.left; bookmarked = w.bookmarked; read = w.read }) all.view in
+      ∙ ap (λ (y : View). record y { hand = None; left = held.page ∷ y.left; bookmarked = w.bookmarked; known = w.known; won = w.won; read = w.read }) f.taken.grasps.view
+      ∙ ap (λ (y : View). record y { hand = None; left = held.page ∷ y.left; bookmarked = w.bookmarked; known = w.known; won = w.won; read = w.read }) all.view in
       let seen : w.seen ≡ x.seen = ap (λ (y : View). y.seen) full in
       let gone : w.gone ≡ x.gone = ap (λ (y : View). y.gone) full in
       let busy : w.busy ≡ x.busy = ap (λ (y : View). y.busy) full in
@@ -249,8 +210,13 @@ module _ (k : Key) (behind : (q : ℕ) → pages_of k ≤ q → opened_state k q
             inl (near, found-first f.looks one.looks q MayStayFilled (f.before q near there comes));
         took = took_after k Filled v x seat held w (f.looks ++ one.looks) all f.taken d.reads;
         view = full
-            ∙ ap (λ (h : Option Hand). record v { hand = h; left = held.page ∷ v.left; bookmarked = w.bookmarked; read = w.read; seen = x.seen; gone = x.gone; busy = x.busy }) (sym nothing)
-            ∙ ap (λ (l : List ℕ). record v { left = held.page ∷ v.left; bookmarked = w.bookmarked; read = w.read; seen = l; gone = x.gone; busy = x.busy }) (sym seen)
-            ∙ ap (λ (l : List ℕ). record v { left = held.page ∷ v.left; bookmarked = w.bookmarked; read = w.read; seen = w.seen; gone = l; busy = x.busy }) (sym gone)
-            ∙ ap (λ (l : List ℕ). record v { left = held.page ∷ v.left; bookmarked = w.bookmarked; read = w.read; seen = w.seen; gone = w.gone; busy = l }) (sym busy);
+            ∙ ap (λ (h : Option Hand). record v { hand = h; left = held.page ∷ v.left; bookmarked = w.bookmarked; known = w.known; won = w.won; read = w.read; seen = x.seen; gone = x.gone; busy = x.busy }) (sym nothing)
+            ∙ ap (λ (l : List ℕ). record v { left = held.page ∷ v.left; bookmarked = w.bookmarked; known = w.known; won = w.won; read = w.read; seen = l; gone = x.gone; busy = x.busy }) (sym seen)
+            ∙ ap (λ (l : List ℕ). record v { left = held.page ∷ v.left; bookmarked = w.bookmarked; known = w.known; won = w.won; read = w.read; seen = w.seen; gone = l; busy = x.busy }) (sym gone)
+            ∙ ap (λ (l : List ℕ). record v { left = held.page ∷ v.left; bookmarked = w.bookmarked; known = w.known; won = w.won; read = w.read; seen = w.seen; gone = w.gone; busy = l }) (sym busy);
+        unmarked = λ turn.
+            let was = d.unmarked turn in (
+              was.0 ∙ ap (λ (y : View). y.known) f.taken.grasps.view ∙ ap (λ (y : View). y.known) all.view,
+              was.1 ∙ ap (λ (y : View). y.won) f.taken.grasps.view ∙ ap (λ (y : View). y.won) all.view,
+            );
       }

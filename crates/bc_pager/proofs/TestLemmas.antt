@@ -28,7 +28,7 @@ use Rattle.bc_pins.specs.Totals.{times}
 use Rattle.bc_pins.specs.Contents.{IsContent, RefersYoung, IsYoung, field_bits, objects_in}
 use Rattle.bc_pins.specs.Views.{has_role}
 use Rattle.bc_pins.specs.Steps.{Takes}
-use Rattle.bc_pins.specs.Opening.{IsOpenable}
+use Rattle.bc_pins.specs.Opening.{IsOpenable, IsMarkable}
 use Rattle.bc_pins.specs.Calls.{key_of, view_of, IsAt, Grasps, MayPut, tried}
 use Rattle.bc_pins.proofs.TallyLemmas.{target_in}
 use Rattle.bc_pins.proofs.TotalLemmas.{one_same}
@@ -63,15 +63,28 @@ sound-openable s sound promised = record {
       absurd (omega arith);
 }
 
--- one superpage without a promised cell
-pub none-promised : (s : Layout) (ws : List ℕ) → IsLayout s → superpages s ≡ 1 → ws ≡ set_of s.promised 0 → none_set ws ≡ true → (a : ℕ) → is_cell s.classes s.promised a ≡ false
-none-promised s ws l one is none a =
+-- one superpage without a cell in a set
+none-in : (s : Layout) (sets : List (List ℕ)) (ws : List ℕ) → length sets ≡ superpages s → superpages s ≡ 1 → ws ≡ set_of sets 0 → none_set ws ≡ true → (a : ℕ) → is_cell s.classes sets a ≡ false
+none-in s sets ws long one is none a =
     let n : ℕ = cell_number (slice_index s.classes (superpage_of a)) a in
-    let off : has (set_of s.promised (superpage_of a)) n ≡ false = elim (cases_eq (superpage_of a) 0) [
-      | inl e ↦ ap (λ (q : ℕ). has (set_of s.promised q) n) e ∙ ap (λ (x : List ℕ). has x n) (sym is) ∙ has-none_set ws n none
-      | inr ne ↦ ap (λ (x : List ℕ). has x n) (get_or_past s.promised (superpage_of a) [] (let long = l.long.promised in omega arith)) ∙ has-beyond [] n (omega arith)
+    let off : has (set_of sets (superpage_of a)) n ≡ false = elim (cases_eq (superpage_of a) 0) [
+      | inl e ↦ ap (λ (q : ℕ). has (set_of sets q) n) e ∙ ap (λ (x : List ℕ). has x n) (sym is) ∙ has-none_set ws n none
+      | inr ne ↦ ap (λ (x : List ℕ). has x n) (get_or_past sets (superpage_of a) [] (omega arith)) ∙ has-beyond [] n (omega arith)
     ] in
     and_left _ _ off
+
+pub none-promised : (s : Layout) (ws : List ℕ) → IsLayout s → superpages s ≡ 1 → ws ≡ set_of s.promised 0 → none_set ws ≡ true → (a : ℕ) → is_cell s.classes s.promised a ≡ false
+none-promised s ws l one is none = none-in s s.promised ws l.long.promised one is none
+
+-- a space in which nothing is marked or finished is one over which a mark turn may begin
+pub none-marked : (s : Layout) (marks finished : List ℕ) → IsLayout s → superpages s ≡ 1 → marks ≡ set_of s.marks 0 → finished ≡ set_of s.finished 0 → none_set marks ≡ true → none_set finished ≡ true → IsMarkable s
+none-marked s marks finished l one marks_are finished_are unmarked unfinished = record {
+  cells = λ a on. clash (sym (none-in s s.marks marks l.long.marks one marks_are unmarked a) ∙ on);
+  closed = λ a b on leads. clash (sym (none-in s s.finished finished l.long.finished one finished_are unfinished a) ∙ on);
+}
+  where
+    clash : {A : Type 0} → false ≡ true → A
+    clash e = absurd cc
 
 -- a field that became a number refers to no nursery
 pub young-written : (s : Layout) (page o bits n : ℕ) (c : List ℕ) → o < length c → word_of_bits bits ≡ Num n → RefersYoung s page (set c o bits) → RefersYoung s page c

@@ -1,6 +1,6 @@
 -- What an answer to a notice is, by what the pager did and read from the notice to the answer. The views are the pager's, which has
 -- no page in hand before and after.
-use Rattle.std.specs.Prelude.{◌≡◌, ℕ, ◌<◌, ◌==◌, List, [], ◌∷◌, ◌++◌}
+use Rattle.std.specs.Prelude.{◌≡◌, ℕ, ◌<◌, ◌==◌, true, List, [], ◌∷◌, ◌++◌}
 use Rattle.bc_bits.specs.Counting.{one_if}
 use Rattle.bc_bookmarks.specs.Targets.{HasCell}
 use Rattle.bc_pins.specs.declared.views.View.{View}
@@ -9,7 +9,7 @@ use Rattle.bc_pins.specs.Contents.{IsBarePage}
 use Rattle.bc_pins.specs.Views.{reads_at}
 use Rattle.bc_pager.specs.declared.answers.Answer.{Answer}
 use Rattle.bc_pager.specs.declared.answers.Answer.TheVariants.{Discarded, Evicted, Declined}
-use Rattle.bc_pager.specs.Looking.{MayStay, MayStayBare, MayStayFilled, TookNone, IsAccountedFor, all_pages, ComesBefore}
+use Rattle.bc_evict.specs.Looking.{MayStay, MayStayBare, MayStayFilled, TookNone, IsAccountedFor, all_pages, ComesBefore}
 
 -- of page words first the looks were made, with no page in hand, and then this page was taken from Home; after that none was read
 pub record TookAfter (k : Key) (v : View) (looks : List (ℕ × ℕ)) (page : ℕ) (w : View) : Type 0 where
@@ -36,7 +36,9 @@ pub record HasEvicted (k : Key) (v : View) (hint page : ℕ) (w : View) : Type 0
   pub spare : (q : ℕ) → q < all_pages k → IsBarePage k.opening q → IsAccountedFor k looks q MayStayBare
   pub before : (q : ℕ) → q < all_pages k → HasCell k.opening q → ComesBefore k hint q page → IsAccountedFor k looks q MayStayFilled
   pub took : TookAfter k v looks page w
-  pub view : w ≡ record v { left = page ∷ v.left; bookmarked = w.bookmarked; read = w.read; seen = w.seen; gone = w.gone; busy = w.busy }
+  pub view : w ≡ record v { left = page ∷ v.left; bookmarked = w.bookmarked; known = w.known; won = w.won; read = w.read; seen = w.seen; gone = w.gone; busy = w.busy }
+  -- in a turn of lanes marks are as they were
+  pub unmarked : k.lanes ≡ true → (w.known ≡ v.known) × (w.won ≡ v.won)
 
 -- each page was looked at and was Absent, Held, Remembered or Gone. Nothing was taken
 pub record HasDeclined (k : Key) (v w : View) : Type 0 where

@@ -3,7 +3,7 @@
 ghost use Rattle.std.specs.Prelude.{◌≡◌, []};
 ghost use Rattle.bc_evict.specs.Evicting.{MayBookmark, MayDiscard};
 ghost use Rattle.bc_pins.specs.Calls.{key_of, view_of, IsAt, IsSameSeat, IsFree, HoldsPage};
-ghost use Rattle.bc_pager.specs.Taking.{HasVacated, HasEvacuated};
+ghost use Rattle.bc_evict.specs.Taking.{HasVacated, HasEvacuated};
 
 use bc_evict::{bookmark, discard, give_frame, relinquish};
 use bc_pins::{Held, Pins, Seat};

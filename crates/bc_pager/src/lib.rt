@@ -29,7 +29,6 @@ mod answers;
 mod leaving;
 mod notices;
 mod serving;
-mod walking;
 
 pub use answers::{Answer, Answers};
 pub use notices::{ListNotices, Notice, Notices};

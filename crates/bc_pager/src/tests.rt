@@ -5,9 +5,11 @@ ghost use Rattle.bc_pins.specs.Key.{pages_of};
 ghost use Rattle.bc_pins.specs.Calls.{key_of, view_of, IsAt, IsSameSeat, IsFree};
 
 mod beside;
+mod coming_back;
 mod evicting;
 mod furnished;
 mod giving_up;
+mod marking;
 mod telling;
 
 use super::*;

@@ -48,6 +48,7 @@ dealt_is_back id k role seat d =
       hand = ap (λ (v : View). v.hand) view;
       slots = ap (λ (m : Mine). m.1) d.me;
       rights = ap (λ (v : View). v.rights) view;
+      opens = (let none = ap (λ (v : View). length v.fetched) view in let were = d.opens in omega arith);
       tidy = subst IsTidy (sym view) (λ p _. refl);
     }
 

@@ -14,11 +14,13 @@ use Rattle.bc_pins.specs.Key.{Key, pages_of, counter_at, owner, frame_slot, stor
 use Rattle.bc_pins.specs.Totals.{total, times, sum_to}
 use Rattle.bc_pins.specs.Contents.{IsContent, RefersYoung}
 use Rattle.bc_pins.specs.Views.{grips, grips_remembered, frame_in_hand, counted_for, sets_bit, has_role, withholds, reads_at, reads_as, opened_content, record_of}
-use Rattle.bc_pins.specs.Facts.{Table, Slot, word, Lies, Summary, Frames, frame_lodged, points, adds_to, Bits, IsIdle, page_word, remembered_now, IsBitOfTarget}
+use Rattle.bc_pins.specs.Facts.{Table, Slot, word, Lies, Summary, Frames, frame_lodged, points, adds_to, Bits, IsIdle, page_word, remembered_now, IsBitOfTarget, fetched_ever}
+use Rattle.bc_pins.specs.Tracing.{tells}
 use Rattle.bc_pins.specs.Rule.{Rule}
 use Rattle.bc_pins.specs.Opening.{ClosesPage, HasClosed}
 use Rattle.bc_pins.proofs.TotalLemmas.{total_at, total_only, total_two, one_same}
 use Rattle.bc_pins.proofs.WithholdLemmas.{foreign_none}
+use Rattle.bc_pins.proofs.TracingLemmas.{KeepsMarks, tracing_kept}
 use Rattle.bc_pins.proofs.ReadLemmas.{remembered_word}
 use Rattle.bc_pins.proofs.JoinLemmas.{look_none}
 use Rattle.bc_pins.proofs.SumLemmas.{sum_same}
@@ -69,8 +71,6 @@ module _ (k : Key) (s : Table) (r : Rule k s) (id : ℕ) (v : View) (at : get_el
   idle_withholds p u i =
       let a = foreign_none k p u i.hand in
       let b : times p u.returned ≡ 0 = ap (times p) i.returned in
-      let c : times p u.left ≡ 0 = ap (times p) i.left in
-      let d : times p u.emptied ≡ 0 = ap (times p) i.emptied in
       omega arith
 
   not_held : (p : ℕ) → p < pages_of k → page_word s p ≢ 3
@@ -117,16 +117,21 @@ module _ (k : Key) (s : Table) (r : Rule k s) (id : ℕ) (v : View) (at : get_el
   only_read : (p n : ℕ) → total (reads_as p n) s.views ≡ reads_as p n v
   only_read p n = only (reads_as p n) (λ u i. ap (λ (l : List (ℕ × ℕ)). times n (reads_at p l)) i.read)
 
-  held_closed : (p : ℕ) → p < pages_of k → 0 < reads_as p 3 v → 0 < reads_as p 1 v + reads_as p 2 v
+  only_fetched : (p : ℕ) → fetched_ever s p ≡ times p v.fetched
+  only_fetched p = only (λ u. times p u.fetched) (λ u i. ap (times p) i.fetched)
+
+  held_closed : (p : ℕ) → p < pages_of k → 0 < reads_as p 3 v → 0 < reads_as p 1 v + reads_as p 2 v + times p v.fetched
   held_closed p near lt =
       let one = only_read p 1 in
       let two = only_read p 2 in
       let three = only_read p 3 in
+      let got = only_fetched p in
       let a = (r.standing p near).held (omega arith) in
       omega arith
 
-  away_closed : (p : ℕ) → p < pages_of k → 0 < reads_as p 0 v + reads_as p 2 v + reads_as p 4 v → (page_word s p ≡ 0) ⊎ ((page_word s p ≡ 4) ⊎ (0 < remembered_now last p))
+  away_closed : (p : ℕ) → p < pages_of k → 0 < reads_as p 0 v + reads_as p 2 v + reads_as p 4 v → (page_word s p ≡ 0) ⊎ ((page_word s p ≡ 4) ⊎ (0 < remembered_now last p + fetched_ever last p))
   away_closed p near lt =
+      let got = only_fetched p in
       let none_is = only_read p 0 in
       let two = only_read p 2 in
       let four = only_read p 4 in
@@ -176,7 +181,7 @@ module _ (k : Key) (s : Table) (r : Rule k s) (id : ℕ) (v : View) (at : get_el
       let views = only (λ u. frame_in_hand f u.hand + times f u.rights) (λ u i. let a : frame_in_hand f u.hand ≡ 0 = ap (frame_in_hand f) i.hand in let b : times f u.rights ≡ 0 = ap (times f) i.rights in omega arith) in
       let homes : total (frame_lodged f) s.homes ≡ total (frame_lodged f) (map some xs) = ap (total (frame_lodged f)) homes_are in
       let used = old.used in
-      record { used = omega arith; free = old.free; past = old.past }
+      record { used = omega arith; past = old.past }
 
   counters_closed : (q : ℕ) → q < k.supers → word s (counter_at k q) ≡ sum_to (λ p. if page_word s p == 4 then points k p (record_of v p) q else 0) (pages_of k)
   counters_closed q lt = r.counters q lt ∙ sum_same (adds_to k s r.rec q) (λ p. if page_word s p == 4 then points k p (record_of v p) q else 0) (pages_of k) (λ p _.
@@ -191,6 +196,16 @@ module _ (k : Key) (s : Table) (r : Rule k s) (id : ℕ) (v : View) (at : get_el
       let set_by = only (λ u. sets_bit w b u.bookmarked) (λ u i. ap (sets_bit w b) i.bookmarked) in
       record { kept = λ lt. old.kept (omega arith); only = λ lt. let a = old.only lt in omega arith; cell = old.cell }
 
+  last_kept : KeepsMarks k s last
+  last_kept = record {
+    marks = λ w lt. refl;
+    ends = λ w lt. refl;
+    won = λ w b. let a = only (λ u. tells w b u.won) (λ u i. ap (tells w b) i.won) in omega arith;
+    finished = λ w b. let a = only (λ u. tells w b u.finished) (λ u i. ap (tells w b) i.finished) in omega arith;
+    set = λ w b lt one. one;
+    pages = λ p lt four. inl four;
+  }
+
   pub closed : HasClosed k v s.words xs
   closed = record {
     words_long = r.words;
@@ -199,15 +214,15 @@ module _ (k : Key) (s : Table) (r : Rule k s) (id : ℕ) (v : View) (at : get_el
     frames = frames_closed;
     counters = counters_closed;
     bits = bits_closed;
-    still = record { marks = r.still.marks; finished = r.still.finished };
+    tracing = λ turn. tracing_kept k s last last_kept (r.tracing turn);
     marked = λ p lt. elim ((r.seats id v at).marking.whose p lt) [
       | inl held ↦ let z : grips p v.hand ≡ 0 = ap (grips p) nothing in absurd (omega arith)
       | inr gone ↦ gone
     ];
     targets = record {
-      each = λ p w b few on. let was = (r.seats id v at).targets.each p w b few on in (was.0, subst (λ (c : List ℕ). IsBitOfTarget k p c w b) (record_is p) was.1);
+      each = λ p w b few on. let was = (r.seats id v at).targets.each p w b few on in (was.0, λ z. subst (λ (c : List ℕ). IsBitOfTarget k p c w b) (record_is p) (was.1 (let a = only_fetched p in omega arith)));
     };
-    unfetched = (r.seats id v at).seated.unfetched;
+    unfetched = λ turn p. let all = all_roles (owner k p) in let none = r.unheld turn p in (r.seats id v at).records.unfetched p (omega arith);
     gone = λ p lt. let saw = (r.seats id v at).saw.gone p lt in (saw.0, saw.2);
   }
 

@@ -1,6 +1,23 @@
 -- What closing a table gives.
-use Rattle.std.proofs.Common.{◌≡◌, ℕ, ◌+◌, ◌-◌, ◌*◌, ◌/◌, ◌%◌, ◌^◌, ◌<◌, ◌≤◌, ◌≢◌, ◌==◌, ◌⊎◌, List, [], length, map, get_or, slice_index, min, Option, None, refl, ap, sym, subst, ◌∙◌, arith, inl, inr, true, false, Bool, ◌&&◌, ◌∷◌, if◌then◌else◌}
-use Rattle.std.proofs.lemmas.Bool.{cases_lt, eqb-true, eq-eqb, and_from}
+use Rattle.bc_reach.specs.Reach.{Reach}
+use Rattle.bc_reach.proofs.Reaching.{Reach-mono}
+use Rattle.bc_superpages.specs.Memory.{memory, cell_on}
+use Rattle.bc_superpages.specs.Collecting.{is_marked, is_finished}
+use Rattle.bc_superpages.specs.Paging.{is_bookmarked}
+use Rattle.bc_superpages.proofs.CellLemmas.{is_cell-bit, is_cell-start}
+use Rattle.bc_superpages.proofs.TagLemmas.{taken-few}
+use Rattle.bc_bookmarks.specs.Targets.{is_target}
+use Rattle.bc_bookmarks.proofs.TargetLemmas.{target-refers}
+use Rattle.bc_pins.specs.Tracing.{RefersToCell, word_of, place_of as bit_place, HasMarkBit, IsFinishedIn, StartsMarks, LeadsHere, WentGone, Tracing}
+use Rattle.bc_pins.specs.Opening.{IsMarkable}
+use Rattle.bc_pins.specs.Closing.{ClosedMarks, LaidSpace}
+use Rattle.bc_pins.proofs.TracingLemmas.{there_is, cell_is, is_set}
+use Rattle.bc_pins.proofs.ShadeSteps.{same_address}
+use Rattle.bc_pins.proofs.MarkSteps.{target_cell}
+use Rattle.bc_pins.proofs.SpaceLemmas.{cell_near}
+use Rattle.std.proofs.Common.{◌≡◌, ℕ, ◌+◌, ◌-◌, ◌*◌, ◌/◌, ◌%◌, ◌^◌, ◌<◌, ◌≤◌, ◌≢◌, ◌==◌, ◌⊎◌, List, [], length, map, get_or, slice_index, min, Option, Some, None, refl, ap, sym, subst, ◌∙◌, arith, inl, inr, true, false, Bool, ◌&&◌, ◌∷◌, if◌then◌else◌}
+use mathlib.Core.Option as maybe
+use Rattle.std.proofs.lemmas.Bool.{cases_lt, cases_Bool, eqb-true, eq-eqb, and_from}
 use Rattle.std.proofs.lemmas.List.{length-map, get_or-map, get_or_past}
 use Rattle.atomic_table.specs.Table.{Final, Seen}
 use Rattle.atomic_table.specs.declared.shared.Seat.{Seat as Worker}
@@ -18,14 +35,14 @@ use Rattle.bc_superpages.specs.Layout.{Layout, superpages, set_of, content_at, i
 use Rattle.std.specs.Int.{bit_at}
 use Rattle.bc_bits.specs.Bits.{has}
 use Rattle.bc_frames.specs.Pool.{free_count}
-use Rattle.bc_word.specs.Addresses.{superpage_of, cell_number}
+use Rattle.bc_word.specs.Addresses.{superpage_of, page_of, offset_of, cell_number}
 use Rattle.bc_superpages.specs.Calls.{class_at}
 use Rattle.bc_superpages.specs.Headers.{unused_header}
 use Rattle.bc_superpages.proofs.LayoutLemmas.{header_of-layout}
 use Rattle.bc_bookmarks.specs.Summarised.{IsSummarised}
-use Rattle.bc_pins.specs.Facts.{bookmark_bit, cell_bit, HasBookmarkBit, IsBitOfTarget}
+use Rattle.bc_pins.specs.Facts.{bookmark_bit, opened_bit, cell_bit, HasBookmarkBit, IsBitOfTarget, IsUnheld, Table}
 use Rattle.bc_pins.specs.Opening.{IsOpenable}
-use Rattle.bc_superpages.specs.LayoutAt.{state_at, header_of}
+use Rattle.bc_superpages.specs.LayoutAt.{state_at, header_of, IsAllocated}
 use Rattle.bc_superpages.specs.Contents.{contents}
 use Rattle.bc_superpages.specs.Parts.{state_in, AreParts, parts_layout}
 use Rattle.bc_superpages.proofs.HandLemmas.{state-header}
@@ -34,17 +51,17 @@ use Rattle.bc_pins.specs.declared.views.Lodged.{Lodged}
 use Rattle.bc_pins.specs.declared.views.Lodged.TheVariants.{Nothing}
 use Rattle.bc_pins.specs.declared.views.View.{View}
 use Rattle.bc_pins.specs.declared.pins.Seat.{Seat}
-use Rattle.bc_pins.specs.Key.{Key, pages_of, owner, frame_at, page_at, home_slot}
-use Rattle.bc_pins.specs.Contents.{IsContent, RefersYoung}
+use Rattle.bc_pins.specs.Key.{Key, pages_of, owner, frame_at, page_at, mark_at, finished_at, home_slot}
+use Rattle.bc_pins.specs.Contents.{IsContent, RefersYoung, objects_in}
 use Rattle.bc_pins.specs.Totals.{total, times}
-use Rattle.bc_pins.specs.Views.{grips_remembered, state_word, opened_state, opened_content, record_of, reads_as, sets_bit, sets_for}
+use Rattle.bc_pins.specs.Views.{grips_remembered, state_word, opened_state, opened_word, opened_content, record_of, reads_as, sets_bit, sets_for}
 use Rattle.bc_pins.specs.Rule.{Rule}
 use Rattle.bc_pins.specs.Lodging.{Replaced, box_of, place_of}
 use Rattle.bc_pins.specs.Opening.{HasClosed, IsRest}
 use Rattle.bc_pins.specs.Resting.{RestView}
 use Rattle.bc_pins.specs.Calls.{view_of}
-use Rattle.bc_pins.specs.Closing.{Gathered, StatesSet, SummariesSet, HeadersSet, PoolSet, opens_of, ClosedState, ClosedBit, Closed}
-use Rattle.bc_pins.proofs.TallyLemmas.{GoneBy, gone_word, tally, none_behind, target_in, set_bit, bit_set, bit_in, in_bit, bit_few, few_bits, number_few}
+use Rattle.bc_pins.specs.Closing.{Gathered, StatesSet, SummariesSet, HeadersSet, PoolSet, fetches_of, ClosedState, ClosedBit, Closed, IsOfPageLeft}
+use Rattle.bc_pins.proofs.TallyLemmas.{objects_at, GoneBy, gone_word, tally, none_behind, target_in, set_bit, bit_set, bit_in, in_bit, bit_few, few_bits, number_few}
 use Rattle.bc_pins.proofs.TotalLemmas.{one_is, total_in}
 use Rattle.bc_pins.proofs.WithholdLemmas.{foreign_none}
 use Rattle.bc_pins.proofs.ReadLemmas.{lies_few}
@@ -161,17 +178,19 @@ module _ (id : TableId) (k : Key) (all : List Seat) (root : Worker Lodged View) 
   word_is : (p : ℕ) → p < pages_of k → state_word (state_at (map (λ (h : Header). h.pages) headers) p) ≡ get_or words (page_at p) 0
   word_is p lt = let a = e.rest.within in ap state_word (state_new p (omega arith)) ∙ e.states_are.near p lt
 
-  held_once : (p : ℕ) → p < pages_of k → 0 < total (λ (s : Seat). reads_as p 3 (view_of s)) all → 0 < total (λ (s : Seat). reads_as p 1 (view_of s)) all + total (λ (s : Seat). reads_as p 2 (view_of s)) all
+  held_once : (p : ℕ) → p < pages_of k → 0 < total (λ (s : Seat). reads_as p 3 (view_of s)) all → 0 < total (λ (s : Seat). reads_as p 1 (view_of s)) all + total (λ (s : Seat). reads_as p 2 (view_of s)) all + total (λ (s : Seat). times p (view_of s).fetched) all
   held_once p near lt =
       let one = e.gathered.read p 1 in
       let two = e.gathered.read p 2 in
       let three = e.gathered.read p 3 in
+      let got = e.gathered.fetched p in
       let a = (e.closed.pages p near).standing.held (omega arith) in
       omega arith
 
   away_once : (p : ℕ) → p < pages_of k → 0 < total (λ (s : Seat). reads_as p 0 (view_of s)) all + total (λ (s : Seat). reads_as p 2 (view_of s)) all + total (λ (s : Seat). reads_as p 4 (view_of s)) all
-      → state_at (map (λ (h : Header). h.pages) headers) p ≢ state.Home
-  away_once p near lt home =
+      → total (λ (s : Seat). times p (view_of s).fetched) all ≡ 0 → state_at (map (λ (h : Header). h.pages) headers) p ≢ state.Home
+  away_once p near lt none_fetched home =
+      let got = e.gathered.fetched p in
       let none_is = e.gathered.read p 0 in
       let two = e.gathered.read p 2 in
       let four = e.gathered.read p 4 in
@@ -359,13 +378,15 @@ module _ (id : TableId) (k : Key) (all : List Seat) (root : Worker Lodged View) 
             let left = e.closed.marked entry.0 (sets_marked entry.0 w b v.bookmarked entry.1) in
             let l = e.gathered.left entry.0 in
             let standing = (e.closed.pages entry.0 target.0).standing.gone in
-            let none_fetched : times entry.0 v.fetched ≡ 0 = ap (times entry.0) e.closed.unfetched in
+            let got = e.gathered.fetched entry.0 in
             record {
               page = entry.0;
               inside = target.0;
               left = omega arith;
-              gone = word_gone _ (word_is entry.0 target.0 ∙ one_is (get_or words (page_at entry.0) 0) 4 (omega arith));
-              bit = subst (λ (c : List ℕ). IsBitOfTarget k entry.0 c w b) (sym (near entry.0 target.0)) target.1;
+              still = λ z. (
+                word_gone _ (word_is entry.0 target.0 ∙ one_is (get_or words (page_at entry.0) 0) 4 (omega arith)),
+                subst (λ (c : List ℕ). IsBitOfTarget k entry.0 c w b) (sym (near entry.0 target.0)) (target.1 (omega arith)),
+              );
             };
         only = λ on.
             let one = sym is ∙ in_bit (set_of (map (λ (h : Header). h.bookmarks) headers) (w / 16)) (w % 16) b few on in
@@ -373,7 +394,7 @@ module _ (id : TableId) (k : Key) (all : List Seat) (root : Worker Lodged View) 
             omega arith;
       }
 
-  pub ended_closed : (reads : ℕ) → reads ≡ min (k.opening.reads + opens_of all) (2 ^ 64 - 1) → Closed k all (made reads)
+  pub ended_closed : (reads : ℕ) → reads ≡ min (k.opening.reads + fetches_of all) (2 ^ 64 - 1) → Closed k all (made reads)
   ended_closed reads is = record {
     same = refl;
     reads = is;
@@ -395,6 +416,171 @@ module _ (id : TableId) (k : Key) (all : List Seat) (root : Worker Lodged View) 
     bits_behind = λ q le. behind_all q le;
     openable = λ o. still_openable k _ _ _ _ (free_count now) reads layout o behind fixed_now young_now (summarised_now reads o);
   }
+
+  -- marks and finished cells, in a mark turn
+  module _ (turn : k.lanes ≡ false) (unheld : IsUnheld k) (markable : IsMarkable k.opening) (reads : ℕ) (c : Closed k all (made reads)) (s : Layout) (kept_s : IsLayout s)
+      (same : s ≡ record (made reads) { marks = s.marks; finished = s.finished })
+      (marks_are : (w : ℕ) → w < 16 * k.supers → slice_index (set_of s.marks (w / 16)) (w % 16) ≡ get_or words (mark_at k w) 0)
+      (finished_are : (w : ℕ) → w < 16 * k.supers → slice_index (set_of s.finished (w / 16)) (w % 16) ≡ get_or words (finished_at k w) 0)
+      (marks_behind : (q : ℕ) → k.supers ≤ q → (set_of s.marks q ≡ set_of k.opening.marks q) × (set_of s.finished q ≡ set_of k.opening.finished q)) where
+    abbrev last : Table
+    last = record { words = words; homes = map maybe.some slots; views = v ∷ [] }
+
+    tracing : Tracing k last
+    tracing = e.closed.tracing turn
+
+    classes_same : s.classes ≡ k.opening.classes
+    classes_same = ap (λ (x : Layout). x.classes) same
+
+    there_back : (a : ℕ) → IsAllocated s a → IsAllocated k.opening a
+    there_back a there = subst (λ (x : Layout). IsAllocated x a) same there
+
+    there_out : (a : ℕ) → IsAllocated k.opening a → IsAllocated s a
+    there_out a there = subst (λ (x : Layout). IsAllocated x a) (sym same) there
+
+    inside : (a : ℕ) → IsAllocated k.opening a → page_of a < pages_of k
+    inside = cell_near k whole parts e.rest e.layout e.pool e.nursery e.frames v e.gathered.hand e.gathered.rights words slots e.closed headers e.states_are boxes e.box places e.place now e.pool_set
+
+    supers_s : superpages s ≡ superpages k.opening
+    supers_s = ap superpages same
+
+    within_all : k.supers ≤ superpages k.opening
+    within_all = let many = supers_are in let a = e.rest.within in omega arith
+
+    marked_in : (a : ℕ) → is_marked s a ≡ true → HasMarkBit k words a
+    marked_in a marked =
+        let on : is_cell k.opening.classes s.marks a ≡ true = subst (λ (cs : List ℕ). is_cell cs s.marks a ≡ true) classes_same marked in
+        elim (cases_lt (superpage_of a) k.supers) [
+          | inl near_it ↦
+              let many = supers_s in
+              let all_in = within_all in
+              let few = few_bits (set_of s.marks (superpage_of a)) (cell_number (class_at k.opening a) a) (kept_s.each (superpage_of a) (omega arith)).tags.marks.0 (is_cell-bit k.opening.classes s.marks a on) in
+              record {
+                within = near_it;
+                few = few;
+                starts = is_cell-start k.opening.classes s.marks a on;
+                bit = ap (λ (n : ℕ). bit_at n (bit_place k a)) (sym (marks_are (word_of k a) (omega arith))) ∙ is_set k s.marks a few on;
+              }
+          | inr past ↦ absurd (
+              let was : is_marked k.opening a ≡ true = subst (λ (l : List ℕ). (has l (cell_number (class_at k.opening a) a) && (a % class_at k.opening a == 0)) ≡ true) (marks_behind (superpage_of a) past).0 on in
+              let page = inside a (markable.cells a was) in
+              omega arith)
+        ]
+
+    marked_out : (a : ℕ) → HasMarkBit k words a → is_marked s a ≡ true
+    marked_out a m = subst (λ (cs : List ℕ). is_cell cs s.marks a ≡ true) (sym classes_same)
+        (cell_is k s.marks a m.few m.starts (ap (λ (n : ℕ). bit_at n (bit_place k a)) (marks_are (word_of k a) (let lt = m.within in let few = m.few in omega arith)) ∙ m.bit))
+
+    finished_in : (a : ℕ) → IsAllocated k.opening a → is_finished s a ≡ true → IsFinishedIn k words a
+    finished_in a there done =
+        let page = inside a there in
+        let few = taken-few k.opening a layout (inl there) in
+        let near_it : superpage_of a < k.supers = omega arith in
+        record {
+          within = near_it;
+          few = few;
+          bit = ap (λ (n : ℕ). bit_at n (bit_place k a)) (sym (finished_are (word_of k a) (omega arith))) ∙ is_set k s.finished a few (subst (λ (cs : List ℕ). is_cell cs s.finished a ≡ true) classes_same done);
+        }
+
+    memory_same : (a : ℕ) → IsAllocated k.opening a → memory s a ≡ memory k.opening a
+    memory_same a there =
+        ap (λ (x : Layout). memory x a) same
+        ∙ ap (λ (l : List ℕ). if is_cell k.opening.classes k.opening.cells a then Some (cell_on l (offset_of a)) else None) (c.unowned (page_of a) (inside a there) (unheld turn (page_of a)))
+
+    leads_back : (a b : ℕ) → RefersToCell s a b → RefersToCell k.opening a b
+    leads_back a b l =
+        let there = there_back a (there_is s a l.object l.is) in
+        record { object = l.object; is = sym (memory_same a there) ∙ l.is; index = l.index; refers = l.refers; there = there_back b l.there }
+
+    leads_out : (a b : ℕ) → RefersToCell k.opening a b → RefersToCell s a b
+    leads_out a b l = record { object = l.object; is = memory_same a (there_is k.opening a l.object l.is) ∙ l.is; index = l.index; refers = l.refers; there = there_out b l.there }
+
+    gone_is : (p : ℕ) → p < pages_of k → state_at s.states p ≡ state.Gone → get_or words (page_at p) 0 ≡ 4
+    gone_is p lt gone = sym (word_is p lt) ∙ ap state_word (sym (ap (λ (x : Layout). state_at x.states p) same) ∙ gone)
+
+    bookmark_is : (w b : ℕ) → w < 16 * k.supers → bit_at (slice_index (set_of s.bookmarks (w / 16)) (w % 16)) b ≡ bookmark_bit k words w b
+    bookmark_is w b lt =
+        let back : 16 * (w / 16) + w % 16 ≡ w = omega arith in
+        ap (λ (x : Layout). bit_at (slice_index (set_of x.bookmarks (w / 16)) (w % 16)) b) same
+        ∙ bit_is (w / 16) (w % 16) b (omega arith) (omega arith) ∙ ap (λ (n : ℕ). bookmark_bit k words n b) back
+
+    bookmarked_out : (a : ℕ) → HasBookmarkBit k words a → is_bookmarked s a ≡ true
+    bookmarked_out a m = subst (λ (cs : List ℕ). is_cell cs s.bookmarks a ≡ true) (sym classes_same)
+        (cell_is k s.bookmarks a m.few m.starts (bookmark_is (word_of k a) (bit_place k a) (let lt = m.within in let few = m.few in omega arith) ∙ m.bit))
+
+    due_s : (a : ℕ) → is_marked s a ≡ true → Reach (λ x. (is_marked k.opening x ≡ true) ⊎ (is_bookmarked s x ≡ true)) (λ x y. (state_at s.states (page_of x) ≢ state.Gone) × RefersToCell s x y) a
+    due_s a marked = Reach-mono (StartsMarks k last) (λ x. (is_marked k.opening x ≡ true) ⊎ (is_bookmarked s x ≡ true)) (LeadsHere k last) (λ x y. (state_at s.states (page_of x) ≢ state.Gone) × RefersToCell s x y)
+        (λ x start. elim start [ inl was ↦ inl was | inr set ↦ inr (bookmarked_out x set) ])
+        (λ x y l. ((λ gone. l.1 (gone_is (page_of x) l.0 gone)), leads_out x y l.2))
+        a (tracing.due a (marked_in a marked))
+
+    -- what is bookmarked, and wasn't at the opening, is a target of a page that went, and so it is marked
+    new_marked : (a : ℕ) → is_bookmarked s a ≡ true → is_bookmarked k.opening a ≡ false → is_marked s a ≡ true
+    new_marked a set fresh_bit =
+        let on : is_cell k.opening.classes s.bookmarks a ≡ true = subst (λ (cs : List ℕ). is_cell cs s.bookmarks a ≡ true) classes_same set in
+        elim (cases_lt (superpage_of a) k.supers) [
+          | inl near_it ↦
+              let many = supers_s in
+              let all_in = within_all in
+              let starts = is_cell-start k.opening.classes s.bookmarks a on in
+              let few = few_bits (set_of s.bookmarks (superpage_of a)) (cell_number (class_at k.opening a) a) (kept_s.each (superpage_of a) (omega arith)).tags.bookmarks.0 (is_cell-bit k.opening.classes s.bookmarks a on) in
+              let w : ℕ = word_of k a in
+              let b : ℕ = bit_place k a in
+              let lt : w < 16 * k.supers = omega arith in
+              let one : bit_at (slice_index (set_of s.bookmarks (w / 16)) (w % 16)) b ≡ 1 = is_set k s.bookmarks a few on in
+              let made_one : bit_at (slice_index (set_of (made reads).bookmarks (w / 16)) (w % 16)) b ≡ 1 = sym (ap (λ (x : Layout). bit_at (slice_index (set_of x.bookmarks (w / 16)) (w % 16)) b) same) ∙ one in
+              let zero_bit : opened_bit k w b ≡ 0 = elim (cases_lt 0 (opened_bit k w b)) [
+                | inl was ↦ absurd (clash (sym fresh_bit ∙ cell_is k k.opening.bookmarks a few starts (let z = bit_few (slice_index (set_of k.opening.bookmarks (w / 16)) (w % 16)) b in omega arith)))
+                | inr none_was ↦ omega arith
+              ] in
+              let left = (c.bits w b lt (omega arith)).new (bit_in (set_of (made reads).bookmarks (w / 16)) (w % 16) b (omega arith) made_one) zero_bit in
+              marked_out a (target_marked a near_it few starts left)
+          | inr past ↦ absurd (clash (sym fresh_bit ∙ subst (λ (l : List ℕ). (has l (cell_number (class_at k.opening a) a) && (a % class_at k.opening a == 0)) ≡ true)
+              (ap (λ (x : Layout). set_of x.bookmarks (superpage_of a)) same ∙ c.bits_behind (superpage_of a) past) on))
+        ]
+      where
+        target_marked : (a : ℕ) → superpage_of a < k.supers → cell_number (class_at k.opening a) a < 1024 → a % class_at k.opening a ≡ 0 → IsOfPageLeft k all (made reads) (word_of k a) (bit_place k a) → HasMarkBit k words a
+        target_marked a near_it few starts left =
+            let p : ℕ = left.page in
+            let none_fetched : times p v.fetched ≡ 0 = e.closed.unfetched turn p in
+            let still = left.still (let got = e.gathered.fetched p in omega arith) in
+            let bit = still.1 in
+            let x : ℕ = bit.address in
+            let content = c.unowned p left.inside (unheld turn p) in
+            let target : is_target (objects_in k.opening (opened_content k p)) p x ≡ true = subst (λ (l : List ℕ). is_target (objects_in k.opening l) p x ≡ true) content bit.target in
+            let fixed : IsContent k.opening p (opened_content k p) = subst (IsContent k.opening p) content (c.fixed p left.inside) in
+            let all_in = within_all in
+            let there = target_cell k.opening p (opened_content k p) x fixed (let q_same = bit.superpage in let n_few = near_it in omega arith) target in
+            let is : x ≡ a = same_address k (word_of k a) (bit_place k a) a x layout starts refl refl few (record { there = there; superpage = bit.superpage; number = bit.number }) in
+            let r = target-refers (objects_in k.opening (opened_content k p)) p x target in
+            let word : get_or words (page_at p) 0 ≡ 4 = sym (word_is p left.inside) ∙ ap state_word still.0 in
+            let standing = (e.closed.pages p left.inside).standing.gone in
+            let sum = e.gathered.left p in
+            let some_left = left.left in
+            let now_four : one_if (get_or words (page_at p) 0 == 4) ≡ 1 = ap (λ (n : ℕ). one_if (n == 4)) word in
+            let new_gone : opened_word k p ≢ 4 = λ four. (let was : one_if (opened_word k p == 4) ≡ 1 = ap (λ (n : ℕ). one_if (n == 4)) four in omega arith) in
+            let leads : RefersToCell k.opening r.address x = record { object = r.object; is = sym (objects_at k.opening k.opening.pages p (opened_content k p) refl r.address r.on) ∙ r.is; index = r.index; refers = r.refers; there = there } in
+            subst (HasMarkBit k words) is (tracing.gone r.address x (subst (WentGone k last) (sym r.on) (left.inside, word, new_gone)) leads)
+
+    pub marks_closed : ClosedMarks k all s
+    marks_closed = record {
+      bare = made reads;
+      closed = c;
+      same = same;
+      won = λ w b lt few. ap (λ (n : ℕ). bit_at n b) (marks_are w lt) ∙ tracing.won w b lt few ∙ (let sum = e.gathered.won w b in omega arith);
+      ended = λ w b lt few on. let sum = e.gathered.finished w b in let was = tracing.ended w b lt few (subst (λ (n : ℕ). 0 < bit_at n b) (finished_are w lt) on) in omega arith;
+      stays = λ w b lt few on. ap (λ (n : ℕ). bit_at n b) (finished_are w lt) ∙ tracing.stays w b lt few (let sum = e.gathered.finished w b in omega arith);
+      behind = marks_behind;
+      markable = record {
+        cells = λ a marked. there_out a (tracing.cell a (marked_in a marked));
+        closed = λ a b done l.
+            let back = leads_back a b l in
+            marked_out b (tracing.closed a b (finished_in a (there_is k.opening a back.object back.is) done) back);
+      };
+      due = due_s;
+      unfetched = λ p. let got = e.gathered.fetched p in let none_is = e.closed.unfetched turn p in omega arith;
+      new = λ a set. elim (cases_Bool (is_bookmarked k.opening a)) [ inl was ↦ inl was | inr fresh_bit ↦ inr (new_marked a set fresh_bit) ];
+    }
 
 -- it is known from what each step of a closing tells
 pub ended_from : (id : TableId) (k : Key) (all : List Seat) (root : Worker Lodged View) (r : RestView) (whole parts : SpaceParts) (n : ℕ) (ws told : List ℕ) (xs out : List Lodged) (middle headers : List Header) (sup start : ℕ) (now : List Bool) (st : StoreView) (boxes : List (Option Homed)) (places : List (Option (List ℕ)))
@@ -426,14 +612,33 @@ ended_from id k all root r whole parts n ws told xs out middle headers sup start
           (subst (λ (o : List (Option (List ℕ))). Replaced None o places n (λ p. place_of (get_or out (home_slot p + 4) Nothing))) stored place));
     }
 
+-- and with marks
+pub ended_marks : (id : TableId) (k : Key) (all : List Seat) (root : Worker Lodged View) (whole parts : SpaceParts) (words : List ℕ) (slots : List Lodged) (headers : List Header) (boxes : List (Option Homed)) (places : List (Option (List ℕ))) (now : List Bool)
+    → (e : Ended id k all root whole parts words slots headers boxes places now) (united stored : StoreView) (f : SpaceParts) (s : Layout) (told : List ℕ) (supers start : ℕ)
+    → united ≡ record parts.store { reads = min (parts.store.reads + fetches_of all) (2 ^ 64 - 1) } → stored ≡ record united { places = places }
+    → Together whole headers boxes places now stored.reads f → k.lanes ≡ false → IsUnheld k → IsMarkable k.opening → told ≡ words → supers ≡ k.supers → start ≡ mark_at k 0 → LaidSpace (parts_layout f) s supers start told → ClosedMarks k all s
+ended_marks id k all root whole parts words slots headers boxes places now e united stored f s told supers start counted put together turn unheld markable told_is supers_is start_is laid =
+    let reads_put : stored.reads ≡ united.reads = ap (λ (x : StoreView). x.reads) put in
+    let reads_counted : united.reads ≡ min (parts.store.reads + fetches_of all) (2 ^ 64 - 1) = ap (λ (x : StoreView). x.reads) counted in
+    let reads_left : parts.store.reads ≡ whole.store.reads = e.rest.emptied.reads in
+    let reads_whole : whole.store.reads ≡ k.opening.reads = ap (λ (x : Layout). x.reads) e.layout in
+    let made_is = ended_layout id k all root whole parts words slots headers boxes places now e stored.reads f together in
+    let l : LaidSpace (parts_layout f) s k.supers (mark_at k 0) words = subst (LaidSpace (parts_layout f) s k.supers (mark_at k 0)) told_is (subst (λ (i : ℕ). LaidSpace (parts_layout f) s k.supers i told) start_is (subst (λ (n : ℕ). LaidSpace (parts_layout f) s n start told) supers_is laid)) in
+    marks_closed id k all root whole parts words slots headers boxes places now e turn unheld markable stored.reads
+    (ended_closed id k all root whole parts words slots headers boxes places now e stored.reads (omega arith)) s l.layout
+    (l.same ∙ ap (λ (x : Layout). record x { marks = s.marks; finished = s.finished }) made_is)
+    (λ w lt. l.marks w lt ∙ (let z : mark_at k 0 + w ≡ mark_at k w = omega arith in ap (λ (i : ℕ). get_or words i 0) z))
+    (λ w lt. l.finished w lt ∙ (let z : mark_at k 0 + (16 * k.supers + w) ≡ finished_at k w = omega arith in ap (λ (i : ℕ). get_or words i 0) z))
+    (λ q le. let b = l.behind q le in (b.0 ∙ ap (λ (x : Layout). set_of x.marks q) made_is, b.1 ∙ ap (λ (x : Layout). set_of x.finished q) made_is))
+
 -- the space that is put together of the parts
 pub ended_space : (id : TableId) (k : Key) (all : List Seat) (root : Worker Lodged View) (whole parts : SpaceParts) (words : List ℕ) (slots : List Lodged) (headers : List Header) (boxes : List (Option Homed)) (places : List (Option (List ℕ))) (now : List Bool)
     → (e : Ended id k all root whole parts words slots headers boxes places now) (united stored : StoreView) (f : SpaceParts) (s : Layout)
-    → united ≡ record parts.store { reads = min (parts.store.reads + opens_of all) (2 ^ 64 - 1) } → stored ≡ record united { places = places }
+    → united ≡ record parts.store { reads = min (parts.store.reads + fetches_of all) (2 ^ 64 - 1) } → stored ≡ record united { places = places }
     → Together whole headers boxes places now stored.reads f → s ≡ parts_layout f → Closed k all s
 ended_space id k all root whole parts words slots headers boxes places now e united stored f s counted put together is =
     let reads_put : stored.reads ≡ united.reads = ap (λ (x : StoreView). x.reads) put in
-    let reads_counted : united.reads ≡ min (parts.store.reads + opens_of all) (2 ^ 64 - 1) = ap (λ (x : StoreView). x.reads) counted in
+    let reads_counted : united.reads ≡ min (parts.store.reads + fetches_of all) (2 ^ 64 - 1) = ap (λ (x : StoreView). x.reads) counted in
     let reads_left : parts.store.reads ≡ whole.store.reads = e.rest.emptied.reads in
     let reads_whole : whole.store.reads ≡ k.opening.reads = ap (λ (x : Layout). x.reads) e.layout in
     subst (Closed k all) (sym (is ∙ ended_layout id k all root whole parts words slots headers boxes places now e stored.reads f together))

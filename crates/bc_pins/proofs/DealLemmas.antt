@@ -40,7 +40,7 @@ last_left (x ∷ xs) (suc n) e = last_left xs n (omega arith)
 pub deals_from : (k : Key) (id : ℕ) (me : Mine) (rs : List ℕ) → me ≡ (fresh k rs, []) → Splits (Rule k) id me.0 (dealer me.0) (dealt me.0)
 deals_from k id me rs e =
     subst (λ (v : View). Splits (Rule k) id v (dealer v) (dealt v)) (sym (ap (λ (m : Mine). m.0) e))
-    (deals k id (fresh k rs) (record { hand = refl; rights = refl; recorded = refl; left = refl; emptied = refl; returned = refl; fetched = refl; bookmarked = refl; read = refl }) refl refl)
+    (deals k id (fresh k rs) (record { hand = refl; rights = refl; recorded = refl; left = refl; emptied = refl; returned = refl; fetched = refl; bookmarked = refl; won = refl; known = refl; finished = refl; read = refl }) refl refl refl)
 
 -- the two seats after a split
 pub rest_is : (k : Key) (roles : List Role) (n : ℕ) (me new : Mine) → n < length roles → me ≡ (fresh k (map role_number (drop n roles)), []) → new ≡ (dealer me.0, me.1)

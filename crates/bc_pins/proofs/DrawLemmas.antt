@@ -1,5 +1,5 @@
 -- A table that is drawn from a space's parts meets the rule, and is what it is said to be.
-use Rattle.std.proofs.Common.{◌≡◌, ℕ, ◌*◌, ◌/◌, ◌<◌, slice_index, ◌≤◌, List, [], ◌∷◌, length, map, refl, ap, sym, subst, ◌∙◌, arith}
+use Rattle.std.proofs.Common.{◌≡◌, ℕ, ◌*◌, ◌/◌, ◌<◌, slice_index, ◌≤◌, false, List, [], ◌∷◌, length, map, refl, ap, sym, subst, ◌∙◌, arith}
 use Rattle.std.proofs.lemmas.List.{length-map}
 use Rattle.bc_superpages.specs.declared.headers.Header.{Header}
 use Rattle.bc_superpages.specs.declared.parts.SpaceParts.{SpaceParts}
@@ -16,7 +16,7 @@ use Rattle.bc_pins.specs.Key.{Key, pages_of, lane_role, role_number}
 use Rattle.bc_pins.specs.Totals.{times}
 use Rattle.bc_pins.specs.Rule.{Rule}
 use Rattle.bc_pins.specs.Filling.{IsSized, IsFilled}
-use Rattle.bc_pins.specs.Opening.{opened, AreLodged}
+use Rattle.bc_pins.specs.Opening.{opened, AreLodged, IsMarkable}
 use Rattle.bc_pins.specs.Seating.{AreDealt}
 use Rattle.bc_pins.specs.Opened.{IsKeyOf, Opened}
 use Rattle.bc_pins.proofs.TotalLemmas.{one_other}
@@ -68,8 +68,11 @@ module _ (k : Key) (parts : SpaceParts) (supers : ℕ) (turn : Turn) (holders : 
       starts k words slots (may_open k parts drawn.kept drawn.layout (sym pool_is) (sym (ap (λ (a : Key). a.nursery) drawn.key)) (frames_are ∙ ap length (sym pool_is))
       (omega arith) (λ p le. drawn.behind p (omega arith)) (openable_ready k.opening layout drawn.openable) drawn.openable
       (λ r. subst (λ (rs : List ℕ). times r rs ≤ 1) (sym roles_are) (drawn.apart r))
-      (ap (times 0) roles_are ∙ nobody_has roles) drawn_unheld
+      (ap (times 0) roles_are ∙ nobody_has roles) drawn_unheld (λ turn. drawn.markable (sym (ap (λ (a : Key). a.lanes) drawn.key) ∙ turn))
       words filled slots l)
+
+  pub drawn_markable : k.lanes ≡ false → IsMarkable k.opening
+  drawn_markable mark = drawn.markable (sym (ap (λ (a : Key). a.lanes) drawn.key) ∙ mark)
 
   pub drawn_inside : k.supers ≤ superpages k.opening
   drawn_inside =

@@ -12,10 +12,12 @@ use Rattle.bc_pins.specs.Totals.{total, times}
 use Rattle.bc_pins.specs.Tidy.{IsTidy}
 use Rattle.bc_pins.specs.Views.{has_role, sets_bit, reads_at, reads_as, entries, look_up, opened_content, record_of}
 use Rattle.bc_pins.specs.Steps.{Mine, united}
-use Rattle.bc_pins.specs.Calls.{view_of}
-use Rattle.bc_pins.specs.Closing.{IsBack, AreBack, Gathered, opens_of}
+use Rattle.bc_pins.specs.Tracing.{tells}
+use Rattle.bc_pins.specs.Calls.{view_of, CountsFetches}
+use Rattle.bc_pins.specs.Closing.{IsBack, AreBack, Gathered, fetches_of}
 use Rattle.bc_pins.proofs.TotalLemmas.{total_append, times_append}
 use Rattle.bc_pins.proofs.LogLemmas.{times-reads}
+use Rattle.bc_pins.proofs.TracingLemmas.{tells_append}
 use Rattle.bc_pins.proofs.JoinLemmas.{entries_append, sets_append, look_skips, look_first}
 use Rattle.bc_pins.proofs.DealLemmas.{front_of, end_of}
 
@@ -44,6 +46,19 @@ set_moved v front seat w b n e =
 first_set : (front : List Seat) (seat : Seat) (w b : ℕ)
     → sets_bit w b (view_of seat).bookmarked + total (λ (s : Seat). sets_bit w b (view_of s).bookmarked) front ≡ total (λ (s : Seat). sets_bit w b (view_of s).bookmarked) (front ++ seat ∷ [])
 first_set front seat w b = let c = total_append (λ (s : Seat). sets_bit w b (view_of s).bookmarked) front (seat ∷ []) in omega arith
+
+-- and of what words and bits tell
+told_moved : (f : View → List (ℕ × ℕ)) (v : View) (front : List Seat) (seat : Seat) (w b n : ℕ)
+    → tells w b (f v) + total (λ (s : Seat). tells w b (f (view_of s))) (front ++ seat ∷ []) ≡ n
+    → tells w b (f v ++ f (view_of seat)) + total (λ (s : Seat). tells w b (f (view_of s))) front ≡ n
+told_moved f v front seat w b n e =
+    let a = tells_append w b (f v) (f (view_of seat)) in
+    let c = total_append (λ (s : Seat). tells w b (f (view_of s))) front (seat ∷ []) in
+    omega arith
+
+first_told : (f : View → List (ℕ × ℕ)) (front : List Seat) (seat : Seat) (w b : ℕ)
+    → tells w b (f (view_of seat)) + total (λ (s : Seat). tells w b (f (view_of s))) front ≡ total (λ (s : Seat). tells w b (f (view_of s))) (front ++ seat ∷ [])
+first_told f front seat w b = let c = total_append (λ (s : Seat). tells w b (f (view_of s))) front (seat ∷ []) in omega arith
 
 -- and of what was read of a page's word
 read_moved : (v : View) (front : List Seat) (seat : Seat) (p n m : ℕ)
@@ -86,6 +101,8 @@ module _ (id : TableId) (k : Key) (apart : (r : ℕ) → times r k.roles ≤ 1) 
         left = λ p. first_moved (λ v. v.left) front seat p ∙ ap (total (λ (s : Seat). times p (view_of s).left)) (sym is);
         emptied = λ p. first_moved (λ v. v.emptied) front seat p ∙ ap (total (λ (s : Seat). times p (view_of s).emptied)) (sym is);
         bookmarked = λ w b. first_set front seat w b ∙ ap (total (λ (s : Seat). sets_bit w b (view_of s).bookmarked)) (sym is);
+        won = λ w b. first_told (λ v. v.won) front seat w b ∙ ap (total (λ (s : Seat). tells w b (view_of s).won)) (sym is);
+        finished = λ w b. first_told (λ v. v.finished) front seat w b ∙ ap (total (λ (s : Seat). tells w b (view_of s).finished)) (sym is);
         fetched = λ p. first_moved (λ v. v.fetched) front seat p ∙ ap (total (λ (s : Seat). times p (view_of s).fetched)) (sym is);
         returned = λ p. first_moved (λ v. v.returned) front seat p ∙ ap (total (λ (s : Seat). times p (view_of s).returned)) (sym is);
         gone = λ p. first_moved (λ v. v.gone) front seat p ∙ ap (total (λ (s : Seat). times p (view_of s).gone)) (sym is);
@@ -95,6 +112,11 @@ module _ (id : TableId) (k : Key) (apart : (r : ℕ) → times r k.roles ≤ 1) 
             let e : get_or all j d ≡ seat = (let z : j ≡ length front = omega arith in ap (λ (i : ℕ). get_or all i d) z ∙ here d) in
             (subst (λ (s : Seat). 0 < has_role (view_of s) (owner k p)) e has, sym (ap (λ (s : Seat). record_of (view_of s) p) e));
       }
+
+  pub last_back : all ≡ front ++ seat ∷ [] → IsBack id k seat
+  last_back is =
+      let size : length all ≡ length front + 1 = ap length is ∙ length-append front (seat ∷ []) in
+      subst (IsBack id k) (ap (λ (l : List Seat). get_or l (length front) seat) is ∙ end_of seat front seat (length front) refl) (back.each (length front) (omega arith) seat)
 
   seat_back : (root : Worker Lodged View) → Gathered id k all (front ++ seat ∷ []) root → ((d : Seat) → get_or all (length front) d ≡ seat) × IsBack id k seat
   seat_back root g =
@@ -130,6 +152,8 @@ module _ (id : TableId) (k : Key) (apart : (r : ℕ) → times r k.roles ≤ 1) 
         left = λ p. ap (λ (u : View). times p u.left + total (λ (s : Seat). times p (view_of s).left) front) view ∙ moved (λ u. u.left) v front seat p _ (g.left p);
         emptied = λ p. ap (λ (u : View). times p u.emptied + total (λ (s : Seat). times p (view_of s).emptied) front) view ∙ moved (λ u. u.emptied) v front seat p _ (g.emptied p);
         bookmarked = λ x b. ap (λ (u : View). sets_bit x b u.bookmarked + total (λ (s : Seat). sets_bit x b (view_of s).bookmarked) front) view ∙ set_moved v front seat x b _ (g.bookmarked x b);
+        won = λ x b. ap (λ (u : View). tells x b u.won + total (λ (s : Seat). tells x b (view_of s).won) front) view ∙ told_moved (λ u. u.won) v front seat x b _ (g.won x b);
+        finished = λ x b. ap (λ (u : View). tells x b u.finished + total (λ (s : Seat). tells x b (view_of s).finished) front) view ∙ told_moved (λ u. u.finished) v front seat x b _ (g.finished x b);
         fetched = λ p. ap (λ (u : View). times p u.fetched + total (λ (s : Seat). times p (view_of s).fetched) front) view ∙ moved (λ u. u.fetched) v front seat p _ (g.fetched p);
         returned = λ p. ap (λ (u : View). times p u.returned + total (λ (s : Seat). times p (view_of s).returned) front) view ∙ moved (λ u. u.returned) v front seat p _ (g.returned p);
         gone = λ p. ap (λ (u : View). times p u.gone + total (λ (s : Seat). times p (view_of s).gone) front) view ∙ moved (λ u. u.gone) v front seat p _ (g.gone p);
@@ -160,11 +184,11 @@ module _ (id : TableId) (k : Key) (apart : (r : ℕ) → times r k.roles ≤ 1) 
   seat_is_back root g = (seat_back root g).1
 
 -- reads, as they are counted
-pub reads_first : (front : List Seat) (seat : Seat) (all : List Seat) (old new : ℕ) → all ≡ front ++ seat ∷ [] → new ≡ min (old + seat.opens) (2 ^ 64 - 1)
-    → min (new + opens_of front) (2 ^ 64 - 1) ≡ min (old + opens_of all) (2 ^ 64 - 1)
-reads_first front seat all old new is e =
-    let a : opens_of all ≡ opens_of (front ++ seat ∷ []) = ap opens_of is in
-    let b = total_append (λ (s : Seat). s.opens) front (seat ∷ []) in
+pub reads_first : (front : List Seat) (seat : Seat) (all : List Seat) (old new : ℕ) → all ≡ front ++ seat ∷ [] → CountsFetches seat → new ≡ min (old + seat.opens) (2 ^ 64 - 1)
+    → min (new + fetches_of front) (2 ^ 64 - 1) ≡ min (old + fetches_of all) (2 ^ 64 - 1)
+reads_first front seat all old new is counts e =
+    let a : fetches_of all ≡ fetches_of (front ++ seat ∷ []) = ap fetches_of is in
+    let b = total_append (λ (s : Seat). length (view_of s).fetched) front (seat ∷ []) in
     omega arith
 
 pub store_is : (old new : StoreView) (n : ℕ) → new ≡ record old { reads = n } → new ≡ record old { reads = new.reads }

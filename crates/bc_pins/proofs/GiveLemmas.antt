@@ -17,7 +17,7 @@ use Rattle.bc_pins.specs.Key.{Key, pages_of, owner, page_at, frame_slot, store_s
 use Rattle.bc_pins.specs.Totals.{total, times}
 use Rattle.bc_pins.specs.Contents.{IsContent, RefersYoung}
 use Rattle.bc_pins.specs.Views.{grips, grips_remembered, frame_in_hand, counted_for, marked_for, has_role, withholds, entries, look_up, opened_content}
-use Rattle.bc_pins.specs.Facts.{Table, slot, IsHomed, Lies, RecordsContent, Marking, frame_lodged, points, page_word, IsBitOfTarget, MarksTargets}
+use Rattle.bc_pins.specs.Facts.{Table, fetched_ever, slot, IsHomed, Lies, RecordsContent, Marking, frame_lodged, points, page_word, IsBitOfTarget, MarksTargets}
 use Rattle.bc_pins.specs.Tidy.{IsTidy}
 use Rattle.bc_pins.specs.Rule.{Rule}
 use Rattle.bc_pins.specs.Steps.{Mine, owns, both_slots, released, Gave}
@@ -202,6 +202,7 @@ module _ (k : Key) (s : Table) (r : Rule k s) (id x role : ℕ) (v : View) (g : 
               ]
               | inr ne ↦ let none_new = flag_other ((x == 2) && owns v p) p q (λ e. ne (sym e)) in omega arith
             ];
+        unfetched = facts.unfetched;
         in_hand = λ z e. absurd (no_hand z e);
       }
 
@@ -228,19 +229,24 @@ module _ (k : Key) (s : Table) (r : Rule k s) (id x role : ℕ) (v : View) (g : 
         unmarked = λ z e _ lt. absurd (no_hand z e);
       }
 
-  -- what was bookmarked for other pages. This one hasn't left
-  targets_kept : MarksTargets k rec' w
-  targets_kept =
+  -- what was bookmarked for other pages. This one hasn't left, or was taken from Gone
+  fetched_same : (q : ℕ) → fetched_ever (after s p x homes id w) q ≡ fetched_ever s q
+  fetched_same q = let a = total_set (λ (u : View). times q u.fetched) s.views id v w at in omega arith
+
+  targets_now : MarksTargets k (after s p x homes id w) rec' w
+  targets_now =
       let facts = r.seats id v at in
       record {
         each = λ q y b few on.
-            let was = facts.targets.each q y b few on in
-            elim (cases_eq q p) [
-              | inl e ↦ absurd (
-                  let lt = facts.marking.unmarked g has unmarked (subst (λ (n : ℕ). 0 < marked_for n v.bookmarked) e (sets_marked q y b v.bookmarked on)) in
-                  not_four (left_gone k s r p id v at near lt))
-              | inr ne ↦ (was.0, subst (λ (c : List ℕ). IsBitOfTarget k q c y b) (sym (there_is q p h.page (r.rec q) ne)) was.1)
-            ];
+            let was = facts.targets.each q y b few on in (
+              was.0,
+              λ none_fetched. let same = fetched_same q in let none_before : fetched_ever s q ≡ 0 = omega arith in elim (cases_eq q p) [
+                | inl e ↦ absurd (
+                    let lt = facts.marking.unmarked g has unmarked (subst (λ (n : ℕ). 0 < marked_for n v.bookmarked) e (sets_marked q y b v.bookmarked on)) in
+                    not_four (left_gone k s r p id v at near lt (subst (λ (n : ℕ). fetched_ever s n ≡ 0) e none_before)))
+                | inr ne ↦ subst (λ (c : List ℕ). IsBitOfTarget k q c y b) (sym (there_is q p h.page (r.rec q) ne)) (was.1 none_before)
+              ],
+            );
       }
 
   -- in a mark turn it is Remembered only where it was taken so
@@ -275,8 +281,8 @@ module _ (k : Key) (s : Table) (r : Rule k s) (id x role : ℕ) (v : View) (g : 
   ]
 
   -- whoever isn't the page's lane returned it
-  withheld : withholds k p v ≤ withholds k p w
-  withheld = elim (cases_lt 0 (has_role v (owner k p))) [
+  withheld : withholds k p v + one_if (page_word s p == 4) + one_if (page_word s p == 0) ≤ withholds k p w + one_if (x == 4) + one_if (x == 0)
+  withheld = let y4 = word_is 4 (λ e. omega arith) in let y0 = word_is 0 (λ e. omega arith) in elim (cases_lt 0 (has_role v (owner k p))) [
     | inl mine ↦
         let a = foreign_own k p v mine in
         let b : times p w.returned ≡ times p v.returned = ap (λ (b : Bool). times p (if b then v.returned else p ∷ v.returned)) (owning mine) in
@@ -348,11 +354,12 @@ module _ (k : Key) (s : Table) (r : Rule k s) (id x role : ℕ) (v : View) (g : 
         else_fetched = λ q ne. refl;
         else_left = λ q ne. refl;
         else_emptied = λ q ne. refl;
-        withheld = withheld;
+        withheld = inr withheld;
         noted_busy = λ lt. absurd (omega arith);
         else_returned = λ q ne. returned_other (owns v p) q p v.returned ne;
         else_busy = λ q ne. refl;
         stays = λ e. absurd (not_four e);
+        fetched_more = omega arith;
         stays_absent = λ e. absurd (let a = was_held in omega arith);
         read_more = λ n. omega arith;
         read_held = λ lt. absurd (omega arith);
@@ -361,16 +368,19 @@ module _ (k : Key) (s : Table) (r : Rule k s) (id x role : ℕ) (v : View) (g : 
         count = λ q lt. let a = hand_counted p q in let b = never_four (points k p (rec' p) q) in let c = was_no_four (points k p (r.rec p) q) in omega arith;
         else_count = λ j q ne. sym (hand_counted j q);
         bookmarked = refl;
+        won = refl;
+        known = refl;
+        finished = refl;
+        left_marked = λ e. absurd (omega arith);
         marking = marking_kept;
-        targets = targets_kept;
+        targets = targets_now;
         roles = refl;
         seated = record {
           about = facts.seated.about;
-          unfetched = facts.seated.unfetched;
           idle = λ e. let z : has_role v role ≡ 0 = ap (times role) e in absurd (omega arith);
         };
         records = records_kept;
-        saw = saw_kept k s p x homes id v w at wide fewer else_flag refl refl refl (λ e. absurd (not_four e)) (λ q lt. absurd (omega arith)) facts.saw;
+        saw = saw_kept k s p x homes id v w at wide fewer else_flag refl refl refl refl (λ e. absurd (not_four e)) (λ q lt. absurd (omega arith)) facts.saw;
       }
 
   pub give_rule : Rule k (after s p x homes id w)

@@ -11,11 +11,13 @@ use Rattle.bc_pins.specs.Key.{Key, owner, page_at}
 use Rattle.bc_pins.specs.Totals.{total, times}
 use Rattle.bc_pins.specs.Views.{grips, grips_remembered, frame_in_hand, counted_for, sets_bit, marked_for, has_role, withholds, reads_as, entries, look_up, opened_content, record_of, sets_for}
 use Rattle.bc_pins.specs.Facts.{Table}
+use Rattle.bc_pins.specs.Tracing.{tells}
 use Rattle.bc_pins.specs.Rule.{SeatFacts, Rule}
 use Rattle.bc_pins.specs.Steps.{united, nobody}
 use Rattle.bc_pins.proofs.TotalLemmas.{total_set, total_two, times_append}
 use Rattle.bc_pins.proofs.WithholdLemmas.{foreign_none}
 use Rattle.bc_pins.proofs.LogLemmas.{times-reads}
+use Rattle.bc_pins.proofs.TracingLemmas.{tells_append}
 use Rattle.bc_pins.proofs.SeatLemmas.{with_views, SameSums, now_same, views_step, seat_kept, no_hand, no_marking, no_targets}
 
 -- a seat is joined into another
@@ -99,8 +101,6 @@ module _ (k : Key) (s : Table) (r : Rule k s) (id other : ℕ) (v w : View) (at 
       let two = foreign_none a p w nothing in
       let both = foreign_none a p (united v w) free in
       let b = times_append p v.returned w.returned in
-      let c = times_append p v.left w.left in
-      let d = times_append p v.emptied w.emptied in
       omega arith
 
   sums : SameSums s.views views
@@ -116,6 +116,8 @@ module _ (k : Key) (s : Table) (r : Rule k s) (id other : ℕ) (v w : View) (at 
     busy = λ p. sum_of (λ u. times p u.busy) refl (times_append p v.busy w.busy);
     roles = λ p. sum_of (λ u. times p u.roles) refl (times_append p v.roles w.roles);
     count = λ p q. sum_of (λ u. counted_for p q u.hand) refl (let a : counted_for p q w.hand ≡ 0 = ap (counted_for p q) nothing in omega arith);
+    won = λ x b. sum_of (λ u. tells x b u.won) refl (tells_append x b v.won w.won);
+    finished = λ x b. sum_of (λ u. tells x b u.finished) refl (tells_append x b v.finished w.finished);
     sets = λ x b. sum_of (λ u. sets_bit x b u.bookmarked) refl (sets_append x b v.bookmarked w.bookmarked);
     frame = λ p. sum_of (λ u. frame_in_hand p u.hand + times p u.rights) refl
         (let a : frame_in_hand p w.hand ≡ 0 = ap (frame_in_hand p) nothing in let b = times_append p v.rights w.rights in omega arith);
@@ -155,7 +157,6 @@ module _ (k : Key) (s : Table) (r : Rule k s) (id other : ℕ) (v w : View) (at 
   seat_united = record {
     seated = record {
       about = mine.seated.about;
-      unfetched = none_of v.fetched w.fetched mine.seated.unfetched theirs.seated.unfetched;
       idle = λ e.
           let both = no_more v.roles w.roles e in
           let a = mine.seated.idle both.0 in
@@ -169,6 +170,9 @@ module _ (k : Key) (s : Table) (r : Rule k s) (id other : ℕ) (v w : View) (at 
             returned = none_of v.returned w.returned a.returned b.returned;
             fetched = none_of v.fetched w.fetched a.fetched b.fetched;
             bookmarked = ap (λ (l : List (ℕ × ℕ × ℕ)). l ++ w.bookmarked) a.bookmarked ∙ b.bookmarked;
+            won = ap (λ (l : List (ℕ × ℕ)). l ++ w.won) a.won ∙ b.won;
+            known = ap (λ (l : List (ℕ × ℕ)). l ++ w.known) a.known ∙ b.known;
+            finished = ap (λ (l : List (ℕ × ℕ)). l ++ w.finished) a.finished ∙ b.finished;
             read = ap (λ (l : List (ℕ × ℕ)). l ++ w.read) a.read ∙ b.read;
           };
     };
@@ -185,6 +189,12 @@ module _ (k : Key) (s : Table) (r : Rule k s) (id other : ℕ) (v w : View) (at 
           let a = mine.records.unrecorded p (omega arith) in
           let b = theirs.records.unrecorded p (omega arith) in
           let c = times_append p v.recorded w.recorded in
+          omega arith;
+      unfetched = λ p z.
+          let both = times_append (owner k p) v.roles w.roles in
+          let a = mine.records.unfetched p (omega arith) in
+          let b = theirs.records.unfetched p (omega arith) in
+          let c = times_append p v.fetched w.fetched in
           omega arith;
       in_hand = mine.records.in_hand;
     };
@@ -203,10 +213,18 @@ module _ (k : Key) (s : Table) (r : Rule k s) (id other : ℕ) (v w : View) (at 
             | inl has ↦ let a = mine.saw.gone p has in let b = a.1 in (a.0, omega arith, a.2)
             | inr le ↦ let a = theirs.saw.gone p (omega arith) in let b = a.1 in (a.0, omega arith, a.2)
           ];
+      busy = λ p lt.
+          let c = times_append p v.busy w.busy in
+          let both = times_append (owner k p) v.roles w.roles in
+          elim (cases_lt 0 (times p v.busy)) [
+            | inl has ↦ let a = mine.saw.busy p has in omega arith
+            | inr le ↦ let a = theirs.saw.busy p (omega arith) in omega arith
+          ];
       taken = λ p lt.
           let a = mine.saw.taken p lt in
           let one = times-reads 1 (page_at p) v.read w.read in
           let two = times-reads 2 (page_at p) v.read w.read in
+          let got = times_append p v.fetched w.fetched in
           omega arith;
     };
     marking = record {
@@ -230,19 +248,26 @@ module _ (k : Key) (s : Table) (r : Rule k s) (id other : ℕ) (v w : View) (at 
       each = λ p x b few on.
           let c = sets_for_append p x b v.bookmarked w.bookmarked in
           elim (cases_lt 0 (sets_for p x b v.bookmarked)) [
-            | inl has ↦ mine.targets.each p x b few has
-            | inr le ↦ theirs.targets.each p x b few (omega arith)
+            | inl has ↦ let a = mine.targets.each p x b few has in (a.0, λ z. a.1 (let d = sums.fetched p in omega arith))
+            | inr le ↦ let a = theirs.targets.each p x b few (omega arith) in (a.0, λ z. a.1 (let d = sums.fetched p in omega arith))
           ];
     };
+    knows = λ turn x b told.
+        let c = tells_append x b v.known w.known in
+        elim (cases_lt 0 (tells x b v.known)) [
+          | inl has ↦ mine.knows turn x b has
+          | inr le ↦ theirs.knows turn x b (omega arith)
+        ];
   }
 
   spent : SeatFacts k (with_views s views) r.rec nobody
   spent = record {
-    seated = record { about = λ e. absurd (not_alive e); unfetched = refl; idle = λ _. record { hand = refl; rights = refl; recorded = refl; left = refl; emptied = refl; returned = refl; fetched = refl; bookmarked = refl; read = refl } };
-    records = record { mine = λ p lt. absurd (omega arith); others = λ p _. refl; unrecorded = λ p _. refl; in_hand = λ h e. absurd (no_hand h e) };
-    saw = record { seen = λ p lt. absurd (omega arith); gone = λ p lt. absurd (omega arith); taken = λ p lt. absurd (omega arith) };
+    seated = record { about = λ e. absurd (not_alive e); idle = λ _. record { hand = refl; rights = refl; recorded = refl; left = refl; emptied = refl; returned = refl; fetched = refl; bookmarked = refl; won = refl; known = refl; finished = refl; read = refl } };
+    records = record { mine = λ p lt. absurd (omega arith); others = λ p _. refl; unrecorded = λ p _. refl; unfetched = λ p _. refl; in_hand = λ h e. absurd (no_hand h e) };
+    saw = record { seen = λ p lt. absurd (omega arith); gone = λ p lt. absurd (omega arith); busy = λ p lt. absurd (omega arith); taken = λ p lt. absurd (omega arith) };
     marking = no_marking nobody refl refl;
-    targets = no_targets k r.rec nobody refl;
+    targets = no_targets k (with_views s views) r.rec nobody refl;
+    knows = λ turn x b told. absurd (omega arith);
   }
 
   seat_each : (j : ℕ) (u : View) → get_elem? views j ≡ some u → SeatFacts k (with_views s views) r.rec u

@@ -4,6 +4,8 @@ pub mod TotalLemmas
 pub mod WithholdLemmas
 -- What was read of a word when another word is read besides, and when two views are put together.
 pub mod LogLemmas
+-- The mark facts through a step
+pub mod TracingLemmas
 -- What a step on a page word owes, and that the rule then holds after it.
 pub mod PageSteps
 -- What was read stays so, through a step on a page word, and a word that is read alone.
@@ -48,10 +50,17 @@ pub mod SideSteps
 pub mod MarkSteps
 -- Giving up rights to frames
 pub mod FrameSteps
+-- Steps on mark words and on finished words
+pub mod ShadeSteps
 -- A seat's slots while a box goes into its store slot
 pub mod GivingLemmas
 -- Making the page in hand Gone or Absent
 pub mod LeaveSteps
+-- Taking a page from Gone, and counting a superpage no more for it
+pub mod FetchSteps
+pub mod UncountSteps
+-- Claiming all free frames of a frame word
+pub mod ClaimSteps
 -- Boxes that went into slots, and came back.
 pub mod RestLemmas
 -- The space at the opening: its cells lie on pages of the table
@@ -70,6 +79,8 @@ pub mod PoolLemmas
 pub mod HeaderLemmas
 -- The space that a closed table's words and boxes make.
 pub mod SpaceLemmas
+-- Headers into which marks were written
+pub mod LayLemmas
 -- What closing a table gives
 pub mod ClosingLemmas
 -- What a caller needs to open a table and to close it: seats that were dealt come back, a space without cells is ready.
@@ -78,3 +89,5 @@ pub mod CallerLemmas
 pub mod VisitLemmas
 -- Threads may share a table
 pub mod SharedLemmas
+-- Frames in use
+pub mod InUseLemmas

@@ -9,7 +9,7 @@ use Rattle.bc_pins.specs.declared.views.View.{View}
 use Rattle.bc_pins.specs.Key.{Key, pages_of, page_at}
 use Rattle.bc_pins.specs.Totals.{total, times}
 use Rattle.bc_pins.specs.Views.{grips, reads_of, reads_at, reads_as}
-use Rattle.bc_pins.specs.Facts.{Table, page_word}
+use Rattle.bc_pins.specs.Facts.{Table, page_word, fetched_ever}
 use Rattle.bc_pins.specs.Rule.{Rule}
 use Rattle.bc_pins.proofs.TotalLemmas.{total_less_at, total_both, times_append, one_few, one_other}
 
@@ -67,16 +67,17 @@ grips_few : (p : ℕ) (o : Option Hand) → grips p o ≤ 1
 grips_few p None = omega arith
 grips_few p (Some h) = one_few (h.page == p)
 
--- who has a page in hand read it as Home or Remembered
-pub held_read : (k : Key) (s : Table) (r : Rule k s) (p : ℕ) → p < pages_of k → page_word s p ≡ 3 → 0 < total (reads_as p 1) s.views + total (reads_as p 2) s.views
+-- who has a page in hand read it as Home or Remembered, or took it from Gone
+pub held_read : (k : Key) (s : Table) (r : Rule k s) (p : ℕ) → p < pages_of k → page_word s p ≡ 3 → 0 < total (reads_as p 1) s.views + total (reads_as p 2) s.views + fetched_ever s p
 held_read k s r p near three =
     let held = (r.place p near).held in
     let one : one_if (page_word s p == 3) ≡ 1 = ap (λ (n : ℕ). one_if (n == 3)) three in
-    let less = total_less_at (λ (u : View). grips p u.hand) (λ (u : View). reads_as p 1 u + reads_as p 2 u) s.views each in
-    let both = total_both (reads_as p 1) (reads_as p 2) s.views in
+    let less = total_less_at (λ (u : View). grips p u.hand) (λ (u : View). reads_as p 1 u + reads_as p 2 u + times p u.fetched) s.views each in
+    let both = total_both (λ u. reads_as p 1 u + reads_as p 2 u) (λ u. times p u.fetched) s.views in
+    let and_both = total_both (reads_as p 1) (reads_as p 2) s.views in
     omega arith
   where
-    each : (j : ℕ) (u : View) → get_elem? s.views j ≡ some u → grips p u.hand ≤ reads_as p 1 u + reads_as p 2 u
+    each : (j : ℕ) (u : View) → get_elem? s.views j ≡ some u → grips p u.hand ≤ reads_as p 1 u + reads_as p 2 u + times p u.fetched
     each j u is =
         let few = grips_few p u.hand in
         elim (cases_lt 0 (grips p u.hand)) [

@@ -1,5 +1,5 @@
 -- Setting bookmark bits for the page in hand, and counting a superpage for it.
-use Rattle.std.proofs.Common.{◌≡◌, ℕ, ◌+◌, ◌*◌, ◌/◌, ◌%◌, ◌^◌, ◌<◌, ◌≤◌, ◌≢◌, ◌==◌, Bool, true, false, if◌then◌else◌, List, [], ◌∷◌, Option, Some, None, max, bit_or, length, get_or, inl, inr, refl, ap, sym, subst, ◌∙◌, arith, get_or-set_same, get_or-set_other, ◌&&◌}
+use Rattle.std.proofs.Common.{◌≡◌, ℕ, ◌+◌, ◌*◌, ◌/◌, ◌%◌, ◌^◌, ◌<◌, ◌≤◌, ◌≢◌, ◌==◌, Bool, true, false, if◌then◌else◌, List, [], ◌∷◌, Option, Some, None, max, bit_or, length, get_or, set, inl, inr, refl, ap, sym, subst, ◌∙◌, arith, get_or-set_same, get_or-set_other, ◌&&◌}
 use mathlib.Core.Option.{some}
 use mathlib.Core.Option as maybe
 use lib.ListN.{get_elem?}
@@ -37,9 +37,10 @@ use Rattle.bc_pins.proofs.TotalLemmas.{total_set, total_less_at, one_same, one_o
 use Rattle.bc_pins.proofs.SumLemmas.{sum_few_below, sum_one}
 use Rattle.bc_pins.proofs.TakeLemmas.{some_hand}
 use Rattle.bc_pins.proofs.TallyLemmas.{in_bit, bit_few}
-use Rattle.bc_pins.proofs.MarkedLemmas.{KeepsBits}
+use Rattle.bc_pins.proofs.MarkedLemmas.{targets_kept, KeepsBits}
 use Rattle.bc_pins.proofs.LogLemmas.{reads-else, reads-more}
-use Rattle.bc_pins.proofs.SideSteps.{aside, SideStep, side_step, counters_same, bits_same, frames_same}
+use Rattle.bc_pins.proofs.TracingLemmas.{KeepsMarks, keeps_set, knows_stay, tracing_kept}
+use Rattle.bc_pins.proofs.SideSteps.{aside, SideStep, side_step, counters_same, bits_same, frames_same, keeps_aside}
 
 -- what is counted for a page is no more than that it is in hand
 hand_few : (p q : ℕ) (o : Option Hand) → ((g : Hand) → o ≡ Some g → times q g.counted ≤ 1) → counted_for p q o ≤ grips p o
@@ -100,21 +101,21 @@ module _ (k : Key) (s : Table) (r : Rule k s) (id role : ℕ) (v : View) (h : Ha
   content = ((r.seats id v at).records.in_hand h has_one).1
 
   -- a view that changed its hand, and not the page and its content there
-  seated_kept : (u : View) → u.about ≡ v.about → u.roles ≡ v.roles → u.fetched ≡ v.fetched → Seated k u
+  pub seated_kept : (u : View) → u.about ≡ v.about → u.roles ≡ v.roles → u.fetched ≡ v.fetched → Seated k u
   seated_kept u a b c = record {
     about = λ e. a ∙ about;
-    unfetched = c ∙ (r.seats id v at).seated.unfetched;
     idle = λ e. let z : has_role v role ≡ 0 = ap (times role) (sym b ∙ e) in absurd (omega arith);
   }
 
-  records_kept : (u : View) (g : Hand) → u.hand ≡ Some g → g.page ≡ h.page → g.content ≡ h.content → u.changed ≡ v.changed → u.recorded ≡ v.recorded → u.about ≡ v.about → u.roles ≡ v.roles → RecordsContent k r.rec u
-  records_kept u g hand page same changed noted a b =
+  pub records_kept : (u : View) (g : Hand) → u.hand ≡ Some g → g.page ≡ h.page → g.content ≡ h.content → u.changed ≡ v.changed → u.recorded ≡ v.recorded → u.fetched ≡ v.fetched → u.about ≡ v.about → u.roles ≡ v.roles → RecordsContent k r.rec u
+  records_kept u g hand page same changed noted got a b =
       let old = (r.seats id v at).records in
       record {
         mine = λ p lt. old.mine p (subst (λ (l : List ℕ). 0 < times (owner k p) l) b lt)
             ∙ ap (λ (x : Key). look_up p v.changed (opened_content x p)) (sym a) ∙ ap (λ (l : List (ℕ × List ℕ)). look_up p l (opened_content u.about p)) (sym changed);
         others = λ p z. ap (entries p) changed ∙ old.others p (subst (λ (l : List ℕ). times (owner k p) l ≡ 0) b z);
         unrecorded = λ p z. ap (times p) noted ∙ old.unrecorded p (subst (λ (l : List ℕ). times (owner k p) l ≡ 0) b z);
+        unfetched = λ p z. ap (times p) got ∙ old.unfetched p (subst (λ (l : List ℕ). times (owner k p) l ≡ 0) b z);
         in_hand = λ x e.
             let is = some_hand g x (sym hand ∙ e) in
             subst (λ (y : Hand). (y.page < pages_of k) × (y.content ≡ r.rec y.page)) is
@@ -144,8 +145,8 @@ module _ (k : Key) (s : Table) (r : Rule k s) (id role : ℕ) (v : View) (h : Ha
     bit_there : (j b : ℕ) → j ≢ w → bookmark_bit k t.words j b ≡ bookmark_bit k s.words j b
     bit_there j b ne = ap (λ (n : ℕ). bit_at n b) (get_or-set_other s.words i (bookmark_at k j) x 0 (λ e. ne (omega arith)))
 
-    keeps_set : KeepsBits k s.words t.words
-    keeps_set j b less one = elim (cases_eq j w) [
+    keeps_marked : KeepsBits k s.words t.words
+    keeps_marked j b less one = elim (cases_eq j w) [
       | inl e ↦
           let a = bit_here b in
           let c = bit_few (word s i) b in
@@ -212,30 +213,35 @@ module _ (k : Key) (s : Table) (r : Rule k s) (id role : ℕ) (v : View) (h : Ha
           unmarked = λ z e none_set _. absurd (some_none (w, bits) h.marked (ap (λ (y : Hand). y.marked) (some_hand _ z e) ∙ none_set));
         }
 
-    targets_now : MarksTargets k r.rec u
+    targets_now : MarksTargets k t r.rec u
     targets_now =
         let old = (r.seats id v at).targets in
         record {
           each = λ p j b few on. elim (cases_lt 0 (sets_for p j b v.bookmarked)) [
-            | inl was ↦ old.each p j b few was
+            | inl was ↦ let a = old.each p j b few was in (a.0, λ z. a.1 (let c = total_set (λ (y : View). times p y.fetched) s.views id v u at in omega arith))
             | inr none_was ↦
                 let new = both_are (h.page == p) (w == j) (bit_at bits b) (omega arith) in
                 let page : h.page ≡ p = eqb-true h.page p new.0 in
                 let word_is : w ≡ j = eqb-true w j new.1 in
                 let target : IsBitOfTarget k h.page h.content w b = targets b few new.2 in (
                   subst (λ (n : ℕ). n < pages_of k) page near,
-                  subst (λ (n : ℕ). IsBitOfTarget k p (r.rec p) n b) word_is
+                  λ _. subst (λ (n : ℕ). IsBitOfTarget k p (r.rec p) n b) word_is
                       (subst (λ (n : ℕ). IsBitOfTarget k n (r.rec n) w b) page (subst (λ (c : List ℕ). IsBitOfTarget k h.page c w b) content target)),
                 )
           ];
         }
+
+    marks_kept : KeepsMarks k s t
+    marks_kept = keeps_aside k s i x id v u at (omega arith) (omega arith) keeps_marked refl refl
 
     mark_step : SideStep k s r.rec i x id v u
     mark_step =
         let size = r.words in
         record {
           far = omega arith;
-          before = omega arith;
+          stay = λ turn. keeps_set k s t marks_kept;
+          knows = λ turn. knows_stay k s t v (keeps_set k s t marks_kept) ((r.seats id v at).knows turn);
+          tracing = λ turn. tracing_kept k s t marks_kept (r.tracing turn);
           grip = λ p. sym (ap (grips p) has_one);
           flag = λ p. sym (ap (grips_remembered p) has_one);
           recorded = refl;
@@ -250,13 +256,13 @@ module _ (k : Key) (s : Table) (r : Rule k s) (id role : ℕ) (v : View) (h : Ha
           read = λ j ne. reads-else j (bookmark_at v.about w) found v.read (λ e. ne (sym e ∙ ap (λ (a : Key). bookmark_at a w) about));
           read_more = λ j n. reads-more j (bookmark_at v.about w) found n v.read;
           seated = seated_kept u refl refl refl;
-          records = records_kept u (record h { marked = (w, bits) ∷ h.marked }) refl refl refl refl refl refl refl;
+          records = records_kept u (record h { marked = (w, bits) ∷ h.marked }) refl refl refl refl refl refl refl refl;
           marking = marking_now;
           targets = targets_now;
-          set = keeps_set;
+          set = keeps_marked;
           counters = λ q less. counters_same k s r i x id v u q at (omega arith) less (λ e. omega arith) (λ p. sym (ap (counted_for p q) has_one));
           bits = bits_now;
-          frames = frames_same k s r i x id v u at (λ j e. omega arith) (λ f. ap (λ (n : ℕ). n + times f v.rights) (sym (ap (frame_in_hand f) has_one)));
+          frames = frames_same k s r i x id v u at (λ j less e. omega arith) (λ f. ap (λ (n : ℕ). n + times f v.rights) (sym (ap (frame_in_hand f) has_one)));
         }
 
     pub mark_rule : Rule k t
@@ -357,12 +363,17 @@ module _ (k : Key) (s : Table) (r : Rule k s) (id role : ℕ) (v : View) (h : Ha
               (old.unmarked h has_one (ap (λ (g : Hand). g.marked) is ∙ none_set) (subst (λ (g : Hand). 0 < marked_for g.page v.bookmarked) (sym is) on));
         }
 
+    c_kept : KeepsMarks k s c_table
+    c_kept = keeps_aside k s c_at y id v c_view at (omega arith) (omega arith) (λ j b less one. ap (λ (n : ℕ). bit_at n b) (get_or-set_other s.words c_at (bookmark_at k j) y 0 (λ e. omega arith)) ∙ one) refl refl
+
     count_step : SideStep k s r.rec c_at y id v c_view
     count_step =
         let size = r.words in
         record {
           far = omega arith;
-          before = omega arith;
+          stay = λ turn. keeps_set k s c_table c_kept;
+          knows = λ turn. knows_stay k s c_table v (keeps_set k s c_table c_kept) ((r.seats id v at).knows turn);
+          tracing = λ turn. tracing_kept k s c_table c_kept (r.tracing turn);
           grip = λ p. sym (ap (grips p) has_one);
           flag = λ p. sym (ap (grips_remembered p) has_one);
           recorded = refl;
@@ -377,13 +388,13 @@ module _ (k : Key) (s : Table) (r : Rule k s) (id role : ℕ) (v : View) (h : Ha
           read = λ j ne. reads-else j (counter_at v.about q) found v.read (λ e. ne (sym e ∙ ap (λ (a : Key). counter_at a q) about));
           read_more = λ j n. reads-more j (counter_at v.about q) found n v.read;
           seated = seated_kept c_view refl refl refl;
-          records = records_kept c_view (record h { counted = q ∷ h.counted }) refl refl refl refl refl refl refl;
+          records = records_kept c_view (record h { counted = q ∷ h.counted }) refl refl refl refl refl refl refl refl;
           marking = c_marking;
-          targets = record { each = (r.seats id v at).targets.each };
+          targets = targets_kept k s r.rec (set s.words c_at y) s.homes id v c_view at (λ q. omega arith) refl (r.seats id v at).targets;
           set = λ j b less one. ap (λ (n : ℕ). bit_at n b) (get_or-set_other s.words c_at (bookmark_at k j) y 0 (λ e. omega arith)) ∙ one;
           counters = counters_now;
           bits = λ j b less few. bits_same k s r c_at y id v c_view j b at less few (λ e. omega arith) refl;
-          frames = frames_same k s r c_at y id v c_view at (λ j e. omega arith) (λ f. ap (λ (n : ℕ). n + times f v.rights) (sym (ap (frame_in_hand f) has_one)));
+          frames = frames_same k s r c_at y id v c_view at (λ j less e. omega arith) (λ f. ap (λ (n : ℕ). n + times f v.rights) (sym (ap (frame_in_hand f) has_one)));
         }
 
     pub count_rule : Rule k c_table

@@ -17,6 +17,8 @@ use Rattle.bc_word.specs.Addresses.{superpage_of, page_of, cell_number}
 use Rattle.bc_word.specs.CellAddresses.{cell_address}
 use Rattle.bc_superpages.specs.Calls.{class_at}
 use Rattle.bc_superpages.specs.Paging.{is_bookmarked}
+use Rattle.bc_superpages.specs.Collecting.{is_marked, is_finished}
+use Rattle.bc_reach.specs.Reach.{begin}
 use Rattle.bc_superpages.proofs.CellLemmas.{cell-bit, is_cell-bit, is_cell-start}
 use Rattle.bc_superpages.proofs.TagLemmas.{taken-few}
 use Rattle.bc_bookmarks.specs.Summarised.{gone_in}
@@ -32,17 +34,19 @@ use Rattle.bc_superpages.proofs.HandLemmas.{state-header, allocated-page}
 use Rattle.bc_superpages.proofs.BringLemmas.{allocated-not_absent}
 use Rattle.bc_pins.specs.declared.views.Lodged.{Lodged}
 use Rattle.bc_pins.specs.declared.views.Lodged.TheVariants.{Nothing}
-use Rattle.bc_pins.specs.Key.{Key, pages_of, bookmark_at, page_at, home_slot, frame_slot, store_slot}
+use Rattle.bc_pins.specs.Key.{Key, pages_of, bookmark_at, mark_at, finished_at, page_at, home_slot, frame_slot, store_slot}
 use Rattle.bc_pins.specs.Totals.{total, times}
 use Rattle.bc_pins.specs.Views.{state_word, opened_state, opened_word, opened_content}
 use Rattle.bc_pins.specs.Facts.{frame_of, frame_lodged, IsUnheld}
 use Rattle.bc_pins.specs.Lodging.{home_of, away_of}
-use Rattle.bc_pins.specs.Opening.{IsReady, IsOpenable, AreLodged}
-use Rattle.bc_pins.specs.Facts.{Frames, Still, frame_bit, is_clear, bookmark_bit, opened_bit, cell_bit, HasBookmarkBit, Summary, points, adds_to, Counters, Bits}
+use Rattle.bc_pins.specs.Opening.{IsReady, IsOpenable, IsMarkable, AreLodged}
+use Rattle.bc_pins.specs.Facts.{Frames, frame_bit, is_clear, bookmark_bit, opened_bit, cell_bit, HasBookmarkBit, Summary, points, adds_to, Counters, Bits}
+use Rattle.bc_pins.specs.Tracing.{word_of, place_of, finished_bit, opened_finished, HasMarkBit, IsFinishedIn, Tracing}
 use Rattle.bc_pins.specs.Filling.{IsFilled}
 use Rattle.bc_pins.specs.Opening.{opened, OpensPage, MayOpen}
 use Rattle.bc_pins.proofs.SumLemmas.{sum_slots, sum_same, sum_none, sum_cut, total_sum, count_total, times_count, total_map}
 use Rattle.bc_pins.proofs.PartsLemmas.{content_fixed, slots_lie, slot_there, word_states, word_absent}
+use Rattle.bc_pins.proofs.TracingLemmas.{cell_is, is_set, there_is}
 use Rattle.bc_pins.proofs.TallyLemmas.{ge-nat_lt, GoneBy, tally, target_in, set_bit, bit_in, in_bit, bit_few, gone_word}
 
 clear_flag : (b : Bool) → (one_if (not b) == 0) ≡ b
@@ -87,7 +91,7 @@ frames_same bs ps slots s n f four le past long homes aways =
 
 module _ (k : Key) (whole : SpaceParts) (kept : AreParts whole) (layout : parts_layout whole ≡ k.opening) (pool : whole.pool ≡ k.pool) (nursery : whole.nursery.items ≡ k.nursery) (frames : k.frames ≡ length k.pool)
     (within : pages_of k ≤ 4 * length whole.headers.items) (behind : (p : ℕ) → pages_of k ≤ p → state_in whole.headers.items p ≡ state.Absent) (ready : IsReady k.opening) (openable : IsOpenable k.opening)
-    (apart : (r : ℕ) → times r k.roles ≤ 1) (nobody : times 0 k.roles ≡ 0) (unheld : IsUnheld k)
+    (apart : (r : ℕ) → times r k.roles ≤ 1) (nobody : times 0 k.roles ≡ 0) (unheld : IsUnheld k) (markable : k.lanes ≡ false → IsMarkable k.opening)
     (words : List ℕ) (filled : IsFilled k whole.headers.items words) (slots : List Lodged) (lodged : AreLodged whole (pages_of k) slots) where
   long_boxes : length whole.boxes.items ≡ 4 * length whole.headers.items
   long_boxes = kept.kept.boxes_long
@@ -241,12 +245,47 @@ module _ (k : Key) (whole : SpaceParts) (kept : AreParts whole) (layout : parts_
       let free_same : one_if (is_free whole.pool f) ≡ one_if (is_free k.pool f) = ap (λ (l : List Bool). one_if (is_free l f)) pool in
       let all_same : one_if (nat_lt f (length whole.pool)) ≡ one_if (nat_lt f k.frames) = ap (λ (n : ℕ). one_if (nat_lt f n)) (ap length pool ∙ sym frames) in
       let clear : one_if (is_clear k words f) ≡ one_if (is_free k.pool f) = ap one_if (clear_pool f) in
-      record { used = omega arith; free = λ e. clear_pool f ∙ e; past = λ le lt. filled.frames f lt ∙ ap (λ (b : Bool). one_if (not b)) (get_or_past k.pool f false (omega arith)) }
+      record { used = omega arith; past = λ le lt. filled.frames f lt ∙ ap (λ (b : Bool). one_if (not b)) (get_or_past k.pool f false (omega arith)) }
 
-  still_open : Still k (opened k words slots)
-  still_open = record {
-    marks = λ w turn lt. filled.marks w turn lt ∙ sym (ap (λ (h : Header). slice_index h.marks (w % 16)) (header_is (w / 16) (omega arith)));
-    finished = λ w turn lt. filled.finished w turn lt ∙ sym (ap (λ (h : Header). slice_index h.finished (w % 16)) (header_is (w / 16) (omega arith)));
+  mark_word : (w : ℕ) → k.lanes ≡ false → w < 16 * k.supers → slice_index words (mark_at k w) ≡ slice_index (set_of k.opening.marks (w / 16)) (w % 16)
+  mark_word w turn lt = filled.marks w turn lt ∙ sym (ap (λ (h : Header). slice_index h.marks (w % 16)) (header_is (w / 16) (omega arith)))
+
+  finished_word : (w : ℕ) → k.lanes ≡ false → w < 16 * k.supers → slice_index words (finished_at k w) ≡ slice_index (set_of k.opening.finished (w / 16)) (w % 16)
+  finished_word w turn lt = filled.finished w turn lt ∙ sym (ap (λ (h : Header). slice_index h.finished (w % 16)) (header_is (w / 16) (omega arith)))
+
+  -- a cell that is marked in the table is marked in the space, and back
+  marked_then : k.lanes ≡ false → (a : ℕ) → HasMarkBit k words a → is_marked k.opening a ≡ true
+  marked_then turn a is = cell_is k k.opening.marks a is.few is.starts
+      (sym (ap (λ (n : ℕ). bit_at n (place_of k a)) (mark_word (word_of k a) turn (let lt = is.within in let few = is.few in omega arith))) ∙ is.bit)
+
+  marked_now : k.lanes ≡ false → (a : ℕ) → IsAllocated k.opening a → is_marked k.opening a ≡ true → HasMarkBit k words a
+  marked_now turn a there on =
+      let page = cell_near a there in
+      let few = taken-few k.opening a whole_layout (inl there) in
+      let within : superpage_of a < k.supers = omega arith in
+      record {
+        within = within;
+        few = few;
+        starts = is_cell-start k.opening.classes k.opening.marks a on;
+        bit = ap (λ (n : ℕ). bit_at n (place_of k a)) (mark_word (word_of k a) turn (omega arith)) ∙ is_set k k.opening.marks a few on;
+      }
+
+  finished_then : k.lanes ≡ false → (a : ℕ) → a % class_at k.opening a ≡ 0 → IsFinishedIn k words a → is_finished k.opening a ≡ true
+  finished_then turn a starts is = cell_is k k.opening.finished a is.few starts
+      (sym (ap (λ (n : ℕ). bit_at n (place_of k a)) (finished_word (word_of k a) turn (let lt = is.within in let few = is.few in omega arith))) ∙ is.bit)
+
+  tracing_open : k.lanes ≡ false → Tracing k (opened k words slots)
+  tracing_open turn = record {
+    won = λ w b lt few. ap (λ (n : ℕ). bit_at n b) (mark_word w turn lt) ∙ (omega arith);
+    cell = λ a is. (markable turn).cells a (marked_then turn a is);
+    due = λ a is. begin a (inl (marked_then turn a is));
+    ended = λ w b lt few on. let a : finished_bit k words w b ≡ opened_finished k w b = ap (λ (n : ℕ). bit_at n b) (finished_word w turn lt) in omega arith;
+    stays = λ w b lt few on.
+        let a : finished_bit k words w b ≡ opened_finished k w b = ap (λ (n : ℕ). bit_at n b) (finished_word w turn lt) in
+        let c = bit_few (slice_index words (finished_at k w)) b in
+        omega arith;
+    closed = λ a b is l. marked_now turn b l.there ((markable turn).closed a b (finished_then turn a (is_cell-start k.opening.classes k.opening.cells a (there_is k.opening a l.object l.is)) is) l);
+    gone = λ a b went l. absurd (went.2 (sym (opens_page (page_of a) went.0).word ∙ went.1));
   }
 
   pub may_open : MayOpen k words slots
@@ -261,5 +300,5 @@ module _ (k : Key) (whole : SpaceParts) (kept : AreParts whole) (layout : parts_
     frames = frames_open;
     counters = counters_open;
     bits = bits_open;
-    still = still_open;
+    tracing = tracing_open;
   }

@@ -7,6 +7,7 @@ use Rattle.std.proofs.lemmas.Bool.{cases_eq, cases_lt, eq-eqb, ne_eqb}
 use Rattle.std.proofs.lemmas.List.{length-set}
 use Rattle.atomic_table.proofs.Lists.{at_set}
 use Rattle.bc_bits.specs.Counting.{one_if}
+use Rattle.bc_word.specs.Addresses.{page_of}
 use Rattle.bc_pins.specs.declared.views.Lodged.{Lodged}
 use Rattle.bc_pins.specs.declared.views.Hand.{Hand}
 use Rattle.bc_pins.specs.declared.views.View.{View}
@@ -15,11 +16,13 @@ use Rattle.std.specs.Int.{bit_at}
 use Rattle.bc_pins.specs.Totals.{total, times}
 use Rattle.bc_pins.specs.Contents.{IsContent, RefersYoung, IsBarePage}
 use Rattle.bc_pins.specs.Views.{grips, grips_remembered, frame_in_hand, counted_for, sets_bit, has_role, withholds, reads_as, opened_content, sets_for, marked_for}
-use Rattle.bc_pins.specs.Facts.{Table, word, Lies, Place, remembered_now, Summary, Content, Standing, RecordsContent, Saw, Seated, Marking, Roles, frame_lodged, Frames, points, adds_to, Counters, bookmark_bit, is_clear, Bits, Still, page_word, IsBitOfTarget, MarksTargets}
+use Rattle.bc_pins.specs.Facts.{Table, word, Lies, Place, remembered_now, Summary, Content, Standing, RecordsContent, Saw, Seated, Marking, Roles, frame_lodged, Frames, points, adds_to, Counters, bookmark_bit, is_clear, Bits, page_word, IsBitOfTarget, MarksTargets, HasBookmarkBit, fetched_ever}
+use Rattle.bc_pins.specs.Tracing.{RefersToCell, HasMarkBit, tells, Knows}
 use Rattle.bc_pins.specs.Rule.{SeatFacts, Rule}
-use Rattle.bc_pins.proofs.TotalLemmas.{total_set, total_at, total_two, one_few, total_none, one_is}
+use Rattle.bc_pins.proofs.TotalLemmas.{total_set, total_at, total_only, total_two, one_few, one_is}
 use Rattle.bc_pins.proofs.SumLemmas.{sum_same}
 use Rattle.bc_pins.proofs.MarkedLemmas.{summary_more}
+use Rattle.bc_pins.proofs.TracingLemmas.{leads_bookmarked, KeepsMarks, keeps_set, knows_stay, tracing_kept}
 use Rattle.bc_pins.proofs.WithholdLemmas.{foreign_same}
 
 -- the table after a step of seat id on the word of page p
@@ -60,25 +63,32 @@ pub record PageStep (k : Key) (s : Table) (rec rec' : ℕ → List ℕ) (p x : �
   pub else_left : (q : ℕ) → q ≢ p → times q w.left ≡ times q v.left
   pub else_emptied : (q : ℕ) → q ≢ p → times q w.emptied ≡ times q v.emptied
   -- kept from its lane
-  pub withheld : withholds k p v ≤ withholds k p w
+  pub withheld : ((times p w.busy ≡ 0) × (0 < has_role v (owner k p)))
+      ⊎ (withholds k p v + one_if (page_word s p == 4) + one_if (page_word s p == 0) ≤ withholds k p w + one_if (x == 4) + one_if (x == 0))
   pub noted_busy : times p v.busy < times p w.busy → 0 < total (withholds k p) s.views
   pub else_returned : (q : ℕ) → q ≢ p → times q w.returned ≡ times q v.returned
   pub else_busy : (q : ℕ) → q ≢ p → times q w.busy ≡ times q v.busy
-  -- none is taken from Gone or Absent
-  pub stays : page_word s p ≡ 4 → x ≡ 4
+  -- none is taken from Absent, and from Gone by its lane alone
+  pub stays : page_word s p ≡ 4 → (x ≡ 4) ⊎ ((0 < has_role v (owner k p)) × (times p v.fetched < times p w.fetched))
+  pub fetched_more : times p v.fetched ≤ times p w.fetched
   pub stays_absent : page_word s p ≡ 0 → x ≡ 0
   -- what its word was read as
   pub read_more : (n : ℕ) → reads_as p n v ≤ reads_as p n w
-  pub read_held : reads_as p 3 v < reads_as p 3 w → 0 < total (reads_as p 1) s.views + total (reads_as p 2) s.views
-  pub read_away : reads_as p 0 v + reads_as p 2 v + reads_as p 4 v < reads_as p 0 w + reads_as p 2 w + reads_as p 4 w → (x ≡ 0) ⊎ ((x ≡ 4) ⊎ (0 < one_if (x == 2) + grips_remembered p w.hand))
+  pub read_held : reads_as p 3 v < reads_as p 3 w → 0 < total (reads_as p 1) s.views + total (reads_as p 2) s.views + fetched_ever s p
+  pub read_away : reads_as p 0 v + reads_as p 2 v + reads_as p 4 v < reads_as p 0 w + reads_as p 2 w + reads_as p 4 w → (x ≡ 0) ⊎ ((x ≡ 4) ⊎ (0 < one_if (x == 2) + grips_remembered p w.hand + times p w.fetched))
   pub else_read : (q n : ℕ) → q ≢ p → reads_as q n w ≡ reads_as q n v
   -- counters and bits
   pub count : (q : ℕ) → q < k.supers → (if x == 4 then points k p (rec' p) q else 0) + counted_for p q w.hand ≡ (if page_word s p == 4 then points k p (rec p) q else 0) + counted_for p q v.hand
   pub else_count : (r q : ℕ) → r ≢ p → counted_for r q w.hand ≡ counted_for r q v.hand
   pub bookmarked : w.bookmarked ≡ v.bookmarked
+  -- marks
+  pub won : w.won ≡ v.won
+  pub known : w.known ≡ v.known
+  pub finished : w.finished ≡ v.finished
+  pub left_marked : x ≡ 4 → page_word s p ≢ 4 → k.lanes ≡ false → (a b : ℕ) → page_of a ≡ p → RefersToCell k.opening a b → HasMarkBit k s.words b
   -- the seat
   pub marking : Marking w
-  pub targets : MarksTargets k rec' w
+  pub targets : MarksTargets k (after s p x homes id w) rec' w
   pub roles : w.roles ≡ v.roles
   pub seated : Seated k w
   pub records : RecordsContent k rec' w
@@ -95,12 +105,11 @@ sets_marked p w b (e ∷ l) lt = elim (cases_eq e.0 p) [
       omega arith
 ]
 
--- a page that a seat made Gone is Gone, since none has taken one from Gone
-pub left_gone : (k : Key) (s : Table) (r : Rule k s) (p j : ℕ) (u : View) → get_elem? s.views j ≡ some u → p < pages_of k → 0 < times p u.left → page_word s p ≡ 4
-left_gone k s r p j u is near lt =
+-- a page that a seat made Gone is Gone, where none has taken it from Gone
+pub left_gone : (k : Key) (s : Table) (r : Rule k s) (p j : ℕ) (u : View) → get_elem? s.views j ≡ some u → p < pages_of k → 0 < times p u.left → fetched_ever s p ≡ 0 → page_word s p ≡ 4
+left_gone k s r p j u is near lt none_fetched =
     let gone = (r.standing p near).gone in
     let mine = total_at (λ (z : View). times p z.left) s.views j u is in
-    let none_fetched : total (λ (z : View). times p z.fetched) s.views ≡ 0 = total_none (λ (z : View). times p z.fetched) s.views (λ i z there. ap (times p) (r.seats i z there).seated.unfetched) in
     one_is (page_word s p) 4 (omega arith)
 
 module _ (k : Key) (s : Table) (r : Rule k s) (rec' : ℕ → List ℕ) (p x : ℕ) (homes : List (maybe.Option Lodged)) (id : ℕ) (v w : View) (at : get_elem? s.views id ≡ some v) (d : PageStep k s r.rec rec' p x homes id v w) where
@@ -151,6 +160,12 @@ module _ (k : Key) (s : Table) (r : Rule k s) (rec' : ℕ → List ℕ) (p x : �
   summary_kept : (q : ℕ) (c : List ℕ) → Summary k s.words q c → Summary k t.words q c
   summary_kept q c = summary_more k s.words t.words q c (λ i b less e. ap (λ (n : ℕ). bit_at n b) (far (bookmark_at k i) (omega arith)) ∙ e)
 
+  -- none is fewer times taken from Gone
+  fetched_grows : (q : ℕ) → fetched_ever s q ≤ fetched_ever t q
+  fetched_grows = at_page (λ q. fetched_ever s q ≤ fetched_ever t q)
+      (let a = sum (λ u. times p u.fetched) in let b = d.fetched_more in omega arith)
+      (λ q ne. let a = same_sum (λ u. times q u.fetched) (d.else_fetched q ne) in omega arith)
+
   place_there : (q : ℕ) → q ≢ p → q < pages_of k → Place k t rec' q
   place_there q ne lt =
       let old = r.place q lt in
@@ -196,23 +211,23 @@ module _ (k : Key) (s : Table) (r : Rule k s) (rec' : ℕ → List ℕ) (p x : �
   withheld_else q ne =
       let a = foreign_same k q v w (d.else_grip q ne) d.roles in
       let b = d.else_returned q ne in
-      let c = d.else_left q ne in
-      let e = d.else_emptied q ne in
       omega arith
 
-  held_there : (q : ℕ) → q ≢ p → q < pages_of k → 0 < total (reads_as q 3) t.views → 0 < total (reads_as q 1) t.views + total (reads_as q 2) t.views
+  held_there : (q : ℕ) → q ≢ p → q < pages_of k → 0 < total (reads_as q 3) t.views → 0 < total (reads_as q 1) t.views + total (reads_as q 2) t.views + fetched_ever t q
   held_there q ne near lt =
       let one = same_sum (reads_as q 1) (d.else_read q 1 ne) in
       let two = same_sum (reads_as q 2) (d.else_read q 2 ne) in
       let three = same_sum (reads_as q 3) (d.else_read q 3 ne) in
+      let grows = fetched_grows q in
       let a = (r.standing q near).held (omega arith) in
       omega arith
 
-  away_there : (q : ℕ) → q ≢ p → q < pages_of k → 0 < total (reads_as q 0) t.views + total (reads_as q 2) t.views + total (reads_as q 4) t.views → (page_word t q ≡ 0) ⊎ ((page_word t q ≡ 4) ⊎ (0 < remembered_now t q))
+  away_there : (q : ℕ) → q ≢ p → q < pages_of k → 0 < total (reads_as q 0) t.views + total (reads_as q 2) t.views + total (reads_as q 4) t.views → (page_word t q ≡ 0) ⊎ ((page_word t q ≡ 4) ⊎ (0 < remembered_now t q + fetched_ever t q))
   away_there q ne near lt =
       let none_is = same_sum (reads_as q 0) (d.else_read q 0 ne) in
       let two = same_sum (reads_as q 2) (d.else_read q 2 ne) in
       let four = same_sum (reads_as q 4) (d.else_read q 4 ne) in
+      let grows = fetched_grows q in
       let now = else_now q ne in
       elim ((r.standing q near).away (omega arith)) [
         | inl e ↦ inl (there q ne ∙ e)
@@ -244,31 +259,51 @@ module _ (k : Key) (s : Table) (r : Rule k s) (rec' : ℕ → List ℕ) (p x : �
         away = away_there q ne near;
       }
 
-  busy_here : p < pages_of k → 0 < total (λ (u : View). times p u.busy) t.views → 0 < total (withholds k p) t.views
+  -- none but its lane notes a page as busy
+  busy_alone : 0 < has_role v (owner k p) → total (λ (u : View). times p u.busy) s.views ≡ times p v.busy
+  busy_alone mine = total_only (λ (u : View). times p u.busy) s.views id v at (λ j u ne is. elim (cases_lt 0 (times p u.busy)) [
+    | inl some_busy ↦ absurd (
+        let theirs = (r.seats j u is).saw.busy p some_busy in
+        let two = total_two (λ (z : View). times (owner k p) z.roles) s.views j id u v ne is at in
+        let each = r.roles.each (owner k p) in
+        let apart = r.roles.apart (owner k p) in
+        omega arith)
+    | inr none_busy ↦ omega arith
+  ])
+
+  busy_here : p < pages_of k → 0 < total (λ (u : View). times p u.busy) t.views → 0 < total (withholds k p) t.views + one_if (page_word t p == 4) + one_if (page_word t p == 0)
   busy_here near lt =
       let noted = sum (λ u. times p u.busy) in
       let kept_from = sum (withholds k p) in
-      let more = d.withheld in
-      elim (cases_lt (times p v.busy) (times p w.busy)) [
-        | inl newly ↦ let a = d.noted_busy newly in omega arith
-        | inr before ↦ let a = (r.standing p near).busy (omega arith) in omega arith
+      let own = total_at (withholds k p) s.views id v at in
+      let four : one_if (page_word t p == 4) ≡ one_if (x == 4) = ap (λ (n : ℕ). one_if (n == 4)) here in
+      let zeros : one_if (page_word t p == 0) ≡ one_if (x == 0) = ap (λ (n : ℕ). one_if (n == 0)) here in
+      elim d.withheld [
+        | inl none_left ↦ absurd (let alone = busy_alone none_left.1 in let z = none_left.0 in omega arith)
+        | inr more ↦ elim (cases_lt (times p v.busy) (times p w.busy)) [
+          | inl newly ↦ let a = d.noted_busy newly in omega arith
+          | inr before ↦ let a = (r.standing p near).busy (omega arith) in omega arith
+        ]
       ]
 
   -- it was read as Held by one who may not have it, while another does, who took it
-  held_here : p < pages_of k → 0 < total (reads_as p 3) t.views → 0 < total (reads_as p 1) t.views + total (reads_as p 2) t.views
+  held_here : p < pages_of k → 0 < total (reads_as p 3) t.views → 0 < total (reads_as p 1) t.views + total (reads_as p 2) t.views + fetched_ever t p
   held_here near lt =
       let one = sum (reads_as p 1) in
       let two = sum (reads_as p 2) in
       let three = sum (reads_as p 3) in
       let more = d.read_more 1 in
       let and_more = d.read_more 2 in
+      let grows = fetched_grows p in
       elim (cases_lt (reads_as p 3 v) (reads_as p 3 w)) [
         | inl newly ↦ let a = d.read_held newly in omega arith
         | inr before ↦ let a = (r.standing p near).held (omega arith) in omega arith
       ]
 
-  away_here : p < pages_of k → 0 < total (reads_as p 0) t.views + total (reads_as p 2) t.views + total (reads_as p 4) t.views → (page_word t p ≡ 0) ⊎ ((page_word t p ≡ 4) ⊎ (0 < remembered_now t p))
+  away_here : p < pages_of k → 0 < total (reads_as p 0) t.views + total (reads_as p 2) t.views + total (reads_as p 4) t.views → (page_word t p ≡ 0) ⊎ ((page_word t p ≡ 4) ⊎ (0 < remembered_now t p + fetched_ever t p))
   away_here near lt =
+      let own_fetched = total_at (λ (u : View). times p u.fetched) s.views id v at in
+      let grows = fetched_grows p in
       let none_is = sum (reads_as p 0) in
       let two = sum (reads_as p 2) in
       let four = sum (reads_as p 4) in
@@ -276,11 +311,20 @@ module _ (k : Key) (s : Table) (r : Rule k s) (rec' : ℕ → List ℕ) (p x : �
       elim (cases_lt (reads_as p 0 v + reads_as p 2 v + reads_as p 4 v) (reads_as p 0 w + reads_as p 2 w + reads_as p 4 w)) [
         | inl newly ↦ elim (d.read_away newly) [
           | inl e ↦ inl (here ∙ e)
-          | inr other ↦ elim other [ inl e ↦ inr (inl (here ∙ e)) | inr now ↦ inr (inr (held_by now)) ]
+          | inr other ↦ elim other [
+            | inl e ↦ inr (inl (here ∙ e))
+            | inr now ↦ inr (inr (elim (cases_lt 0 (times p w.fetched)) [
+              | inl fetched ↦ let a = sum (λ u. times p u.fetched) in let b = own_fetched in omega arith
+              | inr none_has ↦ let a = held_by (omega arith) in omega arith
+            ]))
+          ]
         ]
         | inr before ↦ elim ((r.standing p near).away (omega arith)) [
           | inl e ↦ inl (here ∙ d.stays_absent e)
-          | inr other ↦ elim other [ inl e ↦ inr (inl (here ∙ d.stays e)) | inr was ↦ inr (inr (omega arith)) ]
+          | inr other ↦ elim other [
+            | inl e ↦ elim (d.stays e) [ inl still ↦ inr (inl (here ∙ still)) | inr taken ↦ let a = sum (λ u. times p u.fetched) in let b = own_fetched in let c = taken.1 in inr (inr (omega arith)) ]
+            | inr was ↦ inr (inr (omega arith))
+          ]
         ]
       ]
 
@@ -348,69 +392,49 @@ module _ (k : Key) (s : Table) (r : Rule k s) (rec' : ℕ → List ℕ) (p x : �
     | inr other ↦ d.else_rec h.page other
   ]
 
-  word_four : (q : ℕ) → page_word s q ≡ 4 → page_word t q ≡ 4
-  word_four q four = elim (cases_eq q p) [
-    | inl e ↦ ap (page_word t) e ∙ here ∙ d.stays (ap (page_word s) (sym e) ∙ four)
+  -- a page of another seat's lane
+  word_four : (j : ℕ) (u : View) → j ≢ id → get_elem? s.views j ≡ some u → (q : ℕ) → 0 < has_role u (owner k q) → page_word s q ≡ 4 → page_word t q ≡ 4
+  word_four j u ne is q mine four = elim (cases_eq q p) [
+    | inl e ↦ elim (d.stays (ap (page_word s) (sym e) ∙ four)) [
+      | inl still ↦ ap (page_word t) e ∙ here ∙ still
+      | inr taken ↦ absurd (
+          let two = total_two (λ (z : View). times (owner k p) z.roles) s.views j id u v ne is at in
+          let each = r.roles.each (owner k p) in
+          let apart = r.roles.apart (owner k p) in
+          let has_it = taken.0 in
+          let same : 0 < has_role u (owner k p) = subst (λ (n : ℕ). 0 < has_role u (owner k n)) e mine in
+          omega arith)
+    ]
     | inr other ↦ there q other ∙ four
   ]
 
   -- a page that another seat bookmarked has left, and isn't in this one's hands
-  targets_else : (j : ℕ) (u : View) → j ≢ id → get_elem? s.views j ≡ some u → MarksTargets k rec' u
+  targets_else : (j : ℕ) (u : View) → j ≢ id → get_elem? s.views j ≡ some u → MarksTargets k t rec' u
   targets_else j u ne is = record {
     each = λ q w b few on.
         let was = (r.seats j u is).targets.each q w b few on in (
           was.0,
-          subst (λ (c : List ℕ). IsBitOfTarget k q c w b) (sym (elim (cases_eq q p) [
-            | inl e ↦ subst (λ (n : ℕ). rec' n ≡ r.rec n) (sym e) (d.hands (elim (cases_lt 0 (grips p v.hand)) [
-              | inl has ↦ absurd (
-                  let held = (r.place p d.near).held in
-                  let two = total_two (λ (z : View). grips p z.hand) s.views j id u v ne is at in
-                  let few_held = one_few (page_word s p == 3) in
-                  elim ((r.seats j u is).marking.whose p (subst (λ (n : ℕ). 0 < marked_for n u.bookmarked) e (sets_marked q w b u.bookmarked on))) [
-                    | inl gripped ↦ omega arith
-                    | inr gone ↦
-                        let four = left_gone k s r p j u is d.near gone in
-                        let three : one_if (page_word s p == 3) ≡ 0 = ap (λ (n : ℕ). one_if (n == 3)) four in
-                        omega arith
-                  ])
-              | inr none_has ↦ omega arith
-            ]))
-            | inr other ↦ d.else_rec q other
-          ])) was.1,
+          λ none_fetched.
+              let grows = fetched_grows q in
+              let none_before : fetched_ever s q ≡ 0 = omega arith in
+              subst (λ (c : List ℕ). IsBitOfTarget k q c w b) (sym (elim (cases_eq q p) [
+                | inl e ↦ subst (λ (n : ℕ). rec' n ≡ r.rec n) (sym e) (d.hands (elim (cases_lt 0 (grips p v.hand)) [
+                  | inl has ↦ absurd (
+                      let held = (r.place p d.near).held in
+                      let two = total_two (λ (z : View). grips p z.hand) s.views j id u v ne is at in
+                      let few_held = one_few (page_word s p == 3) in
+                      elim ((r.seats j u is).marking.whose p (subst (λ (n : ℕ). 0 < marked_for n u.bookmarked) e (sets_marked q w b u.bookmarked on))) [
+                        | inl gripped ↦ omega arith
+                        | inr gone ↦
+                            let four = left_gone k s r p j u is d.near gone (subst (λ (n : ℕ). fetched_ever s n ≡ 0) e none_before) in
+                            let three : one_if (page_word s p == 3) ≡ 0 = ap (λ (n : ℕ). one_if (n == 3)) four in
+                            omega arith
+                      ])
+                  | inr none_has ↦ omega arith
+                ]))
+                | inr other ↦ d.else_rec q other
+              ])) (was.1 none_before),
         );
-  }
-
-  seat_else : (j : ℕ) (u : View) → j ≢ id → get_elem? s.views j ≡ some u → SeatFacts k t rec' u
-  seat_else j u ne is =
-      let old = r.seats j u is in
-      record {
-        seated = old.seated;
-        records = record {
-          mine = λ q mine. lane_else j u ne is q mine ∙ old.records.mine q mine;
-          others = old.records.others;
-          unrecorded = old.records.unrecorded;
-          in_hand = λ h has. let was = old.records.in_hand h has in (was.0, was.1 ∙ sym (hand_else j u ne is h has was.0));
-        };
-        saw = record {
-          seen = λ q lt. let was = old.saw.seen q lt in let has = was.1 in let more = grown q in (was.0, omega arith);
-          gone = λ q lt. let was = old.saw.gone q lt in (was.0, was.1, word_four q was.2);
-          taken = old.saw.taken;
-        };
-        marking = old.marking;
-        targets = targets_else j u ne is;
-      }
-
-  seat_each : (j : ℕ) (u : View) → get_elem? t.views j ≡ some u → SeatFacts k t rec' u
-  seat_each j u is = elim (at_set s.views id j w u is) [
-    | inl e ↦ subst (SeatFacts k t rec') e.1 (record { seated = d.seated; records = d.records; saw = d.saw; marking = d.marking; targets = d.targets })
-    | inr o ↦ seat_else j u o.0 o.1
-  ]
-
-  roles_kept : Roles k t
-  roles_kept = record {
-    each = λ n. same_sum (λ u. times n u.roles) (ap (times n) d.roles) ∙ r.roles.each n;
-    apart = r.roles.apart;
-    nobody = r.roles.nobody;
   }
 
   unowned_kept : (q : ℕ) → times (owner k q) k.roles ≡ 0 → rec' q ≡ opened_content k q
@@ -423,6 +447,66 @@ module _ (k : Key) (s : Table) (r : Rule k s) (rec' : ℕ → List ℕ) (p x : �
         same ∙ r.unowned q none_has
     | inr other ↦ d.else_rec q other ∙ r.unowned q none_has
   ]
+
+  -- what a page refers to that goes now is bookmarked and marked
+  page_went : k.lanes ≡ false → p < pages_of k → page_word t p ≡ 4 → (page_word s p ≡ 4) ⊎ ((a b : ℕ) → page_of a ≡ p → RefersToCell k.opening a b → HasBookmarkBit k t.words b × HasMarkBit k s.words b)
+  page_went turn near e = elim (cases_eq (page_word s p) 4) [
+    | inl was ↦ inl was
+    | inr ne ↦ inr (λ a b on l. (
+      leads_bookmarked k t.words p a b (subst (Summary k t.words p) (unowned_kept p (r.unheld turn p)) ((content_here near).gone e)) on l,
+      d.left_marked (sym here ∙ e) ne turn a b on l,
+    ))
+  ]
+
+  keeps_marks : k.lanes ≡ false → KeepsMarks k s t
+  keeps_marks turn = record {
+    marks = λ i lt. far (mark_at k i) (omega arith);
+    ends = λ i lt. far (finished_at k i) (omega arith);
+    won = λ i b. same_sum (λ u. tells i b u.won) (ap (tells i b) d.won);
+    finished = λ i b. same_sum (λ u. tells i b u.finished) (ap (tells i b) d.finished);
+    set = λ i b less e. ap (λ (n : ℕ). bit_at n b) (far (bookmark_at k i) (omega arith)) ∙ e;
+    pages = at_page (λ q. q < pages_of k → page_word t q ≡ 4 → (page_word s q ≡ 4) ⊎ ((a b : ℕ) → page_of a ≡ q → RefersToCell k.opening a b → HasBookmarkBit k t.words b × HasMarkBit k s.words b))
+        (page_went turn) (λ q ne near e. inl (sym (there q ne) ∙ e));
+  }
+
+  knows_here : k.lanes ≡ false → Knows k t w
+  knows_here turn = λ i b told. knows_stay k s t v (keeps_set k s t (keeps_marks turn)) ((r.seats id v at).knows turn) i b (subst (λ (l : List (ℕ × ℕ)). 0 < tells i b l) d.known told)
+
+  seat_else : (j : ℕ) (u : View) → j ≢ id → get_elem? s.views j ≡ some u → SeatFacts k t rec' u
+  seat_else j u ne is =
+      let old = r.seats j u is in
+      record {
+        seated = old.seated;
+        records = record {
+          mine = λ q mine. lane_else j u ne is q mine ∙ old.records.mine q mine;
+          others = old.records.others;
+          unrecorded = old.records.unrecorded;
+          unfetched = old.records.unfetched;
+          in_hand = λ h has. let was = old.records.in_hand h has in (was.0, was.1 ∙ sym (hand_else j u ne is h has was.0));
+        };
+        saw = record {
+          seen = λ q lt. let was = old.saw.seen q lt in let has = was.1 in let more = grown q in (was.0, omega arith);
+          busy = old.saw.busy;
+          gone = λ q lt. let was = old.saw.gone q lt in (was.0, was.1, word_four j u ne is q was.1 was.2);
+          taken = old.saw.taken;
+        };
+        marking = old.marking;
+        targets = targets_else j u ne is;
+        knows = λ turn. knows_stay k s t u (keeps_set k s t (keeps_marks turn)) (old.knows turn);
+      }
+
+  seat_each : (j : ℕ) (u : View) → get_elem? t.views j ≡ some u → SeatFacts k t rec' u
+  seat_each j u is = elim (at_set s.views id j w u is) [
+    | inl e ↦ subst (SeatFacts k t rec') e.1 (record { seated = d.seated; records = d.records; saw = d.saw; marking = d.marking; targets = d.targets; knows = knows_here })
+    | inr o ↦ seat_else j u o.0 o.1
+  ]
+
+  roles_kept : Roles k t
+  roles_kept = record {
+    each = λ n. same_sum (λ u. times n u.roles) (ap (times n) d.roles) ∙ r.roles.each n;
+    apart = r.roles.apart;
+    nobody = r.roles.nobody;
+  }
 
   counts_same : (q j : ℕ) → q < k.supers → adds_to k t rec' q j ≡ adds_to k s r.rec q j
   counts_same q j lt = elim (cases_eq j p) [
@@ -461,13 +545,7 @@ module _ (k : Key) (s : Table) (r : Rule k s) (rec' : ℕ → List ℕ) (p x : �
       let word_is = far (frame_at k (f / 64)) (omega arith) in
       let clear : is_clear k t.words f ≡ is_clear k s.words f = ap (λ (n : ℕ). nat_lt f k.frames && (bit_at n (f % 64) == 0)) word_is in
       let used = old.used in
-      record { used = omega (arith, ap one_if clear); free = λ e. clear ∙ old.free e; past = λ le lt. ap (λ (n : ℕ). bit_at n (f % 64)) word_is ∙ old.past le lt }
-
-  still_kept : Still k t
-  still_kept = record {
-    marks = λ i turn lt. far (mark_at k i) (omega arith) ∙ r.still.marks i turn lt;
-    finished = λ i turn lt. far (finished_at k i) (omega arith) ∙ r.still.finished i turn lt;
-  }
+      record { used = omega (arith, ap one_if clear); past = λ le lt. ap (λ (n : ℕ). bit_at n (f % 64)) word_is ∙ old.past le lt }
 
   pub page_step : Rule k t
   page_step = record {
@@ -485,5 +563,5 @@ module _ (k : Key) (s : Table) (r : Rule k s) (rec' : ℕ → List ℕ) (p x : �
     frames = frame_kept;
     counters = counters_kept;
     bits = bits_kept;
-    still = still_kept;
+    tracing = λ turn. tracing_kept k s t (keeps_marks turn) (r.tracing turn);
   }

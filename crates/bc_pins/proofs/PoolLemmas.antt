@@ -1,9 +1,10 @@
--- Frames that are given back to the pool, and the account of frames after it.
-use Rattle.std.proofs.Common.{◌≡◌, ℕ, ◌+◌, ◌/◌, ◌%◌, ◌<◌, ◌≤◌, ◌*◌, ◌≢◌, ◌==◌, ◌||◌, min, Bool, false, List, length, get_or, Option, None, is_some, count_by, nat_lt, inl, inr, refl, ap, sym, ◌∙◌, arith}
+-- Which frames of the pool are free once a table's words were put into it, and the account of frames after it.
+use Rattle.std.proofs.Common.{◌≡◌, ℕ, ◌+◌, ◌/◌, ◌%◌, ◌<◌, ◌≤◌, ◌*◌, ◌≢◌, ◌==◌, min, not, Bool, true, false, List, [], ◌∷◌, length, set, get_or, Option, None, is_some, count_by, nat_lt, inl, inr, refl, ap, sym, ◌∙◌, arith, get_or-set_same, get_or-set_other}
 use Prim.Native.Nat.{zero, suc}
 use Rattle.std.specs.Int.{bit_at}
-use Rattle.std.proofs.lemmas.Bool.{cases_eq, lt-ltb}
-use Rattle.std.proofs.lemmas.List.{get_or_past}
+use Rattle.std.proofs.lemmas.Bool.{cases_eq, cases_Bool, eq-eqb, ne_eqb, lt-ltb}
+use Rattle.std.proofs.lemmas.List.{get_or_past, length-set}
+use Rattle.bc_bits.specs.Bits.{has}
 use Rattle.bc_bits.specs.Counting.{one_if}
 use Rattle.bc_frames.specs.Pool.{is_free, free_count}
 use Rattle.bc_superpages.specs.declared.spaces.Homed.{Homed}
@@ -12,22 +13,21 @@ use Rattle.bc_pins.specs.Totals.{total, sum_to}
 use Rattle.bc_pins.specs.Closing.{PoolSet}
 use Rattle.bc_pins.proofs.SumLemmas.{sum_same, count_total, total_sum}
 use Rattle.bc_pins.proofs.BoxLemmas.{sum_plus, boxes_sum}
-use Rattle.bc_pins.proofs.TallyLemmas.{ge-nat_lt}
+use Rattle.bc_pins.proofs.TallyLemmas.{bit_few, bit_in, ge-nat_lt, in_bit}
 
 pub pool_none : (o : List Bool) (start : ℕ) (ws : List ℕ) → PoolSet o o 0 start ws
 pool_none o start ws = record { long = refl; near = λ f lt. absurd (omega arith); far = λ f _. refl }
 
--- the frames of one word more are given
+-- the frames of one word more are told
 pub pool_more : (o n m : List Bool) (w start bits : ℕ) (ws : List ℕ) → PoolSet o n (min (64 * w) (length o)) start ws → length m ≡ length n
-    → ((f : ℕ) → f / 64 ≡ w → f < length n → is_free m f ≡ (is_free n f || (bit_at bits (f % 64) == 0))) → ((f : ℕ) → f / 64 ≢ w → is_free m f ≡ is_free n f) → bits ≡ get_or ws (start + w) 0 → PoolSet o m (min (64 * (w + 1)) (length o)) start ws
+    → ((f : ℕ) → f / 64 ≡ w → f < length n → is_free m f ≡ (bit_at bits (f % 64) == 0)) → ((f : ℕ) → f / 64 ≢ w → is_free m f ≡ is_free n f) → bits ≡ get_or ws (start + w) 0 → PoolSet o m (min (64 * (w + 1)) (length o)) start ws
 pool_more o n m w start bits ws s long here others is =
     let size = s.long in
     record {
       long = long ∙ size;
       near = λ f lt. elim (cases_eq (f / 64) w) [
         | inl e ↦
-            here f e (omega arith) ∙ ap (λ (b : Bool). b || (bit_at bits (f % 64) == 0)) (s.far f (omega arith))
-            ∙ ap (λ (x : ℕ). is_free o f || (bit_at x (f % 64) == 0)) (is ∙ ap (λ (i : ℕ). get_or ws (start + i) 0) (sym e))
+            here f e (omega arith) ∙ ap (λ (x : ℕ). bit_at x (f % 64) == 0) (is ∙ ap (λ (i : ℕ). get_or ws (start + i) 0) (sym e))
         | inr ne ↦ others f ne ∙ s.near f (omega arith)
       ];
       far = λ f le. elim (cases_eq (f / 64) w) [

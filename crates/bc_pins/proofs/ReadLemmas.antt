@@ -1,5 +1,5 @@
 -- What was read stays so, through a step on a page word, and a word that is read alone.
-use Rattle.std.proofs.Common.{◌≡◌, ℕ, ◌+◌, ◌-◌, ◌<◌, ◌≤◌, ◌≢◌, ◌==◌, ◌&&◌, ◌⊎◌, Bool, true, false, List, ◌∷◌, length, Option, Some, None, if◌then◌else◌, inl, inr, refl, ap, sym, subst, ◌∙◌, arith, get_or-set_same, get_or-set_other}
+use Rattle.std.proofs.Common.{◌≡◌, ℕ, ◌+◌, ◌-◌, ◌<◌, ◌≤◌, ◌≢◌, ◌==◌, ◌&&◌, ◌⊎◌, Bool, true, false, List, ◌∷◌, length, set, Option, Some, None, if◌then◌else◌, inl, inr, refl, ap, sym, subst, ◌∙◌, arith, get_or-set_same, get_or-set_other}
 use Prim.Native.Nat.{suc}
 use mathlib.Core.Option.{some}
 use mathlib.Core.Option as maybe
@@ -15,11 +15,12 @@ use Rattle.bc_pins.specs.Key.{Key, pages_of, owner, page_at}
 use Rattle.bc_pins.specs.Totals.{total, times}
 use Rattle.bc_pins.specs.Contents.{IsBarePage}
 use Rattle.bc_pins.specs.Views.{is_empty_handed, grips, grips_remembered, has_role, reads_as}
-use Rattle.bc_pins.specs.Facts.{Table, Lies, remembered_now, Saw, page_word}
+use Rattle.bc_pins.specs.Facts.{Table, Lies, remembered_now, fetched_ever, Saw, page_word}
 use Rattle.bc_pins.specs.Rule.{Rule}
 use Rattle.bc_pins.specs.Steps.{Mine, owns, having_read, ReadsWord, Looked}
 use Rattle.bc_pins.proofs.TotalLemmas.{total_set, one_other, one_is, total_less}
 use Rattle.bc_pins.proofs.WithholdLemmas.{added_other, noted_busy}
+use Rattle.bc_pins.proofs.MarkedLemmas.{targets_kept}
 use Rattle.bc_pins.proofs.LogLemmas.{reads-here, reads-more, pages-else, held_read}
 use Rattle.bc_pins.proofs.PageSteps.{after, page_step}
 
@@ -69,8 +70,8 @@ module _ (k : Key) (s : Table) (p x : ℕ) (homes : List (maybe.Option Lodged)) 
   ]
 
   -- a seat that read nothing more, but where it took a page
-  pub saw_kept : w.seen ≡ v.seen → w.gone ≡ v.gone → w.roles ≡ v.roles → (page_word s p ≡ 4 → x ≡ 4) → ((q : ℕ) → 0 < grips q w.hand → 0 < reads_as q 1 w + reads_as q 2 w) → Saw k s v → Saw k t w
-  saw_kept seen gone roles stays took old = record {
+  pub saw_kept : w.seen ≡ v.seen → w.gone ≡ v.gone → w.busy ≡ v.busy → w.roles ≡ v.roles → (page_word s p ≡ 4 → x ≡ 4) → ((q : ℕ) → 0 < grips q w.hand → 0 < reads_as q 1 w + reads_as q 2 w + times q w.fetched) → Saw k s v → Saw k t w
+  saw_kept seen gone busy roles stays took old = record {
     seen = λ q lt. let was = old.seen q (subst (λ l. 0 < times q l) seen lt) in let has = was.1 in let more = now_grows q in (was.0, omega arith);
     gone = λ q lt.
         let was = old.gone q (subst (λ l. 0 < times q l) gone lt) in (
@@ -81,6 +82,7 @@ module _ (k : Key) (s : Table) (p x : ℕ) (homes : List (maybe.Option Lodged)) 
             | inr ne ↦ word_there q ne ∙ was.2
           ],
         );
+    busy = λ q lt. subst (λ l. 0 < times (owner k q) l) (sym roles) (old.busy q (subst (λ l. 0 < times q l) busy lt));
     taken = took;
   }
 
@@ -157,6 +159,14 @@ looked_saw k s p id v at long near about old =
               same q ∙ ap (page_word s) new.0 ∙ eqb-true (page_word s p) 4 both.0,
             )
       ];
+      busy = λ q lt. elim (gone_more ((page_word s p == 3) && (owns v p && is_empty_handed v.hand)) q p v.busy lt) [
+        | inl was ↦ old.busy q was
+        | inr new ↦
+            let both = and_parts (page_word s p == 3) (owns v p && is_empty_handed v.hand) new.1 in
+            let own = and_parts (owns v p) (is_empty_handed v.hand) both.1 in
+            let mine : 0 < has_role v (owner v.about p) = ltb-true 0 _ own.0 in
+            subst (λ (n : ℕ). 0 < has_role v (owner k n)) (sym new.0) (subst (λ (a : Key). 0 < has_role v (owner a p)) about mine)
+      ];
       taken = λ q lt.
           let a = old.taken q lt in
           let one = reads-more (page_at q) (page_at p) (page_word s p) 1 v.read in
@@ -165,13 +175,13 @@ looked_saw k s p id v at long near about old =
     }
 
 -- a word that was read as Held, and as Absent, Remembered or Gone
-read_held : (k : Key) (s : Table) (r : Rule k s) (p : ℕ) (v : View) → p < pages_of k → reads_as p 3 v < reads_as p 3 (having_read v p (page_word s p)) → 0 < total (reads_as p 1) s.views + total (reads_as p 2) s.views
+read_held : (k : Key) (s : Table) (r : Rule k s) (p : ℕ) (v : View) → p < pages_of k → reads_as p 3 v < reads_as p 3 (having_read v p (page_word s p)) → 0 < total (reads_as p 1) s.views + total (reads_as p 2) s.views + fetched_ever s p
 read_held k s r p v near more =
     let a = reads-here (page_at p) (page_word s p) 3 v.read in
     held_read k s r p near (one_is (page_word s p) 3 (omega arith))
 
 read_away : (n p : ℕ) (v : View) → reads_as p 0 v + reads_as p 2 v + reads_as p 4 v < reads_as p 0 (having_read v p n) + reads_as p 2 (having_read v p n) + reads_as p 4 (having_read v p n)
-    → (n ≡ 0) ⊎ ((n ≡ 4) ⊎ (0 < one_if (n == 2) + grips_remembered p v.hand))
+    → (n ≡ 0) ⊎ ((n ≡ 4) ⊎ (0 < one_if (n == 2) + grips_remembered p v.hand + times p v.fetched))
 read_away n p v more =
     let a = reads-here (page_at p) n 0 v.read in
     let b = reads-here (page_at p) n 2 v.read in
@@ -219,11 +229,12 @@ look_step k s r p id role v at near about some_role =
       else_fetched = λ q ne. refl;
       else_left = λ q ne. refl;
       else_emptied = λ q ne. refl;
-      withheld = omega arith;
+      withheld = inr (omega arith);
       noted_busy = noted_busy k s r p id v near at about;
       else_returned = λ q ne. refl;
       else_busy = λ q ne. added_other ((page_word s p == 3) && (owns v p && is_empty_handed v.hand)) q p v.busy ne;
-      stays = λ e. e;
+      stays = λ e. inl e;
+      fetched_more = omega arith;
       stays_absent = λ e. e;
       read_more = λ n. reads-more (page_at p) (page_at p) (page_word s p) n v.read;
       read_held = read_held k s r p v near;
@@ -232,15 +243,18 @@ look_step k s r p id role v at near about some_role =
       count = λ q lt. refl;
       else_count = λ j q ne. refl;
       bookmarked = refl;
+      won = refl;
+      known = refl;
+      finished = refl;
+      left_marked = λ e ne. absurd (ne e);
       marking = record { once = facts.marking.once; whose = facts.marking.whose; unmarked = facts.marking.unmarked };
-      targets = record { each = facts.targets.each };
+      targets = targets_kept k s r.rec (set s.words (page_at p) (page_word s p)) s.homes id v w at (λ q. omega arith) refl facts.targets;
       roles = refl;
       seated = record {
         about = facts.seated.about;
-        unfetched = facts.seated.unfetched;
         idle = λ e. let z : has_role v role ≡ 0 = ap (times role) e in absurd (omega arith);
       };
-      records = record { mine = facts.records.mine; others = facts.records.others; unrecorded = facts.records.unrecorded; in_hand = facts.records.in_hand };
+      records = record { mine = facts.records.mine; others = facts.records.others; unrecorded = facts.records.unrecorded; unfetched = facts.records.unfetched; in_hand = facts.records.in_hand };
       saw = looked_saw k s p id v at wide near about facts.saw;
     }
 

@@ -9,12 +9,15 @@ use Rattle.bc_pins.specs.declared.views.View.{View}
 use Rattle.bc_pins.specs.Key.{Key, pages_of, owner}
 use Rattle.bc_pins.specs.Totals.{total, times}
 use Rattle.bc_pins.specs.Views.{grips, grips_remembered, frame_in_hand, counted_for, sets_bit, withholds, reads_as, marked_for, entries, look_up, opened_content, sets_for}
-use Rattle.bc_pins.specs.Facts.{IsIdle, Table, page_word, remembered_now, adds_to, Marking, MarksTargets}
+use Rattle.bc_pins.specs.Facts.{IsIdle, Table, page_word, remembered_now, adds_to, Marking, MarksTargets, fetched_ever}
+use Rattle.bc_pins.specs.Tracing.{tells}
 use Rattle.bc_pins.specs.Rule.{SeatFacts, Rule}
 use Rattle.bc_pins.specs.Steps.{dealer, dealt}
 use Rattle.bc_pins.proofs.TotalLemmas.{total_set, total_append}
+use Rattle.bc_pins.proofs.MarkedLemmas.{targets_more}
 use Rattle.bc_pins.proofs.SumLemmas.{sum_same}
 use Rattle.bc_pins.proofs.WithholdLemmas.{foreign_none}
+use Rattle.bc_pins.proofs.TracingLemmas.{KeepsMarks, tracing_kept}
 
 -- the table with other views
 abbrev pub with_views : Table → List View → Table
@@ -34,26 +37,40 @@ pub record SameSums (old new : List View) : Type 0 where
   pub roles : (r : ℕ) → total (λ (v : View). times r v.roles) new ≡ total (λ (v : View). times r v.roles) old
   pub count : (p q : ℕ) → total (λ (v : View). counted_for p q v.hand) new ≡ total (λ (v : View). counted_for p q v.hand) old
   pub sets : (w b : ℕ) → total (λ (v : View). sets_bit w b v.bookmarked) new ≡ total (λ (v : View). sets_bit w b v.bookmarked) old
+  pub won : (w b : ℕ) → total (λ (v : View). tells w b v.won) new ≡ total (λ (v : View). tells w b v.won) old
+  pub finished : (w b : ℕ) → total (λ (v : View). tells w b v.finished) new ≡ total (λ (v : View). tells w b v.finished) old
   pub frame : (f : ℕ) → total (λ (v : View). frame_in_hand f v.hand + times f v.rights) new ≡ total (λ (v : View). frame_in_hand f v.hand + times f v.rights) old
+
+keeps_views : (k : Key) (s : Table) (views : List View) → SameSums s.views views → KeepsMarks k s (with_views s views)
+keeps_views k s views sums = record {
+  marks = λ w lt. refl;
+  ends = λ w lt. refl;
+  won = sums.won;
+  finished = sums.finished;
+  set = λ w b lt one. one;
+  pages = λ p lt four. inl four;
+}
 
 pub now_same : (s : Table) (views : List View) → SameSums s.views views → (p : ℕ) → remembered_now (with_views s views) p ≡ remembered_now s p
 now_same s views sums p = let a = sums.flag p in omega arith
 
-held_kept : (k : Key) (s : Table) (r : Rule k s) (views : List View) → SameSums s.views views → (p : ℕ) → p < pages_of k → 0 < total (reads_as p 3) views → 0 < total (reads_as p 1) views + total (reads_as p 2) views
+held_kept : (k : Key) (s : Table) (r : Rule k s) (views : List View) → SameSums s.views views → (p : ℕ) → p < pages_of k → 0 < total (reads_as p 3) views → 0 < total (reads_as p 1) views + total (reads_as p 2) views + fetched_ever (with_views s views) p
 held_kept k s r views sums p near lt =
     let one = sums.read p 1 in
     let two = sums.read p 2 in
     let three = sums.read p 3 in
+    let got = sums.fetched p in
     let a = (r.standing p near).held (omega arith) in
     omega arith
 
 away_kept : (k : Key) (s : Table) (r : Rule k s) (views : List View) → SameSums s.views views → (p : ℕ) → p < pages_of k → 0 < total (reads_as p 0) views + total (reads_as p 2) views + total (reads_as p 4) views
-    → (page_word s p ≡ 0) ⊎ ((page_word s p ≡ 4) ⊎ (0 < remembered_now (with_views s views) p))
+    → (page_word s p ≡ 0) ⊎ ((page_word s p ≡ 4) ⊎ (0 < remembered_now (with_views s views) p + fetched_ever (with_views s views) p))
 away_kept k s r views sums p near lt =
     let none_is = sums.read p 0 in
     let two = sums.read p 2 in
     let four = sums.read p 4 in
     let now = now_same s views sums p in
+    let got = sums.fetched p in
     elim ((r.standing p near).away (omega arith)) [
       | inl e ↦ inl e
       | inr other ↦ elim other [ inl e ↦ inr (inl e) | inr was ↦ inr (inr (omega arith)) ]
@@ -96,13 +113,13 @@ views_step k s r views sums each = record {
   roles = record { each = λ n. sums.roles n ∙ r.roles.each n; apart = r.roles.apart; nobody = r.roles.nobody };
   unheld = r.unheld;
   unowned = r.unowned;
-  frames = λ f. let old = r.frames f in let used = old.used in let a = sums.frame f in record { used = omega arith; free = old.free; past = old.past };
+  frames = λ f. let old = r.frames f in let used = old.used in let a = sums.frame f in record { used = omega arith; past = old.past };
   counters = λ q lt. r.counters q lt ∙ sym (sum_same (adds_to k (with_views s views) r.rec q) (adds_to k s r.rec q) (pages_of k) (λ j _. let a = sums.count j q in omega arith));
   bits = λ w b lt few.
       let old = r.bits w b lt few in
       let a = sums.sets w b in
       record { kept = λ lt. old.kept (omega arith); only = λ lt. let c = old.only lt in omega arith; cell = old.cell };
-  still = record { marks = r.still.marks; finished = r.still.finished };
+  tracing = λ turn. tracing_kept k s (with_views s views) (keeps_views k s views sums) (r.tracing turn);
 }
 
 -- a seat that doesn't take part
@@ -113,10 +130,12 @@ seat_kept k s rec views sums u old = record {
   saw = record {
     seen = λ p lt. let a = old.saw.seen p lt in let b = a.1 in let now = now_same s views sums p in (a.0, omega arith);
     gone = old.saw.gone;
+    busy = old.saw.busy;
     taken = old.saw.taken;
   };
   marking = old.marking;
-  targets = old.targets;
+  targets = targets_more k s (with_views s views) rec u u (λ q. let a = sums.fetched q in omega arith) refl old.targets;
+  knows = old.knows;
 }
 
 pub no_hand : (z : Hand) → None ≡ Some z → ⊥
@@ -130,8 +149,8 @@ no_marking v nothing none_set = record {
   unmarked = λ h e. absurd (no_hand h (sym nothing ∙ e));
 }
 
-pub no_targets : (k : Key) (rec : ℕ → List ℕ) (v : View) → v.bookmarked ≡ [] → MarksTargets k rec v
-no_targets k rec v none_set = record { each = λ p w b few on. let z : sets_for p w b v.bookmarked ≡ 0 = ap (sets_for p w b) none_set in absurd (omega arith) }
+pub no_targets : (k : Key) (s : Table) (rec : ℕ → List ℕ) (v : View) → v.bookmarked ≡ [] → MarksTargets k s rec v
+no_targets k s rec v none_set = record { each = λ p w b few on. let z : sets_for p w b v.bookmarked ≡ 0 = ap (sets_for p w b) none_set in absurd (omega arith) }
 
 -- roles cut in two
 pub cut_times : (r : ℕ) (l : List ℕ) → times r (drop 1 l) + times r (take 1 l) ≡ times r l
@@ -145,7 +164,7 @@ split_sum f vs id v a b at e =
     let three : total f (b ∷ []) ≡ f b = omega arith in
     omega arith
 
-module _ (k : Key) (s : Table) (r : Rule k s) (id : ℕ) (v : View) (at : get_elem? s.views id ≡ some v) (unused : IsIdle v) (no_change : v.changed ≡ []) (no_gone : v.gone ≡ []) where
+module _ (k : Key) (s : Table) (r : Rule k s) (id : ℕ) (v : View) (at : get_elem? s.views id ≡ some v) (unused : IsIdle v) (no_change : v.changed ≡ []) (no_gone : v.gone ≡ []) (no_busy : v.busy ≡ []) where
   abbrev views : List View
   views = set s.views id (dealer v) ++ dealt v ∷ []
 
@@ -172,43 +191,50 @@ module _ (k : Key) (s : Table) (r : Rule k s) (id : ℕ) (v : View) (at : get_el
     busy = λ p. split_sum (λ u. times p u.busy) s.views id v (dealer v) (dealt v) at (omega arith);
     roles = λ p. split_sum (λ u. times p u.roles) s.views id v (dealer v) (dealt v) at (cut_times p v.roles);
     count = λ p q. split_sum (λ u. counted_for p q u.hand) s.views id v (dealer v) (dealt v) at (omega arith);
+    won = λ w b. split_sum (λ u. tells w b u.won) s.views id v (dealer v) (dealt v) at (omega arith);
+    finished = λ w b. split_sum (λ u. tells w b u.finished) s.views id v (dealer v) (dealt v) at (omega arith);
     sets = λ w b. split_sum (λ u. sets_bit w b u.bookmarked) s.views id v (dealer v) (dealt v) at (omega arith);
     frame = λ p. split_sum (λ u. frame_in_hand p u.hand + times p u.rights) s.views id v (dealer v) (dealt v) at (omega arith);
   }
 
   idle_rest : IsIdle (dealer v)
-  idle_rest = record { hand = unused.hand; rights = unused.rights; recorded = unused.recorded; left = unused.left; emptied = unused.emptied; returned = unused.returned; fetched = unused.fetched; bookmarked = unused.bookmarked; read = unused.read }
+  idle_rest = record { hand = unused.hand; rights = unused.rights; recorded = unused.recorded; left = unused.left; emptied = unused.emptied; returned = unused.returned; fetched = unused.fetched; bookmarked = unused.bookmarked; won = unused.won; known = unused.known; finished = unused.finished; read = unused.read }
 
   keeps_rest : SeatFacts k (with_views s views) r.rec (dealer v)
   keeps_rest = record {
-    seated = record { about = facts.seated.about; unfetched = facts.seated.unfetched; idle = λ _. idle_rest };
+    seated = record { about = facts.seated.about; idle = λ _. idle_rest };
     records = record {
       mine = λ p lt. let c = cut_times (owner k p) v.roles in facts.records.mine p (omega arith);
       others = λ p _. ap (entries p) no_change;
       unrecorded = λ p _. ap (times p) unused.recorded;
+      unfetched = λ p _. ap (times p) unused.fetched;
       in_hand = λ h e. absurd (no_hand h (sym unused.hand ∙ e));
     };
     saw = record {
       seen = λ p lt. let a = facts.saw.seen p lt in let b = a.1 in let now = now_same s views sums p in (a.0, omega arith);
       gone = λ p lt. let z : times p v.gone ≡ 0 = ap (times p) no_gone in absurd (omega arith);
+      busy = λ p lt. let z : times p v.busy ≡ 0 = ap (times p) no_busy in absurd (omega arith);
       taken = facts.saw.taken;
     };
     marking = record { once = facts.marking.once; whose = facts.marking.whose; unmarked = facts.marking.unmarked };
-    targets = record { each = facts.targets.each };
+    targets = targets_more k s (with_views s views) r.rec v (dealer v) (λ q. let a = sums.fetched q in omega arith) refl facts.targets;
+    knows = facts.knows;
   }
 
   has_first : SeatFacts k (with_views s views) r.rec (dealt v)
   has_first = record {
-    seated = record { about = facts.seated.about; unfetched = refl; idle = λ _. record { hand = refl; rights = refl; recorded = refl; left = refl; emptied = refl; returned = refl; fetched = refl; bookmarked = refl; read = refl } };
+    seated = record { about = facts.seated.about; idle = λ _. record { hand = refl; rights = refl; recorded = refl; left = refl; emptied = refl; returned = refl; fetched = refl; bookmarked = refl; won = refl; known = refl; finished = refl; read = refl } };
     records = record {
       mine = λ p lt. let c = cut_times (owner k p) v.roles in facts.records.mine p (omega arith) ∙ ap (λ (l : List (ℕ × List ℕ)). look_up p l (opened_content v.about p)) no_change;
       others = λ p _. refl;
       unrecorded = λ p _. refl;
+      unfetched = λ p _. refl;
       in_hand = λ h e. absurd (no_hand h e);
     };
-    saw = record { seen = λ p lt. absurd (omega arith); gone = λ p lt. absurd (omega arith); taken = λ p lt. absurd (omega arith) };
+    saw = record { seen = λ p lt. absurd (omega arith); gone = λ p lt. absurd (omega arith); busy = λ p lt. absurd (omega arith); taken = λ p lt. absurd (omega arith) };
     marking = no_marking (dealt v) refl refl;
-    targets = no_targets k r.rec (dealt v) refl;
+    targets = no_targets k (with_views s views) r.rec (dealt v) refl;
+    knows = λ turn w b told. absurd (omega arith);
   }
 
   seat_each : (j : ℕ) (u : View) → get_elem? views j ≡ some u → SeatFacts k (with_views s views) r.rec u
@@ -223,5 +249,5 @@ module _ (k : Key) (s : Table) (r : Rule k s) (id : ℕ) (v : View) (at : get_el
   pub split_rule : Rule k (with_views s views)
   split_rule = views_step k s r views sums seat_each
 
-pub deals : (k : Key) (id : ℕ) (v : View) → IsIdle v → v.changed ≡ [] → v.gone ≡ [] → Splits (Rule k) id v (dealer v) (dealt v)
-deals k id v unused no_change no_gone s r at = split_rule k s r id v at unused no_change no_gone
+pub deals : (k : Key) (id : ℕ) (v : View) → IsIdle v → v.changed ≡ [] → v.gone ≡ [] → v.busy ≡ [] → Splits (Rule k) id v (dealer v) (dealt v)
+deals k id v unused no_change no_gone no_busy s r at = split_rule k s r id v at unused no_change no_gone no_busy

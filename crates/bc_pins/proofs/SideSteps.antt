@@ -1,21 +1,25 @@
 -- What a step on a word that is no page's owes, and that the rule then holds after it: no box moves, and what is in hand and
 -- remembered stays. What it changes of counters, bits and frames each kind of step says itself.
-use Rattle.std.proofs.Common.{◌≡◌, ℕ, ◌+◌, ◌*◌, ◌<◌, ◌≤◌, ◌/◌, ◌%◌, ◌≢◌, ◌==◌, ◌&&◌, ◌⊎◌, nat_lt, if◌then◌else◌, List, get_or, set, inl, inr, ap, sym, subst, ◌∙◌, arith, get_or-set_other}
+use Rattle.std.proofs.Common.{◌≡◌, ℕ, ◌+◌, ◌*◌, ◌<◌, ◌≤◌, ◌/◌, ◌%◌, ◌≢◌, ◌==◌, ◌&&◌, ◌⊎◌, nat_lt, if◌then◌else◌, Bool, false, List, get_or, set, inl, inr, ap, sym, subst, ◌∙◌, arith, get_or-set_other, refl}
 use mathlib.Core.Option.{some}
 use lib.ListN.{get_elem?}
+use Rattle.std.proofs.lemmas.Bool.{cases_lt}
 use Rattle.std.proofs.lemmas.List.{length-set}
 use Rattle.atomic_table.proofs.Lists.{at_set}
 use Rattle.bc_bits.specs.Counting.{one_if}
 use Rattle.bc_pins.specs.declared.views.View.{View}
-use Rattle.bc_pins.specs.Key.{Key, pages_of, owner, counter_at, bookmark_at, frame_at, notice_at, mark_at, finished_at, page_at, pages_end}
+use Rattle.bc_pins.specs.Key.{Key, pages_of, owner, counter_at, bookmark_at, frame_at, frame_words, notice_at, mark_at, finished_at, page_at, pages_end}
 use Rattle.std.specs.Int.{bit_at}
 use Rattle.bc_pins.specs.Totals.{total, times}
 use Rattle.bc_pins.specs.Views.{grips, grips_remembered, frame_in_hand, counted_for, sets_bit, withholds, reads_of, reads_as}
-use Rattle.bc_pins.specs.Facts.{Table, word, Place, remembered_now, Content, Standing, RecordsContent, Saw, Seated, Marking, Frames, points, adds_to, Counters, bookmark_bit, is_clear, Bits, page_word, MarksTargets}
+use Rattle.bc_pins.specs.Facts.{Table, word, Place, remembered_now, Content, Standing, RecordsContent, Saw, Seated, Marking, Frames, points, adds_to, Counters, bookmark_bit, frame_bit, is_clear, Bits, page_word, MarksTargets, fetched_ever}
+use Rattle.bc_pins.specs.Tracing.{tells, Tracing, Knows}
 use Rattle.bc_pins.specs.Rule.{SeatFacts, Rule}
 use Rattle.bc_pins.proofs.TotalLemmas.{total_set}
 use Rattle.bc_pins.proofs.SumLemmas.{sum_same}
-use Rattle.bc_pins.proofs.MarkedLemmas.{KeepsBits, summary_more}
+use Rattle.bc_pins.proofs.MarkedLemmas.{KeepsBits, summary_more, targets_more}
+use Rattle.bc_pins.proofs.TallyLemmas.{ge-nat_lt}
+use Rattle.bc_pins.proofs.TracingLemmas.{KeepsMarks, KeepsSet, knows_stay}
 use Rattle.bc_pins.proofs.WithholdLemmas.{foreign_same}
 
 -- the table after a step of seat id on the word i
@@ -25,7 +29,6 @@ aside s i x id w = record { words = set s.words i x; homes = s.homes; views = se
 -- what such a step owes: the word i becomes x, and the seat's view v becomes w
 pub record SideStep (k : Key) (s : Table) (rec : ℕ → List ℕ) (i x id : ℕ) (v w : View) : Type 0 where
   pub far : pages_end k ≤ i
-  pub before : i < notice_at k
   pub grip : (p : ℕ) → grips p w.hand ≡ grips p v.hand
   pub flag : (p : ℕ) → grips_remembered p w.hand ≡ grips_remembered p v.hand
   pub recorded : w.recorded ≡ v.recorded
@@ -42,7 +45,11 @@ pub record SideStep (k : Key) (s : Table) (rec : ℕ → List ℕ) (i x id : ℕ
   pub seated : Seated k w
   pub records : RecordsContent k rec w
   pub marking : Marking w
-  pub targets : MarksTargets k rec w
+  pub targets : MarksTargets k (aside s i x id w) rec w
+  -- marks
+  pub stay : k.lanes ≡ false → KeepsSet k s (aside s i x id w)
+  pub knows : k.lanes ≡ false → Knows k (aside s i x id w) w
+  pub tracing : k.lanes ≡ false → Tracing k (aside s i x id w)
   -- counters, bits and frames
   pub set : KeepsBits k s.words (aside s i x id w).words
   pub counters : (q : ℕ) → q < k.supers → Counters k (aside s i x id w) rec q
@@ -91,28 +98,31 @@ module _ (k : Key) (s : Table) (r : Rule k s) (i x id : ℕ) (v w : View) (at : 
   withheld_same p =
       let a = foreign_same k p v w (d.grip p) d.roles in
       let b = ap (times p) d.returned in
-      let c = ap (times p) d.left in
-      let e = ap (times p) d.emptied in
       omega arith
 
   -- of page words nothing was read
   read_same : (p n : ℕ) → p < pages_of k → total (reads_as p n) t.views ≡ total (reads_as p n) s.views
   read_same p n lt = same_sum (reads_as p n) (ap (times n) (let far = d.far in d.read (page_at p) (λ e. omega arith)))
 
-  held_kept : (p : ℕ) → p < pages_of k → 0 < total (reads_as p 3) t.views → 0 < total (reads_as p 1) t.views + total (reads_as p 2) t.views
+  fetched_same : (p : ℕ) → fetched_ever t p ≡ fetched_ever s p
+  fetched_same p = same_sum (λ u. times p u.fetched) (ap (times p) d.fetched)
+
+  held_kept : (p : ℕ) → p < pages_of k → 0 < total (reads_as p 3) t.views → 0 < total (reads_as p 1) t.views + total (reads_as p 2) t.views + fetched_ever t p
   held_kept p near lt =
       let one = read_same p 1 near in
       let two = read_same p 2 near in
       let three = read_same p 3 near in
+      let got = fetched_same p in
       let a = (r.standing p near).held (omega arith) in
       omega arith
 
-  away_kept : (p : ℕ) → p < pages_of k → 0 < total (reads_as p 0) t.views + total (reads_as p 2) t.views + total (reads_as p 4) t.views → (page_word t p ≡ 0) ⊎ ((page_word t p ≡ 4) ⊎ (0 < remembered_now t p))
+  away_kept : (p : ℕ) → p < pages_of k → 0 < total (reads_as p 0) t.views + total (reads_as p 2) t.views + total (reads_as p 4) t.views → (page_word t p ≡ 0) ⊎ ((page_word t p ≡ 4) ⊎ (0 < remembered_now t p + fetched_ever t p))
   away_kept p near lt =
       let none_is = read_same p 0 near in
       let two = read_same p 2 near in
       let four = read_same p 4 near in
       let now = now_same p near in
+      let got = fetched_same p in
       elim ((r.standing p near).away (omega arith)) [
         | inl e ↦ inl (page_same p near ∙ e)
         | inr other ↦ elim other [ inl e ↦ inr (inl (page_same p near ∙ e)) | inr was ↦ inr (inr (omega arith)) ]
@@ -147,6 +157,7 @@ module _ (k : Key) (s : Table) (r : Rule k s) (i x id : ℕ) (v w : View) (at : 
   saw_same u old = record {
     seen = λ p lt. let was = old.seen p lt in let has = was.1 in let now = now_same p was.0 in (was.0, omega arith);
     gone = λ p lt. let was = old.gone p lt in (was.0, was.1, page_same p was.0 ∙ was.2);
+    busy = old.busy;
     taken = old.taken;
   }
 
@@ -156,6 +167,7 @@ module _ (k : Key) (s : Table) (r : Rule k s) (i x id : ℕ) (v w : View) (at : 
       let old = saw_same v (r.seats id v at).saw in
       record {
         seen = λ p lt. old.seen p (subst (λ (l : List ℕ). 0 < times p l) d.seen lt);
+        busy = λ p lt. subst (λ (l : List ℕ). 0 < times (owner k p) l) (sym d.roles) (old.busy p (subst (λ (l : List ℕ). 0 < times p l) d.busy lt));
         gone = λ p lt.
             let was = old.gone p (subst (λ (l : List ℕ). 0 < times p l) d.gone lt) in
             (was.0, subst (λ (l : List ℕ). 0 < times (owner k p) l) (sym d.roles) was.1, was.2);
@@ -164,15 +176,16 @@ module _ (k : Key) (s : Table) (r : Rule k s) (i x id : ℕ) (v w : View) (at : 
             let was = old.taken p (omega arith) in
             let one = d.read_more (page_at p) 1 in
             let two = d.read_more (page_at p) 2 in
+            let got = ap (times p) d.fetched in
             omega arith;
       }
 
   seat_else : (j : ℕ) (u : View) → get_elem? s.views j ≡ some u → SeatFacts k t r.rec u
-  seat_else j u is = let old = r.seats j u is in record { seated = old.seated; records = old.records; saw = saw_same u old.saw; marking = old.marking; targets = old.targets }
+  seat_else j u is = let old = r.seats j u is in record { seated = old.seated; records = old.records; saw = saw_same u old.saw; marking = old.marking; targets = targets_more k s t r.rec u u (λ q. let a = fetched_same q in omega arith) refl old.targets; knows = λ turn. knows_stay k s t u (d.stay turn) (old.knows turn) }
 
   seat_each : (j : ℕ) (u : View) → get_elem? t.views j ≡ some u → SeatFacts k t r.rec u
   seat_each j u is = elim (at_set s.views id j w u is) [
-    | inl e ↦ subst (SeatFacts k t r.rec) e.1 (record { seated = d.seated; records = d.records; saw = saw_here; marking = d.marking; targets = d.targets })
+    | inl e ↦ subst (SeatFacts k t r.rec) e.1 (record { seated = d.seated; records = d.records; saw = saw_here; marking = d.marking; targets = d.targets; knows = d.knows })
     | inr o ↦ seat_else j u o.1
   ]
 
@@ -192,10 +205,7 @@ module _ (k : Key) (s : Table) (r : Rule k s) (i x id : ℕ) (v w : View) (at : 
     frames = d.frames;
     counters = d.counters;
     bits = d.bits;
-    still = (let low = d.before in record {
-      marks = λ j turn lt. there (mark_at k j) (λ e. omega arith) ∙ r.still.marks j turn lt;
-      finished = λ j turn lt. there (finished_at k j) (λ e. omega arith) ∙ r.still.finished j turn lt;
-    });
+    tracing = d.tracing;
   }
 
 -- of the three groups of words a step on one leaves the others as they are
@@ -224,13 +234,27 @@ bits_same k s r i x id v w j b at lt few other same =
       cell = λ lt. old.cell (omega arith);
     }
 
-pub frames_same : (k : Key) (s : Table) (r : Rule k s) (i x id : ℕ) (v w : View) → get_elem? s.views id ≡ some v → ((j : ℕ) → frame_at k j ≢ i) → ((f : ℕ) → frame_in_hand f w.hand + times f w.rights ≡ frame_in_hand f v.hand + times f v.rights)
+pub frames_same : (k : Key) (s : Table) (r : Rule k s) (i x id : ℕ) (v w : View) → get_elem? s.views id ≡ some v → ((j : ℕ) → j < frame_words k → frame_at k j ≢ i) → ((f : ℕ) → frame_in_hand f w.hand + times f w.rights ≡ frame_in_hand f v.hand + times f v.rights)
     → (f : ℕ) → Frames k (aside s i x id w) f
 frames_same k s r i x id v w at other same f =
     let old = r.frames f in
     let a = total_set (λ (u : View). frame_in_hand f u.hand + times f u.rights) s.views id v w at in
     let b = same f in
-    let word_is : get_or (set s.words i x) (frame_at k (f / 64)) 0 ≡ get_or s.words (frame_at k (f / 64)) 0 = get_or-set_other s.words i (frame_at k (f / 64)) x 0 (other (f / 64)) in
-    let clear : is_clear k (set s.words i x) f ≡ is_clear k s.words f = ap (λ (n : ℕ). nat_lt f k.frames && (bit_at n (f % 64) == 0)) word_is in
+    let word_is : f / 64 < frame_words k → get_or (set s.words i x) (frame_at k (f / 64)) 0 ≡ get_or s.words (frame_at k (f / 64)) 0 = λ less. get_or-set_other s.words i (frame_at k (f / 64)) x 0 (other (f / 64) less) in
+    let clear : is_clear k (set s.words i x) f ≡ is_clear k s.words f = elim (cases_lt f k.frames) [
+      | inl lt ↦ ap (λ (n : ℕ). nat_lt f k.frames && (bit_at n (f % 64) == 0)) (word_is (omega arith))
+      | inr le ↦ ap (λ (c : Bool). c && (frame_bit k (set s.words i x) f == 0)) (ge-nat_lt f k.frames le) ∙ sym (ap (λ (c : Bool). c && (frame_bit k s.words f == 0)) (ge-nat_lt f k.frames le))
+    ] in
     let used = old.used in
-    record { used = omega (arith, ap one_if clear); free = λ e. clear ∙ old.free e; past = λ le lt. ap (λ (n : ℕ). bit_at n (f % 64)) word_is ∙ old.past le lt }
+    record { used = omega (arith, ap one_if clear); past = λ le lt. ap (λ (n : ℕ). bit_at n (f % 64)) (word_is (omega arith)) ∙ old.past le lt }
+
+-- and marks, where it lies before them
+pub keeps_aside : (k : Key) (s : Table) (i x id : ℕ) (v w : View) → get_elem? s.views id ≡ some v → pages_end k ≤ i → i < notice_at k → KeepsBits k s.words (aside s i x id w).words → w.won ≡ v.won → w.finished ≡ v.finished → KeepsMarks k s (aside s i x id w)
+keeps_aside k s i x id v w at far low set won finished = record {
+  marks = λ j lt. get_or-set_other s.words i (mark_at k j) x 0 (λ e. omega arith);
+  ends = λ j lt. get_or-set_other s.words i (finished_at k j) x 0 (λ e. omega arith);
+  won = λ j b. let a = total_set (λ (u : View). tells j b u.won) s.views id v w at in let e = ap (tells j b) won in omega arith;
+  finished = λ j b. let a = total_set (λ (u : View). tells j b u.finished) s.views id v w at in let e = ap (tells j b) finished in omega arith;
+  set = set;
+  pages = λ p lt four. inl (sym (get_or-set_other s.words i (page_at p) x 0 (λ e. omega arith)) ∙ four);
+}

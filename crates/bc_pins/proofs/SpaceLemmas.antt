@@ -1,5 +1,5 @@
 -- The space that a closed table's words and boxes make.
-use Rattle.std.proofs.Common.{◌≡◌, ℕ, ◌+◌, ◌*◌, ◌/◌, ◌%◌, ◌<◌, ◌≤◌, ◌==◌, ◌&&◌, ◌||◌, if◌then◌else◌, Bool, true, false, List, [], ◌∷◌, length, map, get_or, slice_index, Option, None, count_by, nat_lt, inl, inr, refl, ap, sym, subst, ◌∙◌, arith}
+use Rattle.std.proofs.Common.{◌≡◌, ℕ, ◌+◌, ◌*◌, ◌/◌, ◌%◌, ◌<◌, ◌≤◌, ◌==◌, ◌&&◌, if◌then◌else◌, Bool, true, false, List, [], ◌∷◌, length, map, get_or, slice_index, Option, None, count_by, nat_lt, inl, inr, refl, ap, sym, subst, ◌∙◌, arith}
 use Prim.Native.Nat.{suc}
 use mathlib.Core.Option.{some}
 use Rattle.std.proofs.lemmas.Bool.{cases_lt}
@@ -63,10 +63,6 @@ use Rattle.bc_pins.proofs.BoxLemmas.{BoxLies, box_lies, no_frame, frames_back}
 use Rattle.bc_pins.proofs.PartsLemmas.{slot_there, word_absent}
 use Rattle.bc_pins.proofs.MayOpenLemmas.{no_box}
 
-clear_or : (x y z : Bool) → y ≡ true → (x ≡ true → (y && z) ≡ true) → (x || z) ≡ (y && z)
-clear_or true y z e so = sym (so refl)
-clear_or false y z e so = sym (ap (λ (b : Bool). b && z) e)
-
 point_few : (b c : Bool) → (if b then one_if c else 0) ≤ 1
 point_few true c = one_few c
 point_few false c = omega arith
@@ -78,7 +74,7 @@ absent_held e = cc
 both_same : {X : Type 0} (a b : X) (l m : List X) → a ≡ b → l ≡ m → a ∷ l ≡ b ∷ m
 both_same a b l m e f = cc
 
-part_same : {X : Type 0} (g : Header → X) (hs ks : List Header) → length ks ≡ length hs → ((q : ℕ) → g (get_or ks q unused_header) ≡ g (get_or hs q unused_header)) → map g ks ≡ map g hs
+pub part_same : {X : Type 0} (g : Header → X) (hs ks : List Header) → length ks ≡ length hs → ((q : ℕ) → g (get_or ks q unused_header) ≡ g (get_or hs q unused_header)) → map g ks ≡ map g hs
 part_same g [] [] size each = refl
 part_same g [] (k ∷ ks) size each = absurd (omega arith)
 part_same g (h ∷ hs) [] size each = absurd (omega arith)
@@ -173,11 +169,10 @@ module _ (k : Key) (whole parts : SpaceParts) (rest : IsRest whole parts (pages_
   free_now : (f : ℕ) → is_free now f ≡ is_clear k words f
   free_now f = elim (cases_lt f k.frames) [
     | inl lt ↦
-        let frame = closed.frames f in
         let at : frame_at k 0 + f / 64 ≡ frame_at k (f / 64) = omega arith in
         let size : length whole.pool ≡ length k.pool = ap length pool in
-        pool_set.near f (omega arith) ∙ ap (λ (i : ℕ). is_free whole.pool f || (bit_at (get_or words i 0) (f % 64) == 0)) at
-        ∙ clear_or (is_free whole.pool f) (nat_lt f k.frames) (frame_bit k words f == 0) (lt-ltb f k.frames lt) (λ e. frame.free (ap (λ (l : List Bool). is_free l f) (sym pool) ∙ e))
+        pool_set.near f (omega arith) ∙ ap (λ (i : ℕ). bit_at (get_or words i 0) (f % 64) == 0) at
+        ∙ sym (ap (λ (b : Bool). b && (frame_bit k words f == 0)) (lt-ltb f k.frames lt))
     | inr le ↦
         let size : length whole.pool ≡ length k.pool = ap length pool in
         pool_set.far f (omega arith) ∙ get_or_past whole.pool f false (omega arith) ∙ sym (ap (λ (b : Bool). b && (frame_bit k words f == 0)) (ge-nat_lt f k.frames le))
@@ -209,7 +204,7 @@ module _ (k : Key) (whole parts : SpaceParts) (rest : IsRest whole parts (pages_
   state_is p lt = ap (λ (s : Layout). state_at s.states p) (sym layout) ∙ state-header whole.headers.items p lt
 
   -- an allocated cell lies on one of the table's pages
-  cell_near : (a : ℕ) → IsAllocated k.opening a → page_of a < n
+  pub cell_near : (a : ℕ) → IsAllocated k.opening a → page_of a < n
   cell_near a there = elim (cases_lt (page_of a) n) [
     | inl near ↦ near
     | inr far ↦

@@ -21,8 +21,9 @@ use Rattle.bc_pins.specs.Views.{grips, grips_remembered, frame_in_hand, counted_
 use Rattle.bc_pins.specs.Facts.{Table, slot, IsHomed, Lies, remembered_now, RecordsContent, Seated, Marking, frame_lodged, points, page_word}
 use Rattle.bc_pins.specs.Rule.{Rule}
 use Rattle.bc_pins.specs.Steps.{Mine, both_slots, gripping, having_read, ReadsWord, Takes, Took}
-use Rattle.bc_pins.proofs.TotalLemmas.{total_set, total_at, total_none, total_only, total_two, one_same, one_other, one_is}
+use Rattle.bc_pins.proofs.TotalLemmas.{total_set, total_at, total_only, total_two, one_same, one_other, one_is}
 use Rattle.bc_pins.proofs.WithholdLemmas.{foreign_none}
+use Rattle.bc_pins.proofs.MarkedLemmas.{targets_kept}
 use Rattle.bc_pins.proofs.LogLemmas.{reads-more, pages-else, gripped_read, gripped_two, gripped_not}
 use Rattle.bc_pins.proofs.PageSteps.{after, PageStep, page_step}
 use Rattle.bc_pins.proofs.ReadLemmas.{same_page, saw_kept, remembered_word, reads, look_step}
@@ -111,6 +112,7 @@ module _ (k : Key) (s : Table) (r : Rule k s) (p id old role : ℕ) (v : View) (
         mine = old_facts.mine;
         others = old_facts.others;
         unrecorded = old_facts.unrecorded;
+        unfetched = old_facts.unfetched;
         in_hand = λ g e. subst (λ (x : Hand). (x.page < pages_of k) × (x.content ≡ r.rec x.page)) (some_hand _ g e) (near, content);
       }
 
@@ -119,7 +121,6 @@ module _ (k : Key) (s : Table) (r : Rule k s) (p id old role : ℕ) (v : View) (
       let old_facts = (r.seats id v at).seated in
       record {
         about = old_facts.about;
-        unfetched = old_facts.unfetched;
         idle = λ e. let z : has_role v role ≡ 0 = ap (times role) e in absurd (omega arith);
       }
 
@@ -146,8 +147,8 @@ module _ (k : Key) (s : Table) (r : Rule k s) (p id old role : ℕ) (v : View) (
       }
 
   -- the page was read as what it was
-  took : (q : ℕ) → 0 < grips q w.hand → 0 < reads_as q 1 w + reads_as q 2 w
-  took q lt = subst (λ (n : ℕ). 0 < reads_as n 1 w + reads_as n 2 w) (one_is p q lt) (gripped_read flag p v.read)
+  took : (q : ℕ) → 0 < grips q w.hand → 0 < reads_as q 1 w + reads_as q 2 w + times q w.fetched
+  took q lt = subst (λ (n : ℕ). 0 < reads_as n 1 w + reads_as n 2 w + times n w.fetched) (one_is p q lt) (let a = gripped_read flag p v.read in omega arith)
 
   -- and as Remembered only where it is in hand so
   read_two : reads_as p 0 v + reads_as p 2 v + reads_as p 4 v < reads_as p 0 w + reads_as p 2 w + reads_as p 4 w → 0 < grips_remembered p w.hand
@@ -200,11 +201,12 @@ module _ (k : Key) (s : Table) (r : Rule k s) (p id old role : ℕ) (v : View) (
         else_fetched = λ q ne. refl;
         else_left = λ q ne. refl;
         else_emptied = λ q ne. refl;
-        withheld = (let z = foreign_none k p v nothing in omega arith);
+        withheld = inr (let z = foreign_none k p v nothing in omega arith);
         noted_busy = λ lt. absurd (omega arith);
         else_returned = λ q ne. refl;
         else_busy = λ q ne. refl;
         stays = λ x. absurd (not_four x);
+        fetched_more = omega arith;
         stays_absent = λ x. absurd (omega arith);
         read_more = λ n. reads-more (page_at p) (page_at p) (if flag then 2 else 1) n v.read;
         read_held = λ lt. absurd (let a = gripped_not flag p 3 v.read (λ x. omega arith) (λ x. omega arith) in omega arith);
@@ -213,17 +215,28 @@ module _ (k : Key) (s : Table) (r : Rule k s) (p id old role : ℕ) (v : View) (
         count = λ q lt. let a = no_count p q in let b = hand_counts p q in let c = not_gone (points k p (r.rec p) q) in omega arith;
         else_count = λ j q ne. hand_counts j q ∙ sym (no_count j q);
         bookmarked = refl;
+        won = refl;
+        known = refl;
+        finished = refl;
+        left_marked = λ e. absurd (omega arith);
         marking = marking_kept;
-        targets = record { each = (r.seats id v at).targets.each };
+        targets = targets_kept k s r.rec (set s.words (page_at p) 3) homes id v w at (λ q. omega arith) refl (r.seats id v at).targets;
         roles = refl;
         seated = seated_kept;
         records = records_kept;
-        saw = saw_kept k s p 3 homes id v w at wide fewer else_flag refl refl refl (λ x. absurd (not_four x)) took (r.seats id v at).saw;
+        saw = saw_kept k s p 3 homes id v w at wide fewer else_flag refl refl refl refl (λ x. absurd (not_four x)) took (r.seats id v at).saw;
       }
 
   -- no other seat has the role of the lane that holds the page's domain, so none records that the page is remembered
   recorded_alone : 0 < has_role v (owner k p) → total (λ (u : View). times p u.recorded) s.views ≡ times p v.recorded
   recorded_alone mine = total_only (λ (u : View). times p u.recorded) s.views id v at (λ j u ne is. (r.seats j u is).records.unrecorded p (
+      let two = total_two (λ (z : View). has_role z (owner k p)) s.views j id u v ne is at in
+      let each = r.roles.each (owner k p) in
+      let apart = r.roles.apart (owner k p) in
+      omega arith))
+
+  fetched_alone : 0 < has_role v (owner k p) → total (λ (u : View). times p u.fetched) s.views ≡ times p v.fetched
+  fetched_alone mine = total_only (λ (u : View). times p u.fetched) s.views id v at (λ j u ne is. (r.seats j u is).records.unfetched p (
       let two = total_two (λ (z : View). has_role z (owner k p)) s.views j id u v ne is at in
       let each = r.roles.each (owner k p) in
       let apart = r.roles.apart (owner k p) in
@@ -249,12 +262,12 @@ module _ (k : Key) (s : Table) (r : Rule k s) (p id old role : ℕ) (v : View) (
             let now : one_if (page_word s p == 2) ≡ 1 = ap (λ (n : ℕ). one_if (n == 2)) is ∙ ap one_if on in
             let ever = standing.recorded (omega arith) in
             subst (λ (a : Key). 0 < one_if (opened_word a p == 2) + times p v.recorded) (sym about) (omega arith);
-        here = λ e.
+        here = λ e lt.
             let four = other_is 4 (λ x. omega arith) (λ x. omega arith) in
-            let none : total (λ (u : View). times p u.fetched) s.views ≡ 0 = total_none (λ (u : View). times p u.fetched) s.views (λ j u is. ap (times p) (r.seats j u is).seated.unfetched) in
+            let alone = fetched_alone (subst (λ (a : Key). 0 < has_role v (owner a p)) about lt) in
             let was : one_if (opened_word k p == 4) ≡ 1 = ap (λ (n : ℕ). one_if (n == 4)) (subst (λ (a : Key). opened_word a p ≡ 4) about e) in
             let sum = standing.gone in
-            absurd (omega arith);
+            omega arith;
       }
 
   pub hit_rule : Rule k (after s p 3 homes id w)

@@ -127,6 +127,7 @@ same_after a b c x y = record {
   about = y.about ∙ x.about;
   alive = y.alive ∙ x.alive;
   roles = y.roles ∙ x.roles;
+  fetched = y.fetched ∙ x.fetched;
 }
 
 -- the same for a page that was taken to work on
@@ -183,6 +184,7 @@ module _ (pins : Pins) (role : Role) (seat : Seat) (d : IsDealt pins.table.share
     hand = free.hand;
     slots = free.slots;
     rights = rights ∙ ap (λ (v : View). v.rights) dealt_view;
+    opens = (let none = ap (λ (v : View). length v.fetched) dealt_view in let same_opens = same.opens in let were = d.opens in let fetches = ap length same.fetched in omega arith);
     tidy = tidy;
   }
 

@@ -1,5 +1,5 @@
 -- What the calls of a table require and tell.
-use Rattle.std.specs.Prelude.{◌≡◌, ℕ, ◌<◌, ◌⊎◌, Bool, true, false, if◌then◌else◌, List, [], Some, None}
+use Rattle.std.specs.Prelude.{◌≡◌, ℕ, ◌-◌, ◌^◌, ◌<◌, ◌⊎◌, length, min, Bool, true, false, if◌then◌else◌, List, [], Some, None}
 use Rattle.bc_bookmarks.specs.Targets.{HasCell}
 use Rattle.bc_pins.specs.declared.key.Role.{Role}
 use Rattle.bc_pins.specs.declared.key.Role.TheVariants.{Marker}
@@ -37,7 +37,7 @@ pub record IsAt (pins : Pins) (seat : Seat) : Type 0 where
   pub alive : (view_of seat).alive ≡ true
   pub role : 0 < has_role (view_of seat) (role_number seat.role)
 
--- a call leaves the seat that seat, with its role
+-- a call leaves the seat that seat, with its role; it took no page from Gone and opened no box
 pub record IsSameSeat (old new : Seat) : Type 0 where
   pub table : new.inner.table_id ≡ old.inner.table_id
   pub id : new.inner.id ≡ old.inner.id
@@ -46,6 +46,20 @@ pub record IsSameSeat (old new : Seat) : Type 0 where
   pub about : (view_of new).about ≡ (view_of old).about
   pub alive : (view_of new).alive ≡ (view_of old).alive
   pub roles : (view_of new).roles ≡ (view_of old).roles
+  pub fetched : (view_of new).fetched ≡ (view_of old).fetched
+
+-- the same of a call that may take a page from Gone, or open a box
+pub record IsSameWorker (old new : Seat) : Type 0 where
+  pub table : new.inner.table_id ≡ old.inner.table_id
+  pub id : new.inner.id ≡ old.inner.id
+  pub role : new.role ≡ old.role
+  pub about : (view_of new).about ≡ (view_of old).about
+  pub alive : (view_of new).alive ≡ (view_of old).alive
+  pub roles : (view_of new).roles ≡ (view_of old).roles
+
+-- the seat opened as many boxes as it took pages from Gone, up to the last value of 64 bits
+abbrev pub CountsFetches : Seat → Type 0
+CountsFetches seat = seat.opens ≡ min (length (view_of seat).fetched) (2 ^ 64 - 1)
 
 -- nothing is in the seat's hands
 pub record IsFree (seat : Seat) : Type 0 where

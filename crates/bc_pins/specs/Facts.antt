@@ -8,7 +8,6 @@ use mathlib.Core.Option as maybe
 use lib.ListN.{get_elem?}
 use Rattle.atomic_table.specs.Table.{State}
 use Rattle.bc_bits.specs.Counting.{one_if}
-use Rattle.bc_frames.specs.Pool.{is_free}
 use Rattle.bc_word.specs.Addresses.{superpage_of, cell_number}
 use Rattle.bc_superpages.specs.declared.spaces.Homed.{Homed}
 use Rattle.bc_superpages.specs.Layout.{set_of}
@@ -18,7 +17,7 @@ use Rattle.bc_pins.specs.declared.views.Lodged.{Lodged}
 use Rattle.bc_pins.specs.declared.views.Lodged.TheVariants.{Nothing, Home, Away}
 use Rattle.bc_pins.specs.declared.views.Hand.{Hand}
 use Rattle.bc_pins.specs.declared.views.View.{View}
-use Rattle.bc_pins.specs.Key.{Key, pages_of, owner, page_at, counter_at, bookmark_at, mark_at, finished_at, frame_at, frame_words, frame_slot, store_slot}
+use Rattle.bc_pins.specs.Key.{Key, pages_of, owner, page_at, counter_at, bookmark_at, frame_at, frame_words, frame_slot, store_slot}
 use Rattle.bc_pins.specs.Totals.{total, times, sum_to}
 use Rattle.bc_pins.specs.Contents.{IsContent, RefersYoung, IsBarePage, objects_in}
 use Rattle.bc_pins.specs.Views.{grips, grips_remembered, frame_in_hand, counted_for, sets_bit, sets_for, marked_for, has_role, withholds, reads_as, entries, opened_word, record_of}
@@ -103,36 +102,44 @@ IsUnheld k = k.lanes ≡ false → (page : ℕ) → times (owner k page) k.roles
 abbrev pub remembered_ever : Key → Table → ℕ → ℕ
 remembered_ever k s page = one_if (opened_word k page == 2) + total (λ (v : View). times page v.recorded) s.views
 
+-- how often the page was taken from Gone
+abbrev pub fetched_ever : Table → ℕ → ℕ
+fetched_ever s page = total (λ (v : View). times page v.fetched) s.views
+
 -- Words: a page is Remembered, or in hand so, exactly where it was at the opening or its lane put it back so; it is Gone, and
 -- Absent, by the opening and by what the views made of it. In a mark turn no page becomes Remembered. A page that its lane read as
--- Held with nothing in hand is in another's hands, or was and has been put back by that one, made Gone or made Absent. One that any
+-- Held with nothing in hand, and didn't take from Gone since, is in another's hands, was put back by another, or is Gone or Absent. One that any
 -- view read as Held was taken, so somebody read it as Home or Remembered. One that any view read as Absent, Remembered or Gone is one
--- of these, or in hand to be put back as Remembered, since none is taken from Absent or Gone yet
+-- of these, or in hand to be put back as Remembered, or was taken from Gone by its lane, since none is taken from Absent. Whoever
+-- took one from Gone read it as Gone, and not as Home or Remembered
 pub record Standing (k : Key) (s : Table) (page : ℕ) : Type 0 where
   pub remembered : 0 < remembered_ever k s page → 0 < remembered_now s page
   pub recorded : 0 < remembered_now s page → 0 < remembered_ever k s page
   pub as_opened : k.lanes ≡ false → 0 < remembered_ever k s page → opened_word k page ≡ 2
   pub gone : one_if (page_word s page == 4) + total (λ (v : View). times page v.fetched) s.views ≡ one_if (opened_word k page == 4) + total (λ (v : View). times page v.left) s.views
   pub absent : one_if (page_word s page == 0) ≡ one_if (opened_word k page == 0) + total (λ (v : View). times page v.emptied) s.views
-  pub busy : 0 < total (λ (v : View). times page v.busy) s.views → 0 < total (withholds k page) s.views
-  pub held : 0 < total (reads_as page 3) s.views → 0 < total (reads_as page 1) s.views + total (reads_as page 2) s.views
+  pub busy : 0 < total (λ (v : View). times page v.busy) s.views → 0 < total (withholds k page) s.views + one_if (page_word s page == 4) + one_if (page_word s page == 0)
+  pub held : 0 < total (reads_as page 3) s.views → 0 < total (reads_as page 1) s.views + total (reads_as page 2) s.views + fetched_ever s page
   pub away : 0 < total (reads_as page 0) s.views + total (reads_as page 2) s.views + total (reads_as page 4) s.views
-      → (page_word s page ≡ 0) ⊎ ((page_word s page ≡ 4) ⊎ (0 < remembered_now s page))
+      → (page_word s page ≡ 0) ⊎ ((page_word s page ≡ 4) ⊎ (0 < remembered_now s page + fetched_ever s page))
 
--- Content, of one seat: the lane that holds a page's domain records its content and that it is remembered, and nobody else does. What
--- a seat has in hand has the content that it took
+-- Content, of one seat: the lane that holds a page's domain records its content and that it is remembered, and takes it from Gone,
+-- and nobody else does. What a seat has in hand has the content that it took
 pub record RecordsContent (k : Key) (rec : ℕ → List ℕ) (v : View) : Type 0 where
   pub mine : (p : ℕ) → 0 < has_role v (owner k p) → rec p ≡ record_of v p
   pub others : (p : ℕ) → has_role v (owner k p) ≡ 0 → entries p v.changed ≡ 0
   pub unrecorded : (p : ℕ) → has_role v (owner k p) ≡ 0 → times p v.recorded ≡ 0
+  pub unfetched : (p : ℕ) → has_role v (owner k p) ≡ 0 → times p v.fetched ≡ 0
   pub in_hand : (h : Hand) → v.hand ≡ Some h → (h.page < pages_of k) × (h.content ≡ rec h.page)
 
--- Seen: a page that was read as Remembered is Remembered or in hand so, and an own page that was read as Gone is Gone. A page that
--- is in hand was read as Home or Remembered when it was taken
+-- Seen: a page that was read as Remembered is Remembered or in hand so, and an own page that was read as Gone is Gone until the seat
+-- takes it. Own pages alone are noted as busy. A page that is in hand was read as Home or Remembered when it was taken, or was taken
+-- from Gone
 pub record Saw (k : Key) (s : Table) (v : View) : Type 0 where
   pub seen : (p : ℕ) → 0 < times p v.seen → (p < pages_of k) × (0 < remembered_now s p)
   pub gone : (p : ℕ) → 0 < times p v.gone → (p < pages_of k) × (0 < has_role v (owner k p)) × (page_word s p ≡ 4)
-  pub taken : (p : ℕ) → 0 < grips p v.hand → 0 < reads_as p 1 v + reads_as p 2 v
+  pub busy : (p : ℕ) → 0 < times p v.busy → 0 < has_role v (owner k p)
+  pub taken : (p : ℕ) → 0 < grips p v.hand → 0 < reads_as p 1 v + reads_as p 2 v + times p v.fetched
 
 -- a seat that has done and read nothing and has nothing in hand
 pub record IsIdle (v : View) : Type 0 where
@@ -144,12 +151,14 @@ pub record IsIdle (v : View) : Type 0 where
   pub returned : v.returned ≡ []
   pub fetched : v.fetched ≡ []
   pub bookmarked : v.bookmarked ≡ []
+  pub won : v.won ≡ []
+  pub known : v.known ≡ []
+  pub finished : v.finished ≡ []
   pub read : v.read ≡ []
 
--- a seat knows what the table was told, and one without a role has done nothing. None has taken a page from Gone: no step does yet
+-- a seat knows what the table was told, and one without a role has done nothing
 pub record Seated (k : Key) (v : View) : Type 0 where
   pub about : v.alive ≡ true → v.about ≡ k
-  pub unfetched : v.fetched ≡ []
   pub idle : v.roles ≡ [] → IsIdle v
 
 -- Roles: each role that was given out is in exactly one view, and none was given out twice
@@ -179,11 +188,10 @@ frame_bit k words frame = bit_at (slice_index words (frame_at k (frame / 64))) (
 abbrev pub is_clear : Key → List ℕ → ℕ → Bool
 is_clear k words frame = nat_lt frame k.frames && (frame_bit k words frame == 0)
 
--- Frames: each frame is in one place: a page's at home, in hand, a right in hand, a nursery's, or free. One that was free at the
--- opening still is, since none is claimed in a turn yet. The bits beyond the last frame are set and nobody's
+-- Frames: each frame is in one place: a page's at home, in hand, a right in hand, a nursery's, or free. The bits beyond the last
+-- frame are set and nobody's
 pub record Frames (k : Key) (s : Table) (frame : ℕ) : Type 0 where
   pub used : frame_used s frame + (times frame k.nursery + one_if (is_clear k s.words frame)) ≡ one_if (nat_lt frame k.frames)
-  pub free : is_free k.pool frame ≡ true → is_clear k s.words frame ≡ true
   pub past : k.frames ≤ frame → frame < 64 * frame_words k → frame_bit k s.words frame ≡ 1
 
 -- how often a page with this content counts for a superpage: once where it has a target there, or not
@@ -222,11 +230,7 @@ pub record IsBitOfTarget (k : Key) (page : ℕ) (content : List ℕ) (w b : ℕ)
   pub superpage : superpage_of address ≡ w / 16
   pub number : cell_number (class_at k.opening address) address ≡ 64 * (w % 16) + b
 
--- each bookmark bit that a seat set for a page is that of a target which the page has by its record
-pub record MarksTargets (k : Key) (rec : ℕ → List ℕ) (v : View) : Type 0 where
-  pub each : (p w b : ℕ) → b < 64 → 0 < sets_for p w b v.bookmarked → (p < pages_of k) × IsBitOfTarget k p (rec p) w b
-
--- the words that no step changes before marks are words of a table: those of a mark turn
-pub record Still (k : Key) (s : Table) : Type 0 where
-  pub marks : (w : ℕ) → k.lanes ≡ false → w < 16 * k.supers → word s (mark_at k w) ≡ slice_index (set_of k.opening.marks (w / 16)) (w % 16)
-  pub finished : (w : ℕ) → k.lanes ≡ false → w < 16 * k.supers → word s (finished_at k w) ≡ slice_index (set_of k.opening.finished (w / 16)) (w % 16)
+-- each bookmark bit that a seat set for a page is that of a target which the page has by its record, unless it was taken from Gone
+-- since: then its lane may have changed it
+pub record MarksTargets (k : Key) (s : Table) (rec : ℕ → List ℕ) (v : View) : Type 0 where
+  pub each : (p w b : ℕ) → b < 64 → 0 < sets_for p w b v.bookmarked → (p < pages_of k) × (fetched_ever s p ≡ 0 → IsBitOfTarget k p (rec p) w b)

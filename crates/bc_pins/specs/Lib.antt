@@ -8,6 +8,8 @@ pub mod Contents
 pub mod Views
 -- The turn facts, which hold between any two steps
 pub mod Facts
+-- The mark facts, which hold besides in a mark turn
+pub mod Tracing
 -- The rule
 pub mod Rule
 -- The steps, and what each tells
@@ -30,3 +32,5 @@ pub mod Tidy
 pub mod Opened
 -- What closing a table requires, and what it gives.
 pub mod Closing
+-- Frames in use
+pub mod InUse

@@ -11,7 +11,7 @@ use Rattle.bc_pins.specs.declared.pins.Pins.{Pins}
 use Rattle.bc_pins.specs.declared.pins.Seat.{Seat}
 use Rattle.bc_pins.specs.Key.{Key, pages_of, is_lanes, role_number, lane_role}
 use Rattle.bc_pins.specs.Totals.{times}
-use Rattle.bc_pins.specs.Opening.{IsOpenable, key_for}
+use Rattle.bc_pins.specs.Opening.{IsOpenable, IsMarkable, key_for}
 use Rattle.bc_pins.specs.Seating.{AreDealt}
 use Rattle.bc_pins.specs.Calls.{key_of}
 
@@ -35,6 +35,7 @@ pub record IsKeyOf (parts : SpaceParts) (supers : ℕ) (turn : Turn) (holders : 
   pub absent : (p : ℕ) → 4 * supers ≤ p → state_at k.opening.states p ≡ Absent
   pub layout : parts_layout parts ≡ k.opening
   pub openable : IsOpenable k.opening
+  pub markable : is_lanes turn ≡ false → IsMarkable k.opening
   pub some : 0 < length roles
   pub apart : (r : ℕ) → times r (map role_number roles) ≤ 1
   pub unheld : is_lanes turn ≡ false → holders ≡ []

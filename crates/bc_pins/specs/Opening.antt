@@ -1,12 +1,13 @@
 -- What a table needs when it is opened, and what it leaves when it is closed.
-use Rattle.std.specs.Prelude.{◌≡◌, ◌≢◌, ℕ, ◌+◌, ◌*◌, ◌^◌, ◌<◌, ◌≤◌, ◌==◌, if◌then◌else◌, false, List, [], ◌∷◌, length, map, slice_index, slice_index_or, Bool, None}
+use Rattle.std.specs.Prelude.{◌≡◌, ◌≢◌, ℕ, ◌+◌, ◌*◌, ◌^◌, ◌<◌, ◌≤◌, ◌==◌, if◌then◌else◌, true, false, List, [], ◌∷◌, length, map, slice_index, slice_index_or, Bool, None}
 use mathlib.Core.Option.{some}
 use lib.ListN.{get_elem?}
 use Rattle.atomic_table.specs.Table.{opening}
 use Rattle.bc_superpages.specs.declared.headers.PageState.TheVariants as state
 use Rattle.bc_superpages.specs.declared.parts.SpaceParts.{SpaceParts}
 use Rattle.bc_superpages.specs.Layout.{Layout, content_at, is_cell}
-use Rattle.bc_superpages.specs.LayoutAt.{state_at}
+use Rattle.bc_superpages.specs.LayoutAt.{state_at, IsAllocated}
+use Rattle.bc_superpages.specs.Collecting.{is_marked, is_finished}
 use Rattle.bc_superpages.specs.Calls.{IsClosed}
 use Rattle.bc_superpages.specs.Parts.{state_in, AreParts}
 use Rattle.bc_bookmarks.specs.Summarised.{IsSummarised}
@@ -20,7 +21,8 @@ use Rattle.bc_pins.specs.Key.{Key, pages_of, page_at, counter_at, all_words, is_
 use Rattle.bc_pins.specs.Totals.{times, sum_to}
 use Rattle.bc_pins.specs.Contents.{IsContent, RefersYoung, IsBarePage}
 use Rattle.bc_pins.specs.Views.{marked_for, opened_content, opened_word, record_of}
-use Rattle.bc_pins.specs.Facts.{Table, Lies, Summary, Frames, Counters, Bits, points, Still, Standing, IsUnheld, MarksTargets}
+use Rattle.bc_pins.specs.Facts.{Table, Lies, Summary, Frames, Counters, Bits, points, Standing, IsUnheld, MarksTargets}
+use Rattle.bc_pins.specs.Tracing.{RefersToCell, Tracing}
 use Rattle.bc_pins.specs.Steps.{fresh}
 
 -- the table as it is opened
@@ -38,6 +40,11 @@ pub record OpensPage (k : Key) (words : List ℕ) (slots : List Lodged) (p : ℕ
   pub bare : opened_word k p ≡ 0 → IsBarePage k.opening p
   pub gone : opened_word k p ≡ 4 → Summary k words p (opened_content k p)
 
+-- a space over which a mark turn may begin: marked cells are allocated, and what a finished one refers to is marked
+pub record IsMarkable (s : Layout) : Type 0 where
+  pub cells : (a : ℕ) → is_marked s a ≡ true → IsAllocated s a
+  pub closed : (a b : ℕ) → is_finished s a ≡ true → RefersToCell s a b → is_marked s b ≡ true
+
 -- words and slots with which a table may be opened
 pub record MayOpen (k : Key) (words : List ℕ) (slots : List Lodged) : Type 0 where
   pub words_long : length words ≡ all_words k
@@ -50,7 +57,7 @@ pub record MayOpen (k : Key) (words : List ℕ) (slots : List Lodged) : Type 0 w
   pub frames : (f : ℕ) → Frames k (opened k words slots) f
   pub counters : (q : ℕ) → q < k.supers → Counters k (opened k words slots) (opened_content k) q
   pub bits : (w b : ℕ) → w < 16 * k.supers → b < 64 → Bits k (opened k words slots) w b
-  pub still : Still k (opened k words slots)
+  pub tracing : k.lanes ≡ false → Tracing k (opened k words slots)
 
 -- a page of a table that is closed, where v is the view that all others were joined into: its box lies as its word tells, with
 -- the record as its content
@@ -71,10 +78,11 @@ pub record HasClosed (k : Key) (v : View) (words : List ℕ) (slots : List Lodge
   pub frames : (f : ℕ) → Frames k (record { words = words; homes = map some slots; views = v ∷ [] }) f
   pub counters : (q : ℕ) → q < k.supers → slice_index words (counter_at k q) ≡ sum_to (λ p. if slice_index words (page_at p) == 4 then points k p (record_of v p) q else 0) (pages_of k)
   pub bits : (w b : ℕ) → w < 16 * k.supers → b < 64 → Bits k (record { words = words; homes = map some slots; views = v ∷ [] }) w b
-  pub still : Still k (record { words = words; homes = map some slots; views = v ∷ [] })
+  pub tracing : k.lanes ≡ false → Tracing k (record { words = words; homes = map some slots; views = v ∷ [] })
   pub marked : (p : ℕ) → 0 < marked_for p v.bookmarked → 0 < times p v.left
-  pub targets : MarksTargets k (record_of v) v
-  pub unfetched : v.fetched ≡ []
+  pub targets : MarksTargets k (record { words = words; homes = map some slots; views = v ∷ [] }) (record_of v) v
+  -- in a mark turn no page was taken from Gone
+  pub unfetched : k.lanes ≡ false → (p : ℕ) → times p v.fetched ≡ 0
   pub gone : (p : ℕ) → 0 < times p v.gone → (p < pages_of k) × (slice_index words (page_at p) ≡ 4)
 
 -- a space over which a table may be opened: it is summarised and closed, no cell is promised, and no page that is Home refers

@@ -1,12 +1,13 @@
 -- The rule of a table: the turn facts of every page, seat and frame.
-use Rattle.std.specs.Prelude.{◌≡◌, ℕ, ◌+◌, ◌*◌, ◌^◌, ◌<◌, List, length}
+use Rattle.std.specs.Prelude.{◌≡◌, ℕ, ◌+◌, ◌*◌, ◌^◌, ◌<◌, false, List, length}
 use mathlib.Core.Option.{some}
 use lib.ListN.{get_elem?}
 use Rattle.bc_pins.specs.declared.views.View.{View}
 use Rattle.bc_pins.specs.Key.{Key, pages_of, owner, all_words}
 use Rattle.bc_pins.specs.Totals.{times}
 use Rattle.bc_pins.specs.Views.{opened_content}
-use Rattle.bc_pins.specs.Facts.{Table, Place, Content, Standing, RecordsContent, Saw, Seated, Marking, MarksTargets, IsUnheld, Roles, Frames, Counters, Bits, Still}
+use Rattle.bc_pins.specs.Facts.{Table, Place, Content, Standing, RecordsContent, Saw, Seated, Marking, MarksTargets, IsUnheld, Roles, Frames, Counters, Bits}
+use Rattle.bc_pins.specs.Tracing.{Tracing, Knows}
 
 -- what holds of one seat
 pub record SeatFacts (k : Key) (s : Table) (rec : ℕ → List ℕ) (v : View) : Type 0 where
@@ -14,7 +15,8 @@ pub record SeatFacts (k : Key) (s : Table) (rec : ℕ → List ℕ) (v : View) :
   pub records : RecordsContent k rec v
   pub saw : Saw k s v
   pub marking : Marking v
-  pub targets : MarksTargets k rec v
+  pub targets : MarksTargets k s rec v
+  pub knows : k.lanes ≡ false → Knows k s v
 
 pub record Rule (k : Key) (s : Table) : Type 0 where
   -- the record of each page
@@ -33,4 +35,5 @@ pub record Rule (k : Key) (s : Table) : Type 0 where
   pub frames : (f : ℕ) → Frames k s f
   pub counters : (q : ℕ) → q < k.supers → Counters k s rec q
   pub bits : (w b : ℕ) → w < 16 * k.supers → b < 64 → Bits k s w b
-  pub still : Still k s
+  -- in a mark turn
+  pub tracing : k.lanes ≡ false → Tracing k s

@@ -1,21 +1,23 @@
 -- The kinds of step: what the view is after each, and what each tells the seat that makes it.
-use Rattle.std.specs.Prelude.{◌≡◌, ◌≢◌, ℕ, ◌+◌, ◌*◌, ◌/◌, ◌%◌, ◌^◌, ◌<◌, ◌≤◌, ◌==◌, ◌&&◌, Bool, true, false, if◌then◌else◌, nat_lt, List, [], ◌∷◌, ◌++◌, take, drop, Some, None}
+use Prim.Native.Nat.{zero, suc}
+use Rattle.std.specs.Prelude.{◌≡◌, ◌≢◌, ℕ, ◌+◌, ◌*◌, ◌/◌, ◌%◌, ◌^◌, ◌<◌, ◌≤◌, ◌==◌, ◌&&◌, ◌⊎◌, bit_and, Bool, true, false, if◌then◌else◌, nat_lt, List, [], ◌∷◌, ◌++◌, take, drop, Some, None}
 use Rattle.atomic_table.specs.Table.{Me, Step, rest}
 use Rattle.bc_bits.specs.Counting.{one_if}
 use Rattle.std.specs.Int.{bit_at, bit_not, w64}
-use Rattle.bc_word.specs.Addresses.{superpage_of, cell_number}
-use Rattle.bc_superpages.specs.LayoutAt.{layout_of}
+use Rattle.bc_word.specs.Addresses.{superpage_of, page_of, cell_number}
+use Rattle.bc_superpages.specs.LayoutAt.{IsAllocated, layout_of}
 use Rattle.bc_superpages.specs.Calls.{class_at}
-use Rattle.bc_bookmarks.specs.Targets.{is_target, HasCell}
+use Rattle.bc_bookmarks.specs.Targets.{is_target, has_target_in, HasCell}
 use Rattle.bc_superpages.specs.declared.spaces.Homed.{Homed}
 use Rattle.bc_pins.specs.declared.views.Lodged.{Lodged}
-use Rattle.bc_pins.specs.declared.views.Lodged.TheVariants.{Nothing, Home}
+use Rattle.bc_pins.specs.declared.views.Lodged.TheVariants.{Nothing, Home, Away}
 use Rattle.bc_pins.specs.declared.views.Hand.{Hand}
 use Rattle.bc_pins.specs.declared.views.View.{View}
-use Rattle.bc_pins.specs.Key.{Key, owner, page_at, counter_at, bookmark_at, frame_at, home_slot, frame_slot, store_slot}
+use Rattle.bc_pins.specs.Key.{Key, owner, page_at, counter_at, bookmark_at, frame_at, mark_at, finished_at, home_slot, frame_slot, store_slot}
 use Rattle.bc_pins.specs.Totals.{times}
 use Rattle.bc_pins.specs.Contents.{IsContent, RefersYoung, IsBarePage, objects_in}
 use Rattle.bc_pins.specs.Facts.{IsBitOfTarget, points}
+use Rattle.bc_pins.specs.Tracing.{RefersToCell, KnowsMarked}
 use Rattle.bc_pins.specs.Views.{is_empty_handed, has_role, sets_bit, opened_content, opened_word, record_of}
 
 abbrev pub Mine : Type 0
@@ -140,6 +142,52 @@ given_back w bits (f ∷ fs) = if (f / 64 == w) && (bit_at bits (f % 64) == 1) t
 abbrev pub giving : View → ℕ → ℕ → ℕ → View
 giving v w bits found = record v { rights = given_back w bits v.rights; read = (frame_at v.about w, found) ∷ v.read }
 
+-- a list without a number
+abbrev pub without : ℕ → List ℕ → List ℕ
+without n [] = []
+without n (x ∷ xs) = if x == n then without n xs else x ∷ without n xs
+
+-- the superpages below a bound in which a page with this content has a target
+unfoldable pub named_below : Key → ℕ → List ℕ → ℕ → List ℕ
+named_below k page c zero = []
+named_below k page c (suc q) = if has_target_in (objects_in k.opening c) page q then q ∷ named_below k page c q else named_below k page c q
+
+-- the page was taken from Gone: it is in hand with its content, and counted in each superpage that has a target of it. A frame to which
+-- there was a right is the page's, and that the page is Gone isn't kept any more, nor that it was in another's hands
+abbrev pub fetching : View → ℕ → List ℕ → ℕ → View
+fetching v page content frame = record v {
+  read = (page_at page, 4) ∷ v.read;
+  hand = Some (record {
+    page = page;
+    remembered = false;
+    frame = frame;
+    content = content;
+    counted = named_below v.about page content v.about.supers;
+    marked = [];
+    looked = [];
+  });
+  rights = without frame v.rights;
+  gone = without page v.gone;
+  busy = without page v.busy;
+  fetched = page ∷ v.fetched;
+}
+
+-- a superpage isn't counted for the page in hand any more, and its counter was read as it was before
+abbrev pub discounting : View → Hand → ℕ → ℕ → View
+discounting v h superpage found = record v {
+  hand = Some (record h { counted = without superpage h.counted });
+  read = (counter_at v.about superpage, found) ∷ v.read;
+}
+
+-- the frames whose bits, of the first ones in this frame word, were read as clear
+unfoldable pub clear_frames : ℕ → ℕ → ℕ → List ℕ
+clear_frames w found zero = []
+clear_frames w found (suc b) = if bit_at found b == 0 then (64 * w + b) ∷ clear_frames w found b else clear_frames w found b
+
+-- all bits of a frame word were set: there is a right to each frame that was free
+abbrev pub claiming : View → ℕ → ℕ → View
+claiming v w found = record v { rights = clear_frames w found 64 ++ v.rights; read = (frame_at v.about w, found) ∷ v.read }
+
 -- each of the bits, in this frame word, is that of a frame to which the view has the right
 abbrev pub AreRights : View → ℕ → ℕ → Type 0
 AreRights v w bits = (b : ℕ) → b < 64 → 0 < bit_at bits b → 0 < times (64 * w + b) v.rights
@@ -170,6 +218,7 @@ pub record MayLeave (k : Key) (v : View) (h : Hand) : Type 0 where
   pub quiet : h.remembered ≡ false
   pub targets : (a : ℕ) → is_target (objects_in k.opening h.content) h.page a ≡ true → IsBookmarkedBy k v a
   pub counts : (q : ℕ) → q < k.supers → times q h.counted ≡ points k h.page h.content q
+  pub marked : k.lanes ≡ false → (a : ℕ) → IsAllocated k.opening a → is_target (objects_in k.opening h.content) h.page a ≡ true → KnowsMarked k v a
 
 -- and of one that is made Absent: no allocated cell lies on it, it isn't remembered, and nothing was counted or bookmarked for it
 pub record MayVacate (k : Key) (h : Hand) : Type 0 where
@@ -189,7 +238,7 @@ pub record ReadsWord (v : View) (page found : ℕ) : Type 0 where
 
 -- what the box tells of a page that was taken from Home, or from Home and remembered. Its content is what the lane that holds the
 -- page's domain put back last, and where none does that of the opening. An own page is remembered exactly where it was so at the
--- opening or the seat put it back so. It wasn't Gone at the opening
+-- opening or the seat put it back so. One that was Gone at the opening the seat of its lane took from there
 pub record Takes (v : View) (page : ℕ) (remembered : Bool) (homed : Homed) : Type 0 where
   pub mine : 0 < has_role v (owner v.about page) → homed.page ≡ record_of v page
   pub unowned : times (owner v.about page) v.about.roles ≡ 0 → homed.page ≡ opened_content v.about page
@@ -197,7 +246,7 @@ pub record Takes (v : View) (page : ℕ) (remembered : Bool) (homed : Homed) : T
   pub young : RefersYoung v.about.opening page homed.page → remembered ≡ true
   pub recorded : 0 < one_if (opened_word v.about page == 2) + times page v.recorded → remembered ≡ true
   pub found : remembered ≡ true → 0 < has_role v (owner v.about page) → 0 < one_if (opened_word v.about page == 2) + times page v.recorded
-  pub here : opened_word v.about page ≢ 4
+  pub here : opened_word v.about page ≡ 4 → 0 < has_role v (owner v.about page) → 0 < times page v.fetched
 
 -- Take: the page is in hand with its box, or the word that was read is told
 pub record Took (st : Step Lodged) (m : Mine) (found : ℕ) (m' : Mine) : Type 0 where
@@ -205,6 +254,22 @@ pub record Took (st : Step Lodged) (m : Mine) (found : ℕ) (m' : Mine) : Type 0
       × (m' ≡ (gripping m.0 page (st.first == 2) homed, both_slots m.0.about page (Home homed) Nothing))
       × Takes m.0 page (st.first == 2) homed
   pub miss : (page : ℕ) → st.word ≡ page_at page → found ≢ st.first → (m' ≡ (having_read m.0 page found, m.1)) × ReadsWord m.0 page found
+
+-- what the box tells of an own page that was taken from Gone: its content is what the seat put back last, or else the opening's. An
+-- allocated cell lies on it, it refers to no nursery, and it wasn't remembered: neither at the opening nor since
+pub record Fetches (v : View) (page : ℕ) (content : List ℕ) : Type 0 where
+  pub mine : content ≡ record_of v page
+  pub fixed : IsContent v.about.opening page content
+  pub there : HasCell v.about.opening page
+  pub old : RefersYoung v.about.opening page content → ⊥
+  pub quiet : one_if (opened_word v.about page == 2) + times page v.recorded ≡ 0
+
+-- Take gone, by a seat that has one right to a frame: the page is in hand, and its box is in its store slot, or the word that was read
+-- is told
+pub record Fetched (st : Step Lodged) (m : Mine) (found : ℕ) (m' : Mine) : Type 0 where
+  pub hit : (page frame : ℕ) → st.word ≡ page_at page → m.0.rights ≡ frame ∷ [] → found ≡ 4 → (content : List ℕ)
+      × (m' ≡ (fetching m.0 page content frame, both_slots m.0.about page Nothing (Away content))) × Fetches m.0 page content
+  pub miss : (page : ℕ) → st.word ≡ page_at page → found ≢ 4 → (m' ≡ (having_read m.0 page found, m.1)) × ReadsWord m.0 page found
 
 -- Release: nothing is in hand, and the slots are at home
 pub record Gave (st : Step Lodged) (m m' : Mine) : Type 0 where
@@ -217,6 +282,80 @@ pub record SetBits (st : Step Lodged) (m : Mine) (found : ℕ) (m' : Mine) : Typ
 
 pub record Counted (st : Step Lodged) (m : Mine) (found : ℕ) (m' : Mine) : Type 0 where
   pub view : (h : Hand) (q : ℕ) → m.0.hand ≡ Some h → st.word ≡ counter_at m.0.about q → m' ≡ (counting m.0 h q found, m.1)
+
+-- Counter sub, of the page in hand
+pub record Discounted (st : Step Lodged) (m : Mine) (found : ℕ) (m' : Mine) : Type 0 where
+  pub view : (h : Hand) (q : ℕ) → m.0.hand ≡ Some h → st.word ≡ counter_at m.0.about q → m' ≡ (discounting m.0 h q found, m.1)
+
+-- Frame claim. Each frame whose bit was clear is one of the heap's
+pub record Claimed (st : Step Lodged) (m : Mine) (found : ℕ) (m' : Mine) : Type 0 where
+  pub view : (w : ℕ) → st.word ≡ frame_at m.0.about w → m' ≡ (claiming m.0 w found, m.1)
+  pub frames : (w b : ℕ) → st.word ≡ frame_at m.0.about w → b < 64 → bit_at found b ≡ 0 → 64 * w + b < m.0.about.frames
+
+-- bits of a mark word were set: all of them are known to be set, and those that were clear were won
+abbrev pub shading : View → ℕ → ℕ → ℕ → View
+shading v w bits found = record v {
+  known = (w, bits) ∷ v.known;
+  won = (w, bit_and bits (bit_not w64 found)) ∷ v.won;
+  read = (mark_at v.about w, found) ∷ v.read;
+}
+
+-- a mark word was read: what was read is known to be set
+abbrev pub seeing : View → ℕ → ℕ → View
+seeing v w found = record v { known = (w, found) ∷ v.known; read = (mark_at v.about w, found) ∷ v.read }
+
+-- cells were finished, and a finished word was read alone
+abbrev pub finishing : View → ℕ → ℕ → ℕ → View
+finishing v w bits found = record v { finished = (w, bits) ∷ v.finished; read = (finished_at v.about w, found) ∷ v.read }
+
+abbrev pub having_looked : View → ℕ → ℕ → View
+having_looked v w found = record v { read = (finished_at v.about w, found) ∷ v.read }
+
+-- bit b of word w, of those that a set has for all superpages, is that of the allocated cell at the address
+pub record IsBitOf (k : Key) (w b address : ℕ) : Type 0 where
+  pub there : IsAllocated k.opening address
+  pub superpage : superpage_of address ≡ w / 16
+  pub number : cell_number (class_at k.opening address) address ≡ 64 * (w % 16) + b
+
+-- a cell that is known to be marked, on the page in hand, refers to the address
+pub record IsReferred (k : Key) (v : View) (address : ℕ) : Type 0 where
+  pub hand : Hand
+  pub has : v.hand ≡ Some hand
+  pub from : ℕ
+  pub on : page_of from ≡ hand.page
+  pub marked : KnowsMarked k v from
+  pub leads : RefersToCell k.opening from address
+
+-- bit b of mark word w may be set: such a cell refers to its cell, or the view set its bookmark bit
+pub record MayShade (k : Key) (v : View) (w b : ℕ) : Type 0 where
+  pub address : ℕ
+  pub bit : IsBitOf k w b address
+  pub why : IsReferred k v address ⊎ IsBookmarkedBy k v address
+
+abbrev pub MayShadeAll : Key → View → ℕ → ℕ → Type 0
+MayShadeAll k v w bits = (b : ℕ) → b < 64 → 0 < bit_at bits b → MayShade k v w b
+
+-- bit b of finished word w may be set: each cell to which its cell refers is known to be marked
+pub record MayFinish (k : Key) (v : View) (w b : ℕ) : Type 0 where
+  pub address : ℕ
+  pub bit : IsBitOf k w b address
+  pub targets : (a : ℕ) → RefersToCell k.opening address a → KnowsMarked k v a
+
+abbrev pub MayFinishAll : Key → View → ℕ → ℕ → Type 0
+MayFinishAll k v w bits = (b : ℕ) → b < 64 → 0 < bit_at bits b → MayFinish k v w b
+
+-- Shade, look at marks, done bit, look at what is finished
+pub record Shaded (st : Step Lodged) (m : Mine) (found : ℕ) (m' : Mine) : Type 0 where
+  pub view : (w : ℕ) → st.word ≡ mark_at m.0.about w → m' ≡ (shading m.0 w st.first found, m.1)
+
+pub record SawMarks (st : Step Lodged) (m : Mine) (found : ℕ) (m' : Mine) : Type 0 where
+  pub view : (w : ℕ) → st.word ≡ mark_at m.0.about w → m' ≡ (seeing m.0 w found, m.1)
+
+pub record Finished (st : Step Lodged) (m : Mine) (found : ℕ) (m' : Mine) : Type 0 where
+  pub view : (w : ℕ) → st.word ≡ finished_at m.0.about w → m' ≡ (finishing m.0 w st.first found, m.1)
+
+pub record SawFinished (st : Step Lodged) (m : Mine) (found : ℕ) (m' : Mine) : Type 0 where
+  pub view : (w : ℕ) → st.word ≡ finished_at m.0.about w → m' ≡ (having_looked m.0 w found, m.1)
 
 -- Frame give
 pub record GaveFrames (st : Step Lodged) (m : Mine) (found : ℕ) (m' : Mine) : Type 0 where

@@ -58,9 +58,9 @@ is_empty_handed (Some h) = false
 abbrev pub grips_foreign : Key → ℕ → View → ℕ
 grips_foreign k page v = if has_role v (owner k page) == 0 then grips page v.hand else 0
 
--- and how often it keeps the page from its lane, or kept it: it has it in hand so, put it back so, or made it Gone or Absent
+-- and how often it keeps the page from its lane in memory, or kept it: it has it in hand so, or put it back so
 abbrev pub withholds : Key → ℕ → View → ℕ
-withholds k page v = grips_foreign k page v + (times page v.returned + (times page v.left + times page v.emptied))
+withholds k page v = grips_foreign k page v + times page v.returned
 
 -- what was read of a word, the last first
 abbrev pub reads_of : ℕ → List (ℕ × ℕ) → List ℕ

@@ -4,10 +4,11 @@ ghost use Rattle.std.specs.Prelude.{◌≡◌, ℕ, ◌+◌, ◌-◌, ◌*◌, �
 ghost use Rattle.core.specs.Mem.Slots.{slots_items, slots_filled, slots_len, IsFull};
 ghost use Rattle.bc_superpages.specs.Headers.{unused_header};
 ghost use Rattle.bc_superpages.specs.Kept.{IsCellSet};
+ghost use Rattle.bc_superpages.specs.Parts.{AreParts};
 ghost use Rattle.bc_pins.specs.Key.{page_at};
 ghost use Rattle.bc_pins.specs.Totals.{times};
 ghost use Rattle.bc_pins.specs.Views.{state_word};
-ghost use Rattle.bc_pins.specs.Closing.{AreBack, Gathered, StatesSet, SummarySet, SummariesSet, PoolSet, opens_of};
+ghost use Rattle.bc_pins.specs.Closing.{AreBack, Gathered, StatesSet, SummarySet, SummariesSet, MarksSet, MarksBelow, LaysMarks, PoolSet, fetches_of};
 
 use crate::key::{About, bookmark_entry, counter_entry, page_entry};
 use crate::pins::Seat;
@@ -15,20 +16,20 @@ use crate::rule::{TurnRule, Unite};
 use crate::views::{Lodged, View};
 use atomic_table::{Closed, Shared};
 use bc_frames::{FramePool, Store};
-use bc_superpages::{Header, PageState};
+use bc_superpages::{Header, PageState, SpaceParts};
 use std::alloc::Global;
 
 type Board = Shared<Lodged, View, About, TurnRule>;
 
 type Worker = atomic_table::Seat<Lodged, View>;
 
-/// Joins all seats into the last one, and counts the boxes that they opened as reads of the store.
+/// Joins all seats into the last one, and counts the pages that they took from Gone as reads of the store.
 pub(crate) fn unite_all(board: &Board, mut seats: Vec<Seat>, store: &mut Store) -> Worker
     requires words { 0 < board.now.table_id.words }
     requires apart { (r : ℕ) → times r board.now.key.roles ≤ 1 }
     requires back { AreBack board.now.table_id board.now.key seats.items }
     ensures gathered { Gathered board.now.table_id board.now.key seats.items [] result }
-    ensures store { store.new ≡ record store.old { reads = min (store.old.reads + opens_of seats.items) (2 ^ 64 - 1) } }
+    ensures store { store.new ≡ record store.old { reads = min (store.old.reads + fetches_of seats.items) (2 ^ 64 - 1) } }
 {
     let mut root = match seats.pop() {
         Some(seat) => let_go(seat, store),
@@ -131,14 +132,71 @@ pub(crate) fn set_summaries(
     }
 }
 
-/// Gives the frames back to the pool whose bits are clear in the words from a place on.
-pub(crate) fn give_frames(pool: &mut FramePool, closed: &Closed<Lodged, Global>, start: usize)
+/// Writes into a header the marks and finished cells that the words tell of its superpage from a place on.
+fn set_header_marks(
+    header: &mut Header,
+    closed: &Closed<Lodged, Global>,
+    superpage: usize,
+    superpages: usize,
+    start: usize,
+)
+    requires superpage { (superpage < superpages) × (superpages ≤ 4096) × (start < 2 ^ 33) }
+    requires words { IsFull closed.now.words × (start + 32 * superpages ≤ slots_len closed.now.words) }
+    requires sixteen { IsCellSet header.old.marks × IsCellSet header.old.finished }
+    ensures set { MarksSet header.old header.new superpage superpages start (slots_items closed.now.words) 16 }
+{
+    for word in 0..16 {
+        header.marks[word] = closed.word(start + (16 * superpage + word));
+        header.finished[word] = closed.word(start + (16 * superpages + (16 * superpage + word)));
+    }
+}
+
+/// Writes into the headers of so many superpages the marks and finished cells that the words tell from a place on.
+pub(crate) fn set_marks(
+    headers: &mut Vec<Header>,
+    closed: &Closed<Lodged, Global>,
+    superpages: usize,
+    start: usize,
+)
+    requires superpages { (superpages ≤ length headers.old.items) × (superpages ≤ 4096) × (start < 2 ^ 33) }
+    requires words { IsFull closed.now.words × (start + 32 * superpages ≤ slots_len closed.now.words) }
+    requires sets { (q : ℕ) → q < superpages → IsCellSet (slice_index_or headers.old.items q unused_header).marks × IsCellSet (slice_index_or headers.old.items q unused_header).finished }
+    ensures set { MarksBelow headers.old.items headers.new.items superpages superpages start (slots_items closed.now.words) }
+{
+    for superpage in 0..superpages {
+        set_header_marks(
+            &mut headers[superpage],
+            closed,
+            superpage,
+            superpages,
+            start,
+        );
+    }
+}
+
+/// Lays the marks and finished cells into a space's parts that the words tell from a place on.
+pub(crate) fn lay_marks(
+    parts: &mut SpaceParts,
+    closed: &Closed<Lodged, Global>,
+    superpages: usize,
+    start: usize,
+)
+    requires kept { AreParts parts.old }
+    requires superpages { (superpages ≤ length parts.old.headers.items) × (superpages ≤ 4096) × (start < 2 ^ 33) }
+    requires words { IsFull closed.now.words × (start + 32 * superpages ≤ slots_len closed.now.words) }
+    ensures laid { LaysMarks parts.old parts.new superpages start (slots_items closed.now.words) }
+{
+    set_marks(&mut parts.headers, closed, superpages, start);
+}
+
+/// Tells the pool which frames are free: those whose bits are clear in the words from a place on.
+pub(crate) fn put_frames(pool: &mut FramePool, closed: &Closed<Lodged, Global>, start: usize)
     requires start { start < 2 ^ 32 }
     requires words { IsFull closed.now.words × (start + (length pool.old + 63) / 64 ≤ slots_len closed.now.words) }
     ensures set { PoolSet pool.old pool.new (length pool.old) start (slots_items closed.now.words) }
 {
     let count = (pool.frames() as usize + 63) / 64;
     for word in 0..count {
-        pool.give_clear(word as u32, closed.word(start + word));
+        pool.put_word(word as u32, closed.word(start + word));
     }
 }

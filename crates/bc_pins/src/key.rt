@@ -76,6 +76,22 @@ pub(crate) fn frame_entry(word: usize, superpages: usize) -> usize
     33 * superpages + word
 }
 
+/// Where a mark word lies among the words of a table of so many superpages and frame words, in a mark turn.
+pub(crate) fn mark_entry(word: usize, superpages: usize, frame_words: usize) -> usize
+    requires { (word < 2 ^ 32) × (superpages < 2 ^ 32) × (frame_words < 2 ^ 32) }
+    ensures { result ≡ 33 * superpages + frame_words + 1 + word }
+{
+    33 * superpages + frame_words + 1 + word
+}
+
+/// Where a finished word lies among them.
+pub(crate) fn finished_entry(word: usize, superpages: usize, frame_words: usize) -> usize
+    requires { (word < 2 ^ 32) × (superpages < 2 ^ 32) × (frame_words < 2 ^ 32) }
+    ensures { result ≡ 49 * superpages + frame_words + 1 + word }
+{
+    49 * superpages + frame_words + 1 + word
+}
+
 /// Where the slot for a page's frame lies among the slots of a table; the one for its place in the store is four behind.
 pub(crate) fn home_entry(page: usize) -> usize
     requires { page < 2 ^ 32 }

@@ -15,7 +15,7 @@
 // read as Gone is Gone until it is taken; a page that was read as Held was taken by somebody, and an own page so read is in
 // another's hands, or that one put it back, or made it Gone or Absent; what was read as Absent, Remembered or Gone isn't Home; a
 // Gone page is summarised by the table's bookmark bits; counters count Gone pages and what is counted for those in hand; each role
-// is in one view; each frame is in one place. `proofs/PageSteps.antt` has the one lemma by which every step on a page's word keeps
+// is in one view; each frame is in one place, so that at most as many are in use as there are (`law_frames_in_use`). `proofs/PageSteps.antt` has the one lemma by which every step on a page's word keeps
 // it, and `proofs/SideSteps.antt` the one for a step on another word.
 //
 // A page in hand is given up in single steps: `bookmark_bit` for its targets, `counter_add` for each superpage that has one,
@@ -25,12 +25,26 @@
 // `open` makes words and slots out of a space's headers and lists, and deals a seat for each role. `close` joins all seats into
 // one, puts the boxes back and makes states, counters and bookmarks of the words: the space is as it was opened, but that each
 // page has its record, Gone pages are summarised, and frames that were given back are free. The frame words are the pool's own: a
-// bit for each frame, set where it is in use. Words for notices and, in a mark turn, marks, finished cells and queues have their
-// places too (`specs/Key.antt`); no step changes them.
+// bit for each frame, set where it is in use. Words for notices and, in a mark turn, for queues have their places too
+// (`specs/Key.antt`); no step changes them.
+//
+// In a turn of lanes a page comes back from Gone by the lane that holds its domain, which has the right to one frame: `take_gone`,
+// after which the frame is the page's and the page is counted in each superpage that has a target of it; `store_out`, which opens
+// its box and is its read; and `counter_sub` for each of these superpages. A right is had by `frame_claim`, which sets all bits of
+// a frame word, so that all frames are the seat's that were free there, or by giving a page up. So `close` sets the pool's words
+// exactly, and raises the reads by as many pages as the seats took from Gone.
+//
+// In a mark turn there are marks besides (`specs/Tracing.antt`), which a turn of lanes doesn't see. Marks are those of the opening
+// and those that the views won, each once; each marked cell is reached from the opening's marks and what is bookmarked now, through
+// pages that aren't Gone now; and what a finished cell refers to, or a cell on a page that went Gone in this turn, is marked.
+// `shade` sets mark bits, of cells to which a marked cell of the page in hand refers or which the seat bookmarked; `look_marks`
+// reads them; `done_bit` finishes cells whose targets the seat knows to be marked, and `look_finished` reads which are. Finished
+// cells have words of their own, so a page is put back by `put` alone. A page may leave only where the seat knows its targets to be
+// marked. No content changes in a mark turn, so what refers to what is the opening's.
 //
 // Where things are: `pins` the table and a seat, `key` what a table is told, `views` slots and views, `rule` the rule and what
-// steps tell, `taking` the calls on pages, `giving` the steps by which one is given up, `holding` a page in hand, `reading` what
-// everybody may read; `opening` with `room`, `filling`, `lodging` and `rest`; `closing` with `gathering`. Gates, where a test
+// steps tell, `taking` the calls on pages, `giving` the steps by which one is given up, `reloading` those by which one comes back,
+// `marking` those of a mark turn, `holding` a page in hand, `reading` what everybody may read; `opening` with `room`, `filling`, `lodging` and `rest`; `closing` with `gathering`. Gates, where a test
 // may look on, are passed on from `bc_gates`.
 #![tactic(auto)]
 
@@ -40,10 +54,13 @@ mod gathering;
 mod giving;
 mod holding;
 mod key;
+mod laws;
 mod lodging;
+mod marking;
 mod opening;
 mod pins;
 mod reading;
+mod reloading;
 mod rest;
 mod room;
 mod rule;
@@ -53,6 +70,7 @@ mod views;
 pub use bc_gates::{Gate, OpenGate};
 pub use holding::Held;
 pub use key::{About, Role, Turn};
+pub use laws::law_frames_in_use;
 pub use pins::{Pins, Seat};
 pub use rest::Rest;
 pub use taking::{TakeNo, Want};

@@ -3,7 +3,7 @@
 ghost use Rattle.std.specs.Prelude.{◌≡◌, ℕ, ◌+◌, ◌*◌, ◌<◌, ◌≤◌, false, [], length, map, vec_capacity, IfOk, IfErr};
 ghost use Rattle.bc_pins.specs.Key.{table_words, is_lanes, role_number};
 ghost use Rattle.bc_pins.specs.Totals.{times};
-ghost use Rattle.bc_pins.specs.Opening.{IsOpenable, key_for};
+ghost use Rattle.bc_pins.specs.Opening.{IsOpenable, IsMarkable, key_for};
 ghost use Rattle.bc_pins.specs.Opened.{IsKeyOf, Opened};
 
 use crate::filling::{fill_words, word_count};
@@ -53,6 +53,7 @@ impl Pins {
         requires some { 0 < length roles.now }
         requires apart { (r : ℕ) → times r (map role_number roles.now) ≤ 1 }
         requires mark { is_lanes turn ≡ false → holders.now ≡ [] }
+        requires markable { is_lanes turn ≡ false → IsMarkable space }
         ensures opened { IfOk result (λ r. Opened space turn holders.now roles.now r.0 r.1.items) }
         ensures refused { IfErr result (λ e. e.0 ≡ space) }
     {

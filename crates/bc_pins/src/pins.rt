@@ -1,9 +1,10 @@
 //! The table of a turn, and a seat at it.
 
-ghost use Rattle.std.specs.Prelude.{◌≡◌, ℕ, ◌+◌, ◌^◌, ◌<◌, ◌≤◌, [], length, vec_capacity};
+ghost use Rattle.std.specs.Prelude.{◌≡◌, ℕ, ◌+◌, ◌^◌, ◌<◌, ◌≤◌, false, [], length, vec_capacity};
 ghost use Rattle.bc_superpages.specs.Layout.{superpages as superpages_of};
 ghost use Rattle.bc_superpages.specs.Parts.{parts_layout};
 ghost use Rattle.bc_pins.specs.Facts.{IsUnheld};
+ghost use Rattle.bc_pins.specs.Opening.{IsMarkable};
 ghost use Rattle.bc_pins.specs.Totals.{times};
 ghost use Rattle.bc_pins.specs.Tidy.{IsTidy};
 ghost use Rattle.bc_pins.specs.Key.{all_words, frame_words as frame_words_of, is_lanes, pages_of};
@@ -37,6 +38,7 @@ pub struct Pins {
     ghost spared: { (spare.items ≡ []) × (pages_of table.shared.key + pages_of table.shared.key ≤ vec_capacity spare) },
     ghost frames: { table.shared.key.frames ≡ length table.shared.key.pool },
     ghost unheld: { IsUnheld table.shared.key },
+    ghost markable: { table.shared.key.lanes ≡ false → IsMarkable table.shared.key.opening },
     ghost apart: { (r : ℕ) → times r table.shared.key.roles ≤ 1 },
     ghost paged: { rest.pages ≡ pages_of table.shared.key },
     ghost opened: { parts_layout rest.whole ≡ table.shared.key.opening },

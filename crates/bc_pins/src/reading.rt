@@ -52,6 +52,13 @@ impl Pins {
         4 * self.superpages as u32
     }
 
+    /// How many frames the heap has.
+    pub fn frames(&self) -> u32
+        ensures frames { result ≡ (key_of self.now).frames }
+    {
+        self.rest.parts.pool.frames()
+    }
+
     /// How many words the frames have.
     pub fn frame_words(&self) -> u32
         ensures words { result ≡ frame_words (key_of self.now) }

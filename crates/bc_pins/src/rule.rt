@@ -52,6 +52,42 @@ impl Play<Lodged, View> for CounterAdd {
     ghost then = { Counted };
 }
 
+/// Bits of a mark word are set.
+pub struct Shade;
+
+impl Play<Lodged, View> for Shade {
+    ghost use Rattle.bc_pins.specs.Steps.{Shaded};
+
+    ghost then = { Shaded };
+}
+
+/// A mark word is read.
+pub struct SeeMarks;
+
+impl Play<Lodged, View> for SeeMarks {
+    ghost use Rattle.bc_pins.specs.Steps.{SawMarks};
+
+    ghost then = { SawMarks };
+}
+
+/// Cells are finished.
+pub struct Finish;
+
+impl Play<Lodged, View> for Finish {
+    ghost use Rattle.bc_pins.specs.Steps.{Finished};
+
+    ghost then = { Finished };
+}
+
+/// A finished word is read.
+pub struct SeeFinished;
+
+impl Play<Lodged, View> for SeeFinished {
+    ghost use Rattle.bc_pins.specs.Steps.{SawFinished};
+
+    ghost then = { SawFinished };
+}
+
 /// Rights to frames are given up.
 pub struct FrameGive;
 
@@ -77,6 +113,33 @@ impl Play<Lodged, View> for MakeAbsent {
     ghost use Rattle.bc_pins.specs.Steps.{Vacated};
 
     ghost then = { λ st m _ n. Vacated st m n };
+}
+
+/// A page is taken from Gone, by the lane that holds its domain.
+pub struct TakeGone;
+
+impl Play<Lodged, View> for TakeGone {
+    ghost use Rattle.bc_pins.specs.Steps.{Fetched};
+
+    ghost then = { Fetched };
+}
+
+/// A superpage is counted no more.
+pub struct CounterSub;
+
+impl Play<Lodged, View> for CounterSub {
+    ghost use Rattle.bc_pins.specs.Steps.{Discounted};
+
+    ghost then = { Discounted };
+}
+
+/// All free frames of a frame word are claimed.
+pub struct FrameClaim;
+
+impl Play<Lodged, View> for FrameClaim {
+    ghost use Rattle.bc_pins.specs.Steps.{Claimed};
+
+    ghost then = { Claimed };
 }
 
 /// A page's word is read.

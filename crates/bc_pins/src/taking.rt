@@ -143,7 +143,7 @@ impl Pins {
         );
     }
 
-    /// ReadsWord where a page is.
+    /// Reads where a page is.
     pub fn look(&self, seat: &mut Seat, page: u32) -> PageState
         requires seat { IsAt self.now seat.old }
         requires page { page < pages_of (key_of self.now) }

@@ -18,7 +18,7 @@ use Rattle.bc_nursery.specs.Nurseries.{Nursery}
 use Rattle.bc_promotion.proofs.ListingLemmas.{words_in-same}
 use Rattle.bc_superpages.specs.Layout.{Layout}
 use Rattle.bc_superpages.specs.RootWords.{RootWords}
-use Rattle.bc_turn.specs.Beside.{IsLaidBack, RanBeside}
+use Rattle.bc_turn.specs.Beside.{IsLaidBack, PagesMoved, RanBeside}
 use Rattle.bc_whole_heap.specs.Closed.{buffer_of, no_buffer}
 use Rattle.bc_whole_heap.specs.HeapFacts.{HasTwoFrames}
 use Rattle.bc_whole_heap.specs.Heaps.{HeapView, no_chunk}
@@ -29,6 +29,7 @@ use Rattle.bc_running.specs.Running.{RunningView}
 use Rattle.bc_running.specs.RunningFacts.{IsSound, running_of}
 use Rattle.bc_running.proofs.FirstLists.{with_first, with_first-all, with_first-long, with_first-more, with_first-past}
 use Rattle.bc_turn.proofs.BackLemmas.{lies-back-running, lies-back-stands}
+use Rattle.bc_whole_heap.proofs.MovingLemmas.{running-moved, stands-moved}
 
 -- lanes can run on the heap, and it stands for a state in which each lane has its number of births
 pub record IsInOrder (h : HeapView) (hs serials : List ℕ) : Type 0 where
@@ -129,6 +130,24 @@ sizes-laid h k laid = record {
   capacity = λ l. ap (λ (bs : List Entries). (buffer_of bs l).capacity) laid.buffers;
 }
 
+-- so it is where pages moved
+order-moved : (h k : HeapView) (hs serials : List ℕ) → PagesMoved h k → IsInOrder h hs serials → IsInOrder k hs serials
+order-moved h k hs serials moved order = subst (λ (x : HeapView). IsInOrder x hs serials) (sym moved.1) (record {
+  running = running-moved h k.space hs moved.0 order.running;
+  meant = (order.meant.0, stands-moved h k.space hs serials order.meant.0 moved.0 order.meant.1);
+})
+
+sizes-moved : (h k : HeapView) → PagesMoved h k → KeepsSizesOf h k
+sizes-moved h k moved = subst (λ (x : HeapView). KeepsSizesOf h x) (sym moved.1) (record {
+  space =
+      moved.0.same
+      ∙ sym (ap (λ (x : Layout). record h.space { states = x.states; pages = x.pages; free = x.free; bookmarks = x.bookmarks; incoming = x.incoming; reads = x.reads }) moved.0.same);
+  roots = refl;
+  chunks = refl;
+  words = λ l. refl;
+  capacity = λ l. refl;
+})
+
 -- the operations that lane n did, of the heap that the lanes before it left
 abbrev pub ops_done : List (List Op) → List (List Reply) → ℕ → List Reply → List Op
 ops_done lanes before n replies = take (length replies) (drop (length (get_or before n [])) (get_or lanes n []))
@@ -147,7 +166,7 @@ lane-did {hs} {lanes} {h} {k} {serials} {nexts} {before} {after} ran n lt =
 
 -- what each lane leaves is in order, and has the sizes
 pub order-at : {hs : List ℕ} {lanes : List (List Op)} {h k : HeapView} {serials nexts : List ℕ} {before after : List (List Reply)} (ran : RanBeside hs lanes h serials before k nexts after) (n : ℕ) → IsOfLanes lanes serials → n ≤ length lanes → IsInOrder h hs serials → IsInOrder (ran.at n) hs (with_first n nexts serials)
-order-at {hs} {lanes} {h} {k} {serials} {nexts} ran zero each le order = subst (λ (x : HeapView). IsInOrder x hs serials) (sym ran.first) order
+order-at {hs} {lanes} {h} {k} {serials} {nexts} ran zero each le order = order-moved h (ran.at 0) hs serials ran.first order
 order-at {hs} {lanes} {h} {k} {serials} {nexts} {before} ran (suc n) each le order =
     let here = order-at ran n each (omega arith) order in
     let within : n < length (with_first n nexts serials) = omega (arith, le, each, with_first-long n nexts serials) in
@@ -155,7 +174,7 @@ order-at {hs} {lanes} {h} {k} {serials} {nexts} {before} ran (suc n) each le ord
     (order-did hs n (ops_done lanes before n (ran.new n)) (ran.new n) (with_first n nexts serials) (get_or nexts n 0) within here (lane-did ran n (omega arith)))
 
 pub sizes-at : {hs : List ℕ} {lanes : List (List Op)} {h k : HeapView} {serials nexts : List ℕ} {before after : List (List Reply)} (ran : RanBeside hs lanes h serials before k nexts after) (n : ℕ) → n ≤ length lanes → KeepsSizesOf h (ran.at n)
-sizes-at {h = h} ran zero le = sizes-same h (ran.at 0) ran.first
+sizes-at {h = h} ran zero le = sizes-moved h (ran.at 0) ran.first
 sizes-at {hs} {lanes} {h} {k} {serials} {nexts} {before} ran (suc n) le =
     sizes-then (sizes-at ran n (omega arith))
     (sizes-did hs n (ops_done lanes before n (ran.new n)) (ran.new n) (get_or (with_first n nexts serials) n 0) (get_or nexts n 0) (lane-did ran n (omega arith)))

@@ -2,8 +2,10 @@
 use Rattle.std.proofs.Common.{◌≡◌, ℕ, ◌+◌, ◌*◌, ◌<◌, ◌==◌, Bool, true, false, inl, inr, List, length, get_or, Option, Some, None, refl, sym, ap, subst, ◌∙◌, arith}
 use Rattle.std.specs.List.{list_all}
 use Rattle.bc_bookmarks.specs.Changes.{Reloaded}
-use Rattle.bc_bookmarks.specs.Choices.{GivenUp, MadeRoom}
-use Rattle.bc_bookmarks.specs.Moves.{CanMakeRoom, NoPageGoes}
+use Rattle.bc_bookmarks.specs.Choices.{EligibleNamesCells, GivenUp, MadeRoom}
+use Rattle.bc_bookmarks.specs.Moves.{CanMakeRoom, Frees, NoPageGoes}
+use Rattle.bc_bookmarks.specs.Targets.{HasCell, is_target}
+use Rattle.bc_memory.specs.Memory.{Memory}
 use Rattle.bc_model.specs.Step.{domains_of}
 use Rattle.bc_model.specs.WellFormed.{IsSlot}
 use Rattle.bc_model.specs.declared.operations.Op.{Op}
@@ -15,8 +17,11 @@ use Rattle.bc_mutator.specs.Parts.{touched_slot}
 use Rattle.bc_mutator.proofs.ObjectLemmas.{LieBehind-laid, there-below, one_address}
 use Rattle.bc_nursery.specs.Entries.{Entries}
 use Rattle.bc_nursery.specs.Nurseries.{Nursery}
-use Rattle.bc_superpages.specs.declared.headers.PageState.TheVariants.{Gone}
-use Rattle.bc_superpages.specs.Headers.{is_gone}
+use Rattle.bc_superpages.specs.Calls.{IsTaken}
+use Rattle.bc_superpages.specs.Memory.{memory}
+use Rattle.bc_superpages.specs.Paging.{HasNoPromise}
+use Rattle.bc_superpages.specs.declared.headers.PageState.TheVariants.{Home, Gone}
+use Rattle.bc_superpages.specs.Headers.{is_gone, is_resident}
 use Rattle.bc_superpages.specs.Kept.{IsLayout}
 use Rattle.bc_superpages.specs.Layout.{Layout, is_cell, superpages}
 use Rattle.bc_superpages.specs.LayoutAt.{state_at}
@@ -111,11 +116,39 @@ finds-gone cs bs op page whole running fits held within gone leads =
     record { looks = looks; same = same_page {op = op} {page = page} leads looks }
 
 -- it came home
-pub came-home : {hs : List ℕ} {lane : ℕ} {s t : Layout} {r : RootWords} {op : Op} {page : ℕ} → FindsGone hs lane s r op page → (u : Layout) × MadeRoom s (page + 1) u × Reloaded u page t → BringsHome hs lane s r op t
+pub came-home : {hs : List ℕ} {lane : ℕ} {s t : Layout} {r : RootWords} {op : Op} {page : ℕ} → FindsGone hs lane s r op page → (hint : ℕ) × (u : Layout) × MadeRoom s hint u × Reloaded u page t → BringsHome hs lane s r op t
 came-home {hs} {lane} {s} {t} {r} {op} {page} found back =
-    let there : (u : Layout) × MadeRoom s (page_of found.looks.at.0 + 1) u × Reloaded u (page_of found.looks.at.0) t =
-    subst (λ (p : ℕ). (u : Layout) × MadeRoom s (p + 1) u × Reloaded u p t) (sym found.same) back in
-    inl (record { looks = found.looks; roomy = there.0; made = there.1; back = there.2 })
+    inl (record {
+      looks = found.looks;
+      hint = back.0;
+      roomy = back.1;
+      made = back.2;
+      back = subst (λ (p : ℕ). Reloaded back.1 p t) (sym found.same) back.3;
+    })
+
+-- a page that may leave behind one that was given up might have left before it
+pub eligible-freed : (s u : Layout) → Frees s u → memory u ≡ memory s → EligibleNamesCells s → EligibleNamesCells u
+eligible-freed s u h same names p lt may =
+    let count : superpages u ≡ superpages s = ap superpages h.same in
+    let before = names p (omega arith) (record {
+      home = home;
+      cells = subst (λ (x : Layout). HasCell x p) h.same may.cells;
+      promised = subst (λ (x : Layout). HasNoPromise x p) h.same may.promised;
+    }) in
+    λ a target. subst (λ (x : Layout). IsTaken x a) (sym h.same) (before a (subst (λ (m : Memory). is_target m p a ≡ true) same target))
+  where
+    home : state_at s.states p ≡ Home
+    home = elim (h.pages p) [
+      | inl was ↦ sym was ∙ may.home
+      | inr left ↦ true_false (is_resident (state_at u.states p)) left.away (ap is_resident may.home)
+    ]
+
+-- where a frame is free, a page comes back in it
+pub reloaded-free : (u t : Layout) (page hint : ℕ) → 0 < u.free → (w : Layout) × MadeRoom u hint w × Reloaded w page t → Reloaded u page t
+reloaded-free u t page hint free back = elim back.1 [
+  | inl room ↦ subst (λ (x : Layout). Reloaded x page t) room.1 back.2
+  | inr given ↦ absurd (let none = given.0 in let some = free in omega arith)
+]
 
 -- room was made, so a page could go
 no-room : {s t : Layout} {hint : ℕ} → NoPageGoes s → MadeRoom s hint t → ⊥

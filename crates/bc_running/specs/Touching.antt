@@ -57,8 +57,9 @@ pub record LooksAtGone (holders : List ℕ) (lane : ℕ) (s : Layout) (roots : R
 -- that page came home, by one read: a frame was free for it, or one other page was given up
 pub record CameHome (holders : List ℕ) (lane : ℕ) (s : Layout) (roots : RootWords) (op : Op) (t : Layout) : Type 0 where
   pub looks : LooksAtGone holders lane s roots op
+  pub hint : ℕ
   pub roomy : Layout
-  pub made : MadeRoom s (page_of looks.at.0 + 1) roomy
+  pub made : MadeRoom s hint roomy
   pub back : Reloaded roomy (page_of looks.at.0) t
 
 -- it came home where the operation looks at it, and else nothing changed

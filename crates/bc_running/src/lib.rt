@@ -21,9 +21,11 @@
 
 mod collecting;
 mod operating;
+mod pressure;
 mod running;
 mod serving;
 mod touching;
 mod whole;
 
+pub use pressure::Pressure;
 pub use running::Running;

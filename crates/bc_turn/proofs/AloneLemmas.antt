@@ -1,6 +1,9 @@
 -- A pager alone at a table: no lane has operations left.
 use Rattle.std.proofs.Common.{◌≡◌, ℕ, ◌+◌, ◌^◌, ◌<◌, List, [], ◌∷◌, ◌++◌, length, get_or, refl, ap, sym, subst, ◌∙◌, arith, ◌/◌, inl}
 use Rattle.std.proofs.lemmas.List.{get_or_push, length_push}
+use Rattle.bc_bookmarks.specs.Summarised.{IsSummarised}
+use Rattle.bc_lane.specs.Back.{all_back, heap_back}
+use Rattle.bc_lane.proofs.BackLemmas.{back-layout, back-moves}
 use Rattle.bc_pager.specs.Answering.{AreAnswered}
 use Rattle.bc_pager.specs.declared.answers.Answer.{Answer}
 use Rattle.bc_pins.specs.Calls.{key_of, view_of}
@@ -38,6 +41,16 @@ use Rattle.bc_turn.proofs.PagerLemmas.{name-none}
 pub lies-still : (s : Layout) → IsOpenable s → LiesBack s s
 lies-still s openable = record { same = refl; remembered = λ p. (λ is. is, λ is. is); summarised = openable.summarised }
 
+-- a space lies back against another one where it does so against that one with every page back
+lies-from-back : (s t : Layout) → IsSummarised s → LiesBack (all_back s) t → LiesBack s t
+lies-from-back s t summarised lies =
+    let moves = back-moves s summarised in
+    record {
+      same = lies.same;
+      remembered = λ p. (λ is. (lies.remembered p).0 ((moves.remembered p).1 is), λ is. (moves.remembered p).0 ((lies.remembered p).1 is));
+      summarised = lies.summarised;
+    }
+
 -- the only seat is the pager's
 module _ (pins : Pins) (h : HeapView) (hs : List ℕ) (seats : List Seat) (pager : Seat) (opened : Opened h.space Lanes hs (turn_roles []) pins (seats ++ pager ∷ [])) where
   none-else : seats ≡ []
@@ -56,7 +69,7 @@ module _ (pins : Pins) (h : HeapView) (hs : List ℕ) (seats : List Seat) (pager
     back = paged-back pins old later (subst (IsDealt pins.table.shared.table_id (key_of pins) (Pager 0)) (sym seat_is) alone-dealt) paged
 
     one-back : IsBack pins.table.shared.table_id (key_of pins) later.seat
-    one-back = record { table = back.table; about = back.about; hand = back.free.hand; slots = back.free.slots; rights = back.rights; tidy = later.seat.tidy }
+    one-back = record { table = back.table; about = back.about; hand = back.free.hand; slots = back.free.slots; rights = back.rights; opens = (let opens = back.opens in let none = ap (λ (l : List ℕ). length l) back.fetched in omega arith); tidy = later.seat.tidy }
 
     abbrev all : List Seat
     all = seats ++ later.seat ∷ []
@@ -75,7 +88,7 @@ module _ (pins : Pins) (h : HeapView) (hs : List ℕ) (seats : List Seat) (pager
     })
 
     module _ (t : Layout) (closed : Closed (key_of pins) all t) (before : IsLayout h.space) (given : IsLayout t) where
-      seats-back : AreSeatsBack (key_of pins) hs [] h (λ i. pager) all
+      seats-back : AreSeatsBack (key_of pins) hs [] (heap_back h) (λ i. pager) all
       seats-back = record {
         long = ap length only;
         same = λ i lt. absurd (omega arith);
@@ -93,7 +106,9 @@ module _ (pins : Pins) (h : HeapView) (hs : List ℕ) (seats : List Seat) (pager
       }
 
       pub alone-lies : IsOpenable h.space → LiesBack h.space t
-      alone-lies openable = lies-back (key_of pins) h h hs [] (λ i. pager) all t table seats-back (passes-none hs (Has []) h) closed given before openable
+      alone-lies openable =
+          lies-from-back h.space t openable.summarised
+          (lies-back (key_of pins) h (heap_back h) hs [] (λ i. pager) all t table seats-back (passes-none hs (Has []) (heap_back h)) closed given (back-layout h.space before) openable)
 
       pagers : ArePagers all paged.told
       pagers = subst (λ (ss : List Seat). ArePagers ss paged.told) (sym only) (record {
@@ -101,7 +116,7 @@ module _ (pins : Pins) (h : HeapView) (hs : List ℕ) (seats : List Seat) (pager
         left = λ p. let one = paged.left p in omega arith;
         emptied = λ p. let one = paged.emptied p in omega arith;
         returned = λ p. let one = ap (times p) back.returned in omega arith;
-        opens = (let one = back.opens in omega arith);
+        fetches = (let one = ap (λ (l : List ℕ). length l) back.fetched in omega arith);
       })
 
       pub alone-answered : h.space.reads < 2 ^ 64 → (hints : List ℕ) (kept told : List Answer) → old.notices.hints ≡ hints → old.answers.list ≡ kept → told ≡ later.answers.list → AnsweredBeside hs [] [] h.space hints kept told t

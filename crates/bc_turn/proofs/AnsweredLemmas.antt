@@ -8,7 +8,7 @@ use Rattle.bc_model.specs.declared.operations.Reply.{Reply}
 use Rattle.bc_pager.specs.Answering.{AreAnswered, says_declined, says_discarded, says_evicted}
 use Rattle.bc_pager.specs.declared.answers.Answer.{Answer}
 use Rattle.bc_pins.specs.Calls.{view_of}
-use Rattle.bc_pins.specs.Closing.{Closed, opens_of}
+use Rattle.bc_pins.specs.Closing.{Closed, fetches_of}
 use Rattle.bc_pins.specs.Key.{Key, pages_of, role_number}
 use Rattle.bc_pins.specs.Steps.{fresh, no_key}
 use Rattle.bc_pins.specs.Totals.{times, total}
@@ -61,13 +61,13 @@ state-behind s p layout far =
     ap (λ (states : List PageState). get_or states (p % 4) Absent) (get_or_past s.states (p / 4) [] (omega arith)) ∙ get_or_past [] (p % 4) Absent (omega arith)
 
 -- what the seats have between them of the pages that were made Gone, made Absent and taken from Gone is what the answers say, none
--- returned a page of another's, and none opened a box
+-- returned a page of another's, and none took one from Gone
 pub record ArePagers (seats : List Seat) (told : List Answer) : Type 0 where
   pub fetched : (p : ℕ) → total (λ (seat : Seat). times p (view_of seat).fetched) seats ≡ 0
   pub left : (p : ℕ) → total (λ (seat : Seat). times p (view_of seat).left) seats ≡ total (says_evicted p) told
   pub emptied : (p : ℕ) → total (λ (seat : Seat). times p (view_of seat).emptied) seats ≡ total (says_discarded p) told
   pub returned : (p : ℕ) → total (λ (seat : Seat). times p (view_of seat).returned) seats ≡ 0
-  pub opens : opens_of seats ≡ 0
+  pub fetches : fetches_of seats ≡ 0
 
 module _ (k : Key) (s t : Layout) (seats : List Seat) (told : List Answer) (opening : k.opening ≡ s) (closed : Closed k seats t) (before : IsLayout s) (after : IsLayout t)
     (pagers : ArePagers seats told) (none : (p : ℕ) → pages_of k ≤ p → (total (says_evicted p) told ≡ 0) × (total (says_discarded p) told ≡ 0)) where
@@ -180,7 +180,7 @@ answered hs lanes replies k s t seats hints kept after told end opening closed b
       once = once k s t seats told opening closed before layout pagers none;
       declined = declined;
       bookmarks = new-bits k s t seats opening closed before layout pagers.fetched;
-      reads = reads-same k s t seats opening closed few pagers.opens;
+      reads = reads-same k s t seats opening closed few pagers.fetches;
     }
 
 append-nil : (xs : List Answer) → xs ≡ xs ++ []

@@ -44,9 +44,6 @@ module _ (k : Key) (s t : Layout) (seats : List Seat) (told : List Answer) (open
       let states = closed.states_are page near in
       let all = total_in (λ (seat : Seat). times page (view_of seat).busy) seats i d lt in
       let why = states.busy (omega arith) in
-      let gone = states.gone in
-      let absent = states.absent in
-      let fetched = pagers.fetched page in
       let returned = pagers.returned page in
       let present = present-word (state_at t.states page) (λ is. allocated-not_absent t cell after (still-there cell there) (ap (state_at t.states) on ∙ is)) in
       omega arith

@@ -3,6 +3,8 @@ use Rattle.std.proofs.Common.{◌≡◌, ℕ, ◌+◌, ◌*◌, ◌<◌, ◌≤�
 use Prim.Native.Nat.{suc}
 use Rattle.std.proofs.lemmas.Bool.{cases_lt}
 use Rattle.std.specs.List.{AllByRecursion}
+use Rattle.bc_bookmarks.proofs.MovingLemmas.{MovesPages-none}
+use Rattle.bc_lane.specs.Back.{heap_back}
 use Rattle.bc_lane.specs.Doing.{DidAll}
 use Rattle.bc_lane.specs.Turns.{IsWhole}
 use Rattle.bc_lane.specs.declared.turns.LaneTurn.{LaneTurn}
@@ -26,6 +28,7 @@ use Rattle.bc_reach.specs.Distinct.{Has}
 use Rattle.bc_superpages.specs.Kept.{IsLayout}
 use Rattle.bc_superpages.specs.Layout.{Layout}
 use Rattle.bc_superpages.specs.LayoutAt.{IsAllocated}
+use Rattle.bc_lane.proofs.BackLemmas.{back-moves, back-stands}
 use Rattle.bc_turn.proofs.AnsweredLemmas.{ArePagers}
 use Rattle.bc_turn.proofs.AwayLemmas.{NotesGone, notes-gone}
 use Rattle.bc_turn.proofs.HeapLemmas.{laid-back}
@@ -33,7 +36,7 @@ use Rattle.bc_turn.proofs.OpenableLemmas.{openable}
 use Rattle.bc_turn.proofs.StageLemmas.{Link, Stage, first, first-ran, linked, new-holders, new-lane, new-seat, nothing-did, nothing-more, stages}
 use Rattle.bc_turn.proofs.TableLemmas.{AreRecorded, AreSeatsBack, IsTurnTable, lies-back, role-numbers}
 use Rattle.bc_turn.specs.Begun.{AllRan, AreBegun, AreBusyLanes, of_lane}
-use Rattle.bc_turn.specs.Beside.{IsAtEndOr, IsLaidBack, LiesBack, RanBeside, StopsBeside}
+use Rattle.bc_turn.specs.Beside.{IsAtEndOr, IsLaidBack, LiesBack, PagesMoved, RanBeside, StopsBeside}
 use Rattle.bc_turn.specs.Laying.{AreLaidBack}
 use Rattle.bc_turn.specs.Taking.{turn_roles}
 use Rattle.bc_whole_heap.specs.Heaps.{HeapView, end_of}
@@ -56,6 +59,9 @@ module _ (pins : Pins) (h : HeapView) (hs serials : List ℕ) (lanes : List (Lis
     (seats : List Seat) (table : IsTurnTable (key_of pins) h.space hs busy) (seats_long : length seats ≡ length busy + 1) (seats_are : (i : ℕ) → i < length busy → (d : Seat) → get_or seats i d ≡ after i)
     (k : HeapView) (nexts : List ℕ) (told : List (List Reply)) (closed : Closed (key_of pins) seats k.space) (given : IsLayout k.space)
     (laid : AreLaidBack hs busy new (length busy) h serials before k nexts told) (recorded : AreRecorded (key_of pins) busy after seats) (answers : List Answer) (pagers : ArePagers seats answers) where
+  stands_back : StandsAs (heap_back h) hs serials state
+  stands_back = back-stands h hs serials state running stands
+
   -- a page that stopped a lane is Gone
   notes : (i : ℕ) → i < length busy → NotesGone (view_of (after i)) h.space k.space
   notes i lt =
@@ -63,7 +69,7 @@ module _ (pins : Pins) (h : HeapView) (hs serials : List ℕ) (lanes : List (Lis
       (notes-gone (key_of pins) h.space k.space seats answers table.opening table.behind closed layout given pagers i (after i) (omega arith))
 
   abbrev stage : (n : ℕ) → Stage h hs serials busy old seat new after n
-  stage n = stages pins h hs serials lanes before busy old seat new after begun ran state stands words ops k nexts told laid notes n
+  stage n = stages pins h hs serials lanes before busy old seat new after begun ran state stands_back words ops k nexts told laid notes n
 
   abbrev at : ℕ → HeapView
   at n = (stage n).heap
@@ -72,7 +78,7 @@ module _ (pins : Pins) (h : HeapView) (hs serials : List ℕ) (lanes : List (Lis
   count = length lanes
 
   link : (n : ℕ) → Link hs n (of_lane lanes n) (get_or serials n 0) (of_lane before n) (at n) (at (suc n)) (get_or nexts n 0) (of_lane told n) k.space
-  link n = linked pins h hs serials lanes before busy old seat new after begun ran state stands words ops k nexts told laid notes n
+  link n = linked pins h hs serials lanes before busy old seat new after begun ran state stands_back words ops k nexts told laid notes n
 
   one-more : (n : ℕ) → suc n ≡ n + 1
   one-more n = omega arith
@@ -85,9 +91,9 @@ module _ (pins : Pins) (h : HeapView) (hs serials : List ℕ) (lanes : List (Lis
     long = seats_long;
     same = seats_are;
     about = λ i lt. (ran.each i lt).seat_is.about ∙ ap (λ (v : View). v.about) (begun.each i lt).view;
-    roles = λ i lt. (new-seat pins h hs serials lanes before busy old seat new after begun ran state stands words ops i lt).roles;
+    roles = λ i lt. (new-seat pins h hs serials lanes before busy old seat new after begun ran state stands_back words ops i lt).roles;
     behind = λ i lt p far.
-        let reads = (first-ran pins h hs serials lanes before busy old seat new after begun ran state stands words ops i lt).reads in
+        let reads = (first-ran pins h hs serials lanes before busy old seat new after begun ran state stands_back words ops i lt).reads in
         let view = (begun.each i lt).view in
         let none = reads.behind p (subst (λ (v : View). pages_of v.about ≤ p) (sym view) far) in
         (none.0 ∙ ap (λ (v : View). entries p v.changed) view, none.1 ∙ ap (λ (v : View). times p v.recorded) view);
@@ -103,14 +109,14 @@ module _ (pins : Pins) (h : HeapView) (hs serials : List ℕ) (lanes : List (Lis
   laid-all : IsLaidBack (at count) k
   laid-all =
       laid-back h (at count) k hs busy serials nexts before told new (λ i. view_of (after i)) (end_of h.space) running.closed words (stage count).long
-      (new-holders pins h hs serials lanes before busy old seat new after begun ran state stands words ops)
-      (new-lane pins h hs serials lanes before busy old seat new after begun ran state stands words ops)
+      (new-holders pins h hs serials lanes before busy old seat new after begun ran state stands_back words ops)
+      (new-lane pins h hs serials lanes before busy old seat new after begun ran state stands_back words ops)
       done-all (stage count).passes laid lies
 
   pub ran-beside : RanBeside hs lanes h serials before k nexts told
   ran-beside = record {
     at = at;
-    first = first pins h hs serials lanes before busy old seat new after begun ran state stands words ops k nexts told laid notes;
+    first = subst (PagesMoved h) (sym (first pins h hs serials lanes before busy old seat new after begun ran state stands_back words ops k nexts told laid notes)) (back-moves h.space running.summarised, refl);
     new = λ n. (link n).new;
     told = λ n lt. (link n).told_are;
     did = λ n lt.
@@ -150,7 +156,7 @@ module _ (h : HeapView) (hs serials : List ℕ) (lanes : List (List Op)) (before
     pub ran-none : RanBeside hs lanes h serials before after-all serials before
     ran-none = record {
       at = λ n. h;
-      first = refl;
+      first = (MovesPages-none h.space running.summarised, refl);
       new = λ n. [];
       told = λ n lt. nothing-more (of_lane before n);
       did = λ n lt. nothing-did hs n (drop (length (of_lane before n)) (of_lane lanes n)) h (get_or serials n 0);

@@ -5,7 +5,7 @@ use Rattle.bc_bits.specs.Counting.{one_if}
 use Rattle.bc_model.specs.declared.operations.Op.{Op}
 use Rattle.bc_model.specs.declared.operations.Reply.{Reply}
 use Rattle.bc_pager.specs.Answering.{AreAnswered, IsAnswer, TookAfter, says_declined, says_discarded, says_evicted}
-use Rattle.bc_pager.specs.Looking.{IsAccountedFor, MayStay, all_pages}
+use Rattle.bc_evict.specs.Looking.{IsAccountedFor, MayStay, all_pages}
 use Rattle.bc_pager.specs.declared.answers.Answer.{Answer}
 use Rattle.bc_pager.specs.declared.answers.Answer.TheVariants.{Declined, Discarded, Evicted}
 use Rattle.bc_pins.specs.Calls.{view_of}
@@ -95,7 +95,7 @@ pub record LooksFound (k : Key) (w : View) : Type 0 where
   pub each : (q : ℕ) → q < all_pages k → IsAccountedFor k looks q MayStay
   pub more : (q n : ℕ) → times n (reads_at q looks) ≤ times n (reads_at q w.read)
 
-declined-looks : (k : Key) (hints : List ℕ) (told : List Answer) (v w : View) → AreAnswered k hints told v w → 0 < total says_declined told → LooksFound k w
+pub declined-looks : (k : Key) (hints : List ℕ) (told : List Answer) (v w : View) → AreAnswered k hints told v w → 0 < total says_declined told → LooksFound k w
 declined-looks k [] [] v w is some = absurd (omega arith)
 declined-looks k [] (answer ∷ told) v w is some = absurd is
 declined-looks k (hint ∷ hints) [] v w is some = absurd is
@@ -130,16 +130,17 @@ module _ (k : Key) (s t : Layout) (seats : List Seat) (hints : List ℕ) (told :
 
   -- by what was found of it
   by-place : (p : ℕ) (looks : LooksFound k end) (place : PageState) → MayStay place → p < pages_of k → state_at t.states p ≡ Home → 0 < times (state_word place) (reads_at p looks.looks) → HasLeft lanes replies (holder p)
-  by-place p looks Absent may near home found = let more = looks.more p 0 in let all = logged p 0 in absurd ((closed.states_are p near).away (omega arith) home)
+  by-place p looks Absent may near home found = let more = looks.more p 0 in let all = logged p 0 in absurd ((closed.states_are p near).away (omega arith) (pagers.fetched p) home)
   by-place p looks Home may near home found = absurd may
-  by-place p looks Remembered may near home found = let more = looks.more p 2 in let all = logged p 2 in absurd ((closed.states_are p near).away (omega arith) home)
-  by-place p looks Gone may near home found = let more = looks.more p 4 in let all = logged p 4 in absurd ((closed.states_are p near).away (omega arith) home)
+  by-place p looks Remembered may near home found = let more = looks.more p 2 in let all = logged p 2 in absurd ((closed.states_are p near).away (omega arith) (pagers.fetched p) home)
+  by-place p looks Gone may near home found = let more = looks.more p 4 in let all = logged p 4 in absurd ((closed.states_are p near).away (omega arith) (pagers.fetched p) home)
   by-place p looks Held may near home found =
       let more = looks.more p 3 in
       let all = logged p 3 in
       let taken = (closed.states_are p near).held (omega arith) in
+      let unfetched = pagers.fetched p in
       elim (cases_lt 0 (total (λ (seat : Seat). reads_as p 2 (view_of seat)) seats)) [
-        | inl two ↦ absurd ((closed.states_are p near).away (omega arith) home)
+        | inl two ↦ absurd ((closed.states_are p near).away (omega arith) (pagers.fetched p) home)
         | inr no_two ↦ elim (homes p near (omega arith)) [
           | inl named ↦ absurd (named-away p near home named)
           | inr left ↦ left

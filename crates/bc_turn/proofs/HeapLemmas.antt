@@ -1,6 +1,7 @@
 -- The heap with all laid back is the one that the lanes' operations made.
 use Rattle.std.proofs.Common.{◌≡◌, ◌⊎◌, ℕ, ◌+◌, ◌*◌, ◌<◌, ◌/◌, ◌%◌, List, length, get_or, None, inl, inr, ap, sym, subst, ◌∙◌, arith}
 use Rattle.std.proofs.lemmas.List.{ext_get_or}
+use Rattle.bc_lane.specs.Back.{heap_back}
 use Rattle.bc_lane.specs.Turns.{IsWhole}
 use Rattle.bc_lane.specs.declared.turns.LaneTurn.{LaneTurn}
 use Rattle.bc_model.specs.declared.operations.Reply.{Reply}
@@ -25,7 +26,7 @@ use Rattle.bc_word.specs.Words.{word_of_bits}
 module _ (h m k : HeapView) (hs busy serials nexts : List ℕ) (before told : List (List Reply)) (turn : ℕ → LaneTurn) (view : ℕ → View) (end : ℕ)
     (closed : IsClosedHeap h hs) (words_long : length h.roots.words ≡ h.roots.domains * h.roots.slots) (made_long : length m.roots.words ≡ m.roots.domains * m.roots.slots)
     (holders : (i : ℕ) → i < length busy → (turn i).part.holders.items ≡ hs) (lanes : (i : ℕ) → i < length busy → (turn i).part.lane ≡ get_or busy i 0)
-    (whole : (i : ℕ) → i < length busy → IsWhole (turn i).part (view i) None end m) (passes : Passes hs (Has busy) h m)
+    (whole : (i : ℕ) → i < length busy → IsWhole (turn i).part (view i) None end m) (passes : Passes hs (Has busy) (heap_back h) m)
     (laid : AreLaidBack hs busy turn (length busy) h serials before k nexts told) (pages : LiesBack m.space k.space) where
   -- the words of the root slots
   slot-same : (d t : ℕ) → d < length hs → t < h.roots.slots → root_at k.roots d t ≡ root_at m.roots d t

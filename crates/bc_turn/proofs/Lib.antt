@@ -44,3 +44,5 @@ pub mod RoomLemmas
 pub mod AloneLemmas
 -- A turn put together
 pub mod TurnLemmas
+-- A notice that was declined beside lanes that fetch pages
+pub mod HomeLemmas

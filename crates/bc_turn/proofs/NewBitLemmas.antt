@@ -9,7 +9,7 @@ use Rattle.bc_bits.proofs.BitLemmas.{has-beyond}
 use Rattle.bc_bookmarks.specs.Targets.{has_target_at, is_target}
 use Rattle.bc_bookmarks.proofs.TargetLemmas.{target-at}
 use Rattle.bc_pins.specs.Calls.{view_of}
-use Rattle.bc_pins.specs.Closing.{Closed, ClosedBit, IsOfPageLeft, opens_of}
+use Rattle.bc_pins.specs.Closing.{Closed, ClosedBit, IsOfPageLeft, fetches_of}
 use Rattle.bc_pins.specs.Facts.{IsBitOfTarget, opened_bit}
 use Rattle.bc_pins.specs.Key.{Key}
 use Rattle.bc_pins.specs.Totals.{times, total}
@@ -31,7 +31,7 @@ pub bits-none : (s : Layout) → BookmarksNewTargets s s
 bits-none s = record { stay = λ q b on. on; only = λ q b on. inl on }
 
 -- no box was opened, so none was read
-pub reads-same : (k : Key) (s t : Layout) (seats : List Seat) → k.opening ≡ s → Closed k seats t → s.reads < 2 ^ 64 → opens_of seats ≡ 0 → t.reads ≡ s.reads
+pub reads-same : (k : Key) (s t : Layout) (seats : List Seat) → k.opening ≡ s → Closed k seats t → s.reads < 2 ^ 64 → fetches_of seats ≡ 0 → t.reads ≡ s.reads
 reads-same k s t seats opening closed few none =
     let all = closed.reads in
     let same = ap (λ (x : Layout). x.reads) opening in
@@ -84,9 +84,10 @@ module _ (k : Key) (s t : Layout) (seats : List Seat) (opening : k.opening ≡ s
       let count = (closed.states_are m.page m.inside).gone in
       let none = unfetched m.page in
       let some = m.left in
-      let now : one_if (state_word (state_at t.states m.page) == 4) ≡ 1 = ap (λ (st : PageState). one_if (state_word st == 4)) m.gone in
+      let still = m.still none in
+      let now : one_if (state_word (state_at t.states m.page) == 4) ≡ 1 = ap (λ (st : PageState). one_if (state_word st == 4)) still.0 in
       let was : opened_state k m.page ≡ state_at s.states m.page = ap (λ (x : Layout). state_at x.states m.page) opening in
-      (m.page, ap is_gone (sym was) ∙ not-gone (opened_state k m.page) (omega arith), ap is_gone m.gone, target-here m.page w b m.bit)
+      (m.page, ap is_gone (sym was) ∙ not-gone (opened_state k m.page) (omega arith), ap is_gone still.0, target-here m.page w b still.1)
 
   -- bit b of the set of a superpage of the table
   module _ (q b : ℕ) (near : q < k.supers) (few : b < 1024) where

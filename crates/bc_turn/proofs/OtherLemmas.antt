@@ -66,12 +66,14 @@ module _ (hs : List ℕ) (lane : ℕ) (part : LanePart) (v : View) (end : ℕ) (
       record {
         content = same.0 ∙ p.content;
         remembered = (λ is. p.remembered.0 (sym same.1 ∙ is), λ lt. same.1 ∙ p.remembered.1 lt);
-        gone = λ is. p.gone (subst (λ st. is_gone st ≡ true) same.1 is);
+        here = ap is_gone same.1 ∙ p.here;
       }
 
   pages-stay : ShowsPages v None end k.space
   pages-stay = record {
-    same = passes.space ∙ ap (λ (s : Layout). record s { states = k.space.states; pages = k.space.pages }) shown.same;
+    same =
+        passes.space ∙ ap (λ (s : Layout). record s { states = k.space.states; pages = k.space.pages }) shown.same
+        ∙ ap (λ (l : List ℕ). record v.about.opening { states = k.space.states; pages = k.space.pages; incoming = l }) (sym (ap (λ (s : Layout). s.incoming) passes.space));
     end_is = shown.end_is ∙ ap end_of (sym passes.space);
     opening = shown.opening;
     others = λ page own none. page-stays page own (shown.others page own none);

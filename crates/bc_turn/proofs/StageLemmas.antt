@@ -3,6 +3,7 @@ use Rattle.std.proofs.Common.{◌≡◌, ◌⊎◌, ℕ, ◌+◌, ◌*◌, ◌<�
 use Prim.Native.Nat.{zero, suc}
 use Rattle.std.proofs.lemmas.Bool.{cases_eq, cases_lt}
 use Rattle.std.specs.List.{AllByRecursion}
+use Rattle.bc_lane.specs.Back.{heap_back}
 use Rattle.bc_lane.specs.Doing.{DidAll}
 use Rattle.bc_lane.specs.Turns.{IsReadStop, IsWhole, LaneRan, StopsOp, WhyStopped}
 use Rattle.bc_lane.specs.declared.parts.LanePart.{LanePart}
@@ -40,14 +41,14 @@ use Rattle.bc_whole_heap.specs.LaneStates.{StandsAs}
 use Rattle.bc_lane.proofs.WholeLemmas.{lane-serial}
 use Rattle.bc_reach.proofs.Pushed.{Has-get_or}
 
--- the heap that the lanes below n left. What each busy lane has belongs to it: what it has after its operations where it is below n,
+-- the heap that the lanes below n left, the first of them the one with every page back. What each busy lane has belongs to it: what it has after its operations where it is below n,
 -- and else what it began with
 pub record Stage (h : HeapView) (hs serials busy : List ℕ) (old : ℕ → LaneTurn) (seat : ℕ → Seat) (new : ℕ → LaneTurn) (after : ℕ → Seat) (n : ℕ) : Type 0 where
   pub heap : HeapView
   pub births : List ℕ
   pub state : State
   pub stands : StandsAs heap hs births state
-  pub passes : Passes hs (Has busy) h heap
+  pub passes : Passes hs (Has busy) (heap_back h) heap
   pub long : length heap.roots.words ≡ heap.roots.domains * heap.roots.slots
   pub births_are : (j : ℕ) → n ≤ j → get_or births j 0 ≡ get_or serials j 0
   pub born : (i : ℕ) → i < length busy → get_or busy i 0 < n → get_or births (get_or busy i 0) 0 ≡ (new i).part.serial
@@ -90,7 +91,7 @@ stops-beside hs n end part u v k t op why eh el whole fits notes since stops =
     go (stop.Gone page) read s = let looks = s.1 k whole fits in inr (inr (page, looks, notes page looks.0.0 looks.2 looks.3 (inl read.1)))
 
 module _ (pins : Pins) (h : HeapView) (hs serials : List ℕ) (lanes : List (List Op)) (before : List (List Reply)) (busy : List ℕ) (old : ℕ → LaneTurn) (seat : ℕ → Seat) (new : ℕ → LaneTurn) (after : ℕ → Seat)
-    (begun : AreBegun pins h hs serials lanes before busy old seat) (ran : AllRan lanes busy old seat new after) (state : State) (stands : StandsAs h hs serials state)
+    (begun : AreBegun pins h hs serials lanes before busy old seat) (ran : AllRan lanes busy old seat new after) (state : State) (stands : StandsAs (heap_back h) hs serials state)
     (words : length h.roots.words ≡ h.roots.domains * h.roots.slots) (ops : (j : ℕ) → Has busy j → AllByRecursion (IsOpOf h.roots) (of_lane lanes j)) where
   abbrev end : ℕ
   end = end_of h.space
@@ -103,7 +104,7 @@ module _ (pins : Pins) (h : HeapView) (hs serials : List ℕ) (lanes : List (Lis
 
   -- what a run tells of the heap at the beginning
   pub first-ran : (i : ℕ) → i < length busy → LaneRan (of_lane lanes (lane i)) end (old i) (view_of (seat i)) None (new i) (view_of (after i)) None
-  first-ran i lt = (ran.each i lt).ran h (begun.each i lt).whole
+  first-ran i lt = (ran.each i lt).ran (heap_back h) (begun.each i lt).whole
 
   pub new-holders : (i : ℕ) → i < length busy → (new i).part.holders.items ≡ hs
   new-holders i lt = ap (λ v. v.items) (first-ran i lt).same.holders ∙ (begun.each i lt).holders_are
@@ -127,17 +128,17 @@ module _ (pins : Pins) (h : HeapView) (hs serials : List ℕ) (lanes : List (Lis
 
   start : At 0
   start = record {
-    heap = h;
+    heap = heap_back h;
     births = serials;
     state = state;
     stands = stands;
-    passes = passes-none hs (Has busy) h;
+    passes = passes-none hs (Has busy) (heap_back h);
     long = words;
     births_are = λ j le. refl;
     born = λ i lt less. absurd (omega arith);
     ready = λ i lt.
         let b = begun.each i lt in
-        subst (λ (l : ℕ). MayOperate h hs l) (begun.lane_is i lt) (subst (λ (l : List ℕ). MayOperate h l (old i).part.lane) b.holders_are b.whole.ready);
+        subst (λ (l : ℕ). MayOperate (heap_back h) hs l) (begun.lane_is i lt) (subst (λ (l : List ℕ). MayOperate (heap_back h) l (old i).part.lane) b.holders_are b.whole.ready);
     waits = λ i lt le. (begun.each i lt).whole;
     done = λ i lt less. absurd (omega arith);
   }
@@ -195,7 +196,7 @@ module _ (pins : Pins) (h : HeapView) (hs serials : List ℕ) (lanes : List (Lis
     run : LaneRan (of_lane lanes (lane i)) (end_of s.heap.space) o (view_of (seat i)) None w (view_of (after i)) None
     run = (ran.each i lt).ran s.heap here
 
-    fits-at : (k : HeapView) → Passes hs (Has busy) h k → AllByRecursion (IsOpOf k.roots) (of_lane lanes (lane i))
+    fits-at : (k : HeapView) → Passes hs (Has busy) (heap_back h) k → AllByRecursion (IsOpOf k.roots) (of_lane lanes (lane i))
     fits-at k passes = subst (λ (r : RootWords). AllByRecursion (IsOpOf r) (of_lane lanes (lane i))) (sym passes.roots) (ops (lane i) (Has-get_or busy i lt))
 
     abbrev Made : Type 0
@@ -237,9 +238,9 @@ module _ (pins : Pins) (h : HeapView) (hs serials : List ℕ) (lanes : List (Lis
         passed hs n (take (length run.replies) (drop (length (of_lane before n)) (of_lane lanes n))) run.replies s.heap k (get_or serials n 0) w.part.serial s.births s.state did s.stands
         (s.births_are n (omega arith)) below-births (subst (λ (l : ℕ). MayOperate s.heap hs l) is (s.ready i lt))
 
-    passes-h : Passes hs (Has busy) h k
+    passes-h : Passes hs (Has busy) (heap_back h) k
     passes-h =
-        passes-then hs (Has busy) h s.heap k s.passes
+        passes-then hs (Has busy) (heap_back h) s.heap k s.passes
         (passes-wider hs (λ l. l ≡ n) (Has busy) s.heap k (λ l e. subst (Has busy) (is ∙ sym e) (Has-get_or busy i lt)) passed-n.passes)
 
     abbrev births : List ℕ
@@ -371,6 +372,6 @@ module _ (pins : Pins) (h : HeapView) (hs serials : List ℕ) (lanes : List (Lis
     unfolding stages
     linked n = (go-on n (stages n)).1
 
-    pub first : (stages 0).heap ≡ h
+    pub first : (stages 0).heap ≡ heap_back h
     unfolding stages start
     first = refl

@@ -3,7 +3,9 @@ use Rattle.std.proofs.Common.{◌≡◌, ℕ, ◌+◌, ◌*◌, ◌/◌, ◌<◌
 use Rattle.std.proofs.lemmas.Bool.{cases_lt}
 use Rattle.std.proofs.lemmas.List.{ext_get_or, get_or-map, get_or_past, length-map}
 use Rattle.bc_bits.specs.Counting.{one_if}
+use Rattle.bc_lane.specs.Back.{back_state, heap_back}
 use Rattle.bc_lane.specs.Shown.{IsOwnPage, ShowsPage}
+use Rattle.bc_lane.proofs.BackLemmas.{back-state, remembered-to}
 use Rattle.bc_lane.proofs.OpenLemmas.{remembered-word}
 use Rattle.bc_pins.specs.Calls.{view_of}
 use Rattle.bc_pins.specs.Closing.{Closed}
@@ -94,7 +96,7 @@ no-owner busy =
     omega arith
 
 module _ (k : Key) (h m : HeapView) (hs busy : List ℕ) (seat : ℕ → Seat) (seats : List Seat) (t : Layout)
-    (table : IsTurnTable k h.space hs busy) (back : AreSeatsBack k hs busy m seat seats) (passes : Passes hs (Has busy) h m) (closed : Closed k seats t) where
+    (table : IsTurnTable k h.space hs busy) (back : AreSeatsBack k hs busy m seat seats) (passes : Passes hs (Has busy) (heap_back h) m) (closed : Closed k seats t) where
   abbrev view : ℕ → View
   view i = view_of (seat i)
 
@@ -172,8 +174,8 @@ module _ (k : Key) (h m : HeapView) (hs busy : List ℕ) (seat : ℕ → Seat) (
     opened-same : content_at m.space.pages p ≡ opened_content k p
     opened-same = (passes.pages p off-h).0 ∙ ap (λ (s : Layout). content_at s.pages p) (sym table.opening)
 
-    opened-state : state_at m.space.states p ≡ opened_state k p
-    opened-state = (passes.pages p off-h).1 ∙ ap (λ (s : Layout). state_at s.states p) (sym table.opening)
+    opened-state : state_at m.space.states p ≡ back_state (opened_state k p)
+    opened-state = (passes.pages p off-h).1 ∙ back-state h.space p ∙ ap (λ (s : Layout). back_state (state_at s.states p)) (sym table.opening)
 
     left-content : p < 4 * superpages k.opening → content_at t.pages p ≡ content_at m.space.pages p
     left-content inside = elim (cases_lt p (pages_of k)) [
@@ -183,17 +185,17 @@ module _ (k : Key) (h m : HeapView) (hs busy : List ℕ) (seat : ℕ → Seat) (
 
     left-remembered : p < pages_of k → state_at m.space.states p ≡ Remembered → state_at t.states p ≡ Remembered
     left-remembered near is =
-        let two = ap (λ (st : PageState). one_if (state_word st == 2)) (sym opened-state ∙ is) in
+        let two = ap (λ (st : PageState). one_if (state_word st == 2)) (remembered-to (opened_state k p) (sym opened-state ∙ is)) in
         (closed.states_are p near).remembered (omega arith)
 
     left-recorded : p < pages_of k → state_at t.states p ≡ Remembered → state_at m.space.states p ≡ Remembered
     left-recorded near is =
         let some = (closed.states_are p near).recorded is in
         let none = back.recorded.nobody p unowned in
-        opened-state ∙ remembered-word (opened_state k p) (omega arith)
+        opened-state ∙ ap back_state (remembered-word (opened_state k p) (omega arith))
 
     left-behind : pages_of k ≤ p → state_at m.space.states p ≡ Remembered → ⊥
-    left-behind far is = absent-remembered (sym (opened-state ∙ ap (λ (s : Layout). state_at s.states p) table.opening ∙ table.behind p far) ∙ is)
+    left-behind far is = absent-remembered (sym (opened-state ∙ ap back_state (ap (λ (s : Layout). state_at s.states p) table.opening ∙ table.behind p far)) ∙ is)
 
   -- every page
   content-same : (p : ℕ) → p < 4 * superpages k.opening → content_at t.pages p ≡ content_at m.space.pages p

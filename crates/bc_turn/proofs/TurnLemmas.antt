@@ -6,6 +6,7 @@ use Rattle.std.specs.List.{AllByRecursion}
 use Rattle.std.proofs.Math.ListN as list
 use Rattle.std.proofs.lemmas.Bool.{cases_lt, eq-eqb, eqb-true}
 use Rattle.std.proofs.lemmas.List.{get_or-map, get_or_append_left, get_or_push, length-map, length_push}
+use Rattle.bc_lane.specs.Back.{heap_back}
 use Rattle.bc_lane.specs.declared.parts.LanePart.{LanePart}
 use Rattle.bc_lane.specs.declared.stops.Stop.{Stop}
 use Rattle.bc_lane.specs.declared.stops.Stop.TheVariants as stop
@@ -175,7 +176,7 @@ module _ (h : HeapView) (hs serials : List ℕ) (lanes : List (List Op)) (before
       let i = length runs - (r + 1) in
       let inside : i < length busy = omega arith in
       let b = begun-at i inside d in
-      subst (λ (q : ℕ). CanRun pins lanes (get_or runs q d)) (back-place (length runs) r lt) (record { within = b.within; going = b.going; heap = h; whole = b.whole; ops = ops-at i inside d })
+      subst (λ (q : ℕ). CanRun pins lanes (get_or runs q d)) (back-place (length runs) r lt) (record { within = b.within; going = b.going; heap = heap_back h; whole = b.whole; ops = ops-at i inside d })
 
   module _ (new : List Run) (ran : (i : ℕ) → (d : Run) → i < length runs → LaneHasRun lanes (get_or runs i d) (get_or new i d)) (new_long : length new ≡ length runs) where
     has-run : (i : ℕ) → i < length busy → (d : Run) → LaneHasRun lanes (get_or runs (length runs - (i + 1)) d) (get_or new (length new - (i + 1)) d)
@@ -200,7 +201,7 @@ module _ (h : HeapView) (hs serials : List ℕ) (lanes : List (List Op)) (before
 
     lane-ran : (i : ℕ) → i < length busy → (d : Run)
         → LaneRan (of_lane lanes (turn_at d runs i).part.lane) (end_of h.space) (turn_at d runs i) (view_of (seat_at d runs i)) None (turn_at d new i) (view_of (seat_at d new i)) None
-    lane-ran i lt d = (has-run i lt d).ran.ran h (begun-at i lt d).whole
+    lane-ran i lt d = (has-run i lt d).ran.ran (heap_back h) (begun-at i lt d).whole
 
     lane-is : (i : ℕ) → i < length busy → (d : Run) → (turn_at d new i).part.lane ≡ get_or busy i 0
     lane-is i lt d = (lane-ran i lt d).same.lane ∙ (taken.each i lt d).prepared.lane_is
@@ -223,7 +224,7 @@ module _ (h : HeapView) (hs serials : List ℕ) (lanes : List (List Op)) (before
         let starts : AreStarts part.domains.items part.slots (length hs) part.starts.items =
         subst (λ (xs : List ℕ). AreStarts xs part.slots (length hs) part.starts.items) (sym ds)
         (subst (λ (n : ℕ). AreStarts t.roots.domains.items n (length hs) part.starts.items) (sym slots) (subst (AreStarts t.roots.domains.items h.roots.slots (length hs)) (sym ss) t.prepared.starts)) in
-        let done = r.done h (begun-at i lt d).whole (ops-at i lt d) in
+        let done = r.done (heap_back h) (begun-at i lt d).whole (ops-at i lt d) in
         let shows = done.1.belongs.roots in
         let here : part.slots ≡ k.roots.slots = slots ∙ sym (ap (λ (x : RootWords). x.slots) roots-same) in
         record {

@@ -1,6 +1,7 @@
 -- What a turn begins with: the lanes that have operations left, each with what it takes into the turn and its seat at the table,
 -- and what each run tells.
 use Rattle.std.specs.Prelude.{◌≡◌, ℕ, ◌<◌, List, [], ◌∷◌, length, None, slice_index, slice_index_or}
+use Rattle.bc_lane.specs.Back.{heap_back}
 use Rattle.bc_lane.specs.declared.stops.Stop.{Stop}
 use Rattle.bc_lane.specs.declared.turns.LaneTurn.{LaneTurn}
 use Rattle.bc_lane.specs.Turns.{IsGoing, IsReadStop, IsWhole, LaneRan, WhyStopped}
@@ -28,13 +29,14 @@ pub record AreBusyLanes (lanes : List (List Op)) (replies : List (List Reply)) (
   pub rising : (i j : ℕ) → i < j → j < length busy → slice_index busy i < slice_index busy j
   pub all : (lane : ℕ) → HasLeft lanes replies lane → (i : ℕ) × (i < length busy) × (slice_index busy i ≡ lane)
 
--- a lane that begins: its seat has done nothing and opened no box, what it takes into the turn belongs to the heap, and its replies are those so far
+-- a lane that begins: its seat has done nothing and opened no box, what it takes into the turn belongs to the heap with every page back, and
+-- its replies are those so far
 pub record IsBegunLane (pins : Pins) (h : HeapView) (holders serials : List ℕ) (lanes : List (List Op)) (before : List (List Reply)) (turn : LaneTurn) (seat : Seat) : Type 0 where
   pub within : turn.part.lane < length lanes
   pub going : IsGoing pins (of_lane lanes turn.part.lane) turn seat None
   pub view : view_of seat ≡ fresh (key_of pins) (lane_role turn.part.lane ∷ [])
   pub opens : seat.opens ≡ 0
-  pub whole : IsWhole turn.part (view_of seat) None (end_of h.space) h
+  pub whole : IsWhole turn.part (view_of seat) None (end_of h.space) (heap_back h)
   pub holders_are : turn.part.holders.items ≡ holders
   pub serial_is : turn.part.serial ≡ slice_index serials turn.part.lane
   pub next : turn.next ≡ length (of_lane before turn.part.lane)

@@ -1,5 +1,6 @@
 -- Lanes that ran side by side in one turn, told as if one had run after another.
 use Rattle.std.specs.Prelude.{◌≡◌, ◌⊎◌, ◌↔◌, ℕ, ◌+◌, ◌<◌, ◌≤◌, List, [], ◌++◌, length, take, drop, slice_index, slice_index_or}
+use Rattle.bc_bookmarks.specs.Moves.{MovesPages}
 use Rattle.bc_bookmarks.specs.Summarised.{IsSummarised}
 use Rattle.bc_lane.specs.Doing.{DidAll}
 use Rattle.bc_lane.specs.Turns.{LooksOn}
@@ -50,12 +51,16 @@ IsAtEndOr ops replies P =
     (length ops ≤ length replies)
     ⊎ ((op : Op) × (length replies < length ops) × (op ≡ slice_index_or ops (length replies) op) × P op)
 
--- lanes that ran side by side, as if one had run after another: lane j found the heap `at j` and left the heap `at (j + 1)`. It gave
--- the replies `new j`. `before` and `serials` are the replies and the births of each lane before the turn, `after` and `nexts` those
+-- pages of a heap moved, and nothing else of it changed
+abbrev pub PagesMoved : HeapView → HeapView → Type 0
+PagesMoved h k = MovesPages h.space k.space × (k ≡ record h { space = k.space })
+
+-- lanes that ran side by side, as if one had run after another: pages came back first; then lane j found the heap `at j` and left the heap
+-- `at (j + 1)`. It gave the replies `new j`. `before` and `serials` are the replies and the births of each lane before the turn, `after` and `nexts` those
 -- after it
 pub record RanBeside (holders : List ℕ) (lanes : List (List Op)) (h : HeapView) (serials : List ℕ) (before : List (List Reply)) (k : HeapView) (nexts : List ℕ) (after : List (List Reply)) : Type 0 where
   pub at : ℕ → HeapView
-  pub first : at 0 ≡ h
+  pub first : PagesMoved h (at 0)
   pub new : ℕ → List Reply
   pub told : (j : ℕ) → j < length lanes → slice_index_or after j [] ≡ slice_index_or before j [] ++ new j
   pub did : (j : ℕ) → j < length lanes

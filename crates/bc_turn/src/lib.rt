@@ -3,8 +3,9 @@
 //
 // Between turns a heap lies in one value. For a turn it is taken apart: the space becomes a table (`bc_pins`), at which each lane that
 // runs has a seat and a pager has the last one, and each of these lanes takes what is its own out of the heap (`bc_lane`): the words of
-// its domains' root slots, its chunk, its write buffer, the number of its births and its replies so far. Then they work, on threads
-// that the call joins (`run_beside`). A lane runs until it is at its end or its next operation can't be done in this turn: its chunk or
+// its domains' root slots, its chunk, its write buffer, the number of its births and its replies so far. Then they work (`run_beside`): on
+// threads that the call joins, or, where the caller says that these wouldn't pay (`TurnThreads`), one after another on the caller's. The
+// contract doesn't tell these apart. A lane runs until it is at its end or its next operation can't be done in this turn: its chunk or
 // its write buffer has no room, or the operation looks at an object whose page is gone or in other hands. The page is Gone after the
 // turn then (`StopsBeside`), since a pager puts none back. When all are through each lane lays back what it took, the table is closed,
 // and the heap is one value again.
@@ -30,8 +31,9 @@
 // room comes back with what stood in the heap's places, in the order of the lanes. The next turn drops that of lanes that are through
 // by then, and takes no memory for the others. Roles, notices, runs and the table are made anew.
 //
-// What holds meanwhile, of each lane that runs: what it has belongs to the heap that was, before it runs, and after it to that heap with
-// its operations done; and what another lane does changes nothing of what belongs to it. So the lanes may be put one behind another,
+// What holds meanwhile, of each lane that runs: what it has belongs to the heap that was with every page back (`heap_back`), before it
+// runs, and after it to that heap with its operations done; and what another lane does changes nothing of what belongs to it. So the
+// lanes may be put one behind another,
 // in the order of their numbers: lane j finds the heap `at j` and leaves the heap `at (j + 1)`, though no heap was ever like that, and
 // the heap after the turn is the last of them, but for pages that moved (`RanBeside`, `IsLaidBack`). Pages that are Remembered
 // afterwards are those that the operations make so, and no others. A pager changes where pages lie, and nothing of what they hold, so
@@ -51,4 +53,5 @@ mod turns;
 
 pub use laws::law_back;
 pub use rooms::TurnRoom;
+pub use runs::TurnThreads;
 pub use turns::take_turn;

@@ -1,4 +1,4 @@
-//! Lanes at work, each on a thread of its own, and a pager beside them.
+//! Lanes at work, each on a thread of its own or one after another, and a pager beside them.
 
 ghost use Rattle.std.specs.Prelude.{◌<◌, length};
 ghost use Rattle.std.specs.Thread.{IsSync};
@@ -23,7 +23,16 @@ pub(crate) struct Run {
     pub(crate) padding: [u64; 16],
 }
 
-/// Runs all lanes side by side, and the pager beside them. Where there is no notice (`asked` is false) the pager has no thread of its own.
+/// On which threads the seats of a turn work. What they do is the same.
+#[derive(Clone, Copy, PartialEq, Eq, Debug)]
+pub enum TurnThreads {
+    /// The pager and then one lane after another work on the caller's thread. No thread is started.
+    One,
+    /// Each lane has a thread of its own, and so has the pager if there are notices. A lane that works alone is on the caller's thread.
+    Each,
+}
+
+/// Runs all lanes, and the pager beside them. Where there is no notice (`asked` is false) the pager has no thread of its own.
 pub(crate) fn run_beside<R: Threads + Sync, G: Gate + Sync>(
     rt: &R,
     pins: &Pins,
@@ -32,6 +41,7 @@ pub(crate) fn run_beside<R: Threads + Sync, G: Gate + Sync>(
     runs: &mut Vec<Run>,
     paging: &mut Paging,
     asked: bool,
+    threads: TurnThreads,
 )
     requires some { 0 < length runs.old.items }
     requires can { CanAllRun pins.now (lists_of lanes.now) runs.old.items }
@@ -39,11 +49,29 @@ pub(crate) fn run_beside<R: Threads + Sync, G: Gate + Sync>(
     ensures ran { HaveRun (lists_of lanes.now) runs.old.items runs.new.items }
     ensures paged { HasPaged pins.now paging.old paging.new }
 {
-    if !asked {
+    if !asked || threads == TurnThreads::One {
         serve_all(pins, gate, paging);
-        run_all(rt, pins, lanes, gate, runs);
-        return;
+        run_all(rt, pins, lanes, gate, runs, threads);
+    } else {
+        run_abreast(rt, pins, lanes, gate, runs, paging);
     }
+}
+
+/// Runs all lanes side by side, each on a thread of its own, and the pager beside them on another.
+fn run_abreast<R: Threads + Sync, G: Gate + Sync>(
+    rt: &R,
+    pins: &Pins,
+    lanes: &[Vec<Op>],
+    gate: &G,
+    runs: &mut Vec<Run>,
+    paging: &mut Paging,
+)
+    requires some { 0 < length runs.old.items }
+    requires can { CanAllRun pins.now (lists_of lanes.now) runs.old.items }
+    requires ready { IsPagerReady pins.now paging.old }
+    ensures ran { HaveRun (lists_of lanes.now) runs.old.items runs.new.items }
+    ensures paged { HasPaged pins.now paging.old paging.new }
+{
     thread::join_mut(
         rt,
         &mut ||
@@ -53,23 +81,27 @@ pub(crate) fn run_beside<R: Threads + Sync, G: Gate + Sync>(
         &mut ||
             requires { IsSync R.row × (0 < length runs.now.items) × CanAllRun pins.now (lists_of lanes.now) runs.now.items }
             ensures { HaveRun (lists_of lanes.entry.now) runs.entry.now.items runs.exit.now.items }
-        { run_all(rt, pins, lanes, gate, runs) },
+        { run_all(rt, pins, lanes, gate, runs, TurnThreads::Each) },
     );
 }
 
-/// Runs all lanes side by side. A lane that is alone runs on the caller's thread.
+/// Runs all lanes, side by side or one after another. A lane that is alone runs on the caller's thread.
 fn run_all<R: Threads + Sync, G: Gate + Sync>(
     rt: &R,
     pins: &Pins,
     lanes: &[Vec<Op>],
     gate: &G,
     runs: &mut Vec<Run>,
+    threads: TurnThreads,
 )
     requires some { 0 < length runs.old.items }
     requires can { CanAllRun pins.now (lists_of lanes.now) runs.old.items }
     ensures ran { HaveRun (lists_of lanes.now) runs.old.items runs.new.items }
 {
-    let count = runs.len();
+    let count = match threads {
+        TurnThreads::One => 1,
+        TurnThreads::Each => runs.len(),
+    };
     thread::for_each_mut(
         rt,
         runs.as_mut_slice(),

@@ -4,7 +4,7 @@ ghost use Rattle.std.specs.Prelude.{◌≡◌, ◌≢◌, ◌⊎◌, ℕ, ◌<�
 ghost use Rattle.std.specs.Fmt.{decimal};
 
 /// The number that the word is, without sign and leading zeros, if it lies between these two.
-pub(crate) fn number(word: &str, least: u64, most: u64) -> Option<u64>
+pub fn number(word: &str, least: u64, most: u64) -> Option<u64>
     ensures number { IfSome result (λ n. (word.now ≡ decimal n) × (least ≤ n) × (n ≤ most)) }
     ensures the_one { (n : ℕ) → word.now ≡ decimal n → least ≤ n → n ≤ most → result ≡ Some n }
 {

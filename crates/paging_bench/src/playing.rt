@@ -12,6 +12,7 @@ use crate::players::Player;
 use crate::rooms::{Pairs, Sight, look, room_seen, total};
 use anyhow::{Result, bail};
 use bc_model::{Op, Phase, Reply, Setup, Trace};
+use bc_running::Pressure;
 use heap_workshop::{objects_in_cells, pages_gone};
 use std::thread::Threads;
 
@@ -71,6 +72,7 @@ struct Play {
     steps: bool,
     counts: Counts,
     watch: Watch,
+    pressure: Pressure,
     sights: Vec<Sight>,
     /// Operations and emptyings so far, of all phases.
     operations: u64,
@@ -137,6 +139,11 @@ impl Play {
     where
         R: AllocGlobal + Print + Threads + Sync,
     {
+        if !self.touch_all {
+            let nurseries = self.setup.lanes.saturating_mul(self.setup.nursery);
+            self.player
+                .collect_if_short(rt, &mut self.pressure, nurseries);
+        }
         look(&self.player.heap().space, &mut self.sights)?;
         let survivors = self.player.survivors(rt.alloc())?;
         let room = room_seen(&self.sights);
@@ -286,6 +293,7 @@ where
         steps,
         counts: Counts::NONE,
         watch,
+        pressure: Pressure::none(),
         sights: Vec::new(rt.alloc()),
         operations: 0,
         emptyings: 0,

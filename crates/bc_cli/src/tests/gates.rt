@@ -2,8 +2,11 @@
 
 use super::sink::Paper;
 use super::{repeated, trace};
-use crate::{Gate, Status, top};
-use bc_engine::Answer;
+use crate::input::read_trace;
+use crate::outcome::Outcome;
+use crate::run::run_trace;
+use crate::{Gate, Status};
+use bc_engine::{Answer, Pacing};
 use bc_io::MemSource;
 use std::alloc::{AllocError, Global};
 use std::sync::atomic::{AtomicU64, Ordering};
@@ -28,7 +31,8 @@ pub struct Passed {
     pub answers: Vec<Answer>,
 }
 
-/// Runs the trace with this text, past a gate. Where no heap is handed back there are no answers.
+/// Runs the trace with this text, past a gate: each turn at a table, its lanes and its pager on threads of their own. Where no heap is handed
+/// back there are no answers.
 pub fn run_past<R: Threads + Sync, G: Gate + Sync>(
     rt: &R,
     alloc: Global,
@@ -37,7 +41,10 @@ pub fn run_past<R: Threads + Sync, G: Gate + Sync>(
 ) -> Result<Passed, AllocError> {
     let mut source = MemSource::new(text.as_bytes().to_vec(alloc)?, 4096, Vec::new(alloc));
     let mut sink = Paper::new(alloc);
-    let outcome = top(rt, alloc, &["run"], &mut source, &mut sink, gate);
+    let outcome = match read_trace(alloc, &mut source) {
+        Ok(trace) => run_trace(rt, alloc, &trace, 1, Pacing::SideBySide, &mut sink, gate),
+        Err(status) => Outcome::without_heap(status),
+    };
     let answers = match &outcome.heap {
         Some(engine) => engine.answers().to_vec(alloc)?,
         None => Vec::new(alloc),
@@ -91,10 +98,33 @@ pub struct Patience {
 }
 
 impl Patience {
+    /// Nobody was let go yet.
+    pub fn new() -> Patience {
+        Patience {
+            given_up: AtomicU64::new(0),
+        }
+    }
+
     /// Keeps the caller until this is above 0, but not for ever.
     pub fn keep_until(&self, come: &AtomicU64) {
+        self.keep_until_above(come, 0);
+    }
+
+    /// Keeps the caller until this is above a number, but not for ever.
+    pub fn keep_until_above(&self, come: &AtomicU64, number: u64) {
         for _ in 0..LOOKS {
-            if come.load(Ordering::SeqCst) > 0 {
+            if come.load(Ordering::SeqCst) > number {
+                return;
+            }
+            thread::yield_now();
+        }
+        self.given_up.fetch_add(1, Ordering::SeqCst);
+    }
+
+    /// Keeps the caller until all of these bits are set, but not for ever.
+    pub fn keep_until_all(&self, come: &AtomicU64, bits: u64) {
+        for _ in 0..LOOKS {
+            if come.load(Ordering::SeqCst) & bits == bits {
                 return;
             }
             thread::yield_now();
@@ -142,9 +172,7 @@ fn two_lanes_that_wait_for_each_other_in_both_orders_both_come_through(
         begun_by_1: AtomicU64::new(0),
         done_by_0: AtomicU64::new(0),
         done_by_1: AtomicU64::new(0),
-        patience: Patience {
-            given_up: AtomicU64::new(0),
-        },
+        patience: Patience::new(),
     };
     let passed = run_past(&rt, rt.alloc(), &text, &gate)?;
     assert_eq!(rt; passed.status, Status::Done);

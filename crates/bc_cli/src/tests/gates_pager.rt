@@ -8,13 +8,13 @@ use std::sync::atomic::{AtomicU64, Ordering};
 use std::test::Fail;
 
 /// The number that the pager of a turn passes a gate with.
-const PAGER: u32 = 200;
+pub const PAGER: u32 = 200;
 
 /// The pager has taken a notice, and hasn't looked at a page for it.
-const TAKEN: u32 = 4;
+pub const TAKEN: u32 = 4;
 
 /// The answer to its notice is kept.
-const ANSWERED: u32 = 5;
+pub const ANSWERED: u32 = 5;
 
 /// Keeps lane 0 before its operation until the pager has answered, and the pager at its notice until lane 0 has come there.
 #[derive(Drop)]
@@ -49,9 +49,7 @@ fn a_lane_and_a_pager_that_wait_for_each_other_both_come_through(
     let gate = Racing {
         begun_by_0: AtomicU64::new(0),
         answered: AtomicU64::new(0),
-        patience: Patience {
-            given_up: AtomicU64::new(0),
-        },
+        patience: Patience::new(),
     };
     let passed = run_past(&rt, rt.alloc(), &text, &gate)?;
     assert_eq!(rt; passed.status, Status::Done);

@@ -14,8 +14,8 @@ use Rattle.bc_engine.proofs.turns.lane_turn.Goals as goal
 use Rattle.bc_engine.proofs.turns.lane_turn.Goals.{In-Ok}
 
 -- no table was worth while
-pub returns-then-not-is_worth_a_table-clause-kept : goal.returns-then-not-is_worth_a_table-clause-kept
-returns-then-not-is_worth_a_table-clause-kept g c =
+pub returns-in-Plain-clause-kept : goal.returns-in-Plain-clause-kept
+returns-in-Plain-clause-kept g c =
     kept-later (lists_of c.args.lanes.now) (lists_of c.args.replies.now) (lists_of c.turn_alone.new.replies) c.args.room.now refl refl c.turn_alone.ensures.runs.goes.more c.requires.kept
 
 pub take_turn-requires-clause-sound : goal.take_turn-requires-clause-sound

@@ -9,7 +9,7 @@ pub operations-init : goal.operations-init
 operations-init g c = record {
   ran = ran-none c.args.ops.now c.args.end c.args.turn.now (view_of c.args.seat.now) c.args.hand.now;
   going = c.requires.going;
-  seat = record { table = refl; id = refl; role = refl; opens = refl; about = refl; alive = refl; roles = refl };
+  seat = record { table = refl; id = refl; role = refl; opens = refl; about = refl; alive = refl; roles = refl; fetched = refl };
 }
 
 pub advance-requires-clause-whole : goal.advance-requires-clause-whole

@@ -7,7 +7,7 @@ use Rattle.bc_pins.specs.declared.views.View.{View}
 use Rattle.bc_pins.specs.Steps.{united}
 use Rattle.bc_pins.specs.Closing.{Gathered}
 use Rattle.bc_pins.proofs.JoinLemmas.{unites}
-use Rattle.bc_pins.proofs.GatherLemmas.{gathered_first, gathered_more, seat_is_back, reads_first, store_is}
+use Rattle.bc_pins.proofs.GatherLemmas.{gathered_first, gathered_more, last_back, seat_is_back, reads_first, store_is}
 use Rattle.bc_pins.proofs.gathering.unite_all.Goals as goal
 
 pub loop-seat-init : goal.loop-seat-init
@@ -18,7 +18,7 @@ loop-seat-init c =
     record {
       gathered = gathered_first _ _ c.requires.apart _ _ c.in-Some.seat c.requires.back _ is c.let_go-root.ensures.worker;
       store = store_is c.args.store.now c.let_go-root.new.store (min (c.args.store.now.reads + c.in-Some.seat.opens) (2 ^ 64 - 1)) store;
-      reads = reads_first c.pop.new.self.items c.in-Some.seat c.args.seats.items _ _ is reads;
+      reads = reads_first c.pop.new.self.items c.in-Some.seat c.args.seats.items _ _ is (last_back _ _ c.requires.apart _ _ c.in-Some.seat c.requires.back is).opens reads;
       low = omega arith;
     }
 
@@ -45,7 +45,8 @@ loop-seat-preserved c =
     let reads = ap (λ (s : StoreView). s.reads) store in
     let g = subst (λ (l : List Seat). Gathered c.args.board.now.table_id c.args.board.now.key c.args.seats.items l c.loop-seat.root) is inv.gathered in
     let join = c.join_seat.ensures in
-    let more = reads_first c.pop-in-loop-seat.new.self.items c.in-Some-pop.seat c.loop-seat.seats.items _ _ is reads in
+    let b = seat_is_back _ _ c.requires.apart _ _ c.in-Some-pop.seat c.requires.back _ g in
+    let more = reads_first c.pop-in-loop-seat.new.self.items c.in-Some-pop.seat c.loop-seat.seats.items _ _ is b.opens reads in
     record {
       gathered = gathered_more _ _ c.requires.apart _ _ c.in-Some-pop.seat c.requires.back _ _ g join.0
           (join.2 ∙ ap (λ (w : Worker Lodged View). (united c.loop-seat.root.me.0 w.me.0, c.loop-seat.root.me.1)) worker);

@@ -1,4 +1,4 @@
-use Rattle.std.proofs.Common.{ℕ, ◌≤◌, List, ◌∙◌, ap, sym, subst, length}
+use Rattle.std.proofs.Common.{◌≡◌, false, ℕ, ◌≤◌, List, ◌∙◌, ap, sym, subst, length}
 use Rattle.bc_pins.specs.declared.key.Role.{Role}
 use Rattle.bc_pins.specs.Seating.{AreDealt}
 use Rattle.bc_superpages.specs.Layout.{superpages}
@@ -7,10 +7,10 @@ use Rattle.bc_pins.specs.Key.{Key}
 use Rattle.bc_pins.specs.Facts.{IsUnheld}
 use Rattle.bc_pins.specs.Totals.{times}
 use Rattle.bc_pins.specs.Rule.{Rule}
-use Rattle.bc_pins.specs.Opening.{opened}
+use Rattle.bc_pins.specs.Opening.{opened, IsMarkable}
 use Rattle.bc_superpages.specs.declared.headers.Header.{Header}
 use Rattle.bc_pins.specs.Filling.{IsFilled}
-use Rattle.bc_pins.proofs.DrawLemmas.{sized, drawn_rule, drawn_inside, drawn_apart, drawn_unheld, drawn_opened}
+use Rattle.bc_pins.proofs.DrawLemmas.{sized, drawn_rule, drawn_inside, drawn_apart, drawn_unheld, drawn_markable, drawn_opened}
 use Rattle.bc_pins.proofs.pins.Pins.draw.Goals as goal
 
 pub new-requires : goal.new-requires
@@ -49,3 +49,9 @@ invariant_of-pins-in-Ok-clause-unheld c =
     let same = c.in-Ok.ensures.ok.5 in
     let at = drawn_unheld c.args.about c.args.parts c.args.superpages c.args.turn c.args.room.holders.items c.args.room.roles.items c.requires.drawn in
     subst IsUnheld (sym same) at
+
+pub invariant_of-pins-in-Ok-clause-markable : goal.invariant_of-pins-in-Ok-clause-markable
+invariant_of-pins-in-Ok-clause-markable c =
+    let same = c.in-Ok.ensures.ok.5 in
+    let at = drawn_markable c.args.about c.args.parts c.args.superpages c.args.turn c.args.room.holders.items c.args.room.roles.items c.requires.drawn in
+    subst (λ (k : Key). k.lanes ≡ false → IsMarkable k.opening) (sym same) at

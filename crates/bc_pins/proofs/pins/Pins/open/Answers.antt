@@ -4,7 +4,7 @@ use Rattle.bc_superpages.specs.Layout.{Layout}
 use Rattle.bc_superpages.specs.LayoutAt.{state_at}
 use Rattle.bc_pins.specs.declared.key.Role.{Role}
 use Rattle.bc_pins.specs.Key.{Key, role_number}
-use Rattle.bc_pins.specs.Opening.{IsOpenable, key_for}
+use Rattle.bc_pins.specs.Opening.{IsOpenable, IsMarkable, key_for}
 use Rattle.bc_pins.specs.Totals.{times}
 use Rattle.bc_pins.proofs.pins.Pins.open.Goals as goal
 
@@ -24,6 +24,7 @@ draw-requires-clause-drawn c =
       absent = λ p lt. subst (λ (s : Layout). state_at s.states p ≡ Absent) (sym opening) (c.open_up-parts.ensures.absent p (omega arith));
       layout = c.open_up-parts.ensures.layout ∙ sym opening;
       openable = subst IsOpenable (sym opening) c.requires.openable;
+      markable = λ e. subst IsMarkable (sym opening) (c.requires.markable e);
       some = subst (λ (rs : List Role). 0 < length rs) (sym roles) c.requires.some;
       apart = subst (λ (rs : List Role). (r : ℕ) → times r (map role_number rs) ≤ 1) (sym roles) c.requires.apart;
       unheld = λ e. c.in-Ok.ensures.copies.0 ∙ c.requires.mark e;

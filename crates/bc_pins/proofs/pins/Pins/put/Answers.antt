@@ -44,6 +44,7 @@ returns-clause-same c =
       about = ap (λ (u : View). u.about) view ∙ ap (λ (u : View). u.about) was;
       alive = ap (λ (u : View). u.alive) view ∙ ap (λ (u : View). u.alive) was;
       roles = ap (λ (u : View). u.roles) view ∙ ap (λ (u : View). u.roles) was;
+      fetched = ap (λ (u : View). u.fetched) view ∙ ap (λ (u : View). u.fetched) was;
     }
 
 pub returns-clause-free : goal.returns-clause-free

@@ -30,7 +30,7 @@ are_written-requires-clause-first_lane g c =
     let seat = c.in-Some-pop-2.ours in
     let here : slice_index c.in-Ok.pins.table.shared.key.opening.domains (c.in-Some.first / 4) ≡ 0 = c.is_of.ensures.domain (search rules) in
     lane_has c.in-Ok.pins.table.shared.key (view_of seat) c.in-Some.first 0 (opened.owners ∙ ap (map lane_role) holders) here (omega arith)
-    (visited_roles c.in-Ok.pins (Lane 0) seat two.0.0 seat (record { table = refl; id = refl; role = refl; opens = refl; about = refl; alive = refl; roles = refl }))
+    (visited_roles c.in-Ok.pins (Lane 0) seat two.0.0 seat (record { table = refl; id = refl; role = refl; opens = refl; about = refl; alive = refl; roles = refl; fetched = refl }))
 
 pub are_written-requires-clause-second_lane : goal.are_written-requires-clause-second_lane
 are_written-requires-clause-second_lane g c =
@@ -41,7 +41,7 @@ are_written-requires-clause-second_lane g c =
     let seat = c.in-Some-pop.theirs in
     let here : slice_index c.in-Ok.pins.table.shared.key.opening.domains (c.in-Some.second / 4) ≡ 1 = c.is_of-2.ensures.domain (search rules) in
     lane_has c.in-Ok.pins.table.shared.key (view_of seat) c.in-Some.second 1 (opened.owners ∙ ap (map lane_role) holders) here (omega arith)
-    (visited_roles c.in-Ok.pins (Lane 1) seat two.0.1 seat (record { table = refl; id = refl; role = refl; opens = refl; about = refl; alive = refl; roles = refl }))
+    (visited_roles c.in-Ok.pins (Lane 1) seat two.0.1 seat (record { table = refl; id = refl; role = refl; opens = refl; about = refl; alive = refl; roles = refl; fetched = refl }))
 
 pub are_written-requires-clause-bare : goal.are_written-requires-clause-bare
 are_written-requires-clause-bare g c = λ q b. ap (λ (s : Layout). has (set_of s.cells q) b) c.in-Ok.ensures.opened.opening ∙ c.in-Some.ensures.bare q b

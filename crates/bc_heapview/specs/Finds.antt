@@ -1,0 +1,8 @@
+-- Where finds lie.
+use Rattle.std.specs.Prelude.{ℕ, List, map}
+use Rattle.bc_image.specs.Cells.{CellList}
+use Rattle.bc_image.specs.Memories.{cell_at}
+use Rattle.bc_heapview.specs.declared.search.Found.{Found}
+
+abbrev pub addresses_of : List CellList → List Found → List ℕ
+addresses_of cells found = map (λ (f : Found). (cell_at cells f.node).address) found

@@ -1,0 +1,157 @@
+//! The call that the program makes: the words, the image, and the answer.
+
+ghost use Rattle.std.specs.Prelude.{◌≡◌, ◌≢◌, ℕ, ◌+◌, ◌<◌, ◌≤◌, List, [], Some, IfOk, length, map};
+ghost use Rattle.bc_io.specs.Faults.{Rose};
+ghost use Rattle.bc_io.specs.Told.{GivesAtMost, GivesExactly, HasRoom, HeldGrows, IsPrefix};
+ghost use Rattle.bc_image.specs.Images.{ImageOf, IsImageListing};
+ghost use Rattle.bc_image.specs.Listings.{ListingLists};
+ghost use Rattle.bc_image.specs.Pictures.{Pictures};
+ghost use Rattle.bc_image.specs.declared.fault.ImageFault.{ImageFault};
+ghost use Rattle.bc_model.specs.State.{State};
+ghost use Rattle.bc_heapview.specs.Questions.{IsQuestionOf};
+ghost use Rattle.bc_heapview.specs.Texts.{steps_in};
+ghost use Rattle.bc_heapview.specs.Views.{FaultyImage, HasViewRoom, IfBadImage, AnswersQuestion, IsAnsweredStatus, IsCountsAnswer, IsInputFault, IsPathAnswer, IsUnlessMemory, Viewed, ViewedInPart, longest_image, view_bytes};
+
+use crate::input::read_image;
+use crate::paths::path;
+use crate::question::{Question, question_of};
+use crate::status::ViewStatus;
+use crate::steps::Path;
+use crate::tally::{counts, superpages_in};
+use crate::texts::{counts_room, path_room, put_counts, put_path};
+use bc_image::Listing;
+use bc_io::{Sink, Source, write_all};
+use bc_model::Birth;
+use std::alloc::{AllocError, Global};
+
+/// Answers what the words ask: reads an image from the source, and writes to the sink what it counts of it, or the least way to
+/// an object. The words come without the program's name. A sink that tells its room must have room for the answer.
+pub fn view<S, K>(alloc: Global, words: &[&str], source: &mut S, sink: &mut K) -> ViewStatus
+where
+    S: Source,
+    K: Sink,
+    requires room { (question : Question) → IsQuestionOf (map (λ w. w.now) words.now) question →
+        HasViewRoom (S.left source.old) (K.room sink.old) }
+
+    // What is written is the answer about whatever state the image pictures, and the input is that image and nothing more.
+    ensures done { (question : Question) → IsQuestionOf (map (λ w. w.now) words.now) question → result ≡ ViewStatus.Done →
+        Viewed question (S.left source.old) (S.left source.new) (K.held sink.old) (K.held sink.new) }
+
+    // No refusal comes without its cause.
+    ensures bad_words { result ≡ ViewStatus.BadWords →
+        (question : Question) → ¬ IsQuestionOf (map (λ w. w.now) words.now) question }
+    ensures refused { ((question : Question) → ¬ IsQuestionOf (map (λ w. w.now) words.now) question) →
+        IsUnlessMemory result ViewStatus.BadWords × (source.new ≡ source.old) × (sink.new ≡ sink.old) }
+    ensures bad_image { IfBadImage result (λ at cause.
+        FaultyImage (S.left source.old) (S.left source.new) at cause × (sink.new ≡ sink.old)) }
+    ensures too_long { result ≡ ViewStatus.TooLong →
+        GivesExactly (S.left source.old) (S.left source.new) (longest_image + 1) × (sink.new ≡ sink.old) }
+    ensures short { result ≢ ViewStatus.TooLong →
+        GivesAtMost (S.left source.old) (S.left source.new) longest_image }
+    ensures read_fault { result ≡ ViewStatus.ReadFault →
+        Rose (S.faults source.old) (S.faults source.new) × (sink.new ≡ sink.old) }
+    ensures write_fault { (question : Question) → IsQuestionOf (map (λ w. w.now) words.now) question →
+        result ≡ ViewStatus.WriteFault → Rose (K.faults sink.old) (K.faults sink.new)
+        × ViewedInPart question (S.left source.old) (S.left source.new) (K.held sink.old) (K.held sink.new) }
+    ensures firm_source { result ≢ ViewStatus.ReadFault → S.faults source.new ≡ S.faults source.old }
+    ensures firm_sink { result ≢ ViewStatus.WriteFault → K.faults sink.new ≡ K.faults sink.old }
+    ensures no_memory { result ≡ ViewStatus.NoMemory → sink.new ≡ sink.old }
+
+    // Where no fault is counted, the words and the bytes alone decide, unless memory runs out.
+    ensures complete { (question : Question) (bytes : List ℕ) (l : ListingLists) → IsQuestionOf (map (λ w. w.now) words.now) question →
+        S.left source.old ≡ Some bytes → length bytes ≤ longest_image → ImageOf bytes l [] →
+        ¬ Rose (S.faults source.old) (S.faults source.new) → ¬ Rose (K.faults sink.old) (K.faults sink.new) →
+        IsUnlessMemory result ViewStatus.Done }
+    ensures faulty { (question : Question) (bytes : List ℕ) (f : ImageFault) → IsQuestionOf (map (λ w. w.now) words.now) question →
+        S.left source.old ≡ Some bytes → length bytes ≤ longest_image → IsInputFault bytes f →
+        ¬ Rose (S.faults source.old) (S.faults source.new) →
+        IsUnlessMemory result (ViewStatus.BadImage f.at f.cause) }
+    ensures longer { (question : Question) (bytes : List ℕ) → IsQuestionOf (map (λ w. w.now) words.now) question →
+        S.left source.old ≡ Some bytes → longest_image < length bytes →
+        ¬ Rose (S.faults source.old) (S.faults source.new) → IsUnlessMemory result ViewStatus.TooLong }
+{
+    let Ok(found) = question_of(alloc, words) else {
+        return ViewStatus::NoMemory;
+    };
+    match found {
+        Some(question) => match read_image(alloc, source) {
+            Ok(listing) => answer_to(alloc, &listing, question, sink),
+            Err(status) => status,
+        },
+        None => ViewStatus::BadWords,
+    }
+}
+
+/// Writes the answer about a listing.
+fn answer_to<K: Sink>(
+    alloc: Global,
+    listing: &Listing,
+    question: Question,
+    sink: &mut K,
+) -> ViewStatus
+    requires listing { IsImageListing listing.now }
+    requires room { HasRoom (K.room sink.old) (view_bytes (length listing.now.cells)) }
+    ensures ending { IsAnsweredStatus result }
+    ensures done { result ≡ ViewStatus.Done → (text : List ℕ) × ((s : State) → Pictures listing.now s → AnswersQuestion s question text)
+        × HeldGrows (K.held sink.old) (K.held sink.new) text }
+    ensures write_fault { result ≡ ViewStatus.WriteFault → Rose (K.faults sink.old) (K.faults sink.new)
+        × ((text : List ℕ) × ((s : State) → Pictures listing.now s → AnswersQuestion s question text)
+        × ((front : List ℕ) × IsPrefix front text × HeldGrows (K.held sink.old) (K.held sink.new) front)) }
+    ensures firm { result ≢ ViewStatus.WriteFault → K.faults sink.new ≡ K.faults sink.old }
+    ensures no_memory { result ≡ ViewStatus.NoMemory → sink.new ≡ sink.old }
+{
+    let Ok(text) = answer(alloc, listing, question) else {
+        return ViewStatus::NoMemory;
+    };
+    match write_all(sink, &text) {
+        Ok(()) => ViewStatus::Done,
+        Err(_) => ViewStatus::WriteFault,
+    }
+}
+
+/// The text of the answer about a listing.
+fn answer(alloc: Global, listing: &Listing, question: Question) -> Result<Vec<u8>, AllocError>
+    requires listing { IsImageListing listing.now }
+    ensures answer { (s : State) → Pictures listing.now s → IfOk result (λ text. AnswersQuestion s question text.items) }
+    ensures long { IfOk result (λ text. length text.items ≤ view_bytes (length listing.now.cells)) }
+{
+    match question {
+        Question::Counts => counts_answer(alloc, listing),
+        Question::Path { birth } => path_answer(alloc, listing, birth),
+    }
+}
+
+/// The lines of what is counted.
+fn counts_answer(alloc: Global, listing: &Listing) -> Result<Vec<u8>, AllocError>
+    requires listing { IsImageListing listing.now }
+    ensures answer { (s : State) → Pictures listing.now s → IfOk result (λ text. IsCountsAnswer s text.items) }
+    ensures long { IfOk result (λ text. length text.items ≤ view_bytes (length listing.now.cells)) }
+{
+    let counts = counts(alloc, listing)?;
+    let need = superpages_in(&counts);
+    let mut text = counts_room(alloc, counts.len())?;
+    put_counts(&mut text, &counts, need);
+    Ok(text)
+}
+
+/// The lines of the least way to an object.
+fn path_answer(alloc: Global, listing: &Listing, birth: Birth) -> Result<Vec<u8>, AllocError>
+    requires listing { IsImageListing listing.now }
+    ensures answer { (s : State) → Pictures listing.now s → IfOk result (λ text. IsPathAnswer s birth text.items) }
+    ensures long { IfOk result (λ text. length text.items ≤ view_bytes (length listing.now.cells)) }
+{
+    let found = path(alloc, listing, birth)?;
+    let mut text = path_room(alloc, fields_of(&found))?;
+    put_path(&mut text, &found);
+    Ok(text)
+}
+
+/// How many fields a way has.
+fn fields_of(path: &Option<Path>) -> usize
+    ensures { result ≡ steps_in path.now }
+{
+    match path {
+        Some(path) => path.steps.len(),
+        None => 0,
+    }
+}

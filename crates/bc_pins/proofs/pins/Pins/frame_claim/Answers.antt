@@ -1,0 +1,58 @@
+use Rattle.std.proofs.Common.{◌≡◌, ◌∙◌, ap, refl, sym, subst, arith}
+use Rattle.bc_pins.specs.declared.views.View.{View}
+use Rattle.bc_pins.specs.Key.{Key, frame_at}
+use Rattle.bc_pins.specs.Tidy.{IsTidy}
+use Rattle.bc_pins.specs.Steps.{Mine, claiming}
+use Rattle.bc_pins.proofs.ClaimSteps.{claims_frames}
+use Rattle.bc_pins.proofs.pins.Pins.frame_claim.Goals as goal
+
+pub fetch_or-requires : goal.fetch_or-requires
+fetch_or-requires c =
+    let self = c.args.self.now in
+    let size = self.words in
+    let many = self.counted in
+    let entry = c.frame_entry-at.ensures in
+    let lt = c.requires.word in
+    (c.requires.seat.table, omega arith, claims_frames _ _ _ _ _ c.args.word _ (omega arith) lt c.requires.seat.about c.requires.seat.role)
+
+-- the seat after the step
+after : (c : goal.After-fetch_or) → c.fetch_or.new.seat.me ≡ (claiming c.args.seat.now.inner.me.0 c.args.word c.fetch_or.result, c.args.seat.now.inner.me.1)
+after c =
+    let self = c.args.self.now in
+    let many = self.counted in
+    let entry = c.frame_entry-at.ensures in
+    let at : c.frame_entry-at.result ≡ frame_at self.table.shared.key c.args.word = omega arith in
+    c.fetch_or.ensures.2.view c.args.word (at ∙ ap (λ (k : Key). frame_at k c.args.word) (sym c.requires.seat.about))
+
+pub returns-clause-view : goal.returns-clause-view
+returns-clause-view c = ap (λ (m : Mine). m.0) (after c.before)
+
+pub returns-clause-frames : goal.returns-clause-frames
+returns-clause-frames c = λ b few off.
+    let self = c.args.self.now in
+    let many = self.counted in
+    let entry = c.frame_entry-at.ensures in
+    let at : c.frame_entry-at.result ≡ frame_at self.table.shared.key c.args.word = omega arith in
+    let near = c.fetch_or.ensures.2.frames c.args.word b (at ∙ ap (λ (k : Key). frame_at k c.args.word) (sym c.requires.seat.about)) few off in
+    let same = ap (λ (k : Key). k.frames) c.requires.seat.about in
+    omega arith
+
+pub returns-clause-same : goal.returns-clause-same
+returns-clause-same c =
+    let view = ap (λ (m : Mine). m.0) (after c.before) in
+    record {
+      table = c.fetch_or.ensures.0;
+      id = c.fetch_or.ensures.1;
+      role = refl;
+      opens = refl;
+      about = ap (λ (u : View). u.about) view;
+      alive = ap (λ (u : View). u.alive) view;
+      roles = ap (λ (u : View). u.roles) view;
+      fetched = ap (λ (u : View). u.fetched) view;
+    }
+
+pub returns-clause-slots : goal.returns-clause-slots
+returns-clause-slots c = ap (λ (m : Mine). m.1) (after c.before)
+
+pub invariant_of-seat : goal.invariant_of-seat
+invariant_of-seat c = record { tidy = subst IsTidy (sym (ap (λ (m : Mine). m.0) (after c))) c.args.seat.now.tidy }

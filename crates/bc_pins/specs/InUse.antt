@@ -1,0 +1,15 @@
+-- The frames that are in use at a moment of a turn, and how many they are at most.
+use Rattle.std.specs.Prelude.{ℕ, ◌+◌, ◌<◌, ◌≤◌}
+use Rattle.bc_pins.specs.Key.{Key}
+use Rattle.bc_pins.specs.Totals.{sum_to, times}
+use Rattle.bc_pins.specs.Facts.{Table, frame_used}
+
+-- how often a frame is in use: as that of a page at home or in hand, as a right in hand, or as a nursery's
+abbrev pub uses_of_frame : Key → Table → ℕ → ℕ
+uses_of_frame k s frame = frame_used s frame + times frame k.nursery
+
+-- no frame is in use twice, only the heap's frames are, and at most as many as the heap has
+pub record HasFewFramesInUse (k : Key) (s : Table) : Type 0 where
+  pub once : (frame : ℕ) → uses_of_frame k s frame ≤ 1
+  pub within : (frame : ℕ) → 0 < uses_of_frame k s frame → frame < k.frames
+  pub few : (n : ℕ) → sum_to (uses_of_frame k s) n ≤ k.frames
