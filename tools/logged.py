@@ -50,7 +50,7 @@ def _stored(thing, index, old, value):
 
 
 def logged(kind):
-    """A class whose objects are told to the log: each one that is made, and each of its fields that is set."""
+    """A class whose objects are logged: each one that is made, and each of its fields that is set."""
     names = [name for base in reversed(kind.__mro__) for name in base.__dict__.get('__annotations__', {})]
     places = {name: place for place, name in enumerate(dict.fromkeys(names))}
     make, store = kind.__new__, kind.__setattr__

@@ -3,11 +3,11 @@ use Rattle.std.specs.Prelude.{ℕ, ◌*◌, ◌/◌, ◌%◌, ◌^◌, ◌<◌, 
 use Rattle.std.specs.List.{list_all}
 use Rattle.std.specs.Int.{bit_not, w64}
 
--- the same set with this bit set
+-- the set with this bit set
 unfoldable pub with_bit : List ℕ → ℕ → List ℕ
 with_bit words b = slice_set words (b / 64) (bit_or (slice_index words (b / 64)) (1 * 2 ^ (b % 64) % 2 ^ 64))
 
--- the same set with this bit clear
+-- the set with this bit clear
 unfoldable pub without_bit : List ℕ → ℕ → List ℕ
 without_bit words b =
     slice_set words (b / 64) (bit_and (slice_index words (b / 64)) (bit_not w64 (1 * 2 ^ (b % 64) % 2 ^ 64)))

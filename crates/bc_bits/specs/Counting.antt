@@ -1,3 +1,4 @@
+-- In the theorem.
 -- How many numbers below a bound pass a test, and whether one does.
 use Rattle.std.specs.Prelude.{ℕ, ◌+◌, Bool, false, ◌||◌, if◌then◌else◌}
 use Prim.Native.Nat.{zero, suc}

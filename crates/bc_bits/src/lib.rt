@@ -1,6 +1,6 @@
 // Sets of small numbers as bits in words of 64 bits, and how many numbers pass a test.
 //
-// A superpage has up to 1,024 cells, and its header tells by one bit each which of them are allocated,
+// A superpage has up to 1,024 cells, and its header has a bit for each of them that says whether it is allocated,
 // promised, marked, finished and bookmarked: sixteen words a set. This crate has the three steps on such
 // a set (test, set, clear), the search for the first bit that one set has and another hasn't, and the
 // lemmas that the crates above reason with: a bit that was set is set, one that was cleared is clear, and
@@ -9,7 +9,7 @@
 // Contracts speak of a set by the test `has` alone, which stays shut above this crate: `with_bit` and
 // `without_bit` are sets, and the words in them are nobody's business. The library's laws are the
 // contracts of the `law_` functions. `count_below` counts what passes a test below a bound, and is
-// the measure of loops that set bits until none is left; `any_below` tells whether anything passes.
+// the measure of loops that set bits until none is left; `any_below` says whether anything passes.
 #![tactic(auto)]
 
 ghost use Rattle.std.specs.Prelude.{◌≡◌, ◌≢◌, ℕ, ◌+◌, ◌*◌, ◌<◌, ◌≤◌, Bool, true, false, IfSome, IfNone, List, length};
@@ -76,7 +76,7 @@ pub fn count(set: &[u64; 16], below: u32) -> u32
 }
 
 /// The first bit from one number on, and below another, which is at most 1,024, that a set has and the other set
-/// hasn't. A word that has none is passed over at one look.
+/// hasn't. A word that has none is skipped at one look.
 pub fn first_outside(set: &[u64; 16], other: &[u64; 16], from: u32, below: u32) -> Option<u32>
     requires { below ≤ 1024 }
     ensures some { IfSome result (λ b.

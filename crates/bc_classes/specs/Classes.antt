@@ -1,3 +1,4 @@
+-- In the theorem.
 -- The size classes of cells, in words, and how many cells of each a page and a superpage hold.
 use Rattle.std.specs.Prelude.{ℕ, ◌*◌, ◌/◌, List, [], ◌∷◌, nat_lt, if◌then◌else◌}
 

@@ -1,3 +1,4 @@
+-- In the theorem.
 -- The account of a heap that is handed back: what of it leaves memory is summarised, and where its frames are.
 use Rattle.std.specs.Prelude.{◌≡◌, ◌+◌, ◌*◌}
 use Rattle.bc_bookmarks.specs.Summarised.{IsSummarised}

@@ -12,7 +12,7 @@ use Rattle.bc_model.specs.declared.operations.Reply.{Reply}
 use Rattle.bc_cli.specs.Output.{text_at, need_text}
 use Rattle.bc_cli.specs.Endings.{NeedsFit, NeedsMore, StopsBefore}
 
--- A phase was run on the engine: it is done, or it ended at a cut for want of heap, by this need.
+-- a phase was run on the engine: it is done, or it ended at a cut since the heap is too small, by this need
 abbrev pub PhaseEnded : EngineView → PhaseLists → EngineView → List (List Reply) → Option ℕ → Type 0
 PhaseEnded e p f replies None = DidPhase e p f replies
 PhaseEnded e p f replies (Some need) = CutPhase e p f replies need

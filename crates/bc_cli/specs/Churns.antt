@@ -1,3 +1,4 @@
+-- In the theorem.
 -- How the replay of a workload that was drawn ends: what is written of its summary, and what the heap stands for that it hands back.
 use Rattle.std.specs.Prelude.{ℕ, List, Option, None, IsSomeAnd}
 use Rattle.bc_engine.specs.Engines.{EngineView, HasEmptyChunks}
@@ -17,7 +18,7 @@ pub record ChurnsDone (start ops : ℕ) (held held' : Option (List ℕ)) (heap :
   pub written : HeldGrows held held' (summary start ops)
   pub churned : HasChurned start ops heap
 
--- A write failed: a front of the summary is written, and not all of it.
+-- a write failed: a prefix of the summary is written, and not all of it
 pub record ChurnsInFault (start ops : ℕ) (held held' : Option (List ℕ)) (heap : Option EngineView) : Type 0 where
   pub written : WritesFront held held' (summary start ops)
   pub churned : HasChurned start ops heap

@@ -1,3 +1,4 @@
+-- In the theorem.
 -- How the replay of a trace ends: what is written of it, and what the heap stands for that it hands back.
 use Rattle.std.specs.Prelude.{◌≡◌, ◌⊎◌, ℕ, ◌+◌, ◌<◌, ◌≤◌, List, ◌++◌, length, Option, None, Some, IsSomeAnd}
 use Rattle.bc_engine.specs.Engines.{EngineView, EngineStands, HasEmptyChunks}
@@ -17,7 +18,7 @@ pub record IsLeftAt (t : TraceLists) (how : Option Ended) (s : State) (e : Engin
   pub ended : e.ended ≡ how
   pub stands : EngineStands e s
 
--- Such a heap is handed back.
+-- a heap that was left so is handed back
 abbrev pub HandsBack : Option EngineView → TraceLists → Option Ended → State → Type 0
 HandsBack heap t how s = IsSomeAnd heap (IsLeftAt t how s)
 
@@ -40,14 +41,14 @@ pub record NeedsMore (t : TraceLists) (k : ℕ) (cut : List ℕ) (need : ℕ) : 
   pub counted : IsNeed (after_cut t k cut) need
   pub above : t.setup.superpages < need
 
--- A front of these bytes is written, and not all of them.
+-- a prefix of these bytes is written, and not all of them
 pub record WritesFront (held held' : Option (List ℕ)) (whole : List ℕ) : Type 0 where
   pub front : List ℕ
   pub is_front : IsPrefix front whole
   pub not_all : length front < length whole
   pub written : HeldGrows held held' front
 
--- Bytes are written, and behind them a front of the next ones, and not all of these.
+-- bytes are written, and after them a prefix of the next ones, and not all of these
 pub record WritesFrontAfter (held held' : Option (List ℕ)) (first next : List ℕ) : Type 0 where
   pub front : List ℕ
   pub is_front : IsPrefix front next
@@ -61,8 +62,8 @@ pub record EndsDone (t : TraceLists) (held held' : Option (List ℕ)) (heap : Op
   pub empty : IsSomeAnd heap (λ e. HasEmptyChunks e.running.heap)
   pub fits : NeedsFit t (length t.phases)
 
--- A phase ended at a cut for want of heap: its replies up to there are written, and the line of the need. The heap stands for the
--- state there.
+-- a phase ended at a cut since the heap is too small: its replies up to there are written, and the line of the need. The heap
+-- stands for the state there
 pub record EndsOutOfHeap (t : TraceLists) (held held' : Option (List ℕ)) (heap : Option EngineView) (need : ℕ) : Type 0 where
   pub phase : ℕ
   pub cut : List ℕ
@@ -91,6 +92,7 @@ pub record FailsAtNeed (t : TraceLists) (held held' : Option (List ℕ)) (heap :
   pub written : WritesFrontAfter held held' (texts_before t phase) (need_text t phase cut need)
   pub handed : HandsBack heap t (Some (OutOfHeap need)) (after_cut t phase cut)
 
+-- a replay ended at a failed write: in a phase's text, in the last line, or in what is written when the heap is too small
 abbrev pub EndsInFault : TraceLists → Option (List ℕ) → Option (List ℕ) → Option EngineView → Type 0
 EndsInFault t held held' heap =
     FailsInPhase t held held' heap ⊎ (FailsAtDone t held held' heap ⊎ FailsAtNeed t held held' heap)
@@ -101,8 +103,8 @@ pub record StopsBefore (t : TraceLists) (held held' : Option (List ℕ)) : Type 
   pub within : phase < length t.phases
   pub written : HeldGrows held held' (texts_before t phase)
 
--- What a replay of the trace may write fits the room: its whole output, and each one that ends by the need of a cut. All else that
--- it may write is a front of one of these.
+-- what a replay of the trace may write fits the room: its whole output, and each one that ends by the need of a cut. All else
+-- that it may write is a prefix of one of these
 pub record HasRunRoom (room : Option ℕ) (t : TraceLists) : Type 0 where
   pub whole : HasRoom room (length (whole_text t))
   pub cut_short : (k : ℕ) → (cut : List ℕ) → (need : ℕ) → NeedsMore t k cut need

@@ -5,7 +5,7 @@ use Rattle.bc_model.specs.Run.{opening, replies_of_phases}
 use Rattle.bc_model.specs.declared.operations.Reply.{Reply}
 use Rattle.bc_trace.specs.Replies.{out_of_heap_text}
 
--- the line of the need, where one is told
+-- the line of the need, where there is one
 abbrev pub need_line : Option ℕ → List ℕ
 need_line None = []
 need_line (Some need) = out_of_heap_text need

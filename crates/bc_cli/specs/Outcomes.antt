@@ -1,5 +1,6 @@
+-- In the theorem.
 -- What each status says of the source, from its left bytes before and after, and of the sink, from its held bytes before and
--- after. Where a source or a sink doesn't tell its bytes, what is said of them holds of some bytes.
+-- after. Where a source or a sink doesn't make its bytes known, what is said of them holds of some bytes.
 use Rattle.std.specs.Prelude.{◌≡◌, ℕ, ◌≤◌, ◌⊎◌, List, length, Option, Some, None}
 use Rattle.std.specs.Io.KnownBytes.{IsAtEnd}
 use Rattle.bc_engine.specs.Engines.{EngineView}
@@ -14,6 +15,7 @@ use Rattle.bc_cli.specs.Endings.{EndsDone, EndsOutOfHeap, EndsInFault, StopsBefo
 use Rattle.bc_cli.specs.declared.status.Status.{Status}
 use Rattle.bc_cli.specs.declared.status.Status.TheVariants.{Done, BadWords, BadTrace, TooLong, ReadFault, WriteFault, OutOfHeap, NoMemory}
 
+-- the most bytes of a trace: 16,777,216
 abbrev pub longest_trace : ℕ
 longest_trace = 16777216
 
@@ -35,13 +37,13 @@ pub record Replayed (left left' held held' : Option (List ℕ)) (heap : Option E
   pub read : ReadAsTrace left left' trace
   pub ending : EndsDone trace held held' heap
 
--- A trace was read, and one of its phases ended for want of heap, by this need.
+-- a trace was read, and one of its phases ended since the heap is too small, by this need
 pub record RanOutOfHeap (left left' held held' : Option (List ℕ)) (heap : Option EngineView) (need : ℕ) : Type 0 where
   pub trace : TraceLists
   pub read : ReadAsTrace left left' trace
   pub ending : EndsOutOfHeap trace held held' heap need
 
--- A trace was read, and a front of what its replay writes is written.
+-- a trace was read, and a prefix of what its replay writes is written
 pub record ReplayedInPart (left left' held held' : Option (List ℕ)) (heap : Option EngineView) : Type 0 where
   pub trace : TraceLists
   pub read : ReadAsTrace left left' trace
@@ -59,10 +61,12 @@ pub record Faulty (left left' : Option (List ℕ)) (line : ℕ) (cause : Cause) 
   pub whole : ReadWhole left left' bytes
   pub fault : Fault bytes line cause
 
+-- of a status 3 with a line and a cause this is said, and of no other
 abbrev pub IfBadTrace : Status → (ℕ → Cause → Type 0) → Type 0
 IfBadTrace (BadTrace line cause) P = P line cause
 IfBadTrace _ P = Unit {0}
 
+-- of a status 6 this is said of its need, and of no other status
 abbrev pub IfStatusOutOfHeap : Status → (ℕ → Type 0) → Type 0
 IfStatusOutOfHeap (OutOfHeap need) P = P need
 IfStatusOutOfHeap _ P = Unit {0}
@@ -88,17 +92,17 @@ abbrev pub workers_of : Command → ℕ
 workers_of (Run workers) = workers
 workers_of (Churn start ops workers) = workers
 
--- This status, unless memory ran out.
+-- the status is this one, unless memory ran out
 abbrev pub IsOrNoMemory : Status → Status → Type 0
 IsOrNoMemory status wanted = (status ≡ wanted) ⊎ (status ≡ NoMemory)
 
--- The source may give these bytes up to its end: those that it tells, or any where it tells none.
+-- the source may give these bytes up to its end: those that it has, or any where they aren't known
 abbrev pub MayGive : Option (List ℕ) → List ℕ → Type 0
 MayGive (Some left) bytes = left ≡ bytes
 MayGive None bytes = Unit {0}
 
--- What a run on these bytes may write fits the room that the sink tells. Of bytes that are no trace, or too many, nothing is
--- written.
+-- what a run on these bytes may write fits the sink's room, where that is known. Of bytes that are no trace, or too many, nothing
+-- is written
 abbrev pub HasRoomFor : Option (List ℕ) → Option ℕ → Type 0
 HasRoomFor left room =
     (bytes : List ℕ) → (t : TraceLists) → MayGive left bytes → length bytes ≤ longest_trace → Spells bytes t → HasRunRoom room t

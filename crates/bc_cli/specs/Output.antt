@@ -1,3 +1,4 @@
+-- In the theorem.
 -- What a run writes.
 use Rattle.std.specs.Prelude.{ℕ, ◌+◌, List, ◌++◌, take}
 use Rattle.bc_model.specs.Lists.{PhaseLists, TraceLists}

@@ -44,7 +44,7 @@ fault_of WriteFault = Some faults.WriteFault
 fault_of (OutOfHeap need) = Some (faults.OutOfHeap need)
 fault_of NoMemory = Some faults.NoMemory
 
--- the line that tells it on standard error, without its line feed
+-- the line of a status on standard error, without its line feed
 abbrev pub fault_text : Fault → List ℕ
 fault_text faults.BadWords = codes "bc: bad command line"
 fault_text (faults.BadTrace line cause) = codes "bc: line " ++ decimal line ++ codes ": " ++ cause_text cause

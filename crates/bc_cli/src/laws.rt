@@ -8,8 +8,8 @@ ghost use Rattle.bc_cli.specs.Endings.{NeedsMore};
 ghost use Rattle.bc_cli.specs.Outcomes.{HasRoomFor, longest_trace};
 ghost use Rattle.bc_cli.specs.Output.{whole_text, cut_text, summary};
 
-/// A run that is done writes at most four times as many bytes as its trace has, and one that ends for want of heap
-/// at most 40 more. So a sink with room for as many meets the condition of `top`; where the source doesn't tell its
+/// A run that is done writes at most four times as many bytes as its trace has, and one whose heap is too small
+/// at most 40 more. So a sink with room for as many meets the condition of `top`; where nothing is known of its
 /// bytes, one with that room for the longest trace does. What `churn` writes is at most 200 bytes long.
 pub fn law_output()
     ensures short { (bytes : List ℕ) (t : TraceLists) → length bytes ≤ longest_trace → Spells bytes t →

@@ -3,23 +3,26 @@
 // `top` does all that the program does: it reads the words, reads a trace from a source or draws one, replays it,
 // and writes the replies, or how many there were of each kind, to a sink. Its contract is the theorem of this repository: whatever
 // the heap below does, the replies printed for each lane are those of a heap that never frees, moves or
-// pages, all of them where the run is done, and else a front of them, with the exact cause of the
+// pages, all of them where the run is done, and else a prefix of them, with the exact cause of the
 // refusal. The definitions that the contract cites are in `specs/`: `Output` has the texts, `Endings` how the replay of a trace
 // that was read ends and what its heap stands for then, `Churns` the same of one that was drawn, `Outcomes` what each status says.
 // Which words are a command is said by `bc_words`.
 //
-// `main` only makes the real source and sink, calls `top`, prints the line that `report` tells of its outcome, and ends with the exit
-// status that it tells. What it does is shown by `.ci/examples` and `.ci/statuses` on the built program.
+// `main` only makes the real source and sink, calls `top`, prints the line that `report` makes of its outcome, and ends with the exit
+// status that it names. What it does is shown by `.ci/examples` and `.ci/statuses` on the built program.
 //
 //     words -> command_of -> read_trace -> run_trace:  for each phase, texts_room -> run_phase -> put_texts -> write_texts
 //                         -> churn: draw -> replay: for each phase, run_phase -> counts; then put_churn -> write_all
 //
 // The replay keeps `HasRun`: after k phases the engine stands for the state that the plain heap has then, and the texts of
 // k phases are written. Each is written as soon as the phase has run, so memory for replies is that of a phase and not of
-// the run. Room for a phase's texts is taken before it runs, so that want of memory comes before the phase, or is the engine's own,
-// and never in place of a need or of replies. A phase that ends for want of heap gives its replies up to a cut of its lanes, and the
+// the run. Room for a phase's texts is taken before it runs, so that memory runs out before the phase, or is the engine's own,
+// and never in place of a need or of replies. A phase whose heap is too small gives its replies up to a cut of its lanes, and the
 // need of what is reached there. They are written, and the run ends. The heap goes back to the caller, who may look at what it stands
 // for.
+//
+// `churn` adds each phase's replies to eleven numbers and drops them. Room for its text is taken before the first phase, and the text
+// is made after the last one and written as a whole. No state of its run needs more than 27 of its 32 superpages.
 #![tactic(auto)]
 
 ghost use Rattle.std.specs.Prelude.{◌≡◌, ◌≢◌, ℕ, IfErr, IfOk, IfSome, map, string_bytes, None};
@@ -78,7 +81,7 @@ fn wordless(kind: ErrorKind) -> Status
     }
 }
 
-/// The same words, borrowed.
+/// The words, borrowed.
 fn borrowed(alloc: Global, words: &[String]) -> Result<Vec<&str>, AllocError>
     ensures { IfOk result (λ texts. map (λ w. w.now) texts.items ≡ map (λ w. string_bytes w) words.now) }
 {
@@ -89,7 +92,7 @@ fn borrowed(alloc: Global, words: &[String]) -> Result<Vec<&str>, AllocError>
     Ok(texts)
 }
 
-/// Does what the words ask for, over these streams. No stream tells its bytes, so what is said of them holds of some bytes.
+/// Does what the words ask for, over these streams. No stream's bytes are known, so what is said of them holds of some bytes.
 fn run_words<R, I, O>(rt: &R, words: &[String], input: I, output: O) -> Outcome
 where
     R: AllocGlobal + Threads + Sync,
@@ -118,7 +121,7 @@ where
     top(rt, rt.alloc(), &texts, &mut source, &mut sink, &OpenGate)
 }
 
-/// What a run tells that ended so: the line for standard error, which says what is wrong with it, if it wasn't done, and the exit
+/// What is printed of a run that ended so: the line for standard error, which says what is wrong with it, if it wasn't done, and the exit
 /// status of the program.
 fn report(outcome: Outcome) -> (Option<Fault>, ExitCode)
     ensures line { result.0 ≡ fault_of outcome.status }

@@ -21,7 +21,7 @@ use bc_model::{Phase, Replies, Trace};
 use std::alloc::{AllocError, Global};
 use std::thread::Threads;
 
-/// How a phase ended: its replies, and the need where it ended for want of heap.
+/// How a phase ended: its replies, and the need where the heap was too small.
 #[derive(Drop)]
 pub(crate) struct PhaseEnd {
     pub(crate) replies: Replies,

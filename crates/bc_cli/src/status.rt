@@ -1,4 +1,4 @@
-//! How a run ends: its status, and the exit status and the line on standard error that tell it.
+//! How a run ends: its status, and the exit status and the line on standard error that say so.
 
 ghost use Rattle.std.specs.Prelude.{◌≡◌};
 ghost use Rattle.bc_cli.specs.Statuses.{exit_code_of, fault_of};
@@ -22,7 +22,7 @@ pub enum Status {
     TooLong,
     /// The source failed. Nothing was written.
     ReadFault,
-    /// The sink failed. A front of what the run writes is written.
+    /// The sink failed. A prefix of what the run writes is written.
     WriteFault,
     /// The heap is too small: what is reached needs so many superpages. The replies before that are written, and the line of
     /// the need.
@@ -91,7 +91,7 @@ impl From<WriteFault> for Ending {
     }
 }
 
-/// What is wrong with a run, as the line on standard error tells it.
+/// What is wrong with a run, as the line on standard error says it.
 #[derive(Clone, Copy, Debug, Error)]
 pub enum Fault {
     BadWords,

@@ -22,7 +22,7 @@ use std::alloc::{AllocError, Global};
 pub(crate) struct PhaseTexts {
     /// The number of the phase, and the replies to each lane.
     pub(crate) replies: Vec<u8>,
-    /// The line of the need, where the phase ended for want of heap; else nothing.
+    /// The line of the need, where the heap was too small for the phase; else nothing.
     pub(crate) need: Vec<u8>,
 }
 
@@ -52,7 +52,7 @@ pub(crate) fn texts_room(alloc: Global, phase: &Phase) -> Result<PhaseTexts, All
     Ok(PhaseTexts { replies, need })
 }
 
-/// Makes the texts of a phase with these replies, which ended for want of heap where a need is told. It takes no memory.
+/// Makes the texts of a phase with these replies, whose heap was too small where there is a need. It takes no memory.
 pub(crate) fn put_texts(texts: &mut PhaseTexts, number: u32, replies: &Replies, need: Option<u64>)
     requires empty { (texts.old.replies.items ≡ []) × (texts.old.need.items ≡ []) }
     requires replies { phase_bytes (length replies.now) (sum_by length replies.now) ≤ vec_capacity texts.old.replies }

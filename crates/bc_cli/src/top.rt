@@ -46,72 +46,120 @@ where
     S: Source,
     K: Sink,
     G: Gate + Sync,
+    // `run` over a sink whose room is known: it has room for all that the command may write. Four times the bytes of the
+    // trace and 40 are enough, or of the longest trace where nothing is known of the source (`law_output`).
     requires run { (workers : ℕ) → IsCommandOf (map (λ w. w.now) words.now) (Run workers) →
         HasRoomFor (S.left source.old) (K.room sink.old) }
+
+    // `churn` over a sink whose room is known: it has room for the output. 200 bytes are enough (`law_output`).
     requires churn { (start ops workers : ℕ) → IsCommandOf (map (λ w. w.now) words.now) (Churn start ops workers) →
         HasRoom (K.room sink.old) (length (summary start ops)) }
 
-    // The headline: what is written are the replies of the heap that never frees, moves or pages, and
-    // the heap that is handed back stands for the state of that one.
+    // The headline. `run`, status 0: the bytes that the source had are the text of a trace, none is left, and what was
+    // written are exactly the replies to it of the heap that never frees, moves or pages. The heap that is handed back
+    // stands for the state of that one at the end, its chunks are empty, and after each phase the need was at most the
+    // number of superpages.
     ensures done { (workers : ℕ) → IsCommandOf (map (λ w. w.now) words.now) (Run workers) → result.status ≡ Status.Done →
         Replayed (S.left source.old) (S.left source.new) (K.held sink.old) (K.held sink.new) result.heap }
 
-    // The same of `churn`, which tells how many of these replies there are of each kind.
+    // `churn`, status 0: what was written is how many of the plain heap's replies to the drawn trace are of each kind, and
+    // `done`. The heap that is handed back stands for the state at the end, and its chunks are empty.
     ensures churn_done { (start ops workers : ℕ) → IsCommandOf (map (λ w. w.now) words.now) (Churn start ops workers) →
         result.status ≡ Status.Done → ChurnsDone start ops (K.held sink.old) (K.held sink.new) result.heap }
 
-    // No refusal comes without its cause.
+    // Status 2 comes only where the words are no command.
     ensures bad_words { result.status ≡ Status.BadWords →
         (command : Asked) → ¬ IsCommandOf (map (λ w. w.now) words.now) command }
+
+    // Where the words are no command, status 2 comes, or memory runs out; source and sink are untouched.
     ensures refused { ((command : Asked) → ¬ IsCommandOf (map (λ w. w.now) words.now) command) →
         IsOrNoMemory result.status Status.BadWords × (source.new ≡ source.old) × (sink.new ≡ sink.old) }
+
+    // Status 3 with a line and a cause: the whole input was read, this is its first fault, and nothing was written.
     ensures bad_trace { IfBadTrace result.status (λ line cause.
         Faulty (S.left source.old) (S.left source.new) line cause × (sink.new ≡ sink.old)) }
+
+    // Status 3 for length: reads without a fault gave 16,777,217 bytes, and nothing was written.
     ensures too_long { result.status ≡ Status.TooLong →
         GivesExactly (S.left source.old) (S.left source.new) (longest_trace + 1) × (sink.new ≡ sink.old) }
+
+    // At every other status at most 16,777,216 bytes were read.
     ensures short { result.status ≢ Status.TooLong →
         GivesAtMost (S.left source.old) (S.left source.new) longest_trace }
+
+    // Status 4: the source's count of faults rose in this call, and nothing was written.
     ensures read_fault { result.status ≡ Status.ReadFault →
         Rose (S.faults source.old) (S.faults source.new) × (sink.new ≡ sink.old) }
+
+    // `run`, status 5: the sink's count of faults rose in this call. A trace was read, and what was written are the whole
+    // texts of some first phases and a prefix, and not all, of what comes next: the next phase's text, `done`, or what a run
+    // whose heap is too small ends with. The heap that is handed back stands for the state there.
     ensures write_fault { (workers : ℕ) → IsCommandOf (map (λ w. w.now) words.now) (Run workers) →
         result.status ≡ Status.WriteFault → Rose (K.faults sink.old) (K.faults sink.new)
         × ReplayedInPart (S.left source.old) (S.left source.new) (K.held sink.old) (K.held sink.new) result.heap }
+
+    // At every status but 4 the source's count of faults is as it was.
     ensures firm_source { result.status ≢ Status.ReadFault → S.faults source.new ≡ S.faults source.old }
+
+    // At every status but 5 the sink's count of faults is as it was.
     ensures firm_sink { result.status ≢ Status.WriteFault → K.faults sink.new ≡ K.faults sink.old }
+
+    // Status 6 with a need: a trace was read, and what was written are the whole texts of the phases before some phase, the
+    // replies of that phase up to some cut of its lanes, and the line of the need. The need is that of the plain heap's
+    // state at the cut, and above the number of superpages. The heap that is handed back stands for that state.
     ensures out_of_heap { IfStatusOutOfHeap result.status (λ need.
         RanOutOfHeap (S.left source.old) (S.left source.new) (K.held sink.old) (K.held sink.new) result.heap need) }
+
+    // Status 7, the one free answer: nothing was written, or a trace was read, and the whole texts of the phases before one
+    // of its phases were written, and nothing else.
     ensures no_memory { result.status ≡ Status.NoMemory → (sink.new ≡ sink.old)
         ⊎ ReplayedTo (S.left source.old) (S.left source.new) (K.held sink.old) (K.held sink.new) }
+
+    // At statuses 2, 3, 4 and 7 no heap is handed back.
     ensures none { IfHeapless result.status (result.heap ≡ None) }
 
-    // `churn` reads nothing. It ends done, by a failed write, or for want of memory, where nothing is written.
+    // `churn` reads nothing, and ends with status 0, 5 or 7: no state of its run needs more than 27 of its 32 superpages.
     ensures churn_ending { (start ops workers : ℕ) → IsCommandOf (map (λ w. w.now) words.now) (Churn start ops workers) →
         IsChurnEnding result.status × (source.new ≡ source.old) }
+
+    // `churn`, status 5: the sink's count of faults rose in this call, a prefix of the output and not all of it was written,
+    // and the heap that is handed back stands for the state at the end.
     ensures churn_write_fault { (start ops workers : ℕ) → IsCommandOf (map (λ w. w.now) words.now) (Churn start ops workers) →
         result.status ≡ Status.WriteFault → Rose (K.faults sink.old) (K.faults sink.new)
         × ChurnsInFault start ops (K.held sink.old) (K.held sink.new) result.heap }
+
+    // `churn`, status 7: nothing was written.
     ensures churn_no_memory { (start ops workers : ℕ) → IsCommandOf (map (λ w. w.now) words.now) (Churn start ops workers) →
         result.status ≡ Status.NoMemory → sink.new ≡ sink.old }
 
-    // The heap has as many workers as the words ask for.
+    // The heap that is handed back was opened for as many workers as the words ask for.
     ensures workers { (command : Asked) → IsCommandOf (map (λ w. w.now) words.now) command →
         IfSome result.heap (λ engine. engine.workers ≡ workers_of command) }
 
-    // Wherever its pages are, it keeps its account: those that left are summarised, and its frames are the trace's.
+    // The heap that is handed back keeps its account: bookmarks and counters stand for what the pages that left refer to,
+    // and the trace's page frames are those of the nurseries, of the pages in memory, and the free ones.
     ensures account { IfSome result.heap KeepsAccount }
 
-    // Where no fault is counted, the words and the bytes alone decide, unless memory runs out.
+    // `run` over a trace within the limit: if in every phase, after every cut of its lanes, the need is at most the number
+    // of superpages, and no fault is counted, it is done, or memory runs out.
     ensures complete { (workers : ℕ) (bytes : List ℕ) (t : TraceLists) → IsCommandOf (map (λ w. w.now) words.now) (Run workers) →
         S.left source.old ≡ Some bytes → length bytes ≤ longest_trace → Spells bytes t → FitsThroughout t →
         ¬ Rose (S.faults source.old) (S.faults source.new) → ¬ Rose (K.faults sink.old) (K.faults sink.new) →
         IsOrNoMemory result.status Status.Done }
+
+    // `run` over an input within the limit that is no trace: if no read failed, status 3 comes with its first fault, or
+    // memory runs out.
     ensures faulty { (workers : ℕ) (bytes : List ℕ) (f : TraceFault) → IsCommandOf (map (λ w. w.now) words.now) (Run workers) →
         S.left source.old ≡ Some bytes → length bytes ≤ longest_trace → Fault bytes f.line f.cause →
         ¬ Rose (S.faults source.old) (S.faults source.new) →
         IsOrNoMemory result.status (Status.BadTrace f.line f.cause) }
+
+    // `run` over a longer input: if no read failed, status 3 comes for length, or memory runs out.
     ensures longer { (workers : ℕ) (bytes : List ℕ) → IsCommandOf (map (λ w. w.now) words.now) (Run workers) →
         S.left source.old ≡ Some bytes → longest_trace < length bytes →
         ¬ Rose (S.faults source.old) (S.faults source.new) → IsOrNoMemory result.status Status.TooLong }
+
+    // `churn`: if no write failed, it is done, or memory runs out.
     ensures churn_complete { (start ops workers : ℕ) → IsCommandOf (map (λ w. w.now) words.now) (Churn start ops workers) →
         ¬ Rose (K.faults sink.old) (K.faults sink.new) → IsOrNoMemory result.status Status.Done }
 {

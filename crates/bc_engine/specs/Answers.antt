@@ -12,12 +12,13 @@ IfPhaseOutOfHeap (Ok x) P = Unit {0}
 IfPhaseOutOfHeap (Err (OutOfHeap replies need)) P = P replies need
 IfPhaseOutOfHeap (Err NoMemory) P = Unit {0}
 
--- that the heap is too small, with these replies and this need
+-- the phase ended since the heap is too small, with these replies and this need
 abbrev pub IsOutOfHeap : {T : Type 0} → Result T PhaseNo → List (List Reply) → ℕ → Type 0
 IsOutOfHeap (Ok x) replies need = ⊥
 IsOutOfHeap (Err (OutOfHeap told n)) replies need = (told ≡ replies) × (n ≡ need)
 IsOutOfHeap (Err NoMemory) replies need = ⊥
 
+-- the phase ended since memory ran out
 abbrev pub IsNoMemory : {T : Type 0} → Result T PhaseNo → Type 0
 IsNoMemory (Ok x) = ⊥
 IsNoMemory (Err (OutOfHeap replies need)) = ⊥

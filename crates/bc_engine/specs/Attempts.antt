@@ -36,7 +36,7 @@ StopsAlone lane op r q =
     × BringsHome r.holders lane r.heap.space r.heap.roots op q.heap.space × (q ≡ with_space r q.heap.space))
     ⊎ (LooksAtGone r.holders lane r.heap.space r.heap.roots op × NoPageGoes r.heap.space × (q ≡ r)))
 
--- the lane has one reply more, behind those that it had, and other lanes have those that they had
+-- the lane has one reply more, after those that it had, and other lanes have those that they had
 abbrev pub IsReplied : ℕ → Reply → List (List Reply) → List (List Reply) → Type 0
 IsReplied lane reply before after =
     (of_lane after lane ≡ of_lane before lane ++ reply ∷ []) × ((l : ℕ) → l ≢ lane → of_lane after l ≡ of_lane before l)
@@ -49,7 +49,7 @@ pub record Attempted (lanes : List (List Op)) (r : RunningView) (before : List (
   pub next : op ≡ slice_index_or (of_lane lanes lane) (length (of_lane before lane)) op
   pub way : ((reply : Reply) × DoesAlone lane op r reply q × IsReplied lane reply before after) ⊎ (StopsAlone lane op r q × (after ≡ before))
 
--- so many attempts, one after another, of whatever lanes
+-- a number of attempts were made, one after another, of whatever lanes
 abbrev pub RanAttempts : List (List Op) → RunningView → List (List Reply) → ℕ → RunningView → List (List Reply) → Type 0
 RanAttempts lanes r before zero q after = (q ≡ r) × (after ≡ before)
 RanAttempts lanes r before (suc n) q after =

@@ -1,3 +1,4 @@
+-- In the theorem.
 -- An engine: a heap that lanes run on, and what phases rest on.
 use Rattle.std.specs.Prelude.{ℕ, List, Option}
 use Rattle.bc_model.specs.State.{State}
@@ -7,6 +8,7 @@ use Rattle.bc_pager.specs.declared.answers.Answer.{Answer}
 use Rattle.bc_running.specs.Running.{RunningView, RunningStands}
 pub use Rattle.bc_running.specs.Running.{HasEmptyChunks}
 
+-- what contracts see of an engine: its heap, who holds each domain, how many births each lane made, the setup, and how it ended
 pub record EngineView : Type 0 where
   pub running : RunningView
   pub setup : Setup

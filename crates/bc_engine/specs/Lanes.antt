@@ -138,10 +138,11 @@ abbrev pub EachFurther : ℕ → List (List Op) → List (List Reply) → List (
 EachFurther n lanes before after =
     (j : ℕ) → j < n → length (of_lane before j) < length (of_lane lanes j) → length (of_lane after j) ≡ length (of_lane before j) + 1
 
--- every lane is at its end, and some lane is not
+-- every lane is at its end
 abbrev pub AreDone : List (List Op) → List (List Reply) → Type 0
 AreDone lanes replies = (j : ℕ) → length (of_lane lanes j) ≤ length (of_lane replies j)
 
+-- some lane has operations left
 abbrev pub HasMore : List (List Op) → List (List Reply) → Type 0
 HasMore lanes replies = (j : ℕ) × (j < length lanes) × (length (of_lane replies j) < length (of_lane lanes j))
 

@@ -1,4 +1,4 @@
--- The turns of a phase, from its beginning to its end, to its cut or to a want of room for answers.
+-- The turns of a phase, from its beginning to its end, to its cut or to a turn for whose answers there is no room.
 use Rattle.std.specs.Prelude.{◌≡◌, ℕ, ◌+◌, List, [], length, Some, Vec, slice_index_or}
 use Prim.Native.Nat.{zero, suc}
 use Rattle.std.specs.declared.alloc.Global.{Global}
@@ -23,7 +23,7 @@ pub record HadTurns (e : EngineView) (p : PhaseLists) (f : EngineView) (replies 
   pub given : f ≡ with_holders last f.running.holders
   pub replied : replies ≡ lists_of told
 
--- the same up to the round in which the phase was cut
+-- room for the replies was taken, and the rounds were run up to the one in which the phase was cut
 pub record HadTurnsToCut (e : EngineView) (p : PhaseLists) (f : EngineView) (replies : List (List Reply)) : Type 0 where
   pub room : List (Vec Reply Global)
   pub begun : IsRoomFor p.lanes room
@@ -31,7 +31,7 @@ pub record HadTurnsToCut (e : EngineView) (p : PhaseLists) (f : EngineView) (rep
   pub rounds : RanToCut p.lanes p.turns (with_answers e []) room f told
   pub replied : replies ≡ lists_of told
 
--- the same up to a turn for whose answers there was no memory
+-- room for the replies was taken, and the rounds were run up to a turn for whose answers there was no memory
 pub record HadTurnsToWant (e : EngineView) (p : PhaseLists) (f : EngineView) : Type 0 where
   pub room : List (Vec Reply Global)
   pub begun : IsRoomFor p.lanes room

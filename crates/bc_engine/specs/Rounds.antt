@@ -48,14 +48,14 @@ pub record IsTooSmall (lanes : List (List Op)) (e : EngineView) (before : List (
 abbrev pub SameLanes : RunningView → RunningView → Type 0
 SameLanes r q = (q.holders ≡ r.holders) × (q.serials ≡ r.serials)
 
--- between a turn and its emptying: nothing, or, where fewer frames were free than the nurseries have pages, a bookmark collection. That keeps
+-- between a turn and its minor collection: nothing, or, where fewer frames were free than the nurseries have pages, a bookmark collection. That keeps
 -- what the heap stands for, and no page leaves, comes home or is read by it
 pub record MayCollect (nurseries : ℕ) (r q : RunningView) : Type 0 where
   pub way : (q ≡ r) ⊎ ((r.heap.space.free < nurseries) × IsCollectedHeap r.heap q.heap)
   pub lanes : SameLanes r q
 
--- the nurseries were emptied: nothing was freed, moved or read back where the survivors fit, and no page was read back where they fit what a
--- bookmark collection keeps
+-- the nurseries were emptied (a minor collection): nothing was freed, moved or read back where the survivors fit, and no page was
+-- read back where they fit what a bookmark collection keeps
 pub record EmptiesNurseries (r q : RunningView) : Type 0 where
   pub emptied : IsEmptied r.heap q.heap
   pub in_place : SurvivorsFit r.heap → StayInPlace r.heap q.heap
@@ -101,7 +101,8 @@ pub record CutRound (lanes : List (List Op)) (e : EngineView) (before : List (Ve
   pub settled : StaysSettled collected.heap f.running.heap
   pub rest : f ≡ record e { running = f.running; ended = f.ended; answers = f.answers }
 
--- so many rounds with others to come, one after another. The notices of the n-th one are those of the n-th turn of the phase
+-- a number of rounds with others to come were run, one after another. The notices of the n-th one are those of the n-th turn of
+-- the phase
 abbrev pub RanRounds : List (List Op) → List (List ℕ) → EngineView → List (Vec Reply Global) → ℕ → EngineView → List (Vec Reply Global) → Type 0
 RanRounds lanes lines e before zero f after = (f ≡ e) × (after ≡ before)
 RanRounds lanes lines e before (suc n) f after =
@@ -112,7 +113,7 @@ abbrev pub RanAll : List (List Op) → List (List ℕ) → EngineView → List (
 RanAll lanes lines e before f after =
     (n : ℕ) × (mid : EngineView) × (told : List (Vec Reply Global)) × RanRounds lanes lines e before n mid told × LastRound lanes mid told (hints_of lines n) f after
 
--- so many of them as there were before one that was cut, and that one
+-- the rounds of a phase from its first turn on, up to one that was cut
 abbrev pub RanToCut : List (List Op) → List (List ℕ) → EngineView → List (Vec Reply Global) → EngineView → List (Vec Reply Global) → Type 0
 RanToCut lanes lines e before f after =
     (n : ℕ) × (mid : EngineView) × (told : List (Vec Reply Global)) × RanRounds lanes lines e before n mid told × CutRound lanes mid told (hints_of lines n) f after
@@ -121,7 +122,7 @@ RanToCut lanes lines e before f after =
 abbrev pub HasNoRoomFor : Vec Answer Global → ℕ → Type 0
 HasNoRoomFor kept more = vec_capacity kept < length kept.items + more
 
--- so many of them as there were before a turn for whose answers the list has no room
+-- the rounds of a phase from its first turn on, up to a turn for whose answers the list has no room
 abbrev pub RanToWant : List (List Op) → List (List ℕ) → EngineView → List (Vec Reply Global) → EngineView → List (Vec Reply Global) → Vec Answer Global → Type 0
 RanToWant lanes lines e before f after kept =
     (n : ℕ) × RanRounds lanes lines e before n f after × HasNoRoomFor kept (length (hints_of lines n))

@@ -14,7 +14,7 @@ use Rattle.bc_turn.specs.Answered.{AnsweredBeside}
 use Rattle.bc_engine.specs.Attempts.{EachAlone, RanByAttempts}
 use Rattle.bc_engine.specs.Lanes.{EachStopped, LanesRan, LeavesCells, StopsInTurn}
 
--- the line behind one, and the first one behind the last
+-- the line after one, and the first one after the last
 abbrev pub line_behind : List (List ℕ) → ℕ → ℕ
 line_behind lines n = if nat_lt (n + 1) (length lines) then n + 1 else 0
 
@@ -38,8 +38,9 @@ RanAlone lanes r before kept hints mid q after told =
     × EachAlone lanes r before mid after
     × ((u : Layout) × AnsweredAlone mid.heap.space hints kept told u × Settled u q.heap.space)
 
--- the lanes ran until each was at its end or stopped, the notices with these hints were answered, each once, behind the answers that were
--- kept before, and the heap was settled: side by side, lanes and a pager, or one lane after another, and then the notices
+-- the lanes ran until each was at its end or stopped, the notices with these hints were answered, each once, after the answers
+-- that were kept before, and the heap was settled: side by side, lanes and a pager, or one lane after another, and then the
+-- notices
 pub record RanTurn (lanes : List (List Op)) (r : RunningView) (before : List (Vec Reply Global)) (kept : List Answer) (hints : List ℕ) (q : RunningView) (after : List (Vec Reply Global)) (told : List Answer) : Type 0 where
   pub mid : RunningView
   pub ran : LanesRan lanes r before mid after

@@ -25,7 +25,7 @@ pub record FindsNoFrameUpTo (start steps : ℕ) (v w : View) : Type 0 where
   pub unread : (word : ℕ) → word < frame_words v.about → steps ≤ steps_behind (frame_words v.about) start word → reads_of (frame_at v.about word) looks ≡ []
   pub pages : (page : ℕ) → page < pages_of v.about → reads_of (page_at page) looks ≡ []
 
--- so had all: each frame word was read once, and no word of a page
+-- no frame is free: each frame word was read once, and no word of a page
 pub record FindsNoFrame (v w : View) : Type 0 where
   pub looks : List (ℕ × ℕ)
   pub view : w ≡ record v { read = looks ++ v.read }

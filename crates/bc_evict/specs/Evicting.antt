@@ -50,10 +50,11 @@ pub record HasRight (seat : Seat) (right : FrameRight) : Type 0 where
   pub has : 0 < times right.frame (view_of seat).rights
   pub within : right.frame < (view_of seat).about.frames
 
--- the view once its page was made Gone, or Absent: the page isn't in hand, and the right to its frame is
+-- the view after its page was made Gone: the page isn't in hand, and the right to its frame is
 abbrev pub given_up : View → Held → View
 given_up v held = record v { hand = None; left = held.page ∷ v.left; rights = held.homed.frame ∷ v.rights }
 
+-- the view after its page was made Absent: the page isn't in hand, and the right to its frame is
 abbrev pub discarded : View → Held → View
 discarded v held = record v { hand = None; emptied = held.page ∷ v.emptied; rights = held.homed.frame ∷ v.rights }
 

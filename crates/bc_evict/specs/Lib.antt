@@ -14,5 +14,5 @@ pub mod Objects
 pub mod Looking
 -- A page that is taken to be given up
 pub mod Taking
--- A page that was given up for its frame, and what was read where none could be had
+-- A page that was given up for its frame, and what was read where none could be taken
 pub mod Victims

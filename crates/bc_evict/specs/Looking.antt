@@ -7,7 +7,7 @@ use Rattle.bc_pins.specs.Key.{Key, pages_of}
 use Rattle.bc_pins.specs.Totals.{times}
 use Rattle.bc_pins.specs.Views.{reads_at, state_word, opened_state}
 
--- where a page may be that a pager can't have: without an allocated cell, with one, and either
+-- where a page without an allocated cell may be that a pager can't take
 abbrev pub MayStayBare : PageState → Type 0
 MayStayBare state.Absent = Unit {0}
 MayStayBare state.Home = ⊥
@@ -15,6 +15,7 @@ MayStayBare state.Remembered = Unit {0}
 MayStayBare state.Held = Unit {0}
 MayStayBare state.Gone = ⊥
 
+-- where a page with an allocated cell may be that a pager can't take
 abbrev pub MayStayFilled : PageState → Type 0
 MayStayFilled state.Absent = ⊥
 MayStayFilled state.Home = ⊥
@@ -22,6 +23,7 @@ MayStayFilled state.Remembered = Unit {0}
 MayStayFilled state.Held = Unit {0}
 MayStayFilled state.Gone = Unit {0}
 
+-- where a page may be that a pager can't take, whatever lies on it
 abbrev pub MayStay : PageState → Type 0
 MayStay state.Absent = Unit {0}
 MayStay state.Home = ⊥
@@ -34,23 +36,23 @@ MayStay state.Gone = Unit {0}
 abbrev pub TookNone : Key → List (ℕ × ℕ) → Type 0
 TookNone k looks = (page : ℕ) → page < pages_of k → times 1 (reads_at page looks) ≡ 0
 
--- the page's word was read, and told one of these states
+-- the page's word was read, and it was one of these states
 pub record WasFound (looks : List (ℕ × ℕ)) (page : ℕ) (Where : PageState → Type 0) : Type 0 where
   pub place : PageState
   pub among : Where place
   pub read : 0 < times (state_word place) (reads_at page looks)
 
--- the page was looked at and found so; or it lies behind the table, where every page is Absent from the opening to the close, and to
--- look at it is to see where the table ends
+-- the page was looked at and found so; or it lies past the table, where every page is Absent from the opening to the close, and
+-- to look at it is to see where the table ends
 abbrev pub IsAccountedFor : Key → List (ℕ × ℕ) → ℕ → (PageState → Type 0) → Type 0
 IsAccountedFor k looks page Where =
     ((page < pages_of k) × WasFound looks page Where) ⊎ ((pages_of k ≤ page) × (opened_state k page ≡ state.Absent) × Where state.Absent)
 
--- so many pages of the heap
+-- the number of the heap's pages
 abbrev pub all_pages : Key → ℕ
 all_pages k = 4 * superpages k.opening
 
--- so many steps a page, or a word, lies behind a start, where so many are gone round
+-- how many steps a page, or a word, comes after a start, where so many are gone round
 abbrev pub steps_behind : ℕ → ℕ → ℕ → ℕ
 steps_behind pages start page = if nat_lt page start then pages + page - start else page - start
 

@@ -81,8 +81,8 @@ pub record ShadesTarget (v : View) (q n : ℕ) (w : View) : Type 0 where
   pub unmarked : v.about.lanes ≡ true → (w.known ≡ v.known) × (w.won ≡ v.won)
   pub reads : ReadsNoPage v w
 
--- the cells to which some words refer were bookmarked, in a mark turn marked too, and the superpages met in which they lie. The words are told by the tests
--- that some of them passes
+-- the cells to which some words refer were bookmarked, in a mark turn marked too, and the superpages met in which they lie. The
+-- words are known by the tests that some of them passes
 pub record Marks (old : Seat) (met : List ℕ) (some : (Word → Bool) → Bool) (new : Seat) (more : List ℕ) : Type 0 where
   pub seat : IsSameSeat old new
   pub slots : slots_of new ≡ slots_of old
@@ -95,11 +95,12 @@ pub record Marks (old : Seat) (met : List ℕ) (some : (Word → Bool) → Bool)
   pub meets : (q : ℕ) → has more q ≡ (some (names_in q) || has met q)
   pub reads : ReadsNoPage (view_of old) (view_of new)
 
--- of the superpages below an end, those of the set were counted once more for the page in hand
+-- of the superpages below an end, those of the set are counted once more
 pub record CountsUpTo (end : ℕ) (met : List ℕ) (old new : List ℕ) : Type 0 where
   pub below : (q : ℕ) → q < end → times q new ≡ times q old + one_if (has met q)
   pub above : (q : ℕ) → end ≤ q → times q new ≡ times q old
 
+-- the seat counted the superpages of the set below an end once more for the page in its hands
 pub record Counts (old : Seat) (met : List ℕ) (end : ℕ) (new : Seat) : Type 0 where
   pub seat : IsSameSeat old new
   pub slots : slots_of new ≡ slots_of old

@@ -13,7 +13,7 @@ use Rattle.bc_pins.specs.Calls.{view_of, slots_of, IsFree, IsSameSeat}
 use Rattle.bc_evict.specs.declared.reloading.ReloadNo.{ReloadNo}
 use Rattle.bc_evict.specs.declared.reloading.ReloadNo.TheVariants.{Busy, Home, Remembered, Absent}
 
--- the word that each refusal tells
+-- the word of a page by which each refusal comes
 abbrev pub reload_word : ReloadNo → ℕ
 reload_word Absent = 0
 reload_word Home = 1
@@ -57,7 +57,7 @@ pub record HasReloaded (v : View) (page frame : ℕ) (seat : Seat) (held : Held)
   pub others : (other : ℕ) → other < pages_of v.about → (other ≡ page → ⊥) → reads_of (page_at other) looks ≡ []
   pub slots : slots_of seat ≡ both_slots v.about page Nothing Nothing
 
--- or its word was read, and nothing else changed
+-- the page's word was read, and nothing else changed
 pub record IsReloadRefused (v : View) (page : ℕ) (no : ReloadNo) (seat : Seat) : Type 0 where
   pub view : view_of seat ≡ having_read v page (reload_word no)
   pub reads : ReadsWord v page (reload_word no)

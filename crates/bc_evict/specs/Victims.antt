@@ -1,4 +1,4 @@
--- A page that was given up for its frame, the right to which is kept; and what was read where none could be had.
+-- A page that was given up for its frame, the right to which is kept; and what was read where none could be taken.
 use Rattle.std.specs.Prelude.{◌≡◌, ℕ, ◌<◌, ◌≤◌, ◌⊎◌, ◌==◌, true, false, List, [], ◌∷◌, ◌++◌}
 use Rattle.bc_bits.specs.Counting.{one_if}
 use Rattle.bc_superpages.specs.declared.headers.PageState.{PageState}
@@ -13,18 +13,19 @@ use Rattle.bc_pins.specs.Calls.{Grasps}
 use Rattle.bc_evict.specs.Looking.{MayStay, steps_behind}
 use Rattle.bc_evict.specs.Taking.{HasLooked}
 
--- the page's word was read once, and told a state in which no page can be had
+-- the page's word was read once, and it was a state in which no page can be taken
 abbrev pub IsPassed : List (ℕ × ℕ) → ℕ → Type 0
 IsPassed looks page = (place : PageState) × MayStay place × (reads_at page looks ≡ state_word place ∷ [])
 
--- so were those of the first pages of the table, gone round from a start, and of the others none was read
+-- the words of the first pages of the table, gone round from a start, were read once each, no such page can be taken, and of the
+-- others none was read
 pub record HasPassedUpTo (k : Key) (start steps : ℕ) (v w : View) : Type 0 where
   pub looks : List (ℕ × ℕ)
   pub looked : HasLooked k v w looks
   pub each : (page : ℕ) → page < pages_of k → steps_behind (pages_of k) start page < steps → IsPassed looks page
   pub unread : (page : ℕ) → page < pages_of k → steps ≤ steps_behind (pages_of k) start page → reads_at page looks ≡ []
 
--- so were those of all pages of the table: no page could be had
+-- the words of all pages of the table were read once each, and no page could be taken
 pub record FindsNoVictim (v w : View) : Type 0 where
   pub looks : List (ℕ × ℕ)
   pub looked : HasLooked v.about v w looks

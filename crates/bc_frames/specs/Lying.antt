@@ -9,6 +9,7 @@ lying_in Empty = None
 lying_in Unused = Some (replicate 512 0)
 lying_in (Full page) = Some page
 
+-- in the place lie the zeros of a page that was never used
 abbrev pub is_unused : Place → Bool
 is_unused Empty = false
 is_unused Unused = true

@@ -1,6 +1,7 @@
 -- A store has a place for each page, by its number, which holds the page's box or nothing, and a count of reads.
 use Rattle.std.specs.Prelude.{ℕ, ◌+◌, ◌-◌, ◌^◌, List, Option, None, slice_index_or, min}
 
+-- what contracts see of the store: each page's place, and the number of reads
 pub record StoreView : Type 0 where
   -- the words of the box that lies in each page's place, if one does
   pub places : List (Option (List ℕ))

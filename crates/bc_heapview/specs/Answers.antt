@@ -28,21 +28,23 @@ pub record IsLeastWay (s : State) (b : Birth) (place : ℕ) (fields : List ℕ) 
   pub shortest : (p : ℕ) → (fs : List ℕ) → IsWay s b p fs → length fields ≤ length fs
   pub earliest : (p : ℕ) → (fs : List ℕ) → IsWay s b p fs → length fs ≡ length fields → ComesFirst (p ∷ fs) (place ∷ fields) → ⊥
 
--- each step tells the object that the fields lead to with it
+-- each step has the object to which the fields lead with it
 abbrev pub TellBirths : List (List Object) → Value → List Step → Type 0
 TellBirths made v [] = Unit {0}
 TellBirths made v (step ∷ steps) =
     (value_along made v (step.field ∷ []) ≡ Obj step.birth) × TellBirths made (Obj step.birth) steps
 
+-- the fields of some steps
 abbrev pub fields_of : List Step → List ℕ
 fields_of steps = map (λ (step : Step). step.field) steps
 
--- the path is the least way, and tells what it passes
+-- the path is the least way, with the objects that it passes
 pub record IsPathTo (s : State) (b : Birth) (p : PathList) : Type 0 where
   pub least : IsLeastWay s b (place_of s.width p.root) (fields_of p.steps)
   pub first : slice_index_or s.slots (place_of s.width p.root) Nil ≡ Obj p.first
   pub births : TellBirths s.made (Obj p.first) p.steps
 
+-- no way leads to the object, since nothing reaches it
 abbrev pub NoWay : State → Birth → Type 0
 NoWay s b = Reached s.slots s.made b → ⊥
 

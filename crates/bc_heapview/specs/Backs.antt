@@ -14,9 +14,11 @@ use Rattle.bc_heapview.specs.declared.search.Found.{Found}
 abbrev pub birth_at : List CellList → ℕ → Birth
 birth_at cells k = birth_of (cell_at cells k).head
 
+-- none of the finds is the object of this birth
 abbrev pub HasNoFind : List Found → List CellList → Birth → Type 0
 HasNoFind found cells b = (k : ℕ) → k < length found → birth_at cells (find_at found k).node ≡ b → ⊥
 
+-- the find of this number is the object of this birth
 abbrev pub IsFoundAt : List Found → List CellList → Birth → ℕ → Type 0
 IsFoundAt found cells b entry = (entry < length found) × (birth_at cells (find_at found entry).node ≡ b)
 
@@ -29,7 +31,7 @@ go_on w (s ∷ steps) = go_on (by_field w s.field) steps
 abbrev pub WayLeadsTo : List ℕ → List CellList → Way → Birth → Type 0
 WayLeadsTo roots cells w b = (k : ℕ) × (leads roots cells w ≡ Some k) × (birth_at cells k ≡ b)
 
--- each step tells the object to which the way leads with it
+-- each step has the object to which the way leads with it
 abbrev pub AreSteps : List ℕ → List CellList → Way → List Step → Type 0
 AreSteps roots cells w [] = Unit {0}
 AreSteps roots cells w (s ∷ steps) = WayLeadsTo roots cells (by_field w s.field) s.birth × AreSteps roots cells (by_field w s.field) steps

@@ -9,18 +9,23 @@ use Rattle.bc_heapview.specs.declared.search.Found.{Found}
 use Rattle.bc_heapview.specs.declared.search.Origin.{Origin}
 use Rattle.bc_heapview.specs.declared.search.Origin.TheVariants.{Slot, Field}
 
+-- the object of this number was seen
 abbrev pub is_seen : List Bool → ℕ → Bool
 is_seen seen n = slice_index_or seen n false
 
+-- the finds after an object was looked at, which is a find more if it wasn't seen
 abbrev pub found_after : List Found → List Bool → ℕ → Origin → List Found
 found_after found seen node origin = if is_seen seen node then found else found ++ record { node = node; origin = origin } ∷ []
 
+-- which objects were seen after one was looked at
 abbrev pub seen_after : List Bool → ℕ → List Bool
 seen_after seen node = if is_seen seen node then seen else slice_set seen node true
 
+-- what stands for a find after the last one
 abbrev pub no_find : Found
 no_find = record { node = 0; origin = Slot 0 }
 
+-- the find of this number
 abbrev pub find_at : List Found → ℕ → Found
 find_at found k = slice_index_or found k no_find
 
@@ -37,14 +42,14 @@ pub record AreFinds (roots : List ℕ) (cells : List CellList) (found : List Fou
   pub once : (j k : ℕ) → j < length found → k < length found → (find_at found j).node ≡ (find_at found k).node → j ≡ k
   pub within : (k : ℕ) → k < length found → (find_at found k).node < length cells
 
--- the object was found by a way that is not behind this one
+-- the object was found by this way, or by one that comes before it
 pub record FoundBy (found : List Found) (ways : ℕ → Way) (node : ℕ) (v : Way) : Type 0 where
   pub entry : ℕ
   pub within : entry < length found
   pub node_is : (find_at found entry).node ≡ node
   pub least : AtMost (ways entry) v
 
--- where the way leads to was found, by a way that is not behind it
+-- where the way leads to was found, by it or by a way that comes before it
 abbrev pub IsCovered : List ℕ → List CellList → List Found → (ℕ → Way) → Way → Type 0
 IsCovered roots cells found ways v = (n : ℕ) → leads roots cells v ≡ Some n → FoundBy found ways n v
 

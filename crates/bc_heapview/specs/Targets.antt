@@ -8,6 +8,7 @@ use Rattle.bc_image.specs.Cells.{CellList}
 use Rattle.bc_image.specs.Memories.{number_at, cell_at}
 use Rattle.bc_heapview.specs.Ways.{Way, from_slot, by_field}
 
+-- the number of the object to which a word refers, if it refers to one
 abbrev pub word_target : List CellList → Word → Option ℕ
 word_target cells Nil = None
 word_target cells (Num n) = None
@@ -27,15 +28,17 @@ abbrev pub leads : List ℕ → List CellList → Way → Option ℕ
 leads roots cells (from_slot r) = target_of cells (slice_index roots r)
 leads roots cells (by_field w i) = field_target cells (leads roots cells w) i
 
--- an index: for each address one more than the number of the first object there, or 0
+-- one more than the number of an object, or 0 for none
 abbrev pub coded : Option ℕ → ℕ
 coded None = 0
 coded (Some n) = n + 1
 
+-- for each address the index has the number of the first object there, coded
 pub record IsIndex (cells : List CellList) (index : List ℕ) : Type 0 where
   pub below : (a : ℕ) → length index ≤ a → number_at cells a ≡ None
   pub at : (a : ℕ) → a < length index → slice_index index a ≡ coded (number_at cells a)
 
+-- the bits are those of a word
 abbrev pub ArePacked : ℕ → Type 0
 ArePacked bits = IsPacked bits
 

@@ -41,7 +41,7 @@ view_fault_of ReadFault = Some faults.ReadFault
 view_fault_of WriteFault = Some faults.WriteFault
 view_fault_of NoMemory = Some faults.NoMemory
 
--- the line that tells it on standard error, without its line feed
+-- the line of a status on standard error, without its line feed
 abbrev pub view_fault_text : ViewFault → List ℕ
 view_fault_text faults.BadWords = codes "bc_heapview: bad command line"
 view_fault_text (faults.BadImage at) = codes "bc_heapview: bad image at " ++ decimal at

@@ -1,5 +1,5 @@
 -- What each status of a view says of the source, from its left bytes before and after, and of the sink, from its held bytes before and
--- after. Where a source or a sink doesn't tell its bytes, what is said of them holds of some bytes.
+-- after. Where a source or a sink doesn't make its bytes known, what is said of them holds of some bytes.
 use Rattle.std.specs.Prelude.{◌≡◌, ℕ, ◌+◌, ◌*◌, ◌<◌, ◌≤◌, ◌⊎◌, ⊤, List, [], ◌++◌, length, Option, Some, None, MatchOption}
 use Rattle.std.specs.Io.KnownBytes.{IsAtEnd}
 use Rattle.bc_image.specs.Faults.{IsFault}
@@ -49,11 +49,11 @@ pub record HasRest (bytes : List ℕ) (f : ImageFault) : Type 0 where
   pub some : 0 < length rest
   pub fault : f ≡ record { at = length (image_bytes listing); cause = Rest }
 
--- the first fault of bytes that are no image, or of those behind one
+-- the first fault of bytes that are no image, or that go on after one
 abbrev pub IsInputFault : List ℕ → ImageFault → Type 0
 IsInputFault bytes f = IsFault bytes f ⊎ HasRest bytes f
 
--- the source was read to its end, its bytes are no image with nothing behind it, and this is their fault
+-- the source was read to its end, its bytes are no image, or go on after one, and this is their fault
 pub record FaultyImage (left left' : Option (List ℕ)) (at : ℕ) (cause : ImageCause) : Type 0 where
   pub bytes : List ℕ
   pub whole : ReadsImage left left' bytes
@@ -105,23 +105,24 @@ pub record ViewedInPart (question : Question) (left left' held held' : Option (L
 abbrev pub view_bytes : ℕ → ℕ
 view_bytes objects = 43034 + 49 + 39 * objects
 
--- the source may give these bytes up to its end: those that it tells, or any where it tells none
+-- the source may give these bytes up to its end: those that it has, or any where they aren't known
 abbrev pub CanGive : Option (List ℕ) → List ℕ → Type 0
 CanGive (Some left) bytes = left ≡ bytes
 CanGive None bytes = ⊤
 
--- the answer about whatever image the source may give fits the room that the sink tells
+-- the answer about whatever image the source may give fits the sink's room, where that is known
 abbrev pub HasViewRoom : Option (List ℕ) → Option ℕ → Type 0
 HasViewRoom left room =
     (bytes : List ℕ) → (l : ListingLists) → CanGive left bytes → length bytes ≤ longest_image → ImageOf bytes l [] → HasRoom room (view_bytes (length l.cells))
 
 -- ---- statuses
 
+-- of a bad image this is said of its place and cause, and of no other status
 abbrev pub IfBadImage : ViewStatus → (ℕ → ImageCause → Type 0) → Type 0
 IfBadImage (BadImage at cause) P = P at cause
 IfBadImage _ P = ⊤
 
--- this status, unless memory ran out
+-- the status is this one, unless memory ran out
 abbrev pub IsUnlessMemory : ViewStatus → ViewStatus → Type 0
 IsUnlessMemory status wanted = (status ≡ wanted) ⊎ (status ≡ NoMemory)
 

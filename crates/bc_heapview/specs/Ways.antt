@@ -14,5 +14,6 @@ Before (from_slot r) (by_field v j) = Unit {0}
 Before (by_field w i) (from_slot s) = ⊥
 Before (by_field w i) (by_field v j) = Before w v ⊎ ((w ≡ v) × (i < j))
 
+-- a way is another one, or comes before it
 abbrev pub AtMost : Way → Way → Type 0
 AtMost w v = (w ≡ v) ⊎ Before w v

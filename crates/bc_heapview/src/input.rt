@@ -16,7 +16,7 @@ use std::alloc::Global;
 /// The most bytes that an input may have.
 pub const LONGEST_IMAGE: usize = 134_217_728;
 
-/// Reads the source to its end, and its bytes as an image with nothing behind it. The error is the status of a view that ends
+/// Reads the source to its end, and its bytes as an image with nothing after it. The error is the status of a view that ends
 /// here.
 pub(crate) fn read_image<S: Source>(alloc: Global, source: &mut S) -> Result<Listing, ViewStatus>
     ensures found { IfOk result (ReadAsImage (S.left source.old) (S.left source.new)) }

@@ -14,6 +14,7 @@
 // their order. It notes each object once, with where it came from. The order in which objects are found is the order of their least
 // ways, so the first way that leads to an object is its least, and following back where each came from gives the fields. Counts
 // are a tally over what was found. The search takes a few words for each object, and looks at each word of an object once.
+// Which object lies at an address an index says (`index_of`), with four bytes for each word of the superpages, 32 MiB at most.
 //
 // `main` only makes the real source and sink, calls `view`, prints the fault of its status and ends with its exit status.
 #![tactic(auto)]
@@ -69,7 +70,7 @@ fn wordless(kind: ErrorKind) -> ViewStatus
     }
 }
 
-/// The same words, borrowed.
+/// The words, borrowed.
 fn borrowed(alloc: Global, words: &[String]) -> Result<Vec<&str>, AllocError>
     ensures { IfOk result (λ texts. map (λ w. w.now) texts.items ≡ map (λ w. string_bytes w) words.now) }
 {
@@ -80,7 +81,7 @@ fn borrowed(alloc: Global, words: &[String]) -> Result<Vec<&str>, AllocError>
     Ok(texts)
 }
 
-/// Answers the words over these streams. No stream tells its bytes, so what is said of them holds of some bytes.
+/// Answers the words over these streams. No stream's bytes are known, so what is said of them holds of some bytes.
 fn view_words<R, I, O>(rt: &R, words: &[String], input: I, output: O) -> ViewStatus
 where
     R: AllocGlobal,

@@ -1,4 +1,4 @@
-//! How a view ends: its status, and the exit status and the line on standard error that tell it.
+//! How a view ends: its status, and the exit status and the line on standard error that say so.
 
 ghost use Rattle.std.specs.Prelude.{◌≡◌};
 ghost use Rattle.bc_heapview.specs.ViewStatuses.{view_exit_code, view_fault_of};
@@ -59,7 +59,7 @@ impl From<ReadImage> for ViewStatus {
     }
 }
 
-/// What is wrong with a view, as the line on standard error tells it.
+/// What is wrong with a view, as the line on standard error says it.
 #[derive(Clone, Copy, Debug, Error)]
 pub enum ViewFault {
     BadWords,

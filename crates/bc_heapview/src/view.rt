@@ -25,47 +25,73 @@ use bc_model::Birth;
 use std::alloc::{AllocError, Global};
 
 /// Answers what the words ask: reads an image from the source, and writes to the sink what it counts of it, or the least way to
-/// an object. The words come without the program's name. A sink that tells its room must have room for the answer.
+/// an object. The words come without the program's name. A sink whose room is known must have room for the answer.
 pub fn view<S, K>(alloc: Global, words: &[&str], source: &mut S, sink: &mut K) -> ViewStatus
 where
     S: Source,
     K: Sink,
+    // A sink whose room is known has room for the answer: 43,083 bytes are enough, and 39 for each object of the image.
     requires room { (question : Question) → IsQuestionOf (map (λ w. w.now) words.now) question →
         HasViewRoom (S.left source.old) (K.room sink.old) }
 
-    // What is written is the answer about whatever state the image pictures, and the input is that image and nothing more.
+    // Status 0: the input is an image and nothing more, and what was written is the answer about whatever state the image
+    // pictures.
     ensures done { (question : Question) → IsQuestionOf (map (λ w. w.now) words.now) question → result ≡ ViewStatus.Done →
         Viewed question (S.left source.old) (S.left source.new) (K.held sink.old) (K.held sink.new) }
 
-    // No refusal comes without its cause.
+    // Status 2 comes only where the words are no question.
     ensures bad_words { result ≡ ViewStatus.BadWords →
         (question : Question) → ¬ IsQuestionOf (map (λ w. w.now) words.now) question }
+
+    // Where the words are no question, status 2 comes, or memory runs out; source and sink are untouched.
     ensures refused { ((question : Question) → ¬ IsQuestionOf (map (λ w. w.now) words.now) question) →
         IsUnlessMemory result ViewStatus.BadWords × (source.new ≡ source.old) × (sink.new ≡ sink.old) }
+
+    // Status 8: the whole input was read, this is its first fault as an image, or the place where bytes follow one, and
+    // nothing was written.
     ensures bad_image { IfBadImage result (λ at cause.
         FaultyImage (S.left source.old) (S.left source.new) at cause × (sink.new ≡ sink.old)) }
+
+    // An input is too long where reads without a fault gave 134,217,729 bytes; nothing was written.
     ensures too_long { result ≡ ViewStatus.TooLong →
         GivesExactly (S.left source.old) (S.left source.new) (longest_image + 1) × (sink.new ≡ sink.old) }
+
+    // At every other status at most 134,217,728 bytes were read.
     ensures short { result ≢ ViewStatus.TooLong →
         GivesAtMost (S.left source.old) (S.left source.new) longest_image }
+
+    // Status 4: the source's count of faults rose in this call, and nothing was written.
     ensures read_fault { result ≡ ViewStatus.ReadFault →
         Rose (S.faults source.old) (S.faults source.new) × (sink.new ≡ sink.old) }
+
+    // Status 5: the sink's count of faults rose in this call, and a prefix of the answer, and not all of it, was written.
     ensures write_fault { (question : Question) → IsQuestionOf (map (λ w. w.now) words.now) question →
         result ≡ ViewStatus.WriteFault → Rose (K.faults sink.old) (K.faults sink.new)
         × ViewedInPart question (S.left source.old) (S.left source.new) (K.held sink.old) (K.held sink.new) }
+
+    // At every status but 4 the source's count of faults is as it was.
     ensures firm_source { result ≢ ViewStatus.ReadFault → S.faults source.new ≡ S.faults source.old }
+
+    // At every status but 5 the sink's count of faults is as it was.
     ensures firm_sink { result ≢ ViewStatus.WriteFault → K.faults sink.new ≡ K.faults sink.old }
+
+    // Status 7, the one free answer: nothing was written.
     ensures no_memory { result ≡ ViewStatus.NoMemory → sink.new ≡ sink.old }
 
-    // Where no fault is counted, the words and the bytes alone decide, unless memory runs out.
+    // An image within the limit with nothing after it: if no fault is counted, the view is done, or memory runs out.
     ensures complete { (question : Question) (bytes : List ℕ) (l : ListingLists) → IsQuestionOf (map (λ w. w.now) words.now) question →
         S.left source.old ≡ Some bytes → length bytes ≤ longest_image → ImageOf bytes l [] →
         ¬ Rose (S.faults source.old) (S.faults source.new) → ¬ Rose (K.faults sink.old) (K.faults sink.new) →
         IsUnlessMemory result ViewStatus.Done }
+
+    // An input within the limit that is no image, or goes on after one: if no read failed, status 8 comes with its first
+    // fault, or memory runs out.
     ensures faulty { (question : Question) (bytes : List ℕ) (f : ImageFault) → IsQuestionOf (map (λ w. w.now) words.now) question →
         S.left source.old ≡ Some bytes → length bytes ≤ longest_image → IsInputFault bytes f →
         ¬ Rose (S.faults source.old) (S.faults source.new) →
         IsUnlessMemory result (ViewStatus.BadImage f.at f.cause) }
+
+    // A longer input: if no read failed, it is too long, or memory runs out.
     ensures longer { (question : Question) (bytes : List ℕ) → IsQuestionOf (map (λ w. w.now) words.now) question →
         S.left source.old ≡ Some bytes → longest_image < length bytes →
         ¬ Rose (S.faults source.old) (S.faults source.new) → IsUnlessMemory result ViewStatus.TooLong }

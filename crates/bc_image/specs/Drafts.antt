@@ -16,7 +16,8 @@ use Rattle.bc_image.specs.declared.progress.Progress.{Progress}
 use Rattle.bc_image.specs.declared.progress.Stage.{Stage}
 use Rattle.bc_image.specs.declared.progress.Stage.TheVariants as stages
 
--- `born` has the births of all objects that were begun, as their heads have them, and the last of these objects has so far these fields
+-- what was read of an image so far. `born` has the births of all objects that were begun, as their heads have them, and `fields`
+-- those that were read of the last of them
 pub record ImageDraft : Type 0 where
   pub progress : Progress
   pub holders : List Holder
@@ -27,6 +28,7 @@ pub record ImageDraft : Type 0 where
   pub head : Head
   pub fields : List ℕ
 
+-- the draft before the first item
 abbrev pub empty_draft : ImageDraft
 empty_draft = record { progress = first_progress; holders = []; births = []; roots = []; born = []; cells = []; head = no_head; fields = [] }
 
@@ -34,13 +36,15 @@ empty_draft = record { progress = first_progress; holders = []; births = []; roo
 abbrev pub birth_bits : ℕ → ℕ
 birth_bits bits = bits / 8192
 
+-- the holder that a number stands for: a lane, or Frozen where it is the number of lanes
 abbrev pub holder_of : ℕ → ℕ → Holder
 holder_of lanes n = if n == lanes then Frozen else Lane n
 
--- the object that was begun is through
+-- the draft after the last item of an object
 abbrev pub finished_object : ImageDraft → ImageDraft
 finished_object d = record d { cells = d.cells ++ record { address = d.progress.address; head = d.head; fields = d.fields } ∷ []; fields = [] }
 
+-- the draft with what an item of this stage adds, its progress as before
 abbrev pub put_at : Stage → ImageDraft → ℕ → ImageDraft
 put_at stages.Holder d n = record d { holders = d.holders ++ holder_of d.progress.setup.lanes n ∷ [] }
 put_at stages.Birth d n = record d { births = d.births ++ n ∷ [] }
@@ -53,13 +57,15 @@ put_at stages.Field d n =
     if d.progress.fields == 1 then finished_object e else e
 put_at _ d n = d
 
+-- the draft with this progress
 abbrev pub with_progress : ImageDraft → Progress → ImageDraft
 with_progress d p = record d { progress = p }
 
--- with one item more, which passed
+-- the draft with one item more, which passed
 unfoldable pub put : ImageDraft → ℕ → ImageDraft
 put d n = with_progress (put_at d.progress.stage d n) (advanced d.progress n)
 
+-- the item is the head of an object of a birth that was read before
 abbrev pub is_twice_at : Stage → ImageDraft → ℕ → Bool
 is_twice_at stages.Head d n = list_any (nat_eq (birth_bits n)) d.born
 is_twice_at _ d n = false
@@ -84,11 +90,11 @@ pub record ShowsLists (x : Draft) (d : ImageDraft) : Type 0 where
   pub head : x.head ≡ d.head
   pub fields : x.fields.items ≡ d.fields
 
--- it has the births of objects
+-- the set of the code has the births of these objects
 abbrev pub HasBorn : Draft → List ℕ → Type 0
 HasBorn x born = (q : ℕ) → contains nat_eq x.born q ≡ list_any (nat_eq q) born
 
--- it shows these lists
+-- the draft of the code shows these lists, with the births of objects
 pub record Shows (x : Draft) (d : ImageDraft) : Type 0 where
   pub lists : ShowsLists x d
   pub born : HasBorn x d.born

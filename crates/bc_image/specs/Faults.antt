@@ -20,12 +20,13 @@ use Rattle.bc_image.specs.declared.progress.Progress.{Progress}
 use Rattle.bc_image.specs.declared.progress.Stage.{Stage}
 use Rattle.bc_image.specs.declared.progress.Stage.TheVariants as stages
 
--- items that are words
+-- an item of this stage is a word
 abbrev pub is_word : Stage → Bool
 is_word stages.Root = true
 is_word stages.Field = true
 is_word _ = false
 
+-- a word refers to an address at which no object of the image lies
 abbrev pub leads_nowhere : List CellList → Word → Bool
 leads_nowhere cells Nil = false
 leads_nowhere cells (Num n) = false
@@ -47,13 +48,16 @@ fault_of bytes (Ok (d, count)) = link_fault (linking bytes d.cells first_progres
     link_fault None = None
     link_fault (Some number) = Some (fault_at number Link)
 
+-- this is the first fault of the bytes
 abbrev pub IsFault : List ℕ → ImageFault → Type 0
 IsFault bytes f = fault_of bytes (items_of_all bytes) ≡ Some f
 
+-- what ends the reading is the first fault of the bytes, or memory ran out
 abbrev pub TellsImageFault : List ℕ → ReadImage → Type 0
 TellsImageFault bytes (Fault f) = IsFault bytes f
 TellsImageFault bytes NoMemory = Unit {0}
 
+-- what ends the reading is this fault, or memory ran out
 abbrev pub IsImageFaultOrMemory : ImageFault → ReadImage → Type 0
 IsImageFaultOrMemory f e = (e ≡ Fault f) ⊎ (e ≡ NoMemory)
 

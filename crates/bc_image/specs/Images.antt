@@ -19,32 +19,38 @@ use Rattle.bc_image.specs.declared.listing.Holder.TheVariants.{Lane, Frozen}
 
 -- ---- the items of a listing
 
+-- the number of a holder: a lane's own, and for Frozen the number of lanes
 abbrev pub holder_number : ℕ → Holder → ℕ
 holder_number lanes (Lane j) = j
 holder_number lanes Frozen = lanes
 
+-- the items of an object: its address, its head, and its fields
 abbrev pub cell_items : CellList → List ℕ
 cell_items c = c.address ∷ head_bits c.head ∷ c.fields
 
--- a superpage's: 0, or what its objects are, how many, and each of them
+-- the items of a superpage with these objects: 0 if there are none, or else its pair, their number, and each of them
 abbrev pub group_items : List CellList → List ℕ
 group_items [] = 0 ∷ []
 group_items (c ∷ cs) =
     (class_of c.head.fields + 256 * c.head.domain) ∷ length (c ∷ cs) ∷ flat_map cell_items (c ∷ cs)
 
+-- the items of superpage q
 abbrev pub superpage_items : List CellList → ℕ → List ℕ
 superpage_items cells q = group_items (filter (λ c. c.address / 2048 == q) cells)
 
+-- the items of an image in order: the header, the holders, the births, the root slots, and each superpage
 abbrev pub image_items : ListingLists → List ℕ
 image_items l =
     magic ∷ l.version ∷ l.setup.lanes ∷ l.setup.domains ∷ l.setup.slots ∷ l.setup.superpages ∷ l.setup.nursery ∷ l.setup.buffer ∷ l.setup.frames ∷ l.phases
     ∷ (map (holder_number l.setup.lanes) l.holders ++ l.births ++ l.roots ++ flat_map (superpage_items l.cells) (numbers_below l.setup.superpages))
 
+-- the bytes of an image: eight for each item, the highest first
 unfoldable pub image_bytes : ListingLists → List ℕ
 image_bytes l = flat_map (bytes_high_first 8) (image_items l)
 
 -- ---- what may be listed
 
+-- a holder is one of the lanes, or from version 2 on Frozen
 abbrev pub IsHolder : ℕ → ℕ → Holder → Type 0
 IsHolder version lanes (Lane j) = j < lanes
 IsHolder version lanes Frozen = 2 ≤ version
@@ -55,6 +61,7 @@ IsLinked cells Nil = Unit {0}
 IsLinked cells (Num n) = Unit {0}
 IsLinked cells (Ref a) = (k : ℕ) × (number_at cells a.0 ≡ Some k)
 
+-- the numbers are words of 64 bits, each of which names no address, or that of a listed object
 abbrev pub AreLinked : List CellList → List ℕ → Type 0
 AreLinked cells bits = AllByRecursion (λ n. (n < 2 ^ 64) × IsLinked cells (word_of_bits n)) bits
 
@@ -70,6 +77,7 @@ pub record IsListed (l : ListingLists) (c : CellList) : Type 0 where
   pub count : length c.fields ≡ c.head.fields
   pub fields : AreLinked l.cells c.fields
 
+-- what an image may list: a setup and numbers in their ranges, and objects as they may lie in a heap
 pub record IsImageListing (l : ListingLists) : Type 0 where
   pub version : IsWithin 1 3 l.version
   pub setup : IsSetup l.setup

@@ -9,6 +9,7 @@ use Rattle.bc_image.specs.declared.progress.Progress.{Progress}
 use Rattle.bc_image.specs.declared.progress.Stage.{Stage}
 use Rattle.bc_image.specs.declared.progress.Stage.TheVariants as stages
 
+-- a number is from the least to the most
 abbrev pub is_within : ℕ → ℕ → ℕ → Bool
 is_within least most n = nat_le least n && nat_le n most
 
@@ -16,6 +17,7 @@ is_within least most n = nat_le least n && nat_le n most
 abbrev pub magic : ℕ
 magic = 7089626156917810481
 
+-- the number is a size class
 abbrev pub is_class : ℕ → Bool
 is_class n = (n == 2) || ((n == 4) || ((n == 8) || ((n == 16) || ((n == 32) || ((n == 64) || (n == 128))))))
 
@@ -32,6 +34,7 @@ is_head p births bits =
     && (nat_le (serial_of_bits bits) (slice_index births (lane_of_bits bits))
     && ((domain_of_bits bits == p.domain) && (class_of (fields_of_bits bits) == p.class))))
 
+-- an item of this stage passes its test
 abbrev pub passes_at : Stage → Progress → List ℕ → ℕ → Bool
 passes_at stages.Magic p births n = n == magic
 passes_at stages.Version p births n = is_within 1 3 n
@@ -70,20 +73,25 @@ cause_of stages.Address = causes.Cell
 cause_of stages.Head = causes.Cell
 cause_of _ = causes.Range
 
+-- the progress after the last item of a superpage
 abbrev pub superpage_ended : Progress → Progress
 superpage_ended p = record p { superpage = p.superpage + 1; stage = if p.superpage + 1 == p.setup.superpages then stages.Finished else stages.Pair }
 
+-- the progress after the last item of an object
 abbrev pub object_ended : Progress → Progress
 object_ended p =
     let q : Progress = record p { left = p.left - 1; least = p.address + p.class; stage = stages.Address } in
     if p.left - 1 == 0 then superpage_ended q else q
 
+-- the progress after one item of a stage that has so many
 abbrev pub one_stood : Progress → ℕ → Stage → Progress
 one_stood p all next = if p.stood + 1 == all then record p { stood = 0; stage = next } else record p { stood = p.stood + 1 }
 
+-- the progress after a head or a field: at the object's end if no field is left
 abbrev pub field_stood : Progress → Progress
 field_stood p = if p.fields == 0 then object_ended p else p
 
+-- the progress after an item of this stage that passed
 abbrev pub advanced_at : Stage → Progress → ℕ → Progress
 advanced_at stages.Magic p n = record p { stage = stages.Version }
 advanced_at stages.Version p n = record p { version = n; stage = stages.Lanes }
@@ -105,10 +113,11 @@ advanced_at stages.Head p n = field_stood (record p { fields = n % 128; stage = 
 advanced_at stages.Field p n = field_stood (record p { fields = p.fields - 1 })
 advanced_at stages.Finished p n = p
 
--- behind an item that passed
+-- the progress after an item that passed
 unfoldable pub advanced : Progress → ℕ → Progress
 advanced p n = advanced_at p.stage p n
 
+-- the progress before the first item
 abbrev pub first_progress : Progress
 first_progress = record {
   stage = stages.Magic;
@@ -125,7 +134,7 @@ first_progress = record {
   fields = 0;
 }
 
--- numbers that may stand behind the stage are small
+-- which numbers may stand at the stage: small ones, but for words, heads and the first item
 abbrev pub IsSmallItem : Stage → ℕ → Type 0
 IsSmallItem stages.Pair n = n / 256 < 2 ^ 32
 IsSmallItem stages.Magic n = Unit {0}
@@ -136,12 +145,14 @@ IsSmallItem stages.Field n = Unit {0}
 IsSmallItem stages.Finished n = Unit {0}
 IsSmallItem _ n = n < 2 ^ 32
 
+-- inside a superpage an object is left to read, and inside an object a field
 abbrev pub HasObjectLeft : Stage → Progress → Type 0
 HasObjectLeft stages.Head p = 0 < p.left
 HasObjectLeft stages.Field p = (0 < p.left) × (0 < p.fields)
 HasObjectLeft stages.Address p = 0 < p.left
 HasObjectLeft _ p = Unit {0}
 
+-- inside a superpage the class is a size class
 abbrev pub HasClass : Stage → Progress → Type 0
 HasClass stages.Count p = IsClass p.class
 HasClass stages.Address p = IsClass p.class
@@ -178,6 +189,7 @@ pub record IsBoundedProgress (p : Progress) : Type 0 where
   pub address : p.address ≤ 2048 * 4097
   pub class : p.class ≤ 255
 
+-- a progress to which reading may come
 pub record IsProgress (p : Progress) : Type 0 where
   pub bounded : IsBoundedProgress p
   pub place : HasPlace p.stage p

@@ -4,6 +4,7 @@ use Rattle.bc_model.specs.declared.traces.Setup.{Setup}
 use Rattle.bc_image.specs.Cells.{CellList}
 use Rattle.bc_image.specs.declared.listing.Holder.{Holder}
 
+-- what an image lists: its setup, and the phases, holders, births, root words and objects
 pub record ListingLists : Type 0 where
   pub version : ℕ
   pub setup : Setup

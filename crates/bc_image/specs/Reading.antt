@@ -15,11 +15,12 @@ use Rattle.bc_image.specs.declared.fault.ReadImage.TheVariants.{Fault, NoMemory}
 abbrev pub fault_at : ℕ → ImageCause → ImageFault
 fault_at number cause = record { at = 8 * number; cause = cause }
 
+-- the fault where the item has a cause, and else what follows
 abbrev pub go_on : ℕ → Option ImageCause → Result (ImageDraft × ℕ) ImageFault → Result (ImageDraft × ℕ) ImageFault
 go_on number (Some cause) next = Err (fault_at number cause)
 go_on number None next = next
 
--- so many items are left, of which the first has this number
+-- the draft and what is left after so many items more, of which the first has this number
 unfoldable pub reading : List ℕ → ImageDraft → ℕ → ℕ → Result (ImageDraft × ℕ) ImageFault
 reading bytes d number zero = if is_finished d.progress.stage then Ok (d, number) else Err (fault_at number causes.Short)
 reading bytes d number (suc left) =

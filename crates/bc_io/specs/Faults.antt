@@ -1,3 +1,4 @@
+-- In the theorem.
 -- How faults are counted, and what a count says of a call.
 use Rattle.std.specs.Prelude.{◌≡◌, ℕ, ◌-◌, ◌^◌, ◌<◌, ◌⊎◌}
 

@@ -2,7 +2,7 @@
 pub mod Faults
 -- A count of faults, one further
 pub mod FaultCounts
--- What is told of the bytes that a source has left, and of the bytes that a sink holds and the room that it has.
+-- What is known of the bytes that a source has left, and of the bytes that a sink holds and the room that it has.
 pub mod Told
 -- What one write takes
 pub mod Pieces

@@ -6,7 +6,7 @@ use Rattle.bc_io.specs.Told.{HeldGrows}
 abbrev pub RoomFalls : Option ℕ → Option ℕ → ℕ → Type 0
 RoomFalls old new count = new ≡ option_map (λ room. room - count) old
 
--- A sink took a front of the bytes and not all of them: what it holds grew by the front, and its room fell by as many.
+-- a sink took a prefix of the bytes and not all of them: what it holds grew by the prefix, and its room fell by as many
 pub record TakesFront (held_old held_new : Option (List ℕ)) (room_old room_new : Option ℕ) (bytes : List ℕ) : Type 0 where
   pub taken : List ℕ
   pub rest : List ℕ

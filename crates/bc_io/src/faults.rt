@@ -1,10 +1,10 @@
-//! What a device answers when it fails, and the name for want of memory.
+//! What a device answers when it fails, and the name of the error when memory runs out.
 
 use std::alloc::AllocError;
 use std::error::Error;
 use std::fmt;
 
-/// No memory was to be had. Every call that takes memory may answer it.
+/// Memory ran out. Every call that takes memory may return it.
 pub type NoMemory = AllocError;
 
 /// A read or a write failed, and the device has counted it.

@@ -47,7 +47,7 @@ impl FirmSource {
     }
 }
 
-/// Copies bytes to the front of `to`, at most `most` and as many as both have, and says how many.
+/// Copies bytes to the start of `to`, at most `most` and as many as both have, and says how many.
 fn copy_front(from: &[u8], most: usize, to: &mut [u8]) -> usize
     ensures count { result ≡ min most (min (length to.new) (length from.now)) }
     ensures copied { take result to.new ≡ take result from.now }

@@ -22,7 +22,7 @@ pub enum ReadAll {
     TooLong,
     /// A read failed, and the source has counted it.
     ReadFault,
-    /// No memory was to be had.
+    /// Memory ran out.
     NoMemory,
 }
 
@@ -93,7 +93,7 @@ pub fn read_all<S: Source>(alloc: Global, source: &mut S, limit: usize) -> Resul
     ensures firm { result ≢ Err ReadAll.ReadFault → S.faults source.new ≡ S.faults source.old }
     ensures later { S.faults source.old ≤ S.faults source.new }
 
-    // Whatever comes of it, what was read is a front of what was left.
+    // Whatever comes of it, what was read is a prefix of what was left.
     ensures front { GivesAtMost (S.left source.old) (S.left source.new) (limit + 1) }
 {
     let mut bytes = Vec::new(alloc);
@@ -112,7 +112,7 @@ pub fn read_all<S: Source>(alloc: Global, source: &mut S, limit: usize) -> Resul
     }
 }
 
-/// Reads at most `asked` bytes to behind the first `filled` of `bytes`, and says how many.
+/// Reads at most `asked` bytes to after the first `filled` of `bytes`, and says how many.
 fn read_behind<S: Source>(
     source: &mut S,
     bytes: &mut Vec<u8>,

@@ -7,15 +7,15 @@ ghost use Rattle.bc_io.specs.Pieces.{RoomFalls};
 
 use crate::faults::Failed;
 
-/// Bytes are written to it, each behind those before.
+/// Bytes are written to it, each after those before.
 pub trait Sink {
-    // The bytes that it holds, where they are told.
+    // The bytes that it holds, where they are known.
     ghost held: { Self → Option (List ℕ) };
 
     // How often it has failed. It starts at 0.
     ghost faults: { Self → ℕ };
 
-    // For how many more bytes it has room, where it is told.
+    // For how many more bytes it has room, where that is known.
     ghost room: { Self → Option ℕ };
 
     /// Takes the first of these bytes and says how many: at least one where there is one, and at

@@ -9,14 +9,14 @@ use crate::faults::Failed;
 
 /// Bytes are read from it, from the first to the last.
 pub trait Source {
-    // The bytes that it has yet to give, where they are told.
+    // The bytes that it has yet to give, where they are known.
     ghost left: { Self → Option (List ℕ) };
 
     // How often it has failed. It starts at 0.
     ghost faults: { Self → ℕ };
 
-    /// Gives the next bytes, at the front of `buf`, and says how many: at most the length of `buf`,
-    /// and none into a nonempty `buf` only at the end. What stands behind them in `buf` is left
+    /// Gives the next bytes, at the start of `buf`, and says how many: at most the length of `buf`,
+    /// and none into a nonempty `buf` only at the end. What follows them in `buf` is left
     /// open. After `Failed` as much is left as before, and the call may be made again.
     fn read(&mut self, buf: &mut [u8]) -> Result<usize, Failed>
         ensures within { IfOk result (λ count. count ≤ length buf.new) }

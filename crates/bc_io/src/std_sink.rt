@@ -10,7 +10,7 @@ use crate::sinks::Sink;
 use std::io::{self, Write};
 
 /// Hands bytes to a writer, and counts each of its errors. A writer that takes none of some bytes
-/// has failed too. It tells neither bytes nor room, and flushes nothing: the writer is one that
+/// has failed too. Neither its bytes nor its room are known, and it flushes nothing: the writer is one that
 /// keeps nothing back.
 #[derive(Drop)]
 pub struct StdSink<W> {

@@ -10,7 +10,7 @@ use crate::faults::Failed;
 use crate::sources::Source;
 use std::io::{self, Read};
 
-/// Gives what a reader gives, and counts each of its errors. It tells no bytes.
+/// Gives what a reader gives, and counts each of its errors. Its bytes aren't known.
 #[derive(Drop)]
 pub struct StdSource<R> {
     reader: R,

@@ -26,18 +26,18 @@ impl fmt::Display for WriteFault {
 
 impl Error for WriteFault {}
 
-/// Writes all of these bytes, or a front of them and then meets a fault. Each write takes at least
+/// Writes all of these bytes, or a prefix of them and then meets a fault. Each write takes at least
 /// one byte. It takes no memory, and an empty slice is written with no call of the sink at all.
 ///
-/// After a fault the sink holds a front of the bytes, so a second try with all of them would write
-/// that front twice.
+/// After a fault the sink holds a prefix of the bytes, so a second try with all of them would write
+/// that prefix twice.
 pub fn write_all<K: Sink>(sink: &mut K, bytes: &[u8]) -> Result<(), WriteFault>
     requires { HasRoom (K.room sink.old) (length bytes.now) }
     ensures all { OnOk result (HeldGrows (K.held sink.old) (K.held sink.new) bytes.now) }
     ensures filled { OnOk result
         (RoomFalls (K.room sink.old) (K.room sink.new) (length bytes.now)) }
 
-    // At a fault a front was taken, and not all.
+    // At a fault a prefix was taken, and not all.
     ensures front { OnErr result (TakesFront (K.held sink.old) (K.held sink.new)
         (K.room sink.old) (K.room sink.new) bytes.now) }
     ensures cause { OnErr result (Rose (K.faults sink.old) (K.faults sink.new)) }

@@ -1,4 +1,4 @@
--- A space, and a whole heap, as it is when every page that is Gone has come back. Lanes run on it in a turn: what they do is told of the
+-- A space, and a whole heap, as it is when every page that is Gone has come back. Lanes run on it in a turn: what they do is said of the
 -- heap with every page back, so that a page that comes back in the turn changes nothing of it. Frames aren't counted anew.
 use Rattle.std.specs.Prelude.{ℕ, map}
 use Rattle.bc_superpages.specs.declared.headers.PageState.{PageState}
@@ -22,6 +22,6 @@ no_count n = 0
 abbrev pub all_back : Layout → Layout
 all_back s = record s { states = map (map back_state) s.states; incoming = map no_count s.incoming }
 
--- and the whole heap
+-- the heap with every page back
 abbrev pub heap_back : HeapView → HeapView
 heap_back h = record h { space = all_back h.space }

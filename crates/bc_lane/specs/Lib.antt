@@ -4,5 +4,5 @@ pub mod Back
 pub mod Shown
 -- Operations of a lane, one after another
 pub mod Doing
--- A lane's turn, and what its calls require and tell
+-- A lane's turn, and what its calls require and return
 pub mod Turns

@@ -30,8 +30,8 @@ pub record ShowsPage (v : View) (s : Layout) (page : ℕ) : Type 0 where
   pub remembered : (state_at s.states page ≡ Remembered) ↔ (0 < one_if (opened_word v.about page == 2) + times page v.recorded)
   pub here : is_gone (state_at s.states page) ≡ false
 
--- and of the page in the lane's hands: the content in its box, which may be put back. It is Remembered exactly where the lane has it
--- so, as it has it where it was so at the opening or the seat put it back so. It isn't Gone
+-- what a space has of the page in the lane's hands: the content in its box, which may be put back. It is Remembered exactly where
+-- the lane has it so, as it has it where it was
 pub record ShowsHeld (v : View) (held : Held) (s : Layout) : Type 0 where
   pub own : IsOwnPage v held.page
   pub content : content_at s.pages held.page ≡ held.homed.page
@@ -67,8 +67,8 @@ pub record ShowsPages (v : View) (hand : Option Held) (end : ℕ) (s : Layout) :
   pub others : (page : ℕ) → IsOwnPage v page → (HasPage hand page → ⊥) → ShowsPage v s page
   pub in_hand : ShowsHand v hand s
 
--- the lane's words, a stretch for each of its domains, may belong to these root words. By domain, `starts` tells where the
--- stretch begins, and `slots` is the number of slots of a domain
+-- the lane's words, a stretch for each of its domains, may belong to these root words. By domain, `starts` has where the stretch
+-- begins, and `slots` is the number of slots of a domain
 pub record ShowsSlots (holders : List ℕ) (lane slots : ℕ) (starts words : List ℕ) (r : RootWords) : Type 0 where
   pub domains_are : r.domains ≡ length holders
   pub slots_are : (d : ℕ) → d < length holders → slice_index holders d ≡ lane → r.slots ≡ slots

@@ -90,7 +90,7 @@ pub record IsPreparedTurn (lane : ℕ) (holders : List ℕ) (slots : ℕ) (roots
   pub replies_are : turn.replies ≡ replies
   pub count_is : turn.count ≡ count
 
--- and gives back after it
+-- what a lane gives back after a turn
 pub record IsFinished (turn : LaneTurn) (done : LaneDone) : Type 0 where
   pub domains : done.roots.domains ≡ turn.part.domains
   pub words : done.roots.words ≡ turn.part.words
@@ -101,7 +101,7 @@ pub record IsFinished (turn : LaneTurn) (done : LaneDone) : Type 0 where
   pub replies : done.replies ≡ turn.replies
   pub room : done.room ≡ record { holders = turn.part.holders; starts = turn.part.starts; slots = turn.part.slots }
 
--- the table is one for lanes, who hold the domains so. Pages behind it are Absent
+-- the table is one for lanes, who hold the domains so. Pages past its end are Absent
 pub record IsLaneTable (k : Key) (holders : List ℕ) : Type 0 where
   pub lanes : k.lanes ≡ true
   pub owners : k.owners ≡ map lane_role holders
@@ -149,7 +149,7 @@ IsReadStop v w stop.BufferFull = Unit {0}
 IsReadStop v w (stop.Busy page) = (length v.read < length w.read) × (0 < times page w.busy)
 IsReadStop v w (stop.Gone page) = (length v.read < length w.read) × (0 < times page w.gone)
 
--- this is true of the operation of that number, which there is
+-- this is true of the lane's operation of that number, which there is
 abbrev pub IsNextOp : List Op → ℕ → (Op → Type 0) → Type 0
 IsNextOp ops next P = (op : Op) × (next < length ops) × (op ≡ slice_index_or ops next op) × P op
 
@@ -171,14 +171,14 @@ pub record LooksOwn (part : LanePart) (k : Key) (end : ℕ) (op : Op) (page : �
   pub cell : IsBarePage k.opening page → ⊥
   pub looks : (v : View) → (hand : Option Held) → (h : HeapView) → v.about ≡ k → IsWhole part v hand end h → IsOpOf h.roots op → LooksOn h op page
 
--- or at one of a domain that another lane holds
+-- the operation looks at a cell of a domain that another lane holds, on this page of the table
 pub record LooksForeign (h : HeapView) (holders : List ℕ) (lane : ℕ) (op : Op) : Type 0 where
   pub at : Address
   pub looks : LooksAtObject h.roots (touched_slot op) at
   pub there : IsAllocated h.space at.0
   pub foreign : slice_index holders (slice_index h.space.domains (superpage_of at.0)) ≢ lane
 
--- what is told of where an operation looks
+-- what is known of where an operation looks
 abbrev pub LooksTold : LanePart → Key → ℕ → Op → Looking → Type 0
 LooksTold part k end op Nowhere = LaneHoldsAll part op → LeadsToPageWhere part end op (λ _. ⊥)
 LooksTold part k end op (Own page) = LooksOwn part k end op page

@@ -15,7 +15,7 @@ WritesSlot (Copy p q) r = r ≡ q
 WritesSlot (Clear p) r = r ≡ p
 WritesSlot _ r = ⊥
 
--- it writes the field of the object
+-- the operation writes the field of the object
 abbrev pub WritesField : State → Op → Birth → ℕ → Type 0
 WritesField s (Set p i v) b k = (slot_of s p ≡ Obj b) × (k ≡ i)
 WritesField s (Cut p i) b k = (slot_of s p ≡ Obj b) × (k ≡ i)

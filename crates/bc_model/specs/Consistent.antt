@@ -1,3 +1,4 @@
+-- In the theorem.
 -- What is true of every state that a run comes to, and how large a state is.
 use Rattle.std.specs.Prelude.{◌≡◌, ℕ, ◌*◌, ◌<◌, ◌≤◌, List, length, slice_index, slice_index_or}
 use Rattle.bc_model.specs.State.{State, Object, IsBorn, object_of}

@@ -10,7 +10,7 @@ pub mod State
 pub mod Step
 -- Replies that refuse an operation
 pub mod Refusals
--- When a lane can't do an operation, told of the state before it
+-- When a lane can't do an operation, by the state before it
 pub mod Refused
 -- What an operation writes when it is done
 pub mod Changes

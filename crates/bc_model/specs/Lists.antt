@@ -1,3 +1,4 @@
+-- In the theorem.
 -- Phases and traces as plain lists: what contracts see of them.
 use Rattle.std.specs.Prelude.{ℕ, List}
 use Rattle.bc_model.specs.declared.operations.Op.{Op}
@@ -10,6 +11,7 @@ pub record PhaseLists : Type 0 where
   pub lanes : List (List Op)
   pub gives : List Give
 
+-- a trace: its setup and its phases
 pub record TraceLists : Type 0 where
   pub setup : Setup
   pub phases : List PhaseLists

@@ -1,3 +1,4 @@
+-- In the theorem.
 -- How many superpages a state needs at least.
 use Rattle.std.specs.Prelude.{◌≡◌, ℕ, ◌+◌, ◌-◌, ◌/◌, ◌==◌, ◌&&◌, ◌↔◌, Bool, List, length}
 use Rattle.std.specs.List.{sum_by, count_by}

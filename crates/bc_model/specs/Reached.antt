@@ -1,3 +1,4 @@
+-- In the theorem.
 -- Which objects a state reaches: some slot and some list of field numbers lead to them.
 use Rattle.std.specs.Prelude.{◌≡◌, ℕ, List, slice_index_or}
 use Rattle.bc_reach.specs.Reach.{Reach}

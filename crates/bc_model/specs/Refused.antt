@@ -1,4 +1,4 @@
--- When a lane can't do an operation, told of the state before it: it lacks a domain, or there is no object where the
+-- When a lane can't do an operation, by the state before it: it lacks a domain, or there is no object where the
 -- operation needs one, or the object has no such field. Then: what the others are answered.
 use Rattle.std.specs.Prelude.{◌≡◌, ◌≢◌, ◌⊎◌, ℕ, ◌≤◌, true, false, length}
 use Rattle.bc_model.specs.State.{State, object_of, slot_of, holds}
@@ -24,7 +24,7 @@ NamesSlot (Copy p q) r = (r ≡ p) ⊎ (r ≡ q)
 NamesSlot (Clear p) r = r ≡ p
 NamesSlot (Same p q) r = (r ≡ p) ⊎ (r ≡ q)
 
--- it reads or writes a field of the slot's object
+-- the operation reads or writes a field of the slot's object
 abbrev pub NeedsField : Op → Slot → ℕ → Type 0
 NeedsField (Set p i v) r k = (r ≡ p) × (k ≡ i)
 NeedsField (Cut p i) r k = (r ≡ p) × (k ≡ i)
@@ -32,7 +32,7 @@ NeedsField (Link p i q) r k = (r ≡ p) × (k ≡ i)
 NeedsField (Load p i q) r k = (r ≡ p) × (k ≡ i)
 NeedsField _ r k = ⊥
 
--- it can't be done unless the slot refers to an object
+-- the operation can't be done unless the slot refers to an object
 abbrev pub NeedsObject : Op → Slot → Type 0
 NeedsObject (Len p) r = r ≡ p
 NeedsObject (Set p i v) r = r ≡ p
@@ -41,7 +41,7 @@ NeedsObject (Link p i q) r = r ≡ p
 NeedsObject (Load p i q) r = r ≡ p
 NeedsObject _ r = ⊥
 
--- it looks at the object that the slot refers to, if there is one
+-- the operation looks at the object that the slot refers to, if there is one
 abbrev pub LooksAt : Op → Slot → Type 0
 LooksAt (Who p) r = r ≡ p
 LooksAt o r = NeedsObject o r
@@ -60,14 +60,15 @@ HoldsAll s j o = (d : ℕ) → NeedsDomain s o d → holds s j d ≡ true
 abbrev pub LacksDomain : State → ℕ → Op → Type 0
 LacksDomain s j o = (d : ℕ) × NeedsDomain s o d × (holds s j d ≡ false)
 
--- it holds them all, but a slot that has to refer to an object refers to none: it is nil or a number
+-- the lane holds all domains that the operation names, but a slot that has to refer to an object refers to none: it is nil or a
+-- number
 pub record LacksObject (s : State) (j : ℕ) (o : Op) : Type 0 where
   pub held : HoldsAll s j o
   pub place : Slot
   pub needed : NeedsObject o place
   pub none : (b : Birth) → slot_of s place ≢ Obj b
 
--- it holds them all, but the object has no field of that number
+-- the lane holds all domains that the operation names, but the object has no field of that number
 pub record LacksField (s : State) (j : ℕ) (o : Op) : Type 0 where
   pub held : HoldsAll s j o
   pub place : Slot
@@ -77,11 +78,11 @@ pub record LacksField (s : State) (j : ℕ) (o : Op) : Type 0 where
   pub object : slot_of s place ≡ Obj birth
   pub none : length (object_of s.made birth).fields ≤ index
 
--- one of these stands against the operation
+-- the operation is refused for one of these reasons
 abbrev pub IsRefused : State → ℕ → Op → Type 0
 IsRefused s j o = LacksDomain s j o ⊎ LacksObject s j o ⊎ LacksField s j o
 
--- the operation is there to change a field or a slot, and tells nothing
+-- the operation changes a field or a slot, and its reply has no value
 abbrev pub IsChange : Op → Type 0
 IsChange (Set p i v) = Unit {0}
 IsChange (Cut p i) = Unit {0}
@@ -90,13 +91,13 @@ IsChange (Copy p q) = Unit {0}
 IsChange (Clear p) = Unit {0}
 IsChange _ = ⊥
 
--- the reply tells the value, an object by its birth
+-- the reply has the value, an object by its birth
 abbrev pub Tells : Value → Reply → Type 0
 Tells Nil r = r ≡ reply.Nil
 Tells (Num v) r = r ≡ reply.Num v
 Tells (Obj b) r = r ≡ reply.Obj b
 
--- the reply tells the value, but of an object only that it is one
+-- the reply has the value, but of an object only that it is one
 abbrev pub TellsKind : Value → Reply → Type 0
 TellsKind Nil r = r ≡ reply.Nil
 TellsKind (Num v) r = r ≡ reply.Num v

@@ -1,3 +1,4 @@
+-- In the theorem.
 -- A run of the one-thread heap: phase after phase, in each the operations of lane 0, then those of lane 1, and so on, and
 -- then the gives.
 use Rattle.std.specs.Prelude.{ℕ, ◌+◌, ◌*◌, ◌%◌, List, [], ◌∷◌, map, replicate, take, slice_index_or}
@@ -39,13 +40,16 @@ unfoldable pub replies_to_lanes : State → ℕ → List (List Op) → List (Lis
 replies_to_lanes s j [] = []
 replies_to_lanes s j (ops ∷ lanes) = replies_to s j ops ∷ replies_to_lanes (after_ops s j ops) (j + 1) lanes
 
+-- the state after some gives, one after another
 unfoldable pub after_gives : State → List Give → State
 after_gives s [] = s
 after_gives s (g ∷ gives) = after_gives (given s g) gives
 
+-- the state after a phase: after the operations of all lanes, and then its gives
 abbrev pub after_phase : State → PhaseLists → State
 after_phase s p = after_gives (after_lanes s 0 p.lanes) p.gives
 
+-- the state after some phases
 unfoldable pub after_phases : State → List PhaseLists → State
 after_phases s [] = s
 after_phases s (p ∷ phases) = after_phases (after_phase s p) phases
@@ -55,15 +59,17 @@ unfoldable pub replies_of_phases : State → List PhaseLists → List (List (Lis
 replies_of_phases s [] = []
 replies_of_phases s (p ∷ phases) = replies_to_lanes s 0 p.lanes ∷ replies_of_phases (after_phase s p) phases
 
--- so many of the first operations of each lane
+-- the first operations of each lane, so many as the cut says
 unfoldable pub cut_lanes : List ℕ → List (List Op) → List (List Op)
 cut_lanes cut [] = []
 cut_lanes [] (ops ∷ lanes) = [] ∷ cut_lanes [] lanes
 cut_lanes (n ∷ cut) (ops ∷ lanes) = take n ops ∷ cut_lanes cut lanes
 
+-- what stands for a phase after the last one
 abbrev pub no_phase : PhaseLists
 no_phase = record { turns = []; lanes = []; gives = [] }
 
+-- phase k of a trace, counted from 0
 abbrev pub phase_at : TraceLists → ℕ → PhaseLists
 phase_at t k = slice_index_or t.phases k no_phase
 
@@ -79,6 +85,7 @@ after_cut t k cut = after_lanes (before t k) 0 (cut_lanes cut (phase_at t k).lan
 abbrev pub replies_of_cut : TraceLists → ℕ → List ℕ → List (List Reply)
 replies_of_cut t k cut = replies_to_lanes (before t k) 0 (cut_lanes cut (phase_at t k).lanes)
 
+-- the state after the whole trace
 abbrev pub final_state : TraceLists → State
 final_state t = after_phases (opening t.setup) t.phases
 

@@ -6,5 +6,6 @@ use Rattle.bc_model.specs.Lists.{PhaseLists, TraceLists}
 abbrev pub ops_of : PhaseLists → ℕ
 ops_of p = sum_by length p.lanes
 
+-- how many operations a trace has
 abbrev pub all_ops_of : TraceLists → ℕ
 all_ops_of t = sum_by ops_of t.phases

@@ -1,3 +1,4 @@
+-- In the theorem.
 -- The abstract state of a run: objects that are never forgotten, root slots, and holders.
 use Rattle.std.specs.Prelude.{ℕ, ◌+◌, ◌-◌, ◌*◌, ◌<◌, ◌==◌, Bool, List, [], ◌∷◌, ◌++◌, length, slice_index_or, slice_index, slice_set, zero, suc}
 use Rattle.bc_model.specs.declared.traces.Give.{Give}
@@ -20,6 +21,7 @@ pub record State : Type 0 where
   pub slots : List Value
   pub holders : List ℕ
 
+-- what stands for an object that was never born
 abbrev pub no_object : Object
 no_object = record { domain = 0; fields = [] }
 
@@ -33,10 +35,11 @@ pub record IsBorn (made : List (List Object)) (b : Birth) : Type 0 where
   pub positive : 0 < b.serial
   pub serial : b.serial < length (made_by made b.lane) + 1
 
+-- the object of a birth
 abbrev pub object_of : List (List Object) → Birth → Object
 object_of made b = slice_index_or (made_by made b.lane) (b.serial - 1) no_object
 
--- the same objects, but another in the place of a birth
+-- the objects with another one in the place of a birth
 abbrev pub with_born : List (List Object) → Birth → Object → List (List Object)
 with_born made b o = slice_set made b.lane (slice_set (made_by made b.lane) (b.serial - 1) o)
 
@@ -44,6 +47,7 @@ with_born made b o = slice_set made b.lane (slice_set (made_by made b.lane) (b.s
 abbrev pub with_made : List (List Object) → ℕ → Object → List (List Object)
 with_made made j o = slice_set made j (made_by made j ++ o ∷ [])
 
+-- the birth of the lane's next object
 abbrev pub next_birth : List (List Object) → ℕ → Birth
 next_birth made j = record { lane = j; serial = length (made_by made j) + 1 }
 
@@ -51,12 +55,15 @@ next_birth made j = record { lane = j; serial = length (made_by made j) + 1 }
 abbrev pub place_of : ℕ → Slot → ℕ
 place_of width p = width * p.domain + p.slot
 
+-- what a root slot holds
 abbrev pub slot_of : State → Slot → Value
 slot_of s p = slice_index_or s.slots (place_of s.width p) Nil
 
+-- the state with this value in a root slot
 abbrev pub with_slot : State → Slot → Value → State
 with_slot s p v = record s { slots = slice_set s.slots (place_of s.width p) v }
 
+-- what a field of an object holds
 abbrev pub field_of : State → Birth → ℕ → Value
 field_of s b i = slice_index_or (object_of s.made b).fields i Nil
 

@@ -3,8 +3,8 @@ use Rattle.std.specs.Prelude.{◌≡◌, ℕ, ◌+◌, ◌^◌, ◌<◌, length}
 use Rattle.bc_model.specs.State.{State, made_by}
 use Rattle.bc_model.specs.declared.traces.Setup.{Setup}
 
--- the setup of a state: its lanes, its domains and the root slots of each, which is what operations and phases have to
--- fit. A state tells no more of the setup that it began with.
+-- the setup of a state: its lanes, its domains and the root slots of each, which is what operations and phases have to fit. A
+-- state knows no more of the setup that it began with
 abbrev pub sizes_of : State → Setup
 sizes_of s = record {
   lanes = length s.made;

@@ -1,3 +1,4 @@
+-- In the theorem.
 -- What an operation does, and what it is answered. The tests come in this order, and the first that holds gives the
 -- reply and leaves the state as it was: a domain that the operation names isn't the lane's; the slot holds no object; the
 -- object's domain isn't the lane's; the object has no such field.
@@ -32,12 +33,12 @@ on_object s j (Obj b) act = if holds s j (object_of s.made b).domain then act b 
 on_object s j Nil act = (s, reply.NotObj)
 on_object s j (Num v) act = (s, reply.NotObj)
 
--- and the object has the field
+-- the slot holds an object of a domain of the lane's that has the field, or the reply says what is wrong
 abbrev pub on_field : State → ℕ → Value → ℕ → (Birth → State × Reply) → State × Reply
 on_field s j v i act =
     on_object s j v (λ b. if nat_lt i (length (object_of s.made b).fields) then act b else (s, reply.Range))
 
--- what a slot holds, told to a lane
+-- the reply about what a slot holds
 abbrev pub told : State → ℕ → Value → Reply
 told s j Nil = reply.Nil
 told s j (Num v) = reply.Num v
@@ -49,6 +50,7 @@ loaded Nil = reply.Nil
 loaded (Num v) = reply.Num v
 loaded (Obj b) = reply.Ref
 
+-- two values are the same
 abbrev pub is_same : Value → Value → Bool
 is_same Nil Nil = true
 is_same (Num v) (Num w) = v == w
@@ -74,5 +76,6 @@ act s j (op.Copy p q) = (with_slot s q (slot_of s p), reply.Done)
 act s j (op.Clear p) = (with_slot s p Nil, reply.Done)
 act s j (op.Same p q) = (s, if is_same (slot_of s p) (slot_of s q) then reply.Yes else reply.No)
 
+-- a step: the new state and the reply of a lane's operation
 abbrev pub step : State → ℕ → Op → State × Reply
 step s j o = if list_all (holds s j) (domains_of o) then act s j o else (s, reply.Foreign)

@@ -1,3 +1,4 @@
+-- In the theorem.
 -- What a trace may say: its setup is within the ranges, and its phases and operations fit the setup.
 use Rattle.std.specs.Prelude.{◌≡◌, ℕ, ◌+◌, ◌*◌, ◌^◌, ◌<◌, ◌≤◌, List, length}
 use Rattle.std.specs.List.{AllByRecursion}
@@ -47,6 +48,7 @@ IsOp s (Copy p q) = IsSlot s p × IsSlot s q
 IsOp s (Clear p) = IsSlot s p
 IsOp s (Same p q) = IsSlot s p × IsSlot s q
 
+-- a give names a domain and a lane of the setup
 abbrev pub IsGive : Setup → Give → Type 0
 IsGive s g = (g.domain < s.domains) × (g.lane < s.lanes)
 
@@ -61,6 +63,7 @@ pub record IsPhase (s : Setup) (p : PhaseLists) : Type 0 where
   pub ops : AllByRecursion (AllByRecursion (IsOp s)) p.lanes
   pub gives : AllByRecursion (IsGive s) p.gives
 
+-- a trace is well formed: its setup is in its ranges, and each phase fits the setup
 pub record IsTrace (t : TraceLists) : Type 0 where
   pub setup : IsSetup t.setup
   pub phases : AllByRecursion (IsPhase t.setup) t.phases

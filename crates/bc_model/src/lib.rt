@@ -11,7 +11,7 @@
 // number of fields is in range, and every domain is a lane's.
 //
 // The theorem stands on `Flat::step`, `Flat::give` and `Flat::phase`: they do exactly what the definitions say,
-// and for want of memory nothing. The laws in `laws` say what the definitions mean: lanes commute in
+// and where memory runs out nothing. The laws in `laws` say what the definitions mean: lanes commute in
 // any order, objects stay, a lane touches its own domains alone, and each operation is refused for just the
 // reasons that `specs/Refused.antt` names and has its answer everywhere else. They also say what an operation that
 // is done leaves in the slot or the field that it writes (`specs/Changes.antt`), and that all else stays as it was.

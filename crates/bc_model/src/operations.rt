@@ -62,7 +62,7 @@ pub enum Reply {
     Done,
     Nil,
     Num(u64),
-    /// A reference, of which the birth isn't told.
+    /// A reference. Its birth isn't part of the reply.
     Ref,
     Len(u32),
     Yes,

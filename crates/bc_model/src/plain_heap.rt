@@ -227,7 +227,7 @@ impl Flat {
         }
     }
 
-    /// The same, if the object has the field.
+    /// Acts on a field of the slot's object, if the object has the field.
     fn object_with_field(&self, lane: u32, value: Value, index: u32) -> Result<Birth, Reply>
         requires { IsValue self.now.made value }
         ensures found { IfOk result (IsBorn self.now.made) }

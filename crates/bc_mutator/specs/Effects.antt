@@ -94,7 +94,7 @@ IsRecordedBy holders lane s roots chunk (Copy p q) reply b e states = RecordsNot
 IsRecordedBy holders lane s roots chunk (Clear p) reply b e states = RecordsNothing b e s.states states
 IsRecordedBy holders lane s roots chunk (Same p q) reply b e states = RecordsNothing b e s.states states
 
--- the same of a heap before and after the operation
+-- what an operation that is answered the reply records, of a heap before and after it
 abbrev pub HasRecorded : HeapView → HeapView → List ℕ → ℕ → Op → Reply → Type 0
 HasRecorded old new holders lane op reply =
     IsRecordedBy holders lane old.space old.roots (own_chunk old lane) op reply (buffer_of old.buffers lane) (buffer_of new.buffers lane) new.space.states
@@ -139,7 +139,7 @@ IsChangedBy holders lane serial m n roots (Copy p q) reply = n ≡ m
 IsChangedBy holders lane serial m n roots (Clear p) reply = n ≡ m
 IsChangedBy holders lane serial m n roots (Same p q) reply = n ≡ m
 
--- the same of a heap before and after the operation
+-- what an operation that is answered the reply does to the heap as one memory, of a heap before and after it
 abbrev pub HasChanged : HeapView → HeapView → List ℕ → ℕ → ℕ → Op → Reply → Type 0
 HasChanged old new holders lane serial op reply = IsChangedBy holders lane serial (whole_memory old) (whole_memory new) old.roots op reply
 
@@ -157,20 +157,20 @@ pub record DoesAs (does : State → State × Reply) (old new : HeapView) (holder
   pub recorded : HasRecorded old new holders lane op reply
   pub changed : HasChanged old new holders lane serial op reply
 
--- so does one of a lane that holds all domains that the operation names
+-- what an operation of a lane that holds all domains that it names does to the heap and is answered
 abbrev pub DidAct : HeapView → HeapView → List ℕ → ℕ → ℕ → ℕ → Op → Reply → Type 0
 DidAct old new holders lane serial next op reply = DoesAs (λ state. act state lane op) old new holders lane serial next op reply
 
--- and so does any
+-- what an operation of a lane does to the heap and is answered
 abbrev pub DidOperation : HeapView → HeapView → List ℕ → ℕ → ℕ → ℕ → Op → Reply → Type 0
 DidOperation old new holders lane serial next op reply = DoesAs (λ state. step state lane op) old new holders lane serial next op reply
 
--- this page is Remembered, and nothing else of the space changes
+-- this page becomes Remembered, and nothing else of the space changes
 pub record Remembers (s t : Layout) (page : ℕ) : Type 0 where
   pub space : t ≡ record s { states = t.states }
   pub states : BecomesRemembered s.states t.states page
 
--- the word refers to an address behind the superpages
+-- the word refers to an address past the superpages
 pub record RefersBehind (s : Layout) (word : Word) : Type 0 where
   pub to : Address
   pub refers : word ≡ Ref to
@@ -180,7 +180,7 @@ pub record RefersBehind (s : Layout) (word : Word) : Type 0 where
 abbrev pub RefersBelow : Layout → Word → Type 0
 RefersBelow s word = (to : Address) → word ≡ Ref to → to.0 < end_of s
 
--- where the word refers behind the superpages the field is recorded, and else nothing is
+-- where the word refers past the superpages the field is recorded, and else nothing is
 abbrev pub Records : Layout → Layout → Entries → Entries → Address → ℕ → Word → Type 0
 Records s t b e cell index word =
     (RefersBelow s word × RecordsNothing b e s.states t.states)
@@ -194,38 +194,42 @@ pub record WroteCell (s t : Layout) (b e : Entries) (cell : Address) (index : �
   pub entry : Records s t b e cell index word
   pub here : is_gone (state_at s.states (page_of cell.0)) ≡ false
 
--- a field of an object is written: of a cell, or of an object of the lane's chunk. The space, the chunk and the buffer were
--- s, c and b, and are t, d and e
+-- a field of a cell is written. The space, the chunk and the buffer were s, c and b, and are t, d and e
 pub record WritesCell (s t : Layout) (c d : Nursery) (b e : Entries) (at : Address) (index : ℕ) (word : Word) : Type 0 where
   pub below : at.0 < end_of s
   pub cell : WroteCell s t b e at index word
   pub chunk : d ≡ c
 
+-- a field of an object of the lane's chunk is written, and nothing else. The space, the chunk and the buffer were s, c and b, and
+-- are t, d and e
 pub record WritesYoung (s t : Layout) (c d : Nursery) (b e : Entries) (at : Address) (index : ℕ) (word : Word) : Type 0 where
   pub behind : end_of s ≤ at.0
   pub chunk : d ≡ nursery.changed c at.0 (nursery.with_young_field index word)
   pub space : t ≡ s
   pub buffer : e ≡ b
 
+-- a field of an object is written: of a cell, or of an object of the lane's chunk
 abbrev pub StoresWord : Layout → Layout → Nursery → Nursery → Entries → Entries → Address → ℕ → Word → Type 0
 StoresWord s t c d b e at index word = WritesCell s t c d b e at index word ⊎ WritesYoung s t c d b e at index word
 
--- the same of a whole heap
+-- a field of a cell of the heap was written
 pub record WroteMature (old new : HeapView) (lane : ℕ) (at : Address) (index : ℕ) (word : Word) : Type 0 where
   pub below : at.0 < end_of old.space
   pub cell : WroteCell old.space new.space (buffer_of old.buffers lane) (buffer_of new.buffers lane) at index word
   pub buffers : new.buffers ≡ slice_set old.buffers lane (buffer_of new.buffers lane)
   pub rest : new ≡ record old { space = new.space; buffers = new.buffers }
 
+-- a field of an object of the lane's chunk was written, and nothing else
 pub record WroteYoung (old new : HeapView) (lane : ℕ) (at : Address) (index : ℕ) (word : Word) : Type 0 where
   pub behind : end_of old.space ≤ at.0
   pub chunks : new.chunks ≡ slice_set old.chunks lane (nursery.changed (own_chunk old lane) at.0 (nursery.with_young_field index word))
   pub rest : new ≡ record old { chunks = new.chunks }
 
+-- a field of an object was written, in a cell or in the lane's chunk
 abbrev pub Wrote : HeapView → HeapView → ℕ → Address → ℕ → Word → Type 0
 Wrote old new lane at index word = WroteMature old new lane at index word ⊎ WroteYoung old new lane at index word
 
--- a word that refers behind the superpages isn't written to a cell, since the lane's buffer is at capacity
+-- a word that refers past the superpages isn't written to a cell, since the lane's buffer is at capacity
 pub record FindsFull (s : Layout) (buffer : Entries) (at : Address) (word : Word) : Type 0 where
   pub below : at.0 < end_of s
   pub young : RefersBehind s word
@@ -238,11 +242,11 @@ Writes h holders lane p index word op =
     → (v : Value) × IsRead (whole_memory h) state word v
     × (act state lane op ≡ on_field state lane (slot_of state p) index (λ b. (value_in_field state b index v, Done)))
 
--- the slot refers to such a field of a cell, and the word refers behind the superpages
+-- the slot refers to a field of a cell, and the word refers past the superpages
 abbrev pub StoresAt : HeapView → List ℕ → ℕ → Slot → ℕ → Word → Type 0
 StoresAt h holders lane p index word = RefersToField holders lane h.space h.roots p index × RefersBehind h.space word
 
--- the same, and the lane's buffer is at capacity
+-- the slot refers to a field of a cell, the word refers past the superpages, and the lane's buffer is at capacity
 abbrev pub StopsAt : HeapView → List ℕ → ℕ → Slot → ℕ → Word → Type 0
 StopsAt h holders lane p index word =
     StoresAt h holders lane p index word × (length (buffer_of h.buffers lane).entries ≡ (buffer_of h.buffers lane).capacity)

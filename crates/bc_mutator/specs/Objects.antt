@@ -29,10 +29,11 @@ use Rattle.bc_word.specs.declared.words.Word.{Word}
 use Rattle.bc_word.specs.declared.words.Word.TheVariants.{Nil, Num, Ref}
 use Rattle.bc_word.specs.Words.{word_of_bits}
 
--- the chunk of a lane, and the heap as a memory
+-- the chunk of a lane
 abbrev pub own_chunk : HeapView → ℕ → Nursery
 own_chunk h lane = chunk_of h.chunks lane
 
+-- the heap as one memory: cells, and the objects of all chunks
 abbrev pub whole_memory : HeapView → Memory
 whole_memory h = heap_memory h.space h.chunks
 
@@ -40,7 +41,7 @@ whole_memory h = heap_memory h.space h.chunks
 abbrev pub AreWhole : List Nursery → Type 0
 AreWhole chunks = (l : ℕ) → l < length chunks → IsChunk (chunk_of chunks l)
 
--- the chunk's objects lie behind the superpages
+-- the chunk's objects lie past the superpages
 abbrev pub LieBehind : Layout → Nursery → Type 0
 LieBehind s chunk = (a : ℕ) → has_object chunk a ≡ true → end_of s ≤ a
 
@@ -89,18 +90,19 @@ ActsOn h holders lane word a =
     (serials : List ℕ) → (state : State) → (v : Value) → StandsAs h holders serials state → IsRead (whole_memory h) state word v
     → (next : Birth → State × Reply) → on_object state lane v next ≡ next (birth_of (cell_of h.space (own_chunk h lane) a.0).head)
 
--- or it changes nothing, and is answered this
+-- an operation on what the word is read as changes nothing, and is answered this
 abbrev pub Refuses : HeapView → List ℕ → ℕ → Word → Reply → Type 0
 Refuses h holders lane word reply =
     (serials : List ℕ) → (state : State) → (v : Value) → StandsAs h holders serials state → IsRead (whole_memory h) state word v
     → (next : Birth → State × Reply) → on_object state lane v next ≡ (state, reply)
 
--- the same of an operation on a field
+-- an operation on this field of what the word is read as is done to the object at this address
 abbrev pub ActsOnField : HeapView → List ℕ → ℕ → Word → ℕ → Address → Type 0
 ActsOnField h holders lane word index a =
     (serials : List ℕ) → (state : State) → (v : Value) → StandsAs h holders serials state → IsRead (whole_memory h) state word v
     → (next : Birth → State × Reply) → on_field state lane v index next ≡ next (birth_of (cell_of h.space (own_chunk h lane) a.0).head)
 
+-- the reply refuses the field: no object, another lane's, or no such field
 abbrev pub RefusesField : HeapView → List ℕ → ℕ → Word → ℕ → Reply → Type 0
 RefusesField h holders lane word index reply =
     (serials : List ℕ) → (state : State) → (v : Value) → StandsAs h holders serials state → IsRead (whole_memory h) state word v

@@ -22,26 +22,27 @@ use Rattle.bc_word.specs.declared.words.Word.TheVariants.{Ref}
 use Rattle.bc_mutator.specs.Objects.{LieBehind, IsOwn, MayOperate, cell_of, own_chunk, slot_word}
 use Rattle.bc_mutator.specs.Operations.{IsOpOf, setup_of}
 
--- an allocated cell of the space, and a field of it
+-- the cell is allocated in the space
 pub record HasAllocated (s : Layout) (cell : ℕ) : Type 0 where
   pub layout : IsLayout s
   pub allocated : IsAllocated s cell
 
+-- the cell is allocated in the space, and has the field
 pub record HasField (s : Layout) (cell index : ℕ) : Type 0 where
   pub layout : IsLayout s
   pub allocated : IsAllocated s cell
   pub within : index < fields_at s cell
 
--- what a field of the cell may refer to: an allocated cell, and behind the superpages only where the cell's page is Remembered
+-- what a field of the cell may refer to: an allocated cell, and past the superpages only where the cell's page is Remembered
 abbrev pub MayHold : Layout → ℕ → Word → Type 0
 MayHold s cell word =
     (to : Address) → word ≡ Ref to → IsAllocated s to.0 ⊎ ((end_of s ≤ to.0) × (state_at s.states (page_of cell) ≡ Remembered))
 
--- the word refers to an allocated cell or behind the superpages, if to anything
+-- the word refers to an allocated cell or past the superpages, if to anything
 abbrev pub IsCellOrBehind : Layout → Word → Type 0
 IsCellOrBehind s word = (to : Address) → word ≡ Ref to → IsAllocated s to.0 ⊎ (end_of s ≤ to.0)
 
--- the space may be the one that the cells belong to, and the lane's chunk lies behind it
+-- the space may be the one that the cells belong to, and the lane's chunk lies past it
 pub record IsSpaceOf (cells : Layout → Type 0) (chunk : Nursery) (s : Layout) : Type 0 where
   pub shown : cells s
   pub layout : IsLayout s
@@ -57,11 +58,11 @@ pub record CanStore (s : Layout) (chunk : Nursery) (at : Address) (index : ℕ) 
 abbrev pub IsInHand : (Layout → Type 0) → (ℕ → Type 0) → Address → Type 0
 IsInHand cells hand at = (s : Layout) → cells s → at.0 < end_of s → hand (page_of at.0)
 
--- so is what the word refers to, if anything
+-- if what the word refers to lies in the superpages, its page is in hand
 abbrev pub LeadsToHand : (Layout → Type 0) → (ℕ → Type 0) → Word → Type 0
 LeadsToHand cells hand word = (at : Address) → word ≡ Ref at → IsInHand cells hand at
 
--- and what the slot refers to
+-- if what the slot refers to lies in the superpages, its page is in hand
 abbrev pub SlotLeadsToHand : (Layout → Type 0) → (RootWords → Type 0) → (ℕ → Type 0) → Slot → Type 0
 SlotLeadsToHand cells slots hand p = (r : RootWords) → slots r → LeadsToHand cells hand (slot_word r p)
 
@@ -105,14 +106,14 @@ pub record IsPartOf (cells : Layout → Type 0) (slots : RootWords → Type 0) (
   pub chunk_is : own_chunk h lane ≡ chunk
   pub buffer_is : buffer_of h.buffers lane ≡ buffer
 
--- and the lane may write the word there to a field of the slot's object
+-- the parts belong to the whole heap, and the lane may write the word there to a field of the slot's object
 pub record ServesField (cells : Layout → Type 0) (slots : RootWords → Type 0) (chunk : Nursery) (buffer : Entries) (holders : List ℕ) (lane : ℕ) (p : Slot) (word : Word) (h : HeapView) : Type 0 where
   pub ready : MayOperate h holders lane
   pub slot : IsSlot (setup_of h.roots) p
   pub own : IsOwn h.space chunk word
   pub part : IsPartOf cells slots chunk buffer lane h
 
--- or do the operation
+-- the parts belong to the whole heap, and the lane may do the operation there
 pub record Serves (cells : Layout → Type 0) (slots : RootWords → Type 0) (chunk : Nursery) (buffer : Entries) (holders : List ℕ) (lane : ℕ) (op : Op) (h : HeapView) : Type 0 where
   pub ready : MayOperate h holders lane
   pub fits : IsOpOf h.roots op

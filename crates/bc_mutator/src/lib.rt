@@ -1,7 +1,7 @@
 // One operation of a lane.
 //
 // A lane does its operations over what it has in hand of a heap: mature cells, root slots, the chunk in which it makes its
-// objects, and its write buffer (`operate_parts`). Where cells and slots lie is told by two traits, `Cells` and `RootSlots`.
+// objects, and its write buffer (`operate_parts`). Two traits say where cells and slots lie, `Cells` and `RootSlots`.
 // A space is `Cells`, and so may a page of one be; a heap's `Roots` are `RootSlots`, and so may those of a lane be. In
 // proofs each has one meaning, `shows`: the whole spaces, or the root words of all domains, that they may belong to. What a
 // call of them answers and does is said of every one of these, so an operation is written and proved once.
@@ -21,7 +21,7 @@
 // Between operations the heap is closed (`IsRunning`, `IsClosedHeap`). Words of a domain, be they root words or fields,
 // refer to cells, and to the chunk of the one lane that holds the domain. So whatever a lane comes to, from its slots on,
 // is a cell or an object of its own chunk (`IsCellOrYoung`), and one comparison of the address with the end of the
-// superpages tells which (`home_of`). A reference from a cell to the chunk is recorded: before it is written the field goes
+// superpages says which (`home_of`). A reference from a cell to the chunk is recorded: before it is written the field goes
 // into the lane's write buffer, and the cell's page is Remembered from then on. So what the root slots of the lane's
 // domains, the write buffer and the chunk itself hold are all the references to the chunk. Where a recorded field is
 // written again its entry stays, so an entry may name a field that refers to no chunk.

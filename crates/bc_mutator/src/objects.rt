@@ -45,7 +45,7 @@ pub(crate) fn object<C: Cells>(
     }
 }
 
-/// The same, if the object has the field.
+/// Finds the slot's object, if it has the field.
 pub(crate) fn object_with_field<C: Cells>(
     cells: &C,
     chunk: &Chunk,

@@ -18,7 +18,7 @@ use bc_word::{Address, Head, Word};
 pub(crate) enum Home {
     /// In a cell of a superpage.
     Cell,
-    /// In the lane's chunk, behind the superpages.
+    /// In the lane's chunk, past the superpages.
     Chunk,
 }
 

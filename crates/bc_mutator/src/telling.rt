@@ -1,4 +1,4 @@
-//! What a lane is told that asks about its slots.
+//! The answers to a lane that asks about its slots.
 
 ghost use Rattle.std.specs.Prelude.{◌≡◌, ◌≢◌, ◌⊎◌, slice_index};
 ghost use Rattle.bc_model.specs.declared.operations.Op.TheVariants.{Who, Len, Same};

@@ -70,18 +70,19 @@ AreAnsweredSince k (hint ∷ hints) (answer ∷ answers) [] v w = ⊥
 AreAnsweredSince k (hint ∷ hints) (answer ∷ answers) (given ∷ views) v w =
     (given ≡ v) × (u : View) × IsAnswer k given hint answer u × AreAnsweredSince k hints answers views u w
 
--- does the answer say that the page was made Gone, or Absent?
+-- the answer says that the page was made Gone: 1 if it does, else 0
 abbrev pub says_evicted : ℕ → Answer → ℕ
 says_evicted page (Discarded other) = 0
 says_evicted page (Evicted other) = one_if (other == page)
 says_evicted page Declined = 0
 
+-- the answer says that the page was made Absent: 1 if it does, else 0
 abbrev pub says_discarded : ℕ → Answer → ℕ
 says_discarded page (Discarded other) = one_if (other == page)
 says_discarded page (Evicted other) = 0
 says_discarded page Declined = 0
 
--- does it say that no page could be had?
+-- the answer says that no page could be taken: 1 if it does, else 0
 abbrev pub says_declined : Answer → ℕ
 says_declined (Discarded other) = 0
 says_declined (Evicted other) = 0

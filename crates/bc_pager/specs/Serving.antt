@@ -17,17 +17,18 @@ pub record KeptAnswers : Type 0 where
   pub list : List Answer
   pub room : ℕ
 
--- the views that a seat had when notices were given to it, in order: not told, or with these behind them, where they are told
+-- the views that a seat had when notices were given to it aren't known
 abbrev pub untold : Option (List View)
 untold = None
 
+-- the views that a seat had when notices were given to it, in order, with these after them, where they are known
 abbrev pub told_with : Option (List View) → List View → Option (List View)
 told_with None views = None
 told_with (Some before) views = Some (before ++ views)
 
--- the notices that were taken in a call, of which the hints were told, have each its answer, behind those that were kept before. Each
--- answer begins at the view that the seat had when its notice was given, where these views are told. No page was made Gone or Absent
--- but those that the answers name, each once
+-- each of the notices that were taken in a call, whose hints may be known, has its answer, after those that were kept before.
+-- Each answer begins at the view that the seat had when its notice was given, where these views are known. No page was made Gone
+-- or Absent but those that the answers name, each once
 pub record HasServed (k : Key) (told more_told : List ℕ) (given more_given : Option (List View)) (old new : KeptAnswers) (v w : View) : Type 0 where
   pub hints : List ℕ
   pub answers : List Answer

@@ -11,6 +11,7 @@ pub record Stream : Type 0 where
   pub faults : ℕ
   pub waiting : List ℕ
 
+-- a sink and what waits for it, from its parts
 abbrev pub stream_of : Option (List ℕ) → Option ℕ → ℕ → List ℕ → Stream
 stream_of held room faults waiting = record { held = held; room = room; faults = faults; waiting = waiting }
 
@@ -18,7 +19,7 @@ stream_of held room faults waiting = record { held = held; room = room; faults =
 abbrev pub HasStreamRoom : Stream → List ℕ → Type 0
 HasStreamRoom s bytes = HasRoom s.room (length (s.waiting ++ bytes))
 
--- these bytes were put behind those that waited: the sink took the first of them all, and the others wait
+-- these bytes were put after those that waited: the sink took the first of them all, and the others wait
 pub record Puts (s t : Stream) (bytes : List ℕ) : Type 0 where
   pub taken : List ℕ
   pub whole : s.waiting ++ bytes ≡ taken ++ t.waiting

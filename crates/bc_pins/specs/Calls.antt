@@ -1,4 +1,4 @@
--- What the calls of a table require and tell.
+-- What the calls of a table require and return.
 use Rattle.std.specs.Prelude.{◌≡◌, ℕ, ◌-◌, ◌^◌, ◌<◌, ◌⊎◌, length, min, Bool, true, false, if◌then◌else◌, List, [], Some, None}
 use Rattle.bc_bookmarks.specs.Targets.{HasCell}
 use Rattle.bc_pins.specs.declared.key.Role.{Role}
@@ -20,13 +20,15 @@ use Rattle.bc_pins.specs.Contents.{IsBarePage, IsContent, RefersYoung}
 use Rattle.bc_pins.specs.Views.{has_role}
 use Rattle.bc_pins.specs.Steps.{both_slots, gripping, having_read, released}
 
--- what the table was told, what a seat knows, and the slots that are out with it
+-- the key of a table
 abbrev pub key_of : Pins → Key
 key_of pins = pins.table.shared.key
 
+-- what a seat knows
 abbrev pub view_of : Seat → View
 view_of seat = seat.inner.me.0
 
+-- the slots that are out with a seat
 abbrev pub slots_of : Seat → List (ℕ × Lodged)
 slots_of seat = seat.inner.me.1
 
@@ -48,7 +50,7 @@ pub record IsSameSeat (old new : Seat) : Type 0 where
   pub roles : (view_of new).roles ≡ (view_of old).roles
   pub fetched : (view_of new).fetched ≡ (view_of old).fetched
 
--- the same of a call that may take a page from Gone, or open a box
+-- a call that may take a page from Gone, or open a box, leaves the seat that seat, with its role
 pub record IsSameWorker (old new : Seat) : Type 0 where
   pub table : new.inner.table_id ≡ old.inner.table_id
   pub id : new.inner.id ≡ old.inner.id
@@ -75,16 +77,18 @@ pub record HoldsPage (seat : Seat) (held : Held) : Type 0 where
   pub frame : hand.frame ≡ held.homed.frame
   pub slots : slots_of seat ≡ both_slots (view_of seat).about held.page Nothing Nothing
 
--- and just as it was taken, by a seat whose view was v
+-- the seat has this page in hand just as it was taken, by a seat whose view was v
 pub record Grasps (v : View) (seat : Seat) (page : ℕ) (held : Held) : Type 0 where
   pub is : held.page ≡ page
   pub view : view_of seat ≡ gripping v page held.remembered held.homed
   pub slots : slots_of seat ≡ both_slots v.about page Nothing Nothing
 
--- who may work on a page: a marker in a mark turn, and in a turn of lanes the lane that holds the page's domain
+-- the role is a marker's
 abbrev pub IsMarker : Role → Type 0
 IsMarker role = (m : ℕ) × (role ≡ Marker m)
 
+-- who may take a page: to work on it a marker in a mark turn, and in a turn of lanes the lane that holds its domain; to evict it
+-- anybody
 abbrev pub MayWork : Seat → ℕ → Want → Type 0
 MayWork seat page Work = let v : View = view_of seat in (v.about.lanes ≡ false → IsMarker seat.role) × (v.about.lanes ≡ true → 0 < has_role v (owner v.about page))
 MayWork seat page Victim = Unit {0}
@@ -98,7 +102,7 @@ tried v page Victim remembered = v
 abbrev pub IsPlainVictim : Want → Held → Type 0
 IsPlainVictim want held = want ≡ Victim → held.remembered ≡ false
 
--- the word that each refusal tells
+-- the word of a page by which each refusal comes
 abbrev pub refusal_word : TakeNo → ℕ
 refusal_word Absent = 0
 refusal_word Remembered = 2
@@ -117,6 +121,7 @@ pub record IsTakeRefused (v : View) (page : ℕ) (want : Want) (no : TakeNo) (w 
   pub bare : no ≡ Absent → IsBarePage v.about.opening page
   pub there : no ≡ Gone → HasCell v.about.opening page
 
+-- the seat read the page's word as Remembered
 abbrev pub WasSeen : View → ℕ → Type 0
 WasSeen v page = 0 < times page v.seen
 

@@ -79,7 +79,7 @@ pub record Gathered (id : TableId) (k : Key) (all front : List Seat) (root : Wor
 abbrev pub fetches_of : List Seat → ℕ
 fetches_of seats = total (λ (seat : Seat). length (view_of seat).fetched) seats
 
--- the states of the first pages are those that words tell, and nothing else of the headers changed
+-- the states of the first pages are those of the words, and nothing else of the headers changed
 pub record StatesSet (old new : List Header) (pages : ℕ) (words : List ℕ) : Type 0 where
   pub long : length new ≡ length old
   pub near : (p : ℕ) → p < pages → state_word (state_in new p) ≡ slice_index words (page_at p)
@@ -87,19 +87,20 @@ pub record StatesSet (old new : List Header) (pages : ℕ) (words : List ℕ) : 
   pub else_same : (q : ℕ) → slice_index_or new q unused_header ≡ record (slice_index_or old q unused_header) { pages = (slice_index_or new q unused_header).pages }
   pub states_long : (q : ℕ) → length (slice_index_or new q unused_header).pages ≡ length (slice_index_or old q unused_header).pages
 
--- the header has the counter and the first bookmark words, of sixteen, that the table's words tell of its superpage
+-- the header has the counter and the first bookmark words, of sixteen, that the table's words have for its superpage
 pub record SummarySet (old new : Header) (superpage superpages : ℕ) (words : List ℕ) (count : ℕ) : Type 0 where
   pub same : new ≡ record old { incoming = slice_index words (16 * superpages + superpage); bookmarks = new.bookmarks }
   pub long : length new.bookmarks ≡ 16
   pub fits : AreWords new.bookmarks
   pub bits : (j : ℕ) → j < count → slice_index new.bookmarks j ≡ slice_index words (17 * superpages + (16 * superpage + j))
 
--- the first headers have, in a table of so many superpages
+-- the headers below this count have their counters and bookmarks from a table of so many superpages
 pub record SummariesBelow (old new : List Header) (count superpages : ℕ) (words : List ℕ) : Type 0 where
   pub long : length new ≡ length old
   pub near : (q : ℕ) → q < count → SummarySet (slice_index_or old q unused_header) (slice_index_or new q unused_header) q superpages words 16
   pub far : (q : ℕ) → count ≤ q → slice_index_or new q unused_header ≡ slice_index_or old q unused_header
 
+-- all headers of the table's superpages have their counters and bookmarks from its words
 abbrev pub SummariesSet : List Header → List Header → ℕ → List ℕ → Type 0
 SummariesSet old new superpages words = SummariesBelow old new superpages superpages words
 
@@ -109,7 +110,7 @@ pub record PoolSet (old new : List Bool) (count start : ℕ) (words : List ℕ) 
   pub near : (f : ℕ) → f < count → is_free new f ≡ (bit_at (slice_index words (start + f / 64)) (f % 64) == 0)
   pub far : (f : ℕ) → count ≤ f → is_free new f ≡ is_free old f
 
--- states, counters and bookmarks are those that the table's words tell, and nothing else of the headers changed
+-- states, counters and bookmarks are those of the table's words, and nothing else of the headers changed
 pub record HeadersSet (k : Key) (old new : List Header) (words : List ℕ) : Type 0 where
   pub long : length new ≡ length old
   pub near : (p : ℕ) → p < pages_of k → state_word (state_in new p) ≡ slice_index words (page_at p)
@@ -177,7 +178,7 @@ pub record Closed (k : Key) (seats : List Seat) (s : Layout) : Type 0 where
   pub young : (p : ℕ) → p < pages_of k → RefersYoung k.opening p (content_at s.pages p) → state_at s.states p ≡ state.Remembered
   pub openable : IsOpenable k.opening → IsOpenable s
 
--- the header has the first marks and finished words, of sixteen, that words tell of its superpage from a place on
+-- the header has the first marks and finished words, of sixteen, that words have for its superpage from a place on
 pub record MarksSet (old new : Header) (superpage superpages start : ℕ) (words : List ℕ) (count : ℕ) : Type 0 where
   pub same : new ≡ record old { marks = new.marks; finished = new.finished }
   pub marks_set : IsCellSet new.marks
@@ -191,7 +192,7 @@ pub record MarksBelow (old new : List Header) (count superpages start : ℕ) (wo
   pub near : (q : ℕ) → q < count → MarksSet (slice_index_or old q unused_header) (slice_index_or new q unused_header) q superpages start words 16
   pub far : (q : ℕ) → count ≤ q → slice_index_or new q unused_header ≡ slice_index_or old q unused_header
 
--- a space's parts with the marks and finished words that words tell from a place on
+-- a space's parts with the marks and finished words of a list of words from a place on
 pub record LaysMarks (old new : SpaceParts) (superpages start : ℕ) (words : List ℕ) : Type 0 where
   pub kept : AreParts new
   pub same : parts_layout new ≡ record (parts_layout old) { marks = (parts_layout new).marks; finished = (parts_layout new).finished }
@@ -199,7 +200,7 @@ pub record LaysMarks (old new : SpaceParts) (superpages start : ℕ) (words : Li
   pub finished : (w : ℕ) → w < 16 * superpages → slice_index (set_of (parts_layout new).finished (w / 16)) (w % 16) ≡ slice_index words (start + (16 * superpages + w))
   pub behind : (q : ℕ) → superpages ≤ q → (set_of (parts_layout new).marks q ≡ set_of (parts_layout old).marks q) × (set_of (parts_layout new).finished q ≡ set_of (parts_layout old).finished q)
 
--- the same, of the space that is put together of the parts
+-- the space that is put together of parts has the marks and finished words of a list of words from a place on
 pub record LaidSpace (old s : Layout) (superpages start : ℕ) (words : List ℕ) : Type 0 where
   pub layout : IsLayout s
   pub same : s ≡ record old { marks = s.marks; finished = s.finished }

@@ -22,12 +22,15 @@ use Rattle.bc_pins.specs.Totals.{total, times, sum_to}
 use Rattle.bc_pins.specs.Contents.{IsContent, RefersYoung, IsBarePage, objects_in}
 use Rattle.bc_pins.specs.Views.{grips, grips_remembered, frame_in_hand, counted_for, sets_bit, sets_for, marked_for, has_role, withholds, reads_as, entries, opened_word, record_of}
 
+-- a table as the rule sees it: its words, its slots, and the views of its seats
 abbrev pub Table : Type 0
 Table = State Lodged View
 
+-- a slot: none where it is out with a seat, and else what lies in it
 abbrev pub Slot : Type 0
 Slot = maybe.Option (maybe.Option Lodged)
 
+-- word i of the table
 abbrev pub word : Table → ℕ → ℕ
 word s i = slice_index s.words i
 
@@ -39,14 +42,16 @@ page_word s page = word s (page_at page)
 abbrev pub slot : Table → ℕ → Slot
 slot s i = get_elem? s.homes i
 
--- Place, by the page's word: the box lies in the frame slot where the word is Home or Remembered, and in the store slot where
--- it is Gone or Absent; where it is Held both slots are out with a seat. The box has the page's record
+-- the box lies in the frame slot, the store slot is empty, and the box has the page's record
 abbrev pub IsHomed : Slot → Slot → List ℕ → Type 0
 IsHomed frame store c = (h : Homed) × (frame ≡ some (some (Home h))) × (store ≡ some (some Nothing)) × (h.page ≡ c)
 
+-- the content lies in the store slot, the frame slot is empty, and it is the page's record
 abbrev pub IsAway : Slot → Slot → List ℕ → Type 0
 IsAway frame store c = (frame ≡ some (some Nothing)) × (store ≡ some (some (Away c)))
 
+-- where the box of a page lies by its word: in the frame slot if it is Home or Remembered, in the store slot if it is Gone or
+-- Absent, and with a seat if it is Held
 abbrev pub Lies : ℕ → Slot → Slot → List ℕ → Type 0
 Lies zero frame store c = IsAway frame store c
 Lies (suc zero) frame store c = IsHomed frame store c
@@ -55,7 +60,8 @@ Lies (suc (suc (suc zero))) frame store c = (frame ≡ some none) × (store ≡ 
 Lies (suc (suc (suc (suc zero)))) frame store c = IsAway frame store c
 Lies (suc (suc (suc (suc (suc n))))) frame store c = ⊥
 
--- and a page is in hand in exactly one view where its word is Held, and in none else
+-- the box of a page lies where its word says, and the page is in hand in exactly one view where its word is Held, and in none
+-- else
 pub record Place (k : Key) (s : Table) (rec : ℕ → List ℕ) (page : ℕ) : Type 0 where
   pub lies : Lies (page_word s page) (slot s (frame_slot k page)) (slot s (store_slot k page)) (rec page)
   pub held : total (λ (v : View). grips page v.hand) s.views ≡ one_if (page_word s page == 3)
@@ -64,13 +70,15 @@ pub record Place (k : Key) (s : Table) (rec : ℕ → List ℕ) (page : ℕ) : T
 abbrev pub remembered_now : Table → ℕ → ℕ
 remembered_now s page = one_if (page_word s page == 2) + total (λ (v : View). grips_remembered page v.hand) s.views
 
--- a bit of a bookmark word, in the table and at the opening, and whether it is that of an allocated cell
+-- bit b of bookmark word w, in the table
 abbrev pub bookmark_bit : Key → List ℕ → ℕ → ℕ → ℕ
 bookmark_bit k words w b = bit_at (slice_index words (bookmark_at k w)) b
 
+-- bit b of bookmark word w, at the opening
 abbrev pub opened_bit : Key → ℕ → ℕ → ℕ
 opened_bit k w b = bit_at (slice_index (set_of k.opening.bookmarks (w / 16)) (w % 16)) b
 
+-- bit b of the allocated cells that bookmark word w is of
 abbrev pub cell_bit : Key → ℕ → ℕ → ℕ
 cell_bit k w b = bit_at (slice_index (set_of k.opening.cells (w / 16)) (w % 16)) b
 
@@ -156,7 +164,7 @@ pub record IsIdle (v : View) : Type 0 where
   pub finished : v.finished ≡ []
   pub read : v.read ≡ []
 
--- a seat knows what the table was told, and one without a role has done nothing
+-- a seat has the key of its table, and one without a role has done nothing
 pub record Seated (k : Key) (v : View) : Type 0 where
   pub about : v.alive ≡ true → v.about ≡ k
   pub idle : v.roles ≡ [] → IsIdle v
@@ -167,12 +175,13 @@ pub record Roles (k : Key) (s : Table) : Type 0 where
   pub apart : (r : ℕ) → times r k.roles ≤ 1
   pub nobody : times 0 k.roles ≡ 0
 
--- which frame a slot's box uses
+-- 1 if what lies in a slot uses the frame, else 0
 abbrev pub frame_of : Lodged → ℕ → ℕ
 frame_of Nothing frame = 0
 frame_of (Home h) frame = one_if (h.frame == frame)
 frame_of (Away c) frame = 0
 
+-- 1 if the slot isn't out and what lies in it uses the frame, else 0
 abbrev pub frame_lodged : ℕ → maybe.Option Lodged → ℕ
 frame_lodged frame maybe.none = 0
 frame_lodged frame (maybe.some x) = frame_of x frame
@@ -181,10 +190,11 @@ frame_lodged frame (maybe.some x) = frame_of x frame
 abbrev pub frame_used : Table → ℕ → ℕ
 frame_used s frame = total (frame_lodged frame) s.homes + total (λ (v : View). frame_in_hand frame v.hand + times frame v.rights) s.views
 
--- a bit of the frame words, and whether it is clear: then the frame is free
+-- the bit of a frame in the frame words
 abbrev pub frame_bit : Key → List ℕ → ℕ → ℕ
 frame_bit k words frame = bit_at (slice_index words (frame_at k (frame / 64))) (frame % 64)
 
+-- the frame's bit is clear: it is free
 abbrev pub is_clear : Key → List ℕ → ℕ → Bool
 is_clear k words frame = nat_lt frame k.frames && (frame_bit k words frame == 0)
 
@@ -207,10 +217,11 @@ adds_to k s rec q page = (if page_word s page == 4 then points k page (rec page)
 abbrev pub Counters : Key → Table → (ℕ → List ℕ) → ℕ → Type 0
 Counters k s rec q = word s (counter_at k q) ≡ sum_to (adds_to k s rec q) (pages_of k)
 
--- Bits: a bookmark bit is set exactly where it was at the opening or a view set it, and it is that of an allocated cell
+-- how often a bookmark bit was set: at the opening, and by each view
 abbrev pub ever_set : Key → Table → ℕ → ℕ → ℕ
 ever_set k s w b = opened_bit k w b + total (λ (v : View). sets_bit w b v.bookmarked) s.views
 
+-- a bookmark bit is set exactly where it was at the opening or a view set it, and it is that of an allocated cell
 pub record Bits (k : Key) (s : Table) (w b : ℕ) : Type 0 where
   pub kept : 0 < ever_set k s w b → bookmark_bit k s.words w b ≡ 1
   pub only : 0 < bookmark_bit k s.words w b → 0 < ever_set k s w b

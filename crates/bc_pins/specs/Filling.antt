@@ -20,13 +20,13 @@ in_use pool frame = one_if (not (is_free pool frame))
 abbrev pub IsFrameWord : List Bool → ℕ → ℕ → Type 0
 IsFrameWord pool i word = (b : ℕ) → b < 64 → bit_at word b ≡ in_use pool (64 * i + b)
 
--- so many words of frames were added
+-- a number of words of frames were added
 pub record AddsFrames (pool : List Bool) (old new : List ℕ) (count : ℕ) : Type 0 where
   pub long : length new ≡ length old + count
   pub kept : (i : ℕ) → i < length old → slice_index new i ≡ slice_index old i
   pub added : (i : ℕ) → i < count → IsFrameWord pool i (slice_index new (length old + i))
 
--- so many words were added, word i of them f i
+-- a number of words were added, word i of them f i
 pub record Extends (old new : List ℕ) (count : ℕ) (f : ℕ → ℕ) : Type 0 where
   pub long : length new ≡ length old + count
   pub kept : (i : ℕ) → i < length old → slice_index new i ≡ slice_index old i
@@ -51,6 +51,7 @@ pub record IsSized (k : Key) (superpages : ℕ) (flags : List Bool) (turn : Turn
   pub lanes : k.lanes ≡ is_lanes turn
   pub pool : k.pool ≡ flags
 
+-- the header of a superpage, or that of an unused one after the last
 abbrev pub header_in : List Header → ℕ → Header
 header_in headers superpage = slice_index_or headers superpage unused_header
 
@@ -65,7 +66,7 @@ pub record HasMarkWords (headers : List Header) (superpages : ℕ) (old new : Li
   pub marks : (w : ℕ) → w < 16 * superpages → slice_index new (length old + w) ≡ set_word Marks headers w
   pub finished : (w : ℕ) → w < 16 * superpages → slice_index new (length old + (16 * superpages + w)) ≡ set_word Finished headers w
 
--- the words tell what the headers do
+-- the words say what the headers do
 pub record IsFilled (k : Key) (headers : List Header) (words : List ℕ) : Type 0 where
   pub long : length words ≡ all_words k
   pub states : (p : ℕ) → p < pages_of k → slice_index words (page_at p) ≡ state_word (state_in headers p)

@@ -1,4 +1,4 @@
--- What a table is told once, when it is made, and where its words lie.
+-- What a table knows for its whole life, and where its words lie.
 use Rattle.std.specs.Prelude.{ℕ, ◌+◌, ◌*◌, ◌/◌, ◌%◌, Bool, true, false, if◌then◌else◌, List, slice_index}
 use Rattle.bc_pins.specs.declared.key.Turn.{Turn}
 use Rattle.bc_pins.specs.declared.key.Turn.TheVariants.{Lanes, Mark}
@@ -11,15 +11,17 @@ abbrev pub is_lanes : Turn → Bool
 is_lanes Lanes = true
 is_lanes Mark = false
 
--- the number of a role. None is 0, which is nobody's, and no two have the same
+-- the number of a lane's role
 abbrev pub lane_role : ℕ → ℕ
 lane_role lane = 3 * lane + 3
 
+-- the number of a role. None is 0, which is nobody's, and no two have the same
 abbrev pub role_number : Role → ℕ
 role_number (Lane lane) = lane_role lane
 role_number (Marker marker) = 3 * marker + 1
 role_number (Pager pager) = 3 * pager + 2
 
+-- what a table keeps for its whole life
 pub record Key : Type 0 where
   -- how many superpages the table has: those up to the last that has a page which isn't Absent
   pub supers : ℕ
@@ -38,7 +40,7 @@ pub record Key : Type 0 where
   -- the frames that are in use by no page: the nurseries'
   pub nursery : List ℕ
 
--- the table's pages. All pages behind them are Absent for the whole turn
+-- the table's pages. All pages after them are Absent for the whole turn
 abbrev pub pages_of : Key → ℕ
 pages_of k = 4 * k.supers
 
@@ -49,7 +51,7 @@ owner k page = slice_index k.owners (slice_index k.opening.domains (page / 4))
 -- Where the words lie: first sixteen words for each superpage, of which its pages have the first four, then by superpage its
 -- counter, then its sixteen bookmark words, then the frame words, then the next notice. A mark turn has besides by superpage
 -- sixteen mark words, then sixteen finished words, then the queue words.
--- The words of a superpage's four pages stand together, and twelve that nobody uses stand behind them. So no two superpages have
+-- The words of a superpage's four pages stand together, and twelve that nobody uses follow them. So no two superpages have
 -- words of pages in one cache line of eight words, wherever the list begins, and the next one's are two lines away, since a
 -- processor may fetch lines in pairs
 abbrev pub page_at : ℕ → ℕ
@@ -59,12 +61,15 @@ page_at page = 16 * (page / 4) + page % 4
 abbrev pub pages_end : Key → ℕ
 pages_end k = 16 * k.supers
 
+-- where the counter of a superpage stands
 abbrev pub counter_at : Key → ℕ → ℕ
 counter_at k superpage = pages_end k + superpage
 
+-- where a bookmark word stands, counted over all superpages
 abbrev pub bookmark_at : Key → ℕ → ℕ
 bookmark_at k word = pages_end k + (k.supers + word)
 
+-- where a frame word stands
 abbrev pub frame_at : Key → ℕ → ℕ
 frame_at k word = pages_end k + (k.supers + (16 * k.supers + word))
 
@@ -72,15 +77,19 @@ frame_at k word = pages_end k + (k.supers + (16 * k.supers + word))
 abbrev pub frame_words : Key → ℕ
 frame_words k = (k.frames + 63) / 64
 
+-- where the next notice stands
 abbrev pub notice_at : Key → ℕ
 notice_at k = frame_at k (frame_words k)
 
+-- where a mark word stands, in a mark turn
 abbrev pub mark_at : Key → ℕ → ℕ
 mark_at k word = notice_at k + 1 + word
 
+-- where a finished word stands, in a mark turn
 abbrev pub finished_at : Key → ℕ → ℕ
 finished_at k word = notice_at k + 1 + (16 * k.supers + word)
 
+-- where a queue word stands, in a mark turn
 abbrev pub queue_at : Key → ℕ → ℕ
 queue_at k word = notice_at k + 1 + (32 * k.supers + word)
 
@@ -88,10 +97,11 @@ queue_at k word = notice_at k + 1 + (32 * k.supers + word)
 abbrev pub queue_words : Key → ℕ
 queue_words k = (pages_of k + 63) / 64
 
+-- how many words the table has
 abbrev pub all_words : Key → ℕ
 all_words k = notice_at k + 1 + (if k.lanes then 0 else 32 * k.supers + queue_words k)
 
--- the same by superpages, frames and turn
+-- how many words a table of so many superpages and frames has, by the kind of turn
 abbrev pub table_words : ℕ → ℕ → Turn → ℕ
 table_words supers frames Lanes = 33 * supers + (frames + 63) / 64 + 1
 table_words supers frames Mark = 33 * supers + (frames + 63) / 64 + 1 + (32 * supers + (4 * supers + 63) / 64)
@@ -101,8 +111,10 @@ table_words supers frames Mark = 33 * supers + (frames + 63) / 64 + 1 + (32 * su
 abbrev pub home_slot : ℕ → ℕ
 home_slot page = 8 * (page / 4) + page % 4
 
+-- the slot of a page for its frame
 abbrev pub frame_slot : Key → ℕ → ℕ
 frame_slot k page = home_slot page
 
+-- the slot of a page for the store
 abbrev pub store_slot : Key → ℕ → ℕ
 store_slot k page = home_slot page + 4

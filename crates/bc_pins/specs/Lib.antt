@@ -1,4 +1,4 @@
--- What a table is told once, and where its words lie
+-- What a table knows for its whole life, and where its words lie
 pub mod Key
 -- Sums over lists
 pub mod Totals
@@ -12,9 +12,9 @@ pub mod Facts
 pub mod Tracing
 -- The rule
 pub mod Rule
--- The steps, and what each tells
+-- The steps, and what is known by each
 pub mod Steps
--- What the calls of a table require and tell
+-- What the calls of a table require and return
 pub mod Calls
 -- The words of a table at its opening
 pub mod Filling

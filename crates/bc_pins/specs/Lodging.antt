@@ -11,19 +11,23 @@ pub record Replaced {A : Type 0} (default : A) (old new : List A) (count : ℕ) 
   pub near : (i : ℕ) → i < count → slice_index_or new i default ≡ f i
   pub far : (i : ℕ) → count ≤ i → slice_index_or new i default ≡ slice_index_or old i default
 
+-- what is lodged in a frame slot: a box that is home, or nothing
 abbrev pub home_of : Option Homed → Lodged
 home_of None = Nothing
 home_of (Some homed) = Home homed
 
+-- what is lodged in a store slot: a content that is away, or nothing
 abbrev pub away_of : Option (List ℕ) → Lodged
 away_of None = Nothing
 away_of (Some content) = Away content
 
+-- the box that is lodged, if one is
 abbrev pub box_of : Lodged → Option Homed
 box_of Nothing = None
 box_of (Home homed) = Some homed
 box_of (Away content) = None
 
+-- the content that is lodged away, if one is
 abbrev pub place_of : Lodged → Option (List ℕ)
 place_of Nothing = None
 place_of (Home homed) = None

@@ -15,7 +15,7 @@ use Rattle.bc_pins.specs.Opening.{IsOpenable, IsMarkable, key_for}
 use Rattle.bc_pins.specs.Seating.{AreDealt}
 use Rattle.bc_pins.specs.Calls.{key_of}
 
--- a table over this space, for this turn and these roles, with their seats: each page behind the table's is Absent
+-- a table over this space, for this turn and these roles, with their seats: each page past the table's is Absent
 pub record Opened (space : Layout) (turn : Turn) (holders : List ℕ) (roles : List Role) (pins : Pins) (seats : List Seat) : Type 0 where
   pub opening : (key_of pins).opening ≡ space
   pub frames : (key_of pins).frames ≡ space.frames

@@ -29,8 +29,8 @@ use Rattle.bc_pins.specs.Steps.{fresh}
 abbrev pub opened : Key → List ℕ → List Lodged → Table
 opened k words slots = opening words slots (fresh k k.roles)
 
--- a page: its word tells its state and its box lies so; its content keeps what is fixed, refers to no nursery but where the page
--- is Remembered, and where it is Absent it has no allocated cell
+-- a page: its word is its state and its box lies so; its content keeps what is fixed, refers to no nursery but where the page is
+-- Remembered, and where it is Absent it has no allocated cell
 pub record OpensPage (k : Key) (words : List ℕ) (slots : List Lodged) (p : ℕ) : Type 0 where
   pub word : slice_index words (page_at p) ≡ opened_word k p
   pub not_held : opened_word k p ≢ 3
@@ -59,8 +59,8 @@ pub record MayOpen (k : Key) (words : List ℕ) (slots : List Lodged) : Type 0 w
   pub bits : (w b : ℕ) → w < 16 * k.supers → b < 64 → Bits k (opened k words slots) w b
   pub tracing : k.lanes ≡ false → Tracing k (opened k words slots)
 
--- a page of a table that is closed, where v is the view that all others were joined into: its box lies as its word tells, with
--- the record as its content
+-- a page of a table that is closed, where v is the view that all others were joined into: its box lies as its word says, with the
+-- record as its content
 pub record ClosesPage (k : Key) (v : View) (words : List ℕ) (slots : List Lodged) (p : ℕ) : Type 0 where
   pub not_held : slice_index words (page_at p) ≢ 3
   pub lies : Lies (slice_index words (page_at p)) (get_elem? (map some slots) (frame_slot k p)) (get_elem? (map some slots) (store_slot k p)) (record_of v p)
@@ -93,7 +93,7 @@ pub record IsOpenable (s : Layout) : Type 0 where
   pub promised : (a : ℕ) → is_cell s.classes s.promised a ≡ false
   pub home : (p : ℕ) → state_at s.states p ≡ state.Home → RefersYoung s p (content_at s.pages p) → ⊥
 
--- the same as the rule uses it: a page that refers to a nursery is Remembered
+-- a space over which a table may be opened, as the rule uses it: a page that refers to a nursery is Remembered
 pub record IsReady (s : Layout) : Type 0 where
   pub closed : IsClosed s
   pub promised : (a : ℕ) → is_cell s.classes s.promised a ≡ false
@@ -123,7 +123,7 @@ pub record AreLodged (whole : SpaceParts) (pages : ℕ) (slots : List Lodged) : 
   pub homes : (p : ℕ) → p < pages → slice_index_or slots (home_slot p) Nothing ≡ home_of (slice_index_or whole.boxes.items p None)
   pub aways : (p : ℕ) → p < pages → slice_index_or slots (home_slot p + 4) Nothing ≡ away_of (slice_index_or whole.store.places p None)
 
--- the same parts, as far as a space reads them
+-- the parts are the same, as far as a space reads them
 pub record SameParts (a b : SpaceParts) : Type 0 where
   pub headers : b.headers.items ≡ a.headers.items
   pub pool : b.pool ≡ a.pool

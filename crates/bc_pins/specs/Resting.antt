@@ -2,6 +2,7 @@
 use Rattle.std.specs.Prelude.{ℕ}
 use Rattle.bc_superpages.specs.declared.parts.SpaceParts.{SpaceParts}
 
+-- what contracts see of a space's parts while its pages are in a table
 pub record RestView : Type 0 where
   -- what is left
   pub parts : SpaceParts

@@ -18,6 +18,7 @@ pub record SeatFacts (k : Key) (s : Table) (rec : ℕ → List ℕ) (v : View) :
   pub targets : MarksTargets k s rec v
   pub knows : k.lanes ≡ false → Knows k s v
 
+-- the turn facts of every page, seat and frame of a table, in a mark turn with the mark facts
 pub record Rule (k : Key) (s : Table) : Type 0 where
   -- the record of each page
   pub rec : ℕ → List ℕ

@@ -21,6 +21,7 @@ pub record IsDealt (id : TableId) (k : Key) (role : Role) (seat : Seat) : Type 0
   pub its_role : seat.role ≡ role
   pub opens : seat.opens ≡ 0
 
+-- the first of these roles have each a seat of its own, with which nothing was done
 pub record AreDealt (id : TableId) (k : Key) (roles : List Role) (count : ℕ) (seats : List Seat) : Type 0 where
   pub long : length seats ≡ count
   pub each : (j : ℕ) → j < count → (d : Seat) → IsDealt id k (slice_index_or roles j (Lane 0)) (slice_index_or seats j d)

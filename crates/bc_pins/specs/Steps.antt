@@ -1,4 +1,4 @@
--- The kinds of step: what the view is after each, and what each tells the seat that makes it.
+-- The kinds of step: what the view is after each, and what the seat that makes it knows by it.
 use Prim.Native.Nat.{zero, suc}
 use Rattle.std.specs.Prelude.{◌≡◌, ◌≢◌, ℕ, ◌+◌, ◌*◌, ◌/◌, ◌%◌, ◌^◌, ◌<◌, ◌≤◌, ◌==◌, ◌&&◌, ◌⊎◌, bit_and, Bool, true, false, if◌then◌else◌, nat_lt, List, [], ◌∷◌, ◌++◌, take, drop, Some, None}
 use Rattle.atomic_table.specs.Table.{Me, Step, rest}
@@ -20,6 +20,7 @@ use Rattle.bc_pins.specs.Facts.{IsBitOfTarget, points}
 use Rattle.bc_pins.specs.Tracing.{RefersToCell, KnowsMarked}
 use Rattle.bc_pins.specs.Views.{is_empty_handed, has_role, sets_bit, opened_content, opened_word, record_of}
 
+-- what a seat has: its view, and the slots that are out with it
 abbrev pub Mine : Type 0
 Mine = Me Lodged View
 
@@ -54,7 +55,7 @@ fresh k roles = record {
   notices = [];
 }
 
--- a seat that was joined away
+-- the key of no table
 abbrev pub no_key : Key
 no_key = record {
   supers = 0;
@@ -67,6 +68,7 @@ no_key = record {
   nursery = [];
 }
 
+-- the view of a seat that was joined away
 abbrev pub nobody : View
 nobody = record (fresh no_key []) { alive = false }
 
@@ -119,7 +121,7 @@ counting v h superpage found = record v {
   read = (counter_at v.about superpage, found) ∷ v.read;
 }
 
--- the page in hand was made Gone, or Absent; its frame is a right in hand
+-- the view after the page in hand was made Gone; its frame is a right in hand
 abbrev pub leaving : View → Hand → View
 leaving v h = record v {
   hand = None;
@@ -127,6 +129,7 @@ leaving v h = record v {
   rights = h.frame ∷ v.rights;
 }
 
+-- the view after the page in hand was made Absent; its frame is a right in hand
 abbrev pub vacating : View → Hand → View
 vacating v h = record v {
   hand = None;
@@ -139,6 +142,7 @@ abbrev pub given_back : ℕ → ℕ → List ℕ → List ℕ
 given_back w bits [] = []
 given_back w bits (f ∷ fs) = if (f / 64 == w) && (bit_at bits (f % 64) == 1) then given_back w bits fs else f ∷ given_back w bits fs
 
+-- the view after frames were given back by these bits of a frame word
 abbrev pub giving : View → ℕ → ℕ → ℕ → View
 giving v w bits found = record v { rights = given_back w bits v.rights; read = (frame_at v.about w, found) ∷ v.read }
 
@@ -220,15 +224,16 @@ pub record MayLeave (k : Key) (v : View) (h : Hand) : Type 0 where
   pub counts : (q : ℕ) → q < k.supers → times q h.counted ≡ points k h.page h.content q
   pub marked : k.lanes ≡ false → (a : ℕ) → IsAllocated k.opening a → is_target (objects_in k.opening h.content) h.page a ≡ true → KnowsMarked k v a
 
--- and of one that is made Absent: no allocated cell lies on it, it isn't remembered, and nothing was counted or bookmarked for it
+-- what is owed of a page that is made Absent: no allocated cell lies on it, it isn't remembered, and nothing was counted or
+-- bookmarked for it
 pub record MayVacate (k : Key) (h : Hand) : Type 0 where
   pub bare : IsBarePage k.opening h.page
   pub quiet : h.remembered ≡ false
   pub uncounted : h.counted ≡ []
   pub unmarked : h.marked ≡ []
 
--- what a word tells that was read: the page's state, and what was read of it before is still so. No allocated cell lies on a page
--- that is Absent, and one lies on a page that is Gone
+-- what is known by a word that was read: the page's state, and what was read of it before is still so. No allocated cell lies on
+-- a page that is Absent, and one lies on a page that is Gone
 pub record ReadsWord (v : View) (page found : ℕ) : Type 0 where
   pub word : found ≤ 4
   pub bare : found ≡ 0 → IsBarePage v.about.opening page
@@ -236,9 +241,9 @@ pub record ReadsWord (v : View) (page found : ℕ) : Type 0 where
   pub seen : 0 < times page v.seen → found ≢ 2 → found ≡ 3
   pub gone : 0 < times page v.gone → found ≡ 4
 
--- what the box tells of a page that was taken from Home, or from Home and remembered. Its content is what the lane that holds the
--- page's domain put back last, and where none does that of the opening. An own page is remembered exactly where it was so at the
--- opening or the seat put it back so. One that was Gone at the opening the seat of its lane took from there
+-- what is known of the box of a page that was taken from Home, or from Home and remembered. Its content is what the lane that
+-- holds the page's domain put back last, and where none does that of the opening. An own page is remembered exactly where it was
+-- so at the opening or the seat put it back so. One that was Gone at the opening the seat of its lane took from there
 pub record Takes (v : View) (page : ℕ) (remembered : Bool) (homed : Homed) : Type 0 where
   pub mine : 0 < has_role v (owner v.about page) → homed.page ≡ record_of v page
   pub unowned : times (owner v.about page) v.about.roles ≡ 0 → homed.page ≡ opened_content v.about page
@@ -248,15 +253,15 @@ pub record Takes (v : View) (page : ℕ) (remembered : Bool) (homed : Homed) : T
   pub found : remembered ≡ true → 0 < has_role v (owner v.about page) → 0 < one_if (opened_word v.about page == 2) + times page v.recorded
   pub here : opened_word v.about page ≡ 4 → 0 < has_role v (owner v.about page) → 0 < times page v.fetched
 
--- Take: the page is in hand with its box, or the word that was read is told
+-- take: the page is in hand with its box, or the word that was read is known
 pub record Took (st : Step Lodged) (m : Mine) (found : ℕ) (m' : Mine) : Type 0 where
   pub hit : (page : ℕ) → st.word ≡ page_at page → found ≡ st.first → (homed : Homed)
       × (m' ≡ (gripping m.0 page (st.first == 2) homed, both_slots m.0.about page (Home homed) Nothing))
       × Takes m.0 page (st.first == 2) homed
   pub miss : (page : ℕ) → st.word ≡ page_at page → found ≢ st.first → (m' ≡ (having_read m.0 page found, m.1)) × ReadsWord m.0 page found
 
--- what the box tells of an own page that was taken from Gone: its content is what the seat put back last, or else the opening's. An
--- allocated cell lies on it, it refers to no nursery, and it wasn't remembered: neither at the opening nor since
+-- what is known of the box of an own page that was taken from Gone: its content is what the seat put back last, or else the
+-- opening's. An allocated cell lies on it, it refers to no nursery, and it wasn't remembered: neither at the opening nor since
 pub record Fetches (v : View) (page : ℕ) (content : List ℕ) : Type 0 where
   pub mine : content ≡ record_of v page
   pub fixed : IsContent v.about.opening page content
@@ -264,8 +269,8 @@ pub record Fetches (v : View) (page : ℕ) (content : List ℕ) : Type 0 where
   pub old : RefersYoung v.about.opening page content → ⊥
   pub quiet : one_if (opened_word v.about page == 2) + times page v.recorded ≡ 0
 
--- Take gone, by a seat that has one right to a frame: the page is in hand, and its box is in its store slot, or the word that was read
--- is told
+-- take gone, by a seat that has one right to a frame: the page is in hand, and its box is in its store slot, or the word that was
+-- read is known
 pub record Fetched (st : Step Lodged) (m : Mine) (found : ℕ) (m' : Mine) : Type 0 where
   pub hit : (page frame : ℕ) → st.word ≡ page_at page → m.0.rights ≡ frame ∷ [] → found ≡ 4 → (content : List ℕ)
       × (m' ≡ (fetching m.0 page content frame, both_slots m.0.about page Nothing (Away content))) × Fetches m.0 page content
@@ -276,10 +281,11 @@ pub record Gave (st : Step Lodged) (m m' : Mine) : Type 0 where
   pub slots : m'.1 ≡ rest (rest m.1)
   pub view : (page : ℕ) (homed : Homed) → st.word ≡ page_at page → m.1 ≡ (home_slot page, Home homed) ∷ rest m.1 → m'.0 ≡ released m.0 page (st.first == 2) homed.page
 
--- Bookmark bit, and counter add, of the page in hand
+-- bookmark bit: the view has the bits set for the page in hand
 pub record SetBits (st : Step Lodged) (m : Mine) (found : ℕ) (m' : Mine) : Type 0 where
   pub view : (h : Hand) (w : ℕ) → m.0.hand ≡ Some h → st.word ≡ bookmark_at m.0.about w → m' ≡ (bookmarking m.0 h w st.first found, m.1)
 
+-- counter add: the view has the superpage counted for the page in hand
 pub record Counted (st : Step Lodged) (m : Mine) (found : ℕ) (m' : Mine) : Type 0 where
   pub view : (h : Hand) (q : ℕ) → m.0.hand ≡ Some h → st.word ≡ counter_at m.0.about q → m' ≡ (counting m.0 h q found, m.1)
 
@@ -304,10 +310,11 @@ shading v w bits found = record v {
 abbrev pub seeing : View → ℕ → ℕ → View
 seeing v w found = record v { known = (w, found) ∷ v.known; read = (mark_at v.about w, found) ∷ v.read }
 
--- cells were finished, and a finished word was read alone
+-- the view after cells were finished by these bits of a finished word
 abbrev pub finishing : View → ℕ → ℕ → ℕ → View
 finishing v w bits found = record v { finished = (w, bits) ∷ v.finished; read = (finished_at v.about w, found) ∷ v.read }
 
+-- the view after a finished word was read
 abbrev pub having_looked : View → ℕ → ℕ → View
 having_looked v w found = record v { read = (finished_at v.about w, found) ∷ v.read }
 
@@ -332,6 +339,7 @@ pub record MayShade (k : Key) (v : View) (w b : ℕ) : Type 0 where
   pub bit : IsBitOf k w b address
   pub why : IsReferred k v address ⊎ IsBookmarkedBy k v address
 
+-- each of these bits of mark word w may be set
 abbrev pub MayShadeAll : Key → View → ℕ → ℕ → Type 0
 MayShadeAll k v w bits = (b : ℕ) → b < 64 → 0 < bit_at bits b → MayShade k v w b
 
@@ -341,19 +349,23 @@ pub record MayFinish (k : Key) (v : View) (w b : ℕ) : Type 0 where
   pub bit : IsBitOf k w b address
   pub targets : (a : ℕ) → RefersToCell k.opening address a → KnowsMarked k v a
 
+-- each of these bits of finished word w may be set
 abbrev pub MayFinishAll : Key → View → ℕ → ℕ → Type 0
 MayFinishAll k v w bits = (b : ℕ) → b < 64 → 0 < bit_at bits b → MayFinish k v w b
 
--- Shade, look at marks, done bit, look at what is finished
+-- shade: the view has the bits of the mark word set
 pub record Shaded (st : Step Lodged) (m : Mine) (found : ℕ) (m' : Mine) : Type 0 where
   pub view : (w : ℕ) → st.word ≡ mark_at m.0.about w → m' ≡ (shading m.0 w st.first found, m.1)
 
+-- look at marks: the view has what was read of the mark word
 pub record SawMarks (st : Step Lodged) (m : Mine) (found : ℕ) (m' : Mine) : Type 0 where
   pub view : (w : ℕ) → st.word ≡ mark_at m.0.about w → m' ≡ (seeing m.0 w found, m.1)
 
+-- done bit: the view has the bits of the finished word set
 pub record Finished (st : Step Lodged) (m : Mine) (found : ℕ) (m' : Mine) : Type 0 where
   pub view : (w : ℕ) → st.word ≡ finished_at m.0.about w → m' ≡ (finishing m.0 w st.first found, m.1)
 
+-- look at what is finished: the view has what was read of the finished word
 pub record SawFinished (st : Step Lodged) (m : Mine) (found : ℕ) (m' : Mine) : Type 0 where
   pub view : (w : ℕ) → st.word ≡ finished_at m.0.about w → m' ≡ (having_looked m.0 w found, m.1)
 
@@ -361,12 +373,13 @@ pub record SawFinished (st : Step Lodged) (m : Mine) (found : ℕ) (m' : Mine) :
 pub record GaveFrames (st : Step Lodged) (m : Mine) (found : ℕ) (m' : Mine) : Type 0 where
   pub view : (w bits : ℕ) → st.word ≡ frame_at m.0.about w → st.first ≡ bit_not w64 bits → bits < 2 ^ 64 → m' ≡ (giving m.0 w bits found, m.1)
 
--- Relinquish word, and absent word: the slots are at home. The frame to which there is a right is one of the heap's
+-- relinquish word: the slots are at home, and the seat has a right to the page's frame, which is one of the heap's
 pub record Left (st : Step Lodged) (m m' : Mine) : Type 0 where
   pub slots : m'.1 ≡ rest (rest m.1)
   pub view : (h : Hand) → m.0.hand ≡ Some h → m'.0 ≡ leaving m.0 h
   pub frame : (h : Hand) → m.0.hand ≡ Some h → h.frame < m.0.about.frames
 
+-- absent word: the slots are at home, and the seat has a right to the page's frame, which is one of the heap's
 pub record Vacated (st : Step Lodged) (m m' : Mine) : Type 0 where
   pub slots : m'.1 ≡ rest (rest m.1)
   pub view : (h : Hand) → m.0.hand ≡ Some h → m'.0 ≡ vacating m.0 h
@@ -377,10 +390,11 @@ pub record Looked (st : Step Lodged) (m : Mine) (found : ℕ) (m' : Mine) : Type
   pub view : (page : ℕ) → st.word ≡ page_at page → m' ≡ (having_read m.0 page found, m.1)
   pub reads : (page : ℕ) → st.word ≡ page_at page → ReadsWord m.0 page found
 
--- Split: a new seat has the first role, and the other keeps the rest
+-- split: the seat that keeps the rest of the roles
 abbrev pub dealer : View → View
 dealer v = record v { roles = drop 1 v.roles }
 
+-- split: the new seat, with the first role
 abbrev pub dealt : View → View
 dealt v = record (fresh v.about (take 1 v.roles)) { alive = v.alive }
 

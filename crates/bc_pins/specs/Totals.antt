@@ -3,6 +3,7 @@ use Rattle.std.specs.Prelude.{ℕ, ◌+◌, ◌==◌, List, [], ◌∷◌}
 use Prim.Native.Nat.{zero, suc}
 use Rattle.bc_bits.specs.Counting.{one_if}
 
+-- the sum of a number over a list
 abbrev pub total : {A : Type 0} → (A → ℕ) → List A → ℕ
 total f [] = 0
 total f (x ∷ xs) = f x + total f xs

@@ -11,11 +11,12 @@ use Rattle.bc_pins.specs.declared.views.View.{View}
 use Rattle.bc_pins.specs.Key.{Key, owner, page_at}
 use Rattle.bc_pins.specs.Totals.{times}
 
--- how often the view has the page in hand: once or not. And the same where it says remembered
+-- 1 if the view has the page in hand, else 0
 abbrev pub grips : ℕ → Option Hand → ℕ
 grips page None = 0
 grips page (Some h) = one_if (h.page == page)
 
+-- 1 if the view has the page in hand and it is remembered, else 0
 abbrev pub grips_remembered : ℕ → Option Hand → ℕ
 grips_remembered page None = 0
 grips_remembered page (Some h) = if h.remembered then one_if (h.page == page) else 0
@@ -35,7 +36,7 @@ abbrev pub sets_bit : ℕ → ℕ → List (ℕ × ℕ × ℕ) → ℕ
 sets_bit word bit [] = 0
 sets_bit word bit (e ∷ es) = (if e.1 == word then bit_at e.2 bit else 0) + sets_bit word bit es
 
--- and how often it was set for this page
+-- how often this bit of a bookmark word was set for this page
 abbrev pub sets_for : ℕ → ℕ → ℕ → List (ℕ × ℕ × ℕ) → ℕ
 sets_for page word bit [] = 0
 sets_for page word bit (e ∷ es) = (if (e.0 == page) && (e.1 == word) then bit_at e.2 bit else 0) + sets_for page word bit es
@@ -58,7 +59,7 @@ is_empty_handed (Some h) = false
 abbrev pub grips_foreign : Key → ℕ → View → ℕ
 grips_foreign k page v = if has_role v (owner k page) == 0 then grips page v.hand else 0
 
--- and how often it keeps the page from its lane in memory, or kept it: it has it in hand so, or put it back so
+-- how often the view keeps the page from its lane in memory, or kept it: it has it in hand so, or put it back so
 abbrev pub withholds : Key → ℕ → View → ℕ
 withholds k page v = grips_foreign k page v + times page v.returned
 
@@ -75,19 +76,21 @@ reads_at page reads = reads_of (page_at page) reads
 abbrev pub reads_as : ℕ → ℕ → View → ℕ
 reads_as page n v = times n (reads_at page v.read)
 
--- how many entries of the list are of the page, and the content that the first of them has
+-- how many entries of the list are of the page
 abbrev pub entries : ℕ → List (ℕ × List ℕ) → ℕ
 entries page [] = 0
 entries page (e ∷ es) = one_if (e.0 == page) + entries page es
 
+-- the content that the first entry of the page has, or another if there is none
 abbrev pub look_up : ℕ → List (ℕ × List ℕ) → List ℕ → List ℕ
 look_up page [] first = first
 look_up page (e ∷ es) first = if e.0 == page then e.1 else look_up page es first
 
--- the page's content and state at the opening
+-- the page's content at the opening
 abbrev pub opened_content : Key → ℕ → List ℕ
 opened_content k page = content_at k.opening.pages page
 
+-- the page's state at the opening
 abbrev pub opened_state : Key → ℕ → PageState
 opened_state k page = state_at k.opening.states page
 
@@ -95,7 +98,7 @@ opened_state k page = state_at k.opening.states page
 abbrev pub record_of : View → ℕ → List ℕ
 record_of v page = look_up page v.changed (opened_content v.about page)
 
--- the word of a page
+-- the word of a page in this state
 abbrev pub state_word : PageState → ℕ
 state_word state.Absent = 0
 state_word state.Home = 1
@@ -103,8 +106,10 @@ state_word state.Remembered = 2
 state_word state.Held = 3
 state_word state.Gone = 4
 
+-- the word of a page at the opening
 abbrev pub opened_word : Key → ℕ → ℕ
 opened_word k page = state_word (opened_state k page)
 
+-- the word of a page that is in memory, remembered or not
 abbrev pub home_word : Bool → ℕ
 home_word remembered = if remembered then 2 else 1

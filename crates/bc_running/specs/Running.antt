@@ -1,3 +1,4 @@
+-- In the theorem.
 -- A heap that lanes run on.
 use Rattle.std.specs.Prelude.{◌≡◌, ℕ, List, []}
 use Rattle.bc_whole_heap.specs.Heaps.{HeapView}
@@ -11,7 +12,7 @@ pub record RunningView : Type 0 where
   pub holders : List ℕ
   pub serials : List ℕ
 
--- it stands for the state
+-- the heap that lanes run on stands for the state
 abbrev pub RunningStands : RunningView → State → Type 0
 RunningStands r state = StandsAs r.heap r.holders r.serials state
 

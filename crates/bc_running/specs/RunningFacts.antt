@@ -17,7 +17,7 @@ use Rattle.bc_running.specs.Running.{RunningView}
 abbrev pub running_of : HeapView → List ℕ → List ℕ → RunningView
 running_of heap holders serials = record { heap = heap; holders = holders; serials = serials }
 
--- the same with another space
+-- the heap that lanes run on with this space
 abbrev pub with_space : RunningView → Layout → RunningView
 with_space r space = record r { heap = record (r.heap) { space = space } }
 

@@ -12,7 +12,7 @@ use Rattle.bc_superpages.specs.Layout.{Layout, superpages}
 abbrev pub GivesUpFor : Layout → ℕ → Layout → Type 0
 GivesUpFor s hint t = ((page : ℕ) × (page < 4 * superpages s) × GivenUp s hint page t) ⊎ (NoneLeaves s × (t ≡ s))
 
--- so it went with the first n hints, one after another
+-- for each of the first n hints, one after another, a page was given up, or nothing changed where no page can leave
 abbrev pub GivesUpFirst : Layout → List ℕ → ℕ → Layout → Type 0
 GivesUpFirst s hints zero t = t ≡ s
 GivesUpFirst s hints (suc n) t = (u : Layout) × GivesUpFirst s hints n u × GivesUpFor u (slice_index hints n) t
@@ -37,6 +37,6 @@ ArePlainAnswers s [] (told ∷ answers) t = ⊥
 ArePlainAnswers s (hint ∷ hints) [] t = ⊥
 ArePlainAnswers s (hint ∷ hints) (told ∷ answers) t = (u : Layout) × IsPlainAnswer s hint told u × ArePlainAnswers u hints answers t
 
--- the notices with these hints were answered so, behind the answers that were kept before
+-- the notices with these hints were answered so, after the answers that were kept before
 abbrev pub AnsweredAlone : Layout → List ℕ → List Answer → List Answer → Layout → Type 0
 AnsweredAlone s hints before after t = (told : List Answer) × (after ≡ before ++ told) × ArePlainAnswers s hints told t

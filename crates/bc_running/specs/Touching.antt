@@ -28,7 +28,7 @@ use Rattle.bc_word.specs.declared.words.Word.TheVariants.{Ref}
 abbrev pub IsHere : Layout → Word → Type 0
 IsHere s word = (a : Address) → word ≡ Ref a → a.0 < end_of s → is_gone (state_at s.states (page_of a.0)) ≡ false
 
--- nor is what the slot refers to, where there is one
+-- what the slot refers to, where there is a slot, isn't on a page that is Gone
 abbrev pub TouchesHere : Layout → RootWords → Option Slot → Type 0
 TouchesHere s roots None = Unit {0}
 TouchesHere s roots (Some p) = IsHere s (slot_word roots p)
@@ -54,7 +54,7 @@ pub record LooksAtGone (holders : List ℕ) (lane : ℕ) (s : Layout) (roots : R
   pub cell : IsAllocated s at.0
   pub gone : state_at s.states (page_of at.0) ≡ Gone
 
--- that page came home, by one read: a frame was free for it, or one other page was given up
+-- the page that the operation looks at came home, by one read: a frame was free for it, or one other page was given up
 pub record CameHome (holders : List ℕ) (lane : ℕ) (s : Layout) (roots : RootWords) (op : Op) (t : Layout) : Type 0 where
   pub looks : LooksAtGone holders lane s roots op
   pub hint : ℕ
@@ -62,7 +62,7 @@ pub record CameHome (holders : List ℕ) (lane : ℕ) (s : Layout) (roots : Root
   pub made : MadeRoom s hint roomy
   pub back : Reloaded roomy (page_of looks.at.0) t
 
--- it came home where the operation looks at it, and else nothing changed
+-- the page that the operation looks at came home, if it looks at one that is Gone, and else nothing changed
 abbrev pub BringsHome : List ℕ → ℕ → Layout → RootWords → Op → Layout → Type 0
 BringsHome holders lane s roots op t =
     CameHome holders lane s roots op t ⊎ ((LooksAtGone holders lane s roots op → ⊥) × (t ≡ s))
@@ -73,6 +73,6 @@ RecordsAfter holders lane s roots chunk op reply b e t =
     (u : Layout) × BringsHome holders lane s roots op u × MovesPages s u × (t ≡ record u { states = t.states; pages = t.pages })
     × IsRecordedBy holders lane u roots chunk op reply b e t.states
 
--- the same pages are Remembered
+-- a page is Remembered in one space exactly if it is in the other
 abbrev pub SameRemembered : Layout → Layout → Type 0
 SameRemembered s t = (p : ℕ) → (state_at t.states p ≡ Remembered) ↔ (state_at s.states p ≡ Remembered)

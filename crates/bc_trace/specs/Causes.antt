@@ -3,6 +3,7 @@ use Rattle.std.specs.Prelude.{ℕ, List, codes}
 use Rattle.bc_trace.specs.declared.fault.Cause.{Cause}
 use Rattle.bc_trace.specs.declared.fault.Cause.TheVariants as causes
 
+-- how a cause is written
 abbrev pub cause_text : Cause → List ℕ
 cause_text causes.Form = codes "form"
 cause_text causes.Word = codes "word"

@@ -1,3 +1,4 @@
+-- In the theorem.
 -- The workload of `churn`: the trace of a starting number and of so many drawn operations for each of its two lanes.
 use Rattle.std.specs.Prelude.{ℕ, ◌+◌, ◌-◌, ◌*◌, ◌/◌, ◌%◌, ◌==◌, min, List, [], ◌∷◌, ◌++◌, map, filter, slice_index, zero, suc}
 use Rattle.std.specs.List.{flat_map}
@@ -20,7 +21,7 @@ churn_setup = record { lanes = 2; domains = 4; slots = 8; superpages = 32; nurse
 abbrev pub drawn_hints : ℕ → List ℕ
 drawn_hints x = draws x (128 ∷ 128 ∷ 128 ∷ [])
 
--- the number before lane j's draws: behind six hints, and n operations of each lane before it
+-- the number before lane j's draws: after six hints, and n operations of each lane before it
 abbrev pub number_before_lane : ℕ → ℕ → ℕ → ℕ
 number_before_lane n x zero = number_after 6 x
 number_before_lane n x (suc j) = number_after_ops n (number_before_lane n x j)

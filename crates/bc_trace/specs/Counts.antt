@@ -1,3 +1,4 @@
+-- In the theorem.
 -- The counts of the replies of a run by their kinds, and the output of `churn`.
 use Rattle.std.specs.Prelude.{ℕ, ◌==◌, List, [], ◌∷◌, ◌++◌, codes, map, slice_index, suc}
 use Rattle.std.specs.List.{count_by, flat_map}
@@ -51,7 +52,7 @@ run_counts phases = counts (all_replies phases)
 unfoldable pub count_line : List ℕ → ℕ → List ℕ
 count_line name n = name ++ 32 ∷ decimal n ++ 10 ∷ []
 
--- from the count at k on, each behind its name
+-- from the count at k on, each after its name
 abbrev pub count_lines : List (List ℕ) → List ℕ → ℕ → List ℕ
 count_lines [] cs k = []
 count_lines (name ∷ names) cs k = count_line name (slice_index cs k) ++ count_lines names cs (suc k)

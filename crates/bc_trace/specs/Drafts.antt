@@ -18,9 +18,11 @@ pub record DraftLists : Type 0 where
   pub ops : List Op
   pub gives : List Give
 
+-- what contracts see of a draft
 abbrev pub shown : Draft → DraftLists
 shown d = record { progress = d.progress; phases = d.phases.items; turns = map (λ v. v.items) d.turns.items; lanes = map (λ v. v.items) d.lanes.items; ops = d.ops.items; gives = d.gives.items }
 
+-- a draft without a line
 abbrev pub empty_draft : DraftLists
 empty_draft = record { progress = start; phases = []; turns = []; lanes = []; ops = []; gives = [] }
 
@@ -41,6 +43,6 @@ put_lists (give g) d = record d { gives = d.gives ++ g ∷ [] }
 put_lists end d = phase_ended d
 put_lists l d = d
 
--- with one more line
+-- the draft with one more line
 abbrev pub put : Line → DraftLists → DraftLists
 put l d = record (put_lists l d) { progress = after l d.progress }

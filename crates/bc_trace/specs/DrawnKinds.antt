@@ -20,7 +20,7 @@ first_kind verbs.Copy = 17
 first_kind verbs.Clear = 18
 first_kind verbs.Same = 19
 
--- and the last one
+-- the last of an operation's kinds
 abbrev pub last_kind : Verb → ℕ
 last_kind verbs.New = 5
 last_kind verbs.Who = 6
@@ -35,8 +35,8 @@ last_kind verbs.Same = 19
 
 -- ---- the same in one sentence
 
--- from the number x the operation is drawn, and y is the number behind it: the first draw is of its kind, and then come its
--- operands, from left to right, each below its limit
+-- from the number x the operation is drawn, and y is the next number: the first draw is of its kind, and then come its operands,
+-- from left to right, each below its limit
 pub record IsDrawn (x : ℕ) (o : Op) (y : ℕ) : Type 0 where
   pub kind : IsWithin (first_kind (verb_of_op o)) (last_kind (verb_of_op o)) (draw x 20)
   pub operands : operands_of_op o ≡ draws (next_number x) (limits_of (verb_of_op o))

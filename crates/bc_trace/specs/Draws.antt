@@ -1,3 +1,4 @@
+-- In the theorem.
 -- What the generator of `churn` draws: numbers, and operations by the table of kinds.
 use Rattle.std.specs.Prelude.{ℕ, ◌+◌, ◌*◌, ◌/◌, ◌%◌, ◌^◌, nat_lt, if◌then◌else◌, List, [], ◌∷◌, length, zero, suc}
 use Rattle.bc_model.specs.declared.operations.Op.{Op}

@@ -1,3 +1,4 @@
+-- In the theorem.
 -- The first fault of a text.
 use Rattle.std.specs.Prelude.{◌≡◌, ◌≢◌, ℕ, ◌+◌, ◌==◌, ◌⊎◌, List, [], ◌∷◌, ◌++◌, length}
 use Rattle.std.specs.List.{AllByRecursion, flat_map, slice_split}
@@ -36,10 +37,12 @@ IsNumeral word = (n : ℕ) × IsNumber n × (word ≡ decimal n)
 
 -- Each of these says that one test fails, and that the tests before it pass.
 
+-- the line is formed, and its first word is no word of the language
 pub record WordFails (line : List ℕ) : Type 0 where
   pub formed : IsFormed line
   pub unknown : (w : Keyword) (others : List (List ℕ)) → ¬ BeginsWith line w others
 
+-- the line begins with a word, and it may not stand here
 pub record OrderFails (s : Progress) (line : List ℕ) : Type 0 where
   pub formed : IsFormed line
   pub word : Keyword
@@ -47,6 +50,7 @@ pub record OrderFails (s : Progress) (line : List ℕ) : Type 0 where
   pub begins : BeginsWith line word others
   pub order : ¬ MayStand s word
 
+-- the word may stand here, and has the wrong number of operands
 pub record CountFails (s : Progress) (line : List ℕ) : Type 0 where
   pub formed : IsFormed line
   pub word : Keyword
@@ -55,6 +59,7 @@ pub record CountFails (s : Progress) (line : List ℕ) : Type 0 where
   pub stands : MayStand s word
   pub count : ¬ IsCount word (length others)
 
+-- the number of operands is right, and one is no number
 pub record NumberFails (s : Progress) (line : List ℕ) : Type 0 where
   pub formed : IsFormed line
   pub word : Keyword
@@ -71,11 +76,13 @@ pub record IsReadable (s : Progress) (line : List ℕ) (l : Line) : Type 0 where
   pub count : IsCount (word_of_line l) (length (operands l))
   pub numbers : AllByRecursion IsNumber (operands l)
 
+-- all operands are numbers, and one is out of its range
 pub record RangeFails (s : Progress) (line : List ℕ) : Type 0 where
   pub says : Line
   pub readable : IsReadable s line says
   pub range : ¬ InRange s says
 
+-- all operands pass but the number of frames, which doesn't fit
 pub record FramesFails (s : Progress) (line : List ℕ) : Type 0 where
   pub says : Line
   pub readable : IsReadable s line says
@@ -103,7 +110,7 @@ pub record FaultOfLine (bytes : List ℕ) (line : ℕ) (cause : Cause) : Type 0 
   pub number : line ≡ length before + 1
   pub fails : Fails (after_all start before) bad cause
 
--- something stands behind the last line, or that line should not be the last
+-- something follows the last line, or that line should not be the last
 abbrev pub EndFails : Stage → List ℕ → Cause → Type 0
 EndFails stage rest causes.Order = (stage ≡ stages.Finished) × (rest ≢ [])
 EndFails stage rest causes.End = stage ≢ stages.Finished

@@ -12,7 +12,7 @@ pub record Begins (ls : List Line) : Type 0 where
   pub rest : List Line
   pub lines : trace_lines trace ≡ ls ++ rest
 
--- some well-formed trace goes on behind these lines with a line of the word
+-- some well-formed trace goes on after these lines with a line of the word
 pub record GoesOnWith (before : List Line) (w : Keyword) : Type 0 where
   pub line : Line
   pub word : word_of_line line ≡ w

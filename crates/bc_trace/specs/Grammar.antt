@@ -1,3 +1,4 @@
+-- In the theorem.
 -- Which lines may stand where, and what they may say.
 use Rattle.std.specs.Prelude.{◌≡◌, ℕ, ◌+◌, ◌*◌, ◌^◌, ◌<◌, ◌≤◌, ◌==◌, Bool, true, false, not, ⊤, List, [], ◌∷◌, length}
 use Rattle.std.specs.List.{AllByRecursion}
@@ -17,6 +18,7 @@ use Rattle.bc_trace.specs.Lines.{Line, version, setting, phase, turn, lane, op, 
 abbrev pub start : Progress
 start = record { stage = stages.Start; setup = record { lanes = 0; domains = 0; slots = 0; superpages = 0; nursery = 0; buffer = 0; frames = 0 }; stood = 0 }
 
+-- two words of the header are the same
 unfoldable pub same_setting : Setting → Setting → Bool
 same_setting settings.Lanes settings.Lanes = true
 same_setting settings.Domains settings.Domains = true
@@ -104,7 +106,7 @@ pub record Passes (s : Progress) (l : Line) : Type 0 where
   pub range : InRange s l
   pub frames : FramesFit s l
 
--- the header's settings stand in this order
+-- what the header goes on with after one of its settings
 abbrev pub stage_after_setting : Setting → Stage
 stage_after_setting settings.Lanes = stages.Awaiting settings.Domains
 stage_after_setting settings.Domains = stages.Awaiting settings.Slots
@@ -114,6 +116,7 @@ stage_after_setting settings.Nursery = stages.Awaiting settings.Buffer
 stage_after_setting settings.Buffer = stages.Awaiting settings.Frames
 stage_after_setting settings.Frames = stages.Phases
 
+-- the setup with a number of the header
 abbrev pub with_setting : Setting → ℕ → Setup → Setup
 with_setting settings.Lanes n s = record s { lanes = n }
 with_setting settings.Domains n s = record s { domains = n }
@@ -123,7 +126,7 @@ with_setting settings.Nursery n s = record s { nursery = n }
 with_setting settings.Buffer n s = record s { buffer = n }
 with_setting settings.Frames n s = record s { frames = n }
 
--- the progress behind a line
+-- how far the lines have come after one more
 abbrev pub after : Line → Progress → Progress
 after (version n) s = record s { stage = stages.Awaiting settings.Lanes }
 after (setting k n) s = record s { stage = stage_after_setting k; setup = with_setting k n s.setup }
@@ -135,6 +138,7 @@ after (give g) s = record s { stage = stages.Gives }
 after end s = record s { stage = stages.Phases }
 after done s = record s { stage = stages.Finished }
 
+-- how far the lines have come after a list of them
 abbrev pub after_all : Progress → List Line → Progress
 after_all s [] = s
 after_all s (l ∷ ls) = after_all (after l s) ls

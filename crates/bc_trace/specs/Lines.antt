@@ -1,3 +1,4 @@
+-- In the theorem.
 -- The lines of a trace, and its one text.
 use Rattle.std.specs.Prelude.{◌≡◌, ℕ, suc, List, [], ◌∷◌, ◌++◌, map}
 use Rattle.std.specs.List.{flat_map}
@@ -16,7 +17,7 @@ use Rattle.bc_trace.specs.declared.words.Keyword.{Keyword}
 use Rattle.bc_trace.specs.declared.words.Keyword.TheVariants as words
 use Rattle.bc_trace.specs.Words.{name}
 
--- a line, with what its operands say
+-- a line of a trace, by its word and its operands
 pub data Line : Type 0 where
   version : ℕ → Line
   setting : Setting → ℕ → Line
@@ -28,6 +29,7 @@ pub data Line : Type 0 where
   end : Line
   done : Line
 
+-- an operation's word
 abbrev pub verb_of_op : Op → Verb
 verb_of_op (ops.New p n) = verbs.New
 verb_of_op (ops.Who p) = verbs.Who
@@ -40,6 +42,7 @@ verb_of_op (ops.Copy p q) = verbs.Copy
 verb_of_op (ops.Clear p) = verbs.Clear
 verb_of_op (ops.Same p q) = verbs.Same
 
+-- the numbers that follow an operation's word
 abbrev pub operands_of_op : Op → List ℕ
 operands_of_op (ops.New p n) = p.domain ∷ p.slot ∷ n ∷ []
 operands_of_op (ops.Who p) = p.domain ∷ p.slot ∷ []
@@ -84,17 +87,20 @@ spelling w ns = name w ++ flat_map (λ n. 32 ∷ decimal n) ns
 unfoldable pub line_text : Line → List ℕ
 line_text l = spelling (word_of_line l) (operands l) ++ 10 ∷ []
 
+-- the eight lines of a setup
 abbrev pub setup_lines : Setup → List Line
 setup_lines s = setting settings.Lanes s.lanes ∷ setting settings.Domains s.domains ∷ setting settings.Slots s.slots ∷ setting settings.Superpages s.superpages ∷ setting settings.Nursery s.nursery ∷ setting settings.Buffer s.buffer ∷ setting settings.Frames s.frames ∷ []
 
--- the lanes from lane j on, each followed by its operations
+-- the lines of the lanes of a phase from lane j on, each followed by its operations
 abbrev pub lane_lines : ℕ → List (List Op) → List Line
 lane_lines j [] = []
 lane_lines j (os ∷ lanes) = lane j ∷ (map op os ++ lane_lines (suc j) lanes)
 
+-- the lines of a phase
 abbrev pub phase_lines : PhaseLists → List Line
 phase_lines p = phase ∷ (map turn p.turns ++ (lane_lines 0 p.lanes ++ (map give p.gives ++ end ∷ [])))
 
+-- the lines of a trace
 abbrev pub trace_lines : TraceLists → List Line
 trace_lines t = version 1 ∷ (setup_lines t.setup ++ (flat_map phase_lines t.phases ++ done ∷ []))
 

@@ -28,13 +28,15 @@ use Rattle.bc_trace.specs.Faults.{line_words, lines_begun}
 
 -- ---- words
 
+-- the number is from the least to the most
 abbrev pub is_within : ℕ → ℕ → ℕ → Bool
 is_within least most n = nat_le least n && nat_le n most
 
--- whether a word must begin behind this byte, if the byte may stand; fresh where a word must begin at it
+-- whether a word must begin after this byte, if the byte may stand; fresh where a word must begin at it
 unfoldable pub next_fresh : Bool → ℕ → Option Bool
 next_fresh fresh b = if b == 32 then (if fresh then None else Some true) else (if is_within 33 126 b then Some false else None)
 
+-- of an optional truth the one that is there passes the test
 abbrev pub where_some : Option Bool → (Bool → Bool) → Bool
 where_some None next = false
 where_some (Some fresh) next = next fresh
@@ -54,57 +56,68 @@ abbrev pub named : {W : Type 0} → (W → List ℕ) → List W → List ℕ →
 named f [] bytes = None
 named f (w ∷ ws) bytes = if bytes_eq bytes (f w) then Some w else named f ws bytes
 
+-- the words of operations
 abbrev pub all_verbs : List Verb
 all_verbs = verbs.New ∷ verbs.Link ∷ verbs.Load ∷ verbs.Copy ∷ verbs.Set ∷ verbs.Clear ∷ verbs.Who ∷ verbs.Len ∷ verbs.Cut ∷ verbs.Same ∷ []
 
+-- the words of the header
 abbrev pub all_settings : List Setting
 all_settings = settings.Lanes ∷ settings.Domains ∷ settings.Slots ∷ settings.Superpages ∷ settings.Nursery ∷ settings.Buffer ∷ settings.Frames ∷ []
 
--- the words that are neither
+-- the words of the language that are neither an operation's nor the header's
 abbrev pub all_others : List Keyword
 all_others = words.Turn ∷ words.Lane ∷ words.Give ∷ words.Phase ∷ words.End ∷ words.Done ∷ words.Version ∷ []
 
+-- the first of two words that is there
 abbrev pub or_word : Option Keyword → Option Keyword → Option Keyword
 or_word None other = other
 or_word (Some w) other = Some w
 
+-- an operation's word as a word of the language
 abbrev pub op_word : Option Verb → Option Keyword
 op_word None = None
 op_word (Some v) = Some (words.Op v)
 
+-- a word of the header as a word of the language
 abbrev pub setting_word : Option Setting → Option Keyword
 setting_word None = None
 setting_word (Some s) = Some (words.Setting s)
 
+-- the word of the language that is written so
 unfoldable pub word_of : List ℕ → Option Keyword
 word_of bytes = or_word (op_word (named verb_name all_verbs bytes)) (or_word (named name all_others bytes) (setting_word (named setting_name all_settings bytes)))
 
 -- ---- numbers
 
--- the value of digits that follow those of n
+-- the value of these digits after those of n
 abbrev pub read_on : ℕ → List ℕ → ℕ
 read_on n [] = n
 read_on n (c ∷ cs) = read_on (n * 10 + (c - 48)) cs
 
+-- the number that some digits spell
 unfoldable pub digits_of : List ℕ → Option ℕ
 digits_of word = if all_ascii_digits word && nat_lt (read_on 0 word) (2 ^ 63) then Some (read_on 0 word) else None
 
+-- the number that a word spells, as numbers are written
 unfoldable pub number_of : List ℕ → Option ℕ
 number_of [] = None
 number_of (b ∷ []) = digits_of (b ∷ [])
 number_of (b ∷ c ∷ bs) = if b == 48 then None else digits_of (b ∷ c ∷ bs)
 
+-- a number and those that follow it, where all are there
 abbrev pub both : Option ℕ → Option (List ℕ) → Option (List ℕ)
 both None ns = None
 both (Some n) None = None
 both (Some n) (Some ns) = Some (n ∷ ns)
 
+-- the numbers that some words spell, where each spells one
 unfoldable pub read_numbers : List (List ℕ) → Option (List ℕ)
 read_numbers [] = Some []
 read_numbers (w ∷ ws) = both (number_of w) (read_numbers ws)
 
 -- ---- lines
 
+-- so many numbers may follow the word
 unfoldable pub has_count : Keyword → ℕ → Bool
 has_count words.Turn n = nat_le n 64
 has_count w n = n == arity w
@@ -113,6 +126,7 @@ has_count w n = n == arity w
 abbrev pub slot_at : List ℕ → ℕ → Slot
 slot_at ns i = record { domain = slice_index ns i; slot = slice_index ns (i + 1) }
 
+-- the operation of a word with its numbers
 abbrev pub op_of : Verb → List ℕ → Op
 op_of verbs.New ns = ops.New (slot_at ns 0) (slice_index ns 2)
 op_of verbs.Who ns = ops.Who (slot_at ns 0)
@@ -125,10 +139,11 @@ op_of verbs.Copy ns = ops.Copy (slot_at ns 0) (slot_at ns 2)
 op_of verbs.Clear ns = ops.Clear (slot_at ns 0)
 op_of verbs.Same ns = ops.Same (slot_at ns 0) (slot_at ns 2)
 
+-- the give of two numbers
 abbrev pub give_at : List ℕ → Give
 give_at ns = record { domain = slice_index ns 0; lane = slice_index ns 1 }
 
--- what the word and its numbers say
+-- the line that the word and its numbers are
 abbrev pub line_of : Keyword → List ℕ → Line
 line_of words.Version ns = version (slice_index ns 0)
 line_of (words.Setting k) ns = setting k (slice_index ns 0)
@@ -140,9 +155,11 @@ line_of words.End ns = end
 line_of words.Done ns = done
 line_of (words.Op v) ns = op (op_of v ns)
 
+-- the setup has the slot
 abbrev pub is_slot : Setup → Slot → Bool
 is_slot s p = nat_lt p.domain s.domains && nat_lt p.slot s.slots
 
+-- the operation fits the setup
 unfoldable pub is_op : Setup → Op → Bool
 is_op s (ops.New p n) = is_slot s p && nat_lt n 128
 is_op s (ops.Who p) = is_slot s p
@@ -155,6 +172,7 @@ is_op s (ops.Copy p q) = is_slot s p && is_slot s q
 is_op s (ops.Clear p) = is_slot s p
 is_op s (ops.Same p q) = is_slot s p && is_slot s q
 
+-- the most that a number of the header may be
 abbrev pub most_of : Setting → ℕ
 most_of settings.Lanes = 16
 most_of settings.Domains = 64
@@ -164,10 +182,12 @@ most_of settings.Nursery = 16
 most_of settings.Buffer = 4096
 most_of settings.Frames = 0
 
+-- a number of the header is in its range
 unfoldable pub is_setting : Setting → ℕ → Bool
 is_setting settings.Frames n = true
 is_setting k n = is_within 1 (most_of k) n
 
+-- the operands of a line are in their ranges
 unfoldable pub in_range : Progress → Line → Bool
 in_range s (version n) = n == 1
 in_range s (setting k n) = is_setting k n
@@ -179,33 +199,41 @@ in_range s (give g) = nat_lt g.domain s.setup.domains && nat_lt g.lane s.setup.l
 in_range s end = true
 in_range s done = true
 
+-- the fewest frames that a setup may have
 abbrev pub least_frames : Setup → ℕ
 least_frames s = s.lanes * s.nursery + 2
 
+-- the most frames that a setup may have
 abbrev pub most_frames : Setup → ℕ
 most_frames s = s.lanes * s.nursery + 4 * s.superpages
 
+-- the number of frames fits the setup
 unfoldable pub frames_fit : Progress → Line → Bool
 frames_fit s (setting settings.Frames n) = is_within (least_frames s.setup) (most_frames s.setup) n
 frames_fit s l = true
 
 -- ---- the tests of a line, in their order
 
+-- the line where its operands are in their ranges, and else its fault
 unfoldable pub judge_line : Progress → Line → Result Line Cause
 judge_line s l = if in_range s l then (if frames_fit s l then Ok l else Err causes.Frames) else Err causes.Range
 
+-- what a word says with these numbers, where each of its words spells one
 abbrev pub judge_numbers : Progress → Keyword → Option (List ℕ) → Result Line Cause
 judge_numbers s w None = Err causes.Number
 judge_numbers s w (Some ns) = judge_line s (line_of w ns)
 
+-- what a word of the language says with the words after it, or its fault
 abbrev pub judge_word : Progress → Option Keyword → List (List ℕ) → Result Line Cause
 judge_word s None others = Err causes.Word
 judge_word s (Some w) others = if may_stand w s.stage (s.stood == s.setup.lanes) then (if has_count w (length others) then judge_numbers s w (read_numbers others) else Err causes.Form) else Err causes.Order
 
+-- what the words of a line say, or their fault
 abbrev pub judge_words : Progress → List (List ℕ) → Result Line Cause
 judge_words s [] = Err causes.Form
 judge_words s (first ∷ others) = judge_word s (word_of first) others
 
+-- what a line says, or its fault
 unfoldable pub line_at : Progress → List ℕ → Result Line Cause
 line_at s line = if formed_from true line then judge_words s (line_words line) else Err causes.Form
 
@@ -215,30 +243,35 @@ line_at s line = if formed_from true line then judge_words s (line_words line) e
 abbrev pub lines_of : List ℕ → List (List ℕ)
 lines_of bytes = slice_split (λ b. b == 10) bytes
 
+-- a fault: its line and its cause
 abbrev pub fault : ℕ → Cause → TraceFault
 fault line cause = record { line = line; cause = cause }
 
+-- the trace that a draft has read
 abbrev pub trace_of_draft : DraftLists → TraceLists
 trace_of_draft d = record { setup = d.progress.setup; phases = d.phases }
 
--- behind n whole lines and the rest
+-- what the text is where it ends after n whole lines and the rest
 abbrev pub ended_at : Stage → DraftLists → ℕ → List ℕ → Result TraceLists TraceFault
 ended_at stages.Finished d n [] = Ok (trace_of_draft d)
 ended_at stages.Finished d n (b ∷ bs) = Err (fault (n + 1) causes.Order)
 ended_at _ d n rest = Err (fault (n + lines_begun rest) causes.End)
 
+-- the trace at the end of the text, or the fault there
 unfoldable pub ended : DraftLists → ℕ → List ℕ → Result TraceLists TraceFault
 ended d n rest = ended_at d.progress.stage d n rest
 
+-- the fault of a line ends the reading, which else goes on with the line
 abbrev pub go_on : ℕ → Result Line Cause → (Line → Result TraceLists TraceFault) → Result TraceLists TraceFault
 go_on n (Ok l) next = next l
 go_on n (Err cause) next = Err (fault n cause)
 
--- n lines were read, and these follow
+-- the trace or the fault of the lines that follow the first n
 unfoldable pub reading : DraftLists → ℕ → List (List ℕ) → Result TraceLists TraceFault
 reading d n [] = ended d n []
 reading d n (rest ∷ []) = ended d n rest
 reading d n (line ∷ next ∷ parts) = go_on (n + 1) (line_at d.progress line) (λ l. reading (put l d) (n + 1) (next ∷ parts))
 
+-- the trace that bytes spell, or their fault, line after line
 unfoldable pub read_of : List ℕ → Result TraceLists TraceFault
 read_of bytes = reading empty_draft 0 (lines_of bytes)

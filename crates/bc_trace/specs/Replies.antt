@@ -1,3 +1,4 @@
+-- In the theorem.
 -- The texts that a replay prints.
 use Rattle.std.specs.Prelude.{ℕ, suc, List, [], ◌∷◌, ◌++◌, codes}
 use Rattle.std.specs.List.{flat_map}
@@ -45,6 +46,6 @@ phases_text k (p ∷ ps) = phase_text k p ++ phases_text (suc k) ps
 unfoldable pub done_text : List ℕ
 done_text = codes "done" ++ 10 ∷ []
 
--- the last line of a run that ends for want of superpages, of which it would need n
+-- the last line of a run whose heap is too small: it would need n superpages
 unfoldable pub out_of_heap_text : ℕ → List ℕ
 out_of_heap_text n = codes "out of heap " ++ decimal n ++ 10 ∷ []

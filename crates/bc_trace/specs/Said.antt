@@ -26,6 +26,7 @@ abbrev pub Reads : Result Line Cause → Result ReadLine Cause → List ℕ → 
 Reads line (Ok l) ns = line ≡ Ok (said l ns)
 Reads line (Err cause) ns = line ≡ Err cause
 
+-- all numbers are hints
 abbrev pub AreHints : List ℕ → Type 0
 AreHints ns = (i : ℕ) → slice_index ns i < 2 ^ 32
 
@@ -48,7 +49,7 @@ pub record IsSmall (s : Progress) (n : ℕ) : Type 0 where
 
 -- ---- text that is read ahead
 
--- each number behind a space
+-- each number after a space
 unfoldable pub operands_text : List ℕ → List ℕ
 operands_text ns = flat_map (λ n. 32 ∷ decimal n) ns
 

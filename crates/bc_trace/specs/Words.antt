@@ -1,3 +1,4 @@
+-- In the theorem.
 -- The words that a line of a trace may begin with, as they are written.
 use Rattle.std.specs.Prelude.{ℕ, List, codes}
 use Rattle.bc_trace.specs.declared.words.Setting.{Setting}
@@ -7,6 +8,7 @@ use Rattle.bc_trace.specs.declared.words.Verb.TheVariants as verbs
 use Rattle.bc_trace.specs.declared.words.Keyword.{Keyword}
 use Rattle.bc_trace.specs.declared.words.Keyword.TheVariants as words
 
+-- how a word of the header is written
 unfoldable pub setting_name : Setting → List ℕ
 setting_name settings.Lanes = codes "lanes"
 setting_name settings.Domains = codes "domains"
@@ -16,6 +18,7 @@ setting_name settings.Nursery = codes "nursery"
 setting_name settings.Buffer = codes "buffer"
 setting_name settings.Frames = codes "frames"
 
+-- how an operation's word is written
 unfoldable pub verb_name : Verb → List ℕ
 verb_name verbs.New = codes "new"
 verb_name verbs.Who = codes "who"
@@ -28,6 +31,7 @@ verb_name verbs.Copy = codes "copy"
 verb_name verbs.Clear = codes "clear"
 verb_name verbs.Same = codes "same"
 
+-- how a word of the language is written
 unfoldable pub name : Keyword → List ℕ
 name words.Version = codes "bc-trace"
 name (words.Setting s) = setting_name s

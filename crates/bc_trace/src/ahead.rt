@@ -1,6 +1,6 @@
 //! The fast way over a line: each function takes off what good text begins with, in one look at each byte.
 //!
-//! Where it answers None nothing is said: such text is left to the exact way, which tells the fault.
+//! Where it answers None nothing is said: such text is left to the exact way, which finds the fault.
 ghost use Rattle.std.specs.Prelude.{◌≡◌, ◌<◌, ◌≤◌, ◌^◌, ◌∷◌, ◌++◌, take, IfSome};
 ghost use Rattle.std.specs.List.{AllByRecursion};
 ghost use Rattle.std.specs.Fmt.{decimal};
@@ -79,7 +79,7 @@ pub fn operand_ahead(text: &[u8], limit: u64) -> Option<(u64, &[u8])>
     }
 }
 
-/// The same below a limit that is small.
+/// Takes a number below a limit that is small off the text.
 #[inline(always)]
 pub fn small_ahead(text: &[u8], limit: u32) -> Option<(u32, &[u8])>
     ensures below { IfSome result (λ r. r.0 < limit) }

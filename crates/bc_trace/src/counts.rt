@@ -1,4 +1,4 @@
-//! How many replies of each kind a run has had, and the output of `churn`, which tells them.
+//! How many replies of each kind a run has had, and the output of `churn`, which prints them.
 ghost use Rattle.std.specs.Prelude.{◌≡◌, ◌+◌, ◌<◌, ◌≤◌, ◌^◌, ◌++◌, [], ◌∷◌, List, ℕ, length, slice_index, sum, vec_capacity, IfOk};
 ghost use Rattle.bc_model.specs.declared.operations.Reply.{Reply as ModelReply};
 ghost use Rattle.bc_trace.specs.Counts.{churn_line, churn_text, count_line, count_lines, count_of_kind, counts, kind_names, kind_of_reply, phase_replies, run_counts};

@@ -5,7 +5,7 @@ ghost use Rattle.bc_trace.specs.Reading.{next_fresh, formed_from, lines_of, word
 
 use memchr::memchr;
 
-/// The bytes before the first line feed, and those behind it.
+/// The bytes before the first line feed, and those after it.
 pub fn cut_line(bytes: &[u8]) -> Option<(&[u8], &[u8])>
     ensures parts { MatchOption result (lines_of bytes.now ≡ bytes.now ∷ []) (λ p. lines_of bytes.now ≡ p.0.now ∷ lines_of p.1.now) }
     ensures shorter { IfSome result (λ p. length p.1.now < length bytes.now) }
@@ -29,7 +29,7 @@ pub fn first_word(line: &[u8]) -> (&[u8], &[u8])
     (line, &[])
 }
 
-/// Whether a word must begin behind this byte; None where the byte may not stand. `fresh` says
+/// Whether a word must begin after this byte; None where the byte may not stand. `fresh` says
 /// whether a word must begin at it.
 #[tactic(auto, unfolding(crate::specs::Reading::next_fresh))]
 fn next_fresh(fresh: bool, byte: u8) -> Option<bool>

@@ -12,7 +12,7 @@ pub enum Cause {
     Form,
     /// The line begins with no word of the language.
     Word,
-    /// The word may not stand here, or something stands behind `done`.
+    /// The word may not stand here, or something follows `done`.
     Order,
     /// An operand is no number below 2^63, or isn't written as the language writes numbers.
     Number,

@@ -20,7 +20,7 @@ pub enum Stage {
     Turns,
     /// In a phase, at a lane's operations.
     Ops,
-    /// In a phase, behind its first give.
+    /// In a phase, after its first give.
     Gives,
     /// Behind `done`.
     Finished,
@@ -85,7 +85,7 @@ impl Progress {
         }
     }
 
-    /// Goes on behind the line.
+    /// Goes on after the line.
     #[inline(always)]
     pub fn advance(&mut self, line: Line)
         requires { self.old.stood + 1 < 2 ^ 32 }
@@ -114,7 +114,7 @@ impl Progress {
     }
 }
 
-/// The stage behind the line of a setting.
+/// The stage after the line of a setting.
 fn behind(setting: Setting) -> Stage
     ensures { result ≡ stage_after_setting setting }
 {

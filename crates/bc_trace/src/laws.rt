@@ -38,7 +38,7 @@ pub fn law_first_lines()
     ensures { (lines : List Line) → Follow start lines ↔ Begins lines }
 {}
 
-/// A word may stand behind lines that pass exactly where some well-formed trace goes on with it.
+/// A word may follow lines that pass exactly where some well-formed trace goes on with it.
 pub fn law_next_word()
     ensures { (before : List Line) (w : Keyword) → Follow start before → (MayStand (after_all start before) w ↔ GoesOnWith before w) }
 {}

@@ -7,9 +7,9 @@
 // nothing of reading.
 //
 // The reader has two ways. The fast one takes up the lines of phases, which are nearly all of a trace, in one look at each
-// byte: `ahead` takes a number or a word off the front of the text, `operations` a whole line, and `draft` puts what it
-// says behind what was read so far. Where it meets anything else it stops, and says nothing of what it met: its contracts
-// tell good lines alone. There the exact way reads one line, which is a line of the header, `done`, or one that fails.
+// byte: `ahead` takes a number or a word off the start of the text, `operations` a whole line, and `draft` puts what it
+// says after what was read so far. Where it meets anything else it stops, and says nothing of what it met: its contracts
+// speak of good lines alone. There the exact way reads one line, which is a line of the header, `done`, or one that fails.
 // `cutting` takes off the line and its words, `words` and `numbers` say what they are, `grammar` whether such a line may
 // stand next, and `checking` whether its numbers are in range. A line is tested in seven steps, and the first test that
 // fails gives the fault (`specs/Faults.antt`).
@@ -17,19 +17,26 @@
 // Between two lines the reader keeps a draft of the trace and its `Progress`: the stage in the text, the setup, and how
 // many lanes of the phase have stood. A list of the trace is made at its own length once its last element is read, and
 // the hints of a turn go through one buffer of 64, so a trace takes no more room than its lists need.
+// A list of more than 1,024 elements is taken as it grew, and shrunk. The fast way takes a number by at most 19 digits, so none
+// needs a test for overflow, and 2^63 is tested once at the end.
 //
 // In contracts the reader is a function of the bytes (`specs/Reading.antt`), which each function of
 // the code mirrors. What counts are the clauses of `read`, which don't name it: a trace is answered
 // exactly where the bytes spell it, and a fault exactly where it is the text's fault. `laws` has
 // what the definitions say together: one trace a text, one text a trace, and one fault a bad text.
 //
-// What a replay prints is put behind a text that has room for it (`rooms`), by calls that take no memory: `phase_room`,
+// What a replay prints is put after a text that has room for it (`rooms`), by calls that take no memory: `phase_room`,
 // `need_room` and `churn_room` take the room before there is anything to print. How much is enough is said by `specs/TextRooms.antt`.
 //
 // `churn` makes a trace of its own from a starting number: `draws` has the generator and the table of kinds, and
 // `specs/Churn.antt` says the whole trace as lists. `counts` counts the replies of a run by their kinds and writes the output.
 // `churn_laws` has the table, the sums, and why the run never wants for superpages: a lane clears what it holds as a phase
 // begins, so that what is reached was made in that phase or the one before it.
+//
+// A new operation is a row in `Verb`, `verb_name`, `verb_of` and the list `all_verbs`, in `arity`, `op_of`, `is_op`, `verb_of_op` and
+// `operands_of_op`, and in `verb_ahead` and `operands_of_op_ahead`, with one clause in each lemma by cases on operations. A new line
+// beside `give` is a constructor of `Line` with its rows in `Grammar`, and one clause in the lemmas of `FollowLines` and `ReadOfTrace`;
+// the fast way needs none.
 #![tactic(auto)]
 
 mod ahead;

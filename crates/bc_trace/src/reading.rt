@@ -54,7 +54,7 @@ fn line_at(progress: &Progress, line: &[u8], operands: &mut [u64; 64]) -> Result
     line_of(progress, word, &operands[..count])
 }
 
-/// What the text ends with, behind `lines` whole lines.
+/// What the text ends with, after `lines` whole lines.
 #[tactic(auto, unfolding(crate::specs::Reading::ended))]
 fn end(draft: Draft, lines: u32, rest: &[u8]) -> Result<Trace, ReadTrace>
     requires { lines + length rest.now < 2 ^ 32 }

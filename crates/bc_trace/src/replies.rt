@@ -1,4 +1,4 @@
-//! The texts that a replay prints: the line of a reply, that of a need, and the text of a whole phase. Each is put behind a text
+//! The texts that a replay prints: the line of a reply, that of a need, and the text of a whole phase. Each is put after a text
 //! that has room for it.
 ghost use Rattle.std.specs.Prelude.{◌≡◌, ◌+◌, ◌*◌, ◌^◌, ◌<◌, ◌≤◌, ◌++◌, [], length, sum_by, vec_capacity, IfOk};
 ghost use Rattle.bc_trace.specs.Replies.{reply_word, reply_text, lane_text, phase_text, out_of_heap_text};
@@ -133,7 +133,7 @@ pub fn phase_text(alloc: Global, number: u32, replies: &Replies) -> Result<Vec<u
     Ok(text)
 }
 
-/// Puts the last line of a run at the end that ends for want of superpages, of which it would need so many. It takes no memory.
+/// Puts the last line of a run whose heap is too small at the end, with the number of superpages that it would need. It takes no memory.
 #[tactic(auto, unfolding(crate::specs::Replies::out_of_heap_text))]
 pub fn put_need(out: &mut Vec<u8>, need: u64)
     requires room { length out.old.items + need_bytes ≤ vec_capacity out.old }

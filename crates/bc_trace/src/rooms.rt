@@ -1,4 +1,4 @@
-//! Text that is put behind another, in room that was taken before: no memory is taken, so nothing can be refused.
+//! Text that is put after another, in room that was taken before: no memory is taken, so nothing can be refused.
 ghost use Rattle.std.specs.Prelude.{◌≡◌, ◌+◌, ◌≤◌, ◌++◌, [], ◌∷◌, length, vec_capacity};
 ghost use Rattle.std.specs.Fmt.{decimal};
 

@@ -1,5 +1,5 @@
 -- What a turn begins with: the lanes that have operations left, each with what it takes into the turn and its seat at the table,
--- and what each run tells.
+-- and what is known of each run.
 use Rattle.std.specs.Prelude.{◌≡◌, ℕ, ◌<◌, List, [], ◌∷◌, length, None, slice_index, slice_index_or}
 use Rattle.bc_lane.specs.Back.{heap_back}
 use Rattle.bc_lane.specs.declared.stops.Stop.{Stop}
@@ -58,7 +58,7 @@ pub record RanLane (ops : List Op) (old : LaneTurn) (seat : Seat) (new : LaneTur
   pub seat_is : IsSameSeat seat after
   pub free : IsFree after
 
--- so did all lanes that began
+-- all lanes that began ran
 pub record AllRan (lanes : List (List Op)) (busy : List ℕ) (old : ℕ → LaneTurn) (seat : ℕ → Seat) (new : ℕ → LaneTurn) (after : ℕ → Seat) : Type 0 where
   pub why : ℕ → Stop
   pub each : (i : ℕ) → i < length busy → RanLane (of_lane lanes (slice_index busy i)) (old i) (seat i) (new i) (after i) (why i)

@@ -1,4 +1,4 @@
--- Lanes that ran side by side in one turn, told as if one had run after another.
+-- Lanes that ran side by side in one turn, as if one had run after another.
 use Rattle.std.specs.Prelude.{◌≡◌, ◌⊎◌, ◌↔◌, ℕ, ◌+◌, ◌<◌, ◌≤◌, List, [], ◌++◌, length, take, drop, slice_index, slice_index_or}
 use Rattle.bc_bookmarks.specs.Moves.{MovesPages}
 use Rattle.bc_bookmarks.specs.Summarised.{IsSummarised}

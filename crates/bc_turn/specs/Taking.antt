@@ -67,6 +67,7 @@ pub record IsSpareOf (holders : List ℕ) (slots : ℕ) (spare : Spare) : Type 0
 abbrev pub spare_lanes : List Spare → List ℕ
 spare_lanes spares = map (λ (spare : Spare). spare.lane) spares
 
+-- each room that is kept is one for its lane
 abbrev pub AreSparesOf : List ℕ → ℕ → List Spare → Type 0
 AreSparesOf holders slots spares = (i : ℕ) → i < length spares → (d : Spare) → IsSpareOf holders slots (slice_index_or spares i d)
 
@@ -98,10 +99,11 @@ pub record TakesAlong (h : HeapView) (holders serials : List ℕ) (lanes : List 
 abbrev pub running_lanes : List Run → List ℕ
 running_lanes runs = map (λ (run : Run). run.turn.part.lane) runs
 
--- the last runs first: what the lane of that number took into the turn, and its seat
+-- what lane i took into the turn; the last of the runs comes first
 abbrev pub turn_at : Run → List Run → ℕ → LaneTurn
 turn_at d runs i = (slice_index_or runs (length runs - (i + 1)) d).turn
 
+-- the seat of lane i; the last of the runs comes first
 abbrev pub seat_at : Run → List Run → ℕ → Seat
 seat_at d runs i = (slice_index_or runs (length runs - (i + 1)) d).seat
 
@@ -147,7 +149,7 @@ pub record LaysSlots (old : RootWords) (domain : ℕ) (words : List ℕ) (start 
   pub kept : (i : ℕ) → Has old.noted i → Has new.noted i
   pub written : (i : ℕ) → (slice_index new.words i ≡ slice_index old.words i) ⊎ Has new.noted i
 
--- so were those of the first of these domains
+-- the words of the first of these domains were written
 pub record LaysDomains (old : RootWords) (domains words : List ℕ) (count : ℕ) (new : RootWords) : Type 0 where
   pub same : new ≡ record old { words = new.words; noted = new.noted }
   pub long : length new.words ≡ length old.words
@@ -164,12 +166,12 @@ pub record CanRun (pins : Pins) (lanes : List (List Op)) (run : Run) : Type 0 wh
   pub whole : IsWhole run.turn.part (view_of run.seat) None (end_of heap.space) heap
   pub ops : AllByRecursion (IsOpOf heap.roots) (of_lane lanes run.turn.part.lane)
 
--- and it has run, and stopped for some cause
+-- a lane has run, and stopped for some cause
 pub record LaneHasRun (lanes : List (List Op)) (old new : Run) : Type 0 where
   pub why : Stop
   pub ran : RanLane (of_lane lanes old.turn.part.lane) old.turn old.seat new.turn new.seat why
 
--- so have all of a list
+-- all lanes of a list have run, each stopped for some cause
 pub record HaveRun (lanes : List (List Op)) (old new : List Run) : Type 0 where
   pub long : length new ≡ length old
   pub each : (i : ℕ) → (d : Run) → i < length old → LaneHasRun lanes (slice_index_or old i d) (slice_index_or new i d)

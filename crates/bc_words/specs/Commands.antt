@@ -1,3 +1,4 @@
+-- In the theorem.
 -- Which words are a command, and which one. The words come without the program's name.
 use Rattle.std.specs.Prelude.{◌≡◌, ℕ, ◌<◌, ◌≤◌, ◌^◌, ◌⊎◌, List, [], ◌∷◌, ◌++◌, codes}
 use Rattle.std.specs.Fmt.{decimal}
@@ -17,7 +18,7 @@ IsHyphened word = (rest : Word) × (word ≡ 45 ∷ rest)
 pub data Parts : List Word → List Word → List Word → Type 0 where
   -- no word is left
   ended : Parts [] [] []
-  -- `--` is passed over, and every word after it is a plain value
+  -- `--` is skipped, and every word after it is a plain value
   dashes : (plain : List Word) → Parts (codes "--" ∷ plain) [] plain
   -- `--workers`, followed by a word, whatever word it is
   apart : {rest workers plain : List Word} → (value : Word) → Parts rest workers plain
