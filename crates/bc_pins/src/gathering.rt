@@ -1,6 +1,8 @@
 //! All seats joined into one, and all slots taken out of a table that is closed.
 
-ghost use Rattle.std.specs.Prelude.{◌≡◌, ℕ, ◌+◌, ◌-◌, ◌*◌, ◌/◌, ◌%◌, ◌^◌, ◌<◌, ◌≤◌, false, [], length, min, slice_index, slice_index_or, vec_capacity};
+ghost use Rattle.std.specs.Prelude.{◌≡◌, ℕ, ◌+◌, ◌-◌, ◌*◌, ◌/◌, ◌%◌, ◌^◌, ◌<◌, ◌≤◌, ◌≢◌, ◌==◌, false, [], length, min, slice_index, slice_index_or, vec_capacity};
+ghost use Rattle.std.specs.Int.{bit_at};
+ghost use Rattle.bc_frames.specs.Pool.{is_free};
 ghost use Rattle.core.specs.Mem.Slots.{slots_items, slots_filled, slots_len, IsFull};
 ghost use Rattle.bc_superpages.specs.Headers.{unused_header};
 ghost use Rattle.bc_superpages.specs.Kept.{IsCellSet};
@@ -189,6 +191,17 @@ pub(crate) fn lay_marks(
     set_marks(&mut parts.headers, closed, superpages, start);
 }
 
+/// Tells the pool which of 64 frames are free: those whose bits are clear. A word that the pool has so already is left alone.
+fn put_frame_word(pool: &mut FramePool, word: u32, bits: u64)
+    ensures long { length pool.new ≡ length pool.old }
+    ensures here { (f : ℕ) → f / 64 ≡ word → f < length pool.old → is_free pool.new f ≡ (bit_at bits (f % 64) == 0) }
+    ensures others { (f : ℕ) → f / 64 ≢ word → is_free pool.new f ≡ is_free pool.old f }
+{
+    if pool.word(word) != bits {
+        pool.put_word(word, bits);
+    }
+}
+
 /// Tells the pool which frames are free: those whose bits are clear in the words from a place on.
 pub(crate) fn put_frames(pool: &mut FramePool, closed: &Closed<Lodged, Global>, start: usize)
     requires start { start < 2 ^ 32 }
@@ -197,6 +210,6 @@ pub(crate) fn put_frames(pool: &mut FramePool, closed: &Closed<Lodged, Global>, 
 {
     let count = (pool.frames() as usize + 63) / 64;
     for word in 0..count {
-        pool.put_word(word as u32, closed.word(start + word));
+        put_frame_word(pool, word as u32, closed.word(start + word));
     }
 }

@@ -10,7 +10,7 @@ loop-word-init c = subst (λ (n : ℕ). PoolSet c.args.pool.now c.args.pool.now 
 
 pub loop-word-preserved : goal.loop-word-preserved
 loop-word-preserved c =
-    pool_more _ _ _ _ _ _ _ c.loop-word.invariant c.put_word.ensures.long c.put_word.ensures.here c.put_word.ensures.others
+    pool_more _ _ _ _ _ _ _ c.loop-word.invariant c.put_frame_word.ensures.long c.put_frame_word.ensures.here c.put_frame_word.ensures.others
     (sym (at_or (slots_items c.args.closed.now.words) (c.args.start + c.loop-word.word) c.word.result 0 c.word.ensures))
 
 pub returns : goal.returns
