@@ -39,11 +39,6 @@ returns-in_err-reply-clause-why g c =
     (stayed-why c.args.pins.now c.args.ops.now c.args.end c.args.turn.now (record c.args.turn.now { part = c.answer.new.part }) c.answer.new.part c.args.seat.now c.answer.new.seat c.args.hand.now c.answer.new.hand c.requires.going c.requires.more
     c.answer.ensures.part c.answer.ensures.seated c.answer.ensures.reads c.in_err-reply.ensures.still refl refl refl refl (next-op c.args.ops.now c.args.turn.now.next) c.in_err-reply.field-0.0 (op-default c.args.ops.now c.args.turn.now.next zero c.requires.more) c.in_err-reply.ensures.why)
 
-pub returns-in_err-reply-clause-since : goal.returns-in_err-reply-clause-since
-returns-in_err-reply-clause-since g c =
-    let p = err_from_is_err_and c.from_residual.result c.from_residual.ensures.1 in
-    rw (p.1, p.2) c.in_err-reply.ensures.since
-
 pub returns-in_err-reply-clause-nursery : goal.returns-in_err-reply-clause-nursery
 returns-in_err-reply-clause-nursery g c =
     let p = err_from_is_err_and c.from_residual.result c.from_residual.ensures.1 in
