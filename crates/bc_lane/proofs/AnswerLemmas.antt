@@ -1,5 +1,6 @@
 -- An operation of a lane, once its page is in hand.
-use Rattle.std.proofs.Common.{◌≡◌, ◌⊎◌, ℕ, ◌/◌, ◌<◌, List, length, map, get_or, Option, Result, Ok, Err, inl, inr, ap, sym, subst, ◌∙◌}
+use Rattle.std.proofs.Common.{◌≡◌, ◌≢◌, ◌⊎◌, ℕ, ◌/◌, ◌<◌, List, length, map, get_or, Option, Result, Ok, Err, inl, inr, ap, sym, subst, ◌∙◌}
+use Rattle.std.proofs.lemmas.Bool.{cases_eq}
 use Rattle.std.proofs.lemmas.List.{get_or-map}
 use Rattle.std.proofs.lemmas.Result.{IfOk-weaker, on_err_weaker}
 use Rattle.std.specs.Result.{IfErr, IfOk, OnErr}
@@ -7,7 +8,7 @@ use Rattle.bc_lane.specs.declared.parts.LanePart.{LanePart}
 use Rattle.bc_lane.specs.declared.stops.Stop.{Stop}
 use Rattle.bc_lane.specs.declared.stops.Stop.TheVariants as stop
 use Rattle.bc_lane.specs.Shown.{HasPage, IsOwnPage, ShowsPages}
-use Rattle.bc_lane.specs.Turns.{DoesOne, HasInHand, LaneHoldsAll, IsLaneSeat, IsLaneTable, IsRefusedPage, IsWhole, LeadsToPageWhere, LooksForeign, LooksOn, LooksOwn, ReadsOn, SlotsOf, StaysWhole, StopsOp}
+use Rattle.bc_lane.specs.Turns.{DoesOne, HasInHand, LaneHoldsAll, IsLaneSeat, IsLaneTable, IsRefusedPage, IsWhole, LeadsToPageWhere, LooksForeign, LooksOn, LooksOnIn, LooksOwn, PassesBy, ReadsOn, SlotsOf, StaysWhole, StopsOp}
 use Rattle.bc_lane.proofs.ForeignLemmas.{foreign-looked}
 use Rattle.bc_lane.proofs.FrameLemmas.{held-since, no-frame-since}
 use Rattle.bc_lane.proofs.HandLemmas.{hand-after}
@@ -23,7 +24,7 @@ use Rattle.bc_pins.specs.declared.pins.Pins.{Pins}
 use Rattle.bc_pins.specs.declared.pins.Seat.{Seat}
 use Rattle.bc_pins.specs.declared.views.View.{View}
 use Rattle.bc_pins.specs.Calls.{key_of, view_of}
-use Rattle.bc_pins.specs.Key.{Key, lane_role, owner, role_number}
+use Rattle.bc_pins.specs.Key.{Key, lane_role, owner, pages_of, role_number}
 use Rattle.bc_pins.specs.Views.{has_role}
 use Rattle.bc_superpages.specs.Layout.{Layout}
 use Rattle.bc_whole_heap.specs.Heaps.{HeapView}
@@ -73,6 +74,14 @@ pub refused-stops : (part : LanePart) (k : Key) (v w : View) (after : Option Hel
 refused-stops part k v w after end page op why about looks refused = elim refused [
   | inl busy ↦ subst (StopsOp v part w after end op) (sym busy.0) (busy.1, λ h whole fits. looks.looks w after h about whole fits)
   | inr none ↦ subst (StopsOp v part w after end op) (sym none.0) (page, none.1, λ h whole fits. looks.looks w after h about whole fits)
+]
+
+-- the page that was brought is the one on which the operation looks
+pub brought-looked : (part : LanePart) (k : Key) (v w : View) (hand : Option Held) (end page : ℕ) (op : Op) → v.about ≡ k → LooksOwn part k end op page → ((q : ℕ) → q < pages_of v.about → q ≢ page → PassesBy v w q)
+    → (q : ℕ) → q < pages_of v.about → PassesBy v w q ⊎ LooksOnIn part v hand end op q
+brought-looked part k v w hand end page op about looks passes q near = elim (cases_eq q page) [
+  | inl is ↦ inr (λ h whole fits. subst (LooksOn h op) (sym is) (looks.looks v hand h about whole fits))
+  | inr ne ↦ inl (passes q near ne)
 ]
 
 -- why an operation isn't done, told since an earlier view

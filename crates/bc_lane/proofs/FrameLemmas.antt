@@ -175,11 +175,11 @@ none-found-reads v w a = record {
   fetches = λ q none. ap (λ (x : View). times q x.fetched) a.view;
   far = λ q past. (ap (λ (x : View). times q x.left) a.view, ap (λ (x : View). times q x.emptied) a.view, ap (λ (x : View). times q x.fetched) a.view);
   few = (
-    let left = ap (λ (x : View). length x.left) a.view in
-    let emptied = ap (λ (x : View). length x.emptied) a.view in
-    let fetched = ap (λ (x : View). length x.fetched) a.view in
-    omega arith
-  );
+      let left = ap (λ (x : View). length x.left) a.view in
+      let emptied = ap (λ (x : View). length x.emptied) a.view in
+      let fetched = ap (λ (x : View). length x.fetched) a.view in
+      omega arith
+      );
 }
 
 pub none-found-shows : (v w : View) (end : ℕ) (s : Layout) → FindsNoFrameAtAll v w → ShowsPages v None end s → ShowsPages w None end s
@@ -323,12 +323,12 @@ module _ (v u : View) (seat : Seat) (page frame : ℕ) (held : Held) (f : HasFra
         let fetched = ap (λ (x : View). times q x.fetched) is-now in
         (ap (λ (x : View). times q x.left) is-now ∙ past_here.0, ap (λ (x : View). times q x.emptied) is-now ∙ past_here.1, omega arith);
     few = (
-      let given = f.few in
-      let left = ap (λ (x : View). length x.left) is-now in
-      let emptied = ap (λ (x : View). length x.emptied) is-now in
-      let fetched = ap (λ (x : View). length x.fetched) is-now in
-      omega arith
-    );
+        let given = f.few in
+        let left = ap (λ (x : View). length x.left) is-now in
+        let emptied = ap (λ (x : View). length x.emptied) is-now in
+        let fetched = ap (λ (x : View). length x.fetched) is-now in
+        omega arith
+        );
   }
 
 -- a box was opened, and counted

@@ -26,3 +26,5 @@ pub mod OpenLemmas
 pub mod ReloadLemmas
 -- A frame for a page that is gone, and the page that comes back into it
 pub mod FrameLemmas
+-- A page that a seat left as it was
+pub mod PassLemmas

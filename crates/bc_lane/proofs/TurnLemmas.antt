@@ -1,11 +1,11 @@
 -- A lane's turn, from operation to operation and to its end.
-use Rattle.std.proofs.Common.{◌≡◌, ℕ, ◌+◌, ◌-◌, ◌*◌, ◌^◌, ◌<◌, List, [], ◌∷◌, ◌++◌, length, get_or, Option, None, Result, Err, Vec, Global, vec_capacity, inl, inr, refl, ap, sym, subst, ◌∙◌, arith}
+use Rattle.std.proofs.Common.{◌≡◌, ◌⊎◌, ℕ, ◌+◌, ◌-◌, ◌*◌, ◌^◌, ◌<◌, List, [], ◌∷◌, ◌++◌, length, get_or, Option, None, Result, Err, Vec, Global, vec_capacity, inl, inr, refl, ap, sym, subst, ◌∙◌, arith}
 use Rattle.std.proofs.lemmas.List.{get_or_default}
 use Rattle.std.specs.List.{AllByRecursion}
 use Rattle.bc_lane.specs.Shown.{ShowsPages}
 use Rattle.bc_evict.specs.Claiming.{all_bits}
 use Rattle.bc_evict.specs.Looking.{MayStay}
-use Rattle.bc_lane.specs.Turns.{DoesOne, FindsNoFrameFor, IsGoing, IsLaneSeat, IsLaneTable, IsNextOp, IsWhole, LaneRan, LastOf, ReadsHeld, ReadsOn, SamePart, StaysWhole, StopsOp, WhyStopped}
+use Rattle.bc_lane.specs.Turns.{DoesOne, FindsNoFrameFor, IsGoing, IsLaneSeat, IsLaneTable, IsNextOp, IsWhole, LaneRan, LastOf, LooksNext, LooksOnIn, PassesBy, ReadsHeld, ReadsOn, SamePart, StaysWhole, StopsOp, WhyStopped}
 use Rattle.bc_lane.specs.declared.parts.LanePart.{LanePart}
 use Rattle.bc_lane.specs.declared.stops.Stop.{Stop}
 use Rattle.bc_lane.specs.declared.stops.Stop.TheVariants as stop
@@ -92,32 +92,44 @@ why-laid u ops turn v w hand end why read gone busy about back is = elim is [
   | inr next ↦ inr (next.0, next.1, next.2, stops-laid u turn.part v w hand end next.0 why (record { read = read; gone = gone; busy = busy; about = about }) back next.3)
 ]
 
-pub ran-laid : (ops : List Op) (end : ℕ) (old new : LaneTurn) (v w x : View) (hand after : Option Held) → LaneRan ops end old v hand new w after → ReadsOn w x → ((e : ℕ) → (s : Layout) → ShowsPages w after e s → ShowsPages x None e s) → LaneRan ops end old v hand new x None
-ran-laid ops end old new v w x hand after ran reads shows =
-    ran-stopped ops end old new new v w x hand after None ran refl refl refl refl reads (λ h whole. whole-moved new.part w x after None end h shows whole)
+pub ran-laid : (ops : List Op) (end : ℕ) (old new : LaneTurn) (v w x : View) (hand after : Option Held) → LaneRan ops end old v hand new w after → ReadsOn w x → ((q : ℕ) → PassesBy w x q) → ((e : ℕ) → (s : Layout) → ShowsPages w after e s → ShowsPages x None e s) → LaneRan ops end old v hand new x None
+ran-laid ops end old new v w x hand after ran reads passes shows =
+    ran-stopped ops end old new new v w x hand after None ran refl refl refl refl reads (λ q near. inl (passes q)) (λ h whole. whole-moved new.part w x after None end h shows whole)
+
+-- the operation that looks at a page is the next one
+looks-here : (ops : List Op) (end : ℕ) (turn : LaneTurn) (v w : View) (hand : Option Held) (op : Op) (q : ℕ) → turn.next < length ops → op ≡ get_or ops turn.next op → PassesBy v w q ⊎ LooksOnIn turn.part v hand end op q
+    → PassesBy v w q ⊎ LooksNext ops end turn v hand q
+looks-here ops end turn v w hand op q less is looked = elim looked [
+  | inl passes ↦ inl passes
+  | inr looks ↦ inr (op, less, is, looks)
+]
 
 -- an operation was done and its reply kept
 module _ (pins : Pins) (ops : List Op) (end : ℕ) (turn new : LaneTurn) (part : LanePart) (seat after : Seat) (hand last : Option Held) (op : Op) (reply : Reply)
     (going : IsGoing pins ops turn seat hand) (h : HeapView) (w : IsWhole turn.part (view_of seat) hand end h) (fits : AllByRecursion (IsOpOf h.roots) ops) (less : turn.next < length ops) (is : op ≡ get_or ops turn.next op)
     (same : SamePart turn.part part) (seated : IsLaneSeat pins turn.part.lane after last) (reads : ReadsOn (view_of seat) (view_of after))
     (does : DoesOne turn.part (view_of seat) hand part (view_of after) last end op reply) (part_is : new.part ≡ part) (next : new.next ≡ turn.next + 1) (count : new.count ≡ turn.count)
-    (kept : new.replies.items ≡ turn.replies.items ++ reply ∷ []) (room : vec_capacity new.replies ≡ vec_capacity turn.replies) where
+    (kept : new.replies.items ≡ turn.replies.items ++ reply ∷ []) (room : vec_capacity new.replies ≡ vec_capacity turn.replies)
+    (looked : (q : ℕ) → q < pages_of (view_of seat).about → PassesBy (view_of seat) (view_of after) q ⊎ LooksOnIn turn.part (view_of seat) hand end op q) where
   does-new : DoesOne turn.part (view_of seat) hand new.part (view_of after) last end op reply
   does-new = subst (λ (p : LanePart). DoesOne turn.part (view_of seat) hand p (view_of after) last end op reply) (sym part_is) does
 
   same-new : SamePart turn.part new.part
   same-new = subst (λ (p : LanePart). SamePart turn.part p) (sym part_is) same
 
+  next-looked : (q : ℕ) → q < pages_of (view_of seat).about → PassesBy (view_of seat) (view_of after) q ⊎ LooksNext ops end turn (view_of seat) hand q
+  next-looked q near = looks-here ops end turn (view_of seat) (view_of after) hand op q less is (looked q near)
+
   none : LaneRan ops end turn (view_of seat) hand turn (view_of seat) hand
   none = ran-none ops end turn (view_of seat) hand
 
   pub advanced-ran : LaneRan ops end turn (view_of seat) hand new (view_of after) last
   advanced-ran =
-      ran-more ops end turn turn new (view_of seat) (view_of seat) (view_of after) hand hand last op reply none h w fits less is does-new same-new next count kept room reads
+      ran-more ops end turn turn new (view_of seat) (view_of seat) (view_of after) hand hand last op reply none h w fits less is does-new same-new next count kept room reads next-looked
 
   pub advanced-going : IsGoing pins ops new after last
   advanced-going =
-      let few = one-birth ops end turn turn new (view_of seat) (view_of seat) (view_of after) hand hand last op reply none h w fits less is does-new same-new next count kept room reads in
+      let few = one-birth ops end turn turn new (view_of seat) (view_of seat) (view_of after) hand hand last op reply none h w fits less is does-new same-new next count kept room reads next-looked in
       let births = going.births in
       going-on pins ops turn new seat after hand last going same-new seated count (omega arith)
 
@@ -129,10 +141,11 @@ module _ (pins : Pins) (ops : List Op) (end : ℕ) (turn new : LaneTurn) (part :
   stayed-part : new.part ≡ turn.part
   stayed-part = part_is ∙ still.0
 
-  pub stayed-ran : LaneRan ops end turn (view_of seat) hand new (view_of after) last
-  stayed-ran =
+  pub stayed-ran : (op : Op) → op ≡ get_or ops turn.next op → ((q : ℕ) → q < pages_of (view_of seat).about → PassesBy (view_of seat) (view_of after) q ⊎ LooksOnIn turn.part (view_of seat) hand end op q)
+      → LaneRan ops end turn (view_of seat) hand new (view_of after) last
+  stayed-ran op is looked =
       ran-stopped ops end turn turn new (view_of seat) (view_of seat) (view_of after) hand hand last (ran-none ops end turn (view_of seat) hand)
-      stayed-part next count kept reads still.1
+      stayed-part next count kept reads (λ q near. looks-here ops end turn (view_of seat) (view_of after) hand op q less is (looked q near)) still.1
 
   pub stayed-going : IsGoing pins ops new after last
   stayed-going =

@@ -180,6 +180,11 @@ pub record ReadsOn (v w : View) : Type 0 where
   pub far : (page : ℕ) → pages_of v.about ≤ page → (times page w.left ≡ times page v.left) × (times page w.emptied ≡ times page v.emptied) × (times page w.fetched ≡ times page v.fetched)
   pub few : (length w.left + length w.emptied) + length v.fetched ≤ length w.fetched + (length v.left + length v.emptied)
 
+-- a page that a seat left as it was: as often as it read it as Home it made it Gone or Absent, and it didn't bring it back
+pub record PassesBy (v w : View) (page : ℕ) : Type 0 where
+  pub home : times 1 (reads_at page w.read) + (times page v.left + times page v.emptied) ≡ times 1 (reads_at page v.read) + (times page w.left + times page w.emptied)
+  pub fetched : times page w.fetched ≡ times page v.fetched
+
 -- a seat has the right to this frame and to no other, which it claimed, or for which it made one page Gone or Absent, the one that it
 -- read as Home. What it knew to be Gone it knows still, and nothing else changed that the view says
 pub record HasFrame (v : View) (frame : ℕ) (w : View) : Type 0 where
@@ -260,6 +265,10 @@ StopsOp v part w hand end op stop.NoFrame = (page : ℕ) × FindsNoFrameFor v w 
 abbrev pub WhyStopped : View → List Op → ℕ → LaneTurn → View → Option Held → Stop → Type 0
 WhyStopped v ops end turn w hand why = ((why ≡ stop.End) × (length ops ≤ turn.next)) ⊎ IsNextOp ops turn.next (λ op. StopsOp v turn.part w hand end op why)
 
+-- the next operation looks at a cell on this page
+abbrev pub LooksNext : List Op → ℕ → LaneTurn → View → Option Held → ℕ → Type 0
+LooksNext ops end turn v hand page = IsNextOp ops turn.next (λ op. LooksOnIn turn.part v hand end op page)
+
 -- what the turn of a lane rests on
 pub record IsGoing (pins : Pins) (ops : List Op) (turn : LaneTurn) (seat : Seat) (hand : Option Held) : Type 0 where
   pub table : IsLaneTable (key_of pins) turn.part.holders.items
@@ -273,8 +282,20 @@ pub record SameSizes (h k : HeapView) : Type 0 where
   pub domains : k.roots.domains ≡ h.roots.domains
   pub slots : k.roots.slots ≡ h.roots.slots
 
+-- one of the operations with these replies looks at a cell on this page, or the one behind them: in the heap that those before it made of
+-- the one to which what the lane had belonged
+pub record LooksInRun (ops : List Op) (end : ℕ) (old : LaneTurn) (v : View) (hand : Option Held) (replies : List Reply) (page : ℕ) : Type 0 where
+  pub before : ℕ
+  pub within : before ≤ length replies
+  pub op : Op
+  pub less : old.next + before < length ops
+  pub is : op ≡ slice_index_or ops (old.next + before) op
+  pub looks : (h : HeapView) → IsWhole old.part v hand end h → AllByRecursion (IsOpOf h.roots) ops
+      → (k : HeapView) × (serial : ℕ) × DidAll old.part.holders.items old.part.lane (take before (drop old.next ops)) (take before replies) h old.part.serial k serial × LooksOn k op page
+
 -- operations of the lane were done, in their order: whatever whole heap what the lane had belonged to, what it has now belongs to
--- that heap with these operations done. Their replies are kept, where there was room for them
+-- that heap with these operations done. Their replies are kept, where there was room for them. A page on which none of them looks, nor
+-- the next one, the seat left as it was
 pub record LaneRan (ops : List Op) (end : ℕ) (old : LaneTurn) (v : View) (hand : Option Held) (new : LaneTurn) (w : View) (after : Option Held) : Type 0 where
   pub replies : List Reply
   pub kept : new.replies.items ≡ old.replies.items ++ replies
@@ -284,6 +305,7 @@ pub record LaneRan (ops : List Op) (end : ℕ) (old : LaneTurn) (v : View) (hand
   pub same : SamePart old.part new.part
   pub serial : new.part.serial ≤ old.part.serial + length replies
   pub reads : ReadsOn v w
+  pub looked : (page : ℕ) → page < pages_of v.about → PassesBy v w page ⊎ LooksInRun ops end old v hand replies page
   pub done : (h : HeapView) → IsWhole old.part v hand end h → AllByRecursion (IsOpOf h.roots) ops
       → (k : HeapView) × IsWhole new.part w after end k × SameSizes h k
       × DidAll old.part.holders.items old.part.lane (take (length replies) (drop old.next ops)) replies h old.part.serial k new.part.serial

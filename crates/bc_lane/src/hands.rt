@@ -1,10 +1,10 @@
 //! The page that a lane has in hand. It is taken when an operation looks at a cell on it, and put back when another page is
 //! wanted or the turn ends. Where it is gone it comes back for the lane.
 
-ghost use Rattle.std.specs.Prelude.{◌≡◌, ℕ, ◌<◌, true, [], Some, None, IfOk, IfErr, IfSome, IfNone, OnOk, OnErr};
+ghost use Rattle.std.specs.Prelude.{◌≡◌, ◌≢◌, ℕ, ◌<◌, true, [], Some, None, IfOk, IfErr, IfSome, IfNone, OnOk, OnErr};
 ghost use Rattle.bc_lane.specs.declared.stops.Stop.TheVariants as stop;
 ghost use Rattle.bc_lane.specs.Shown.{HasPage, IsOwnPage, ShowsPages};
-ghost use Rattle.bc_lane.specs.Turns.{FindsNoFrameAtAll, HasFrame, HasInHand, IsRefusedPage, IsSameLane, ReadsOn};
+ghost use Rattle.bc_lane.specs.Turns.{FindsNoFrameAtAll, HasFrame, HasInHand, IsRefusedPage, IsSameLane, PassesBy, ReadsOn};
 ghost use Rattle.bc_pins.specs.Calls.{HoldsPage, IsAt, IsFree, IsSameSeat, key_of, view_of};
 ghost use Rattle.bc_pins.specs.Contents.{IsBarePage};
 ghost use Rattle.bc_pins.specs.Key.{pages_of};
@@ -30,6 +30,7 @@ pub(crate) fn lay_down(pins: &Pins, seat: &mut Seat, hand: &mut Option<Held>)
     ensures gone { (view_of seat.new).gone ≡ (view_of seat.old).gone }
     ensures busy { (view_of seat.new).busy ≡ (view_of seat.old).busy }
     ensures reads { ReadsOn (view_of seat.old) (view_of seat.new) }
+    ensures passes { (q : ℕ) → PassesBy (view_of seat.old) (view_of seat.new) q }
 {
     match hand.take() {
         Some(held) => pins.put(seat, held),
@@ -54,6 +55,7 @@ fn pick_up(pins: &Pins, seat: &mut Seat, page: u32) -> Result<Held, Stop>
     ensures err { IfErr result (λ why. IsFree seat.new × IsRefusedPage (view_of seat.old) (view_of seat.new) page why) }
     ensures still { OnErr result ((end : ℕ) → (s : Layout) → ShowsPages (view_of seat.old) None end s → ShowsPages (view_of seat.new) None end s) }
     ensures reads { ReadsOn (view_of seat.old) (view_of seat.new) }
+    ensures passes { (q : ℕ) → q < pages_of (view_of seat.old).about → q ≢ page → PassesBy (view_of seat.old) (view_of seat.new) q }
 {
     match pins.take(seat, page, Want::Work) {
         Ok(held) => Ok(held),
@@ -80,6 +82,7 @@ fn fetch(pins: &Pins, seat: &mut Seat, page: u32) -> Result<Held, Stop>
     ensures err { IfErr result (λ why. IsFree seat.new × (why ≡ stop.NoFrame) × FindsNoFrameAtAll (view_of seat.old) (view_of seat.new)) }
     ensures still { OnErr result ((end : ℕ) → (s : Layout) → ShowsPages (view_of seat.old) None end s → ShowsPages (view_of seat.new) None end s) }
     ensures reads { ReadsOn (view_of seat.old) (view_of seat.new) }
+    ensures passes { (q : ℕ) → q < pages_of (view_of seat.old).about → q ≢ page → PassesBy (view_of seat.old) (view_of seat.new) q }
 {
     match find_frame(pins, seat, page.saturating_add(1)) {
         Some(right) => match reload(pins, seat, page, right) {
@@ -133,6 +136,7 @@ pub(crate) fn bring<G: Gate>(
     ensures there { OnOk result (HasPage hand.new page) }
     ensures stop { IfErr result (λ why. IsRefusedPage (view_of seat.old) (view_of seat.new) page why) }
     ensures reads { ReadsOn (view_of seat.old) (view_of seat.new) }
+    ensures passes { (q : ℕ) → q < pages_of (view_of seat.old).about → q ≢ page → PassesBy (view_of seat.old) (view_of seat.new) q }
 {
     if has_page(hand, page) {
         return Ok(());

@@ -127,13 +127,13 @@ module _ (pins : Pins) (h : HeapView) (hs : List ℕ) (seats : List Seat) (pager
         far = λ p past. (refl, refl, refl);
       })
 
-      pub alone-answered : (hints : List ℕ) (kept told : List Answer) → old.notices.hints ≡ hints → old.answers.list ≡ kept → told ≡ later.answers.list → AnsweredBeside hs [] [] h.space hints kept told t
+      pub alone-answered : (hints : List ℕ) (kept told : List Answer) → old.notices.hints ≡ hints → old.answers.list ≡ kept → told ≡ later.answers.list → AnsweredBeside (λ p. ⊥) h.space hints kept told t
       alone-answered hints kept told hints_are kept_are all_are =
-          answered hs [] [] (key_of pins) h.space t all hints kept told paged.told [] [] [] (view_of later.seat) opened.opening closed before given moved
+          answered (λ p. ⊥) (key_of pins) h.space t all hints kept told paged.told [] [] [] (view_of later.seat) opened.opening closed before given moved
           (all_are ∙ paged.kept ∙ ap (λ (list_before : List Answer). list_before ++ paged.told) kept_are)
           (subst (λ (xs : List ℕ). AreAnswered (key_of pins) xs paged.told (fresh (key_of pins) (role_number (Pager 0) ∷ [])) (view_of later.seat)) hints_are paged.each)
           (λ p some. absurd (omega arith))
-          (declined-beside (key_of pins) h.space t all old.notices.hints paged.told (fresh (key_of pins) (role_number (Pager 0) ∷ [])) (view_of later.seat) [] [] (λ p. get_or hs (get_or h.space.domains (p / 4) 0) 0) opened.opening closed given paged.each
+          (declined-beside (key_of pins) h.space t all old.notices.hints paged.told (fresh (key_of pins) (role_number (Pager 0) ∷ [])) (view_of later.seat) (λ p. ⊥) opened.opening closed given paged.each
           (λ p n. let sum = ap (total (λ (s : Seat). reads_as p n (view_of s))) only in omega arith)
           (λ p some. let none = moved.fetched_are p in absurd (omega arith))
           (λ p near some.

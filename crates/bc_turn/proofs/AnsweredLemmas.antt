@@ -3,8 +3,6 @@ use Rattle.std.proofs.Common.{◌≡◌, ℕ, ◌+◌, ◌-◌, ◌*◌, ◌/◌
 use Rattle.std.proofs.lemmas.Bool.{cases_lt}
 use Rattle.std.proofs.lemmas.List.{get_or_past}
 use Rattle.bc_bits.specs.Counting.{one_if}
-use Rattle.bc_model.specs.declared.operations.Op.{Op}
-use Rattle.bc_model.specs.declared.operations.Reply.{Reply}
 use Rattle.bc_pager.specs.Answering.{AreAnswered, says_declined, says_discarded, says_evicted}
 use Rattle.bc_pager.specs.declared.answers.Answer.{Answer}
 use Rattle.bc_pins.specs.Calls.{view_of}
@@ -24,7 +22,6 @@ use Rattle.bc_superpages.specs.LayoutAt.{state_at}
 use Rattle.bc_turn.proofs.NewBitLemmas.{bits-none, new-bits}
 use Rattle.bc_turn.proofs.PagerLemmas.{name-none}
 use Rattle.bc_turn.specs.Answered.{AnsweredBeside, is_in}
-use Rattle.bc_turn.specs.Begun.{HasLeft}
 
 -- a state by its word
 pub is-gone : (st : PageState) → 0 < one_if (state_word st == 4) → st ≡ Gone
@@ -98,11 +95,10 @@ module _ (k : Key) (s t : Layout) (seats : List Seat) (opening : k.opening ≡ s
     ]
 
 -- the notices were answered beside the lanes
-pub answered : (hs : List ℕ) (lanes : List (List Op)) (replies : List (List Reply)) (k : Key) (s t : Layout) (seats : List Seat) (hints : List ℕ) (kept after : List Answer) (told : List Answer) (fetched left emptied : List ℕ) (end : View) → k.opening ≡ s → Closed k seats t → IsLayout s → IsLayout t
+pub answered : (IsLooked : ℕ → Type 0) (k : Key) (s t : Layout) (seats : List Seat) (hints : List ℕ) (kept after : List Answer) (told : List Answer) (fetched left emptied : List ℕ) (end : View) → k.opening ≡ s → Closed k seats t → IsLayout s → IsLayout t
     → AreMoved k seats told fetched left emptied → after ≡ kept ++ told → AreAnswered k hints told (fresh k (role_number (Pager 0) ∷ [])) end
-    → ((p : ℕ) → 0 < times p fetched → HasLeft lanes replies (get_or hs (get_or s.domains (p / 4) 0) 0))
-    → (0 < total says_declined told → (p : ℕ) → state_at t.states p ≡ Home → HasLeft lanes replies (get_or hs (get_or s.domains (p / 4) 0) 0)) → AnsweredBeside hs lanes replies s hints kept after t
-answered hs lanes replies k s t seats hints kept after told fetched left emptied end opening closed before layout moved is each own declined =
+    → ((p : ℕ) → 0 < times p fetched → IsLooked p) → (0 < total says_declined told → (p : ℕ) → state_at t.states p ≡ Home → IsLooked p) → AnsweredBeside IsLooked s hints kept after t
+answered IsLooked k s t seats hints kept after told fetched left emptied end opening closed before layout moved is each own declined =
     let none = name-none k hints told (fresh k (role_number (Pager 0) ∷ [])) end each in
     record {
       key = k;
@@ -121,12 +117,12 @@ answered hs lanes replies k s t seats hints kept after told fetched left emptied
       declined = declined;
       bookmarks = new-bits k s t seats told left fetched opening closed before layout moved.fetched_are moved.left_are;
       reads = (
-        let all = closed.reads in
-        let same = ap (λ (x : Layout). x.reads) opening in
-        let count = moved.counted in
-        let goal_is : t.reads ≡ min (s.reads + length fetched) (2 ^ 64 - 1) = omega arith in
-        goal_is
-      );
+          let all = closed.reads in
+          let same = ap (λ (x : Layout). x.reads) opening in
+          let count = moved.counted in
+          let goal_is : t.reads ≡ min (s.reads + length fetched) (2 ^ 64 - 1) = omega arith in
+          goal_is
+          );
     }
 
 append-nil : (xs : List Answer) → xs ≡ xs ++ []
@@ -138,8 +134,8 @@ no-hints [] none = refl
 no-hints (h ∷ hints) none = absurd (omega arith)
 
 -- where there are no notices, none is answered
-pub answered-none : (hs : List ℕ) (lanes : List (List Op)) (replies : List (List Reply)) (s : Layout) (hints : List ℕ) (kept : List Answer) → s.reads < 2 ^ 64 → length hints ≡ 0 → AnsweredBeside hs lanes replies s hints kept kept s
-answered-none hs lanes replies s hints kept small none = record {
+pub answered-none : (IsLooked : ℕ → Type 0) (s : Layout) (hints : List ℕ) (kept : List Answer) → s.reads < 2 ^ 64 → length hints ≡ 0 → AnsweredBeside IsLooked s hints kept kept s
+answered-none IsLooked s hints kept small none = record {
   key = record no_key { opening = s };
   opening = refl;
   end = fresh (record no_key { opening = s }) (role_number (Pager 0) ∷ []);
@@ -159,9 +155,9 @@ answered-none hs lanes replies s hints kept small none = record {
   reads = (let goal_is : s.reads ≡ min (s.reads + 0) (2 ^ 64 - 1) = omega arith in goal_is);
 }
 
--- where no lane had operations left, it is so of any lanes
-pub answered-lanes : (hs : List ℕ) (lanes : List (List Op)) (replies : List (List Reply)) (s : Layout) (hints : List ℕ) (kept after : List Answer) (t : Layout) → AnsweredBeside hs [] [] s hints kept after t → AnsweredBeside hs lanes replies s hints kept after t
-answered-lanes hs lanes replies s hints kept after t is = record {
+-- where no page is looked at, it is so whatever is said of those that are
+pub answered-lanes : (IsLooked : ℕ → Type 0) (s : Layout) (hints : List ℕ) (kept after : List Answer) (t : Layout) → AnsweredBeside (λ p. ⊥) s hints kept after t → AnsweredBeside IsLooked s hints kept after t
+answered-lanes IsLooked s hints kept after t is = record {
   key = is.key;
   opening = is.opening;
   end = is.end;
@@ -172,10 +168,10 @@ answered-lanes hs lanes replies s hints kept after t is = record {
   left = is.left;
   emptied = is.emptied;
   few = is.few;
-  own = λ p some. absurd (let left = is.own p some in omega arith);
+  own = λ p some. absurd (is.own p some);
   gone = is.gone;
   absent = is.absent;
-  declined = λ some p home. absurd (let left = is.declined some p home in omega arith);
+  declined = λ some p home. absurd (is.declined some p home);
   bookmarks = is.bookmarks;
   reads = is.reads;
 }

@@ -39,6 +39,7 @@ use Rattle.bc_turn.specs.declared.paging.Paging.{Paging}
 use Rattle.bc_turn.specs.declared.rooms.TurnRoom.{TurnRoom}
 use Rattle.bc_turn.specs.declared.runs.Run.{Run}
 use Rattle.bc_turn.specs.Answered.{AnsweredBeside}
+use Rattle.bc_turn.specs.Looked.{IsLookedAt}
 use Rattle.bc_turn.specs.Begun.{AllRan, AreBegun, AreBusyLanes, IsBegunLane, RanLane, of_lane}
 use Rattle.bc_turn.specs.Beside.{RanBeside}
 use Rattle.bc_turn.specs.Laying.{AreLaidBack}
@@ -363,18 +364,21 @@ module _ (h : HeapView) (hs serials : List ℕ) (lanes : List (List Op)) (before
               (are-recorded pins h hs serials lanes (lists_of before) busy (turn_at d runs) (seat_at d runs) (turn_at d new) (seat_at d new) (begun d) (all-ran d) back later.seat table seats-long seats-are pager-back)
               (none-returned pins h hs serials lanes (lists_of before) busy (turn_at d runs) (seat_at d runs) (turn_at d new) (seat_at d new) (begun d) (all-ran d) back later.seat table seats-long seats-are pager-back)
 
+          each-fits : (i : ℕ) → i < length busy → AllByRecursion (IsOpOf h.roots) (of_lane lanes (get_or busy i 0))
+          each-fits i lt = ops-each h.roots lanes (get_or busy i 0) (busy_are.within i lt) set.ops
+
           pub answered-beside : (t : Layout) → Closed (key_of pins) whole-list t → IsLayout t → (hints : List ℕ) (kept all : List Answer) → old.notices.hints ≡ hints → old.answers.list ≡ kept → all ≡ later.answers.list
-              → AnsweredBeside hs lanes (lists_of before) h.space hints kept all t
+              → AnsweredBeside (IsLookedAt hs lanes h serials (lists_of before) told) h.space hints kept all t
           answered-beside t closed given hints kept all hints_are kept_are all_are =
-              answered hs lanes (lists_of before) (key_of pins) h.space t whole-list hints kept all paged.told fetched left emptied (view_of later.seat) set.opened.opening closed set.layout given
+              answered (IsLookedAt hs lanes h serials (lists_of before) told) (key_of pins) h.space t whole-list hints kept all paged.told fetched left emptied (view_of later.seat) set.opened.opening closed set.layout given
               moved (all_are ∙ paged.kept ∙ ap (λ (list_before : List Answer). list_before ++ paged.told) kept_are)
               (subst (λ (hs : List ℕ). AreAnswered (key_of pins) hs paged.told (fresh (key_of pins) (role_number (Pager 0) ∷ [])) (view_of later.seat)) hints_are paged.each)
-              (own-fetched pins h hs serials lanes (lists_of before) busy (turn_at d runs) (seat_at d runs) (turn_at d new) (seat_at d new) (begun d) (all-ran d) back later.seat table seats-long seats-are pager-back)
-              (declined-beside (key_of pins) h.space t whole-list old.notices.hints paged.told (fresh (key_of pins) (role_number (Pager 0) ∷ [])) (view_of later.seat) lanes (lists_of before)
-              (λ p. get_or hs (get_or h.space.domains (p / 4) 0) 0) set.opened.opening closed given paged.each
+              (own-fetched pins h hs serials lanes (lists_of before) busy (turn_at d runs) (seat_at d runs) (turn_at d new) (seat_at d new) (begun d) (all-ran d) back later.seat table seats-long seats-are pager-back told home.replies each-fits)
+              (declined-beside (key_of pins) h.space t whole-list old.notices.hints paged.told (fresh (key_of pins) (role_number (Pager 0) ∷ [])) (view_of later.seat)
+              (IsLookedAt hs lanes h serials (lists_of before) told) set.opened.opening closed given paged.each
               (pager-logged pins h hs serials lanes (lists_of before) busy (turn_at d runs) (seat_at d runs) (turn_at d new) (seat_at d new) (begun d) (all-ran d) back later.seat table seats-long seats-are pager-back)
-              (all-fetched pins h hs serials lanes (lists_of before) busy (turn_at d runs) (seat_at d runs) (turn_at d new) (seat_at d new) (begun d) (all-ran d) back later.seat table seats-long seats-are pager-back)
-              (all-homes pins h hs serials lanes (lists_of before) busy (turn_at d runs) (seat_at d runs) (turn_at d new) (seat_at d new) (begun d) (all-ran d) back later.seat table seats-long seats-are pager-back
+              (all-fetched pins h hs serials lanes (lists_of before) busy (turn_at d runs) (seat_at d runs) (turn_at d new) (seat_at d new) (begun d) (all-ran d) back later.seat table seats-long seats-are pager-back told home.replies each-fits)
+              (all-homes pins h hs serials lanes (lists_of before) busy (turn_at d runs) (seat_at d runs) (turn_at d new) (seat_at d new) (begun d) (all-ran d) back later.seat table seats-long seats-are pager-back told home.replies each-fits
               old.notices.hints paged.told paged.each paged.left paged.emptied))
 
 -- room that came back is kept for the next turn

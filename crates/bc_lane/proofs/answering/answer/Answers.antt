@@ -1,5 +1,7 @@
+use Rattle.std.proofs.Common.{inl}
 use Rattle.bc_lane.proofs.AnswerLemmas.{foreign-does, foreign-wants, hands-operated, stays-brought, stops-operated, touches-none}
 use Rattle.bc_lane.proofs.HandLemmas.{none-reads, same-lane}
+use Rattle.bc_lane.proofs.PassLemmas.{none-passes}
 use Rattle.bc_pins.specs.Calls.{key_of, view_of}
 use Rattle.bc_lane.proofs.answering.answer.Goals as goal
 
@@ -55,3 +57,9 @@ returns-in-Foreign-clause-nursery g c = λ wants.
     let w = c.requires.whole in
     let told = c.in-Foreign.ensures.told in
     absurd (foreign-wants c.args.part.now w.0 _ c.args.op.now (told.1 (view_of c.args.seat.now) c.args.hand.now w.0 c.requires.seated.at.about w.1 w.2) wants)
+
+pub returns-in-Nowhere-clause-looked : goal.returns-in-Nowhere-clause-looked
+returns-in-Nowhere-clause-looked g c = λ q near. inl (none-passes (view_of c.args.seat.now) q)
+
+pub returns-in-Foreign-clause-looked : goal.returns-in-Foreign-clause-looked
+returns-in-Foreign-clause-looked g c = λ q near. inl (none-passes (view_of c.args.seat.now) q)

@@ -1,5 +1,5 @@
 use Rattle.std.proofs.Common.{◌≡◌, true, refl, sym, subst, ◌∙◌}
-use Rattle.bc_lane.proofs.AnswerLemmas.{does-brought, hands-operated, own-page, own-wants, refused-stops, stays-brought, stops-operated, touches-page, whole-moved}
+use Rattle.bc_lane.proofs.AnswerLemmas.{brought-looked, does-brought, hands-operated, own-page, own-wants, refused-stops, stays-brought, stops-operated, touches-page, whole-moved}
 use Rattle.bc_pins.specs.Calls.{key_of, view_of}
 use Rattle.bc_pins.specs.Contents.{IsBarePage}
 use Rattle.bc_pins.specs.Key.{Key}
@@ -85,3 +85,11 @@ returns-in-Ok-clause-kept g c = λ has. (c.bring.ensures.kept has).1
 
 pub returns-in-Err-clause-kept : goal.returns-in-Err-clause-kept
 returns-in-Err-clause-kept g c = λ has. (c.bring.ensures.kept has).1
+
+pub returns-in-Ok-clause-looked : goal.returns-in-Ok-clause-looked
+returns-in-Ok-clause-looked g c =
+    brought-looked c.args.part.now (key_of c.args.pins.now) (view_of c.args.seat.now) (view_of c.bring.new.seat) c.args.hand.now c.args.end c.args.page c.args.op.now c.requires.seated.at.about c.requires.looks c.bring.ensures.passes
+
+pub returns-in-Err-clause-looked : goal.returns-in-Err-clause-looked
+returns-in-Err-clause-looked g c =
+    brought-looked c.args.part.now (key_of c.args.pins.now) (view_of c.args.seat.now) (view_of c.bring.new.seat) c.args.hand.now c.args.end c.args.page c.args.op.now c.requires.seated.at.about c.requires.looks c.bring.ensures.passes

@@ -1,11 +1,12 @@
-use Rattle.std.proofs.Common.{◌≡◌, true, false, Option, refl, sym, subst, ◌∙◌}
+use Rattle.std.proofs.Common.{◌≡◌, ◌<◌, true, false, Option, refl, sym, subst, ◌∙◌}
 use Rattle.bc_lane.specs.Shown.{ShowsPages}
 use Rattle.bc_lane.specs.Turns.{HasInHand}
 use Rattle.bc_lane.proofs.FrameLemmas.{refused-since-then}
+use Rattle.bc_lane.proofs.PassLemmas.{none-passes, passes-on}
 use Rattle.bc_lane.proofs.HandLemmas.{at-lane, none-reads, own-lane, rights-on, same-lane, then-lane, then-reads}
 use Rattle.bc_pins.specs.Calls.{view_of}
 use Rattle.bc_pins.specs.Contents.{IsBarePage}
-use Rattle.bc_pins.specs.Key.{Key}
+use Rattle.bc_pins.specs.Key.{Key, pages_of}
 use Rattle.bc_pins.specs.declared.holding.Held.{Held}
 use Rattle.bc_lane.proofs.hands.bring.Goals as goal
 
@@ -74,3 +75,16 @@ returns-in-Err-clause-reads g c = then-reads (view_of c.args.seat.now) (view_of 
 pub returns-in-Err-clause-stop : goal.returns-in-Err-clause-stop
 returns-in-Err-clause-stop g c =
     refused-since-then (view_of c.args.seat.now) (view_of c.lay_down.new.seat) (view_of c.pick_up.new.seat) c.args.page c.in-Err.why c.lay_down.ensures.reads c.in-Err.ensures.err.1
+
+pub returns-then-has_page-clause-passes : goal.returns-then-has_page-clause-passes
+returns-then-has_page-clause-passes g c = λ q near ne. none-passes (view_of c.args.seat.now) q
+
+pub returns-in-Ok-clause-passes : goal.returns-in-Ok-clause-passes
+returns-in-Ok-clause-passes g c = λ q near ne.
+    passes-on (view_of c.args.seat.now) (view_of c.lay_down.new.seat) (view_of c.pick_up.new.seat) q (c.lay_down.ensures.passes q)
+    (c.pick_up.ensures.passes q (subst (λ (k : Key). q < pages_of k) (sym c.lay_down.ensures.same.worker.about) near) ne)
+
+pub returns-in-Err-clause-passes : goal.returns-in-Err-clause-passes
+returns-in-Err-clause-passes g c = λ q near ne.
+    passes-on (view_of c.args.seat.now) (view_of c.lay_down.new.seat) (view_of c.pick_up.new.seat) q (c.lay_down.ensures.passes q)
+    (c.pick_up.ensures.passes q (subst (λ (k : Key). q < pages_of k) (sym c.lay_down.ensures.same.worker.about) near) ne)

@@ -1,6 +1,7 @@
 use Rattle.std.proofs.Common.{◌≡◌, ◌<◌, ◌≤◌, ap, sym, subst, ◌∙◌, arith}
 use Rattle.bc_lane.proofs.FrameLemmas.{none-found-reads, none-found-shows, reloaded-holds, reloaded-lane, reloaded-reads, reloaded-shows}
 use Rattle.bc_lane.proofs.HandLemmas.{own-lane, seat-lane}
+use Rattle.bc_lane.proofs.PassLemmas.{fetched-passes, none-found-passes}
 use Rattle.bc_pins.specs.Calls.{view_of}
 use Rattle.bc_pins.specs.Key.{Key, owner, pages_of}
 use Rattle.bc_pins.specs.Totals.{times}
@@ -57,3 +58,10 @@ returns-in-None-clause-still c = λ end s shown. none-found-shows (view_of c.arg
 
 pub returns-in-None-clause-reads : goal.returns-in-None-clause-reads
 returns-in-None-clause-reads c = none-found-reads (view_of c.args.seat.now) (view_of c.find_frame.new.seat) c.in-None.ensures.none
+
+pub returns-in-Ok-clause-passes : goal.returns-in-Ok-clause-passes
+returns-in-Ok-clause-passes c = λ q near ne.
+    fetched-passes (view_of c.args.seat.now) (view_of c.find_frame.new.seat) c.reload.new.seat c.args.page c.in-Some.right.frame q c.in-Ok.fetched near c.in-Some.ensures.some c.in-Ok.ensures.ok.0 ne
+
+pub returns-in-None-clause-passes : goal.returns-in-None-clause-passes
+returns-in-None-clause-passes c = λ q near ne. none-found-passes (view_of c.args.seat.now) (view_of c.find_frame.new.seat) q near c.in-None.ensures.none

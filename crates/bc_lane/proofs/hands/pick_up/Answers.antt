@@ -2,6 +2,7 @@ use Rattle.std.proofs.Common.{◌≡◌, ◌<◌, true, inl, inr, refl, ap, sym,
 use Rattle.std.proofs.lemmas.Result.{IfErr-weaker, IfOk-weaker, on_err_weaker}
 use Rattle.bc_lane.proofs.FrameLemmas.{no-frame-for}
 use Rattle.bc_lane.proofs.HandLemmas.{holds-taken, never-absent, never-remembered, own-lane, refused-fetched, refused-gone, refused-held, refused-reads, refused-shown, rights-on, seat-lane, shown-taken, taken-reads, then-lane, then-reads, tried-fetched}
+use Rattle.bc_lane.proofs.PassLemmas.{passes-on, refused-passes, taken-passes}
 use Rattle.bc_pins.specs.Calls.{view_of}
 use Rattle.bc_pins.specs.Key.{Key, pages_of}
 use Rattle.bc_pins.specs.declared.views.View.{View}
@@ -112,3 +113,19 @@ pub returns-in-Err-Busy-clause-same : goal.returns-in-Err-Busy-clause-same
 returns-in-Err-Busy-clause-same c =
     let r = rw c.in-Err-Busy.field-0-is at c.in-Err-Busy.ensures.err in
     seat-lane c.args.seat.now c.take.new.seat c.take.ensures.same (refused-fetched (view_of c.args.seat.now) (view_of c.take.new.seat) c.args.page Work Busy r.1)
+
+pub returns-in-Ok-clause-passes : goal.returns-in-Ok-clause-passes
+returns-in-Ok-clause-passes c = λ q near ne. taken-passes (view_of c.args.seat.now) c.take.new.seat c.args.page q c.in-Ok.held c.in-Ok.ensures.ok ne
+
+pub returns-in-Err-Busy-clause-passes : goal.returns-in-Err-Busy-clause-passes
+returns-in-Err-Busy-clause-passes c =
+    let r = rw c.in-Err-Busy.field-0-is at c.in-Err-Busy.ensures.err in
+    λ q near ne. refused-passes (view_of c.args.seat.now) (view_of c.take.new.seat) c.args.page q Work Busy r.1 ne
+
+pub returns-in-Err-Gone-clause-passes : goal.returns-in-Err-Gone-clause-passes
+returns-in-Err-Gone-clause-passes c =
+    let r = rw c.in-Err-Gone.field-0-is at c.in-Err-Gone.ensures.err in
+    λ q near ne.
+    passes-on (view_of c.args.seat.now) (view_of c.take.new.seat) (view_of c.fetch.new.seat) q
+    (refused-passes (view_of c.args.seat.now) (view_of c.take.new.seat) c.args.page q Work Gone r.1 ne)
+    (c.fetch.ensures.passes q (subst (λ (k : Key). q < pages_of k) (sym c.take.ensures.same.about) near) ne)

@@ -29,7 +29,7 @@ pub returns-clause-ran : goal.returns-clause-ran
 returns-clause-ran g c = λ h w.
     let e = same-end c.args.self.now.part (view_of c.args.seat.now) None (key_of c.args.pins.now) (end_of h.space) c.end-end.result h c.requires.going.seated.at.about w c.end-end.ensures.end in
     subst (λ (n : ℕ). LaneRan c.args.ops.now n c.args.self.now (view_of c.args.seat.now) None c.go-why.new.turn (view_of c.lay_down.new.seat) None) e
-    (ran-laid c.args.ops.now c.end-end.result c.args.self.now c.go-why.new.turn (view_of c.args.seat.now) (view_of c.go-why.new.seat) (view_of c.lay_down.new.seat) None c.go-why.new.hand c.go-why.ensures.ran c.lay_down.ensures.reads c.lay_down.ensures.shows)
+    (ran-laid c.args.ops.now c.end-end.result c.args.self.now c.go-why.new.turn (view_of c.args.seat.now) (view_of c.go-why.new.seat) (view_of c.lay_down.new.seat) None c.go-why.new.hand c.go-why.ensures.ran c.lay_down.ensures.reads c.lay_down.ensures.passes c.lay_down.ensures.shows)
 
 pub returns-clause-why : goal.returns-clause-why
 returns-clause-why g c = λ h w.
