@@ -4,6 +4,7 @@ mod devices;
 mod engines;
 mod gates;
 mod gates_pager;
+mod gates_reload;
 mod gates_shapes;
 mod heaps;
 mod rows;

@@ -9,11 +9,11 @@
 // begins with a turn of the lanes (`turns`): each does operations until it is at its end or one stops. The lanes run side by
 // side, each on a thread of its own where these pay, over a table of the heap's pages (`bc_turn`), and beside them a pager answers the
 // notices of the turn's line, for each of which it gives up a page if it gets one (`bc_pager`). A lane stops where its chunk or its write
-// buffer is full, and where it looks at an object in a cell whose page is gone or in another's hands. What the lanes do so is
+// buffer is full, and where it looks at an object in a cell whose page is in another's hands. One whose page is gone brings it back, and
+// stops only where no frame is free and no other page can leave. What the lanes do so is
 // what they do one after another (`RanBeside`), so a turn is a stretch of the phase like any other. Where tables
 // of its kind don't pay (`paces`), or where there is no memory for one, they do run one after another (`lanes`), and then the notices
-// are answered: then a page that is gone comes back, and a lane stops for it only where no frame is free and no other page can
-// leave. So a turn takes memory and is never refused for want of it. An operation that stops has at most moved pages.
+// are answered. So a turn takes memory and is never refused for want of it. An operation that stops has at most moved pages.
 // Then the heap is settled. The lines of a phase are used in order, one for each turn, and from the first one again when they
 // are used up. So the heap gets by with the frames that the setup gives it, and no reply tells which pages were away; but what
 // became of each notice is kept, in order (`Engine::answers`). Room for the answers of a turn is taken before it, and only where

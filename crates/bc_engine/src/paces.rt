@@ -90,8 +90,8 @@ enum TurnKind {
     Short,
 }
 
-/// How the tables of earlier turns paid. Where a table doesn't pay a lane did little at it: it came to a page that is gone while no frame was
-/// free, its chunk or its write buffer was soon full, or it had little to do.
+/// How the tables of earlier turns paid. Where a table doesn't pay a lane did little at it: its chunk or its write buffer was soon full, it
+/// came to a page in another's hands, or to one that is gone while no page could leave for it, or it had little to do.
 #[derive(Drop)]
 pub(crate) struct Pace {
     pub(crate) pacing: Pacing,

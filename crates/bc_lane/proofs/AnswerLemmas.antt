@@ -1,5 +1,6 @@
 -- An operation of a lane, once its page is in hand.
-use Rattle.std.proofs.Common.{◌≡◌, ◌⊎◌, ℕ, ◌/◌, ◌<◌, List, length, map, get_or, Option, Result, Ok, Err, inl, inr, ap, sym, subst, ◌∙◌}
+use Rattle.std.proofs.Common.{◌≡◌, ◌≢◌, ◌⊎◌, ℕ, ◌/◌, ◌<◌, List, length, map, get_or, Option, Result, Ok, Err, inl, inr, ap, sym, subst, ◌∙◌}
+use Rattle.std.proofs.lemmas.Bool.{cases_eq}
 use Rattle.std.proofs.lemmas.List.{get_or-map}
 use Rattle.std.proofs.lemmas.Result.{IfOk-weaker, on_err_weaker}
 use Rattle.std.specs.Result.{IfErr, IfOk, OnErr}
@@ -7,8 +8,9 @@ use Rattle.bc_lane.specs.declared.parts.LanePart.{LanePart}
 use Rattle.bc_lane.specs.declared.stops.Stop.{Stop}
 use Rattle.bc_lane.specs.declared.stops.Stop.TheVariants as stop
 use Rattle.bc_lane.specs.Shown.{HasPage, IsOwnPage, ShowsPages}
-use Rattle.bc_lane.specs.Turns.{DoesOne, HasInHand, LaneHoldsAll, IsLaneSeat, IsLaneTable, IsReadStop, IsRefusedPage, IsWhole, LeadsToPageWhere, LooksForeign, LooksOn, LooksOwn, SlotsOf, StaysWhole, StopsOp}
+use Rattle.bc_lane.specs.Turns.{DoesOne, HasInHand, LaneHoldsAll, IsLaneSeat, IsLaneTable, IsRefusedPage, IsWhole, LeadsToPageWhere, LooksForeign, LooksOn, LooksOnIn, LooksOwn, PassesBy, ReadsOn, SlotsOf, StaysWhole, StopsOp}
 use Rattle.bc_lane.proofs.ForeignLemmas.{foreign-looked}
+use Rattle.bc_lane.proofs.FrameLemmas.{held-since, no-frame-since}
 use Rattle.bc_lane.proofs.HandLemmas.{hand-after}
 use Rattle.bc_lane.proofs.LookLemmas.{looking-wants, touches-more}
 use Rattle.bc_model.specs.declared.operations.Op.{Op}
@@ -22,7 +24,7 @@ use Rattle.bc_pins.specs.declared.pins.Pins.{Pins}
 use Rattle.bc_pins.specs.declared.pins.Seat.{Seat}
 use Rattle.bc_pins.specs.declared.views.View.{View}
 use Rattle.bc_pins.specs.Calls.{key_of, view_of}
-use Rattle.bc_pins.specs.Key.{Key, lane_role, owner, role_number}
+use Rattle.bc_pins.specs.Key.{Key, lane_role, owner, pages_of, role_number}
 use Rattle.bc_pins.specs.Views.{has_role}
 use Rattle.bc_superpages.specs.Layout.{Layout}
 use Rattle.bc_whole_heap.specs.Heaps.{HeapView}
@@ -67,12 +69,28 @@ touches-none part end op v hand leads =
     touches-more (ShowsPages v hand end) (ShowsPages v hand end) (SlotsOf part) (SlotsOf part) (λ q. ⊥) (HasPage hand) (touched_slot op)
     (λ s shown. shown) (λ r shown. shown) (λ q never. absurd never) (leads v hand)
 
--- a page couldn't be taken
-pub refused-stops : (part : LanePart) (k : Key) (w : View) (after : Option Held) (end page : ℕ) (op : Op) (why : Stop) → w.about ≡ k → LooksOwn part k end op page → IsRefusedPage w page why → StopsOp part w after end op why
-refused-stops part k w after end page op why about looks refused = elim refused [
-  | inl busy ↦ subst (StopsOp part w after end op) (sym busy.0) (busy.1, λ h whole fits. looks.looks w after h about whole fits)
-  | inr gone ↦ subst (StopsOp part w after end op) (sym gone.0) (gone.1, λ h whole fits. looks.looks w after h about whole fits)
+-- a page couldn't be brought
+pub refused-stops : (part : LanePart) (k : Key) (v w : View) (after : Option Held) (end page : ℕ) (op : Op) (why : Stop) → w.about ≡ k → LooksOwn part k end op page → IsRefusedPage v w page why → StopsOp v part w after end op why
+refused-stops part k v w after end page op why about looks refused = elim refused [
+  | inl busy ↦ subst (StopsOp v part w after end op) (sym busy.0) (busy.1, λ h whole fits. looks.looks w after h about whole fits)
+  | inr none ↦ subst (StopsOp v part w after end op) (sym none.0) (page, none.1, λ h whole fits. looks.looks w after h about whole fits)
 ]
+
+-- the page that was brought is the one on which the operation looks
+pub brought-looked : (part : LanePart) (k : Key) (v w : View) (hand : Option Held) (end page : ℕ) (op : Op) → v.about ≡ k → LooksOwn part k end op page → ((q : ℕ) → q < pages_of v.about → q ≢ page → PassesBy v w q)
+    → (q : ℕ) → q < pages_of v.about → PassesBy v w q ⊎ LooksOnIn part v hand end op q
+brought-looked part k v w hand end page op about looks passes q near = elim (cases_eq q page) [
+  | inl is ↦ inr (λ h whole fits. subst (LooksOn h op) (sym is) (looks.looks v hand h about whole fits))
+  | inr ne ↦ inl (passes q near ne)
+]
+
+-- why an operation isn't done, told since an earlier view
+pub stops-since : (u v : View) (part : LanePart) (w : View) (hand : Option Held) (end : ℕ) (op : Op) (why : Stop) → ReadsOn u v → StopsOp v part w hand end op why → StopsOp u part w hand end op why
+stops-since u v part w hand end op stop.End reads stops = stops
+stops-since u v part w hand end op stop.NurseryFull reads stops = stops
+stops-since u v part w hand end op stop.BufferFull reads stops = stops
+stops-since u v part w hand end op (stop.Busy page) reads stops = (held-since u v w page reads stops.0, stops.1)
+stops-since u v part w hand end op stop.NoFrame reads stops = (stops.0, no-frame-since u v w stops.0 reads stops.1, stops.2)
 
 -- an operation that looks at an object wants no room in the chunk
 pub own-wants : (part : LanePart) (h : HeapView) (words page : ℕ) (op : Op) → LooksOn h op page → WantsMore part.holders.items part.lane words op → ⊥
@@ -114,19 +132,12 @@ module _ (part new : LanePart) (seat : Seat) (hand after : Option Held) (end : �
       (λ same. (same.0, λ h whole. subst (λ (x : Option Held). IsWhole part (view_of seat) x end h) (sym same.1) (whole-moved part v (view_of seat) first hand end h shows whole)))
       still
 
-  pub stops-operated : IfErr result (λ why. StopsOp part (view_of seat) hand end op why) → IfErr result (λ why. StopsOp new (view_of seat) after end op why)
-  stops-operated why = go result why still
+  pub stops-operated : (v : View) → ReadsOn v (view_of seat) → IfErr result (λ why. StopsOp (view_of seat) part (view_of seat) hand end op why) → IfErr result (λ why. StopsOp v new (view_of seat) after end op why)
+  stops-operated v reads why = go result why still
     where
-      go : (r : Result Reply Stop) → IfErr r (λ w. StopsOp part (view_of seat) hand end op w) → OnErr r ((new ≡ part) × (after ≡ hand)) → IfErr r (λ w. StopsOp new (view_of seat) after end op w)
+      go : (r : Result Reply Stop) → IfErr r (λ w. StopsOp (view_of seat) part (view_of seat) hand end op w) → OnErr r ((new ≡ part) × (after ≡ hand)) → IfErr r (λ w. StopsOp v new (view_of seat) after end op w)
       go (Ok reply) stops same = tt
       go (Err w) stops same =
-          subst (λ (p : LanePart). StopsOp p (view_of seat) after end op w) (sym same.0)
-          (subst (λ (x : Option Held). StopsOp part (view_of seat) x end op w) (sym same.1) stops)
-
--- a stop for want of room is no stop at a page
-pub room-stop : (r : Result Reply Stop) (v w : View) → IfErr r (λ why. (why ≡ stop.NurseryFull) ⊎ (why ≡ stop.BufferFull)) → IfErr r (λ why. IsReadStop v w why)
-room-stop (Ok reply) v w is = tt
-room-stop (Err why) v w is = elim is [
-  | inl full ↦ subst (IsReadStop v w) (sym full) tt
-  | inr full ↦ subst (IsReadStop v w) (sym full) tt
-]
+          stops-since v (view_of seat) new (view_of seat) after end op w reads
+          (subst (λ (p : LanePart). StopsOp (view_of seat) p (view_of seat) after end op w) (sym same.0)
+          (subst (λ (x : Option Held). StopsOp (view_of seat) part (view_of seat) x end op w) (sym same.1) stops))

@@ -1,28 +1,27 @@
 -- A seat that takes an own page, and puts it back.
-use Rattle.std.proofs.Common.{◌≡◌, ◌≢◌, ℕ, ◌<◌, ◌≤◌, Bool, true, false, if◌then◌else◌, List, [], ◌∷◌, ◌++◌, length, Option, Some, None, inl, inr, refl, ap, sym, subst, ◌∙◌, append_assoc, length-append, arith}
-use Rattle.std.proofs.lemmas.Bool.{cases_eq, cases_lt, lt-ltb}
+use Rattle.std.proofs.Common.{◌≡◌, ◌≢◌, ℕ, ◌-◌, ◌^◌, ◌<◌, ◌≤◌, Bool, true, false, min, if◌then◌else◌, ◌+◌, List, [], ◌∷◌, ◌++◌, length, Option, Some, None, inl, inr, refl, ap, sym, subst, ◌∙◌, append_assoc, arith}
+use Rattle.std.proofs.lemmas.Bool.{lt-ltb}
 use Rattle.bc_lane.specs.Shown.{HasPage, IsOwnPage, ShowsPages}
-use Rattle.bc_lane.specs.Turns.{HasInHand, IsReadStop, ReadLast, ReadsOn}
-use Rattle.bc_lane.specs.declared.stops.Stop.{Stop}
-use Rattle.bc_lane.specs.declared.stops.Stop.TheVariants as stop
+use Rattle.bc_lane.specs.Turns.{HasInHand, IsSameLane, ReadLast, ReadsHeld, ReadsOn}
 use Rattle.bc_lane.proofs.PageLemmas.{owns-page, recorded-else, shows-back, shows-given, shows-read, shows-taken}
 use Rattle.bc_pins.specs.declared.holding.Held.{Held}
+use Rattle.bc_pins.specs.declared.key.Role.{Role}
+use Rattle.bc_pins.specs.declared.pins.Pins.{Pins}
 use Rattle.bc_pins.specs.declared.pins.Seat.{Seat}
 use Rattle.bc_pins.specs.declared.taking.TakeNo.{TakeNo}
-use Rattle.bc_pins.specs.declared.taking.TakeNo.TheVariants.{Absent, Gone, Remembered}
+use Rattle.bc_pins.specs.declared.taking.TakeNo.TheVariants.{Absent, Busy, Gone, Remembered}
 use Rattle.bc_pins.specs.declared.taking.Want.{Want}
 use Rattle.bc_pins.specs.declared.taking.Want.TheVariants.{Victim, Work}
 use Rattle.bc_pins.specs.declared.views.Hand.{Hand}
 use Rattle.bc_pins.specs.declared.views.View.{View}
-use Rattle.bc_pins.specs.Calls.{Grasps, HoldsPage, IsFree, IsTakeRefused, MayPut, put_back, refusal_word, tried, view_of}
+use Rattle.bc_pins.specs.Calls.{Grasps, HoldsPage, IsAt, IsFree, IsSameSeat, IsSameWorker, IsTakeRefused, MayPut, put_back, refusal_word, tried, view_of}
 use Rattle.bc_pins.specs.Contents.{IsBarePage}
-use Rattle.bc_pins.specs.Key.{Key, owner, page_at, pages_of}
+use Rattle.bc_pins.specs.Key.{Key, owner, page_at, pages_of, role_number}
 use Rattle.bc_pins.specs.Steps.{Takes, both_slots, gripping, having_read, owns}
 use Rattle.bc_pins.specs.Totals.{times}
 use Rattle.bc_pins.specs.Views.{entries, has_role, reads_at}
 use Rattle.bc_pins.specs.declared.views.Lodged.TheVariants.{Nothing}
-use Rattle.bc_pins.proofs.LogLemmas.{reads-append, reads-else}
-use Rattle.bc_pins.proofs.ReadLemmas.{same_page}
+use Rattle.bc_pins.proofs.LogLemmas.{pages-else, reads-here, times-reads}
 use Rattle.bc_pins.proofs.TakeLemmas.{some_hand}
 use Rattle.bc_pins.proofs.TotalLemmas.{one_other, one_same}
 use Rattle.bc_pins.proofs.VisitLemmas.{holds_taken}
@@ -70,35 +69,53 @@ some-back v hand end s is shown = subst (λ (x : Option Held). ShowsPages v x en
 
 -- a seat reads on
 pub none-reads : (v : View) → ReadsOn v v
-none-reads v = record { same = refl; more = []; read = refl; behind = λ q far. (refl, refl); own = λ q lt. absurd (omega arith); others = λ q none. (refl, refl) }
-
--- what one read of a page's word and others make is of the pages of these
-one-read : (page q found : ℕ) → 0 < length (reads_at q ((page_at page, found) ∷ [])) → page ≡ q
-one-read page q found lt = elim (cases_eq page q) [
-  | inl is ↦ is
-  | inr ne ↦ let none = ap length (reads-else (page_at q) (page_at page) found [] (λ e. ne (same_page page q e))) in absurd (omega arith)
-]
+none-reads v = record {
+  same = refl;
+  more = [];
+  read = refl;
+  behind = λ q far. (refl, refl);
+  others = λ q none. (refl, refl);
+  foreign = λ q near none. let zero_reads : times 1 (reads_at q []) ≡ 0 = refl in omega arith;
+  fetches = λ q none. refl;
+  far = λ q past. (refl, refl, refl);
+  few = omega arith;
+}
 
 pub then-reads : (u v w : View) → ReadsOn u v → ReadsOn v w → ReadsOn u w
 then-reads u v w x y = record {
-  same = y.same ∙ ap (λ (z : View). record z { hand = w.hand; changed = w.changed; recorded = w.recorded; seen = w.seen; gone = w.gone; busy = w.busy; read = w.read }) x.same;
+  same = y.same ∙ ap (λ (z : View). record z { hand = w.hand; changed = w.changed; recorded = w.recorded; seen = w.seen; gone = w.gone; busy = w.busy; read = w.read; left = w.left; emptied = w.emptied; fetched = w.fetched; bookmarked = w.bookmarked }) x.same;
   more = y.more ++ x.more;
   read = y.read ∙ ap (λ (l : List (ℕ × ℕ)). y.more ++ l) x.read ∙ sym (append_assoc y.more x.more u.read);
   behind = λ q far.
       let one = x.behind q far in
-      let two = y.behind q (subst (λ (k : Key). pages_of k ≤ q) (sym (ap (λ (z : View). z.about) x.same)) far) in
+      let two = y.behind q (subst (λ (k : Key). pages_of k ≤ q) (sym about) far) in
       (two.0 ∙ one.0, two.1 ∙ one.1);
-  own = λ q lt.
-      let all = ap length (reads-append (page_at q) y.more x.more) ∙ length-append (reads_at q y.more) (reads_at q x.more) in
-      elim (cases_lt 0 (length (reads_at q x.more))) [
-        | inl before ↦ x.own q before
-        | inr none ↦ subst (λ (z : View). IsOwnPage z q) x.same (y.own q (omega arith))
-      ];
   others = λ q none.
       let one = x.others q none in
-      let two = y.others q (subst (λ (z : View). has_role z (owner z.about q) ≡ 0) (sym x.same) none) in
+      let two = y.others q (off q none) in
       (two.0 ∙ one.0, two.1 ∙ one.1);
+  foreign = λ q near none.
+      let one = x.foreign q near none in
+      let two = y.foreign q (subst (λ (k : Key). q < pages_of k) (sym about) near) (off q none) in
+      let all = times-reads 1 (page_at q) y.more x.more in
+      omega arith;
+  fetches = λ q none. y.fetches q (off q none) ∙ x.fetches q none;
+  far = λ q past.
+      let one = x.far q past in
+      let two = y.far q (subst (λ (k : Key). pages_of k ≤ q) (sym about) past) in
+      (two.0 ∙ one.0, two.1 ∙ one.1, two.2 ∙ one.2);
+  few = (let one = x.few in let two = y.few in omega arith);
 }
+  where
+    about : v.about ≡ u.about
+    about = ap (λ (z : View). z.about) x.same
+
+    off : (q : ℕ) → has_role u (owner u.about q) ≡ 0 → has_role v (owner v.about q) ≡ 0
+    off q none = subst (λ (z : View). has_role z (owner z.about q) ≡ 0) (sym x.same) none
+
+-- a page that isn't the seat's own is another one than this
+pub off-page : (v : View) (page q : ℕ) → IsOwnPage v page → has_role v (owner v.about q) ≡ 0 → q ≢ page
+off-page v page q own none e = let same = ap (λ (p : ℕ). has_role v (owner v.about p)) e in absurd (omega arith)
 
 reads-word : (v : View) (page found : ℕ) → IsOwnPage v page → ReadsOn v (having_read v page found)
 reads-word v page found own = record {
@@ -106,8 +123,11 @@ reads-word v page found own = record {
   more = (page_at page, found) ∷ [];
   read = refl;
   behind = λ q far. (refl, refl);
-  own = λ q lt. subst (IsOwnPage v) (one-read page q found lt) own;
   others = λ q none. (refl, refl);
+  foreign = λ q near none. let other = pages-else page q found 1 [] (off-page v page q own none) in let zero_reads : times 1 (reads_at q []) ≡ 0 = refl in omega arith;
+  fetches = λ q none. refl;
+  far = λ q past. (refl, refl, refl);
+  few = omega arith;
 }
 
 -- a page was taken
@@ -139,8 +159,14 @@ gripping-reads v page remembered homed own = record {
   more = (page_at page, if remembered then 2 else 1) ∷ [];
   read = refl;
   behind = λ q far. (refl, refl);
-  own = λ q lt. subst (IsOwnPage v) (one-read page q (if remembered then 2 else 1) lt) own;
   others = λ q none. (refl, refl);
+  foreign = λ q near none.
+      let other = pages-else page q (if remembered then 2 else 1) 1 [] (off-page v page q own none) in
+      let zero_reads : times 1 (reads_at q []) ≡ 0 = refl in
+      omega arith;
+  fetches = λ q none. refl;
+  far = λ q past. (refl, refl, refl);
+  few = omega arith;
 }
 
 pub taken-reads : (v : View) (seat : Seat) (page : ℕ) (held : Held) → Grasps (tried v page Work held.remembered) seat page held → IsOwnPage v page → ReadsOn v (view_of seat)
@@ -163,6 +189,17 @@ refused-reads v w page want refusal r own = elim r.read [
       (then-reads v (having_read v page 2) (having_read (having_read v page 2) page (refusal_word refusal)) (reads-word v page 2 own) (reads-word (having_read v page 2) page (refusal_word refusal) own))
 ]
 
+-- nothing was fetched by it
+pub refused-fetched : (v w : View) (page : ℕ) (want : Want) (refusal : TakeNo) → IsTakeRefused v page want refusal w → w.fetched ≡ v.fetched
+refused-fetched v w page want refusal r = elim r.read [
+  | inl e ↦ ap (λ (x : View). x.fetched) e
+  | inr e ↦ ap (λ (x : View). x.fetched) e.1
+]
+
+pub tried-fetched : (v : View) (page : ℕ) (b : Bool) → (tried v page Work b).fetched ≡ v.fetched
+tried-fetched v page true = refl
+tried-fetched v page false = refl
+
 -- so the page that stops the lane was read since
 read-since : (v w : View) (page found : ℕ) → w ≡ having_read v page found → length v.read < length w.read
 read-since v w page found e = let long = ap (λ (x : View). length x.read) e in omega arith
@@ -172,6 +209,10 @@ refused-since v w page want refusal r = elim r.read [
   | inl e ↦ read-since v w page (refusal_word refusal) e
   | inr e ↦ let one = read-since v (having_read v page 2) page 2 refl in let two = read-since (having_read v page 2) w page (refusal_word refusal) e.1 in omega arith
 ]
+
+-- a page in another's hands is noted so
+pub refused-held : (v w : View) (page : ℕ) → IsOwnPage v page → IsTakeRefused v page Work Busy w → ReadsHeld v w page
+refused-held v w page own r = record { last = refused-read v w page Work Busy r; since = refused-since v w page Work Busy r; noted = r.busy refl own }
 
 -- and an own page that is gone is noted so
 noted-gone : (v w : View) (page : ℕ) → IsOwnPage v page → w ≡ having_read v page 4 → 0 < times page w.gone
@@ -185,6 +226,12 @@ pub refused-gone : (v w : View) (page : ℕ) (want : Want) → IsOwnPage v page 
 refused-gone v w page want own r = elim r.read [
   | inl e ↦ noted-gone v w page own e
   | inr e ↦ noted-gone (having_read v page 2) w page own e.1
+]
+
+pub refused-looks : (v w : View) (page : ℕ) → IsTakeRefused v page Work Gone w → (looks : List (ℕ × ℕ)) × (w.read ≡ looks ++ v.read) × (0 < times 4 (reads_at page looks))
+refused-looks v w page r = elim r.read [
+  | inl e ↦ ((page_at page, 4) ∷ [], ap (λ (x : View). x.read) e, let here = reads-here (page_at page) 4 4 [] in omega arith)
+  | inr e ↦ ((page_at page, 4) ∷ (page_at page, 2) ∷ [], ap (λ (x : View). x.read) e.1, let here = reads-here (page_at page) 4 4 ((page_at page, 2) ∷ []) in omega arith)
 ]
 
 -- it was put back, on a page of the table
@@ -204,27 +251,13 @@ put-reads seat w held has own e =
       same = ap (λ (b : Bool). record (put_back v held) { returned = if b then v.returned else held.page ∷ v.returned }) (owns-page v held.page own);
       more = [];
       read = refl;
-      own = λ q lt. absurd (omega arith);
       behind = λ q far. put-else v held q (λ is. absurd (let inside = has.inside in omega arith));
       others = λ q none. put-else v held q (λ is. absurd (let mine = subst (λ (p : ℕ). IsOwnPage v p) is own in omega arith));
+      foreign = λ q near none. let zero_reads : times 1 (reads_at q []) ≡ 0 = refl in omega arith;
+      fetches = λ q none. refl;
+      far = λ q past. (refl, refl, refl);
+      few = omega arith;
     })
-
--- a stop at a page, told of what came before and of what follows
-pub stop-since : (u v w : View) (why : Stop) → ReadsOn u v → IsReadStop v w why → IsReadStop u w why
-stop-since u v w stop.End reads is = tt
-stop-since u v w stop.NurseryFull reads is = tt
-stop-since u v w stop.BufferFull reads is = tt
-stop-since u v w (stop.Busy page) reads is = (let long = ap length reads.read ∙ length-append reads.more u.read in let since = is.0 in omega arith, is.1)
-stop-since u v w (stop.Gone page) reads is = (let long = ap length reads.read ∙ length-append reads.more u.read in let since = is.0 in omega arith, is.1)
-
-pub stop-laid : (u v w : View) (why : Stop) → w.read ≡ v.read → w.gone ≡ v.gone → w.busy ≡ v.busy → IsReadStop u v why → IsReadStop u w why
-stop-laid u v w stop.End read gone busy is = tt
-stop-laid u v w stop.NurseryFull read gone busy is = tt
-stop-laid u v w stop.BufferFull read gone busy is = tt
-stop-laid u v w (stop.Busy page) read gone busy is =
-    (subst (λ (l : List (ℕ × ℕ)). length u.read < length l) (sym read) is.0, subst (λ (l : List ℕ). 0 < times page l) (sym busy) is.1)
-stop-laid u v w (stop.Gone page) read gone busy is =
-    (subst (λ (l : List (ℕ × ℕ)). length u.read < length l) (sym read) is.0, subst (λ (l : List ℕ). 0 < times page l) (sym gone) is.1)
 
 pub refused-shown : (v w : View) (page : ℕ) (want : Want) (refusal : TakeNo) (end : ℕ) (s : Layout) → IsTakeRefused v page want refusal w → ShowsPages v None end s → ShowsPages w None end s
 refused-shown v w page want refusal end s r shown = elim r.read [
@@ -261,3 +294,50 @@ hand-after seat (Some g) (Some h) end s has pages shown =
       frame = x.frame;
       slots = has.slots ∙ ap (λ (p : ℕ). both_slots (view_of seat).about p Nothing Nothing) same;
     }
+
+-- the seat is the same after calls of which each left it the same
+pub same-worker : (a b : Seat) → IsSameSeat a b → IsSameWorker a b
+same-worker a b x = record { table = x.table; id = x.id; role = x.role; about = x.about; alive = x.alive; roles = x.roles }
+
+pub then-worker : (a b c : Seat) → IsSameWorker a b → IsSameWorker b c → IsSameWorker a c
+then-worker a b c x y = record {
+  table = y.table ∙ x.table;
+  id = y.id ∙ x.id;
+  role = y.role ∙ x.role;
+  about = y.about ∙ x.about;
+  alive = y.alive ∙ x.alive;
+  roles = y.roles ∙ x.roles;
+}
+
+pub same-lane : (a : Seat) → IsSameLane a a
+same-lane a = record { worker = record { table = refl; id = refl; role = refl; about = refl; alive = refl; roles = refl }; opens = λ counts. counts }
+
+pub then-lane : (a b c : Seat) → IsSameLane a b → IsSameLane b c → IsSameLane a c
+then-lane a b c x y = record { worker = then-worker a b c x.worker y.worker; opens = λ counts. y.opens (x.opens counts) }
+
+-- a call that fetches no page
+pub seat-lane : (a b : Seat) → IsSameSeat a b → (view_of b).fetched ≡ (view_of a).fetched → IsSameLane a b
+seat-lane a b x fetched = record {
+  worker = same-worker a b x;
+  opens = λ counts. x.opens ∙ subst (λ (l : List ℕ). a.opens ≡ min (length l) (2 ^ 64 - 1)) (sym fetched) counts;
+}
+
+pub at-lane : (pins : Pins) (a b : Seat) → IsAt pins a → IsSameLane a b → IsAt pins b
+at-lane pins a b at x =
+    let same = x.worker in
+    record {
+      table = same.table ∙ at.table;
+      about = same.about ∙ at.about;
+      alive = same.alive ∙ at.alive;
+      role = subst (λ (l : List ℕ). 0 < times (role_number b.role) l) (sym same.roles) (subst (λ (r : Role). 0 < has_role (view_of a) (role_number r)) (sym same.role) at.role);
+    }
+
+-- an own page is so after it
+pub own-lane : (a b : Seat) (page : ℕ) → IsSameLane a b → IsOwnPage (view_of a) page → IsOwnPage (view_of b) page
+own-lane a b page x own =
+    subst (λ (l : List ℕ). 0 < times (owner (view_of b).about page) l) (sym x.worker.roles)
+    (subst (λ (k : Key). 0 < times (owner k page) (view_of a).roles) (sym x.worker.about) own)
+
+-- and rights are as they were
+pub rights-on : (v w : View) → ReadsOn v w → v.rights ≡ [] → w.rights ≡ []
+rights-on v w on none = ap (λ (x : View). x.rights) on.same ∙ none

@@ -24,3 +24,7 @@ pub mod TurnLemmas
 pub mod OpenLemmas
 -- A page that comes back in a turn changes nothing of the whole heap
 pub mod ReloadLemmas
+-- A frame for a page that is gone, and the page that comes back into it
+pub mod FrameLemmas
+-- A page that a seat left as it was
+pub mod PassLemmas

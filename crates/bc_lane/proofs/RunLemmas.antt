@@ -1,12 +1,14 @@
 -- Operations of a lane, one more after those that were done.
-use Rattle.std.proofs.Common.{◌≡◌, ℕ, ◌+◌, ◌<◌, ◌≤◌, List, [], ◌∷◌, ◌++◌, length, get_or, take, drop, Option, Vec, Global, vec_capacity, refl, ap, sym, subst, ◌∙◌, arith, append_assoc, length-append, length-drop}
-use Rattle.std.proofs.lemmas.List.{drop-drop, drop-take, get_or-drop, take-append-drop, take-take, take_more}
+use Rattle.std.proofs.Common.{◌≡◌, ◌⊎◌, ℕ, ◌+◌, ◌<◌, ◌≤◌, List, [], ◌∷◌, ◌++◌, length, get_or, take, drop, Option, Vec, Global, vec_capacity, inl, inr, refl, ap, sym, subst, ◌∙◌, arith, append_assoc, length-append, length-drop}
+use Rattle.std.proofs.Math.Seq.{take-append-add}
+use Rattle.std.proofs.lemmas.List.{drop-drop, drop-take, get_or-drop, take-append-drop, take-append-le, take-length, take-take, take_more}
 use Rattle.std.specs.List.{AllByRecursion}
 use Rattle.bc_lane.specs.Doing.{DidAll}
-use Rattle.bc_lane.specs.Turns.{DoesOne, IsWhole, LaneRan, ReadsOn, SamePart, SameSizes}
+use Rattle.bc_lane.specs.Turns.{DoesOne, IsWhole, LaneRan, LooksInRun, LooksNext, LooksOn, PassesBy, ReadsOn, SamePart, SameSizes}
 use Rattle.bc_lane.specs.declared.parts.LanePart.{LanePart}
 use Rattle.bc_lane.specs.declared.turns.LaneTurn.{LaneTurn}
 use Rattle.bc_lane.proofs.HandLemmas.{none-reads, then-reads}
+use Rattle.bc_lane.proofs.PassLemmas.{none-passes, passes-on}
 use Rattle.bc_lane.proofs.WholeLemmas.{births-step}
 use Rattle.bc_model.proofs.Runs.{at-index}
 use Rattle.bc_model.specs.WellFormed.{IsOp}
@@ -17,6 +19,7 @@ use Rattle.bc_mutator.specs.Effects.{DidOperation}
 use Rattle.bc_mutator.specs.Operations.{IsOpOf}
 use Rattle.bc_pins.specs.declared.holding.Held.{Held}
 use Rattle.bc_pins.specs.declared.views.View.{View}
+use Rattle.bc_pins.specs.Key.{Key, pages_of}
 use Rattle.bc_superpages.specs.RootWords.{RootWords}
 use Rattle.bc_whole_heap.specs.Heaps.{HeapView}
 
@@ -58,6 +61,57 @@ same-part a b c x y = record {
   starts = y.starts ∙ x.starts;
 }
 
+-- an operation that looks at a page is among more operations
+looks-longer : (ops : List Op) (end : ℕ) (old : LaneTurn) (v : View) (hand : Option Held) (replies more : List Reply) (page : ℕ) → LooksInRun ops end old v hand replies page → LooksInRun ops end old v hand (replies ++ more) page
+looks-longer ops end old v hand replies more page l =
+    let long = length-append replies more in
+    record {
+      before = l.before;
+      within = (let within = l.within in omega arith);
+      op = l.op;
+      less = l.less;
+      is = l.is;
+      looks = λ h wh fits.
+          let k = l.looks h wh fits in (
+            k.0,
+            k.1,
+            subst (λ (rs : List Reply). DidAll old.part.holders.items old.part.lane (take l.before (drop old.next ops)) rs h old.part.serial k.0 k.1) (sym (take-append-le l.before replies more l.within)) k.2,
+            k.3,
+          );
+    }
+
+-- the next operation behind those that were done looks at it
+looks-next : (ops : List Op) (end : ℕ) (old cur : LaneTurn) (v w : View) (hand after : Option Held) (ran : LaneRan ops end old v hand cur w after) (page : ℕ) → LooksNext ops end cur w after page → LooksInRun ops end old v hand ran.replies page
+looks-next ops end old cur v w hand after ran page next =
+    let place = ran.next in
+    let op : Op = next.0 in
+    record {
+      before = length ran.replies;
+      within = omega arith;
+      op = op;
+      less = (let less = next.1 in omega arith);
+      is = subst (λ (n : ℕ). op ≡ get_or ops n op) place next.2;
+      looks = λ h wh fits.
+          let m = ran.done h wh fits in
+          let fit : IsOpOf h.roots op = subst (IsOpOf h.roots) (sym next.2) (at-index (IsOpOf h.roots) ops cur.next op fits next.1) in (
+            m.0,
+            cur.part.serial,
+            subst (λ (rs : List Reply). DidAll old.part.holders.items old.part.lane (take (length ran.replies) (drop old.next ops)) rs h old.part.serial m.0 cur.part.serial) (sym (take-length ran.replies)) m.3,
+            next.3 m.0 m.1 (fits-same h m.0 op m.2 fit),
+          );
+    }
+
+-- a page that was left as it was, or looked at, and then left as it was or looked at by the next operation
+looked-more : (ops : List Op) (end : ℕ) (old cur : LaneTurn) (v w x : View) (hand after : Option Held) (ran : LaneRan ops end old v hand cur w after) → ((q : ℕ) → q < pages_of w.about → PassesBy w x q ⊎ LooksNext ops end cur w after q)
+    → (q : ℕ) → q < pages_of v.about → PassesBy v x q ⊎ LooksInRun ops end old v hand ran.replies q
+looked-more ops end old cur v w x hand after ran looked q near = elim (ran.looked q near) [
+  | inl past ↦ elim (looked q (subst (λ (k : Key). q < pages_of k) (sym (ap (λ (z : View). z.about) ran.reads.same)) near)) [
+    | inl passes ↦ inl (passes-on v w x q past passes)
+    | inr next ↦ inr (looks-next ops end old cur v w hand after ran q next)
+  ]
+  | inr looks ↦ inr looks
+]
+
 -- nothing was done yet
 pub ran-none : (ops : List Op) (end : ℕ) (turn : LaneTurn) (v : View) (hand : Option Held) → LaneRan ops end turn v hand turn v hand
 ran-none ops end turn v hand = record {
@@ -69,6 +123,7 @@ ran-none ops end turn v hand = record {
   same = record { lane = refl; holders = refl; domains = refl; slots = refl; starts = refl };
   serial = omega arith;
   reads = none-reads v;
+  looked = λ q near. inl (none-passes v q);
   done = λ h w fits. (h, w, record { domains = refl; slots = refl }, (refl, refl));
 }
   where
@@ -80,7 +135,8 @@ ran-none ops end turn v hand = record {
 module _ (ops : List Op) (end : ℕ) (old cur new : LaneTurn) (v w x : View) (hand after last : Option Held) (op : Op) (reply : Reply)
     (ran : LaneRan ops end old v hand cur w after) (h0 : HeapView) (w0 : IsWhole old.part v hand end h0) (fits0 : AllByRecursion (IsOpOf h0.roots) ops)
     (less : cur.next < length ops) (is : op ≡ get_or ops cur.next op) (does : DoesOne cur.part w after new.part x last end op reply) (same : SamePart cur.part new.part)
-    (next : new.next ≡ cur.next + 1) (count : new.count ≡ cur.count) (kept : new.replies.items ≡ cur.replies.items ++ reply ∷ []) (room : vec_capacity new.replies ≡ vec_capacity cur.replies) (reads : ReadsOn w x) where
+    (next : new.next ≡ cur.next + 1) (count : new.count ≡ cur.count) (kept : new.replies.items ≡ cur.replies.items ++ reply ∷ []) (room : vec_capacity new.replies ≡ vec_capacity cur.replies) (reads : ReadsOn w x)
+    (looked : (q : ℕ) → q < pages_of w.about → PassesBy w x q ⊎ LooksNext ops end cur w after q) where
   abbrev hs : List ℕ
   hs = old.part.holders.items
 
@@ -135,13 +191,17 @@ module _ (ops : List Op) (end : ℕ) (old cur new : LaneTurn) (v w x : View) (ha
         same = same-part old.part cur.part new.part ran.same same;
         serial = omega arith;
         reads = then-reads v w x ran.reads reads;
+        looked = λ q near. elim (looked-more ops end old cur v w x hand after ran looked q near) [
+          | inl passes ↦ inl passes
+          | inr looks ↦ inr (looks-longer ops end old v hand ran.replies (reply ∷ []) q looks)
+        ];
         done = one;
       }
 
 -- an operation stopped, and nothing was done
 pub ran-stopped : (ops : List Op) (end : ℕ) (old cur new : LaneTurn) (v w x : View) (hand after last : Option Held) → LaneRan ops end old v hand cur w after → new.part ≡ cur.part → new.next ≡ cur.next → new.count ≡ cur.count → new.replies ≡ cur.replies
-    → ReadsOn w x → ((h : HeapView) → IsWhole cur.part w after end h → IsWhole cur.part x last end h) → LaneRan ops end old v hand new x last
-ran-stopped ops end old cur new v w x hand after last ran part next count kept reads still =
+    → ReadsOn w x → ((q : ℕ) → q < pages_of w.about → PassesBy w x q ⊎ LooksNext ops end cur w after q) → ((h : HeapView) → IsWhole cur.part w after end h → IsWhole cur.part x last end h) → LaneRan ops end old v hand new x last
+ran-stopped ops end old cur new v w x hand after last ran part next count kept reads looked still =
     let serial = ap (λ (p : LanePart). p.serial) part in
     let place = ran.next in
     let births = ran.serial in
@@ -154,6 +214,7 @@ ran-stopped ops end old cur new v w x hand after last ran part next count kept r
       same = subst (λ (p : LanePart). SamePart old.part p) (sym part) ran.same;
       serial = omega arith;
       reads = then-reads v w x ran.reads reads;
+      looked = looked-more ops end old cur v w x hand after ran looked;
       done = λ h wh fits.
           let m = ran.done h wh fits in
           subst (λ (p : LanePart). (k : HeapView) × IsWhole p x last end k × SameSizes h k × DidAll old.part.holders.items old.part.lane (take (length ran.replies) (drop old.next ops)) ran.replies h old.part.serial k p.serial) (sym part)
@@ -184,6 +245,48 @@ pub fits-all : (h k : HeapView) (ops : List Op) → SameSizes h k → AllByRecur
 fits-all h k [] same fits = tt
 fits-all h k (op ∷ ops) same fits = (fits-same h k op same fits.0, fits-all h k ops same fits.1)
 
+-- what the second looks at is behind the first
+looks-then : (ops : List Op) (end : ℕ) (old cur : LaneTurn) (v w : View) (hand after : Option Held) (one : LaneRan ops end old v hand cur w after) (more : List Reply) (page : ℕ) → LooksInRun ops end cur w after more page → LooksInRun ops end old v hand (one.replies ++ more) page
+looks-then ops end old cur v w hand after one more page l =
+    let long = length-append one.replies more in
+    let place = one.next in
+    let a : ℕ = length one.replies in
+    let b : ℕ = l.before in
+    let hs : List ℕ = old.part.holders.items in
+    let place_is : cur.next + b ≡ old.next + (a + b) = omega arith in
+    record {
+      before = a + b;
+      within = (let within = l.within in omega arith);
+      op = l.op;
+      less = (let less = l.less in omega arith);
+      is = subst (λ (n : ℕ). l.op ≡ get_or ops n l.op) place_is l.is;
+      looks = λ h wh fits.
+          let m = one.done h wh fits in
+          let k = l.looks m.0 m.1 (fits-all h m.0 ops m.2 fits) in
+          let second : DidAll hs old.part.lane (take b (drop (old.next + a) ops)) (take b more) m.0 cur.part.serial k.0 k.1 =
+          subst (λ (n : ℕ). DidAll hs old.part.lane (take b (drop n ops)) (take b more) m.0 cur.part.serial k.0 k.1) place
+          (subst (λ (i : ℕ). DidAll hs i (take b (drop cur.next ops)) (take b more) m.0 cur.part.serial k.0 k.1) one.same.lane
+          (subst (λ (xs : List ℕ). DidAll xs cur.part.lane (take b (drop cur.next ops)) (take b more) m.0 cur.part.serial k.0 k.1) (ap (λ (xs : _). xs.items) one.same.holders) k.2)) in
+          let all : DidAll hs old.part.lane (take a (drop old.next ops) ++ take b (drop (old.next + a) ops)) (one.replies ++ take b more) h old.part.serial k.0 k.1 =
+          did-then hs old.part.lane (take a (drop old.next ops)) (take b (drop (old.next + a) ops)) one.replies (take b more) h m.0 k.0 old.part.serial cur.part.serial k.1 m.3 second in (
+            k.0,
+            k.1,
+            subst (λ (os : List Op). DidAll hs old.part.lane os (take (a + b) (one.replies ++ more)) h old.part.serial k.0 k.1) (sym (ops-then ops old.next a b))
+                (subst (λ (rs : List Reply). DidAll hs old.part.lane (take a (drop old.next ops) ++ take b (drop (old.next + a) ops)) rs h old.part.serial k.0 k.1) (sym (take-append-add one.replies more b)) all),
+            k.3,
+          );
+    }
+
+looked-then : (ops : List Op) (end : ℕ) (old cur new : LaneTurn) (v w x : View) (hand after last : Option Held) (one : LaneRan ops end old v hand cur w after) (two : LaneRan ops end cur w after new x last)
+    → (q : ℕ) → q < pages_of v.about → PassesBy v x q ⊎ LooksInRun ops end old v hand (one.replies ++ two.replies) q
+looked-then ops end old cur new v w x hand after last one two q near = elim (one.looked q near) [
+  | inl past ↦ elim (two.looked q (subst (λ (k : Key). q < pages_of k) (sym (ap (λ (z : View). z.about) one.reads.same)) near)) [
+    | inl passes ↦ inl (passes-on v w x q past passes)
+    | inr looks ↦ inr (looks-then ops end old cur v w hand after one two.replies q looks)
+  ]
+  | inr looks ↦ inr (looks-longer ops end old v hand one.replies two.replies q looks)
+]
+
 pub ran-then : (ops : List Op) (end : ℕ) (old cur new : LaneTurn) (v w x : View) (hand after last : Option Held) → LaneRan ops end old v hand cur w after → LaneRan ops end cur w after new x last → LaneRan ops end old v hand new x last
 ran-then ops end old cur new v w x hand after last one two =
     let long = length-append one.replies two.replies in
@@ -200,6 +303,7 @@ ran-then ops end old cur new v w x hand after last one two =
       same = same-part old.part cur.part new.part one.same two.same;
       serial = omega arith;
       reads = then-reads v w x one.reads two.reads;
+      looked = looked-then ops end old cur new v w x hand after last one two;
       done = λ h wh fits.
           let m = one.done h wh fits in
           let k = two.done m.0 m.1 (fits-all h m.0 ops m.2 fits) in

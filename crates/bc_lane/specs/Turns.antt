@@ -1,5 +1,5 @@
 -- A lane's turn: which whole heaps what the lane has may belong to, what its seat and the table are, and what is done.
-use Rattle.std.specs.Prelude.{◌≡◌, ◌≢◌, ◌⊎◌, ℕ, ◌+◌, ◌-◌, ◌*◌, ◌/◌, ◌^◌, ◌<◌, ◌≤◌, ◌==◌, true, List, ◌∷◌, ◌++◌, length, map, take, drop, Option, Some, None, Vec, slice_index, slice_index_or, vec_capacity}
+use Rattle.std.specs.Prelude.{◌≡◌, ◌≢◌, ◌⊎◌, ℕ, ◌+◌, ◌-◌, ◌*◌, ◌/◌, ◌^◌, ◌<◌, ◌≤◌, ◌==◌, true, List, ◌∷◌, [], ◌++◌, length, map, take, drop, Option, Some, None, Vec, slice_index, slice_index_or, vec_capacity}
 use Rattle.std.specs.Global.{Global}
 use Rattle.std.specs.List.{AllByRecursion, list_all}
 use Rattle.bc_lane.specs.declared.looking.Looking.{Looking}
@@ -30,11 +30,14 @@ use Rattle.bc_pins.specs.declared.key.Role.TheVariants.{Lane}
 use Rattle.bc_pins.specs.declared.pins.Pins.{Pins}
 use Rattle.bc_pins.specs.declared.pins.Seat.{Seat}
 use Rattle.bc_pins.specs.declared.views.View.{View}
-use Rattle.bc_pins.specs.Calls.{HoldsPage, IsAt, IsFree, key_of}
+use Rattle.bc_evict.specs.Claiming.{all_bits}
+use Rattle.bc_evict.specs.Looking.{MayStay}
+use Rattle.bc_pins.specs.Calls.{CountsFetches, HoldsPage, IsAt, IsFree, IsSameWorker, key_of, view_of}
 use Rattle.bc_pins.specs.Contents.{IsBarePage}
-use Rattle.bc_pins.specs.Key.{Key, lane_role, owner, page_at, pages_of}
+use Rattle.bc_pins.specs.Key.{Key, frame_at, frame_words, lane_role, owner, page_at, pages_of}
 use Rattle.bc_pins.specs.Totals.{times}
-use Rattle.bc_pins.specs.Views.{entries, has_role, opened_state, reads_at}
+use Rattle.bc_pins.specs.Views.{entries, has_role, opened_state, reads_at, reads_of, state_word}
+use Rattle.bc_superpages.specs.declared.headers.PageState.{PageState}
 use Rattle.bc_superpages.specs.declared.headers.PageState.TheVariants.{Absent}
 use Rattle.bc_superpages.specs.LayoutAt.{IsAllocated}
 use Rattle.bc_superpages.specs.RootWords.{RootWords}
@@ -112,11 +115,12 @@ abbrev pub HasInHand : Seat → Option Held → Type 0
 HasInHand seat None = IsFree seat
 HasInHand seat (Some held) = HoldsPage seat held
 
--- the seat is this lane's, at this table, with this page in hand
+-- the seat is this lane's, at this table, with this page in hand, and has no right to a frame
 pub record IsLaneSeat (pins : Pins) (lane : ℕ) (seat : Seat) (hand : Option Held) : Type 0 where
   pub at : IsAt pins seat
   pub role : seat.role ≡ Lane lane
   pub hands : HasInHand seat hand
+  pub rights : (view_of seat).rights ≡ []
 
 -- the slot whose object an operation looks at, where there is one, refers to this address
 abbrev pub LooksAtObject : RootWords → Option Slot → Address → Type 0
@@ -131,23 +135,70 @@ LooksOn h op page = (at : Address) × LooksAtObject h.roots (touched_slot op) at
 abbrev pub ReadLast : View → ℕ → ℕ → Type 0
 ReadLast v page found = (rest : List (ℕ × ℕ)) × (v.read ≡ (page_at page, found) ∷ rest)
 
--- a seat read on, and took and put back pages of the table: words of pages of its lane's domains, and such pages, alone. What else it
--- knows is as before: so it made no page Gone or Absent, bookmarked and counted nothing, and has the rights to frames that it had
+-- the page's word was read since, and told last that the page is in another's hands; which is noted
+pub record ReadsHeld (v w : View) (page : ℕ) : Type 0 where
+  pub last : ReadLast w page 3
+  pub since : length v.read < length w.read
+  pub noted : 0 < times page w.busy
+
+-- what a word told when it was read last
+abbrev pub LastOf : List (ℕ × ℕ) → ℕ → ℕ → Type 0
+LastOf looks i found = (rest : List ℕ) × (reads_of i looks ≡ found ∷ rest)
+
+-- no frame was found: the last step on each frame word since found no clear bit, and the last step on the word of each page of the table
+-- found no page that can leave. Nothing else changed but what is noted of pages
+pub record FindsNoFrameAtAll (v w : View) : Type 0 where
+  pub looks : List (ℕ × ℕ)
+  pub view : w ≡ record v { read = looks ++ v.read; seen = w.seen; gone = w.gone; busy = w.busy }
+  pub gone : (page : ℕ) → times page v.gone ≤ times page w.gone
+  pub frames : (word : ℕ) → word < frame_words w.about → LastOf looks (frame_at w.about word) all_bits
+  pub pages : (q : ℕ) → q < pages_of w.about → (place : PageState) × MayStay place × LastOf looks (page_at q) (state_word place)
+  pub none : (q : ℕ) → q < pages_of w.about → times 1 (reads_at q looks) ≡ 0
+
+-- the page was read as Gone since, as is noted, and no frame was found for it: the last step on each frame word since found no clear bit, and
+-- the last step on the word of each page of the table found no page that can leave
+pub record FindsNoFrameFor (v w : View) (page : ℕ) : Type 0 where
+  pub looks : List (ℕ × ℕ)
+  pub read : w.read ≡ looks ++ v.read
+  pub gone : 0 < times 4 (reads_at page looks)
+  pub noted : 0 < times page w.gone
+  pub frames : (word : ℕ) → word < frame_words w.about → LastOf looks (frame_at w.about word) all_bits
+  pub pages : (q : ℕ) → q < pages_of w.about → (place : PageState) × MayStay place × LastOf looks (page_at q) (state_word place)
+
+-- a seat read on, took and put back pages of the table, brought own pages back that were Gone, and made pages Gone or Absent for their
+-- frames, no more than it brought back. A page that isn't its own it made Gone or Absent as often as it read it as Home; none such it
+-- brought back, put back as Remembered or recorded. It has the rights to frames that it had, counted no superpage, and returned no page
 pub record ReadsOn (v w : View) : Type 0 where
-  pub same : w ≡ record v { hand = w.hand; changed = w.changed; recorded = w.recorded; seen = w.seen; gone = w.gone; busy = w.busy; read = w.read }
+  pub same : w ≡ record v { hand = w.hand; changed = w.changed; recorded = w.recorded; seen = w.seen; gone = w.gone; busy = w.busy; read = w.read; left = w.left; emptied = w.emptied; fetched = w.fetched; bookmarked = w.bookmarked }
   pub more : List (ℕ × ℕ)
   pub read : w.read ≡ more ++ v.read
   pub behind : (page : ℕ) → pages_of v.about ≤ page → (entries page w.changed ≡ entries page v.changed) × (times page w.recorded ≡ times page v.recorded)
-  pub own : (page : ℕ) → 0 < length (reads_at page more) → 0 < has_role v (owner v.about page)
   pub others : (page : ℕ) → has_role v (owner v.about page) ≡ 0 → (entries page w.changed ≡ entries page v.changed) × (times page w.recorded ≡ times page v.recorded)
+  pub foreign : (page : ℕ) → page < pages_of v.about → has_role v (owner v.about page) ≡ 0
+      → times page w.left + times page w.emptied ≡ times 1 (reads_at page more) + (times page v.left + times page v.emptied)
+  pub fetches : (page : ℕ) → has_role v (owner v.about page) ≡ 0 → times page w.fetched ≡ times page v.fetched
+  pub far : (page : ℕ) → pages_of v.about ≤ page → (times page w.left ≡ times page v.left) × (times page w.emptied ≡ times page v.emptied) × (times page w.fetched ≡ times page v.fetched)
+  pub few : (length w.left + length w.emptied) + length v.fetched ≤ length w.fetched + (length v.left + length v.emptied)
 
--- a stop at a page is one that the seat read since, and the seat notes what it read: that the page is gone, or in another's hands
-abbrev pub IsReadStop : View → View → Stop → Type 0
-IsReadStop v w stop.End = Unit {0}
-IsReadStop v w stop.NurseryFull = Unit {0}
-IsReadStop v w stop.BufferFull = Unit {0}
-IsReadStop v w (stop.Busy page) = (length v.read < length w.read) × (0 < times page w.busy)
-IsReadStop v w (stop.Gone page) = (length v.read < length w.read) × (0 < times page w.gone)
+-- a page that a seat left as it was: as often as it read it as Home it made it Gone or Absent, and it didn't bring it back
+pub record PassesBy (v w : View) (page : ℕ) : Type 0 where
+  pub home : times 1 (reads_at page w.read) + (times page v.left + times page v.emptied) ≡ times 1 (reads_at page v.read) + (times page w.left + times page w.emptied)
+  pub fetched : times page w.fetched ≡ times page v.fetched
+
+-- a seat has the right to this frame and to no other, which it claimed, or for which it made one page Gone or Absent, the one that it
+-- read as Home. What it knew to be Gone it knows still, and nothing else changed that the view says
+pub record HasFrame (v : View) (frame : ℕ) (w : View) : Type 0 where
+  pub looks : List (ℕ × ℕ)
+  pub view : w ≡ record v { rights = frame ∷ []; seen = w.seen; gone = w.gone; busy = w.busy; read = looks ++ v.read; left = w.left; emptied = w.emptied; bookmarked = w.bookmarked }
+  pub gone : (page : ℕ) → times page v.gone ≤ times page w.gone
+  pub given : (page : ℕ) → page < pages_of v.about → times page w.left + times page w.emptied ≡ times 1 (reads_at page looks) + (times page v.left + times page v.emptied)
+  pub far : (page : ℕ) → pages_of v.about ≤ page → (times page w.left ≡ times page v.left) × (times page w.emptied ≡ times page v.emptied)
+  pub few : length w.left + length w.emptied ≤ 1 + (length v.left + length v.emptied)
+
+-- a call leaves the seat that seat, and it counts the boxes that it opens still, if it did
+pub record IsSameLane (old new : Seat) : Type 0 where
+  pub worker : IsSameWorker old new
+  pub opens : CountsFetches old → CountsFetches new
 
 -- this is true of the lane's operation of that number, which there is
 abbrev pub IsNextOp : List Op → ℕ → (Op → Type 0) → Type 0
@@ -185,9 +236,9 @@ LooksTold part k end op (Own page) = LooksOwn part k end op page
 LooksTold part k end op Foreign = LaneHoldsAll part op × ((v : View) → (hand : Option Held) → (h : HeapView) → v.about ≡ k → IsWhole part v hand end h → IsOpOf h.roots op
     → LooksForeign h part.holders.items part.lane op)
 
--- a page couldn't be taken: the stop is what was read of it
-abbrev pub IsRefusedPage : View → ℕ → Stop → Type 0
-IsRefusedPage v page why = ((why ≡ stop.Busy page) × ReadLast v page 3) ⊎ ((why ≡ stop.Gone page) × ReadLast v page 4)
+-- a page couldn't be brought: the stop is what was read since
+abbrev pub IsRefusedPage : View → View → ℕ → Stop → Type 0
+IsRefusedPage v w page why = ((why ≡ stop.Busy page) × ReadsHeld v w page) ⊎ ((why ≡ stop.NoFrame) × FindsNoFrameFor v w page)
 
 -- an operation of the lane was done and answered, in every whole heap
 abbrev pub DoesOne : LanePart → View → Option Held → LanePart → View → Option Held → ℕ → Op → Reply → Type 0
@@ -198,17 +249,25 @@ DoesOne old v hand new w after end op reply = (h : HeapView) → IsWhole old v h
 abbrev pub StaysWhole : LanePart → View → Option Held → LanePart → View → Option Held → ℕ → Type 0
 StaysWhole old v hand new w after end = (new ≡ old) × ((h : HeapView) → IsWhole old v hand end h → IsWhole old w after end h)
 
--- why an operation isn't done
-abbrev pub StopsOp : LanePart → View → Option Held → ℕ → Op → Stop → Type 0
-StopsOp part v hand end op stop.End = ⊥
-StopsOp part v hand end op stop.NurseryFull = WantsMore part.holders.items part.lane (left_of part.chunk) op
-StopsOp part v hand end op stop.BufferFull = (h : HeapView) → IsWhole part v hand end h → IsOpOf h.roots op → NeedsEntry part.holders.items part.lane h.space h.roots part.chunk part.buffer op
-StopsOp part v hand end op (stop.Busy page) = ReadLast v page 3 × ((h : HeapView) → IsWhole part v hand end h → IsOpOf h.roots op → LooksOn h op page)
-StopsOp part v hand end op (stop.Gone page) = ReadLast v page 4 × ((h : HeapView) → IsWhole part v hand end h → IsOpOf h.roots op → LooksOn h op page)
+-- the operation looks at a cell on this page, whatever whole heap what the lane has belongs to
+abbrev pub LooksOnIn : LanePart → View → Option Held → ℕ → Op → ℕ → Type 0
+LooksOnIn part w hand end op page = (h : HeapView) → IsWhole part w hand end h → IsOpOf h.roots op → LooksOn h op page
+
+-- why an operation isn't done, by what the lane has now, and what its seat read since it had the view v
+abbrev pub StopsOp : View → LanePart → View → Option Held → ℕ → Op → Stop → Type 0
+StopsOp v part w hand end op stop.End = ⊥
+StopsOp v part w hand end op stop.NurseryFull = WantsMore part.holders.items part.lane (left_of part.chunk) op
+StopsOp v part w hand end op stop.BufferFull = (h : HeapView) → IsWhole part w hand end h → IsOpOf h.roots op → NeedsEntry part.holders.items part.lane h.space h.roots part.chunk part.buffer op
+StopsOp v part w hand end op (stop.Busy page) = ReadsHeld v w page × LooksOnIn part w hand end op page
+StopsOp v part w hand end op stop.NoFrame = (page : ℕ) × FindsNoFrameFor v w page × LooksOnIn part w hand end op page
 
 -- why a lane stops before the operation of this number: at its end, or since that operation isn't done
-abbrev pub WhyStopped : List Op → ℕ → LaneTurn → View → Option Held → Stop → Type 0
-WhyStopped ops end turn v hand why = ((why ≡ stop.End) × (length ops ≤ turn.next)) ⊎ IsNextOp ops turn.next (λ op. StopsOp turn.part v hand end op why)
+abbrev pub WhyStopped : View → List Op → ℕ → LaneTurn → View → Option Held → Stop → Type 0
+WhyStopped v ops end turn w hand why = ((why ≡ stop.End) × (length ops ≤ turn.next)) ⊎ IsNextOp ops turn.next (λ op. StopsOp v turn.part w hand end op why)
+
+-- the next operation looks at a cell on this page
+abbrev pub LooksNext : List Op → ℕ → LaneTurn → View → Option Held → ℕ → Type 0
+LooksNext ops end turn v hand page = IsNextOp ops turn.next (λ op. LooksOnIn turn.part v hand end op page)
 
 -- what the turn of a lane rests on
 pub record IsGoing (pins : Pins) (ops : List Op) (turn : LaneTurn) (seat : Seat) (hand : Option Held) : Type 0 where
@@ -223,8 +282,20 @@ pub record SameSizes (h k : HeapView) : Type 0 where
   pub domains : k.roots.domains ≡ h.roots.domains
   pub slots : k.roots.slots ≡ h.roots.slots
 
+-- one of the operations with these replies looks at a cell on this page, or the one behind them: in the heap that those before it made of
+-- the one to which what the lane had belonged
+pub record LooksInRun (ops : List Op) (end : ℕ) (old : LaneTurn) (v : View) (hand : Option Held) (replies : List Reply) (page : ℕ) : Type 0 where
+  pub before : ℕ
+  pub within : before ≤ length replies
+  pub op : Op
+  pub less : old.next + before < length ops
+  pub is : op ≡ slice_index_or ops (old.next + before) op
+  pub looks : (h : HeapView) → IsWhole old.part v hand end h → AllByRecursion (IsOpOf h.roots) ops
+      → (k : HeapView) × (serial : ℕ) × DidAll old.part.holders.items old.part.lane (take before (drop old.next ops)) (take before replies) h old.part.serial k serial × LooksOn k op page
+
 -- operations of the lane were done, in their order: whatever whole heap what the lane had belonged to, what it has now belongs to
--- that heap with these operations done. Their replies are kept, where there was room for them
+-- that heap with these operations done. Their replies are kept, where there was room for them. A page on which none of them looks, nor
+-- the next one, the seat left as it was
 pub record LaneRan (ops : List Op) (end : ℕ) (old : LaneTurn) (v : View) (hand : Option Held) (new : LaneTurn) (w : View) (after : Option Held) : Type 0 where
   pub replies : List Reply
   pub kept : new.replies.items ≡ old.replies.items ++ replies
@@ -234,6 +305,7 @@ pub record LaneRan (ops : List Op) (end : ℕ) (old : LaneTurn) (v : View) (hand
   pub same : SamePart old.part new.part
   pub serial : new.part.serial ≤ old.part.serial + length replies
   pub reads : ReadsOn v w
+  pub looked : (page : ℕ) → page < pages_of v.about → PassesBy v w page ⊎ LooksInRun ops end old v hand replies page
   pub done : (h : HeapView) → IsWhole old.part v hand end h → AllByRecursion (IsOpOf h.roots) ops
       → (k : HeapView) × IsWhole new.part w after end k × SameSizes h k
       × DidAll old.part.holders.items old.part.lane (take (length replies) (drop old.next ops)) replies h old.part.serial k new.part.serial

@@ -1,12 +1,13 @@
 //! An operation of a lane, once its page is in hand, or why it isn't done.
 
-ghost use Rattle.std.specs.Prelude.{◌≡◌, ◌+◌, ◌^◌, ◌<◌, Err, IfOk, IfErr, OnErr};
+ghost use Rattle.std.specs.Prelude.{◌≡◌, ◌⊎◌, ℕ, ◌+◌, ◌^◌, ◌<◌, Err, IfOk, IfErr, OnErr};
 ghost use Rattle.bc_lane.specs.declared.stops.Stop.TheVariants.{NurseryFull};
 ghost use Rattle.bc_lane.specs.Shown.{HasPage};
-ghost use Rattle.bc_lane.specs.Turns.{DoesOne, IsLaneSeat, IsLaneTable, IsReadStop, IsWhole, LooksOwn, ReadsOn, SamePart, StaysWhole, StopsOp};
+ghost use Rattle.bc_lane.specs.Turns.{DoesOne, IsLaneSeat, IsLaneTable, IsSameLane, IsWhole, LooksOnIn, LooksOwn, PassesBy, ReadsOn, SamePart, StaysWhole, StopsOp};
 ghost use Rattle.bc_mutator.specs.Operations.{IsOpOf, WantsMore};
 ghost use Rattle.bc_nursery.specs.Objects.{left_of};
-ghost use Rattle.bc_pins.specs.Calls.{key_of, view_of, IsSameSeat};
+ghost use Rattle.bc_pins.specs.Calls.{key_of, view_of};
+ghost use Rattle.bc_pins.specs.Key.{pages_of};
 ghost use Rattle.bc_whole_heap.specs.Heaps.{HeapView};
 
 use crate::hands::bring;
@@ -36,12 +37,12 @@ pub(crate) fn answer<G: Gate>(
     requires serial { part.old.serial + 1 < 2 ^ 32 }
     ensures part { SamePart part.old part.new }
     ensures seated { IsLaneSeat pins.now part.old.lane seat.new hand.new }
-    ensures seat { IsSameSeat seat.old seat.new }
+    ensures seat { IsSameLane seat.old seat.new }
     ensures reads { ReadsOn (view_of seat.old) (view_of seat.new) }
+    ensures looked { (q : ℕ) → q < pages_of (view_of seat.old).about → PassesBy (view_of seat.old) (view_of seat.new) q ⊎ LooksOnIn part.old (view_of seat.old) hand.old end op.now q }
     ensures done { IfOk result (λ reply. DoesOne part.old (view_of seat.old) hand.old part.new (view_of seat.new) hand.new end op.now reply) }
     ensures still { OnErr result (StaysWhole part.old (view_of seat.old) hand.old part.new (view_of seat.new) hand.new end) }
-    ensures why { IfErr result (λ why. StopsOp part.new (view_of seat.new) hand.new end op.now why) }
-    ensures since { IfErr result (λ why. IsReadStop (view_of seat.old) (view_of seat.new) why) }
+    ensures why { IfErr result (λ why. StopsOp (view_of seat.old) part.new (view_of seat.new) hand.new end op.now why) }
     ensures nursery { WantsMore part.old.holders.items part.old.lane (left_of part.old.chunk) op.now → result ≡ Err NurseryFull }
 {
     match looks(part, pins, end, op) {
@@ -71,13 +72,13 @@ fn answer_on<G: Gate>(
     requires serial { part.old.serial + 1 < 2 ^ 32 }
     ensures part { SamePart part.old part.new }
     ensures seated { IsLaneSeat pins.now part.old.lane seat.new hand.new }
-    ensures seat { IsSameSeat seat.old seat.new }
+    ensures seat { IsSameLane seat.old seat.new }
     ensures kept { HasPage hand.old page → seat.new ≡ seat.old }
     ensures reads { ReadsOn (view_of seat.old) (view_of seat.new) }
+    ensures looked { (q : ℕ) → q < pages_of (view_of seat.old).about → PassesBy (view_of seat.old) (view_of seat.new) q ⊎ LooksOnIn part.old (view_of seat.old) hand.old end op.now q }
     ensures done { IfOk result (λ reply. DoesOne part.old (view_of seat.old) hand.old part.new (view_of seat.new) hand.new end op.now reply) }
     ensures still { OnErr result (StaysWhole part.old (view_of seat.old) hand.old part.new (view_of seat.new) hand.new end) }
-    ensures why { IfErr result (λ why. StopsOp part.new (view_of seat.new) hand.new end op.now why) }
-    ensures since { IfErr result (λ why. IsReadStop (view_of seat.old) (view_of seat.new) why) }
+    ensures why { IfErr result (λ why. StopsOp (view_of seat.old) part.new (view_of seat.new) hand.new end op.now why) }
     ensures nursery { WantsMore part.old.holders.items part.old.lane (left_of part.old.chunk) op.now → result ≡ Err NurseryFull }
 {
     match bring(pins, seat, hand, page, part.lane, gate) {

@@ -1,15 +1,18 @@
 //! The page that a lane has in hand. It is taken when an operation looks at a cell on it, and put back when another page is
-//! wanted or the turn ends.
+//! wanted or the turn ends. Where it is gone it comes back for the lane.
 
-ghost use Rattle.std.specs.Prelude.{◌≡◌, ℕ, ◌<◌, true, Some, None, IfOk, IfErr, OnOk, OnErr};
+ghost use Rattle.std.specs.Prelude.{◌≡◌, ◌≢◌, ℕ, ◌<◌, true, [], Some, None, IfOk, IfErr, IfSome, IfNone, OnOk, OnErr};
+ghost use Rattle.bc_lane.specs.declared.stops.Stop.TheVariants as stop;
 ghost use Rattle.bc_lane.specs.Shown.{HasPage, IsOwnPage, ShowsPages};
-ghost use Rattle.bc_lane.specs.Turns.{HasInHand, IsReadStop, IsRefusedPage, ReadsOn};
+ghost use Rattle.bc_lane.specs.Turns.{FindsNoFrameAtAll, HasFrame, HasInHand, IsRefusedPage, IsSameLane, PassesBy, ReadsOn};
 ghost use Rattle.bc_pins.specs.Calls.{HoldsPage, IsAt, IsFree, IsSameSeat, key_of, view_of};
 ghost use Rattle.bc_pins.specs.Contents.{IsBarePage};
 ghost use Rattle.bc_pins.specs.Key.{pages_of};
+ghost use Rattle.bc_pins.specs.Totals.{times};
 ghost use Rattle.bc_superpages.specs.Layout.{Layout};
 
 use crate::stops::Stop;
+use bc_evict::{FrameRight, claim_frame, free_frame, reload};
 use bc_gates::Gate;
 use bc_pins::{Held, Pins, Seat, TakeNo, Want};
 
@@ -18,7 +21,7 @@ pub(crate) fn lay_down(pins: &Pins, seat: &mut Seat, hand: &mut Option<Held>)
     requires at { IsAt pins.now seat.old }
     requires hands { HasInHand seat.old hand.old }
     requires shown { (end : ℕ) × (s : Layout) × ShowsPages (view_of seat.old) hand.old end s }
-    ensures same { IsSameSeat seat.old seat.new }
+    ensures same { IsSameLane seat.old seat.new }
     ensures free { IsFree seat.new }
     ensures none { hand.new ≡ None }
     ensures shows { (end : ℕ) → (s : Layout) → ShowsPages (view_of seat.old) hand.old end s → ShowsPages (view_of seat.new) None end s }
@@ -27,6 +30,7 @@ pub(crate) fn lay_down(pins: &Pins, seat: &mut Seat, hand: &mut Option<Held>)
     ensures gone { (view_of seat.new).gone ≡ (view_of seat.old).gone }
     ensures busy { (view_of seat.new).busy ≡ (view_of seat.old).busy }
     ensures reads { ReadsOn (view_of seat.old) (view_of seat.new) }
+    ensures passes { (q : ℕ) → PassesBy (view_of seat.old) (view_of seat.new) q }
 {
     match hand.take() {
         Some(held) => pins.put(seat, held),
@@ -34,34 +38,81 @@ pub(crate) fn lay_down(pins: &Pins, seat: &mut Seat, hand: &mut Option<Held>)
     }
 }
 
-/// Takes an own page on which an allocated cell lies.
+/// Takes an own page on which an allocated cell lies. Where it is gone it comes back, into a frame that is free, or for which another page
+/// leaves.
 fn pick_up(pins: &Pins, seat: &mut Seat, page: u32) -> Result<Held, Stop>
     requires at { IsAt pins.now seat.old }
     requires free { IsFree seat.old }
+    requires rights { (view_of seat.old).rights ≡ [] }
     requires page { page < pages_of (key_of pins.now) }
     requires lanes { (view_of seat.old).about.lanes ≡ true }
     requires own { IsOwnPage (view_of seat.old) page }
     requires cell { IsBarePage (view_of seat.old).about.opening page → ⊥ }
-    ensures same { IsSameSeat seat.old seat.new }
+    ensures same { IsSameLane seat.old seat.new }
     ensures ok { IfOk result (λ held. HoldsPage seat.new held × (held.page ≡ page)) }
     ensures shows { IfOk result (λ held. (end : ℕ) → (s : Layout) → ShowsPages (view_of seat.old) None end s
         → ShowsPages (view_of seat.new) (Some held) end s) }
-    ensures err { IfErr result (λ why. IsFree seat.new × IsRefusedPage (view_of seat.new) page why) }
+    ensures err { IfErr result (λ why. IsFree seat.new × IsRefusedPage (view_of seat.old) (view_of seat.new) page why) }
     ensures still { OnErr result ((end : ℕ) → (s : Layout) → ShowsPages (view_of seat.old) None end s → ShowsPages (view_of seat.new) None end s) }
     ensures reads { ReadsOn (view_of seat.old) (view_of seat.new) }
-    ensures since { IfErr result (λ why. IsReadStop (view_of seat.old) (view_of seat.new) why) }
+    ensures passes { (q : ℕ) → q < pages_of (view_of seat.old).about → q ≢ page → PassesBy (view_of seat.old) (view_of seat.new) q }
 {
     match pins.take(seat, page, Want::Work) {
         Ok(held) => Ok(held),
         Err(TakeNo::Busy) => Err(Stop::Busy(page)),
-        Err(TakeNo::Gone) => Err(Stop::Gone(page)),
+        Err(TakeNo::Gone) => fetch(pins, seat, page),
         Err(TakeNo::Remembered) => unreachable!(),
         Err(TakeNo::Absent) => unreachable!(),
     }
 }
 
+/// Brings an own page back that was read as Gone, if there is a frame for it.
+fn fetch(pins: &Pins, seat: &mut Seat, page: u32) -> Result<Held, Stop>
+    requires at { IsAt pins.now seat.old }
+    requires free { IsFree seat.old }
+    requires rights { (view_of seat.old).rights ≡ [] }
+    requires page { page < pages_of (key_of pins.now) }
+    requires lanes { (view_of seat.old).about.lanes ≡ true }
+    requires own { IsOwnPage (view_of seat.old) page }
+    requires gone { 0 < times page (view_of seat.old).gone }
+    ensures same { IsSameLane seat.old seat.new }
+    ensures ok { IfOk result (λ held. HoldsPage seat.new held × (held.page ≡ page)) }
+    ensures shows { IfOk result (λ held. (end : ℕ) → (s : Layout) → ShowsPages (view_of seat.old) None end s
+        → ShowsPages (view_of seat.new) (Some held) end s) }
+    ensures err { IfErr result (λ why. IsFree seat.new × (why ≡ stop.NoFrame) × FindsNoFrameAtAll (view_of seat.old) (view_of seat.new)) }
+    ensures still { OnErr result ((end : ℕ) → (s : Layout) → ShowsPages (view_of seat.old) None end s → ShowsPages (view_of seat.new) None end s) }
+    ensures reads { ReadsOn (view_of seat.old) (view_of seat.new) }
+    ensures passes { (q : ℕ) → q < pages_of (view_of seat.old).about → q ≢ page → PassesBy (view_of seat.old) (view_of seat.new) q }
+{
+    match find_frame(pins, seat, page.saturating_add(1)) {
+        Some(right) => match reload(pins, seat, page, right) {
+            Ok(fetched) => Ok(fetched),
+            Err(_) => unreachable!(),
+        },
+        None => Err(Stop::NoFrame),
+    }
+}
+
+/// Gets the right to a frame: to a free one, or else to that of a page that leaves for it, the first that can, going round from a hint. It
+/// gets none only where no frame is free, and no page can leave.
+fn find_frame(pins: &Pins, seat: &mut Seat, hint: u32) -> Option<FrameRight>
+    requires at { IsAt pins.now seat.old }
+    requires free { IsFree seat.old }
+    requires rights { (view_of seat.old).rights ≡ [] }
+    requires lanes { (view_of seat.old).about.lanes ≡ true }
+    ensures same { IsSameSeat seat.old seat.new }
+    ensures free { IsFree seat.new }
+    ensures some { IfSome result (λ right. HasFrame (view_of seat.old) right.frame (view_of seat.new)) }
+    ensures none { IfNone result (FindsNoFrameAtAll (view_of seat.old) (view_of seat.new)) }
+{
+    if let Some(right) = claim_frame(pins, seat) {
+        return Some(right);
+    }
+    free_frame(pins, seat, hint)
+}
+
 /// Sees to it that an own page on which an allocated cell lies is in hand. Where it is, nothing is done; any other page in hand
-/// is put back. Where the page can't be taken none is in hand.
+/// is put back, and one that is gone comes back. Where it can't be taken none is in hand.
 pub(crate) fn bring<G: Gate>(
     pins: &Pins,
     seat: &mut Seat,
@@ -72,19 +123,20 @@ pub(crate) fn bring<G: Gate>(
 ) -> Result<(), Stop>
     requires at { IsAt pins.now seat.old }
     requires hands { HasInHand seat.old hand.old }
+    requires rights { (view_of seat.old).rights ≡ [] }
     requires page { page < pages_of (key_of pins.now) }
     requires lanes { (view_of seat.old).about.lanes ≡ true }
     requires own { IsOwnPage (view_of seat.old) page }
     requires cell { IsBarePage (view_of seat.old).about.opening page → ⊥ }
     requires shown { (end : ℕ) × (s : Layout) × ShowsPages (view_of seat.old) hand.old end s }
-    ensures same { IsSameSeat seat.old seat.new }
+    ensures same { IsSameLane seat.old seat.new }
     ensures kept { HasPage hand.old page → (hand.new ≡ hand.old) × (seat.new ≡ seat.old) }
     ensures hands { HasInHand seat.new hand.new }
     ensures shows { (end : ℕ) → (s : Layout) → ShowsPages (view_of seat.old) hand.old end s → ShowsPages (view_of seat.new) hand.new end s }
     ensures there { OnOk result (HasPage hand.new page) }
-    ensures stop { IfErr result (λ why. IsRefusedPage (view_of seat.new) page why) }
+    ensures stop { IfErr result (λ why. IsRefusedPage (view_of seat.old) (view_of seat.new) page why) }
     ensures reads { ReadsOn (view_of seat.old) (view_of seat.new) }
-    ensures since { IfErr result (λ why. IsReadStop (view_of seat.old) (view_of seat.new) why) }
+    ensures passes { (q : ℕ) → q < pages_of (view_of seat.old).about → q ≢ page → PassesBy (view_of seat.old) (view_of seat.new) q }
 {
     if has_page(hand, page) {
         return Ok(());

@@ -2,9 +2,10 @@
 //
 // Into a turn a lane takes what is its own: the words of its domains' root slots, its chunk, its write buffer and the number of
 // its births (`LanePart`). Its pages lie at the table, and it takes one when an operation looks at a cell on it, keeps it while
-// the next operations look there too, and puts it back else (`hands`). So it works without waiting, and takes no memory once it
-// has its room (`LaneRoom`). It stops where the chunk or the write buffer has no room, and where a page that it wants is in
-// another's hands or gone.
+// the next operations look there too, and puts it back else (`hands`). A page that is gone comes back: into a frame that is free, and
+// where none is, into that of another page, which leaves for it. So a lane works without waiting, and takes no memory once it
+// has its room (`LaneRoom`). It stops where the chunk or the write buffer has no room, where a page that it wants is in another's
+// hands, and where one is gone for which there is no frame.
 //
 // An operation is that of `bc_mutator`, done over the page in hand (`PinnedCells`) and the lane's words (`LaneSlots`). What the
 // proofs have to know of the seat meanwhile is told by a type parameter, the station. An operation may look at a cell of another
@@ -13,7 +14,8 @@
 //
 // The theorem is the contract of `LaneTurn::run`: whatever whole heap what the lane has belonged to, it then belongs to that heap
 // with the lane's operations done, one after another, and answered so (`LaneRan`); and each stop has its cause (`WhyStopped`). These
-// heaps have none of the lane's pages Gone: the first is the one that was opened, with every page back (`law_opening`). What
+// heaps have none of the lane's pages Gone: the first is the one that was opened, with every page back (`law_opening`). So a page
+// that comes back, and one that leaves, change nothing of them; what they change at the table `ReadsOn` tells. What
 // other lanes have isn't among the arguments, so lanes side by side are lanes one after another.
 #![tactic(auto)]
 

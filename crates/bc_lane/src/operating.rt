@@ -105,7 +105,7 @@ pub(crate) fn operate(
     ensures page { (page : ℕ) → HasPage hand.old page → HasPage hand.new page }
     ensures done { IfOk result (λ reply. DoesOne part.old (view_of seat.now) hand.old part.new (view_of seat.now) hand.new end op.now reply) }
     ensures still { OnErr result ((part.new ≡ part.old) × (hand.new ≡ hand.old)) }
-    ensures why { IfErr result (λ why. StopsOp part.old (view_of seat.now) hand.old end op.now why) }
+    ensures why { IfErr result (λ why. StopsOp (view_of seat.now) part.old (view_of seat.now) hand.old end op.now why) }
     ensures room { IfErr result (λ why. (why ≡ NurseryFull) ⊎ (why ≡ BufferFull)) }
     ensures nursery { WantsMore part.old.holders.items part.old.lane (left_of part.old.chunk) op.now → result ≡ Err NurseryFull }
 {

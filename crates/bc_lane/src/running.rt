@@ -3,10 +3,10 @@
 ghost use Rattle.std.specs.Prelude.{◌≡◌, ◌+◌, ◌<◌, [], ◌∷◌, ◌++◌, None, length, vec_capacity, IfErr, OnOk, OnErr};
 ghost use Rattle.std.specs.List.{AllByRecursion};
 ghost use Rattle.bc_lane.specs.declared.stops.Stop.TheVariants as stop;
-ghost use Rattle.bc_lane.specs.Turns.{IsGoing, IsNextOp, IsReadStop, IsWhole, LaneRan, WhyStopped};
+ghost use Rattle.bc_lane.specs.Turns.{IsGoing, IsNextOp, IsSameLane, IsWhole, LaneRan, WhyStopped};
 ghost use Rattle.bc_mutator.specs.Operations.{IsOpOf, WantsMore};
 ghost use Rattle.bc_nursery.specs.Objects.{left_of};
-ghost use Rattle.bc_pins.specs.Calls.{IsFree, IsSameSeat, view_of};
+ghost use Rattle.bc_pins.specs.Calls.{IsFree, view_of};
 ghost use Rattle.bc_whole_heap.specs.Heaps.{HeapView, end_of};
 
 use crate::answering::answer;
@@ -26,11 +26,10 @@ impl LaneTurn {
         ensures ran { (h : HeapView) → IsWhole self.old.part (view_of seat.old) None (end_of h.space) h
             → LaneRan ops.now (end_of h.space) self.old (view_of seat.old) None self.new (view_of seat.new) None }
         ensures why { (h : HeapView) → IsWhole self.old.part (view_of seat.old) None (end_of h.space) h
-            → WhyStopped ops.now (end_of h.space) self.new (view_of seat.new) None result }
-        ensures since { IsReadStop (view_of seat.old) (view_of seat.new) result }
+            → WhyStopped (view_of seat.old) ops.now (end_of h.space) self.new (view_of seat.new) None result }
         ensures nursery { IsNextOp ops.now self.new.next (λ op. WantsMore self.new.part.holders.items self.new.part.lane (left_of self.new.part.chunk) op)
             → result ≡ stop.NurseryFull }
-        ensures seat { IsSameSeat seat.old seat.new }
+        ensures seat { IsSameLane seat.old seat.new }
         ensures free { IsFree seat.new }
     {
         let end = pins.end();
@@ -55,11 +54,10 @@ fn go<G: Gate>(
     requires whole { (h : HeapView) × IsWhole turn.old.part (view_of seat.old) hand.old end h × AllByRecursion (IsOpOf h.roots) ops.now }
     ensures ran { LaneRan ops.now end turn.old (view_of seat.old) hand.old turn.new (view_of seat.new) hand.new }
     ensures going { IsGoing pins.now ops.now turn.new seat.new hand.new }
-    ensures why { WhyStopped ops.now end turn.new (view_of seat.new) hand.new result }
-    ensures since { IsReadStop (view_of seat.old) (view_of seat.new) result }
+    ensures why { WhyStopped (view_of seat.old) ops.now end turn.new (view_of seat.new) hand.new result }
     ensures nursery { IsNextOp ops.now turn.new.next (λ op. WantsMore turn.new.part.holders.items turn.new.part.lane (left_of turn.new.part.chunk) op)
         → result ≡ stop.NurseryFull }
-    ensures seat { IsSameSeat seat.old seat.new }
+    ensures seat { IsSameLane seat.old seat.new }
 {
     'operations: while turn.next < ops.len() {
         if let Err(why) = advance(turn, pins, seat, hand, end, ops, gate) {
@@ -85,11 +83,10 @@ fn advance<G: Gate>(
     ensures ran { LaneRan ops.now end turn.old (view_of seat.old) hand.old turn.new (view_of seat.new) hand.new }
     ensures going { IsGoing pins.now ops.now turn.new seat.new hand.new }
     ensures further { OnOk result (turn.new.next ≡ turn.old.next + 1) }
-    ensures why { IfErr result (λ why. WhyStopped ops.now end turn.new (view_of seat.new) hand.new why) }
-    ensures since { IfErr result (λ why. IsReadStop (view_of seat.old) (view_of seat.new) why) }
+    ensures why { IfErr result (λ why. WhyStopped (view_of seat.old) ops.now end turn.new (view_of seat.new) hand.new why) }
     ensures nursery { OnErr result (IsNextOp ops.now turn.new.next (λ op. WantsMore turn.new.part.holders.items turn.new.part.lane (left_of turn.new.part.chunk) op))
         → IfErr result (λ why. why ≡ stop.NurseryFull) }
-    ensures seat { IsSameSeat seat.old seat.new }
+    ensures seat { IsSameLane seat.old seat.new }
 {
     gate.at(turn.part.lane, 1);
     let reply = answer(&mut turn.part, pins, seat, hand, end, &ops[turn.next], gate)?;

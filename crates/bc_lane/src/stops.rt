@@ -11,6 +11,6 @@ pub enum Stop {
     BufferFull,
     /// The next operation looks at an object on this page, which somebody else has in hand.
     Busy(u32),
-    /// The next operation looks at an object on this page, which is gone.
-    Gone(u32),
+    /// The next operation looks at an object on a page that is gone, and there was no frame for it: none was free, and no page could leave.
+    NoFrame,
 }

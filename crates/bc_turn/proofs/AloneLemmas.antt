@@ -1,12 +1,12 @@
 -- A pager alone at a table: no lane has operations left.
-use Rattle.std.proofs.Common.{◌≡◌, ℕ, ◌+◌, ◌^◌, ◌<◌, List, [], ◌∷◌, ◌++◌, length, get_or, refl, ap, sym, subst, ◌∙◌, arith, ◌/◌, inl}
+use Rattle.std.proofs.Common.{◌≡◌, ℕ, ◌+◌, ◌-◌, ◌^◌, ◌<◌, min, List, [], ◌∷◌, ◌++◌, length, get_or, refl, ap, sym, subst, ◌∙◌, arith, ◌/◌, inl}
 use Rattle.std.proofs.lemmas.List.{get_or_push, length_push}
 use Rattle.bc_bookmarks.specs.Summarised.{IsSummarised}
 use Rattle.bc_lane.specs.Back.{all_back, heap_back}
 use Rattle.bc_lane.proofs.BackLemmas.{back-layout, back-moves}
 use Rattle.bc_pager.specs.Answering.{AreAnswered}
 use Rattle.bc_pager.specs.declared.answers.Answer.{Answer}
-use Rattle.bc_pins.specs.Calls.{key_of, view_of}
+use Rattle.bc_pins.specs.Calls.{CountsFetches, key_of, view_of}
 use Rattle.bc_pins.specs.Closing.{AreBack, Closed, IsBack}
 use Rattle.bc_pins.specs.Key.{role_number}
 use Rattle.bc_pins.specs.Opened.{Opened}
@@ -26,7 +26,7 @@ use Rattle.bc_turn.specs.Answered.{AnsweredBeside}
 use Rattle.bc_turn.specs.Beside.{LiesBack}
 use Rattle.bc_turn.specs.Paging.{HasPaged}
 use Rattle.bc_turn.specs.Taking.{turn_roles}
-use Rattle.bc_turn.proofs.AnsweredLemmas.{ArePagers, answered}
+use Rattle.bc_turn.proofs.AnsweredLemmas.{AreMoved, answered}
 use Rattle.bc_turn.proofs.BegunLemmas.{IsPagerBack, paged-back}
 use Rattle.bc_turn.proofs.BesideLemmas.{turn-table}
 use Rattle.bc_turn.proofs.PassLemmas.{passes-none}
@@ -34,8 +34,8 @@ use Rattle.bc_turn.proofs.TableLemmas.{AreSeatsBack, IsTurnTable, lies-back}
 use Rattle.bc_turn.proofs.TakingLemmas.{no-items}
 use Rattle.bc_whole_heap.specs.Heaps.{HeapView}
 use Rattle.bc_pins.specs.Views.{reads_as}
-use Rattle.bc_turn.proofs.DeclinedLemmas.{answers-home, declined-home}
-use Rattle.bc_turn.proofs.PagerLemmas.{name-none}
+use Rattle.bc_turn.proofs.DeclinedLemmas.{answers-home}
+use Rattle.bc_turn.proofs.HomeLemmas.{declined-beside}
 
 -- a space that was neither opened nor changed lies as it did
 pub lies-still : (s : Layout) → IsOpenable s → LiesBack s s
@@ -68,8 +68,15 @@ module _ (pins : Pins) (h : HeapView) (hs : List ℕ) (seats : List Seat) (pager
     back : IsPagerBack pins later.seat
     back = paged-back pins old later (subst (IsDealt pins.table.shared.table_id (key_of pins) (Pager 0)) (sym seat_is) alone-dealt) paged
 
+    counts : CountsFetches later.seat
+    counts =
+        let none = ap (λ (l : List ℕ). length l) back.fetched in
+        let opens = back.opens in
+        let goal_is : later.seat.opens ≡ min (length (view_of later.seat).fetched) (2 ^ 64 - 1) = omega arith in
+        goal_is
+
     one-back : IsBack pins.table.shared.table_id (key_of pins) later.seat
-    one-back = record { table = back.table; about = back.about; hand = back.free.hand; slots = back.free.slots; rights = back.rights; opens = (let opens = back.opens in let none = ap (λ (l : List ℕ). length l) back.fetched in omega arith); tidy = later.seat.tidy }
+    one-back = record { table = back.table; about = back.about; hand = back.free.hand; slots = back.free.slots; rights = back.rights; opens = counts; tidy = later.seat.tidy }
 
     abbrev all : List Seat
     all = seats ++ later.seat ∷ []
@@ -110,24 +117,28 @@ module _ (pins : Pins) (h : HeapView) (hs : List ℕ) (seats : List Seat) (pager
           lies-from-back h.space t openable.summarised
           (lies-back (key_of pins) h (heap_back h) hs [] (λ i. pager) all t table seats-back (passes-none hs (Has []) (heap_back h)) closed given (back-layout h.space before) openable)
 
-      pagers : ArePagers all paged.told
-      pagers = subst (λ (ss : List Seat). ArePagers ss paged.told) (sym only) (record {
-        fetched = λ p. let one = ap (times p) back.fetched in omega arith;
-        left = λ p. let one = paged.left p in omega arith;
-        emptied = λ p. let one = paged.emptied p in omega arith;
-        returned = λ p. let one = ap (times p) back.returned in omega arith;
-        fetches = (let one = ap (λ (l : List ℕ). length l) back.fetched in omega arith);
+      moved : AreMoved (key_of pins) all paged.told [] [] []
+      moved = subst (λ (ss : List Seat). AreMoved (key_of pins) ss paged.told [] [] []) (sym only) (record {
+        fetched_are = λ p. let one = ap (times p) back.fetched in omega arith;
+        left_are = λ p. let one = paged.left p in omega arith;
+        emptied_are = λ p. let one = paged.emptied p in omega arith;
+        counted = (let one = ap (λ (l : List ℕ). length l) back.fetched in omega arith);
+        few = omega arith;
+        far = λ p past. (refl, refl, refl);
       })
 
-      pub alone-answered : h.space.reads < 2 ^ 64 → (hints : List ℕ) (kept told : List Answer) → old.notices.hints ≡ hints → old.answers.list ≡ kept → told ≡ later.answers.list → AnsweredBeside hs [] [] h.space hints kept told t
-      alone-answered few hints kept told hints_are kept_are all_are =
-          answered hs [] [] (key_of pins) h.space t all hints kept told paged.told (view_of later.seat) opened.opening closed before given few pagers
+      pub alone-answered : (hints : List ℕ) (kept told : List Answer) → old.notices.hints ≡ hints → old.answers.list ≡ kept → told ≡ later.answers.list → AnsweredBeside (λ p. ⊥) h.space hints kept told t
+      alone-answered hints kept told hints_are kept_are all_are =
+          answered (λ p. ⊥) (key_of pins) h.space t all hints kept told paged.told [] [] [] (view_of later.seat) opened.opening closed before given moved
           (all_are ∙ paged.kept ∙ ap (λ (list_before : List Answer). list_before ++ paged.told) kept_are)
           (subst (λ (xs : List ℕ). AreAnswered (key_of pins) xs paged.told (fresh (key_of pins) (role_number (Pager 0) ∷ [])) (view_of later.seat)) hints_are paged.each)
-          (declined-home (key_of pins) h.space t all old.notices.hints paged.told (fresh (key_of pins) (role_number (Pager 0) ∷ [])) (view_of later.seat) [] [] (λ p. get_or hs (get_or h.space.domains (p / 4) 0) 0) opened.opening closed before given pagers
-          (name-none (key_of pins) old.notices.hints paged.told (fresh (key_of pins) (role_number (Pager 0) ∷ [])) (view_of later.seat) paged.each) paged.each
+          (λ p some. absurd (omega arith))
+          (declined-beside (key_of pins) h.space t all old.notices.hints paged.told (fresh (key_of pins) (role_number (Pager 0) ∷ [])) (view_of later.seat) (λ p. ⊥) opened.opening closed given paged.each
           (λ p n. let sum = ap (total (λ (s : Seat). reads_as p n (view_of s))) only in omega arith)
+          (λ p some. let none = moved.fetched_are p in absurd (omega arith))
           (λ p near some.
           let sum = ap (total (λ (s : Seat). reads_as p 1 (view_of s))) only in
           let named = answers-home (key_of pins) old.notices.hints paged.told (fresh (key_of pins) (role_number (Pager 0) ∷ [])) (view_of later.seat) paged.each p near in
+          let left = moved.left_are p in
+          let emptied = moved.emptied_are p in
           inl (omega arith)))

@@ -1,10 +1,8 @@
--- What a closed table makes of the pages that a pager's answers name.
-use Rattle.std.proofs.Common.{◌≡◌, ◌⊎◌, ℕ, ◌+◌, ◌*◌, ◌/◌, ◌%◌, ◌^◌, ◌<◌, ◌≤◌, ◌==◌, List, [], ◌∷◌, ◌++◌, length, get_or, inl, inr, refl, ap, sym, subst, ◌∙◌, arith}
+-- What a closed table makes of the pages that a pager's answers name, and of those that lanes moved.
+use Rattle.std.proofs.Common.{◌≡◌, ℕ, ◌+◌, ◌-◌, ◌*◌, ◌/◌, ◌%◌, ◌^◌, ◌<◌, ◌≤◌, ◌==◌, min, List, [], ◌∷◌, ◌++◌, length, get_or, inl, inr, refl, ap, sym, subst, ◌∙◌, arith}
 use Rattle.std.proofs.lemmas.Bool.{cases_lt}
 use Rattle.std.proofs.lemmas.List.{get_or_past}
 use Rattle.bc_bits.specs.Counting.{one_if}
-use Rattle.bc_model.specs.declared.operations.Op.{Op}
-use Rattle.bc_model.specs.declared.operations.Reply.{Reply}
 use Rattle.bc_pager.specs.Answering.{AreAnswered, says_declined, says_discarded, says_evicted}
 use Rattle.bc_pager.specs.declared.answers.Answer.{Answer}
 use Rattle.bc_pins.specs.Calls.{view_of}
@@ -21,10 +19,9 @@ use Rattle.bc_superpages.specs.declared.headers.PageState.TheVariants.{Absent, G
 use Rattle.bc_superpages.specs.Kept.{IsLayout}
 use Rattle.bc_superpages.specs.Layout.{Layout, superpages}
 use Rattle.bc_superpages.specs.LayoutAt.{state_at}
-use Rattle.bc_turn.proofs.NewBitLemmas.{bits-none, new-bits, reads-same}
+use Rattle.bc_turn.proofs.NewBitLemmas.{bits-none, new-bits}
 use Rattle.bc_turn.proofs.PagerLemmas.{name-none}
-use Rattle.bc_turn.specs.Answered.{AnsweredBeside}
-use Rattle.bc_turn.specs.Begun.{HasLeft}
+use Rattle.bc_turn.specs.Answered.{AnsweredBeside, is_in}
 
 -- a state by its word
 pub is-gone : (st : PageState) → 0 < one_if (state_word st == 4) → st ≡ Gone
@@ -34,43 +31,23 @@ is-gone Remembered lt = absurd (omega arith)
 is-gone Held lt = absurd (omega arith)
 is-gone Gone lt = refl
 
-is-absent : (st : PageState) → 0 < one_if (state_word st == 0) → st ≡ Absent
-is-absent Absent lt = refl
-is-absent Home lt = absurd (omega arith)
-is-absent Remembered lt = absurd (omega arith)
-is-absent Held lt = absurd (omega arith)
-is-absent Gone lt = absurd (omega arith)
-
-not-both : (st : PageState) → one_if (state_word st == 4) + one_if (state_word st == 0) ≤ 1
-not-both Absent = omega arith
-not-both Home = omega arith
-not-both Remembered = omega arith
-not-both Held = omega arith
-not-both Gone = omega arith
-
-some-of : (n m : ℕ) → 0 < n + m → (0 < n) ⊎ (0 < m)
-some-of n m lt = elim (cases_lt 0 n) [
-  | inl some ↦ inl some
-  | inr none ↦ inr (omega arith)
-]
-
 -- a page behind all superpages
 pub state-behind : (s : Layout) (p : ℕ) → IsLayout s → 4 * superpages s ≤ p → state_at s.states p ≡ Absent
 state-behind s p layout far =
     let long = layout.long.states in
     ap (λ (states : List PageState). get_or states (p % 4) Absent) (get_or_past s.states (p / 4) [] (omega arith)) ∙ get_or_past [] (p % 4) Absent (omega arith)
 
--- what the seats have between them of the pages that were made Gone, made Absent and taken from Gone is what the answers say, none
--- returned a page of another's, and none took one from Gone
-pub record ArePagers (seats : List Seat) (told : List Answer) : Type 0 where
-  pub fetched : (p : ℕ) → total (λ (seat : Seat). times p (view_of seat).fetched) seats ≡ 0
-  pub left : (p : ℕ) → total (λ (seat : Seat). times p (view_of seat).left) seats ≡ total (says_evicted p) told
-  pub emptied : (p : ℕ) → total (λ (seat : Seat). times p (view_of seat).emptied) seats ≡ total (says_discarded p) told
-  pub returned : (p : ℕ) → total (λ (seat : Seat). times p (view_of seat).returned) seats ≡ 0
-  pub fetches : fetches_of seats ≡ 0
+-- what the seats have between them of the pages that were made Gone, made Absent and taken from Gone is what the answers say and what lists
+-- of the lanes have, none returned a page of another's, and the lanes made no more Gone and Absent than they took
+pub record AreMoved (k : Key) (seats : List Seat) (told : List Answer) (fetched left emptied : List ℕ) : Type 0 where
+  pub fetched_are : (p : ℕ) → total (λ (seat : Seat). times p (view_of seat).fetched) seats ≡ times p fetched
+  pub left_are : (p : ℕ) → total (λ (seat : Seat). times p (view_of seat).left) seats ≡ total (says_evicted p) told + times p left
+  pub emptied_are : (p : ℕ) → total (λ (seat : Seat). times p (view_of seat).emptied) seats ≡ total (says_discarded p) told + times p emptied
+  pub counted : fetches_of seats ≡ length fetched
+  pub few : length left + length emptied ≤ length fetched
+  pub far : (p : ℕ) → pages_of k ≤ p → (times p left ≡ 0) × (times p emptied ≡ 0) × (times p fetched ≡ 0)
 
-module _ (k : Key) (s t : Layout) (seats : List Seat) (told : List Answer) (opening : k.opening ≡ s) (closed : Closed k seats t) (before : IsLayout s) (after : IsLayout t)
-    (pagers : ArePagers seats told) (none : (p : ℕ) → pages_of k ≤ p → (total (says_evicted p) told ≡ 0) × (total (says_discarded p) told ≡ 0)) where
+module _ (k : Key) (s t : Layout) (seats : List Seat) (opening : k.opening ≡ s) (closed : Closed k seats t) (before : IsLayout s) (after : IsLayout t) where
   opened-as : (p : ℕ) → state_at s.states p ≡ opened_state k p
   opened-as p = ap (λ (x : Layout). state_at x.states p) (sym opening)
 
@@ -84,89 +61,44 @@ module _ (k : Key) (s t : Layout) (seats : List Seat) (told : List Answer) (open
         state-behind t p after (omega arith) ∙ sym (state-behind s p before (omega arith))
   ]
 
-  -- how often a page of the table is Gone, or Absent
-  pub gone-count : (p : ℕ) → p < pages_of k → one_if (state_word (state_at t.states p) == 4) ≡ one_if (state_word (state_at s.states p) == 4) + total (says_evicted p) told
-  gone-count p near =
-      let all = (closed.states_are p near).gone in
-      let fetched = pagers.fetched p in
-      let left = pagers.left p in
-      let same = ap (λ (st : PageState). one_if (state_word st == 4)) (opened-as p) in
-      omega arith
-
-  pub absent-count : (p : ℕ) → p < pages_of k → one_if (state_word (state_at t.states p) == 0) ≡ one_if (state_word (state_at s.states p) == 0) + total (says_discarded p) told
-  absent-count p near =
-      let all = (closed.states_are p near).absent in
-      let emptied = pagers.emptied p in
-      let same = ap (λ (st : PageState). one_if (state_word st == 0)) (opened-as p) in
-      omega arith
-
-  gone-from : (p : ℕ) → state_at t.states p ≡ Gone → (state_at s.states p ≡ Gone) ⊎ (0 < total (says_evicted p) told)
-  gone-from p is = elim (cases_lt p (pages_of k)) [
-    | inl near ↦
-        let count = gone-count p near in
-        let one : one_if (state_word (state_at t.states p) == 4) ≡ 1 = ap (λ (st : PageState). one_if (state_word st == 4)) is in
-        elim (some-of (one_if (state_word (state_at s.states p) == 4)) (total (says_evicted p) told) (omega arith)) [
-          | inl was ↦ inl (is-gone (state_at s.states p) was)
-          | inr some ↦ inr some
-        ]
-    | inr far ↦ inl (sym (far-same p far) ∙ is)
-  ]
-
-  gone-to : (p : ℕ) → (state_at s.states p ≡ Gone) ⊎ (0 < total (says_evicted p) told) → state_at t.states p ≡ Gone
-  gone-to p from = elim (cases_lt p (pages_of k)) [
-    | inl near ↦
-        let count = gone-count p near in
-        is-gone (state_at t.states p) (elim from [
-          | inl was ↦ let one : one_if (state_word (state_at s.states p) == 4) ≡ 1 = ap (λ (st : PageState). one_if (state_word st == 4)) was in omega arith
-          | inr some ↦ omega arith
-        ])
-    | inr far ↦ far-same p far ∙ elim from [
-      | inl was ↦ was
-      | inr some ↦ let zero = (none p far).0 in absurd (omega arith)
+  module _ (told : List Answer) (fetched left emptied : List ℕ) (moved : AreMoved k seats told fetched left emptied)
+      (none : (p : ℕ) → pages_of k ≤ p → (total (says_evicted p) told ≡ 0) × (total (says_discarded p) told ≡ 0)) where
+    -- how often a page is Gone, or Absent
+    pub gone-count : (p : ℕ) → is_in Gone t p + times p fetched ≡ is_in Gone s p + (total (says_evicted p) told + times p left)
+    gone-count p = elim (cases_lt p (pages_of k)) [
+      | inl near ↦
+          let all = (closed.states_are p near).gone in
+          let fetched_is = moved.fetched_are p in
+          let left_is = moved.left_are p in
+          let same = ap (λ (st : PageState). one_if (state_word st == 4)) (opened-as p) in
+          omega arith
+      | inr past ↦
+          let same = ap (λ (st : PageState). one_if (state_word st == 4)) (far-same p past) in
+          let no_answer = (none p past).0 in
+          let no_left = (moved.far p past).0 in
+          let no_fetched = (moved.far p past).2 in
+          omega arith
     ]
-  ]
 
-  absent-from : (p : ℕ) → state_at t.states p ≡ Absent → (state_at s.states p ≡ Absent) ⊎ (0 < total (says_discarded p) told)
-  absent-from p is = elim (cases_lt p (pages_of k)) [
-    | inl near ↦
-        let count = absent-count p near in
-        let one : one_if (state_word (state_at t.states p) == 0) ≡ 1 = ap (λ (st : PageState). one_if (state_word st == 0)) is in
-        elim (some-of (one_if (state_word (state_at s.states p) == 0)) (total (says_discarded p) told) (omega arith)) [
-          | inl was ↦ inl (is-absent (state_at s.states p) was)
-          | inr some ↦ inr some
-        ]
-    | inr far ↦ inl (sym (far-same p far) ∙ is)
-  ]
-
-  absent-to : (p : ℕ) → (state_at s.states p ≡ Absent) ⊎ (0 < total (says_discarded p) told) → state_at t.states p ≡ Absent
-  absent-to p from = elim (cases_lt p (pages_of k)) [
-    | inl near ↦
-        let count = absent-count p near in
-        is-absent (state_at t.states p) (elim from [
-          | inl was ↦ let one : one_if (state_word (state_at s.states p) == 0) ≡ 1 = ap (λ (st : PageState). one_if (state_word st == 0)) was in omega arith
-          | inr some ↦ omega arith
-        ])
-    | inr far ↦ far-same p far ∙ elim from [
-      | inl was ↦ was
-      | inr some ↦ let zero = (none p far).1 in absurd (omega arith)
+    pub absent-count : (p : ℕ) → is_in Absent t p ≡ is_in Absent s p + (total (says_discarded p) told + times p emptied)
+    absent-count p = elim (cases_lt p (pages_of k)) [
+      | inl near ↦
+          let all = (closed.states_are p near).absent in
+          let emptied_is = moved.emptied_are p in
+          let same = ap (λ (st : PageState). one_if (state_word st == 0)) (opened-as p) in
+          omega arith
+      | inr past ↦
+          let same = ap (λ (st : PageState). one_if (state_word st == 0)) (far-same p past) in
+          let no_answer = (none p past).1 in
+          let no_emptied = (moved.far p past).1 in
+          omega arith
     ]
-  ]
-
-  once : (p : ℕ) → total (says_evicted p) told + total (says_discarded p) told ≤ 1
-  once p = elim (cases_lt p (pages_of k)) [
-    | inl near ↦
-        let a = gone-count p near in
-        let b = absent-count p near in
-        let c = not-both (state_at t.states p) in
-        omega arith
-    | inr far ↦ let zero = none p far in let a = zero.0 in let b = zero.1 in omega arith
-  ]
 
 -- the notices were answered beside the lanes
-pub answered : (hs : List ℕ) (lanes : List (List Op)) (replies : List (List Reply)) (k : Key) (s t : Layout) (seats : List Seat) (hints : List ℕ) (kept after : List Answer) (told : List Answer) (end : View) → k.opening ≡ s → Closed k seats t → IsLayout s → IsLayout t
-    → s.reads < 2 ^ 64 → ArePagers seats told → after ≡ kept ++ told → AreAnswered k hints told (fresh k (role_number (Pager 0) ∷ [])) end
-    → (0 < total says_declined told → (p : ℕ) → state_at t.states p ≡ Home → HasLeft lanes replies (get_or hs (get_or s.domains (p / 4) 0) 0)) → AnsweredBeside hs lanes replies s hints kept after t
-answered hs lanes replies k s t seats hints kept after told end opening closed before layout few pagers is each declined =
+pub answered : (IsLooked : ℕ → Type 0) (k : Key) (s t : Layout) (seats : List Seat) (hints : List ℕ) (kept after : List Answer) (told : List Answer) (fetched left emptied : List ℕ) (end : View) → k.opening ≡ s → Closed k seats t → IsLayout s → IsLayout t
+    → AreMoved k seats told fetched left emptied → after ≡ kept ++ told → AreAnswered k hints told (fresh k (role_number (Pager 0) ∷ [])) end
+    → ((p : ℕ) → 0 < times p fetched → IsLooked p) → (0 < total says_declined told → (p : ℕ) → state_at t.states p ≡ Home → IsLooked p) → AnsweredBeside IsLooked s hints kept after t
+answered IsLooked k s t seats hints kept after told fetched left emptied end opening closed before layout moved is each own declined =
     let none = name-none k hints told (fresh k (role_number (Pager 0) ∷ [])) end each in
     record {
       key = k;
@@ -175,12 +107,22 @@ answered hs lanes replies k s t seats hints kept after told end opening closed b
       told = told;
       kept = is;
       each = each;
-      gone = λ p. (gone-from k s t seats told opening closed before layout pagers none p, gone-to k s t seats told opening closed before layout pagers none p);
-      absent = λ p. (absent-from k s t seats told opening closed before layout pagers none p, absent-to k s t seats told opening closed before layout pagers none p);
-      once = once k s t seats told opening closed before layout pagers none;
+      fetched = fetched;
+      left = left;
+      emptied = emptied;
+      few = moved.few;
+      own = own;
+      gone = gone-count k s t seats opening closed before layout told fetched left emptied moved none;
+      absent = absent-count k s t seats opening closed before layout told fetched left emptied moved none;
       declined = declined;
-      bookmarks = new-bits k s t seats opening closed before layout pagers.fetched;
-      reads = reads-same k s t seats opening closed few pagers.fetches;
+      bookmarks = new-bits k s t seats told left fetched opening closed before layout moved.fetched_are moved.left_are;
+      reads = (
+          let all = closed.reads in
+          let same = ap (λ (x : Layout). x.reads) opening in
+          let count = moved.counted in
+          let goal_is : t.reads ≡ min (s.reads + length fetched) (2 ^ 64 - 1) = omega arith in
+          goal_is
+          );
     }
 
 append-nil : (xs : List Answer) → xs ≡ xs ++ []
@@ -192,8 +134,8 @@ no-hints [] none = refl
 no-hints (h ∷ hints) none = absurd (omega arith)
 
 -- where there are no notices, none is answered
-pub answered-none : (hs : List ℕ) (lanes : List (List Op)) (replies : List (List Reply)) (s : Layout) (hints : List ℕ) (kept : List Answer) → length hints ≡ 0 → AnsweredBeside hs lanes replies s hints kept kept s
-answered-none hs lanes replies s hints kept none = record {
+pub answered-none : (IsLooked : ℕ → Type 0) (s : Layout) (hints : List ℕ) (kept : List Answer) → s.reads < 2 ^ 64 → length hints ≡ 0 → AnsweredBeside IsLooked s hints kept kept s
+answered-none IsLooked s hints kept small none = record {
   key = record no_key { opening = s };
   opening = refl;
   end = fresh (record no_key { opening = s }) (role_number (Pager 0) ∷ []);
@@ -201,27 +143,35 @@ answered-none hs lanes replies s hints kept none = record {
   kept = append-nil kept;
   each = subst (λ (hs : List ℕ). AreAnswered (record no_key { opening = s }) hs [] (fresh (record no_key { opening = s }) (role_number (Pager 0) ∷ [])) (fresh (record no_key { opening = s }) (role_number (Pager 0) ∷ [])))
       (sym (no-hints hints none)) refl;
-  gone = λ p. (λ is. inl is, λ from. elim from [ inl was ↦ was | inr some ↦ absurd (omega arith) ]);
-  absent = λ p. (λ is. inl is, λ from. elim from [ inl was ↦ was | inr some ↦ absurd (omega arith) ]);
-  once = λ p. omega arith;
+  fetched = [];
+  left = [];
+  emptied = [];
+  few = omega arith;
+  own = λ p some. absurd (omega arith);
+  gone = λ p. omega arith;
+  absent = λ p. omega arith;
   declined = λ some. absurd (omega arith);
   bookmarks = bits-none s;
-  reads = refl;
+  reads = (let goal_is : s.reads ≡ min (s.reads + 0) (2 ^ 64 - 1) = omega arith in goal_is);
 }
 
--- where no lane had operations left, it is so of any lanes
-pub answered-lanes : (hs : List ℕ) (lanes : List (List Op)) (replies : List (List Reply)) (s : Layout) (hints : List ℕ) (kept after : List Answer) (t : Layout) → AnsweredBeside hs [] [] s hints kept after t → AnsweredBeside hs lanes replies s hints kept after t
-answered-lanes hs lanes replies s hints kept after t is = record {
+-- where no page is looked at, it is so whatever is said of those that are
+pub answered-lanes : (IsLooked : ℕ → Type 0) (s : Layout) (hints : List ℕ) (kept after : List Answer) (t : Layout) → AnsweredBeside (λ p. ⊥) s hints kept after t → AnsweredBeside IsLooked s hints kept after t
+answered-lanes IsLooked s hints kept after t is = record {
   key = is.key;
   opening = is.opening;
   end = is.end;
   told = is.told;
   kept = is.kept;
   each = is.each;
+  fetched = is.fetched;
+  left = is.left;
+  emptied = is.emptied;
+  few = is.few;
+  own = λ p some. absurd (is.own p some);
   gone = is.gone;
   absent = is.absent;
-  once = is.once;
-  declined = λ some p home. absurd (let left = is.declined some p home in omega arith);
+  declined = λ some p home. absurd (is.declined some p home);
   bookmarks = is.bookmarks;
   reads = is.reads;
 }

@@ -2,11 +2,10 @@
 use Rattle.std.proofs.Common.{◌≡◌, ◌⊎◌, ℕ, ◌+◌, ◌<◌, ◌≤◌, ◌==◌, List, length, get_or, inl, inr, refl, ap, sym, subst, ◌∙◌, arith}
 use Rattle.std.proofs.lemmas.Bool.{cases_lt}
 use Rattle.bc_bits.specs.Counting.{one_if}
-use Rattle.bc_pager.specs.declared.answers.Answer.{Answer}
 use Rattle.bc_pins.specs.Calls.{view_of}
 use Rattle.bc_pins.specs.Closing.{Closed}
 use Rattle.bc_pins.specs.Key.{Key, pages_of}
-use Rattle.bc_pins.specs.Totals.{times}
+use Rattle.bc_pins.specs.Totals.{times, total}
 use Rattle.bc_pins.specs.Views.{state_word}
 use Rattle.bc_pins.specs.declared.pins.Seat.{Seat}
 use Rattle.bc_pins.specs.declared.views.View.{View}
@@ -17,7 +16,7 @@ use Rattle.bc_superpages.specs.Kept.{IsLayout}
 use Rattle.bc_superpages.specs.Layout.{Layout}
 use Rattle.bc_superpages.specs.LayoutAt.{IsAllocated, state_at}
 use Rattle.bc_superpages.proofs.BringLemmas.{allocated-not_absent}
-use Rattle.bc_turn.proofs.AnsweredLemmas.{ArePagers, is-gone}
+use Rattle.bc_turn.proofs.AnsweredLemmas.{is-gone}
 use Rattle.bc_word.specs.Addresses.{page_of}
 
 -- a page that the view notes as gone, or as in another's hands, is Gone in the space t, where a cell of the space s lies on it
@@ -31,10 +30,10 @@ present-word Remembered present = refl
 present-word Held present = refl
 present-word Gone present = refl
 
--- none but a pager takes a page that isn't its own, and it puts none back: so a page that was in another's hands left, or was emptied,
+-- who takes a page that isn't its own, a pager or a lane, puts none back: so a page that was in another's hands left, or was emptied,
 -- and no page is emptied on which a cell lies
-module _ (k : Key) (s t : Layout) (seats : List Seat) (told : List Answer) (opening : k.opening ≡ s) (behind : (p : ℕ) → pages_of k ≤ p → state_at s.states p ≡ Absent)
-    (closed : Closed k seats t) (before : IsLayout s) (after : IsLayout t) (pagers : ArePagers seats told) where
+module _ (k : Key) (s t : Layout) (seats : List Seat) (opening : k.opening ≡ s) (behind : (p : ℕ) → pages_of k ≤ p → state_at s.states p ≡ Absent)
+    (closed : Closed k seats t) (before : IsLayout s) (after : IsLayout t) (kept : (p : ℕ) → total (λ (seat : Seat). times p (view_of seat).returned) seats ≡ 0) where
   still-there : (cell : ℕ) → IsAllocated s cell → IsAllocated t cell
   still-there cell there = subst (λ (x : Layout). IsAllocated x cell) (sym closed.same) (subst (λ (x : Layout). IsAllocated x cell) (sym opening) there)
 
@@ -44,7 +43,7 @@ module _ (k : Key) (s t : Layout) (seats : List Seat) (told : List Answer) (open
       let states = closed.states_are page near in
       let all = total_in (λ (seat : Seat). times page (view_of seat).busy) seats i d lt in
       let why = states.busy (omega arith) in
-      let returned = pagers.returned page in
+      let returned = kept page in
       let present = present-word (state_at t.states page) (λ is. allocated-not_absent t cell after (still-there cell there) (ap (state_at t.states) on ∙ is)) in
       omega arith
 

@@ -13,12 +13,11 @@ use Rattle.bc_model.specs.declared.operations.Op.{Op}
 use Rattle.bc_model.specs.declared.operations.Reply.{Reply}
 use Rattle.bc_mutator.specs.Objects.{AreWhole}
 use Rattle.bc_mutator.specs.Operations.{IsOpOf}
-use Rattle.bc_pager.specs.declared.answers.Answer.{Answer}
 use Rattle.bc_pins.specs.Calls.{key_of, view_of}
 use Rattle.bc_pins.specs.Closing.{Closed}
 use Rattle.bc_pins.specs.Key.{pages_of}
 use Rattle.bc_pins.specs.Opened.{Opened}
-use Rattle.bc_pins.specs.Totals.{times}
+use Rattle.bc_pins.specs.Totals.{times, total}
 use Rattle.bc_pins.specs.Views.{entries}
 use Rattle.bc_pins.specs.declared.key.Turn.TheVariants.{Lanes}
 use Rattle.bc_pins.specs.declared.pins.Pins.{Pins}
@@ -29,7 +28,6 @@ use Rattle.bc_superpages.specs.Kept.{IsLayout}
 use Rattle.bc_superpages.specs.Layout.{Layout}
 use Rattle.bc_superpages.specs.LayoutAt.{IsAllocated}
 use Rattle.bc_lane.proofs.BackLemmas.{back-moves, back-stands}
-use Rattle.bc_turn.proofs.AnsweredLemmas.{ArePagers}
 use Rattle.bc_turn.proofs.AwayLemmas.{NotesGone, notes-gone}
 use Rattle.bc_turn.proofs.HeapLemmas.{laid-back}
 use Rattle.bc_turn.proofs.OpenableLemmas.{openable}
@@ -58,7 +56,7 @@ module _ (pins : Pins) (h : HeapView) (hs serials : List ℕ) (lanes : List (Lis
     (running : IsRunning h hs) (layout : IsLayout h.space) (whole : AreWhole h.chunks) (some : 0 < length busy)
     (seats : List Seat) (table : IsTurnTable (key_of pins) h.space hs busy) (seats_long : length seats ≡ length busy + 1) (seats_are : (i : ℕ) → i < length busy → (d : Seat) → get_or seats i d ≡ after i)
     (k : HeapView) (nexts : List ℕ) (told : List (List Reply)) (closed : Closed (key_of pins) seats k.space) (given : IsLayout k.space)
-    (laid : AreLaidBack hs busy new (length busy) h serials before k nexts told) (recorded : AreRecorded (key_of pins) busy after seats) (answers : List Answer) (pagers : ArePagers seats answers) where
+    (laid : AreLaidBack hs busy new (length busy) h serials before k nexts told) (recorded : AreRecorded (key_of pins) busy after seats) (kept : (p : ℕ) → total (λ (seat : Seat). times p (view_of seat).returned) seats ≡ 0) where
   stands_back : StandsAs (heap_back h) hs serials state
   stands_back = back-stands h hs serials state running stands
 
@@ -66,7 +64,7 @@ module _ (pins : Pins) (h : HeapView) (hs serials : List ℕ) (lanes : List (Lis
   notes : (i : ℕ) → i < length busy → NotesGone (view_of (after i)) h.space k.space
   notes i lt =
       subst (λ (s : Seat). NotesGone (view_of s) h.space k.space) (seats_are i lt (after i))
-      (notes-gone (key_of pins) h.space k.space seats answers table.opening table.behind closed layout given pagers i (after i) (omega arith))
+      (notes-gone (key_of pins) h.space k.space seats table.opening table.behind closed layout given kept i (after i) (omega arith))
 
   abbrev stage : (n : ℕ) → Stage h hs serials busy old seat new after n
   stage n = stages pins h hs serials lanes before busy old seat new after begun ran state stands_back words ops k nexts told laid notes n

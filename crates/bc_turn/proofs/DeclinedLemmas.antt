@@ -1,29 +1,18 @@
 -- What a pager's log of page words says of a notice that was declined.
-use Rattle.std.proofs.Common.{◌≡◌, ℕ, ◌+◌, ◌*◌, ◌/◌, ◌<◌, ◌≤◌, ◌==◌, List, [], ◌∷◌, ◌++◌, length, get_or, inl, inr, ◌⊎◌, refl, ap, sym, ◌∙◌, arith}
-use Rattle.std.proofs.lemmas.Bool.{cases_eq, cases_lt, eq-eqb}
+use Rattle.std.proofs.Common.{◌≡◌, ℕ, ◌+◌, ◌*◌, ◌/◌, ◌<◌, ◌≤◌, ◌==◌, List, [], ◌∷◌, ◌++◌, inl, inr, ◌⊎◌, ap, sym, ◌∙◌, arith}
+use Rattle.std.proofs.lemmas.Bool.{cases_eq, eq-eqb}
 use Rattle.bc_bits.specs.Counting.{one_if}
-use Rattle.bc_model.specs.declared.operations.Op.{Op}
-use Rattle.bc_model.specs.declared.operations.Reply.{Reply}
 use Rattle.bc_pager.specs.Answering.{AreAnswered, IsAnswer, TookAfter, says_declined, says_discarded, says_evicted}
 use Rattle.bc_evict.specs.Looking.{IsAccountedFor, MayStay, all_pages}
 use Rattle.bc_pager.specs.declared.answers.Answer.{Answer}
 use Rattle.bc_pager.specs.declared.answers.Answer.TheVariants.{Declined, Discarded, Evicted}
-use Rattle.bc_pins.specs.Calls.{view_of}
-use Rattle.bc_pins.specs.Closing.{Closed}
 use Rattle.bc_pins.specs.Key.{Key, page_at, pages_of}
 use Rattle.bc_pins.specs.Totals.{times, total}
-use Rattle.bc_pins.specs.Views.{reads_as, reads_at, state_word}
-use Rattle.bc_pins.specs.declared.pins.Seat.{Seat}
+use Rattle.bc_pins.specs.Views.{reads_at}
 use Rattle.bc_pins.specs.declared.views.View.{View}
 use Rattle.bc_pins.proofs.LogLemmas.{pages-else, reads-here, times-reads}
 use Rattle.bc_pins.proofs.TotalLemmas.{one_other}
-use Rattle.bc_superpages.specs.declared.headers.PageState.{PageState}
-use Rattle.bc_superpages.specs.declared.headers.PageState.TheVariants.{Absent, Gone, Held, Home, Remembered}
-use Rattle.bc_superpages.specs.Kept.{IsLayout}
-use Rattle.bc_superpages.specs.Layout.{Layout, superpages}
-use Rattle.bc_superpages.specs.LayoutAt.{state_at}
-use Rattle.bc_turn.proofs.AnsweredLemmas.{ArePagers, absent-count, far-same, gone-count, state-behind}
-use Rattle.bc_turn.specs.Begun.{HasLeft}
+use Rattle.bc_superpages.specs.declared.headers.PageState.TheVariants.{Home}
 
 -- how often a page's word was read as Home in an answer: where it was given up, and else not
 took-home : (k : Key) (v : View) (looks : List (ℕ × ℕ)) (page : ℕ) (w : View) → TookAfter k v looks page w → (p : ℕ) → p < pages_of k → times 1 (reads_at p w.read) ≡ one_if (page == p) + times 1 (reads_at p v.read)
@@ -110,53 +99,3 @@ declined-looks k (hint ∷ hints) (Declined ∷ told) v w is some = record {
       let rest = answers-more k hints told is.0 w is.2 q n in
       omega arith;
 }
-
-absent-home : Absent ≡ Home → ⊥
-absent-home e = cc
-
--- a page that is Home afterwards, though a notice was declined, was read as Home by the seat of its lane, which had operations left
-module _ (k : Key) (s t : Layout) (seats : List Seat) (hints : List ℕ) (told : List Answer) (start end : View) (lanes : List (List Op)) (replies : List (List Reply)) (holder : ℕ → ℕ) (opening : k.opening ≡ s) (closed : Closed k seats t) (before : IsLayout s) (after : IsLayout t)
-    (pagers : ArePagers seats told) (none : (p : ℕ) → pages_of k ≤ p → (total (says_evicted p) told ≡ 0) × (total (says_discarded p) told ≡ 0)) (each : AreAnswered k hints told start end)
-    (logged : (p n : ℕ) → times n (reads_at p end.read) ≤ total (λ (seat : Seat). reads_as p n (view_of seat)) seats)
-    (homes : (p : ℕ) → p < pages_of k → 0 < total (λ (seat : Seat). reads_as p 1 (view_of seat)) seats → (0 < total (says_evicted p) told + total (says_discarded p) told) ⊎ HasLeft lanes replies (holder p)) where
-  -- a page that an answer names isn't Home
-  named-away : (p : ℕ) → p < pages_of k → state_at t.states p ≡ Home → 0 < total (says_evicted p) told + total (says_discarded p) told → ⊥
-  named-away p near home some =
-      let gone = gone-count k s t seats told opening closed before after pagers none p near in
-      let absent = absent-count k s t seats told opening closed before after pagers none p near in
-      let four : one_if (state_word (state_at t.states p) == 4) ≡ 0 = ap (λ (st : PageState). one_if (state_word st == 4)) home in
-      let zero_is : one_if (state_word (state_at t.states p) == 0) ≡ 0 = ap (λ (st : PageState). one_if (state_word st == 0)) home in
-      absurd (omega arith)
-
-  -- by what was found of it
-  by-place : (p : ℕ) (looks : LooksFound k end) (place : PageState) → MayStay place → p < pages_of k → state_at t.states p ≡ Home → 0 < times (state_word place) (reads_at p looks.looks) → HasLeft lanes replies (holder p)
-  by-place p looks Absent may near home found = let more = looks.more p 0 in let all = logged p 0 in absurd ((closed.states_are p near).away (omega arith) (pagers.fetched p) home)
-  by-place p looks Home may near home found = absurd may
-  by-place p looks Remembered may near home found = let more = looks.more p 2 in let all = logged p 2 in absurd ((closed.states_are p near).away (omega arith) (pagers.fetched p) home)
-  by-place p looks Gone may near home found = let more = looks.more p 4 in let all = logged p 4 in absurd ((closed.states_are p near).away (omega arith) (pagers.fetched p) home)
-  by-place p looks Held may near home found =
-      let more = looks.more p 3 in
-      let all = logged p 3 in
-      let taken = (closed.states_are p near).held (omega arith) in
-      let unfetched = pagers.fetched p in
-      elim (cases_lt 0 (total (λ (seat : Seat). reads_as p 2 (view_of seat)) seats)) [
-        | inl two ↦ absurd ((closed.states_are p near).away (omega arith) (pagers.fetched p) home)
-        | inr no_two ↦ elim (homes p near (omega arith)) [
-          | inl named ↦ absurd (named-away p near home named)
-          | inr left ↦ left
-        ]
-      ]
-
-  pub declined-home : 0 < total says_declined told → (p : ℕ) → state_at t.states p ≡ Home → HasLeft lanes replies (holder p)
-  declined-home some p home =
-      let looks = declined-looks k hints told start end each some in
-      elim (cases_lt p (all_pages k)) [
-        | inl inside ↦ elim (looks.each p inside) [
-          | inl near ↦ by-place p looks near.1.place near.1.among near.0 home near.1.read
-          | inr far ↦
-              absurd (absent-home (sym (far-same k s t seats told opening closed before after pagers none p far.0 ∙ ap (λ (x : Layout). state_at x.states p) (sym opening) ∙ far.1) ∙ home))
-        ]
-        | inr out ↦
-            let supers : superpages t ≡ superpages k.opening = ap superpages closed.same in
-            absurd (absent-home (sym (state-behind t p after (omega arith)) ∙ home))
-      ]

@@ -30,7 +30,7 @@ pub mod WordLemmas
 pub mod EndingLemmas
 -- What a pager's answers leave as it was
 pub mod PagerLemmas
--- Bookmark bits and reads of the space that a closed table gives back
+-- Bookmark bits of the space that a closed table gives back
 pub mod NewBitLemmas
 -- What a closed table makes of the pages that answers name
 pub mod AnsweredLemmas

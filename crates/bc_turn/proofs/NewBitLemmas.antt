@@ -1,4 +1,4 @@
--- Bookmark bits and reads of the space that a closed table gives back, against the space over which it was opened.
+-- Bookmark bits of the space that a closed table gives back, against the space over which it was opened.
 use Rattle.std.proofs.Common.{◌≡◌, ℕ, ◌+◌, ◌*◌, ◌/◌, ◌%◌, ◌^◌, ◌<◌, ◌≤◌, ◌==◌, ◌⊎◌, true, false, List, [], slice_index, inl, inr, refl, ap, sym, subst, ◌∙◌, arith}
 use Rattle.std.specs.Int.{bit_at}
 use Rattle.std.proofs.lemmas.Bool.{cases_eq, cases_lt}
@@ -9,14 +9,17 @@ use Rattle.bc_bits.proofs.BitLemmas.{has-beyond}
 use Rattle.bc_bookmarks.specs.Targets.{has_target_at, is_target}
 use Rattle.bc_bookmarks.proofs.TargetLemmas.{target-at}
 use Rattle.bc_pins.specs.Calls.{view_of}
-use Rattle.bc_pins.specs.Closing.{Closed, ClosedBit, IsOfPageLeft, fetches_of}
+use Rattle.bc_pager.specs.Answering.{says_evicted}
+use Rattle.bc_pager.specs.declared.answers.Answer.{Answer}
+use Rattle.bc_pins.specs.Closing.{Closed, ClosedBit, IsOfPageLeft}
 use Rattle.bc_pins.specs.Facts.{IsBitOfTarget, opened_bit}
 use Rattle.bc_pins.specs.Key.{Key}
 use Rattle.bc_pins.specs.Totals.{times, total}
 use Rattle.bc_pins.specs.Views.{opened_state, state_word}
 use Rattle.bc_pins.specs.declared.pins.Seat.{Seat}
 use Rattle.bc_pins.proofs.TallyLemmas.{bit_few, bit_in, few_bits, in_bit, target_in}
-use Rattle.bc_promotion.specs.Filling.{BookmarksNewTargets, IsNewTarget}
+use Rattle.bc_promotion.specs.Filling.{IsNewTarget}
+use Rattle.bc_turn.specs.Answered.{BookmarksBeside}
 use Rattle.bc_superpages.specs.declared.headers.PageState.{PageState}
 use Rattle.bc_superpages.specs.declared.headers.PageState.TheVariants.{Absent, Gone, Held, Home, Remembered}
 use Rattle.bc_superpages.specs.Headers.{is_gone}
@@ -27,15 +30,8 @@ use Rattle.bc_superpages.specs.Memory.{memory}
 use Rattle.bc_word.specs.Addresses.{cell_number, superpage_of}
 
 -- a space's bits against themselves
-pub bits-none : (s : Layout) → BookmarksNewTargets s s
+pub bits-none : (s : Layout) → BookmarksBeside s s [] [] []
 bits-none s = record { stay = λ q b on. on; only = λ q b on. inl on }
-
--- no box was opened, so none was read
-pub reads-same : (k : Key) (s t : Layout) (seats : List Seat) → k.opening ≡ s → Closed k seats t → s.reads < 2 ^ 64 → fetches_of seats ≡ 0 → t.reads ≡ s.reads
-reads-same k s t seats opening closed few none =
-    let all = closed.reads in
-    let same = ap (λ (x : Layout). x.reads) opening in
-    omega arith
 
 -- a page isn't Gone by its word
 not-gone : (st : PageState) → one_if (state_word st == 4) ≡ 0 → is_gone st ≡ false
@@ -61,8 +57,13 @@ few-set s q b layout on = elim (cases_lt q (superpages s)) [
       clash (sym (has-beyond [] b (omega arith)) ∙ sym (ap (λ (ws : List ℕ). has ws b) empty) ∙ on)
 ]
 
-module _ (k : Key) (s t : Layout) (seats : List Seat) (opening : k.opening ≡ s) (closed : Closed k seats t) (before : IsLayout s) (after : IsLayout t)
-    (unfetched : (p : ℕ) → total (λ (seat : Seat). times p (view_of seat).fetched) seats ≡ 0) where
+module _ (k : Key) (s t : Layout) (seats : List Seat) (told : List Answer) (left fetched : List ℕ) (opening : k.opening ≡ s) (closed : Closed k seats t) (before : IsLayout s) (after : IsLayout t)
+    (fetched_are : (p : ℕ) → total (λ (seat : Seat). times p (view_of seat).fetched) seats ≡ times p fetched)
+    (left_are : (p : ℕ) → total (λ (seat : Seat). times p (view_of seat).left) seats ≡ total (says_evicted p) told + times p left) where
+  -- a bit that came is that of a target of a page that became Gone, or of one that came back
+  abbrev CameFor : ℕ → ℕ → Type 0
+  CameFor q b = IsNewTarget s t q b ⊎ ((p : ℕ) × (0 < total (says_evicted p) told + times p left) × (0 < times p fetched))
+
   -- the sets of superpages behind the table
   set-behind : (q : ℕ) → k.supers ≤ q → set_of t.bookmarks q ≡ set_of s.bookmarks q
   set-behind q far = closed.bits_behind q far ∙ ap (λ (x : Layout). set_of x.bookmarks q) opening
@@ -78,16 +79,21 @@ module _ (k : Key) (s t : Layout) (seats : List Seat) (opening : k.opening ≡ s
       subst (λ (n : ℕ). has_target_at t page (w / 16) n ≡ true) number
       (subst (λ (q : ℕ). has_target_at t page q (cell_number (slice_index t.classes (superpage_of is.address)) is.address) ≡ true) is.superpage (target-at t page is.address target))
 
-  -- so a bit that came is that of a new target
-  new-target : (w b : ℕ) → IsOfPageLeft k seats t w b → IsNewTarget s t (w / 16) (64 * (w % 16) + b)
-  new-target w b m =
+  -- so a bit that came is that of a new target, where the page didn't come back
+  new-target : (w b : ℕ) → (m : IsOfPageLeft k seats t w b) → total (λ (seat : Seat). times m.page (view_of seat).fetched) seats ≡ 0 → IsNewTarget s t (w / 16) (64 * (w % 16) + b)
+  new-target w b m none =
       let count = (closed.states_are m.page m.inside).gone in
-      let none = unfetched m.page in
       let some = m.left in
       let still = m.still none in
       let now : one_if (state_word (state_at t.states m.page) == 4) ≡ 1 = ap (λ (st : PageState). one_if (state_word st == 4)) still.0 in
       let was : opened_state k m.page ≡ state_at s.states m.page = ap (λ (x : Layout). state_at x.states m.page) opening in
       (m.page, ap is_gone (sym was) ∙ not-gone (opened_state k m.page) (omega arith), ap is_gone still.0, target-here m.page w b still.1)
+
+  came-for : (w b : ℕ) → IsOfPageLeft k seats t w b → CameFor (w / 16) (64 * (w % 16) + b)
+  came-for w b m = elim (cases_lt 0 (times m.page fetched)) [
+    | inl back ↦ let all = left_are m.page in let some = m.left in inr (m.page, omega arith, back)
+    | inr none ↦ let all = fetched_are m.page in inl (new-target w b m (omega arith))
+  ]
 
   -- bit b of the set of a superpage of the table
   module _ (q b : ℕ) (near : q < k.supers) (few : b < 1024) where
@@ -110,8 +116,8 @@ module _ (k : Key) (s t : Layout) (seats : List Seat) (opening : k.opening ≡ s
     place = ap (λ (n : ℕ). 64 * n + b % 64) word-place ∙ place-back
 
     -- as the table tells it
-    told : has (set_of t.bookmarks (word / 16)) (64 * (word % 16) + b % 64) ≡ has (set_of t.bookmarks q) b
-    told = ap (λ (n : ℕ). has (set_of t.bookmarks n) (64 * (word % 16) + b % 64)) word-set ∙ ap (has (set_of t.bookmarks q)) place
+    told_bit : has (set_of t.bookmarks (word / 16)) (64 * (word % 16) + b % 64) ≡ has (set_of t.bookmarks q) b
+    told_bit = ap (λ (n : ℕ). has (set_of t.bookmarks n) (64 * (word % 16) + b % 64)) word-set ∙ ap (has (set_of t.bookmarks q)) place
 
     -- and as it was at the opening
     was : opened_bit k word (b % 64) ≡ bit_at (slice_index (set_of s.bookmarks q) (b / 64)) (b % 64)
@@ -124,20 +130,20 @@ module _ (k : Key) (s t : Layout) (seats : List Seat) (opening : k.opening ≡ s
     stays on =
         let one = in_bit (set_of s.bookmarks q) (b / 64) (b % 64) (omega arith) (ap (has (set_of s.bookmarks q)) place-back ∙ on) in
         let at = was in
-        sym told ∙ bit.kept (omega arith)
+        sym told_bit ∙ bit.kept (omega arith)
 
-    came : has (set_of t.bookmarks q) b ≡ true → (has (set_of s.bookmarks q) b ≡ true) ⊎ IsNewTarget s t q b
+    came : has (set_of t.bookmarks q) b ≡ true → (has (set_of s.bookmarks q) b ≡ true) ⊎ CameFor q b
     came on = elim (cases_eq (opened_bit k word (b % 64)) 0) [
       | inl zero ↦
-          inr (subst (λ (n : ℕ). IsNewTarget s t q n) place (subst (λ (n : ℕ). IsNewTarget s t n (64 * (word % 16) + b % 64)) word-set (new-target word (b % 64) (bit.new (told ∙ on) zero))))
+          inr (subst (λ (n : ℕ). CameFor q n) place (subst (λ (n : ℕ). CameFor n (64 * (word % 16) + b % 64)) word-set (came-for word (b % 64) (bit.new (told_bit ∙ on) zero))))
       | inr some ↦
           let small = bit_few (slice_index (set_of s.bookmarks q) (b / 64)) (b % 64) in
           let at = was in
           inl (ap (has (set_of s.bookmarks q)) (sym place-back) ∙ bit_in (set_of s.bookmarks q) (b / 64) (b % 64) (omega arith) (omega arith))
     ]
 
-  -- bookmark bits stay, and those that came are those of targets of pages that became Gone
-  pub new-bits : BookmarksNewTargets s t
+  -- bookmark bits stay, and those that came are those of targets of pages that became Gone, or came for pages that came back
+  pub new-bits : BookmarksBeside s t told left fetched
   new-bits = record {
     stay = λ q b on. elim (cases_lt q k.supers) [
       | inl near ↦ stays q b near (few-set s q b before on) on

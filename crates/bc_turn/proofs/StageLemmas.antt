@@ -5,7 +5,7 @@ use Rattle.std.proofs.lemmas.Bool.{cases_eq, cases_lt}
 use Rattle.std.specs.List.{AllByRecursion}
 use Rattle.bc_lane.specs.Back.{heap_back}
 use Rattle.bc_lane.specs.Doing.{DidAll}
-use Rattle.bc_lane.specs.Turns.{IsReadStop, IsWhole, LaneRan, StopsOp, WhyStopped}
+use Rattle.bc_lane.specs.Turns.{IsWhole, LaneRan, StopsOp, WhyStopped}
 use Rattle.bc_lane.specs.declared.parts.LanePart.{LanePart}
 use Rattle.bc_lane.specs.declared.stops.Stop.{Stop}
 use Rattle.bc_lane.specs.declared.stops.Stop.TheVariants as stop
@@ -77,18 +77,18 @@ nothing-more [] = refl
 nothing-more (x ∷ xs) = ap (λ (l : List Reply). x ∷ l) (nothing-more xs)
 
 -- why a lane stopped, told of the heap to which belongs what it has and of the space after the turn
-stops-beside : (hs : List ℕ) (n end : ℕ) (part : LanePart) (u v : View) (k : HeapView) (t : Layout) (op : Op) (why : Stop) → part.holders.items ≡ hs → part.lane ≡ n → IsWhole part v None end k → IsOpOf k.roots op → NotesGone v k.space t → IsReadStop u v why → StopsOp part v None end op why
+stops-beside : (hs : List ℕ) (n end : ℕ) (part : LanePart) (u v : View) (k : HeapView) (t : Layout) (op : Op) (why : Stop) → part.holders.items ≡ hs → part.lane ≡ n → IsWhole part v None end k → IsOpOf k.roots op → NotesGone v k.space t → StopsOp u part v None end op why
     → StopsBeside hs n op k t
-stops-beside hs n end part u v k t op why eh el whole fits notes since stops =
-    subst (λ (l : ℕ). StopsBeside hs l op k t) el (subst (λ (l : List ℕ). StopsBeside l part.lane op k t) eh (go why since stops))
+stops-beside hs n end part u v k t op why eh el whole fits notes stops =
+    subst (λ (l : ℕ). StopsBeside hs l op k t) el (subst (λ (l : List ℕ). StopsBeside l part.lane op k t) eh (go why stops))
   where
-    go : (w : Stop) → IsReadStop u v w → StopsOp part v None end op w → StopsBeside part.holders.items part.lane op k t
-    go stop.End read s = absurd s
-    go stop.NurseryFull read s = inl (subst (λ (c : Nursery). WantsMore part.holders.items part.lane (left_of c) op) (sym whole.belongs.chunk_is) s)
-    go stop.BufferFull read s = inr (inl (subst (λ (c : Nursery). NeedsEntry part.holders.items part.lane k.space k.roots c (buffer_of k.buffers part.lane) op) (sym whole.belongs.chunk_is)
+    go : (w : Stop) → StopsOp u part v None end op w → StopsBeside part.holders.items part.lane op k t
+    go stop.End s = absurd s
+    go stop.NurseryFull s = inl (subst (λ (c : Nursery). WantsMore part.holders.items part.lane (left_of c) op) (sym whole.belongs.chunk_is) s)
+    go stop.BufferFull s = inr (inl (subst (λ (c : Nursery). NeedsEntry part.holders.items part.lane k.space k.roots c (buffer_of k.buffers part.lane) op) (sym whole.belongs.chunk_is)
         (subst (λ (b : Entries). NeedsEntry part.holders.items part.lane k.space k.roots part.chunk b op) (sym whole.belongs.buffer_is) (s k whole fits))))
-    go (stop.Busy page) read s = let looks = s.1 k whole fits in inr (inr (page, looks, notes page looks.0.0 looks.2 looks.3 (inr read.1)))
-    go (stop.Gone page) read s = let looks = s.1 k whole fits in inr (inr (page, looks, notes page looks.0.0 looks.2 looks.3 (inl read.1)))
+    go (stop.Busy page) s = let looks = s.1 k whole fits in inr (inr (page, looks, notes page looks.0.0 looks.2 looks.3 (inr s.0.noted)))
+    go stop.NoFrame s = let looks = s.2 k whole fits in inr (inr (s.0, looks, notes s.0 looks.0.0 looks.2 looks.3 (inl s.1.noted)))
 
 module _ (pins : Pins) (h : HeapView) (hs serials : List ℕ) (lanes : List (List Op)) (before : List (List Reply)) (busy : List ℕ) (old : ℕ → LaneTurn) (seat : ℕ → Seat) (new : ℕ → LaneTurn) (after : ℕ → Seat)
     (begun : AreBegun pins h hs serials lanes before busy old seat) (ran : AllRan lanes busy old seat new after) (state : State) (stands : StandsAs (heap_back h) hs serials state)
@@ -320,7 +320,7 @@ module _ (pins : Pins) (h : HeapView) (hs serials : List ℕ) (lanes : List (Lis
         (subst (λ (q : ℕ). IsAtEndOr (of_lane lanes q) (of_lane before n ++ run.replies) (λ op. StopsBeside hs n op k t)) is
         (why ((ran.each i lt).stopped s.heap here)))
       where
-        why : WhyStopped (of_lane lanes (lane i)) (end_of s.heap.space) w (view_of (after i)) None (ran.why i) → IsAtEndOr (of_lane lanes (lane i)) (of_lane before n ++ run.replies) (λ op. StopsBeside hs n op k t)
+        why : WhyStopped (view_of (seat i)) (of_lane lanes (lane i)) (end_of s.heap.space) w (view_of (after i)) None (ran.why i) → IsAtEndOr (of_lane lanes (lane i)) (of_lane before n ++ run.replies) (λ op. StopsBeside hs n op k t)
         why (inl e) = inl (subst (λ (q : ℕ). length (of_lane lanes (lane i)) ≤ q) next-is e.1)
         why (inr e) = inr (
           e.0,
@@ -328,7 +328,7 @@ module _ (pins : Pins) (h : HeapView) (hs serials : List ℕ) (lanes : List (Lis
           subst (λ (q : ℕ). e.0 ≡ get_or (of_lane lanes (lane i)) q e.0) next-is e.2,
           stops-beside hs n (end_of s.heap.space) w.part (view_of (seat i)) (view_of (after i)) k t e.0 (ran.why i) (new-holders i lt) (new-lane i lt ∙ is) made.1
               (subst (IsOpOf k.roots) (sym e.2) (at-index (IsOpOf k.roots) (of_lane lanes (lane i)) w.next e.0 (fits-at k passes-h) e.1))
-              (λ page cell there. notes page cell (subst (λ (x : Layout). IsAllocated x cell) passes-h.space there)) (ran.each i lt).since e.3,
+              (λ page cell there. notes page cell (subst (λ (x : Layout). IsAllocated x cell) passes-h.space there)) e.3,
         )
 
     link-next : (next : ℕ) (told : List Reply) (t : Layout) → next ≡ w.part.serial → told ≡ w.replies.items → NotesGone (view_of (after i)) h.space t

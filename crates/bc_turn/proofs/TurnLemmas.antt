@@ -39,13 +39,14 @@ use Rattle.bc_turn.specs.declared.paging.Paging.{Paging}
 use Rattle.bc_turn.specs.declared.rooms.TurnRoom.{TurnRoom}
 use Rattle.bc_turn.specs.declared.runs.Run.{Run}
 use Rattle.bc_turn.specs.Answered.{AnsweredBeside}
+use Rattle.bc_turn.specs.Looked.{IsLookedAt}
 use Rattle.bc_turn.specs.Begun.{AllRan, AreBegun, AreBusyLanes, IsBegunLane, RanLane, of_lane}
 use Rattle.bc_turn.specs.Beside.{RanBeside}
 use Rattle.bc_turn.specs.Laying.{AreLaidBack}
 use Rattle.bc_turn.specs.Paging.{HasPaged}
 use Rattle.bc_turn.specs.Taking.{AreHeldDomains, AreRunsOf, AreSparesOf, AreTaken, CanRun, HasBusyAmong, HasReplyRoom, HasRoomForLane, LaneHasRun, IsRoomKept, LiesRight, running_lanes, seat_at, spare_lanes, turn_at, turn_roles}
-use Rattle.bc_turn.proofs.AnsweredLemmas.{ArePagers, answered}
-use Rattle.bc_turn.proofs.BegunLemmas.{IsPagerBack, are-back, are-pagers, are-recorded, begun-lane, may-operate, ops-each, paged-back, are-homes, pager-logged}
+use Rattle.bc_turn.proofs.AnsweredLemmas.{AreMoved, answered}
+use Rattle.bc_turn.proofs.BegunLemmas.{IsPagerBack, all-fetched, all-homes, are-back, are-moved, are-recorded, begun-lane, gathered, may-operate, none-returned, ops-each, own-fetched, paged-back, pager-logged}
 use Rattle.bc_turn.proofs.BesideLemmas.{ran-beside, turn-table}
 use Rattle.bc_turn.proofs.LayingLemmas.{laid-space}
 use Rattle.bc_turn.proofs.RoomLemmas.{beside-longer, busy-among, busy-later, same-numbers}
@@ -53,8 +54,7 @@ use Rattle.bc_turn.proofs.TableLemmas.{IsTurnTable}
 use Rattle.bc_whole_heap.specs.Heaps.{HeapView, end_of}
 use Rattle.bc_whole_heap.specs.LaneStates.{StandsAs}
 use Rattle.bc_whole_heap.specs.Running.{IsRunning}
-use Rattle.bc_turn.proofs.DeclinedLemmas.{declined-home}
-use Rattle.bc_turn.proofs.PagerLemmas.{name-none}
+use Rattle.bc_turn.proofs.HomeLemmas.{declined-beside}
 
 -- a list has an element
 pub first-of : {X : Type 0} (xs : List X) → 0 < length xs → X
@@ -341,9 +341,18 @@ module _ (h : HeapView) (hs serials : List ℕ) (lanes : List (List Op)) (before
               are-back pins h hs serials lanes (lists_of before) busy (turn_at d runs) (seat_at d runs) (turn_at d new) (seat_at d new) (begun d) (all-ran d) back later.seat table seats-long seats-are pager-back
               (λ i lt. (seat_at d new i).tidy)
 
-          pagers : ArePagers whole-list paged.told
-          pagers =
-              are-pagers pins h hs serials lanes (lists_of before) busy (turn_at d runs) (seat_at d runs) (turn_at d new) (seat_at d new) (begun d) (all-ran d) back later.seat table seats-long seats-are pager-back
+          abbrev fetched : List ℕ
+          fetched = gathered (λ s. (view_of s).fetched) back
+
+          abbrev left : List ℕ
+          left = gathered (λ s. (view_of s).left) back
+
+          abbrev emptied : List ℕ
+          emptied = gathered (λ s. (view_of s).emptied) back
+
+          moved : AreMoved (key_of pins) whole-list paged.told fetched left emptied
+          moved =
+              are-moved pins h hs serials lanes (lists_of before) busy (turn_at d runs) (seat_at d runs) (turn_at d new) (seat_at d new) (begun d) (all-ran d) back later.seat table seats-long seats-are pager-back
               paged.told paged.left paged.emptied
 
           pub beside : (t : Layout) → 0 < length busy → Closed (key_of pins) whole-list t → IsLayout t → RanBeside hs lanes h serials (lists_of before) (record g { space = t }) nexts told
@@ -353,20 +362,24 @@ module _ (h : HeapView) (hs serials : List ℕ) (lanes : List (List Op)) (before
               set.running set.layout set.whole some whole-list table all-long all-are (record g { space = t }) nexts told closed given
               (laid-space hs busy (turn_at d new) (length busy) h serials (lists_of before) g nexts told t home)
               (are-recorded pins h hs serials lanes (lists_of before) busy (turn_at d runs) (seat_at d runs) (turn_at d new) (seat_at d new) (begun d) (all-ran d) back later.seat table seats-long seats-are pager-back)
-              paged.told pagers
+              (none-returned pins h hs serials lanes (lists_of before) busy (turn_at d runs) (seat_at d runs) (turn_at d new) (seat_at d new) (begun d) (all-ran d) back later.seat table seats-long seats-are pager-back)
 
-          pub answered-beside : (t : Layout) → Closed (key_of pins) whole-list t → IsLayout t → h.space.reads < 2 ^ 64 → (hints : List ℕ) (kept all : List Answer) → old.notices.hints ≡ hints → old.answers.list ≡ kept → all ≡ later.answers.list
-              → AnsweredBeside hs lanes (lists_of before) h.space hints kept all t
-          answered-beside t closed given few hints kept all hints_are kept_are all_are =
-              answered hs lanes (lists_of before) (key_of pins) h.space t whole-list hints kept all paged.told (view_of later.seat) set.opened.opening closed set.layout given few
-              pagers (all_are ∙ paged.kept ∙ ap (λ (list_before : List Answer). list_before ++ paged.told) kept_are)
+          each-fits : (i : ℕ) → i < length busy → AllByRecursion (IsOpOf h.roots) (of_lane lanes (get_or busy i 0))
+          each-fits i lt = ops-each h.roots lanes (get_or busy i 0) (busy_are.within i lt) set.ops
+
+          pub answered-beside : (t : Layout) → Closed (key_of pins) whole-list t → IsLayout t → (hints : List ℕ) (kept all : List Answer) → old.notices.hints ≡ hints → old.answers.list ≡ kept → all ≡ later.answers.list
+              → AnsweredBeside (IsLookedAt hs lanes h serials (lists_of before) told) h.space hints kept all t
+          answered-beside t closed given hints kept all hints_are kept_are all_are =
+              answered (IsLookedAt hs lanes h serials (lists_of before) told) (key_of pins) h.space t whole-list hints kept all paged.told fetched left emptied (view_of later.seat) set.opened.opening closed set.layout given
+              moved (all_are ∙ paged.kept ∙ ap (λ (list_before : List Answer). list_before ++ paged.told) kept_are)
               (subst (λ (hs : List ℕ). AreAnswered (key_of pins) hs paged.told (fresh (key_of pins) (role_number (Pager 0) ∷ [])) (view_of later.seat)) hints_are paged.each)
-              (declined-home (key_of pins) h.space t whole-list old.notices.hints paged.told (fresh (key_of pins) (role_number (Pager 0) ∷ [])) (view_of later.seat) lanes (lists_of before)
-              (λ p. get_or hs (get_or h.space.domains (p / 4) 0) 0) set.opened.opening closed set.layout given pagers
-              (name-none (key_of pins) old.notices.hints paged.told (fresh (key_of pins) (role_number (Pager 0) ∷ [])) (view_of later.seat) paged.each) paged.each
+              (own-fetched pins h hs serials lanes (lists_of before) busy (turn_at d runs) (seat_at d runs) (turn_at d new) (seat_at d new) (begun d) (all-ran d) back later.seat table seats-long seats-are pager-back told home.replies each-fits)
+              (declined-beside (key_of pins) h.space t whole-list old.notices.hints paged.told (fresh (key_of pins) (role_number (Pager 0) ∷ [])) (view_of later.seat)
+              (IsLookedAt hs lanes h serials (lists_of before) told) set.opened.opening closed given paged.each
               (pager-logged pins h hs serials lanes (lists_of before) busy (turn_at d runs) (seat_at d runs) (turn_at d new) (seat_at d new) (begun d) (all-ran d) back later.seat table seats-long seats-are pager-back)
-              (are-homes pins h hs serials lanes (lists_of before) busy (turn_at d runs) (seat_at d runs) (turn_at d new) (seat_at d new) (begun d) (all-ran d) back later.seat table seats-long seats-are pager-back
-              old.notices.hints paged.told paged.each))
+              (all-fetched pins h hs serials lanes (lists_of before) busy (turn_at d runs) (seat_at d runs) (turn_at d new) (seat_at d new) (begun d) (all-ran d) back later.seat table seats-long seats-are pager-back told home.replies each-fits)
+              (all-homes pins h hs serials lanes (lists_of before) busy (turn_at d runs) (seat_at d runs) (turn_at d new) (seat_at d new) (begun d) (all-ran d) back later.seat table seats-long seats-are pager-back told home.replies each-fits
+              old.notices.hints paged.told paged.each paged.left paged.emptied))
 
 -- room that came back is kept for the next turn
 pub room-returned : (hs : List ℕ) (slots : ℕ) (lanes : List (List Op)) (h : HeapView) (serials : List ℕ) (before : List (List Reply)) (k : HeapView) (nexts : List ℕ) (after : List (List Reply)) (busy : List ℕ) (room : TurnRoom)

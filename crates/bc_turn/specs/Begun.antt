@@ -4,10 +4,10 @@ use Rattle.std.specs.Prelude.{◌≡◌, ℕ, ◌<◌, List, [], ◌∷◌, leng
 use Rattle.bc_lane.specs.Back.{heap_back}
 use Rattle.bc_lane.specs.declared.stops.Stop.{Stop}
 use Rattle.bc_lane.specs.declared.turns.LaneTurn.{LaneTurn}
-use Rattle.bc_lane.specs.Turns.{IsGoing, IsReadStop, IsWhole, LaneRan, WhyStopped}
+use Rattle.bc_lane.specs.Turns.{IsGoing, IsWhole, LaneRan, WhyStopped}
 use Rattle.bc_model.specs.declared.operations.Op.{Op}
 use Rattle.bc_model.specs.declared.operations.Reply.{Reply}
-use Rattle.bc_pins.specs.Calls.{IsFree, IsSameSeat, key_of, view_of}
+use Rattle.bc_pins.specs.Calls.{CountsFetches, IsFree, IsSameWorker, key_of, view_of}
 use Rattle.bc_pins.specs.Key.{lane_role}
 use Rattle.bc_pins.specs.Steps.{fresh}
 use Rattle.bc_pins.specs.declared.pins.Pins.{Pins}
@@ -49,13 +49,12 @@ pub record AreBegun (pins : Pins) (h : HeapView) (holders serials : List ℕ) (l
   pub lane_is : (i : ℕ) → i < length busy → (turn i).part.lane ≡ slice_index busy i
 
 -- what a lane's run tells: whatever whole heap what the lane had belonged to, what it has now belongs to that heap with its
--- operations done, and the stop has its cause there. A stop at a page is one that the seat read in this run and noted. The seat is that
--- seat, with nothing in hand
+-- operations done, and the stop has its cause there. The seat is that seat, with nothing in hand, and counts still the boxes that it opens
 pub record RanLane (ops : List Op) (old : LaneTurn) (seat : Seat) (new : LaneTurn) (after : Seat) (why : Stop) : Type 0 where
   pub ran : (h : HeapView) → IsWhole old.part (view_of seat) None (end_of h.space) h → LaneRan ops (end_of h.space) old (view_of seat) None new (view_of after) None
-  pub stopped : (h : HeapView) → IsWhole old.part (view_of seat) None (end_of h.space) h → WhyStopped ops (end_of h.space) new (view_of after) None why
-  pub since : IsReadStop (view_of seat) (view_of after) why
-  pub seat_is : IsSameSeat seat after
+  pub stopped : (h : HeapView) → IsWhole old.part (view_of seat) None (end_of h.space) h → WhyStopped (view_of seat) ops (end_of h.space) new (view_of after) None why
+  pub seat_is : IsSameWorker seat after
+  pub counts : CountsFetches seat → CountsFetches after
   pub free : IsFree after
 
 -- all lanes that began ran

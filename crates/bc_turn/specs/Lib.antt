@@ -6,6 +6,8 @@ pub mod Begun
 pub mod Laying
 -- What a lane takes into a turn, and what stands in its places meanwhile
 pub mod Taking
+-- A page on which an operation of a turn looks
+pub mod Looked
 -- Notices that were answered beside the lanes
 pub mod Answered
 -- A pager at work

@@ -6,20 +6,22 @@
 // its domains' root slots, its chunk, its write buffer, the number of its births and its replies so far. Then they work (`run_beside`): on
 // threads that the call joins, or, where the caller says that these wouldn't pay (`TurnThreads`), one after another on the caller's. The
 // contract doesn't tell these apart. A lane runs until it is at its end or its next operation can't be done in this turn: its chunk or
-// its write buffer has no room, or the operation looks at an object whose page is gone or in other hands. The page is Gone after the
-// turn then (`StopsBeside`), since a pager puts none back. When all are through each lane lays back what it took, the table is closed,
-// and the heap is one value again.
+// its write buffer has no room, or the operation looks at an object whose page is in other hands, or gone while no frame can be had for
+// it. The page is Gone after the turn then (`StopsBeside`), since who takes a page that isn't its own puts none back. When all are through
+// each lane lays back what it took, the table is closed, and the heap is one value again.
 //
 // The pager (`bc_pager`) takes the notices with the turn's hints, in order, and gives up a page for each, or declines it. Who comes first
 // has a page, and nobody waits: a lane that has it in hand keeps it, and the pager goes on to another; a page that the pager got first is
-// in other hands and then gone, and a lane that looks there stops. A pager has its seat in every turn. Where no notice came it
-// is through before the lanes begin, and starts no thread; then a lane that is alone starts none either. Where notices came and no lane
-// has operations left, the pager is alone at a table. Where there is neither, nothing is done.
+// in other hands, where a lane that looks there stops, and then gone, from where its lane brings it back. A pager has its seat in every
+// turn. Where no notice came it is through before the lanes begin, and starts no thread; then a lane that is alone starts none either.
+// Where notices came and no lane has operations left, the pager is alone at a table. Where there is neither, nothing is done.
 //
 // Each notice has one answer (`AnsweredBeside`): by what the pager did and read, behind the answers that the caller's list had. Lanes
-// make no page Gone or Absent, so the pages that are so at the close and weren't before are those that the answers name. Nor do they
-// bookmark anything or read a page back, so the bookmark bits that came are those of targets of pages that the pager made Gone. Where a
-// notice was declined, a page that is Home afterwards is of a domain whose lane had operations left (`declined`).
+// bring pages of their own back, and for their frames make others Gone or Absent, no more than they bring back. By the answers and the
+// lists of these pages each page is accounted for: how often it is Gone, or Absent, at the close. The bookmark bits that came are those of
+// targets of pages that became Gone, or came for pages that lanes brought back, and pages were read as often as one came back. Where a
+// notice was declined, each page that is Home afterwards is looked at in the turn (`declined`), by an operation that its lane did or by the
+// next one that it would do; and so is each page that a lane brought back (`IsLookedAt`).
 //
 // What takes memory comes first: room for what each lane takes along (`fit_room`), with a chunk, a write buffer and a list of replies
 // without words that stand in the heap's places meanwhile; the roles, the notices and the list of runs; and the table (`open_table`).

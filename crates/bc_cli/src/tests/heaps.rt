@@ -27,13 +27,13 @@ fn shows_need<R: Threads + Sync + Abort>(
 
 /// Operations that put objects behind a chain's first one, so that the chain has this many objects. Slots 0 and 1 hold the last
 /// one, and each refers to the one before.
-fn links(alloc: Global, objects: u32) -> Result<String, AllocError> {
+pub fn links(alloc: Global, objects: u32) -> Result<String, AllocError> {
     let link = "new 0 1 1\nlink 0 1 0 0 0\ncopy 0 1 0 0\n";
     repeated(alloc, link, objects.saturating_sub(1))
 }
 
 /// Their replies.
-fn linked(alloc: Global, objects: u32) -> Result<String, AllocError> {
+pub fn linked(alloc: Global, objects: u32) -> Result<String, AllocError> {
     let mut output = String::new(alloc);
     for serial in 2..=objects {
         let replies = format!(in alloc; "obj 0.{serial}\nok\nok\n")?;

@@ -1,5 +1,7 @@
-use Rattle.bc_lane.proofs.AnswerLemmas.{foreign-does, foreign-wants, hands-operated, room-stop, stays-brought, stops-operated, touches-none}
-use Rattle.bc_lane.proofs.HandLemmas.{none-reads}
+use Rattle.std.proofs.Common.{inl}
+use Rattle.bc_lane.proofs.AnswerLemmas.{foreign-does, foreign-wants, hands-operated, stays-brought, stops-operated, touches-none}
+use Rattle.bc_lane.proofs.HandLemmas.{none-reads, same-lane}
+use Rattle.bc_lane.proofs.PassLemmas.{none-passes}
 use Rattle.bc_pins.specs.Calls.{key_of, view_of}
 use Rattle.bc_lane.proofs.answering.answer.Goals as goal
 
@@ -20,7 +22,14 @@ returns-in-Nowhere-clause-seated g c =
       role = c.requires.seated.role;
       hands = hands-operated c.args.part.now c.operate.new.part c.args.seat.now c.args.hand.now c.operate.new.hand c.args.end c.args.op.now c.operate.result c.operate.ensures.done c.operate.ensures.still
           w.0 w.1 w.2 c.requires.seated.hands c.operate.ensures.page;
+      rights = c.requires.seated.rights;
     }
+
+pub returns-in-Nowhere-clause-seat : goal.returns-in-Nowhere-clause-seat
+returns-in-Nowhere-clause-seat g c = same-lane c.args.seat.now
+
+pub returns-in-Foreign-clause-seat : goal.returns-in-Foreign-clause-seat
+returns-in-Foreign-clause-seat g c = same-lane c.args.seat.now
 
 pub returns-in-Nowhere-clause-reads : goal.returns-in-Nowhere-clause-reads
 returns-in-Nowhere-clause-reads g c = none-reads (view_of c.args.seat.now)
@@ -33,7 +42,7 @@ returns-in-Nowhere-clause-still g c =
 pub returns-in-Nowhere-clause-why : goal.returns-in-Nowhere-clause-why
 returns-in-Nowhere-clause-why g c =
     stops-operated c.args.part.now c.operate.new.part c.args.seat.now c.args.hand.now c.operate.new.hand c.args.end c.args.op.now c.operate.result c.operate.ensures.done c.operate.ensures.still
-    c.operate.ensures.why
+    (view_of c.args.seat.now) (none-reads (view_of c.args.seat.now)) c.operate.ensures.why
 
 pub returns-in-Foreign-clause-reads : goal.returns-in-Foreign-clause-reads
 returns-in-Foreign-clause-reads g c = none-reads (view_of c.args.seat.now)
@@ -49,5 +58,8 @@ returns-in-Foreign-clause-nursery g c = λ wants.
     let told = c.in-Foreign.ensures.told in
     absurd (foreign-wants c.args.part.now w.0 _ c.args.op.now (told.1 (view_of c.args.seat.now) c.args.hand.now w.0 c.requires.seated.at.about w.1 w.2) wants)
 
-pub returns-in-Nowhere-clause-since : goal.returns-in-Nowhere-clause-since
-returns-in-Nowhere-clause-since g c = room-stop c.operate.result (view_of c.args.seat.now) (view_of c.args.seat.now) c.operate.ensures.room
+pub returns-in-Nowhere-clause-looked : goal.returns-in-Nowhere-clause-looked
+returns-in-Nowhere-clause-looked g c = λ q near. inl (none-passes (view_of c.args.seat.now) q)
+
+pub returns-in-Foreign-clause-looked : goal.returns-in-Foreign-clause-looked
+returns-in-Foreign-clause-looked g c = λ q near. inl (none-passes (view_of c.args.seat.now) q)

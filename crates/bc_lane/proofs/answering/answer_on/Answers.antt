@@ -1,9 +1,9 @@
 use Rattle.std.proofs.Common.{◌≡◌, true, refl, sym, subst, ◌∙◌}
-use Rattle.bc_lane.proofs.AnswerLemmas.{does-brought, hands-operated, own-page, own-wants, refused-stops, room-stop, stays-brought, stops-operated, touches-page, whole-moved}
+use Rattle.bc_lane.proofs.AnswerLemmas.{brought-looked, does-brought, hands-operated, own-page, own-wants, refused-stops, stays-brought, stops-operated, touches-page, whole-moved}
 use Rattle.bc_pins.specs.Calls.{key_of, view_of}
 use Rattle.bc_pins.specs.Contents.{IsBarePage}
 use Rattle.bc_pins.specs.Key.{Key}
-use Rattle.bc_pins.proofs.VisitLemmas.{at_after}
+use Rattle.bc_lane.proofs.HandLemmas.{at-lane, rights-on}
 use Rattle.bc_lane.proofs.answering.answer_on.Goals as goal
 
 pub bring-requires-clause-lanes : goal.bring-requires-clause-lanes
@@ -34,10 +34,11 @@ returns-in-Ok-clause-seated g c =
     let w = c.requires.whole in
     let same = c.bring.ensures.same in
     record {
-      at = at_after c.args.pins.now c.args.seat.now c.bring.new.seat c.requires.seated.at same;
-      role = same.role ∙ c.requires.seated.role;
+      at = at-lane c.args.pins.now c.args.seat.now c.bring.new.seat c.requires.seated.at same;
+      role = same.worker.role ∙ c.requires.seated.role;
       hands = hands-operated c.args.part.now c.operate.new.part c.bring.new.seat c.bring.new.hand c.operate.new.hand c.args.end c.args.op.now c.operate.result c.operate.ensures.done c.operate.ensures.still
           w.0 (whole-moved c.args.part.now (view_of c.args.seat.now) (view_of c.bring.new.seat) c.args.hand.now c.bring.new.hand c.args.end w.0 c.bring.ensures.shows w.1) w.2 c.bring.ensures.hands c.operate.ensures.page;
+      rights = rights-on (view_of c.args.seat.now) (view_of c.bring.new.seat) c.bring.ensures.reads c.requires.seated.rights;
     }
 
 pub returns-in-Ok-clause-done : goal.returns-in-Ok-clause-done
@@ -53,15 +54,16 @@ returns-in-Ok-clause-still g c =
 pub returns-in-Ok-clause-why : goal.returns-in-Ok-clause-why
 returns-in-Ok-clause-why g c =
     stops-operated c.args.part.now c.operate.new.part c.bring.new.seat c.bring.new.hand c.operate.new.hand c.args.end c.args.op.now c.operate.result c.operate.ensures.done c.operate.ensures.still
-    c.operate.ensures.why
+    (view_of c.args.seat.now) c.bring.ensures.reads c.operate.ensures.why
 
 pub returns-in-Err-clause-seated : goal.returns-in-Err-clause-seated
 returns-in-Err-clause-seated g c =
     let same = c.bring.ensures.same in
     record {
-      at = at_after c.args.pins.now c.args.seat.now c.bring.new.seat c.requires.seated.at same;
-      role = same.role ∙ c.requires.seated.role;
+      at = at-lane c.args.pins.now c.args.seat.now c.bring.new.seat c.requires.seated.at same;
+      role = same.worker.role ∙ c.requires.seated.role;
       hands = c.bring.ensures.hands;
+      rights = rights-on (view_of c.args.seat.now) (view_of c.bring.new.seat) c.bring.ensures.reads c.requires.seated.rights;
     }
 
 pub returns-in-Err-clause-still : goal.returns-in-Err-clause-still
@@ -70,7 +72,7 @@ returns-in-Err-clause-still g c =
 
 pub returns-in-Err-clause-why : goal.returns-in-Err-clause-why
 returns-in-Err-clause-why g c =
-    refused-stops c.args.part.now (key_of c.args.pins.now) (view_of c.bring.new.seat) c.bring.new.hand c.args.end c.args.page c.args.op.now c.in-Err.why (c.bring.ensures.same.about ∙ c.requires.seated.at.about) c.requires.looks c.in-Err.ensures.stop
+    refused-stops c.args.part.now (key_of c.args.pins.now) (view_of c.args.seat.now) (view_of c.bring.new.seat) c.bring.new.hand c.args.end c.args.page c.args.op.now c.in-Err.why (c.bring.ensures.same.worker.about ∙ c.requires.seated.at.about) c.requires.looks c.in-Err.ensures.stop
 
 pub returns-in-Err-clause-nursery : goal.returns-in-Err-clause-nursery
 returns-in-Err-clause-nursery g c = λ wants.
@@ -78,11 +80,16 @@ returns-in-Err-clause-nursery g c = λ wants.
     let looks = c.requires.looks.looks (view_of c.args.seat.now) c.args.hand.now w.0 c.requires.seated.at.about w.1 w.2 in
     absurd (own-wants c.args.part.now w.0 _ c.args.page c.args.op.now looks wants)
 
-pub returns-in-Ok-clause-since : goal.returns-in-Ok-clause-since
-returns-in-Ok-clause-since g c = room-stop c.operate.result (view_of c.args.seat.now) (view_of c.bring.new.seat) c.operate.ensures.room
-
 pub returns-in-Ok-clause-kept : goal.returns-in-Ok-clause-kept
 returns-in-Ok-clause-kept g c = λ has. (c.bring.ensures.kept has).1
 
 pub returns-in-Err-clause-kept : goal.returns-in-Err-clause-kept
 returns-in-Err-clause-kept g c = λ has. (c.bring.ensures.kept has).1
+
+pub returns-in-Ok-clause-looked : goal.returns-in-Ok-clause-looked
+returns-in-Ok-clause-looked g c =
+    brought-looked c.args.part.now (key_of c.args.pins.now) (view_of c.args.seat.now) (view_of c.bring.new.seat) c.args.hand.now c.args.end c.args.page c.args.op.now c.requires.seated.at.about c.requires.looks c.bring.ensures.passes
+
+pub returns-in-Err-clause-looked : goal.returns-in-Err-clause-looked
+returns-in-Err-clause-looked g c =
+    brought-looked c.args.part.now (key_of c.args.pins.now) (view_of c.args.seat.now) (view_of c.bring.new.seat) c.args.hand.now c.args.end c.args.page c.args.op.now c.requires.seated.at.about c.requires.looks c.bring.ensures.passes

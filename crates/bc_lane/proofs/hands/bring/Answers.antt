@@ -1,13 +1,13 @@
-use Rattle.std.proofs.Common.{◌≡◌, ◌<◌, ℕ, true, false, List, Option, refl, sym, subst, ◌∙◌}
+use Rattle.std.proofs.Common.{◌≡◌, ◌<◌, true, false, Option, refl, sym, subst, ◌∙◌}
 use Rattle.bc_lane.specs.Shown.{ShowsPages}
 use Rattle.bc_lane.specs.Turns.{HasInHand}
-use Rattle.bc_lane.proofs.HandLemmas.{none-reads, stop-since, then-reads}
+use Rattle.bc_lane.proofs.FrameLemmas.{refused-since-then}
+use Rattle.bc_lane.proofs.PassLemmas.{none-passes, passes-on}
+use Rattle.bc_lane.proofs.HandLemmas.{at-lane, none-reads, own-lane, rights-on, same-lane, then-lane, then-reads}
 use Rattle.bc_pins.specs.Calls.{view_of}
 use Rattle.bc_pins.specs.Contents.{IsBarePage}
-use Rattle.bc_pins.specs.Key.{Key, owner}
-use Rattle.bc_pins.specs.Totals.{times}
+use Rattle.bc_pins.specs.Key.{Key, pages_of}
 use Rattle.bc_pins.specs.declared.holding.Held.{Held}
-use Rattle.bc_pins.proofs.VisitLemmas.{at_after, same_after}
 use Rattle.bc_lane.proofs.hands.bring.Goals as goal
 
 -- a test that is sure to hold doesn't fail
@@ -27,24 +27,25 @@ pub returns-then-has_page-clause-reads : goal.returns-then-has_page-clause-reads
 returns-then-has_page-clause-reads g c = none-reads (view_of c.args.seat.now)
 
 pub pick_up-requires-clause-at : goal.pick_up-requires-clause-at
-pick_up-requires-clause-at g c = at_after c.args.pins.now c.args.seat.now c.lay_down.new.seat c.requires.at c.lay_down.ensures.same
+pick_up-requires-clause-at g c = at-lane c.args.pins.now c.args.seat.now c.lay_down.new.seat c.requires.at c.lay_down.ensures.same
 
 pub pick_up-requires-clause-lanes : goal.pick_up-requires-clause-lanes
-pick_up-requires-clause-lanes g c = subst (λ (a : Key). a.lanes ≡ true) (sym c.lay_down.ensures.same.about) c.requires.lanes
+pick_up-requires-clause-lanes g c = subst (λ (a : Key). a.lanes ≡ true) (sym c.lay_down.ensures.same.worker.about) c.requires.lanes
 
 pub pick_up-requires-clause-own : goal.pick_up-requires-clause-own
-pick_up-requires-clause-own g c =
-    let same = c.lay_down.ensures.same in
-    let old = view_of c.args.seat.now in
-    let new = view_of c.lay_down.new.seat in
-    subst (λ (l : List ℕ). 0 < times (owner new.about c.args.page) l) (sym same.roles)
-    (subst (λ (a : Key). 0 < times (owner a c.args.page) old.roles) (sym same.about) c.requires.own)
+pick_up-requires-clause-own g c = own-lane c.args.seat.now c.lay_down.new.seat c.args.page c.lay_down.ensures.same c.requires.own
+
+pub pick_up-requires-clause-rights : goal.pick_up-requires-clause-rights
+pick_up-requires-clause-rights g c = rights-on (view_of c.args.seat.now) (view_of c.lay_down.new.seat) c.lay_down.ensures.reads c.requires.rights
+
+pub returns-then-has_page-clause-same : goal.returns-then-has_page-clause-same
+returns-then-has_page-clause-same g c = same-lane c.args.seat.now
 
 pub pick_up-requires-clause-cell : goal.pick_up-requires-clause-cell
-pick_up-requires-clause-cell g c = subst (λ (a : Key). IsBarePage a.opening c.args.page → ⊥) (sym c.lay_down.ensures.same.about) c.requires.cell
+pick_up-requires-clause-cell g c = subst (λ (a : Key). IsBarePage a.opening c.args.page → ⊥) (sym c.lay_down.ensures.same.worker.about) c.requires.cell
 
 pub returns-in-Ok-clause-same : goal.returns-in-Ok-clause-same
-returns-in-Ok-clause-same g c = same_after c.args.seat.now c.lay_down.new.seat c.pick_up.new.seat c.lay_down.ensures.same c.pick_up.ensures.same
+returns-in-Ok-clause-same g c = then-lane c.args.seat.now c.lay_down.new.seat c.pick_up.new.seat c.lay_down.ensures.same c.pick_up.ensures.same
 
 pub returns-in-Ok-clause-hands : goal.returns-in-Ok-clause-hands
 returns-in-Ok-clause-hands g c = c.in-Ok.ensures.ok.0
@@ -59,7 +60,7 @@ pub returns-in-Ok-clause-reads : goal.returns-in-Ok-clause-reads
 returns-in-Ok-clause-reads g c = then-reads (view_of c.args.seat.now) (view_of c.lay_down.new.seat) (view_of c.pick_up.new.seat) c.lay_down.ensures.reads c.pick_up.ensures.reads
 
 pub returns-in-Err-clause-same : goal.returns-in-Err-clause-same
-returns-in-Err-clause-same g c = same_after c.args.seat.now c.lay_down.new.seat c.pick_up.new.seat c.lay_down.ensures.same c.pick_up.ensures.same
+returns-in-Err-clause-same g c = then-lane c.args.seat.now c.lay_down.new.seat c.pick_up.new.seat c.lay_down.ensures.same c.pick_up.ensures.same
 
 pub returns-in-Err-clause-hands : goal.returns-in-Err-clause-hands
 returns-in-Err-clause-hands g c = subst (HasInHand c.pick_up.new.seat) (sym c.lay_down.ensures.none) c.in-Err.ensures.err.0
@@ -71,6 +72,19 @@ returns-in-Err-clause-shows g c = λ end s shown.
 pub returns-in-Err-clause-reads : goal.returns-in-Err-clause-reads
 returns-in-Err-clause-reads g c = then-reads (view_of c.args.seat.now) (view_of c.lay_down.new.seat) (view_of c.pick_up.new.seat) c.lay_down.ensures.reads c.pick_up.ensures.reads
 
-pub returns-in-Err-clause-since : goal.returns-in-Err-clause-since
-returns-in-Err-clause-since g c =
-    stop-since (view_of c.args.seat.now) (view_of c.lay_down.new.seat) (view_of c.pick_up.new.seat) c.in-Err.why c.lay_down.ensures.reads c.in-Err.ensures.since
+pub returns-in-Err-clause-stop : goal.returns-in-Err-clause-stop
+returns-in-Err-clause-stop g c =
+    refused-since-then (view_of c.args.seat.now) (view_of c.lay_down.new.seat) (view_of c.pick_up.new.seat) c.args.page c.in-Err.why c.lay_down.ensures.reads c.in-Err.ensures.err.1
+
+pub returns-then-has_page-clause-passes : goal.returns-then-has_page-clause-passes
+returns-then-has_page-clause-passes g c = λ q near ne. none-passes (view_of c.args.seat.now) q
+
+pub returns-in-Ok-clause-passes : goal.returns-in-Ok-clause-passes
+returns-in-Ok-clause-passes g c = λ q near ne.
+    passes-on (view_of c.args.seat.now) (view_of c.lay_down.new.seat) (view_of c.pick_up.new.seat) q (c.lay_down.ensures.passes q)
+    (c.pick_up.ensures.passes q (subst (λ (k : Key). q < pages_of k) (sym c.lay_down.ensures.same.worker.about) near) ne)
+
+pub returns-in-Err-clause-passes : goal.returns-in-Err-clause-passes
+returns-in-Err-clause-passes g c = λ q near ne.
+    passes-on (view_of c.args.seat.now) (view_of c.lay_down.new.seat) (view_of c.pick_up.new.seat) q (c.lay_down.ensures.passes q)
+    (c.pick_up.ensures.passes q (subst (λ (k : Key). q < pages_of k) (sym c.lay_down.ensures.same.worker.about) near) ne)

@@ -1,7 +1,9 @@
-use Rattle.std.proofs.Common.{sym, ◌∙◌}
-use Rattle.bc_lane.proofs.HandLemmas.{in-hand, in-none, may-put, none-reads, put-reads, shown-back, shown-none, shown-put, some-back}
+use Rattle.std.proofs.Common.{ap, sym, ◌∙◌}
+use Rattle.bc_lane.proofs.HandLemmas.{in-hand, in-none, may-put, none-reads, put-reads, same-lane, seat-lane, shown-back, shown-none, shown-put, some-back}
 use Rattle.bc_lane.proofs.PageLemmas.{shown-hand}
+use Rattle.bc_lane.proofs.PassLemmas.{none-passes, put-passes}
 use Rattle.bc_pins.specs.Calls.{view_of}
+use Rattle.bc_pins.specs.declared.views.View.{View}
 use Rattle.bc_lane.proofs.hands.lay_down.Goals as goal
 
 pub put-requires-clause-held : goal.put-requires-clause-held
@@ -39,3 +41,15 @@ returns-in-None-clause-back c = λ end s shown. some-back (view_of c.args.seat.n
 
 pub returns-in-None-clause-reads : goal.returns-in-None-clause-reads
 returns-in-None-clause-reads c = none-reads (view_of c.args.seat.now)
+
+pub returns-in-Some-clause-same : goal.returns-in-Some-clause-same
+returns-in-Some-clause-same c = seat-lane c.args.seat.now c.put.new.seat c.put.ensures.same (ap (λ (v : View). v.fetched) c.put.ensures.view)
+
+pub returns-in-None-clause-same : goal.returns-in-None-clause-same
+returns-in-None-clause-same c = same-lane c.args.seat.now
+
+pub returns-in-Some-clause-passes : goal.returns-in-Some-clause-passes
+returns-in-Some-clause-passes c = λ q. put-passes (view_of c.args.seat.now) (view_of c.put.new.seat) c.in-Some.held q c.put.ensures.view
+
+pub returns-in-None-clause-passes : goal.returns-in-None-clause-passes
+returns-in-None-clause-passes c = λ q. none-passes (view_of c.args.seat.now) q

@@ -1,7 +1,12 @@
-use Rattle.std.proofs.Common.{◌<◌, inl, inr, refl, sym, subst}
-use Rattle.bc_lane.proofs.HandLemmas.{holds-taken, never-absent, never-remembered, refused-gone, refused-read, refused-reads, refused-shown, refused-since, shown-taken, taken-reads}
+use Rattle.std.proofs.Common.{◌≡◌, ◌<◌, true, inl, inr, refl, ap, sym, subst, ◌∙◌}
+use Rattle.std.proofs.lemmas.Result.{IfErr-weaker, IfOk-weaker, on_err_weaker}
+use Rattle.bc_lane.proofs.FrameLemmas.{no-frame-for}
+use Rattle.bc_lane.proofs.HandLemmas.{holds-taken, never-absent, never-remembered, own-lane, refused-fetched, refused-gone, refused-held, refused-reads, refused-shown, rights-on, seat-lane, shown-taken, taken-reads, then-lane, then-reads, tried-fetched}
+use Rattle.bc_lane.proofs.PassLemmas.{passes-on, refused-passes, taken-passes}
 use Rattle.bc_pins.specs.Calls.{view_of}
 use Rattle.bc_pins.specs.Key.{Key, pages_of}
+use Rattle.bc_pins.specs.declared.views.View.{View}
+use Rattle.bc_pins.proofs.VisitLemmas.{at_after}
 use Rattle.bc_pins.specs.declared.taking.TakeNo.TheVariants.{Busy, Gone}
 use Rattle.bc_pins.specs.declared.taking.Want.TheVariants.{Work}
 use Rattle.bc_lane.proofs.hands.pick_up.Goals as goal
@@ -23,7 +28,7 @@ returns-in-Ok-clause-reads c = taken-reads (view_of c.args.seat.now) c.take.new.
 pub returns-in-Err-Busy-clause-err : goal.returns-in-Err-Busy-clause-err
 returns-in-Err-Busy-clause-err c =
     let r = rw c.in-Err-Busy.field-0-is at c.in-Err-Busy.ensures.err in
-    (r.0, inl (refl, refused-read (view_of c.args.seat.now) (view_of c.take.new.seat) c.args.page Work Busy r.1))
+    (r.0, inl (refl, refused-held (view_of c.args.seat.now) (view_of c.take.new.seat) c.args.page c.requires.own r.1))
 
 pub returns-in-Err-Busy-clause-still : goal.returns-in-Err-Busy-clause-still
 returns-in-Err-Busy-clause-still c =
@@ -35,20 +40,59 @@ returns-in-Err-Busy-clause-reads c =
     let r = rw c.in-Err-Busy.field-0-is at c.in-Err-Busy.ensures.err in
     refused-reads (view_of c.args.seat.now) (view_of c.take.new.seat) c.args.page Work Busy r.1 c.requires.own
 
+-- the page was read as Gone
+pub fetch-requires-clause-at : goal.fetch-requires-clause-at
+fetch-requires-clause-at c = at_after c.args.pins.now c.args.seat.now c.take.new.seat c.requires.at c.take.ensures.same
+
+pub fetch-requires-clause-free : goal.fetch-requires-clause-free
+fetch-requires-clause-free c = let r = rw c.in-Err-Gone.field-0-is at c.in-Err-Gone.ensures.err in r.0
+
+pub fetch-requires-clause-rights : goal.fetch-requires-clause-rights
+fetch-requires-clause-rights c =
+    let r = rw c.in-Err-Gone.field-0-is at c.in-Err-Gone.ensures.err in
+    rights-on (view_of c.args.seat.now) (view_of c.take.new.seat) (refused-reads (view_of c.args.seat.now) (view_of c.take.new.seat) c.args.page Work Gone r.1 c.requires.own) c.requires.rights
+
+pub fetch-requires-clause-lanes : goal.fetch-requires-clause-lanes
+fetch-requires-clause-lanes c = subst (λ (k : Key). k.lanes ≡ true) (sym c.take.ensures.same.about) c.requires.lanes
+
+pub fetch-requires-clause-own : goal.fetch-requires-clause-own
+fetch-requires-clause-own c =
+    let r = rw c.in-Err-Gone.field-0-is at c.in-Err-Gone.ensures.err in
+    own-lane c.args.seat.now c.take.new.seat c.args.page (seat-lane c.args.seat.now c.take.new.seat c.take.ensures.same (refused-fetched (view_of c.args.seat.now) (view_of c.take.new.seat) c.args.page Work Gone r.1)) c.requires.own
+
+pub fetch-requires-clause-gone : goal.fetch-requires-clause-gone
+fetch-requires-clause-gone c =
+    let r = rw c.in-Err-Gone.field-0-is at c.in-Err-Gone.ensures.err in
+    refused-gone (view_of c.args.seat.now) (view_of c.take.new.seat) c.args.page Work c.requires.own r.1
+
+pub returns-in-Err-Gone-clause-same : goal.returns-in-Err-Gone-clause-same
+returns-in-Err-Gone-clause-same c =
+    let r = rw c.in-Err-Gone.field-0-is at c.in-Err-Gone.ensures.err in
+    then-lane c.args.seat.now c.take.new.seat c.fetch.new.seat (seat-lane c.args.seat.now c.take.new.seat c.take.ensures.same (refused-fetched (view_of c.args.seat.now) (view_of c.take.new.seat) c.args.page Work Gone r.1)) c.fetch.ensures.same
+
+pub returns-in-Err-Gone-clause-shows : goal.returns-in-Err-Gone-clause-shows
+returns-in-Err-Gone-clause-shows c =
+    let r = rw c.in-Err-Gone.field-0-is at c.in-Err-Gone.ensures.err in
+    IfOk-weaker c.fetch.result _ _ (λ held shows end s shown. shows end s (refused-shown (view_of c.args.seat.now) (view_of c.take.new.seat) c.args.page Work Gone end s r.1 shown)) c.fetch.ensures.shows
+
 pub returns-in-Err-Gone-clause-err : goal.returns-in-Err-Gone-clause-err
 returns-in-Err-Gone-clause-err c =
     let r = rw c.in-Err-Gone.field-0-is at c.in-Err-Gone.ensures.err in
-    (r.0, inr (refl, refused-read (view_of c.args.seat.now) (view_of c.take.new.seat) c.args.page Work Gone r.1))
+    let noted = refused-gone (view_of c.args.seat.now) (view_of c.take.new.seat) c.args.page Work c.requires.own r.1 in
+    IfErr-weaker c.fetch.result _ _
+    (λ why none. (none.0, inr (none.1, no-frame-for (view_of c.args.seat.now) (view_of c.take.new.seat) (view_of c.fetch.new.seat) c.args.page r.1 none.2 noted)))
+    c.fetch.ensures.err
 
 pub returns-in-Err-Gone-clause-still : goal.returns-in-Err-Gone-clause-still
 returns-in-Err-Gone-clause-still c =
     let r = rw c.in-Err-Gone.field-0-is at c.in-Err-Gone.ensures.err in
-    λ end s shown. refused-shown (view_of c.args.seat.now) (view_of c.take.new.seat) c.args.page Work Gone end s r.1 shown
+    on_err_weaker c.fetch.result (λ still end s shown. still end s (refused-shown (view_of c.args.seat.now) (view_of c.take.new.seat) c.args.page Work Gone end s r.1 shown)) c.fetch.ensures.still
 
 pub returns-in-Err-Gone-clause-reads : goal.returns-in-Err-Gone-clause-reads
 returns-in-Err-Gone-clause-reads c =
     let r = rw c.in-Err-Gone.field-0-is at c.in-Err-Gone.ensures.err in
-    refused-reads (view_of c.args.seat.now) (view_of c.take.new.seat) c.args.page Work Gone r.1 c.requires.own
+    then-reads (view_of c.args.seat.now) (view_of c.take.new.seat) (view_of c.fetch.new.seat)
+    (refused-reads (view_of c.args.seat.now) (view_of c.take.new.seat) c.args.page Work Gone r.1 c.requires.own) c.fetch.ensures.reads
 
 pub unreachable-requires : goal.unreachable-requires
 unreachable-requires c =
@@ -60,12 +104,28 @@ unreachable-requires-in-Err-Absent c =
     let r = rw c.in-Err-Absent.field-0-is at c.in-Err-Absent.ensures.err in
     absurd (never-absent (view_of c.args.seat.now) (view_of c.take.new.seat) c.args.page c.requires.cell r.1)
 
-pub returns-in-Err-Busy-clause-since : goal.returns-in-Err-Busy-clause-since
-returns-in-Err-Busy-clause-since c =
-    let r = rw c.in-Err-Busy.field-0-is at c.in-Err-Busy.ensures.err in
-    (refused-since (view_of c.args.seat.now) (view_of c.take.new.seat) c.args.page Work Busy r.1, r.1.busy refl c.requires.own)
+pub returns-in-Ok-clause-same : goal.returns-in-Ok-clause-same
+returns-in-Ok-clause-same c =
+    seat-lane c.args.seat.now c.take.new.seat c.take.ensures.same
+    (ap (λ (v : View). v.fetched) c.in-Ok.ensures.ok.view ∙ tried-fetched (view_of c.args.seat.now) c.args.page c.in-Ok.held.remembered)
 
-pub returns-in-Err-Gone-clause-since : goal.returns-in-Err-Gone-clause-since
-returns-in-Err-Gone-clause-since c =
+pub returns-in-Err-Busy-clause-same : goal.returns-in-Err-Busy-clause-same
+returns-in-Err-Busy-clause-same c =
+    let r = rw c.in-Err-Busy.field-0-is at c.in-Err-Busy.ensures.err in
+    seat-lane c.args.seat.now c.take.new.seat c.take.ensures.same (refused-fetched (view_of c.args.seat.now) (view_of c.take.new.seat) c.args.page Work Busy r.1)
+
+pub returns-in-Ok-clause-passes : goal.returns-in-Ok-clause-passes
+returns-in-Ok-clause-passes c = λ q near ne. taken-passes (view_of c.args.seat.now) c.take.new.seat c.args.page q c.in-Ok.held c.in-Ok.ensures.ok ne
+
+pub returns-in-Err-Busy-clause-passes : goal.returns-in-Err-Busy-clause-passes
+returns-in-Err-Busy-clause-passes c =
+    let r = rw c.in-Err-Busy.field-0-is at c.in-Err-Busy.ensures.err in
+    λ q near ne. refused-passes (view_of c.args.seat.now) (view_of c.take.new.seat) c.args.page q Work Busy r.1 ne
+
+pub returns-in-Err-Gone-clause-passes : goal.returns-in-Err-Gone-clause-passes
+returns-in-Err-Gone-clause-passes c =
     let r = rw c.in-Err-Gone.field-0-is at c.in-Err-Gone.ensures.err in
-    (refused-since (view_of c.args.seat.now) (view_of c.take.new.seat) c.args.page Work Gone r.1, refused-gone (view_of c.args.seat.now) (view_of c.take.new.seat) c.args.page Work c.requires.own r.1)
+    λ q near ne.
+    passes-on (view_of c.args.seat.now) (view_of c.take.new.seat) (view_of c.fetch.new.seat) q
+    (refused-passes (view_of c.args.seat.now) (view_of c.take.new.seat) c.args.page q Work Gone r.1 ne)
+    (c.fetch.ensures.passes q (subst (λ (k : Key). q < pages_of k) (sym c.take.ensures.same.about) near) ne)

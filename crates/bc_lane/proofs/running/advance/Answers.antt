@@ -26,6 +26,7 @@ pub returns-in_err-reply-clause-ran : goal.returns-in_err-reply-clause-ran
 returns-in_err-reply-clause-ran g c =
     stayed-ran c.args.pins.now c.args.ops.now c.args.end c.args.turn.now _ c.answer.new.part c.args.seat.now c.answer.new.seat c.args.hand.now c.answer.new.hand c.requires.going c.requires.more
     c.answer.ensures.part c.answer.ensures.seated c.answer.ensures.reads c.in_err-reply.ensures.still refl refl refl refl
+    (next-op c.args.ops.now c.args.turn.now.next) (op-default c.args.ops.now c.args.turn.now.next zero c.requires.more) c.answer.ensures.looked
 
 pub returns-in_err-reply-clause-going : goal.returns-in_err-reply-clause-going
 returns-in_err-reply-clause-going g c =
@@ -39,11 +40,6 @@ returns-in_err-reply-clause-why g c =
     (stayed-why c.args.pins.now c.args.ops.now c.args.end c.args.turn.now (record c.args.turn.now { part = c.answer.new.part }) c.answer.new.part c.args.seat.now c.answer.new.seat c.args.hand.now c.answer.new.hand c.requires.going c.requires.more
     c.answer.ensures.part c.answer.ensures.seated c.answer.ensures.reads c.in_err-reply.ensures.still refl refl refl refl (next-op c.args.ops.now c.args.turn.now.next) c.in_err-reply.field-0.0 (op-default c.args.ops.now c.args.turn.now.next zero c.requires.more) c.in_err-reply.ensures.why)
 
-pub returns-in_err-reply-clause-since : goal.returns-in_err-reply-clause-since
-returns-in_err-reply-clause-since g c =
-    let p = err_from_is_err_and c.from_residual.result c.from_residual.ensures.1 in
-    rw (p.1, p.2) c.in_err-reply.ensures.since
-
 pub returns-in_err-reply-clause-nursery : goal.returns-in_err-reply-clause-nursery
 returns-in_err-reply-clause-nursery g c =
     let p = err_from_is_err_and c.from_residual.result c.from_residual.ensures.1 in
@@ -56,10 +52,10 @@ pub returns-clause-ran : goal.returns-clause-ran
 returns-clause-ran g c =
     let w = c.requires.whole in
     advanced-ran c.args.pins.now c.args.ops.now c.args.end c.args.turn.now c.keep.new.turn c.answer.new.part c.args.seat.now c.answer.new.seat c.args.hand.now c.answer.new.hand (next-op c.args.ops.now c.args.turn.now.next) c.in_ok-reply.reply
-    c.requires.going w.0 w.1 w.2 c.requires.more (op-default c.args.ops.now c.args.turn.now.next zero c.requires.more) c.answer.ensures.part c.answer.ensures.seated c.answer.ensures.reads c.in_ok-reply.ensures.done c.keep.ensures.part c.keep.ensures.next c.keep.ensures.count c.keep.ensures.kept c.keep.ensures.room
+    c.requires.going w.0 w.1 w.2 c.requires.more (op-default c.args.ops.now c.args.turn.now.next zero c.requires.more) c.answer.ensures.part c.answer.ensures.seated c.answer.ensures.reads c.in_ok-reply.ensures.done c.keep.ensures.part c.keep.ensures.next c.keep.ensures.count c.keep.ensures.kept c.keep.ensures.room c.answer.ensures.looked
 
 pub returns-clause-going : goal.returns-clause-going
 returns-clause-going g c =
     let w = c.requires.whole in
     advanced-going c.args.pins.now c.args.ops.now c.args.end c.args.turn.now c.keep.new.turn c.answer.new.part c.args.seat.now c.answer.new.seat c.args.hand.now c.answer.new.hand (next-op c.args.ops.now c.args.turn.now.next) c.in_ok-reply.reply
-    c.requires.going w.0 w.1 w.2 c.requires.more (op-default c.args.ops.now c.args.turn.now.next zero c.requires.more) c.answer.ensures.part c.answer.ensures.seated c.answer.ensures.reads c.in_ok-reply.ensures.done c.keep.ensures.part c.keep.ensures.next c.keep.ensures.count c.keep.ensures.kept c.keep.ensures.room
+    c.requires.going w.0 w.1 w.2 c.requires.more (op-default c.args.ops.now c.args.turn.now.next zero c.requires.more) c.answer.ensures.part c.answer.ensures.seated c.answer.ensures.reads c.in_ok-reply.ensures.done c.keep.ensures.part c.keep.ensures.next c.keep.ensures.count c.keep.ensures.kept c.keep.ensures.room c.answer.ensures.looked

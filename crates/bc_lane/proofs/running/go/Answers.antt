@@ -1,15 +1,14 @@
-use Rattle.std.proofs.Common.{refl}
-use Rattle.bc_lane.proofs.HandLemmas.{stop-since}
+use Rattle.bc_lane.proofs.HandLemmas.{same-lane, then-lane}
 use Rattle.bc_lane.proofs.RunLemmas.{fits-all, ran-none, ran-then}
+use Rattle.bc_lane.proofs.TurnLemmas.{why-since}
 use Rattle.bc_pins.specs.Calls.{view_of}
-use Rattle.bc_pins.proofs.VisitLemmas.{same_after}
 use Rattle.bc_lane.proofs.running.go.Goals as goal
 
 pub operations-init : goal.operations-init
 operations-init g c = record {
   ran = ran-none c.args.ops.now c.args.end c.args.turn.now (view_of c.args.seat.now) c.args.hand.now;
   going = c.requires.going;
-  seat = record { table = refl; id = refl; role = refl; opens = refl; about = refl; alive = refl; roles = refl; fetched = refl };
+  seat = same-lane c.args.seat.now;
 }
 
 pub advance-requires-clause-whole : goal.advance-requires-clause-whole
@@ -25,7 +24,7 @@ operations-preserved g c =
     record {
       ran = ran-then c.args.ops.now c.args.end c.args.turn.now c.operations.turn c.advance.new.turn (view_of c.args.seat.now) (view_of c.operations.seat) (view_of c.advance.new.seat) c.args.hand.now c.operations.hand c.advance.new.hand before.ran now.ran;
       going = now.going;
-      seat = same_after c.args.seat.now c.operations.seat c.advance.new.seat before.seat now.seat;
+      seat = then-lane c.args.seat.now c.operations.seat c.advance.new.seat before.seat now.seat;
     }
 
 pub returns-in-Err-clause-ran : goal.returns-in-Err-clause-ran
@@ -33,8 +32,8 @@ returns-in-Err-clause-ran g c =
     ran-then c.args.ops.now c.args.end c.args.turn.now c.operations.turn c.advance.new.turn (view_of c.args.seat.now) (view_of c.operations.seat) (view_of c.advance.new.seat) c.args.hand.now c.operations.hand c.advance.new.hand c.operations.invariant.ran c.advance.ensures.ran
 
 pub returns-in-Err-clause-seat : goal.returns-in-Err-clause-seat
-returns-in-Err-clause-seat g c = same_after c.args.seat.now c.operations.seat c.advance.new.seat c.operations.invariant.seat c.advance.ensures.seat
+returns-in-Err-clause-seat g c = then-lane c.args.seat.now c.operations.seat c.advance.new.seat c.operations.invariant.seat c.advance.ensures.seat
 
-pub returns-in-Err-clause-since : goal.returns-in-Err-clause-since
-returns-in-Err-clause-since g c =
-    stop-since (view_of c.args.seat.now) (view_of c.operations.seat) (view_of c.advance.new.seat) c.in-Err.why c.operations.invariant.ran.reads c.in-Err.ensures.since
+pub returns-in-Err-clause-why : goal.returns-in-Err-clause-why
+returns-in-Err-clause-why g c =
+    why-since (view_of c.args.seat.now) (view_of c.operations.seat) c.args.ops.now c.args.end c.advance.new.turn (view_of c.advance.new.seat) c.advance.new.hand c.in-Err.why c.operations.invariant.ran.reads c.in-Err.ensures.why

@@ -37,9 +37,9 @@ returns g c =
       why = c.run-why.result;
       ran = record {
         ran = λ h whole. subst (λ (xs : List Op). LaneRan xs (end_of h.space) old.turn (view_of old.seat) None turn (view_of seat) None) ops (c.run-why.ensures.ran h whole);
-        stopped = λ h whole. subst (λ (xs : List Op). WhyStopped xs (end_of h.space) turn (view_of seat) None c.run-why.result) ops (c.run-why.ensures.why h whole);
-        since = c.run-why.ensures.since;
-        seat_is = c.run-why.ensures.seat;
+        stopped = λ h whole. subst (λ (xs : List Op). WhyStopped (view_of old.seat) xs (end_of h.space) turn (view_of seat) None c.run-why.result) ops (c.run-why.ensures.why h whole);
+        seat_is = c.run-why.ensures.seat.worker;
+        counts = c.run-why.ensures.seat.opens;
         free = c.run-why.ensures.free;
       };
     }

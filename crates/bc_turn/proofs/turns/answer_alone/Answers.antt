@@ -12,7 +12,7 @@ use Rattle.bc_turn.proofs.turns.answer_alone.Goals as goal
 
 pub returns-then-is_empty-clause-answered : goal.returns-then-is_empty-clause-answered
 returns-then-is_empty-clause-answered g c =
-    answered-none c.args.holders.now [] [] c.args.heap.now.space c.args.hints.now c.args.answers.now.items (none-left (length c.args.hints.now) (sym c.is_empty.ensures ∙ c.if-is_empty.true))
+    answered-none (λ p. ⊥) c.args.heap.now.space c.args.hints.now c.args.answers.now.items (let counted = c.reads-reads.ensures in omega arith) (none-left (length c.args.hints.now) (sym c.is_empty.ensures ∙ c.if-is_empty.true))
 
 pub serve_all-requires : goal.serve_all-requires
 serve_all-requires g c =
@@ -31,5 +31,5 @@ returns-clause-lies g c = alone-lies c.in_ok-pins.pins (heap_view c.args.heap.no
 
 pub returns-clause-answered : goal.returns-clause-answered
 returns-clause-answered g c =
-    alone-answered c.in_ok-pins.pins (heap_view c.args.heap.now) c.args.holders.now c.seat_pager-paging.new.seats.items c.seat_pager-paging.result.seat (subst (λ (ss : List Seat). Opened c.args.heap.now.space Lanes c.args.holders.now (turn_roles []) c.in_ok-pins.pins ss) c.seat_pager-paging.ensures.seat c.in_ok-pins.ensures.opened) c.seat_pager-paging.result c.serve_all.new.paging refl c.serve_all.ensures.paged c.close_table.new.heap.space c.close_table.ensures.closed c.requires.layout c.close_table.ensures.layout c.open_table.ensures.counted c.args.hints.now c.args.answers.now.items c.close_table.new.answers.items
+    alone-answered c.in_ok-pins.pins (heap_view c.args.heap.now) c.args.holders.now c.seat_pager-paging.new.seats.items c.seat_pager-paging.result.seat (subst (λ (ss : List Seat). Opened c.args.heap.now.space Lanes c.args.holders.now (turn_roles []) c.in_ok-pins.pins ss) c.seat_pager-paging.ensures.seat c.in_ok-pins.ensures.opened) c.seat_pager-paging.result c.serve_all.new.paging refl c.serve_all.ensures.paged c.close_table.new.heap.space c.close_table.ensures.closed c.requires.layout c.close_table.ensures.layout c.args.hints.now c.args.answers.now.items c.close_table.new.answers.items
     (ap (λ (n : HintList). n.hints) (c.seat_pager-paging.ensures.notices ∙ c.in_ok-notices.ensures.new)) (ap (λ (a : KeptAnswers). a.list) c.seat_pager-paging.ensures.answers) c.close_table.ensures.answers

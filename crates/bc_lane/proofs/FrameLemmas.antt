@@ -1,0 +1,345 @@
+-- A frame for an own page that is gone: it is claimed, or another page leaves for it; and the page comes back into it.
+use Rattle.std.proofs.Common.{◌≡◌, ◌≢◌, ℕ, ◌+◌, ◌-◌, ◌*◌, ◌^◌, ◌<◌, ◌≤◌, ◌==◌, true, false, List, [], ◌∷◌, ◌++◌, length, length-append, min, Some, None, ◌⊎◌, inl, inr, refl, ap, sym, subst, ◌∙◌, arith, append_assoc}
+use Rattle.bc_bits.specs.Counting.{one_if}
+use Rattle.bc_evict.specs.Claiming.{FindsNoFrame, HasClaimed, all_bits}
+use Rattle.bc_evict.specs.Looking.{MayStay}
+use Rattle.bc_evict.specs.Reloading.{HasReloaded}
+use Rattle.bc_evict.specs.Victims.{FindsNoVictim, HasFreed}
+use Rattle.bc_frames.specs.Places.{one_more}
+use Rattle.bc_lane.specs.Shown.{IsOwnPage, ShowsPages}
+use Rattle.bc_lane.specs.Turns.{FindsNoFrameAtAll, FindsNoFrameFor, HasFrame, IsRefusedPage, IsSameLane, LastOf, ReadsHeld, ReadsOn}
+use Rattle.bc_lane.specs.declared.stops.Stop.{Stop}
+use Rattle.bc_lane.proofs.HandLemmas.{off-page, refused-looks, same-worker, then-worker}
+use Rattle.bc_lane.proofs.ReloadLemmas.{HasFetched, besides, shows-besides, shows-fetched}
+use Rattle.bc_pins.specs.declared.holding.Held.{Held}
+use Rattle.bc_pins.specs.declared.pins.Seat.{Seat}
+use Rattle.bc_pins.specs.declared.taking.TakeNo.TheVariants.{Gone}
+use Rattle.bc_pins.specs.declared.taking.Want.TheVariants.{Work}
+use Rattle.bc_pins.specs.declared.views.Hand.{Hand}
+use Rattle.bc_pins.specs.declared.views.Lodged.TheVariants.{Nothing}
+use Rattle.bc_pins.specs.declared.views.View.{View}
+use Rattle.bc_pins.specs.Calls.{HoldsPage, IsSameSeat, IsSameWorker, IsTakeRefused, view_of}
+use Rattle.bc_pins.specs.Contents.{IsContent, RefersYoung}
+use Rattle.bc_pins.specs.Key.{Key, frame_at, frame_words, page_at, pages_of}
+use Rattle.bc_pins.specs.Steps.{both_slots}
+use Rattle.bc_pins.specs.Totals.{times}
+use Rattle.bc_pins.specs.Views.{entries, opened_word, reads_at, reads_of, record_of, state_word}
+use Rattle.bc_pins.proofs.LogLemmas.{reads-append, times-reads}
+use Rattle.bc_pins.proofs.TotalLemmas.{one_other}
+use Rattle.bc_superpages.specs.declared.headers.PageState.{PageState}
+use Rattle.bc_superpages.specs.Layout.{Layout}
+
+-- what was read last is so before earlier reads
+pub last-more : (a b : List (ℕ × ℕ)) (i found : ℕ) → LastOf a i found → LastOf (a ++ b) i found
+last-more a b i found last = (last.0 ++ reads_of i b, reads-append i a b ∙ ap (λ (l : List ℕ). l ++ reads_of i b) last.1)
+
+last-behind : (a b : List (ℕ × ℕ)) (i found : ℕ) → reads_of i a ≡ [] → reads_of i b ≡ found ∷ [] → LastOf (a ++ b) i found
+last-behind a b i found none last = ([], reads-append i a b ∙ ap (λ (l : List ℕ). l ++ reads_of i b) none ∙ last)
+
+-- a frame was claimed
+pub claimed-frame : (v w : View) (frame : ℕ) → HasClaimed v frame w → HasFrame v frame w
+claimed-frame v w frame c = record {
+  looks = c.looks;
+  view = c.view
+      ∙ sym (ap (λ (x : View). record v { rights = frame ∷ []; seen = x.seen; gone = x.gone; busy = x.busy; read = c.looks ++ v.read; left = x.left; emptied = x.emptied; bookmarked = x.bookmarked }) c.view);
+  gone = λ p. let same = ap (λ (x : View). times p x.gone) c.view in omega arith;
+  given = λ p near.
+      let left = ap (λ (x : View). times p x.left) c.view in
+      let emptied = ap (λ (x : View). times p x.emptied) c.view in
+      let none = ap (times 1) (c.pages p near) in
+      omega arith;
+  far = λ p past. (ap (λ (x : View). times p x.left) c.view, ap (λ (x : View). times p x.emptied) c.view);
+  few = (let left = ap (λ (x : View). length x.left) c.view in let emptied = ap (λ (x : View). length x.emptied) c.view in omega arith);
+}
+
+-- none was free, and a page left for its frame
+module _ (v u w : View) (frame : ℕ) (lanes : v.about.lanes ≡ true) (c : FindsNoFrame v u) (f : HasFreed u frame w) where
+  abbrev looks : List (ℕ × ℕ)
+  looks = f.looks ++ c.looks
+
+  -- what changed besides what w says
+  abbrev from : View → View → View
+  from x y = record x { rights = frame ∷ []; seen = y.seen; gone = y.gone; busy = y.busy; read = f.looks ++ x.read; left = y.left; emptied = y.emptied; bookmarked = y.bookmarked }
+
+  same-marks : (w.known ≡ u.known) × (w.won ≡ u.won)
+  same-marks = f.unmarked (ap (λ (x : View). x.about.lanes) c.view ∙ lanes)
+
+  view : w ≡ record v { rights = frame ∷ []; seen = w.seen; gone = w.gone; busy = w.busy; read = looks ++ v.read; left = w.left; emptied = w.emptied; bookmarked = w.bookmarked }
+  view =
+      f.view
+      ∙ ap (λ (l : List (ℕ × ℕ)). record (from u w) { known = l; won = w.won }) same-marks.0
+      ∙ ap (λ (l : List (ℕ × ℕ)). record (from u w) { won = l }) same-marks.1
+      ∙ ap (λ (x : View). from x w) c.view
+      ∙ ap (λ (l : List (ℕ × ℕ)). record (from v w) { read = l }) (sym (append_assoc f.looks c.looks v.read))
+
+  near-page : (p : ℕ) → p < pages_of v.about → p < pages_of u.about
+  near-page p near = subst (λ (k : Key). p < pages_of k) (sym (ap (λ (x : View). x.about) c.view)) near
+
+  given : (p : ℕ) → p < pages_of v.about → times p w.left + times p w.emptied ≡ times 1 (reads_at p looks) + (times p v.left + times p v.emptied)
+  given p near =
+      let home = f.homes p (near-page p near) in
+      let both = times-reads 1 (page_at p) f.looks c.looks in
+      let none = ap (times 1) (c.pages p near) in
+      let left = ap (λ (x : View). times p x.left) c.view in
+      let emptied = ap (λ (x : View). times p x.emptied) c.view in
+      elim f.one [
+        | inl one ↦ let a = ap (times p) one.0 in let b = ap (times p) one.1 in omega arith
+        | inr one ↦ let a = ap (times p) one.0 in let b = ap (times p) one.1 in omega arith
+      ]
+
+  few : length w.left + length w.emptied ≤ 1 + (length v.left + length v.emptied)
+  few =
+      let left = ap (λ (x : View). length x.left) c.view in
+      let emptied = ap (λ (x : View). length x.emptied) c.view in
+      elim f.one [
+        | inl one ↦ let a = ap (λ (l : List ℕ). length l) one.0 in let b = ap (λ (l : List ℕ). length l) one.1 in omega arith
+        | inr one ↦ let a = ap (λ (l : List ℕ). length l) one.0 in let b = ap (λ (l : List ℕ). length l) one.1 in omega arith
+      ]
+
+  far : (p : ℕ) → pages_of v.about ≤ p → (times p w.left ≡ times p v.left) × (times p w.emptied ≡ times p v.emptied)
+  far p past =
+      let past_u = subst (λ (k : Key). pages_of k ≤ p) (sym (ap (λ (x : View). x.about) c.view)) past in
+      let inside = f.inside in
+      let other = one_other f.page p (λ e. absurd (omega arith)) in
+      let left = ap (λ (x : View). times p x.left) c.view in
+      let emptied = ap (λ (x : View). times p x.emptied) c.view in
+      elim f.one [
+        | inl one ↦ let a = ap (times p) one.0 in let b = ap (times p) one.1 in (omega arith, omega arith)
+        | inr one ↦ let a = ap (times p) one.0 in let b = ap (times p) one.1 in (omega arith, omega arith)
+      ]
+
+  pub freed-frame : HasFrame v frame w
+  freed-frame = record {
+    looks = looks;
+    view = view;
+    gone = λ p. let more = f.gone p in let same = ap (λ (x : View). times p x.gone) c.view in omega arith;
+    given = given;
+    far = far;
+    few = few;
+  }
+
+-- or no page could leave
+module _ (v u w : View) (c : FindsNoFrame v u) (f : FindsNoVictim u w) where
+  abbrev none-looks : List (ℕ × ℕ)
+  none-looks = f.looks ++ c.looks
+
+  none-about : w.about ≡ v.about
+  none-about = ap (λ (x : View). x.about) f.looked.view ∙ ap (λ (x : View). x.about) c.view
+
+  none-view : w ≡ record v { read = none-looks ++ v.read; seen = w.seen; gone = w.gone; busy = w.busy }
+  none-view =
+      f.looked.view
+      ∙ ap (λ (x : View). record x { read = f.looks ++ x.read; seen = w.seen; gone = w.gone; busy = w.busy }) c.view
+      ∙ ap (λ (l : List (ℕ × ℕ)). record v { read = l; seen = w.seen; gone = w.gone; busy = w.busy }) (sym (append_assoc f.looks c.looks v.read))
+
+  none-frames : (word : ℕ) → word < frame_words v.about → LastOf none-looks (frame_at v.about word) all_bits
+  none-frames word lt =
+      let same = ap (λ (x : View). x.about) c.view in
+      last-behind f.looks c.looks (frame_at v.about word) all_bits
+      (f.looked.words (frame_at v.about word) (subst (λ (k : Key). 16 * k.supers ≤ frame_at v.about word) (sym same) (omega arith))) (c.each word lt)
+
+  none-pages : (q : ℕ) → q < pages_of v.about → (place : PageState) × MayStay place × LastOf none-looks (page_at q) (state_word place)
+  none-pages q near =
+      let p = f.each q (subst (λ (k : Key). q < pages_of k) (sym (ap (λ (x : View). x.about) c.view)) near) in
+      (p.0, p.1, last-more f.looks c.looks (page_at q) (state_word p.0) ([], p.2))
+
+  pub finds-none : FindsNoFrameAtAll v w
+  finds-none = record {
+    looks = none-looks;
+    view = none-view;
+    gone = λ p. let more = f.looked.gone p in let same = ap (λ (x : View). times p x.gone) c.view in omega arith;
+    frames = subst (λ (k : Key). (word : ℕ) → word < frame_words k → LastOf none-looks (frame_at k word) all_bits) (sym none-about) none-frames;
+    pages = subst (λ (k : Key). (q : ℕ) → q < pages_of k → (place : PageState) × MayStay place × LastOf none-looks (page_at q) (state_word place)) (sym none-about) none-pages;
+    none = subst (λ (k : Key). (q : ℕ) → q < pages_of k → times 1 (reads_at q none-looks) ≡ 0) (sym none-about)
+        (λ q near.
+        let both = times-reads 1 (page_at q) f.looks c.looks in
+        let one = f.looked.none q (subst (λ (k : Key). q < pages_of k) (sym (ap (λ (x : View). x.about) c.view)) near) in
+        let two = ap (times 1) (c.pages q near) in
+        omega arith);
+  }
+
+-- a seat that found none has read on, and shows what it showed
+pub none-found-reads : (v w : View) → FindsNoFrameAtAll v w → ReadsOn v w
+none-found-reads v w a = record {
+  same = a.view
+      ∙ sym (ap (λ (x : View). record v { hand = x.hand; changed = x.changed; recorded = x.recorded; seen = x.seen; gone = x.gone; busy = x.busy; read = x.read; left = x.left; emptied = x.emptied; fetched = x.fetched; bookmarked = x.bookmarked }) a.view);
+  more = a.looks;
+  read = ap (λ (x : View). x.read) a.view;
+  behind = λ q far. (ap (λ (x : View). entries q x.changed) a.view, ap (λ (x : View). times q x.recorded) a.view);
+  others = λ q none. (ap (λ (x : View). entries q x.changed) a.view, ap (λ (x : View). times q x.recorded) a.view);
+  foreign = λ q near none.
+      let zero_reads = a.none q (subst (λ (k : Key). q < pages_of k) (sym (ap (λ (x : View). x.about) a.view)) near) in
+      let left = ap (λ (x : View). times q x.left) a.view in
+      let emptied = ap (λ (x : View). times q x.emptied) a.view in
+      omega arith;
+  fetches = λ q none. ap (λ (x : View). times q x.fetched) a.view;
+  far = λ q past. (ap (λ (x : View). times q x.left) a.view, ap (λ (x : View). times q x.emptied) a.view, ap (λ (x : View). times q x.fetched) a.view);
+  few = (
+      let left = ap (λ (x : View). length x.left) a.view in
+      let emptied = ap (λ (x : View). length x.emptied) a.view in
+      let fetched = ap (λ (x : View). length x.fetched) a.view in
+      omega arith
+      );
+}
+
+pub none-found-shows : (v w : View) (end : ℕ) (s : Layout) → FindsNoFrameAtAll v w → ShowsPages v None end s → ShowsPages w None end s
+none-found-shows v w end s a shown =
+    shows-besides v w end s
+    (a.view ∙ sym (ap (λ (x : View). besides v x) a.view))
+    shown
+
+-- so a page that was read as Gone before has no frame
+pub no-frame-for : (v u w : View) (page : ℕ) → IsTakeRefused v page Work Gone u → FindsNoFrameAtAll u w → 0 < times page u.gone → FindsNoFrameFor v w page
+no-frame-for v u w page refused a noted =
+    let r = refused-looks v u page refused in
+    record {
+      looks = a.looks ++ r.0;
+      read = ap (λ (x : View). x.read) a.view ∙ ap (λ (l : List (ℕ × ℕ)). a.looks ++ l) r.1 ∙ sym (append_assoc a.looks r.0 v.read);
+      gone = (let both = times-reads 4 (page_at page) a.looks r.0 in let some = r.2 in omega arith);
+      noted = (let more = a.gone page in omega arith);
+      frames = λ word lt. last-more a.looks r.0 (frame_at w.about word) all_bits (a.frames word lt);
+      pages = λ q near. let p = a.pages q near in (p.0, p.1, last-more a.looks r.0 (page_at q) (state_word p.0) p.2);
+    }
+
+-- what was read since a view was read since an earlier one
+pub held-since : (u v w : View) (page : ℕ) → ReadsOn u v → ReadsHeld v w page → ReadsHeld u w page
+held-since u v w page reads held = record {
+  last = held.last;
+  since = (let long = ap (λ (l : List (ℕ × ℕ)). length l) reads.read in let both = length-append reads.more u.read in let since = held.since in omega arith);
+  noted = held.noted;
+}
+
+pub no-frame-since : (u v w : View) (page : ℕ) → ReadsOn u v → FindsNoFrameFor v w page → FindsNoFrameFor u w page
+no-frame-since u v w page reads f = record {
+  looks = f.looks ++ reads.more;
+  read = f.read ∙ ap (λ (l : List (ℕ × ℕ)). f.looks ++ l) reads.read ∙ sym (append_assoc f.looks reads.more u.read);
+  gone = (let both = times-reads 4 (page_at page) f.looks reads.more in let some = f.gone in omega arith);
+  noted = f.noted;
+  frames = λ word lt. last-more f.looks reads.more (frame_at w.about word) all_bits (f.frames word lt);
+  pages = λ q near. let p = f.pages q near in (p.0, p.1, last-more f.looks reads.more (page_at q) (state_word p.0) p.2);
+}
+
+pub refused-since-then : (u v w : View) (page : ℕ) (why : Stop) → ReadsOn u v → IsRefusedPage v w page why → IsRefusedPage u w page why
+refused-since-then u v w page why reads refused = elim refused [
+  | inl busy ↦ inl (busy.0, held-since u v w page reads busy.1)
+  | inr none ↦ inr (none.0, no-frame-since u v w page reads none.1)
+]
+
+-- the page came back into the frame that was found
+module _ (v u : View) (seat : Seat) (page frame : ℕ) (held : Held) (f : HasFrame v frame u) (r : HasReloaded u page frame seat held) where
+  abbrev w : View
+  w = view_of seat
+
+  abbrev hand : Hand
+  hand = record { page = page; remembered = false; frame = frame; content = held.homed.page; counted = []; marked = []; looked = [] }
+
+  abbrev now : View
+  now = record v { rights = []; seen = u.seen; gone = w.gone; busy = w.busy; read = (r.looks ++ f.looks) ++ v.read; left = u.left; emptied = u.emptied; bookmarked = u.bookmarked; fetched = page ∷ v.fetched; hand = Some hand }
+
+  -- the view, told of the one before the frame was found
+  is-now : w ≡ now
+  is-now =
+      r.view
+      ∙ ap (λ (x : View). record u { read = r.looks ++ u.read; hand = Some hand; rights = []; gone = x.gone; busy = x.busy; fetched = page ∷ u.fetched }) (sym r.view)
+      ∙ ap (λ (x : View). record x { read = r.looks ++ x.read; hand = Some hand; rights = []; gone = w.gone; busy = w.busy; fetched = page ∷ x.fetched }) f.view
+      ∙ ap (λ (l : List (ℕ × ℕ)). record now { read = l }) (sym (append_assoc r.looks f.looks v.read))
+
+  about-u : u.about ≡ v.about
+  about-u = ap (λ (x : View). x.about) f.view
+
+  mine : held.homed.page ≡ record_of v page
+  mine = r.fetches.mine ∙ ap (λ (x : View). record_of x page) f.view
+
+  quiet : one_if (opened_word v.about page == 2) + times page v.recorded ≡ 0
+  quiet = subst (λ (x : View). one_if (opened_word x.about page == 2) + times page x.recorded ≡ 0) f.view r.fetches.quiet
+
+  fixed : IsContent v.about.opening page held.homed.page
+  fixed = subst (λ (k : Key). IsContent k.opening page held.homed.page) about-u r.fetches.fixed
+
+  old : RefersYoung v.about.opening page held.homed.page → ⊥
+  old = subst (λ (k : Key). RefersYoung k.opening page held.homed.page → ⊥) about-u r.fetches.old
+
+  has-fetched : IsOwnPage v page → HasFetched v w held
+  has-fetched own = record {
+    hand = hand;
+    view = is-now ∙ sym (ap (λ (x : View). record (besides v x) { hand = Some hand }) is-now);
+    page_is = sym r.is;
+    frame = sym r.frame_is;
+    counted = refl;
+    marked = refl;
+    flag = refl;
+    remembered = r.quiet;
+    own = subst (IsOwnPage v) (sym r.is) own;
+    mine = subst (λ (p : ℕ). held.homed.page ≡ record_of v p) (sym r.is) mine;
+    fixed = subst (λ (p : ℕ). IsContent v.about.opening p held.homed.page) (sym r.is) fixed;
+    old = subst (λ (p : ℕ). RefersYoung v.about.opening p held.homed.page → ⊥) (sym r.is) old;
+    quiet = subst (λ (p : ℕ). one_if (opened_word v.about p == 2) + times p v.recorded ≡ 0) (sym r.is) quiet;
+  }
+
+  pub reloaded-shows : (end : ℕ) (s : Layout) → IsOwnPage v page → ShowsPages v None end s → ShowsPages w (Some held) end s
+  reloaded-shows end s own shown = shows-fetched v w held end s (has-fetched own) shown
+
+  pub reloaded-holds : page < pages_of v.about → HoldsPage seat held
+  reloaded-holds near =
+      let about_w : w.about ≡ v.about = ap (λ (x : View). x.about) is-now in
+      record {
+        hand = hand;
+        has = ap (λ (x : View). x.hand) is-now;
+        page = sym r.is;
+        inside = subst (λ (p : ℕ). p < pages_of w.about) (sym r.is) (subst (λ (k : Key). page < pages_of k) (sym about_w) near);
+        frame = sym r.frame_is;
+        slots = r.slots ∙ slots-at;
+      }
+    where
+      slots-at : both_slots u.about page Nothing Nothing ≡ both_slots w.about held.page Nothing Nothing
+      slots-at =
+          ap (λ (k : Key). both_slots k page Nothing Nothing) (about-u ∙ sym (ap (λ (x : View). x.about) is-now))
+          ∙ ap (λ (p : ℕ). both_slots w.about p Nothing Nothing) (sym r.is)
+
+  pub reloaded-reads : v.rights ≡ [] → IsOwnPage v page → page < pages_of v.about → ReadsOn v w
+  reloaded-reads none own near = record {
+    same =
+        let first = is-now ∙ ap (λ (l : List ℕ). record now { rights = l }) (sym none) in
+        first
+        ∙ sym (ap (λ (x : View). record v { hand = x.hand; changed = x.changed; recorded = x.recorded; seen = x.seen; gone = x.gone; busy = x.busy; read = x.read; left = x.left; emptied = x.emptied; fetched = x.fetched; bookmarked = x.bookmarked }) first);
+    more = r.looks ++ f.looks;
+    read = ap (λ (x : View). x.read) is-now;
+    behind = λ q far. (ap (λ (x : View). entries q x.changed) is-now, ap (λ (x : View). times q x.recorded) is-now);
+    others = λ q off. (ap (λ (x : View). entries q x.changed) is-now, ap (λ (x : View). times q x.recorded) is-now);
+    foreign = λ q inside off.
+        let given = f.given q inside in
+        let left = ap (λ (x : View). times q x.left) is-now in
+        let emptied = ap (λ (x : View). times q x.emptied) is-now in
+        let both = times-reads 1 (page_at q) r.looks f.looks in
+        let none_read = ap (times 1) (r.others q (subst (λ (k : Key). q < pages_of k) (sym about-u) inside) (off-page v page q own off)) in
+        omega arith;
+    fetches = λ q off.
+        let fetched = ap (λ (x : View). times q x.fetched) is-now in
+        let other = one_other page q (λ e. off-page v page q own off (sym e)) in
+        omega arith;
+    far = λ q past.
+        let past_here = f.far q past in
+        let other = one_other page q (λ e. absurd (omega arith)) in
+        let fetched = ap (λ (x : View). times q x.fetched) is-now in
+        (ap (λ (x : View). times q x.left) is-now ∙ past_here.0, ap (λ (x : View). times q x.emptied) is-now ∙ past_here.1, omega arith);
+    few = (
+        let given = f.few in
+        let left = ap (λ (x : View). length x.left) is-now in
+        let emptied = ap (λ (x : View). length x.emptied) is-now in
+        let fetched = ap (λ (x : View). length x.fetched) is-now in
+        omega arith
+        );
+  }
+
+-- a box was opened, and counted
+pub reloaded-lane : (a b c : Seat) (page frame : ℕ) (held : Held) → HasFrame (view_of a) frame (view_of b) → HasReloaded (view_of b) page frame c held → IsSameSeat a b → IsSameWorker b c → c.opens ≡ one_more b.opens → IsSameLane a c
+reloaded-lane a b c page frame held f r same worker opened = record {
+  worker = then-worker a b c (same-worker a b same) worker;
+  opens = λ counts.
+      let fetched = ap (λ (x : View). length x.fetched) (is-now (view_of a) (view_of b) c page frame held f r) in
+      let before = same.opens in
+      let was : a.opens ≡ min (length (view_of a).fetched) (2 ^ 64 - 1) = counts in
+      let more : c.opens ≡ min (b.opens + 1) (2 ^ 64 - 1) = opened in
+      let goal_is : c.opens ≡ min (length (view_of c).fetched) (2 ^ 64 - 1) = omega arith in
+      goal_is;
+}

@@ -1,0 +1,29 @@
+-- A page on which an operation of a turn looks.
+use Rattle.std.specs.Prelude.{◌≡◌, ℕ, ◌+◌, ◌/◌, ◌<◌, ◌≤◌, List, ◌++◌, length, take, drop, slice_index, slice_index_or}
+use Rattle.bc_lane.specs.Back.{heap_back}
+use Rattle.bc_lane.specs.Doing.{DidAll}
+use Rattle.bc_lane.specs.Turns.{LooksOn}
+use Rattle.bc_model.specs.declared.operations.Op.{Op}
+use Rattle.bc_model.specs.declared.operations.Reply.{Reply}
+use Rattle.bc_turn.specs.Begun.{of_lane}
+use Rattle.bc_whole_heap.specs.Heaps.{HeapView}
+
+-- an operation that the lane of the page's domain did in the turn looks at a cell on the page, or the next one that it would do: in the heap that
+-- its operations before that one make of the one before the turn with every page back. `before` and `serials` are the replies and the births of
+-- each lane before the turn, `after` the replies after it
+pub record IsLookedAt (holders : List ℕ) (lanes : List (List Op)) (h : HeapView) (serials : List ℕ) (before after : List (List Reply)) (page : ℕ) : Type 0 where
+  pub lane : ℕ
+  pub holder : slice_index holders (slice_index h.space.domains (page / 4)) ≡ lane
+  -- what the lane did in the turn
+  pub new : List Reply
+  pub told : of_lane after lane ≡ of_lane before lane ++ new
+  -- how much of it before this operation
+  pub count : ℕ
+  pub within : count ≤ length new
+  pub op : Op
+  pub less : length (of_lane before lane) + count < length (of_lane lanes lane)
+  pub is : op ≡ slice_index_or (of_lane lanes lane) (length (of_lane before lane) + count) op
+  pub heap : HeapView
+  pub serial : ℕ
+  pub did : DidAll holders lane (take count (drop (length (of_lane before lane)) (of_lane lanes lane))) (take count new) (heap_back h) (slice_index serials lane) heap serial
+  pub looks : LooksOn heap op page
