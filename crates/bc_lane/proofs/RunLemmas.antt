@@ -1,7 +1,7 @@
 -- Operations of a lane, one more after those that were done.
 use Rattle.std.proofs.Common.{◌≡◌, ◌⊎◌, ℕ, ◌+◌, ◌<◌, ◌≤◌, List, [], ◌∷◌, ◌++◌, length, get_or, take, drop, Option, Vec, Global, vec_capacity, inl, inr, refl, ap, sym, subst, ◌∙◌, arith, append_assoc, length-append, length-drop}
-use Rattle.std.proofs.Math.Seq.{take-append-add}
-use Rattle.std.proofs.lemmas.List.{drop-drop, drop-take, get_or-drop, take-append-drop, take-append-le, take-length, take-take, take_more}
+use Rattle.std.proofs.Math.Seq.{take-append-add, take-length}
+use Rattle.std.proofs.lemmas.List.{drop-drop, drop-take, get_or-drop, take-append-drop, take-append-le, take-take, take_more}
 use Rattle.std.specs.List.{AllByRecursion}
 use Rattle.bc_lane.specs.Doing.{DidAll}
 use Rattle.bc_lane.specs.Turns.{DoesOne, IsWhole, LaneRan, LooksInRun, LooksNext, LooksOn, PassesBy, ReadsOn, SamePart, SameSizes}
