@@ -9,10 +9,19 @@
 // superpages, `writing` the whole.
 #![tactic(auto)]
 
+mod building;
+mod laws;
+mod placing;
+mod promising;
 mod putting;
 mod reading;
 mod superpages;
 mod waiting;
 mod writing;
 
+pub use building::{Picture, build};
+pub use laws::law_saved;
 pub use writing::write;
+
+#[cfg(test)]
+mod tests;
