@@ -1,14 +1,15 @@
 //! One page: 512 words.
 
-ghost use Rattle.std.specs.Prelude.{◌≡◌, ℕ, ◌+◌, ◌<◌, ◌≤◌, ◌++◌, List, length, slice_index, slice_set, take, drop, replicate};
+ghost use Rattle.std.specs.Prelude.{◌≡◌, ℕ, ◌+◌, ◌-◌, ◌<◌, ◌≤◌, ◌++◌, List, length, slice_index, slice_set, take, drop, replicate};
 
 use crate::shutting::Shut;
 use std::marker::Model;
 
-/// The box of one page: 512 words, a part of a row.
+/// The box of one page: 512 words, a part of a row. It remembers whether its page was used lately, which the model doesn't see.
 #[derive(Drop)]
 pub struct Page {
     words: &'static mut [u64; 512],
+    used: bool,
 }
 
 impl Model for Page {
@@ -27,7 +28,23 @@ impl Page {
         ensures words { result ≡ words.old }
         ensures long { length words.old ≡ 512 }
     {
-        Page { words }
+        Page { words, used: false }
+    }
+
+    /// Notes that the page was used. No contract sees it.
+    pub fn note_use(&mut self)
+        ensures same { self.new ≡ self.old }
+    {
+        self.used = true;
+    }
+
+    /// Was the page used since this was asked last? No contract sees it.
+    pub fn take_use(&mut self) -> bool
+        ensures same { self.new ≡ self.old }
+    {
+        let used = self.used;
+        self.used = false;
+        used
     }
 
     /// The word at a place, which is below 512.
@@ -37,6 +54,16 @@ impl Page {
         ensures long { length self.now ≡ 512 }
     {
         word_at(self.words, at as usize)
+    }
+
+    /// The words from a place on and before another.
+    pub fn part(&self, from: u32, end: u32) -> &[u64]
+        requires from { from ≤ end }
+        requires end { end ≤ 512 }
+        ensures words { result.now ≡ take (end - from) (drop from self.now) }
+        ensures long { length self.now ≡ 512 }
+    {
+        part_of(self.words, from as usize, end as usize)
     }
 
     /// Writes one word at a place, which is below 512.
@@ -78,6 +105,15 @@ fn word_at(words: &[u64], at: usize) -> u64
     ensures word { result ≡ slice_index words.now at }
 {
     words[at]
+}
+
+/// The words from a place on and before another.
+fn part_of(words: &[u64], from: usize, end: usize) -> &[u64]
+    requires from { from ≤ end }
+    requires end { end ≤ length words.now }
+    ensures words { result.now ≡ take (end - from) (drop from words.now) }
+{
+    &words[from..end]
 }
 
 /// Writes words one after another from a place on.

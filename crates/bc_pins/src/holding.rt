@@ -59,6 +59,13 @@ impl Held {
         }
     }
 
+    /// Notes that the page was used, for the choice of the page that makes room. No contract sees it.
+    pub fn note_use(&mut self)
+        ensures same { self.new ≡ self.old }
+    {
+        self.homed.page.note_use();
+    }
+
     /// A word of the page, by its place there.
     pub fn word(&self, offset: u32) -> u64
         requires { offset < 512 }
