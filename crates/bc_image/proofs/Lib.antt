@@ -24,3 +24,5 @@ pub mod LinkLemmas
 pub mod ScanLemmas
 -- States that one image pictures
 pub mod OneImage
+-- Births that stand twice
+pub mod BirthLemmas

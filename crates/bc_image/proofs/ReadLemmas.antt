@@ -5,12 +5,13 @@ use Rattle.bc_image.specs.Bytes.{item_at}
 use Rattle.std.proofs.lemmas.Bool.{eqb-true}
 use Rattle.std.proofs.lemmas.List.{length_push}
 use Rattle.bc_word.specs.Heads.{head_of_bits}
-use Rattle.bc_image.specs.Drafts.{ImageDraft, empty_draft, judged, put, put_at, finished_object, birth_bits, is_twice_at, born_with, Shows, ShowsLists, IsDraft, HasBirths}
+use Rattle.bc_image.specs.Drafts.{ImageDraft, empty_draft, judged, put, put_at, finished_object, birth_bits, is_twice_at, born_with, ShowsLists, IsDraft, HasBirths}
 use Rattle.bc_image.specs.Items.{is_finished, IsBoundedProgress, IsSmallItem, passes, passes_at, cause_of, advanced, advanced_at, superpage_ended, object_ended, field_stood}
 use Rattle.bc_image.specs.declared.progress.Progress.{Progress}
 use Rattle.bc_image.specs.declared.progress.Stage.{Stage}
 use Rattle.bc_image.proofs.ItemLemmas.{progress-kept, passed-small}
-use Rattle.bc_image.specs.Reading.{fault_at, go_on, reading, items_of_all}
+use Rattle.bc_image.specs.Births.{placed, passing, all_passing}
+use Rattle.bc_image.specs.Reading.{fault_at, go_on, reading}
 use Rattle.bc_image.specs.declared.draft.Draft.{Draft}
 use Rattle.bc_image.specs.declared.fault.ImageCause.{ImageCause}
 use Rattle.bc_image.specs.declared.fault.ImageCause.TheVariants as causes
@@ -19,9 +20,9 @@ use Rattle.bc_image.specs.declared.progress.Stage.TheVariants as stages
 -- so many of the items were read
 pub record IsReading (bytes : List ℕ) (draft : Draft) (number count : ℕ) : Type 0 where
   pub now : ImageDraft
-  pub shows : Shows draft now
+  pub shows : ShowsLists draft now
   pub draft_is : IsDraft now
-  pub so_far : reading bytes now number (count - number) ≡ items_of_all bytes
+  pub so_far : passing bytes now number (count - number) ≡ all_passing bytes
 
 pub reading-finished : (bytes : List ℕ) (d : ImageDraft) (number left : ℕ) → is_finished d.progress.stage ≡ true → reading bytes d number left ≡ Ok (d, number)
 unfolding reading
@@ -32,7 +33,20 @@ pub reading-next : (bytes : List ℕ) (d : ImageDraft) (number left : ℕ) → i
 unfolding reading
 reading-next bytes d number left isnt = rw isnt refl
 
-reading-short : (bytes : List ℕ) (d : ImageDraft) (number : ℕ) → is_finished d.progress.stage ≡ false → reading bytes d number zero ≡ Err (fault_at number causes.Short)
+pub passing-finished : (bytes : List ℕ) (d : ImageDraft) (number left : ℕ) → is_finished d.progress.stage ≡ true → passing bytes d number left ≡ Ok (d, number)
+unfolding passing
+passing-finished bytes d number zero is = rw is refl
+passing-finished bytes d number (suc left) is = rw is refl
+
+pub passing-next : (bytes : List ℕ) (d : ImageDraft) (number left : ℕ) → is_finished d.progress.stage ≡ false → passing bytes d number (suc left) ≡ go_on number (placed d (item_at bytes number)) (passing bytes (put d (item_at bytes number)) (number + 1) left)
+unfolding passing
+passing-next bytes d number left isnt = rw isnt refl
+
+pub passing-short : (bytes : List ℕ) (d : ImageDraft) (number : ℕ) → is_finished d.progress.stage ≡ false → passing bytes d number zero ≡ Err (fault_at number causes.Short)
+unfolding passing
+passing-short bytes d number isnt = rw isnt refl
+
+pub reading-short : (bytes : List ℕ) (d : ImageDraft) (number : ℕ) → is_finished d.progress.stage ≡ false → reading bytes d number zero ≡ Err (fault_at number causes.Short)
 unfolding reading
 reading-short bytes d number isnt = rw isnt refl
 
@@ -120,12 +134,22 @@ pub judged-passed : (d : ImageDraft) (n : ℕ) → judged d n ≡ None → passe
 unfolding judged passes
 judged-passed d n h = by-test (passes_at d.progress.stage d.progress d.births n) (if is_twice_at d.progress.stage d n then Some causes.Twice else None) (cause_of d.progress.stage) h
 
-pub draft-kept : (d : ImageDraft) (n : ℕ) → IsDraft d → judged d n ≡ None → IsDraft (put d n)
+draft-passed : (d : ImageDraft) (n : ℕ) → IsDraft d → passes_at d.progress.stage d.progress d.births n ≡ true → IsDraft (put d n)
 unfolding put advanced
-draft-kept d n is passed = record {
-  progress = progress-kept d.progress.stage d.progress d.births n refl is.progress.bounded is.progress.place is.progress.classed is.progress.object (judged-passed d n passed);
+draft-passed d n is passed = record {
+  progress = progress-kept d.progress.stage d.progress d.births n refl is.progress.bounded is.progress.place is.progress.classed is.progress.object passed;
   births = rw (put-births d.progress.stage d n) (births-kept d.progress.stage d.progress d.births n refl is.births);
 }
+
+pub draft-kept : (d : ImageDraft) (n : ℕ) → IsDraft d → judged d n ≡ None → IsDraft (put d n)
+draft-kept d n is passed = draft-passed d n is (judged-passed d n passed)
+
+pub placed-passed : (d : ImageDraft) (n : ℕ) → placed d n ≡ None → passes_at d.progress.stage d.progress d.births n ≡ true
+unfolding placed passes
+placed-passed d n h = by-test (passes_at d.progress.stage d.progress d.births n) None (cause_of d.progress.stage) h
+
+pub draft-placed : (d : ImageDraft) (n : ℕ) → IsDraft d → placed d n ≡ None → IsDraft (put d n)
+draft-placed d n is passed = draft-passed d n is (placed-passed d n passed)
 
 pub empty-is : IsDraft empty_draft
 empty-is = record {
@@ -133,42 +157,42 @@ empty-is = record {
   births = refl;
 }
 
-pub read-begin : (bytes : List ℕ) (draft : Draft) → Shows draft empty_draft → IsReading bytes draft 0 (length bytes / 8)
+pub read-begin : (bytes : List ℕ) (draft : Draft) → ShowsLists draft empty_draft → IsReading bytes draft 0 (length bytes / 8)
 read-begin bytes draft shows = record {
   now = empty_draft;
   shows = shows;
   draft_is = empty-is;
-  so_far = ap (λ (n : ℕ). reading bytes empty_draft 0 n) (omega arith);
+  so_far = ap (λ (n : ℕ). passing bytes empty_draft 0 n) (omega arith);
 }
 
-pub read-end : (bytes : List ℕ) (draft : Draft) (number count : ℕ) → (r : IsReading bytes draft number count) → is_finished draft.progress.stage ≡ true → (d : ImageDraft) × Shows draft d × (items_of_all bytes ≡ Ok (d, number))
+pub read-end : (bytes : List ℕ) (draft : Draft) (number count : ℕ) → (r : IsReading bytes draft number count) → is_finished draft.progress.stage ≡ true → (d : ImageDraft) × ShowsLists draft d × (all_passing bytes ≡ Ok (d, number))
 read-end bytes draft number count r is =
-    (r.now, r.shows, sym r.so_far ∙ reading-finished bytes r.now number (count - number) (ap (λ p. is_finished p.stage) (sym r.shows.lists.progress) ∙ is))
+    (r.now, r.shows, sym r.so_far ∙ passing-finished bytes r.now number (count - number) (ap (λ p. is_finished p.stage) (sym r.shows.progress) ∙ is))
 
-pub read-fault : (bytes : List ℕ) (draft : Draft) (number count : ℕ) (cause : ImageCause) → (r : IsReading bytes draft number count) → number < count → is_finished draft.progress.stage ≡ false → Some cause ≡ judged r.now (item_at bytes number) → items_of_all bytes ≡ Err (fault_at number cause)
+pub read-fault : (bytes : List ℕ) (draft : Draft) (number count : ℕ) (cause : ImageCause) → (r : IsReading bytes draft number count) → number < count → is_finished draft.progress.stage ≡ false → Some cause ≡ placed r.now (item_at bytes number) → all_passing bytes ≡ Err (fault_at number cause)
 read-fault bytes draft number count cause r lt isnt told =
-    let off = ap (λ p. is_finished p.stage) (sym r.shows.lists.progress) ∙ isnt in
-    sym r.so_far ∙ ap (reading bytes r.now number) (left-suc count number lt) ∙ reading-next bytes r.now number (count - (number + 1)) off ∙ ap (λ (o : Option ImageCause). go_on number o (reading bytes (put r.now (item_at bytes number)) (number + 1) (count - (number + 1)))) (sym told)
+    let off = ap (λ p. is_finished p.stage) (sym r.shows.progress) ∙ isnt in
+    sym r.so_far ∙ ap (passing bytes r.now number) (left-suc count number lt) ∙ passing-next bytes r.now number (count - (number + 1)) off ∙ ap (λ (o : Option ImageCause). go_on number o (passing bytes (put r.now (item_at bytes number)) (number + 1) (count - (number + 1)))) (sym told)
 
-pub read-more : (bytes : List ℕ) (draft after : Draft) (number count : ℕ) → (r : IsReading bytes draft number count) → number < count → is_finished draft.progress.stage ≡ false → None ≡ judged r.now (item_at bytes number) → Shows after (put r.now (item_at bytes number)) → IsReading bytes after (number + 1) count
+pub read-more : (bytes : List ℕ) (draft after : Draft) (number count : ℕ) → (r : IsReading bytes draft number count) → number < count → is_finished draft.progress.stage ≡ false → None ≡ placed r.now (item_at bytes number) → ShowsLists after (put r.now (item_at bytes number)) → IsReading bytes after (number + 1) count
 read-more bytes draft after number count r lt isnt told shows =
-    let off = ap (λ p. is_finished p.stage) (sym r.shows.lists.progress) ∙ isnt in
-    let step = ap (reading bytes r.now number) (left-suc count number lt) ∙ reading-next bytes r.now number (count - (number + 1)) off ∙ ap (λ (o : Option ImageCause). go_on number o (reading bytes (put r.now (item_at bytes number)) (number + 1) (count - (number + 1)))) (sym told) in
+    let off = ap (λ p. is_finished p.stage) (sym r.shows.progress) ∙ isnt in
+    let step = ap (passing bytes r.now number) (left-suc count number lt) ∙ passing-next bytes r.now number (count - (number + 1)) off ∙ ap (λ (o : Option ImageCause). go_on number o (passing bytes (put r.now (item_at bytes number)) (number + 1) (count - (number + 1)))) (sym told) in
     record {
       now = put r.now (item_at bytes number);
       shows = shows;
-      draft_is = draft-kept r.now (item_at bytes number) r.draft_is (sym told);
+      draft_is = draft-placed r.now (item_at bytes number) r.draft_is (sym told);
       so_far = sym step ∙ r.so_far;
     }
 
-pub read-short : (bytes : List ℕ) (draft : Draft) (count number : ℕ) → (r : IsReading bytes draft number count) → count ≤ number → is_finished draft.progress.stage ≡ false → number ≤ count → items_of_all bytes ≡ Err (fault_at count causes.Short)
+pub read-short : (bytes : List ℕ) (draft : Draft) (count number : ℕ) → (r : IsReading bytes draft number count) → count ≤ number → is_finished draft.progress.stage ≡ false → number ≤ count → all_passing bytes ≡ Err (fault_at count causes.Short)
 read-short bytes draft count number r ge isnt le =
-    let off = ap (λ p. is_finished p.stage) (sym r.shows.lists.progress) ∙ isnt in
+    let off = ap (λ p. is_finished p.stage) (sym r.shows.progress) ∙ isnt in
     let same : number ≡ count = omega arith in
     let none : count - number ≡ 0 = omega arith in
-    sym r.so_far ∙ ap (reading bytes r.now number) none ∙ reading-short bytes r.now number off ∙ ap (λ (n : ℕ). Err (fault_at n causes.Short)) same
+    sym r.so_far ∙ ap (passing bytes r.now number) none ∙ passing-short bytes r.now number off ∙ ap (λ (n : ℕ). Err (fault_at n causes.Short)) same
 
-pub read-end-all : (bytes : List ℕ) (draft : Draft) (count number : ℕ) → (r : IsReading bytes draft number count) → count ≤ number → number ≤ count → is_finished draft.progress.stage ≡ true → (d : ImageDraft) × Shows draft d × (items_of_all bytes ≡ Ok (d, count))
+pub read-end-all : (bytes : List ℕ) (draft : Draft) (count number : ℕ) → (r : IsReading bytes draft number count) → count ≤ number → number ≤ count → is_finished draft.progress.stage ≡ true → (d : ImageDraft) × ShowsLists draft d × (all_passing bytes ≡ Ok (d, count))
 read-end-all bytes draft count number r ge le is =
     let same : number ≡ count = omega arith in
     let at = read-end bytes draft number count r is in
@@ -179,6 +203,14 @@ read-end-all bytes draft count number r ge le is =
 pub judged-not : (d : ImageDraft) (n : ℕ) → passes d.progress d.births n ≡ false → judged d n ≡ Some (cause_of d.progress.stage)
 unfolding judged
 judged-not d n h = rw h refl
+
+pub placed-not : (d : ImageDraft) (n : ℕ) → passes d.progress d.births n ≡ false → placed d n ≡ Some (cause_of d.progress.stage)
+unfolding placed
+placed-not d n h = rw h refl
+
+pub placed-ok : (d : ImageDraft) (n : ℕ) → passes d.progress d.births n ≡ true → placed d n ≡ None
+unfolding placed
+placed-ok d n h = rw h refl
 
 pub judged-twice : (d : ImageDraft) (n : ℕ) → passes d.progress d.births n ≡ true → is_twice_at d.progress.stage d n ≡ true → judged d n ≡ Some causes.Twice
 unfolding judged

@@ -4,7 +4,7 @@ use Prim.Native.Nat.{zero, suc}
 use Rattle.bc_word.specs.Words.{word_of_bits}
 use Rattle.bc_image.specs.Bytes.{item_at}
 use Rattle.bc_image.specs.Cells.{CellList}
-use Rattle.bc_image.specs.Drafts.{ImageDraft, empty_draft, Shows}
+use Rattle.bc_image.specs.Drafts.{ImageDraft, empty_draft, ShowsLists}
 use Rattle.bc_image.specs.Faults.{is_word, leads_nowhere, linking, listing_of}
 use Rattle.bc_image.specs.Images.{ImageOf, image_bytes, image_items}
 use Rattle.bc_image.specs.Items.{advanced, first_progress}
@@ -37,7 +37,7 @@ pub gives-memory : (bytes : List ℕ) (e : ReadImage) → GivesItems (Err e) (it
 gives-memory bytes (Fault f) g l rest is = absurd (none-image bytes f g l rest is)
 gives-memory bytes NoMemory g l rest is = refl
 
-module _ (bytes : List ℕ) (fits : (i : ℕ) → Fits w8 (get_or bytes i 0)) (draft : Draft) (count : ℕ) (gives : (d : ImageDraft) × Shows draft d × (items_of_all bytes ≡ Ok (d, count))) (xs : List CellList) (same : xs ≡ draft.cells.items) where
+module _ (bytes : List ℕ) (fits : (i : ℕ) → Fits w8 (get_or bytes i 0)) (draft : Draft) (count : ℕ) (gives : (d : ImageDraft) × ShowsLists draft d × (items_of_all bytes ≡ Ok (d, count))) (xs : List CellList) (same : xs ≡ draft.cells.items) where
   small : (i : ℕ) → get_or bytes i 0 < 256
   small i = let h = fits i in omega arith
 
@@ -46,11 +46,11 @@ module _ (bytes : List ℕ) (fits : (i : ℕ) → Fits w8 (get_or bytes i 0)) (d
 
   shown : record { version = draft.progress.version; setup = draft.progress.setup; phases = draft.progress.phases; holders = draft.holders.items; births = draft.births.items; roots = draft.roots.items; cells = draft.cells.items } ≡ listing_of gives.0
   shown =
-      let s = gives.1.lists in
+      let s = gives.1 in
       rw (s.progress, s.holders, s.births, s.roots, s.cells) refl
 
   links : (o : Option ℕ) → o ≡ linking bytes xs first_progress 0 count → o ≡ linking bytes gives.0.cells first_progress 0 count
-  links o e = e ∙ ap (λ (ys : List CellList). linking bytes ys first_progress 0 count) (same ∙ gives.1.lists.cells)
+  links o e = e ∙ ap (λ (ys : List CellList). linking bytes ys first_progress 0 count) (same ∙ gives.1.cells)
 
   pub scan-count : 8 * count ≤ length bytes
   scan-count =

@@ -1,7 +1,7 @@
 -- The listing that is being read, as plain lists.
 use Rattle.std.specs.Prelude.{◌≡◌, ℕ, ◌/◌, ◌%◌, ◌==◌, nat_eq, Bool, false, if◌then◌else◌, List, [], ◌∷◌, ◌++◌, length, Option, Some, None}
 use Rattle.std.specs.List.{list_any}
-use Rattle.std.specs.HashSet.{contains}
+use Rattle.std.specs.HashSet.{HashSet, contains}
 use Rattle.bc_word.specs.Heads.{head_of_bits}
 use Rattle.bc_word.specs.declared.heads.Head.{Head}
 use Rattle.bc_image.specs.Cells.{CellList}
@@ -65,10 +65,14 @@ with_progress d p = record d { progress = p }
 unfoldable pub put : ImageDraft → ℕ → ImageDraft
 put d n = with_progress (put_at d.progress.stage d n) (advanced d.progress n)
 
+-- the item is a head, and its birth is one of these
+abbrev pub is_born_at : Stage → List ℕ → ℕ → Bool
+is_born_at stages.Head born n = list_any (nat_eq (birth_bits n)) born
+is_born_at _ born n = false
+
 -- the item is the head of an object of a birth that was read before
 abbrev pub is_twice_at : Stage → ImageDraft → ℕ → Bool
-is_twice_at stages.Head d n = list_any (nat_eq (birth_bits n)) d.born
-is_twice_at _ d n = false
+is_twice_at st d n = is_born_at st d.born n
 
 -- the births of all objects that were begun, with the item
 abbrev pub born_with : Stage → List ℕ → ℕ → List ℕ
@@ -80,7 +84,7 @@ unfoldable pub judged : ImageDraft → ℕ → Option ImageCause
 judged d n =
     if passes d.progress d.births n then (if is_twice_at d.progress.stage d n then Some causes.Twice else None) else Some (cause_of d.progress.stage)
 
--- the draft of the code shows these lists, but for the births of objects
+-- the draft of the code shows these lists, but for the births of objects, which it doesn't keep
 pub record ShowsLists (x : Draft) (d : ImageDraft) : Type 0 where
   pub progress : x.progress ≡ d.progress
   pub holders : x.holders.items ≡ d.holders
@@ -90,14 +94,9 @@ pub record ShowsLists (x : Draft) (d : ImageDraft) : Type 0 where
   pub head : x.head ≡ d.head
   pub fields : x.fields.items ≡ d.fields
 
--- the set of the code has the births of these objects
-abbrev pub HasBorn : Draft → List ℕ → Type 0
-HasBorn x born = (q : ℕ) → contains nat_eq x.born q ≡ list_any (nat_eq q) born
-
--- the draft of the code shows these lists, with the births of objects
-pub record Shows (x : Draft) (d : ImageDraft) : Type 0 where
-  pub lists : ShowsLists x d
-  pub born : HasBorn x d.born
+-- the set has these births
+abbrev pub HasBorn : {H : Type 0} → HashSet ℕ H → List ℕ → Type 0
+HasBorn set born = (q : ℕ) → contains nat_eq set q ≡ list_any (nat_eq q) born
 
 -- how many births there are
 abbrev pub HasBirths : Stage → Progress → List ℕ → Type 0

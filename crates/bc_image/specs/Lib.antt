@@ -20,3 +20,5 @@ pub mod Images
 pub mod Faults
 -- Where objects lie
 pub mod Homes
+-- Births that stand twice
+pub mod Births

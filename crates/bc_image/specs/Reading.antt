@@ -3,7 +3,7 @@ use Rattle.std.specs.Prelude.{◌≡◌, ℕ, ◌+◌, ◌*◌, ◌/◌, if◌th
 use Prim.Native.Nat.{zero, suc}
 use Rattle.bc_image.specs.Bytes.{item_at}
 use Rattle.bc_image.specs.Items.{is_finished}
-use Rattle.bc_image.specs.Drafts.{ImageDraft, empty_draft, judged, put, Shows}
+use Rattle.bc_image.specs.Drafts.{ImageDraft, empty_draft, judged, put, ShowsLists}
 use Rattle.bc_image.specs.declared.draft.Draft.{Draft}
 use Rattle.bc_image.specs.declared.fault.ImageCause.{ImageCause}
 use Rattle.bc_image.specs.declared.fault.ImageCause.TheVariants as causes
@@ -33,6 +33,6 @@ items_of_all bytes = reading bytes empty_draft 0 (length bytes / 8)
 
 -- the answer is that, unless memory ran out
 abbrev pub GivesItems : Result (Draft × ℕ) ReadImage → Result (ImageDraft × ℕ) ImageFault → Type 0
-GivesItems (Ok x) outcome = (d : ImageDraft) × Shows x.0 d × (outcome ≡ Ok (d, x.1))
+GivesItems (Ok x) outcome = (d : ImageDraft) × ShowsLists x.0 d × (outcome ≡ Ok (d, x.1))
 GivesItems (Err (Fault f)) outcome = outcome ≡ Err f
 GivesItems (Err NoMemory) outcome = Unit {0}

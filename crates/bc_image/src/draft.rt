@@ -1,7 +1,8 @@
 //! The listing that is being read: what the items so far say.
 
-ghost use Rattle.std.specs.Prelude.{◌≡◌, ℕ, ◌+◌, ◌*◌, ◌^◌, ◌<◌, ◌≤◌, IfOk, OnOk, None, true, false, length};
-ghost use Rattle.bc_image.specs.Drafts.{ImageDraft, Shows, ShowsLists, HasBorn, IsDraft, judged, put, put_at, finished_object, empty_draft, is_twice_at, born_with};
+ghost use Rattle.std.specs.Prelude.{◌≡◌, ℕ, ◌+◌, ◌*◌, ◌^◌, ◌<◌, ◌≤◌, IfOk, OnOk, None, true, length};
+ghost use Rattle.bc_image.specs.Births.{placed};
+ghost use Rattle.bc_image.specs.Drafts.{ImageDraft, ShowsLists, IsDraft, put, put_at, finished_object, empty_draft};
 ghost use Rattle.bc_image.specs.Items.{IsBoundedProgress, IsSmallItem, passes};
 
 use crate::fault::ImageCause;
@@ -9,7 +10,6 @@ use crate::listing::{Cell, Holder};
 use crate::progress::{Progress, Stage};
 use bc_word::{Address, Head, unpack_head};
 use std::alloc::{AllocError, Global};
-use std::collections::HashSet;
 use std::mem;
 
 /// A listing that is being read.
@@ -19,8 +19,6 @@ pub(crate) struct Draft {
     pub holders: Vec<Holder>,
     pub births: Vec<u32>,
     pub roots: Vec<u64>,
-    /// The births of the objects that were begun.
-    pub born: HashSet<u64>,
     pub cells: Vec<Cell>,
     /// The object that was begun.
     pub head: Head,
@@ -29,14 +27,13 @@ pub(crate) struct Draft {
 
 impl Draft {
     pub fn new(alloc: Global) -> Self
-        ensures { Shows result empty_draft }
+        ensures { ShowsLists result empty_draft }
     {
         Draft {
             progress: Progress::new(),
             holders: Vec::new(alloc),
             births: Vec::new(alloc),
             roots: Vec::new(alloc),
-            born: HashSet::new(alloc),
             cells: Vec::new(alloc),
             head: Head {
                 lane: 0,
@@ -51,7 +48,6 @@ impl Draft {
     /// Puts the object in that was begun.
     fn finish_object(&mut self, alloc: Global) -> Result<(), AllocError>
         ensures lists { (d : ImageDraft) → ShowsLists self.old d → OnOk result (ShowsLists self.new (finished_object d)) }
-        ensures born { self.new.born ≡ self.old.born }
     {
         let fields = mem::replace(&mut self.fields, Vec::new(alloc));
         let address = Address(self.progress.address);
@@ -68,7 +64,6 @@ impl Draft {
     fn put_holder(&mut self, item: u64) -> Result<(), AllocError>
         requires { item < 2 ^ 32 }
         ensures lists { (d : ImageDraft) → ShowsLists self.old d → OnOk result (ShowsLists self.new (put_at Stage.Holder d item)) }
-        ensures born { self.new.born ≡ self.old.born }
     {
         let holder = if item == u64::from(self.progress.setup.lanes) {
             Holder::Frozen
@@ -83,7 +78,6 @@ impl Draft {
     fn put_birth(&mut self, item: u64) -> Result<(), AllocError>
         requires { item < 2 ^ 32 }
         ensures lists { (d : ImageDraft) → ShowsLists self.old d → OnOk result (ShowsLists self.new (put_at Stage.Birth d item)) }
-        ensures born { self.new.born ≡ self.old.born }
     {
         self.births.push(item as u32)?;
         Ok(())
@@ -92,7 +86,6 @@ impl Draft {
     /// Puts the word of a root slot in.
     fn put_root(&mut self, item: u64) -> Result<(), AllocError>
         ensures lists { (d : ImageDraft) → ShowsLists self.old d → OnOk result (ShowsLists self.new (put_at Stage.Root d item)) }
-        ensures born { self.new.born ≡ self.old.born }
     {
         self.roots.push(item)?;
         Ok(())
@@ -102,10 +95,10 @@ impl Draft {
     fn put_head(&mut self, alloc: Global, item: u64) -> Result<(), AllocError>
         requires { item < 2 ^ 49 }
         ensures lists { (d : ImageDraft) → ShowsLists self.old d → OnOk result (ShowsLists self.new (put_at Stage.Head d item)) }
-        ensures born { self.new.born ≡ self.old.born }
     {
         self.head = unpack_head(item);
         if item % 128 != 0 {
+            self.fields.reserve_exact(self.head.fields as usize)?;
             return Ok(());
         }
         self.finish_object(alloc)
@@ -114,7 +107,6 @@ impl Draft {
     /// Puts a field in.
     fn put_field(&mut self, alloc: Global, item: u64) -> Result<(), AllocError>
         ensures lists { (d : ImageDraft) → ShowsLists self.old d → OnOk result (ShowsLists self.new (put_at Stage.Field d item)) }
-        ensures born { self.new.born ≡ self.old.born }
     {
         self.fields.push(item)?;
         if self.progress.fields != 1 {
@@ -128,7 +120,6 @@ impl Draft {
         requires bounded { IsBoundedProgress self.old.progress }
         requires passed { passes self.old.progress self.old.births.items item ≡ true }
         ensures lists { (d : ImageDraft) → ShowsLists self.old d → OnOk result (ShowsLists self.new (put_at self.old.progress.stage d item)) }
-        ensures born { self.new.born ≡ self.old.born }
     {
         match self.progress.stage {
             Stage::Holder => self.put_holder(item),
@@ -140,29 +131,13 @@ impl Draft {
         }
     }
 
-    /// Whether the item is a head whose birth an object had before. The birth is kept.
-    fn is_twice(&mut self, item: u64) -> Result<bool, AllocError>
-        ensures twice { (d : ImageDraft) → Shows self.old d → IfOk result (λ twice. twice ≡ is_twice_at self.old.progress.stage d item) }
-        ensures born { (d : ImageDraft) → Shows self.old d → IfOk result (λ twice. twice ≡ false → HasBorn self.new (born_with self.old.progress.stage d.born item)) }
-        ensures lists { (d : ImageDraft) → ShowsLists self.old d → ShowsLists self.new d }
-    {
-        if !matches!(self.progress.stage, Stage::Head) {
-            return Ok(false);
-        }
-        let is_new = self.born.insert(item / 8192)?;
-        Ok(!is_new)
-    }
-
-    /// Takes an item up, or tells the first test that it fails. After an error or a failed test the draft is of no use.
+    /// Takes an item up, or tells the test of its place that it fails. After an error or a failed test the draft is of no use.
     pub fn take(&mut self, alloc: Global, item: u64) -> Result<Option<ImageCause>, AllocError>
-        requires { (d : ImageDraft) × Shows self.old d × IsDraft d }
-        ensures { (d : ImageDraft) → Shows self.old d → IfOk result (λ r. (r ≡ judged d item) × (r ≡ None → Shows self.new (put d item))) }
+        requires { (d : ImageDraft) × ShowsLists self.old d × IsDraft d }
+        ensures { (d : ImageDraft) → ShowsLists self.old d → IfOk result (λ r. (r ≡ placed d item) × (r ≡ None → ShowsLists self.new (put d item))) }
     {
         if !self.progress.passes(&self.births, item) {
             return Ok(Some(self.progress.cause()));
-        }
-        if self.is_twice(item)? {
-            return Ok(Some(ImageCause::Twice));
         }
         self.put_lists(alloc, item)?;
         self.progress.advance(item);

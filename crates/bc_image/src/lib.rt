@@ -14,9 +14,10 @@
 // (`law_one_image`).
 //
 // Where things are: `listing` what an image says, `progress` what may stand where, `draft` the listing that is being read,
-// `reading` the one pass over the items, `linking` references to nowhere, `scanning` the whole, `fault` what may be wrong.
+// `reading` the one pass over the items, `births` births that stand twice, `linking` references to nowhere, `scanning` the whole, `fault` what may be wrong.
 #![tactic(auto)]
 
+mod births;
 mod draft;
 mod fault;
 mod laws;

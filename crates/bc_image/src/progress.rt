@@ -1,7 +1,7 @@
 //! What may stand where in an image.
 
-ghost use Rattle.std.specs.Prelude.{◌≡◌, ℕ, ◌+◌, ◌*◌, ◌^◌, ◌<◌, ◌≤◌, true, length};
-ghost use Rattle.bc_image.specs.Items.{passes, is_finished, is_head, is_class, cause_of, advanced, superpage_ended, object_ended, one_stood, IsProgress, IsSmallItem, first_progress};
+ghost use Rattle.std.specs.Prelude.{◌≡◌, ℕ, ◌+◌, ◌*◌, ◌/◌, ◌%◌, ◌^◌, ◌<◌, ◌≤◌, ◌==◌, if◌then◌else◌, true, length};
+ghost use Rattle.bc_image.specs.Items.{passes, is_finished, is_head, is_class, cause_of, advanced, superpage_ended, object_ended, one_stood, field_stood, IsProgress, IsSmallItem, first_progress};
 
 use crate::fault::ImageCause;
 use bc_model::Setup;
@@ -194,6 +194,43 @@ impl Progress {
         }
     }
 
+    /// Behind a field, or behind a head if there is none.
+    fn field_stood(&mut self)
+        requires more { 0 < self.old.left }
+        requires address { self.old.address + self.old.class < 2 ^ 32 }
+        requires superpage { self.old.superpage + 1 < 2 ^ 32 }
+        ensures { self.new ≡ field_stood self.old }
+    {
+        if self.fields == 0 {
+            self.object_ended();
+        }
+    }
+
+    /// Behind what the objects of a superpage are, or behind the 0 of one that has none.
+    fn begin_superpage(&mut self, item: u64)
+        requires small { item / 256 < 2 ^ 32 }
+        requires superpage { self.old.superpage + 1 < 2 ^ 32 }
+        ensures { self.new ≡ (if item == 0 then superpage_ended self.old else record self.old { class = item % 256; domain = item / 256; stage = Stage.Count }) }
+    {
+        if item == 0 {
+            self.superpage_ended();
+            return;
+        }
+        self.class = (item % 256) as u32;
+        self.domain = (item / 256) as u32;
+        self.stage = Stage::Count;
+    }
+
+    /// The item as a number, behind which comes this.
+    fn number(&mut self, item: u64, next: Stage) -> u32
+        requires { item < 2 ^ 32 }
+        ensures number { result ≡ item }
+        ensures next { self.new ≡ record self.old { stage = next } }
+    {
+        self.stage = next;
+        item as u32
+    }
+
     /// Behind an item that passed.
     #[tactic(auto, unfolding(crate::specs::Items::advanced))]
     pub fn advance(&mut self, item: u64)
@@ -203,75 +240,32 @@ impl Progress {
     {
         match self.stage {
             Stage::Magic => self.stage = Stage::Version,
-            Stage::Version => {
-                self.version = item as u32;
-                self.stage = Stage::Lanes;
-            }
-            Stage::Lanes => {
-                self.setup.lanes = item as u32;
-                self.stage = Stage::Domains;
-            }
-            Stage::Domains => {
-                self.setup.domains = item as u32;
-                self.stage = Stage::Slots;
-            }
-            Stage::Slots => {
-                self.setup.slots = item as u32;
-                self.stage = Stage::Superpages;
-            }
-            Stage::Superpages => {
-                self.setup.superpages = item as u32;
-                self.stage = Stage::Nursery;
-            }
-            Stage::Nursery => {
-                self.setup.nursery = item as u32;
-                self.stage = Stage::Buffer;
-            }
-            Stage::Buffer => {
-                self.setup.buffer = item as u32;
-                self.stage = Stage::Frames;
-            }
-            Stage::Frames => {
-                self.setup.frames = item as u32;
-                self.stage = Stage::Phases;
-            }
-            Stage::Phases => {
-                self.phases = item as u32;
-                self.stage = Stage::Holder;
-            }
+            Stage::Version => self.version = self.number(item, Stage::Lanes),
+            Stage::Lanes => self.setup.lanes = self.number(item, Stage::Domains),
+            Stage::Domains => self.setup.domains = self.number(item, Stage::Slots),
+            Stage::Slots => self.setup.slots = self.number(item, Stage::Superpages),
+            Stage::Superpages => self.setup.superpages = self.number(item, Stage::Nursery),
+            Stage::Nursery => self.setup.nursery = self.number(item, Stage::Buffer),
+            Stage::Buffer => self.setup.buffer = self.number(item, Stage::Frames),
+            Stage::Frames => self.setup.frames = self.number(item, Stage::Phases),
+            Stage::Phases => self.phases = self.number(item, Stage::Holder),
             Stage::Holder => self.one_stood(self.setup.domains, Stage::Birth),
             Stage::Birth => self.one_stood(self.setup.lanes, Stage::Root),
             Stage::Root => self.one_stood(self.setup.domains * self.setup.slots, Stage::Pair),
-            Stage::Pair => {
-                if item == 0 {
-                    self.superpage_ended();
-                } else {
-                    self.class = (item % 256) as u32;
-                    self.domain = (item / 256) as u32;
-                    self.stage = Stage::Count;
-                }
-            }
+            Stage::Pair => self.begin_superpage(item),
             Stage::Count => {
-                self.left = item as u32;
+                self.left = self.number(item, Stage::Address);
                 self.least = 2048 * self.superpage;
-                self.stage = Stage::Address;
             }
-            Stage::Address => {
-                self.address = item as u32;
-                self.stage = Stage::Head;
-            }
+            Stage::Address => self.address = self.number(item, Stage::Head),
             Stage::Head => {
                 self.fields = (item % 128) as u32;
                 self.stage = Stage::Field;
-                if self.fields == 0 {
-                    self.object_ended();
-                }
+                self.field_stood();
             }
             Stage::Field => {
                 self.fields -= 1;
-                if self.fields == 0 {
-                    self.object_ended();
-                }
+                self.field_stood();
             }
             Stage::Finished => {}
         }

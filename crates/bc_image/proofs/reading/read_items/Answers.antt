@@ -1,31 +1,27 @@
-use Rattle.std.proofs.Common.{ℕ, sym, ap, subst, ◌∙◌}
-use Rattle.bc_image.specs.Drafts.{judged, put, Shows}
-use Rattle.bc_image.proofs.ReadLemmas.{read-begin, read-end, read-fault, read-more, read-short, read-end-all}
+use Rattle.std.proofs.Common.{◌/◌, Ok, Err, refl, sym, subst}
+use Rattle.std.proofs.lemmas.Result.{err_from_is_err_and}
+use Rattle.bc_image.specs.Births.{all_passing}
+use Rattle.bc_image.specs.Reading.{GivesItems, items_of_all}
+use Rattle.bc_image.specs.declared.fault.ReadImage.{ReadImage}
+use Rattle.bc_image.proofs.BirthLemmas.{read-apart, gives-twice}
 use Rattle.bc_image.proofs.reading.read_items.Goals as goal
 
-pub loop-number-init : goal.loop-number-init
-loop-number-init c = read-begin c.args.bytes.now c.new-draft.result c.new-draft.ensures
+pub returns-in_err-check_births-in-Ok : goal.returns-in_err-check_births-in-Ok
+returns-in_err-check_births-in-Ok c =
+    let p = err_from_is_err_and c.from_residual.result c.from_residual.ensures.1 in
+    let g = c.in-Ok.ensures in
+    rw p.1 (subst (λ (e : ReadImage). GivesItems (Err e) (items_of_all c.args.bytes.now)) (sym p.2) (gives-twice c.args.bytes.now c.in-Ok.count (Ok (g.0, c.in-Ok.count)) g.2 refl c.in_err-check_births-in-Ok.field-0.0 c.in_err-check_births-in-Ok.ensures))
 
-pub returns-then-is_finished : goal.returns-then-is_finished
-returns-then-is_finished c = read-end c.args.bytes.now c.loop-number.draft c.loop-number.number _ c.loop-number.invariant (sym c.is_finished.ensures ∙ c.if-is_finished.true)
+pub returns-in_ok-check_births-in-Ok : goal.returns-in_ok-check_births-in-Ok
+returns-in_ok-check_births-in-Ok c =
+    let g = c.in-Ok.ensures in
+    (g.0, g.1, read-apart c.args.bytes.now c.in-Ok.count (Ok (g.0, c.in-Ok.count)) g.2 refl c.in_ok-check_births-in-Ok.ensures)
 
-pub returns-in-Some : goal.returns-in-Some
-returns-in-Some c =
-    let r = c.loop-number.invariant in
-    let told = sym c.in-Some.is ∙ (c.in_ok-cause.ensures r.now r.shows).0 ∙ ap (judged r.now) c.item.ensures in
-    read-fault c.args.bytes.now c.loop-number.draft c.loop-number.number _ c.in-Some.cause r c.loop-number-test.true (sym c.is_finished.ensures ∙ c.if-is_finished.false) told
+pub returns-in_err-check_births-in-Err-Fault : goal.returns-in_err-check_births-in-Err-Fault
+returns-in_err-check_births-in-Err-Fault c =
+    let p = err_from_is_err_and c.from_residual-in_err-check_births-in-Err-Fault.result c.from_residual-in_err-check_births-in-Err-Fault.ensures.1 in
+    rw p.1 (subst (λ (e : ReadImage). GivesItems (Err e) (items_of_all c.args.bytes.now)) (sym p.2) (gives-twice c.args.bytes.now (c.in-Err-Fault.fault.at / 8) (Err c.in-Err-Fault.fault) (subst (λ (e : ReadImage). GivesItems (Err e) (all_passing c.args.bytes.now)) c.in-Err-Fault.field-0-is c.in-Err-Fault.ensures) refl c.in_err-check_births-in-Err-Fault.field-0.0 c.in_err-check_births-in-Err-Fault.ensures))
 
-pub loop-number-preserved : goal.loop-number-preserved
-loop-number-preserved c =
-    let r = c.loop-number.invariant in
-    let both = c.in_ok-cause.ensures r.now r.shows in
-    let none = c.in_default.is in
-    let told = sym none ∙ both.0 ∙ ap (judged r.now) c.item.ensures in
-    let shows = both.1 none in
-    read-more c.args.bytes.now c.loop-number.draft c.take.new.self c.loop-number.number _ r c.loop-number-test.true (sym c.is_finished.ensures ∙ c.if-is_finished.false) told (subst (λ (n : ℕ). Shows c.take.new.self (put r.now n)) c.item.ensures shows)
-
-pub returns-then-is_finished-2 : goal.returns-then-is_finished-2
-returns-then-is_finished-2 c = read-end-all c.args.bytes.now c.loop-number.draft _ c.loop-number.number c.loop-number.invariant c.loop-number-test.false c.loop-number.auto.number-end (sym c.is_finished-2.ensures ∙ c.if-is_finished-2.true)
-
-pub returns : goal.returns
-returns c = read-short c.args.bytes.now c.loop-number.draft _ c.loop-number.number c.loop-number.invariant c.loop-number-test.false (sym c.is_finished-2.ensures ∙ c.if-is_finished-2.false) c.loop-number.auto.number-end
+pub returns-in_ok-check_births-in-Err-Fault : goal.returns-in_ok-check_births-in-Err-Fault
+returns-in_ok-check_births-in-Err-Fault c =
+    read-apart c.args.bytes.now (c.in-Err-Fault.fault.at / 8) (Err c.in-Err-Fault.fault) (subst (λ (e : ReadImage). GivesItems (Err e) (all_passing c.args.bytes.now)) c.in-Err-Fault.field-0-is c.in-Err-Fault.ensures) refl c.in_ok-check_births-in-Err-Fault.ensures
