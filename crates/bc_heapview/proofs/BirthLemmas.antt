@@ -21,7 +21,7 @@ use Rattle.bc_standing.proofs.Homes.{births-home, home_at, one_home, reached_liv
 use Rattle.bc_image.specs.Cells.{CellList}
 use Rattle.bc_image.specs.Listings.{ListingLists}
 use Rattle.bc_image.specs.Memories.{number_at, cell_at, memory_of}
-use Rattle.bc_image.specs.Pictures.{Pictures}
+use Rattle.bc_heapview.specs.Pictured.{PicturesObjects}
 use Rattle.bc_heapview.specs.Counts.{AreCounts, AreFewCounts, counts_of, superpages_of}
 use Rattle.bc_heapview.specs.Finds.{addresses_of}
 use Rattle.bc_heapview.specs.Searches.{find_at, IsSearched}
@@ -110,7 +110,7 @@ pairs-at cells (f ∷ fs) back d c =
     )
 
 -- what is counted of the finds is counted of the state, and adds up to its need
-module _ (l : ListingLists) (s : State) (found : List Found) (pictures : Pictures l s) (searched : IsSearched l.roots l.cells found) where
+module _ (l : ListingLists) (s : State) (found : List Found) (pictures : PicturesObjects l s) (searched : IsSearched l.roots l.cells found) where
   living : LiveBirths (memory_of l.cells) s (addresses_of l.cells found)
   living = live-births (memory_of l.cells) (map word_of_bits l.roots) s (addresses_of l.cells found) pictures.stands (addresses-distinct l s found pictures searched)
       (λ a. (found-live l s found pictures searched a, live-found l s found pictures searched a))
@@ -136,7 +136,7 @@ counts-need s counts are = record {
 }
 
 -- the counts of a tally of the finds are the state's
-pub tally-counts : (l : ListingLists) (s : State) (tally tally2 : List ℕ) (domains : ℕ) (counts : List Count) → Pictures l s → ((found : List Found) × IsSearched l.roots l.cells found × IsPairTally l.cells found tally)
+pub tally-counts : (l : ListingLists) (s : State) (tally tally2 : List ℕ) (domains : ℕ) (counts : List Count) → PicturesObjects l s → ((found : List Found) × IsSearched l.roots l.cells found × IsPairTally l.cells found tally)
     → tally2 ≡ tally → domains ≡ l.setup.domains → l.setup.domains ≤ 64 → counts ≡ counts_of domains (tally_at tally2) → AreCounts s counts
 tally-counts l s tally tally2 domains counts pictures (found, searched, is) same sizes few counts_is =
     are-counts l s found pictures searched domains counts (sizes ∙ sym pictures.sizes.domains)

@@ -16,7 +16,7 @@ use Rattle.bc_standing.proofs.Homes.{births-there, one_home, reached_live, live_
 use Rattle.bc_image.specs.Cells.{CellList}
 use Rattle.bc_image.specs.Listings.{ListingLists}
 use Rattle.bc_image.specs.Memories.{number_at, cell_at, cell_of, memory_of}
-use Rattle.bc_image.specs.Pictures.{Pictures}
+use Rattle.bc_heapview.specs.Pictured.{PicturesObjects}
 use Rattle.bc_heapview.specs.Finds.{addresses_of}
 use Rattle.bc_heapview.specs.Backs.{birth_at, WayLeadsTo}
 use Rattle.bc_heapview.specs.Searches.{find_at, FoundBy, IsSearched}
@@ -41,7 +41,7 @@ address-at cells [] k lt = absurd (omega arith)
 address-at cells (f ∷ fs) zero lt = refl
 address-at cells (f ∷ fs) (suc k) lt = address-at cells fs k (omega arith)
 
-module _ (l : ListingLists) (s : State) (found : List Found) (pictures : Pictures l s) (searched : IsSearched l.roots l.cells found) where
+module _ (l : ListingLists) (s : State) (found : List Found) (pictures : PicturesObjects l s) (searched : IsSearched l.roots l.cells found) where
   long : length (addresses_of l.cells found) ≡ length found
   long = length-map found (λ (f : Found). (cell_at l.cells f.node).address)
 

@@ -38,9 +38,11 @@ TellBirths made v (step ∷ steps) =
 abbrev pub fields_of : List Step → List ℕ
 fields_of steps = map (λ (step : Step). step.field) steps
 
--- the path is the least way, with the objects that it passes
+-- the path is the least way, with the objects that it passes; its root slot is one of those that each domain has, so no other domain and
+-- slot have its place
 pub record IsPathTo (s : State) (b : Birth) (p : PathList) : Type 0 where
   pub least : IsLeastWay s b (place_of s.width p.root) (fields_of p.steps)
+  pub slot : p.root.slot < s.width
   pub first : slice_index_or s.slots (place_of s.width p.root) Nil ≡ Obj p.first
   pub births : TellBirths s.made (Obj p.first) p.steps
 

@@ -5,7 +5,7 @@ use Rattle.std.specs.Io.KnownBytes.{IsAtEnd}
 use Rattle.bc_image.specs.Faults.{IsFault}
 use Rattle.bc_image.specs.Images.{ImageOf, image_bytes}
 use Rattle.bc_image.specs.Listings.{ListingLists}
-use Rattle.bc_image.specs.Pictures.{Pictures}
+use Rattle.bc_heapview.specs.Pictured.{PicturesObjects}
 use Rattle.bc_image.specs.declared.fault.ImageCause.{ImageCause}
 use Rattle.bc_image.specs.declared.fault.ImageCause.TheVariants.{Rest}
 use Rattle.bc_image.specs.declared.fault.ImageFault.{ImageFault}
@@ -85,17 +85,18 @@ pub record Viewed (question : Question) (left left' held held' : Option (List �
   pub listing : ListingLists
   pub read : ReadAsImage left left' listing
   pub text : List ℕ
-  pub answer : (s : State) → Pictures listing s → AnswersQuestion s question text
+  pub answer : (s : State) → PicturesObjects listing s → AnswersQuestion s question text
   pub written : HeldGrows held held' text
 
--- an image was read, and a prefix of the answer is written
+-- an image was read, and a prefix of the answer is written, which is not all of it
 pub record ViewedInPart (question : Question) (left left' held held' : Option (List ℕ)) : Type 0 where
   pub listing : ListingLists
   pub read : ReadAsImage left left' listing
   pub text : List ℕ
-  pub answer : (s : State) → Pictures listing s → AnswersQuestion s question text
+  pub answer : (s : State) → PicturesObjects listing s → AnswersQuestion s question text
   pub front : List ℕ
   pub prefix : IsPrefix front text
+  pub not_all : length front < length text
   pub written : HeldGrows held held' front
 
 -- ---- the room that a sink needs

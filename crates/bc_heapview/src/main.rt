@@ -4,7 +4,8 @@
 // `counts` it answers how many objects of each domain and size class the heap's root slots lead to, and how many superpages they
 // need; to `path L S` the shortest way to the object that lane L made as its S-th, the first one among those of its length, or
 // that there is none. Its contract is the theorem: whatever state of the plain heap the image pictures, the counts are that state's,
-// and the way is a least way in that state. `specs/Answers` has what a least way is, `specs/Counts` what the counts are,
+// and the way is a least way in that state. Who holds a domain doesn't matter, so frozen domains are answered too (`specs/Pictured`).
+// `specs/Answers` has what a least way is, `specs/Counts` what the counts are,
 // `specs/Views` what each status says, `specs/Questions` which words ask what.
 //
 //     words -> question_of -> read_image -> index_of -> search -> counts -> put_counts -> write_all

@@ -2,7 +2,7 @@
 
 ghost use Rattle.std.specs.Prelude.{◌≡◌, ℕ, ◌+◌, ◌*◌, ◌^◌, ◌<◌, ◌≤◌, List, length, slice_index, IfOk, MatchOption};
 ghost use Rattle.bc_image.specs.Cells.{CellList};
-ghost use Rattle.bc_image.specs.Pictures.{Pictures};
+ghost use Rattle.bc_heapview.specs.Pictured.{PicturesObjects};
 ghost use Rattle.bc_model.specs.State.{State};
 ghost use Rattle.bc_image.specs.Images.{IsImageListing};
 ghost use Rattle.bc_heapview.specs.Answers.{NoWay, IsPathTo, IsViewable};
@@ -74,7 +74,7 @@ fn way_back(
 /// address, and time linear in the objects and their words.
 pub fn path(alloc: Global, listing: &Listing, birth: Birth) -> Result<Option<Path>, AllocError>
     requires listing { IsImageListing listing.now }
-    ensures least { (s : State) → Pictures listing.now s
+    ensures least { (s : State) → PicturesObjects listing.now s
         → IfOk result (λ found. MatchOption found (NoWay s birth) (λ p. IsPathTo s birth p)) }
     ensures few { IfOk result (λ found. steps_in found ≤ length listing.now.cells) }
 {
@@ -84,7 +84,7 @@ pub fn path(alloc: Global, listing: &Listing, birth: Birth) -> Result<Option<Pat
 /// The least way through a listing that may be viewed.
 fn least_path(alloc: Global, listing: &Listing, birth: Birth) -> Result<Option<Path>, AllocError>
     requires { IsViewable listing.now }
-    ensures least { (s : State) → Pictures listing.now s
+    ensures least { (s : State) → PicturesObjects listing.now s
         → IfOk result (λ found. MatchOption found (NoWay s birth) (λ p. IsPathTo s birth p)) }
     ensures few { IfOk result (λ found. steps_in found ≤ length listing.now.cells) }
 {

@@ -3,7 +3,7 @@
 ghost use Rattle.std.specs.Prelude.{◌≡◌, ℕ, ◌^◌, ◌<◌, ◌≤◌, ◌++◌, List, length, slice_index_or, IfOk, OnOk};
 ghost use Rattle.bc_classes.specs.ClassNumbers.{IsClass};
 ghost use Rattle.bc_image.specs.Images.{IsImageListing};
-ghost use Rattle.bc_image.specs.Pictures.{Pictures};
+ghost use Rattle.bc_heapview.specs.Pictured.{PicturesObjects};
 ghost use Rattle.bc_model.specs.State.{State};
 ghost use Rattle.bc_heapview.specs.Counts.{AreCounts, AreFewCounts, counts_of, domain_counts, pair_counts, superpages_of};
 ghost use Rattle.bc_heapview.specs.Tallies.{AreCountable, IsPairTally, tally_at};
@@ -37,7 +37,7 @@ pub struct Count {
 /// by class. It takes a few words of memory for each object and address, and time linear in the objects and their words.
 pub fn counts(alloc: Global, listing: &Listing) -> Result<Vec<Count>, AllocError>
     requires listing { IsImageListing listing.now }
-    ensures counts { (s : State) → Pictures listing.now s → IfOk result (λ v. AreCounts s v.items) }
+    ensures counts { (s : State) → PicturesObjects listing.now s → IfOk result (λ v. AreCounts s v.items) }
     ensures few { IfOk result (λ v. AreFewCounts v.items) }
 {
     let tally = tally_of(alloc, listing)?;

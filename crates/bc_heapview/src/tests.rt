@@ -38,6 +38,36 @@ const SMALL: [u64; 22] = [
     2,
 ];
 
+/// A heap of one lane and two domains of two slots each after a phase of `new 1 0 1`, `new 1 1 1`, `link 1 1 0 1 0`, `clear 1 0`:
+/// slot 1 of domain 1 refers to object 0.2, whose field refers to 0.1.
+const SECOND: [u64; 25] = [
+    0x6263_696d_6167_6531,
+    1,
+    1,
+    2,
+    2,
+    1,
+    1,
+    4,
+    3,
+    1,
+    0,
+    0,
+    2,
+    0,
+    0,
+    0,
+    6,
+    258,
+    2,
+    0,
+    131_201,
+    0,
+    2,
+    262_273,
+    2,
+];
+
 /// The bytes of these items.
 fn bytes_of(alloc: Global, items: &[u64]) -> Result<Vec<u8>, AllocError> {
     let mut bytes = Vec::new(alloc);
@@ -149,6 +179,58 @@ fn view_bad_input(rt: HostRuntime) -> Result<(), Fail> {
         cause: ImageCause::Short,
     };
     shows(&rt, alloc, &["counts"], shorter, short, "");
+    Ok(())
+}
+
+#[test]
+fn a_way_may_begin_in_the_second_domain(rt: HostRuntime) -> Result<(), Fail> {
+    let alloc = rt.alloc();
+    let output = "root 1 1 0.2\nfield 0 0.1\n";
+    shows(
+        &rt,
+        alloc,
+        &["path", "0", "1"],
+        bytes_of(alloc, &SECOND)?,
+        ViewStatus::Done,
+        output,
+    );
+    let output = "domain 1 class 2 objects 2 superpages 1\nneed 1\n";
+    shows(
+        &rt,
+        alloc,
+        &["counts"],
+        bytes_of(alloc, &SECOND)?,
+        ViewStatus::Done,
+        output,
+    );
+    Ok(())
+}
+
+/// Who holds a domain decides no answer, so a heap whose domain is frozen gets that of one that a lane holds.
+#[test]
+fn a_frozen_domain_is_answered_too(rt: HostRuntime) -> Result<(), Fail> {
+    let alloc = rt.alloc();
+    let mut items = SMALL;
+    items[1] = 2;
+    items[10] = 1;
+    let output = "root 0 1 0.2\nfield 0 0.1\n";
+    shows(
+        &rt,
+        alloc,
+        &["path", "0", "1"],
+        bytes_of(alloc, &items)?,
+        ViewStatus::Done,
+        output,
+    );
+    let output = "domain 0 class 2 objects 2 superpages 1\nneed 1\n";
+    shows(
+        &rt,
+        alloc,
+        &["counts"],
+        bytes_of(alloc, &items)?,
+        ViewStatus::Done,
+        output,
+    );
     Ok(())
 }
 

@@ -5,7 +5,7 @@ ghost use Rattle.bc_io.specs.Faults.{Rose};
 ghost use Rattle.bc_io.specs.Told.{GivesAtMost, GivesExactly, HasRoom, HeldGrows, IsPrefix};
 ghost use Rattle.bc_image.specs.Images.{ImageOf, IsImageListing};
 ghost use Rattle.bc_image.specs.Listings.{ListingLists};
-ghost use Rattle.bc_image.specs.Pictures.{Pictures};
+ghost use Rattle.bc_heapview.specs.Pictured.{PicturesObjects};
 ghost use Rattle.bc_image.specs.declared.fault.ImageFault.{ImageFault};
 ghost use Rattle.bc_model.specs.State.{State};
 ghost use Rattle.bc_heapview.specs.Questions.{IsQuestionOf};
@@ -118,11 +118,11 @@ fn answer_to<K: Sink>(
     requires listing { IsImageListing listing.now }
     requires room { HasRoom (K.room sink.old) (view_bytes (length listing.now.cells)) }
     ensures ending { IsAnsweredStatus result }
-    ensures done { result ≡ ViewStatus.Done → (text : List ℕ) × ((s : State) → Pictures listing.now s → AnswersQuestion s question text)
+    ensures done { result ≡ ViewStatus.Done → (text : List ℕ) × ((s : State) → PicturesObjects listing.now s → AnswersQuestion s question text)
         × HeldGrows (K.held sink.old) (K.held sink.new) text }
     ensures write_fault { result ≡ ViewStatus.WriteFault → Rose (K.faults sink.old) (K.faults sink.new)
-        × ((text : List ℕ) × ((s : State) → Pictures listing.now s → AnswersQuestion s question text)
-        × ((front : List ℕ) × IsPrefix front text × HeldGrows (K.held sink.old) (K.held sink.new) front)) }
+        × ((text : List ℕ) × ((s : State) → PicturesObjects listing.now s → AnswersQuestion s question text)
+        × ((front : List ℕ) × IsPrefix front text × (length front < length text) × HeldGrows (K.held sink.old) (K.held sink.new) front)) }
     ensures firm { result ≢ ViewStatus.WriteFault → K.faults sink.new ≡ K.faults sink.old }
     ensures no_memory { result ≡ ViewStatus.NoMemory → sink.new ≡ sink.old }
 {
@@ -138,7 +138,7 @@ fn answer_to<K: Sink>(
 /// The text of the answer about a listing.
 fn answer(alloc: Global, listing: &Listing, question: Question) -> Result<Vec<u8>, AllocError>
     requires listing { IsImageListing listing.now }
-    ensures answer { (s : State) → Pictures listing.now s → IfOk result (λ text. AnswersQuestion s question text.items) }
+    ensures answer { (s : State) → PicturesObjects listing.now s → IfOk result (λ text. AnswersQuestion s question text.items) }
     ensures long { IfOk result (λ text. length text.items ≤ view_bytes (length listing.now.cells)) }
 {
     match question {
@@ -150,7 +150,7 @@ fn answer(alloc: Global, listing: &Listing, question: Question) -> Result<Vec<u8
 /// The lines of what is counted.
 fn counts_answer(alloc: Global, listing: &Listing) -> Result<Vec<u8>, AllocError>
     requires listing { IsImageListing listing.now }
-    ensures answer { (s : State) → Pictures listing.now s → IfOk result (λ text. IsCountsAnswer s text.items) }
+    ensures answer { (s : State) → PicturesObjects listing.now s → IfOk result (λ text. IsCountsAnswer s text.items) }
     ensures long { IfOk result (λ text. length text.items ≤ view_bytes (length listing.now.cells)) }
 {
     let counts = counts(alloc, listing)?;
@@ -163,7 +163,7 @@ fn counts_answer(alloc: Global, listing: &Listing) -> Result<Vec<u8>, AllocError
 /// The lines of the least way to an object.
 fn path_answer(alloc: Global, listing: &Listing, birth: Birth) -> Result<Vec<u8>, AllocError>
     requires listing { IsImageListing listing.now }
-    ensures answer { (s : State) → Pictures listing.now s → IfOk result (λ text. IsPathAnswer s birth text.items) }
+    ensures answer { (s : State) → PicturesObjects listing.now s → IfOk result (λ text. IsPathAnswer s birth text.items) }
     ensures long { IfOk result (λ text. length text.items ≤ view_bytes (length listing.now.cells)) }
 {
     let found = path(alloc, listing, birth)?;

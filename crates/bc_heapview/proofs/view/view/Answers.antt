@@ -43,7 +43,8 @@ returns-in-Ok-read_image-clause-write_fault g c = λ question is e.
             answer = d.1;
             front = d.2.0;
             prefix = d.2.1;
-            written = d.2.2;
+            not_all = d.2.2;
+            written = d.2.3;
           }),
     )
 
