@@ -6,6 +6,7 @@ use Rattle.sorvekla.specs.declared.errors.OpenError.{OpenError}
 use Rattle.sorvekla.specs.declared.errors.OpenError.TheVariants as fault
 use Rattle.sorvekla.specs.declared.limits.Limits.{Limits}
 
+-- a heap of 4 MiB in cells, of one lane and one domain, with as many frames as there are pages
 abbrev pub default_limits : Limits
 default_limits = record { lanes = 1; domains = 1; slots = 64; superpages = 256; nursery = 4; buffer = 1024; frames = 4294967295 }
 

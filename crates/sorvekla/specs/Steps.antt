@@ -115,12 +115,13 @@ abbrev pub reply_of_same : Bool → Reply
 reply_of_same true = reply.Yes
 reply_of_same false = reply.No
 
--- can this be the reply to such an operation?
+-- can this be the reply to a `new`?
 abbrev pub is_new_reply : Reply → Bool
 is_new_reply (reply.Obj b) = true
 is_new_reply reply.Foreign = true
 is_new_reply _ = false
 
+-- can this be the reply to a `who`?
 abbrev pub is_who_reply : Reply → Bool
 is_who_reply reply.Nil = true
 is_who_reply (reply.Num n) = true
@@ -128,12 +129,14 @@ is_who_reply (reply.Obj b) = true
 is_who_reply reply.Foreign = true
 is_who_reply _ = false
 
+-- can this be the reply to a `len`?
 abbrev pub is_len_reply : Reply → Bool
 is_len_reply (reply.Len n) = true
 is_len_reply reply.NotObj = true
 is_len_reply reply.Foreign = true
 is_len_reply _ = false
 
+-- can this be the reply to an operation that changes a field or a slot, and tells nothing?
 abbrev pub is_change_reply : Reply → Bool
 is_change_reply reply.Done = true
 is_change_reply reply.NotObj = true
@@ -141,6 +144,7 @@ is_change_reply reply.Range = true
 is_change_reply reply.Foreign = true
 is_change_reply _ = false
 
+-- can this be the reply to a `load`?
 abbrev pub is_load_reply : Reply → Bool
 is_load_reply reply.Nil = true
 is_load_reply (reply.Num n) = true
@@ -150,12 +154,14 @@ is_load_reply reply.Range = true
 is_load_reply reply.Foreign = true
 is_load_reply _ = false
 
+-- can this be the reply to a `same`?
 abbrev pub is_same_reply : Reply → Bool
 is_same_reply reply.Yes = true
 is_same_reply reply.No = true
 is_same_reply reply.Foreign = true
 is_same_reply _ = false
 
+-- can this be the reply to the operation?
 abbrev pub is_reply_to : Op → Reply → Bool
 is_reply_to (op.New p n) r = is_new_reply r
 is_reply_to (op.Who p) r = is_who_reply r

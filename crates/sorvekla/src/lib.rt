@@ -46,3 +46,6 @@ pub use heaps::Heap;
 pub use limits::Limits;
 pub use replies::Loaded;
 pub use roots::Root;
+
+#[cfg(test)]
+mod tests;
