@@ -19,7 +19,9 @@
 // Words after the program's name change what it does:
 //
 //     touch-all    an ordinary full collector in place of the bookmark collection: where the survivors find no cell, the fail-safe
-//     steps        a line beside for each emptying: its kind, and how many pages are home, gone and absent behind it
+//     steps        a line beside for each emptying: its kind, how many pages it read, how many are home, gone and absent behind it, how many
+//                  cells were freed before it since frames were short, its survivors, objects in cells and superpages in use behind it, and
+//                  all pages that were read so far
 //     timed        the engine itself does the phases, and nothing is counted but operations, reads and how things stand
 //     plain        the same, but lanes run one after another on the heap itself in each turn, and not side by side over a table
 //     clock        a phase's line tells how many `nanoseconds` it took, with `timed` or `plain`: neither reading nor printing is in it

@@ -13,7 +13,7 @@ use crate::rooms::{Pairs, Sight, look, room_seen, total};
 use anyhow::{Result, bail};
 use bc_model::{Op, Phase, Reply, Setup, Trace};
 use bc_running::Pressure;
-use heap_workshop::{objects_in_cells, pages_gone};
+use heap_workshop::{objects_in_cells, pages_gone, superpages_in_use};
 use std::thread::Threads;
 
 /// How far a lane is in a phase: how many operations are done, and a number made of the replies.
@@ -139,11 +139,13 @@ impl Play {
     where
         R: AllocGlobal + Print + Threads + Sync,
     {
+        let before = self.cells_shown();
         if !self.touch_all {
             let nurseries = self.setup.lanes.saturating_mul(self.setup.nursery);
             self.player
                 .collect_if_short(rt, &mut self.pressure, nurseries);
         }
+        let early = before.saturating_sub(self.cells_shown());
         look(&self.player.heap().space, &mut self.sights)?;
         let survivors = self.player.survivors(rt.alloc())?;
         let room = room_seen(&self.sights);
@@ -158,7 +160,7 @@ impl Play {
         } else {
             self.kind(&survivors, refused)
         };
-        self.note(rt, kind)?;
+        self.note(rt, kind, early, total(&survivors))?;
         Ok(refused)
     }
 
@@ -176,6 +178,15 @@ impl Play {
         self.player.empty(rt)
     }
 
+    /// How many objects lie in cells, where a line of each emptying was asked for.
+    fn cells_shown(&self) -> u32 {
+        if self.steps {
+            objects_in_cells(&self.player.heap().space)
+        } else {
+            0
+        }
+    }
+
     /// What an emptying was whose survivors didn't fit.
     fn kind(&self, survivors: &Pairs, refused: Option<u64>) -> Kind {
         if self.touch_all || refused.is_some() {
@@ -185,8 +196,9 @@ impl Play {
         kind_of_collection(&self.sights, survivors, self.watch.reads(), space)
     }
 
-    /// Counts an emptying, and prints a line of it where that was asked for.
-    fn note<R: Print>(&mut self, rt: &R, kind: Kind) -> Result<()> {
+    /// Counts an emptying, and prints a line of it where that was asked for: before it so many cells were freed since frames were short, and
+    /// in it there were so many survivors.
+    fn note<R: Print>(&mut self, rt: &R, kind: Kind, early: u32, survivors: u32) -> Result<()> {
         let space = &self.player.heap().space;
         let reads = space.reads().saturating_sub(self.watch.reads());
         self.counts
@@ -207,8 +219,13 @@ impl Play {
             .saturating_sub(nurseries)
             .saturating_sub(space.free_frames());
         let absent = space.pages().saturating_sub(gone).saturating_sub(home);
+        let cells = self.cells_shown();
+        let superpages = superpages_in_use(space);
+        let all = space.reads();
         print!(rt; "emptying={number} operations={operations} kind={name} reads={reads}")?;
-        println!(rt; " home={home} gone={gone} absent={absent}")?;
+        print!(rt; " home={home} gone={gone} absent={absent}")?;
+        print!(rt; " early={early} survivors={survivors} cells={cells}")?;
+        println!(rt; " superpages={superpages} all_reads={all}")?;
         Ok(())
     }
 

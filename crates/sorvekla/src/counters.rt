@@ -1,0 +1,119 @@
+//! What a heap counts, and what can be counted of it.
+
+ghost use Rattle.std.specs.Prelude.{◌≡◌, ◌≤◌, length, if◌then◌else◌};
+ghost use Rattle.bc_bits.specs.Bits.{has};
+ghost use Rattle.bc_bits.specs.Counting.{count_below};
+ghost use Rattle.bc_whole_heap.specs.Counting.{is_of_pair};
+ghost use Rattle.sorvekla.specs.Counts.{cells_of_pair};
+ghost use Rattle.sorvekla.specs.Heaps.{one_more};
+
+use crate::heaps::Heap;
+use bc_bits::count;
+use bc_pager::Answer;
+use bc_superpages::{Header, Space};
+
+/// What was done on a heap since it was opened. Each number stays at its type's end.
+#[derive(Clone, Copy, PartialEq, Eq, Debug)]
+pub struct Counters {
+    /// Minor collections: the nurseries were emptied.
+    pub minor: u64,
+    /// Bookmark collections that a call asked for.
+    pub by_hand: u64,
+    /// Fail-safe collections that a call asked for.
+    pub failsafe: u64,
+    /// Pages that were read back.
+    pub reads: u64,
+    /// Pages that left for a hint.
+    pub hinted: u64,
+}
+
+impl Counters {
+    /// Nothing was done.
+    pub(crate) fn none() -> Self
+        ensures none { result.minor ≡ 0 }
+    {
+        Counters {
+            minor: 0,
+            by_hand: 0,
+            failsafe: 0,
+            reads: 0,
+            hinted: 0,
+        }
+    }
+
+    /// The nurseries were emptied once more.
+    pub(crate) fn count_minor(&mut self)
+        ensures minor { self.new.minor ≡ one_more self.old.minor }
+    {
+        self.minor = self.minor.saturating_add(1);
+    }
+
+    /// A call asked for a bookmark collection.
+    pub(crate) fn count_by_hand(&mut self)
+        ensures minor { self.new.minor ≡ self.old.minor }
+    {
+        self.by_hand = self.by_hand.saturating_add(1);
+    }
+
+    /// A call asked for a fail-safe collection.
+    pub(crate) fn count_failsafe(&mut self)
+        ensures minor { self.new.minor ≡ self.old.minor }
+    {
+        self.failsafe = self.failsafe.saturating_add(1);
+    }
+
+    /// A hint was answered: counts a page that left.
+    pub(crate) fn count_answer(&mut self, answer: Answer)
+        ensures minor { self.new.minor ≡ self.old.minor }
+    {
+        if answer != Answer::Declined {
+            self.hinted = self.hinted.saturating_add(1);
+        }
+    }
+}
+
+impl Heap {
+    /// What was done on the heap since it was opened.
+    pub fn counters(&self) -> Counters
+        ensures minor { result.minor ≡ self.now.minor }
+        ensures reads { result.reads ≡ self.now.running.heap.space.reads }
+    {
+        Counters {
+            reads: self.running.heap().space.reads(),
+            ..self.upkeep.counters
+        }
+    }
+
+    /// How many objects of a domain and of a size class lie in cells: those that are reached, and those that no collection has freed yet. A
+    /// class is the size of a cell in words: 2, 4, 8, 16, 32, 64 or 128. An object of n fields takes the least that is above n.
+    pub fn objects_in_cells(&self, domain: u32, class: u32) -> u32
+        ensures count { result ≡ cells_of_pair self.now.running.heap.space domain class }
+    {
+        count_pair(&self.running.heap().space, domain, class)
+    }
+}
+
+/// How many cells of a pair are allocated.
+fn count_pair(space: &Space, domain: u32, class: u32) -> u32
+    ensures count { result ≡ cells_of_pair space.now domain class }
+{
+    space.facts();
+    let mut objects = 0;
+    for superpage in 0..space.superpages() {
+        objects += count_in(space.header(superpage), domain, class);
+    }
+    objects
+}
+
+/// How many cells of a superpage are allocated, if it is of the pair.
+fn count_in(header: &Header, domain: u32, class: u32) -> u32
+    requires long { length header.now.cells ≡ 16 }
+    ensures count { result ≡ (if is_of_pair domain class header.now then count_below (has header.now.cells) 1024 else 0) }
+    ensures few { result ≤ 1024 }
+{
+    if header.used && header.domain == domain && header.class == class {
+        count(&header.cells, 1024)
+    } else {
+        0
+    }
+}
