@@ -6,6 +6,7 @@ mod gates;
 mod gates_pager;
 mod gates_shapes;
 mod heaps;
+mod hostile;
 mod rows;
 mod sink;
 mod words;
