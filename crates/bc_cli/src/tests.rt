@@ -7,6 +7,7 @@ mod gates_pager;
 mod gates_reload;
 mod gates_shapes;
 mod heaps;
+mod hostile;
 mod rows;
 mod sink;
 mod words;

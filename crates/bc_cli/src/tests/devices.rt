@@ -122,26 +122,6 @@ fn stops_at_write<R: Threads + Sync + Abort>(
 }
 
 #[test]
-fn each_read_that_fails_ends_the_run_with_nothing_written(rt: HostRuntime) -> Result<(), Fail> {
-    let alloc = rt.alloc();
-    let fault = (Status::ReadFault, false);
-    for number in 1..=10 {
-        leaves(&rt, alloc, FIRST_PATH, (16, number), (1000, 0), fault, b"")?;
-    }
-    let done = (Status::Done, true);
-    leaves(
-        &rt,
-        alloc,
-        FIRST_PATH,
-        (16, 11),
-        (1000, 0),
-        done,
-        FIRST_OUTPUT,
-    )?;
-    Ok(())
-}
-
-#[test]
 fn a_write_that_fails_in_the_last_line_leaves_a_front_of_it(rt: HostRuntime) -> Result<(), Fail> {
     let alloc = rt.alloc();
     stops_at_write(&rt, alloc, FIRST_PATH, (1000, 2), &FIRST_OUTPUT[..32])?;
@@ -155,7 +135,6 @@ fn a_write_that_fails_in_the_text_of_a_phase_leaves_a_front_of_it(
     rt: HostRuntime,
 ) -> Result<(), Fail> {
     let alloc = rt.alloc();
-    stops_at_write(&rt, alloc, FIRST_PATH, (10, 3), &FIRST_OUTPUT[..20])?;
     stops_at_write(&rt, alloc, CUT_SHORT, (10, 6), &CUT_OUTPUT[..48])?;
     stops_at_write(&rt, alloc, CUT_SHORT, (10, 8), &CUT_OUTPUT[..68])?;
     Ok(())

@@ -3,7 +3,7 @@ use Rattle.std.proofs.Common.{◌≡◌, get_or, ap, ◌∙◌, arith}
 use Rattle.bc_engine.specs.Engines.{EngineView}
 use Rattle.bc_model.specs.declared.traces.Setup.{Setup}
 use Rattle.bc_engine.proofs.Births.{births-opened}
-use Rattle.bc_cli.proofs.tests.engines.an_engine_that_ended_answers_its_need_again_without_replies.Goals as goal
+use Rattle.bc_cli.proofs.tests.hostile.a_phase_after_one_that_was_refused_answers_the_same_alone_and_changes_nothing.Goals as goal
 
 pub phase-requires-clause-phase : goal.phase-requires-clause-phase
 phase-requires-clause-phase g c κs =
