@@ -1,12 +1,12 @@
 -- In the theorem.
--- The account of a heap that is handed back: what of it leaves memory is summarised, and where its frames are.
+-- The account of a heap that is handed back: what of it left memory is summarised, and how many frames are free and in use.
 use Rattle.std.specs.Prelude.{◌≡◌, ◌+◌, ◌*◌}
 use Rattle.bc_bookmarks.specs.Summarised.{IsSummarised}
 use Rattle.bc_engine.specs.Engines.{EngineView}
 use Rattle.bc_superpages.specs.Calls.{resident_count}
 
--- The heap is in order as to its pages. Bookmarks and counters stand for what the pages that left refer to. It has the setup's
--- frames, and each of them is free, a nursery page's, or that of a resident page.
+-- The heap is in order as to its pages. Bookmarks and counters stand for what the pages that left refer to. Free frames, nursery
+-- pages and resident pages add up to the setup's frames; that no frame's number is in two places is kept by the type of the space.
 pub record KeepsAccount (e : EngineView) : Type 0 where
   pub summarised : IsSummarised e.running.heap.space
   pub frames : e.running.heap.space.frames ≡ e.setup.frames

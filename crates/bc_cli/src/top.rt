@@ -137,7 +137,7 @@ where
         IfSome result.heap (λ engine. engine.workers ≡ workers_of command) }
 
     // The heap that is handed back keeps its account: bookmarks and counters stand for what the pages that left refer to,
-    // and the trace's page frames are those of the nurseries, of the pages in memory, and the free ones.
+    // and free frames, nursery pages and resident pages add up to the trace's frames.
     ensures account { IfSome result.heap KeepsAccount }
 
     // `run` over a trace within the limit: if in every phase, after every cut of its lanes, the need is at most the number

@@ -17,8 +17,8 @@ use Rattle.bc_superpages.specs.declared.headers.PageState.TheVariants.{Absent, G
 use Rattle.bc_superpages.specs.Layout.{Layout, set_of}
 use Rattle.bc_superpages.specs.LayoutAt.{state_at}
 
--- bookmark bits stay. Each that came is that of a target of a page that became Gone; or it came for a page that an answer or a lane made
--- Gone, and that a lane brought back
+-- bookmark bits stay. Each that came is that of a target of a page that became Gone; or some page was made Gone by an answer or a lane,
+-- and brought back by a lane
 pub record BookmarksBeside (s t : Layout) (told : List Answer) (left fetched : List ℕ) : Type 0 where
   pub stay : (q b : ℕ) → has (set_of s.bookmarks q) b ≡ true → has (set_of t.bookmarks q) b ≡ true
   pub only : (q b : ℕ) → has (set_of t.bookmarks q) b ≡ true
