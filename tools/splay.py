@@ -118,7 +118,13 @@ def rotated_left(node):
     return below
 
 
+USAGE = 'usage: tools/splay.py [NODES [STEPS]]'
+
+
 def main():
+    if sys.argv[1:2] in (['--help'], ['-h']):
+        print(USAGE)
+        return
     nodes, steps = (int(word) for word in (sys.argv[1:] + ['800', '2000'][len(sys.argv) - 1:]))
     drawn, tree = random.Random(7), SplayTree()
     log_to(sys.stdout)
