@@ -143,7 +143,8 @@ pub(crate) fn bring<G: Gate>(
     }
     lay_down(pins, seat, hand);
     match pick_up(pins, seat, page) {
-        Ok(held) => {
+        Ok(mut held) => {
+            held.note_use();
             *hand = Some(held);
             gate.at(lane, 7);
             Ok(())
