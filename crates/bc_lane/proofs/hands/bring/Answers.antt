@@ -1,10 +1,10 @@
-use Rattle.std.proofs.Common.{◌≡◌, ◌<◌, true, false, Option, refl, sym, subst, ◌∙◌}
+use Rattle.std.proofs.Common.{◌≡◌, ◌<◌, true, false, Option, Some, refl, ap, sym, subst, ◌∙◌}
 use Rattle.bc_lane.specs.Shown.{ShowsPages}
 use Rattle.bc_lane.specs.Turns.{HasInHand}
 use Rattle.bc_lane.proofs.FrameLemmas.{refused-since-then}
 use Rattle.bc_lane.proofs.PassLemmas.{none-passes, passes-on}
 use Rattle.bc_lane.proofs.HandLemmas.{at-lane, none-reads, own-lane, rights-on, same-lane, then-lane, then-reads}
-use Rattle.bc_pins.specs.Calls.{view_of}
+use Rattle.bc_pins.specs.Calls.{HoldsPage, view_of}
 use Rattle.bc_pins.specs.Contents.{IsBarePage}
 use Rattle.bc_pins.specs.Key.{Key, pages_of}
 use Rattle.bc_pins.specs.declared.holding.Held.{Held}
@@ -48,13 +48,14 @@ pub returns-in-Ok-clause-same : goal.returns-in-Ok-clause-same
 returns-in-Ok-clause-same g c = then-lane c.args.seat.now c.lay_down.new.seat c.pick_up.new.seat c.lay_down.ensures.same c.pick_up.ensures.same
 
 pub returns-in-Ok-clause-hands : goal.returns-in-Ok-clause-hands
-returns-in-Ok-clause-hands g c = c.in-Ok.ensures.ok.0
+returns-in-Ok-clause-hands g c = subst (λ (h : Held). HoldsPage c.pick_up.new.seat h) (sym c.note_use.ensures.same) c.in-Ok.ensures.ok.0
 
 pub returns-in-Ok-clause-shows : goal.returns-in-Ok-clause-shows
-returns-in-Ok-clause-shows g c = λ end s shown. c.in-Ok.ensures.shows end s (c.lay_down.ensures.shows end s shown)
+returns-in-Ok-clause-shows g c = λ end s shown.
+    subst (λ (h : Held). ShowsPages (view_of c.pick_up.new.seat) (Some h) end s) (sym c.note_use.ensures.same) (c.in-Ok.ensures.shows end s (c.lay_down.ensures.shows end s shown))
 
 pub returns-in-Ok-clause-there : goal.returns-in-Ok-clause-there
-returns-in-Ok-clause-there g c = sym c.in-Ok.ensures.ok.1
+returns-in-Ok-clause-there g c = sym (ap (λ (h : Held). h.page) c.note_use.ensures.same ∙ c.in-Ok.ensures.ok.1)
 
 pub returns-in-Ok-clause-reads : goal.returns-in-Ok-clause-reads
 returns-in-Ok-clause-reads g c = then-reads (view_of c.args.seat.now) (view_of c.lay_down.new.seat) (view_of c.pick_up.new.seat) c.lay_down.ensures.reads c.pick_up.ensures.reads
