@@ -5,7 +5,7 @@ ghost use Rattle.bc_engine.specs.Lanes.{of_lane};
 ghost use Rattle.bc_model.specs.WellFormed.{IsPhase};
 
 use super::gates::run_past;
-use super::{repeated, shows, trace};
+use super::{repeated, shows, shows_done, trace};
 use crate::{OpenGate, Status, top};
 use bc_bits::count;
 use bc_engine::{Answer, Engine, PhaseNo};
@@ -195,44 +195,55 @@ fn a_write_that_fails_after_an_object_too_many_leaves_the_heap_of_the_stopped_st
     Ok(())
 }
 
-/// A phase whose notices name pages from both ends of the numbers and two that are absent, while a mature object comes to refer to a young one.
-const REMEMBERED: &str =
-    "phase\nlane 0\nnew 0 0 1\nend\nphase\nturn 0 4294967295 3 2\nlane 0\nnew 0 1 0\nlink 0 0 0 0 1\nload 0 0 0 0 1\nwho 0 1\nend\n";
+/// Lines of a phase whose notices name a page, three times none or one that is absent, while a mature object comes to refer to a young one.
+/// What they print. And the same with a phase after it.
+const REMEMBERED: [(&str, &str); 2] = [
+    (
+        "phase\nlane 0\nnew 0 0 1\nend\nphase\nturn 0 4294967295 3 2\nlane 0\nnew 0 1 0\nlink 0 0 0 0 1\nload 0 0 0 0 1\nwho 0 1\nend\ndone\n",
+        "phase 1\nlane 0\nobj 0.1\nphase 2\nlane 0\nobj 0.2\nok\nref\nobj 0.2\ndone\n",
+    ),
+    (
+        "phase\nlane 0\nnew 0 0 1\nend\nphase\nturn 0 4294967295 3 2\nlane 0\nnew 0 1 0\nlink 0 0 0 0 1\nload 0 0 0 0 1\nwho 0 1\nend\nphase\nlane 0\nwho 0 1\nend\ndone\n",
+        "phase 1\nlane 0\nobj 0.1\nphase 2\nlane 0\nobj 0.2\nok\nref\nobj 0.2\nphase 3\nlane 0\nobj 0.2\ndone\n",
+    ),
+];
 
-/// What it prints.
-const REMEMBERED_OUTPUT: &str =
-    "phase 1\nlane 0\nobj 0.1\nphase 2\nlane 0\nobj 0.2\nok\nref\nobj 0.2\n";
-
-/// Shows that there are four answers for each turn of the lanes: one where the page is remembered before its notice comes, and two where it
-/// has left by then and the lane stops for it. Page 1 has an object where page 0 had left as the first turn ended.
-fn shows_answers<R: Abort>(rt: &R, answers: &[Answer]) {
-    assert!(rt; answers.len() == 4 || answers.len() == 8);
-    for answer in answers {
-        assert!(rt; matches!(answer, Answer::Declined | Answer::Evicted(0 | 1)));
+#[test]
+fn hints_of_no_page_and_of_absent_pages_change_no_reply(rt: HostRuntime) -> Result<(), Fail> {
+    for (lines, output) in REMEMBERED {
+        shows_done(&rt, rt.alloc(), SMALL, lines, output)?;
     }
+    Ok(())
+}
+
+/// Are there four answers for each turn of the lanes, of which there is one where the page is remembered before its notice comes, and two where
+/// it has left by then and the lane stops for it? Page 1 has an object where page 0 had left as the first turn ended.
+fn are_answers(answers: &[Answer]) -> bool {
+    let is_whole = answers.len() == 4 || answers.len() == 8;
+    let may_be = |answer: &Answer| matches!(answer, Answer::Declined | Answer::Evicted(0 | 1));
+    is_whole && answers.iter().all(may_be)
 }
 
 #[test]
-fn hints_of_no_page_and_of_absent_pages_have_an_answer_each_and_change_no_reply(
+fn each_hint_of_each_turn_has_an_answer_though_it_names_no_page(
     rt: HostRuntime,
 ) -> Result<(), Fail> {
-    let alloc = rt.alloc();
-    let lines = format!(in alloc; "{REMEMBERED}phase\nlane 0\nwho 0 1\nend\ndone\n")?;
-    let output = format!(in alloc; "{REMEMBERED_OUTPUT}phase 3\nlane 0\nobj 0.2\ndone\n")?;
-    let input = trace(alloc, SMALL, &lines)?.into_bytes();
-    shows(&rt, alloc, &["run"], input, (Status::Done, true), &output);
-    let lines = format!(in alloc; "{REMEMBERED}done\n")?;
-    let output = format!(in alloc; "{REMEMBERED_OUTPUT}done\n")?;
-    let text = trace(alloc, SMALL, &lines)?;
-    let left = run_between(&rt, alloc, text.as_bytes(), (4096, 0), (4096, 0))?;
-    assert_eq!(rt; left.held.as_slice(), output.as_bytes());
-    let Some(engine) = &left.heap else {
-        return Err(Fail::new("no heap was handed back"));
-    };
-    shows_answers(&rt, engine.answers());
-    let passed = run_past(&rt, alloc, &text, &OpenGate)?;
-    assert_eq!(rt; passed.written.as_slice(), output.as_bytes());
-    shows_answers(&rt, &passed.answers);
+    let text = trace(rt.alloc(), SMALL, REMEMBERED[0].0)?;
+    let left = run_between(&rt, rt.alloc(), text.as_bytes(), (4096, 0), (4096, 0))?;
+    assert!(rt;
+        left.heap
+            .is_some_and(|engine| are_answers(engine.answers()))
+    );
+    Ok(())
+}
+
+#[test]
+fn each_hint_of_each_turn_has_an_answer_where_a_pager_works_beside_the_lane(
+    rt: HostRuntime,
+) -> Result<(), Fail> {
+    let text = trace(rt.alloc(), SMALL, REMEMBERED[0].0)?;
+    let passed = run_past(&rt, rt.alloc(), &text, &OpenGate)?;
+    assert!(rt; are_answers(&passed.answers));
     Ok(())
 }
 
