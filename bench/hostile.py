@@ -1,5 +1,6 @@
 """The runs of the benches for hostile use: words and an input, and what the program says where nothing fails."""
 import random
+import re
 import subprocess
 import sys
 from dataclasses import dataclass, field
@@ -48,7 +49,8 @@ def built(words):
         at = words.index('--bc')
         return str(Path(words[at + 1]).resolve()), words[:at] + words[at + 2:]
     subprocess.run([TOP / 'bin/bc', 'run'], input=(TOP / 'examples/header-only.trace').read_bytes(), capture_output=True, check=True)
-    return str(TOP / 'crates/bc_cli/out/bc_cli'), words
+    program = re.search(r'^program=\$top/(\S+)$', (TOP / 'bin/bc').read_text(encoding='utf-8'), re.MULTILINE)
+    return str(TOP / program[1]), words
 
 
 def preloaded(room):
