@@ -125,6 +125,3 @@ pub fn law_any()
     ensures some { (f : ℕ → Bool) → (n : ℕ) → any_below f n ≡ true → (i : ℕ) × (i < n) × (f i ≡ true) }
     ensures here { (f : ℕ → Bool) → (n i : ℕ) → i < n → f i ≡ true → any_below f n ≡ true }
 {}
-
-#[cfg(test)]
-mod tests;

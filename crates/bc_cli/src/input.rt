@@ -20,7 +20,7 @@ use std::alloc::Global;
 pub const LONGEST_TRACE: usize = 16_777_216;
 
 /// Reads the source to its end, and its bytes as a trace. The error is the status of a run that ends here.
-pub(crate) fn read_trace<S: Source>(alloc: Global, source: &mut S) -> Result<Trace, Status>
+pub fn read_trace<S: Source>(alloc: Global, source: &mut S) -> Result<Trace, Status>
     ensures found { IfOk result (ReadAsTrace (S.left source.old) (S.left source.new)) }
 
     // No refusal comes without its cause.

@@ -31,7 +31,8 @@ impl Outcome {
         }
     }
 
-    pub(crate) fn without_heap(status: Status) -> Self
+    /// The outcome of a run that hands no heap back: it ended before there was one, or memory ran out in it.
+    pub fn without_heap(status: Status) -> Self
         ensures status { result.status ≡ status }
         ensures heap { result.heap ≡ None }
     {

@@ -45,7 +45,7 @@ fn open_paced(
 
 /// Replays a trace on a new heap: writes the text of each phase as soon as it has run, and then the last line. `pacing` says how the turns
 /// of its lanes run.
-pub(crate) fn run_trace<R, K, G>(
+pub fn run_trace<R, K, G>(
     rt: &R,
     alloc: Global,
     trace: &Trace,

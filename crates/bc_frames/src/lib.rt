@@ -39,6 +39,3 @@ pub use storage::Store;
 
 /// Memory ran out.
 pub type NoMemory = std::alloc::AllocError;
-
-#[cfg(test)]
-mod tests;

@@ -26,6 +26,3 @@ pub struct OpenGate;
 impl Gate for OpenGate {
     fn at(&self, _who: u32, _point: u32) {}
 }
-
-#[cfg(test)]
-mod tests;

@@ -31,6 +31,3 @@ pub use fault::{ImageCause, ImageFault, ReadImage};
 pub use laws::{law_one_image, law_read_back};
 pub use listing::{Cell, Holder, Listing};
 pub use scanning::scan;
-
-#[cfg(test)]
-mod tests;

@@ -36,6 +36,3 @@ mod turns;
 pub use laws::{law_all_back, law_opening};
 pub use stops::Stop;
 pub use turns::{LaneDone, LaneRoom, LaneRoots, LaneTurn};
-
-#[cfg(test)]
-mod tests;

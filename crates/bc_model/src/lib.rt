@@ -24,8 +24,6 @@ mod opening;
 mod operations;
 mod plain_heap;
 mod replay;
-#[cfg(test)]
-mod tests;
 mod traces;
 mod values;
 

@@ -2,7 +2,3 @@
 pub mod TakenLemmas
 -- Answers, one after another
 pub mod ServeLemmas
--- What the tests need
-mod TestLemmas
--- A page that comes back in the turn, in the tests
-mod BackLemmas

@@ -33,6 +33,3 @@ mod serving;
 pub use answers::{Answer, Answers};
 pub use notices::{ListNotices, Notice, Notices};
 pub use serving::serve;
-
-#[cfg(test)]
-mod tests;

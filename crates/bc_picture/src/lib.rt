@@ -29,6 +29,3 @@ mod writing;
 pub use building::{Picture, build};
 pub use laws::law_saved;
 pub use writing::write;
-
-#[cfg(test)]
-mod tests;

@@ -75,6 +75,3 @@ pub use pins::{Pins, Seat};
 pub use rest::Rest;
 pub use taking::{TakeNo, Want};
 pub use views::{Hand, Lodged, View};
-
-#[cfg(test)]
-mod tests;

@@ -73,6 +73,3 @@ pub use reading::read;
 pub use replies::{need_room, phase_room, phase_text, put_need, put_phase, reply_line};
 pub use rooms::{put, put_number, put_numbered, put_small};
 pub use writing::write;
-
-#[cfg(test)]
-mod tests;

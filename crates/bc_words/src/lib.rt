@@ -23,6 +23,3 @@ mod numbers;
 pub use command::{Command, command_of};
 pub use laws::law_workers_anywhere;
 pub use numbers::number;
-
-#[cfg(test)]
-mod tests;

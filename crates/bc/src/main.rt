@@ -1,0 +1,107 @@
+// bc: the program. `main` only makes the real source and sink, calls `bc_cli::top`, prints the line that `report` tells of its outcome, and
+// ends with the exit status that it tells. What it does is shown by `.ci/examples` and `.ci/statuses` on the built program.
+#![tactic(auto)]
+
+ghost use Rattle.std.specs.Prelude.{◌≡◌, ◌≢◌, ℕ, IfErr, IfOk, IfSome, map, string_bytes, None};
+ghost use Rattle.std.specs.Process.{exit_status};
+ghost use Rattle.bc_cli.specs.Accounts.{KeepsAccount};
+ghost use Rattle.bc_cli.specs.Churns.{ChurnsDone};
+ghost use Rattle.bc_cli.specs.Outcomes.{Faulty, IfBadTrace, IfHeapless, IfStatusOutOfHeap, IsOrNoMemory, RanOutOfHeap, Replayed, workers_of};
+ghost use Rattle.bc_cli.specs.Statuses.{exit_code_of, fault_of};
+ghost use Rattle.bc_words.specs.Commands.{IsCommandOf};
+ghost use Rattle.bc_words.specs.declared.command.Command.{Command};
+ghost use Rattle.bc_words.specs.declared.command.Command.TheVariants.{Run, Churn};
+
+use bc_cli::top::top;
+use bc_cli::{Fault, OpenGate, Outcome, Status};
+use bc_io::{StdSink, StdSource};
+use std::alloc::{AllocError, Global};
+use std::env;
+use std::io::{ErrorKind, Read, Write};
+use std::process::ExitCode;
+use std::thread::Threads;
+
+/// The words after the program's name.
+fn words_of(rt: &HostRuntime) -> Result<Vec<String>, Status>
+    ensures { IfErr result (λ status. IsOrNoMemory status Status.BadWords) }
+{
+    match env::args(rt) {
+        Ok(words) => words
+            .skip(1)
+            .collect(rt.alloc())
+            .map_err(|_| Status::NoMemory),
+        Err(error) => Err(wordless(error.kind())),
+    }
+}
+
+/// The status of a program that can't have its words. Words that are no text are no command.
+fn wordless(kind: ErrorKind) -> Status
+    ensures memory { kind ≡ ErrorKind.OutOfMemory → result ≡ Status.NoMemory }
+    ensures text { kind ≢ ErrorKind.OutOfMemory → result ≡ Status.BadWords }
+{
+    match kind {
+        ErrorKind::OutOfMemory => Status::NoMemory,
+        _ => Status::BadWords,
+    }
+}
+
+/// The words, borrowed.
+fn borrowed(alloc: Global, words: &[String]) -> Result<Vec<&str>, AllocError>
+    ensures { IfOk result (λ texts. map (λ w. w.now) texts.items ≡ map (λ w. string_bytes w) words.now) }
+{
+    let mut texts = Vec::with_capacity(alloc, words.len())?;
+    for word in words {
+        texts.push(word.as_str())?;
+    }
+    Ok(texts)
+}
+
+/// Does what the words ask for, over these streams. No stream's bytes are known, so what is said of them holds of some bytes.
+fn run_words<R, I, O>(rt: &R, words: &[String], input: I, output: O) -> Outcome
+where
+    R: AllocGlobal + Threads + Sync,
+    I: Read + Drop,
+    O: Write + Drop,
+    ensures done { (workers : ℕ) → IsCommandOf (map (λ w. string_bytes w) words.now) (Run workers) →
+        result.status ≡ Status.Done → Replayed None None None None result.heap }
+    ensures churn_done { (start ops workers : ℕ) → IsCommandOf (map (λ w. string_bytes w) words.now) (Churn start ops workers) →
+        result.status ≡ Status.Done → ChurnsDone start ops None None result.heap }
+    ensures bad_words { result.status ≡ Status.BadWords →
+        (command : Command) → ¬ IsCommandOf (map (λ w. string_bytes w) words.now) command }
+    ensures refused { ((command : Command) → ¬ IsCommandOf (map (λ w. string_bytes w) words.now) command) →
+        IsOrNoMemory result.status Status.BadWords }
+    ensures bad_trace { IfBadTrace result.status (λ line cause. Faulty None None line cause) }
+    ensures out_of_heap { IfStatusOutOfHeap result.status (λ need. RanOutOfHeap None None None None result.heap need) }
+    ensures none { IfHeapless result.status (result.heap ≡ None) }
+    ensures workers { (command : Command) → IsCommandOf (map (λ w. string_bytes w) words.now) command →
+        IfSome result.heap (λ engine. engine.workers ≡ workers_of command) }
+    ensures account { IfSome result.heap KeepsAccount }
+{
+    let Ok(texts) = borrowed(rt.alloc(), words) else {
+        return Outcome::without_heap(Status::NoMemory);
+    };
+    let mut source = StdSource::new(input);
+    let mut sink = StdSink::new(output);
+    top(rt, rt.alloc(), &texts, &mut source, &mut sink, &OpenGate)
+}
+
+/// What is printed of a run that ended so: the line for standard error, which says what is wrong with it, if it wasn't done, and the exit
+/// status of the program.
+fn report(outcome: Outcome) -> (Option<Fault>, ExitCode)
+    ensures line { result.0 ≡ fault_of outcome.status }
+    ensures status { exit_status result.1 ≡ exit_code_of outcome.status }
+{
+    (outcome.fault(), ExitCode::from(outcome.exit_code()))
+}
+
+fn main(rt: HostRuntime) -> ExitCode {
+    let outcome = match words_of(&rt) {
+        Ok(words) => run_words(&rt, &words, rt.stdin(), rt.stdout()),
+        Err(status) => Outcome::without_heap(status),
+    };
+    let (line, status) = report(outcome);
+    if let Some(line) = line {
+        let _ = eprintln!(rt; "{line}");
+    }
+    status
+}

@@ -1,0 +1,105 @@
+//! Runs of `top` over devices in memory: what is printed, what is refused, and what a fault leaves.
+
+mod devices;
+mod engines;
+mod gates;
+mod gates_pager;
+mod gates_reload;
+mod gates_shapes;
+mod heaps;
+mod hostile;
+mod rows;
+mod sink;
+mod words;
+
+use bc_cli::top::top;
+use bc_cli::{OpenGate, Status};
+use bc_io::MemSource;
+use bc_trace::Cause;
+use sink::Paper;
+use std::alloc::{AllocError, Global};
+use std::process::Abort;
+use std::thread::Threads;
+
+/// What a run ended with, whether it handed back a heap, and what it wrote.
+#[derive(Drop)]
+pub struct Ran {
+    pub status: Status,
+    pub has_heap: bool,
+    pub written: Vec<u8>,
+}
+
+/// Runs the words over these bytes.
+pub fn run_over<R: Threads + Sync>(rt: &R, alloc: Global, words: &[&str], input: Vec<u8>) -> Ran {
+    let mut source = MemSource::new(input, 4096, Vec::new(alloc));
+    let mut sink = Paper::new(alloc);
+    let outcome = top(rt, alloc, words, &mut source, &mut sink, &OpenGate);
+    Ran {
+        status: outcome.status,
+        has_heap: outcome.heap.is_some(),
+        written: sink.into_bytes(),
+    }
+}
+
+/// Shows that the words over these bytes end so, with a heap that is handed back or none, and what they write.
+pub fn shows<R: Threads + Sync + Abort>(
+    rt: &R,
+    alloc: Global,
+    words: &[&str],
+    input: Vec<u8>,
+    (status, has_heap): (Status, bool),
+    output: &str,
+) {
+    let ran = run_over(rt, alloc, words, input);
+    assert_eq!(rt; ran.status, status);
+    assert_eq!(rt; ran.has_heap, has_heap);
+    assert!(rt;
+        ran.written.as_slice() == output.as_bytes(),
+        "in place of {output}"
+    );
+}
+
+/// Shows that `run` over this header and these lines behind it is done, and what it writes.
+pub fn shows_done<R: Threads + Sync + Abort>(
+    rt: &R,
+    alloc: Global,
+    numbers: [u32; 7],
+    lines: &str,
+    output: &str,
+) -> Result<(), AllocError> {
+    let input = trace(alloc, numbers, lines)?.into_bytes();
+    shows(rt, alloc, &["run"], input, (Status::Done, true), output);
+    Ok(())
+}
+
+/// Shows that `run` over this header and these lines behind it is refused, where and why, and that nothing is written.
+pub fn shows_fault<R: Threads + Sync + Abort>(
+    rt: &R,
+    alloc: Global,
+    numbers: [u32; 7],
+    lines: &str,
+    line: u32,
+    cause: Cause,
+) -> Result<(), AllocError> {
+    let input = trace(alloc, numbers, lines)?.into_bytes();
+    let status = Status::BadTrace { line, cause };
+    shows(rt, alloc, &["run"], input, (status, false), "");
+    Ok(())
+}
+
+/// The header's eight lines, and lines behind it.
+pub fn trace(alloc: Global, numbers: [u32; 7], lines: &str) -> Result<String, AllocError> {
+    let [lanes, domains, slots, superpages, nursery, buffer, frames] = numbers;
+    format!(in alloc;
+        "bc-trace 1\nlanes {lanes}\ndomains {domains}\nslots {slots}\nsuperpages {superpages}\nnursery {nursery}\nbuffer {buffer}\nframes {frames}\n{lines}"
+    )
+}
+
+/// These lines so many times.
+pub fn repeated(alloc: Global, lines: &str, times: u32) -> Result<String, AllocError> {
+    let mut text = String::new(alloc);
+    for _ in 0..times {
+        text.push_str(lines)?;
+    }
+    Ok(text)
+}

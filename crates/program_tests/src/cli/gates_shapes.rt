@@ -1,0 +1,371 @@
+//! Lanes and a pager meet in other shapes: sixteen lanes at once, in the second turn of the second phase, with a page in a lane's hands, and
+//! in long turns that the program itself runs side by side. Shown by gates that they pass.
+
+use super::gates::{AFTER, BEFORE, Counting, Patience, run_past};
+use super::gates_pager::{ANSWERED, PAGER, TAKEN};
+use super::sink::Paper;
+use super::{repeated, trace};
+use bc_cli::top::top;
+use bc_cli::{Gate, Status};
+use bc_engine::Answer;
+use bc_io::MemSource;
+use std::alloc::{AllocError, Global};
+use std::sync::atomic::{AtomicU64, Ordering};
+use std::test::Fail;
+use std::thread::Threads;
+
+/// A lane has a page in its hands.
+const IN_HAND: u32 = 7;
+
+/// A bit for each of sixteen lanes.
+const ALL_LANES: u64 = 0xffff;
+
+/// Keeps each of sixteen lanes before its first operation until all have come there, and before its second one until the next lane in
+/// the ring has done its first.
+#[derive(Drop)]
+struct Ring {
+    /// A bit for each lane that has come before an operation.
+    come: AtomicU64,
+    /// A bit for each lane that has done one.
+    done: AtomicU64,
+    /// How many operations all lanes did.
+    passes: AtomicU64,
+    patience: Patience,
+}
+
+impl Gate for Ring {
+    fn at(&self, who: u32, point: u32) {
+        if who >= 16 {
+            return;
+        }
+        let lane = 1u64 << who;
+        let next = 1u64 << ((who + 1) % 16);
+        match point {
+            BEFORE => {
+                if self.come.fetch_or(lane, Ordering::SeqCst) & lane == 0 {
+                    self.patience.keep_until_all(&self.come, ALL_LANES);
+                } else {
+                    self.patience.keep_until_all(&self.done, next);
+                }
+            }
+            AFTER => {
+                self.done.fetch_or(lane, Ordering::SeqCst);
+                self.passes.fetch_add(1, Ordering::SeqCst);
+            }
+            _ => {}
+        }
+    }
+}
+
+#[test]
+fn sixteen_lanes_that_wait_for_one_another_in_a_ring_all_come_through(
+    rt: HostRuntime,
+) -> Result<(), Fail> {
+    let mut lines = String::from_str(rt.alloc(), "phase\n")?;
+    let mut output = String::from_str(rt.alloc(), "phase 1\n")?;
+    for lane in 0..16u32 {
+        let ops = format!(in rt.alloc(); "lane {lane}\nnew {lane} 0 0\nwho {lane} 0\n")?;
+        lines.push_str(&ops)?;
+        let replies = format!(in rt.alloc(); "lane {lane}\nobj {lane}.1\nobj {lane}.1\n")?;
+        output.push_str(&replies)?;
+    }
+    lines.push_str("end\ndone\n")?;
+    output.push_str("done\n")?;
+    let text = trace(rt.alloc(), [16, 16, 1, 16, 1, 4, 34], &lines)?;
+    let gate = Ring {
+        come: AtomicU64::new(0),
+        done: AtomicU64::new(0),
+        passes: AtomicU64::new(0),
+        patience: Patience::new(),
+    };
+    let passed = run_past(&rt, rt.alloc(), &text, &gate)?;
+    assert_eq!(rt; passed.status, Status::Done);
+    assert!(rt; passed.written.as_slice() == output.as_bytes());
+    assert_eq!(rt; gate.passes.load(Ordering::SeqCst), 32);
+    assert_eq!(rt; gate.patience.given_up.load(Ordering::SeqCst), 0);
+    Ok(())
+}
+
+/// In the second turn of lane 0: keeps it before its first operation until the pager has answered the first of that turn's two notices,
+/// and before its second one until the other is answered; and the pager at the first notice until lane 0 has come before that
+/// operation, and at the other until it has done it. The first turn has one notice, and five operations of which the last isn't done.
+#[derive(Drop)]
+struct SecondTurn {
+    come: AtomicU64,
+    done: AtomicU64,
+    taken: AtomicU64,
+    answered: AtomicU64,
+    patience: Patience,
+}
+
+impl Gate for SecondTurn {
+    fn at(&self, who: u32, point: u32) {
+        match (who, point) {
+            (0, BEFORE) => match self.come.fetch_add(1, Ordering::SeqCst) {
+                5 => self.patience.keep_until_above(&self.answered, 1),
+                6 => self.patience.keep_until_above(&self.answered, 2),
+                _ => {}
+            },
+            (0, AFTER) => {
+                self.done.fetch_add(1, Ordering::SeqCst);
+            }
+            (PAGER, TAKEN) => match self.taken.fetch_add(1, Ordering::SeqCst) {
+                1 => self.patience.keep_until_above(&self.come, 5),
+                2 => self.patience.keep_until_above(&self.done, 4),
+                _ => {}
+            },
+            (PAGER, ANSWERED) => {
+                self.answered.fetch_add(1, Ordering::SeqCst);
+            }
+            _ => {}
+        }
+    }
+}
+
+/// So many lines by which the domain's slots from 0 on get objects of 126 fields, of which four fill a nursery page and four a page.
+pub fn big_objects(alloc: Global, domain: u32, slots: u32) -> Result<String, AllocError> {
+    let mut text = String::new(alloc);
+    for slot in 0..slots {
+        let line = format!(in alloc; "new {domain} {slot} 126\n")?;
+        text.push_str(&line)?;
+    }
+    Ok(text)
+}
+
+/// The lane's replies to so many new objects, its first ones.
+pub fn first_births(alloc: Global, lane: u32, objects: u32) -> Result<String, AllocError> {
+    let mut text = String::new(alloc);
+    for serial in 1..=objects {
+        let line = format!(in alloc; "obj {lane}.{serial}\n")?;
+        text.push_str(&line)?;
+    }
+    Ok(text)
+}
+
+#[test]
+fn a_lane_and_a_pager_meet_in_the_second_turn_of_the_second_phase_twice(
+    rt: HostRuntime,
+) -> Result<(), Fail> {
+    let old = big_objects(rt.alloc(), 1, 12)?;
+    let new = repeated(rt.alloc(), "new 0 0 126\n", 8)?;
+    let lines = format!(in rt.alloc();
+        "phase\nlane 0\nlane 1\n{old}end\nphase\nturn 0\nturn 1 2\nlane 0\n{new}lane 1\nend\ndone\n"
+    )?;
+    let text = trace(rt.alloc(), [2, 2, 12, 2, 1, 4, 10], &lines)?;
+    let gate = SecondTurn {
+        come: AtomicU64::new(0),
+        done: AtomicU64::new(0),
+        taken: AtomicU64::new(0),
+        answered: AtomicU64::new(0),
+        patience: Patience::new(),
+    };
+    let passed = run_past(&rt, rt.alloc(), &text, &gate)?;
+    assert_eq!(rt; passed.status, Status::Done);
+    let first = first_births(rt.alloc(), 1, 12)?;
+    let second = first_births(rt.alloc(), 0, 8)?;
+    let output = format!(in rt.alloc();
+        "phase 1\nlane 0\nlane 1\n{first}phase 2\nlane 0\n{second}lane 1\ndone\n"
+    )?;
+    assert!(rt; passed.written.as_slice() == output.as_bytes());
+    let answers = [Answer::Evicted(0), Answer::Evicted(1), Answer::Evicted(2)];
+    assert!(rt; passed.answers.as_slice() == answers.as_slice());
+    assert_eq!(rt; gate.come.load(Ordering::SeqCst), 8);
+    assert_eq!(rt; gate.done.load(Ordering::SeqCst), 7);
+    assert_eq!(rt; gate.answered.load(Ordering::SeqCst), 3);
+    assert_eq!(rt; gate.patience.given_up.load(Ordering::SeqCst), 0);
+    Ok(())
+}
+
+/// Keeps lane 0 with a page in its hands until the pager has answered, and the pager at its notice until lane 0 has the page.
+#[derive(Drop)]
+struct Holding {
+    in_hand: AtomicU64,
+    answered: AtomicU64,
+    patience: Patience,
+}
+
+impl Gate for Holding {
+    fn at(&self, who: u32, point: u32) {
+        match (who, point) {
+            (0, IN_HAND) => {
+                self.in_hand.fetch_add(1, Ordering::SeqCst);
+                self.patience.keep_until(&self.answered);
+            }
+            (PAGER, TAKEN) => self.patience.keep_until(&self.in_hand),
+            (PAGER, ANSWERED) => {
+                self.answered.fetch_add(1, Ordering::SeqCst);
+            }
+            _ => {}
+        }
+    }
+}
+
+#[test]
+fn a_page_in_a_lanes_hands_is_declined(rt: HostRuntime) -> Result<(), Fail> {
+    let lines =
+        "phase\nlane 0\nnew 0 0 1\nend\nphase\nturn 0\nlane 0\nlen 0 0\nwho 0 0\nend\ndone\n";
+    let text = trace(rt.alloc(), [1, 1, 2, 1, 1, 4, 3], lines)?;
+    let gate = Holding {
+        in_hand: AtomicU64::new(0),
+        answered: AtomicU64::new(0),
+        patience: Patience::new(),
+    };
+    let passed = run_past(&rt, rt.alloc(), &text, &gate)?;
+    assert_eq!(rt; passed.status, Status::Done);
+    let output = "phase 1\nlane 0\nobj 0.1\nphase 2\nlane 0\nlen 1\nobj 0.1\ndone\n";
+    assert!(rt; passed.written.as_slice() == output.as_bytes());
+    assert!(rt; passed.answers.as_slice() == [Answer::Declined].as_slice());
+    assert_eq!(rt; gate.in_hand.load(Ordering::SeqCst), 1);
+    assert_eq!(rt; gate.patience.given_up.load(Ordering::SeqCst), 0);
+    Ok(())
+}
+
+#[test]
+fn lines_of_9_and_of_64_notices_are_answered_turn_by_turn_beside_two_lanes(
+    rt: HostRuntime,
+) -> Result<(), Fail> {
+    let nine = repeated(rt.alloc(), " 0", 9)?;
+    let most = repeated(rt.alloc(), " 7", 64)?;
+    let zero = repeated(rt.alloc(), "new 0 0 126\n", 10)?;
+    let one = repeated(rt.alloc(), "new 1 0 126\n", 10)?;
+    let lines = format!(in rt.alloc();
+        "phase\nturn{nine}\nturn{most}\nlane 0\n{zero}lane 1\n{one}end\ndone\n"
+    )?;
+    let text = trace(rt.alloc(), [2, 2, 1, 2, 1, 4, 6], &lines)?;
+    let gate = Counting {
+        who: PAGER,
+        point: ANSWERED,
+        passes: AtomicU64::new(0),
+    };
+    let passed = run_past(&rt, rt.alloc(), &text, &gate)?;
+    assert_eq!(rt; passed.status, Status::Done);
+    let first = first_births(rt.alloc(), 0, 10)?;
+    let second = first_births(rt.alloc(), 1, 10)?;
+    let output = format!(in rt.alloc(); "phase 1\nlane 0\n{first}lane 1\n{second}done\n")?;
+    assert!(rt; passed.written.as_slice() == output.as_bytes());
+    // Three turns, of which the third has the first line again.
+    assert_eq!(rt; passed.answers.len(), 82);
+    assert_eq!(rt; gate.passes.load(Ordering::SeqCst), 82);
+    Ok(())
+}
+
+/// Runs the trace with this text, past a gate, as the program does: each turn as is likely to pay. It returns how the run ended, and what it
+/// wrote.
+fn run_as_pays<R: Threads + Sync, G: Gate + Sync>(
+    rt: &R,
+    alloc: Global,
+    text: &str,
+    gate: &G,
+) -> Result<(Status, Vec<u8>), AllocError> {
+    let mut source = MemSource::new(text.as_bytes().to_vec(alloc)?, 4096, Vec::new(alloc));
+    let mut sink = Paper::new(alloc);
+    let outcome = top(rt, alloc, &["run"], &mut source, &mut sink, gate);
+    Ok((outcome.status, sink.into_bytes()))
+}
+
+/// Keeps lane 0 before its second operation until the pager has answered, and the pager at each notice until lane 0 has come there.
+#[derive(Drop)]
+struct Beside {
+    come: AtomicU64,
+    answered: AtomicU64,
+    patience: Patience,
+}
+
+impl Gate for Beside {
+    fn at(&self, who: u32, point: u32) {
+        match (who, point) {
+            (0, BEFORE) => {
+                if self.come.fetch_add(1, Ordering::SeqCst) == 1 {
+                    self.patience.keep_until(&self.answered);
+                }
+            }
+            (PAGER, TAKEN) => self.patience.keep_until_above(&self.come, 1),
+            (PAGER, ANSWERED) => {
+                self.answered.fetch_add(1, Ordering::SeqCst);
+            }
+            _ => {}
+        }
+    }
+}
+
+#[test]
+fn in_a_long_turn_a_pager_answers_nine_notices_beside_the_lane(
+    rt: HostRuntime,
+) -> Result<(), Fail> {
+    let hints = repeated(rt.alloc(), " 0", 9)?;
+    let looks = repeated(rt.alloc(), "who 0 0\n", 6_000)?;
+    let lines = format!(in rt.alloc();
+        "phase\nturn{hints}\nlane 0\nnew 0 0 0\n{looks}end\ndone\n"
+    )?;
+    let text = trace(rt.alloc(), [1, 1, 1, 1, 1, 4, 3], &lines)?;
+    let gate = Beside {
+        come: AtomicU64::new(0),
+        answered: AtomicU64::new(0),
+        patience: Patience::new(),
+    };
+    let (status, written) = run_as_pays(&rt, rt.alloc(), &text, &gate)?;
+    assert_eq!(rt; status, Status::Done);
+    assert!(rt; written.as_slice().ends_with(b"obj 0.1\nobj 0.1\ndone\n"));
+    assert_eq!(rt; gate.come.load(Ordering::SeqCst), 6_001);
+    assert_eq!(rt; gate.answered.load(Ordering::SeqCst), 9);
+    assert_eq!(rt; gate.patience.given_up.load(Ordering::SeqCst), 0);
+    Ok(())
+}
+
+/// Keeps each of two lanes behind its 1000th operation at a table until the other one has come there.
+#[derive(Drop)]
+struct Midway {
+    done_by_0: AtomicU64,
+    done_by_1: AtomicU64,
+    patience: Patience,
+}
+
+impl Midway {
+    /// A lane that has done so many operations did one more.
+    fn count(&self, own: &AtomicU64, other: &AtomicU64) {
+        if own.fetch_add(1, Ordering::SeqCst) == 999 {
+            self.patience.keep_until_above(other, 999);
+        }
+    }
+}
+
+impl Gate for Midway {
+    fn at(&self, who: u32, point: u32) {
+        match (who, point) {
+            (0, AFTER) => self.count(&self.done_by_0, &self.done_by_1),
+            (1, AFTER) => self.count(&self.done_by_1, &self.done_by_0),
+            _ => {}
+        }
+    }
+}
+
+#[test]
+fn in_a_long_second_turn_of_a_phase_two_lanes_wait_for_each_other(
+    rt: HostRuntime,
+) -> Result<(), Fail> {
+    let zero = repeated(rt.alloc(), "new 0 0 0\n", 300)?;
+    let one = repeated(rt.alloc(), "new 1 0 0\n", 300)?;
+    let look_at_0 = repeated(rt.alloc(), "who 0 0\n", 6_000)?;
+    let look_at_1 = repeated(rt.alloc(), "who 1 0\n", 6_000)?;
+    let lines = format!(in rt.alloc();
+        "phase\nlane 0\n{zero}{look_at_0}lane 1\n{one}{look_at_1}end\ndone\n"
+    )?;
+    let text = trace(rt.alloc(), [2, 2, 1, 2, 1, 4, 4], &lines)?;
+    let gate = Midway {
+        done_by_0: AtomicU64::new(0),
+        done_by_1: AtomicU64::new(0),
+        patience: Patience::new(),
+    };
+    let (status, written) = run_as_pays(&rt, rt.alloc(), &text, &gate)?;
+    assert_eq!(rt; status, Status::Done);
+    assert!(rt;
+        written
+            .as_slice()
+            .ends_with(b"obj 1.300\nobj 1.300\ndone\n")
+    );
+    // A chunk holds 256 such objects: the first turn ends there, and the object behind them is made between the turns.
+    assert_eq!(rt; gate.done_by_0.load(Ordering::SeqCst), 6_299);
+    assert_eq!(rt; gate.done_by_1.load(Ordering::SeqCst), 6_299);
+    assert_eq!(rt; gate.patience.given_up.load(Ordering::SeqCst), 0);
+    Ok(())
+}

@@ -1,0 +1,13 @@
+// Tests of `top` and of `view`, by their public calls alone.
+//
+// The gate proves a crate that has tests twice, with them and without. So those of dear crates stand here, above them.
+// Nothing here is for others to call.
+//
+// - `cli` (bc_cli): runs and draws of all kinds, on devices in memory
+// - `heapview` (bc_heapview): questions about an image
+#![tactic(auto)]
+
+#[cfg(test)]
+mod cli;
+#[cfg(test)]
+mod heapview;

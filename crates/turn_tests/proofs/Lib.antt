@@ -1,0 +1,4 @@
+-- What the tests need
+mod TestLemmas
+-- A page that comes back in the turn, in the tests
+mod BackLemmas
