@@ -1,5 +1,8 @@
-// bc: the program. `main` only makes the real source and sink, calls `bc_cli::top`, prints the line that `report` tells of its outcome, and
-// ends with the exit status that it tells. What it does is shown by `.ci/examples` and `.ci/statuses` on the built program.
+// bc: the program that replays an allocation trace on the collector's heap, and prints each lane's replies.
+//
+// All its work is that of `bc_cli::top`, whose contract is the theorem. `main` only makes the real source and sink, calls `top`, prints the
+// line that `report` tells of its outcome, and ends with the exit status that it tells. What it does is shown by `.ci/examples` and
+// `.ci/statuses` on the built program.
 #![tactic(auto)]
 
 ghost use Rattle.std.specs.Prelude.{◌≡◌, ◌≢◌, ℕ, IfErr, IfOk, IfSome, map, string_bytes, None};

@@ -1,5 +1,7 @@
-// heapview: the program. `main` only makes the real source and sink, calls `bc_heapview::view`, prints the fault of its status and ends with
-// its exit status. What it does is shown by `.ci/examples` on the built program.
+// heapview: the program that looks into the image of a heap: how many objects are reached, and the least way to one of them.
+//
+// All its work is that of `bc_heapview::view`. `main` only makes the real source and sink, calls `view`, prints the fault of its status and
+// ends with its exit status. What it does is shown by `.ci/examples` and `.ci/statuses` on the built program.
 #![tactic(auto)]
 
 ghost use Rattle.std.specs.Prelude.{◌≡◌, ◌≢◌, IfErr, IfOk, None, map, string_bytes};

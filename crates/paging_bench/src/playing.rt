@@ -219,7 +219,7 @@ impl Play {
             .saturating_sub(nurseries)
             .saturating_sub(space.free_frames());
         let absent = space.pages().saturating_sub(gone).saturating_sub(home);
-        let cells = self.cells_shown();
+        let cells = objects_in_cells(space);
         let superpages = superpages_in_use(space);
         let all = space.reads();
         print!(rt; "emptying={number} operations={operations} kind={name} reads={reads}")?;
