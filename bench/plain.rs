@@ -13,7 +13,7 @@ const LIMIT: usize = 16_777_216;
 /// A number is below this.
 const NUMBERS: u64 = 1 << 63;
 
-/// The header's words, with the least number of each and the one behind the greatest; those of `frames` come from the others.
+/// The header's words, with the least number of each and the one after the greatest; those of `frames` come from the others.
 const HEADER: [(&[u8], u64, u64); 8] = [
     (b"bc-trace", 1, 2),
     (b"lanes", 1, 17),
@@ -85,7 +85,7 @@ enum Place {
     Header(usize),
     Phases,
     Turns,
-    /// Operations of the lane before this one, the next lane's line, and behind the last lane what ends a phase.
+    /// Operations of the lane before this one, the next lane's line, and after the last lane what ends a phase.
     Lane(u64),
     Gives,
     Done,
@@ -99,7 +99,7 @@ enum Refusal {
 }
 
 /// Objects that are never freed, root slots and holders. A value is 0 for nil, 2v + 1 for the number v, and 2a + 2 for the object
-/// whose head is word a; its fields lie behind the head, which is `Heap::head` of it.
+/// whose head is word a; its fields lie after the head, which is `Heap::head` of it.
 struct Heap {
     words: Vec<u64>,
     slots: Vec<u64>,
@@ -309,7 +309,7 @@ impl<'a> Replay<'a> {
         Some(())
     }
 
-    /// The least number of a line of the header, and the one behind the greatest.
+    /// The least number of a line of the header, and the one after the greatest.
     fn range_of(&self, line: usize) -> (u64, u64) {
         let [_, lanes, _, _, superpages, nursery, ..] = self.header;
         match line {
@@ -578,7 +578,7 @@ impl Replay<'_> {
         }
     }
 
-    /// For each operand of the word its least number and the one behind its greatest; all that a turn may have. None: no word.
+    /// For each operand of the word its least number and the one after its greatest; all that a turn may have. None: no word.
     fn ranges_of_operands(&self, word: &[u8]) -> Option<Vec<(u64, u64)>> {
         if let Some(line) = HEADER.iter().position(|(name, ..)| *name == word) {
             return Some(vec![self.range_of(line)]);

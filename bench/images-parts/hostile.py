@@ -1,5 +1,5 @@
 #!/usr/bin/env python3
-"""Images at random, broken images, and what they are by the rules of the image language, told by a checker that shares nothing with the reader.
+"""Images at random, broken images, and what they are by the rules of the image language, found by a checker that shares nothing with the reader.
 
 usage: hostile.py make SEED COUNT > pieces; hostile.py judge pieces answers"""
 import random, struct, sys

@@ -1,6 +1,6 @@
 //! Reads, builds and writes an image by the heap's own crates, for `bench/images`.
 //!
-//! `time FILE` prints the seconds of each step and the most memory in KiB after it. `judge FILE` takes pieces, each behind 8 bytes that tell
+//! `time FILE` prints the seconds of each step and the most memory in KiB after it. `judge FILE` takes pieces, each after 8 bytes that give
 //! its length, and prints a line for each: `image BYTES OBJECTS` or `fault AT CAUSE`.
 use bc_image::{ReadImage, scan};
 use bc_picture::{Picture, build, write};

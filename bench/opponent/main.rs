@@ -11,7 +11,7 @@
 //! A line has the words of crates/paging_bench, and `early`, bookmark collections before pages had to leave, `sweeps` and `sweep_reads`,
 //! of mark-and-sweep, and `nanoseconds` of processor time. With `fewest` the last line has `fewest`, the reads of the best choice of pages
 //! for what operations and placing touched. With `steps` there is a line for each emptying of the nurseries as well: the operations before it,
-//! its kind (promotion, early, collection, sweep or fail-safe), the pages that it read, and how many are home, gone and absent behind it.
+//! its kind (promotion, early, collection, sweep or fail-safe), the pages that it read, and how many are home, gone and absent after it.
 
 mod marking;
 mod trace;
@@ -55,7 +55,7 @@ struct Play {
     nurseries: u32,
     pressure: bc_running::pressure::Pressure,
     counts: Counts,
-    /// Operations and emptyings of all phases so far, where each emptying is to be told.
+    /// Operations and emptyings of all phases so far, where each emptying is to be printed.
     steps: Option<(u64, u64)>,
 }
 

@@ -109,7 +109,7 @@ fn fewest(log: &[Event], frames: usize, pages: usize) -> u64 {
     reads
 }
 
-/// For each touch of a page the place of the next one, or one behind the end where the page is emptied before or isn't touched again.
+/// For each touch of a page the place of the next one, or one past the end where the page is emptied before or isn't touched again.
 fn next_touches(log: &[Event], pages: usize) -> Vec<usize> {
     let mut behind = vec![log.len(); pages];
     let mut next = vec![log.len(); log.len()];

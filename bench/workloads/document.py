@@ -39,7 +39,7 @@ def parsed(path):
 class Tree:
     """The tree on the heap. A node has a kind, its name, its text, how many children it has, and their list.
 
-    A text is a list of objects of up to 60 words of seven bytes. Children are a list of parts of up to 63, each with the part behind it.
+    A text is a list of objects of up to 60 words of seven bytes. Children are a list of parts of up to 63, each with the part after it.
     Names are kept once each, in a list of their own, as a parser interns them."""
 
     def __init__(self, domain):

@@ -7,7 +7,7 @@ def letters(mutator, size):
     """Four lanes, each with a domain of its own and a mailbox that goes round: so many hundred letters a phase and lane, in 40 phases.
 
     In a phase a lane reads the letters of the mailbox that it holds, copies one in four of them to a list of its own (which is cut
-    off behind a thousand), and lays new ones into the mailbox. At the end of the phase each mailbox goes to the next lane."""
+    off after a thousand), and lays new ones into the mailbox. At the end of the phase each mailbox goes to the next lane."""
     own, boxes = mutator.domains[:LANES], mutator.domains[LANES:]
     lists = [domain.new(2) for domain in own]
     held = list(boxes)
@@ -54,7 +54,7 @@ def write(mutator, box, head, count):
 
 
 def cut_behind(entries, count):
-    """Drops what stands behind the first so many of a list."""
+    """Drops what stands after the first so many of a list."""
     entry = entries
     for _ in range(count):
         following = entry.get(0)

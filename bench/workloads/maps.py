@@ -47,7 +47,7 @@ class BTree:
             target.set(CHILDREN + to + index, source.get(CHILDREN + at + index))
 
     def split(self, parent, place):
-        """Splits a full child: its upper half becomes a node behind it. A leaf keeps its middle key, which the parent gets too."""
+        """Splits a full child: its upper half becomes a node after it. A leaf keeps its middle key, which the parent gets too."""
         child = parent.get(CHILDREN + place)
         is_leaf = child.get(LEAF)
         right = self.node(bool(is_leaf))

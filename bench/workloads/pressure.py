@@ -1,4 +1,4 @@
-"""Programs by which page traffic is told apart: much that lives and little that is used, a change of what is used, a stream of objects
+"""Programs by which page traffic is distinguished: much that lives and little that is used, a change of what is used, a stream of objects
 that die young beside a cache, and a list that is longer than memory."""
 from bisect import bisect
 from itertools import accumulate
@@ -30,7 +30,7 @@ def record(domain, key):
 def accounts(mutator, size):
     """Much lives, and little is used: so many thousand records, and for each thousand 225 requests in each of 24 phases.
 
-    In a phase all requests but one in a hundred go to one group of 64 records, which lie together; a request reads a record, makes
+    In a phase 99 % of the requests go to one group of 64 records, which lie together; a request reads a record, makes
     five objects that die at once, and one in two puts a new record in its place. Each phase has another group."""
     [domain] = mutator.domains
     count = 1000 * size // 64 * 64

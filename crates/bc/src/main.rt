@@ -1,7 +1,7 @@
 // bc: the program that replays an allocation trace on the collector's heap, and prints each lane's replies.
 //
 // All its work is that of `bc_cli::top`, whose contract is the theorem. `main` only makes the real source and sink, calls `top`, prints the
-// line that `report` tells of its outcome, and ends with the exit status that it tells. What it does is shown by `.ci/examples` and
+// line that `report` returns of its outcome, and ends with the exit status that it returns. What it does is shown by `.ci/examples` and
 // `.ci/statuses` on the built program.
 #![tactic(auto)]
 

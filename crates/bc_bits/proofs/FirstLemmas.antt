@@ -1,4 +1,4 @@
--- What is left of a word, from a bit on, tells the first bit there that one set has and another hasn't.
+-- What is left of a word, from a bit on, shows the first bit there that one set has and another hasn't.
 use Rattle.std.proofs.Common.{◌≡◌, ◌≢◌, ℕ, ◌+◌, ◌-◌, ◌*◌, ◌/◌, ◌%◌, ◌^◌, ◌<◌, ◌≤◌, ◌==◌, min, inl, inr, true, false, List, get_or, bit_and, refl, ap, sym, ◌∙◌, arith, tests, w64}
 use Rattle.std.specs.Int.{bit_at, bit_not, trailing_zeros}
 use Rattle.std.proofs.lemmas.Bool.{cases_lt}
@@ -50,7 +50,7 @@ pub rest-none : (ws vs : List ℕ) (b i : ℕ) → get_or vs (b / 64) 0 < 2 ^ 64
 rest-none ws vs b i fits none le lt on =
     rest-clear ws vs b (i - b) i fits (omega arith) (omega arith) (ap (λ (n : ℕ). bit_at n (i - b)) none ∙ bit_at-zero (i - b)) on
 
--- else its lowest bit tells the first
+-- else its lowest bit shows the first
 pub record IsFirst (ws vs : List ℕ) (b found : ℕ) : Type 0 where
   pub from : b ≤ found
   pub on : has ws found ≡ true

@@ -4,9 +4,9 @@ pub mod BitLemmas
 pub mod CountLemmas
 -- Where a word of two sets together is all ones, each of its bits is set in one of them.
 pub mod FullLemmas
--- What is left of a word, from a bit on, tells the first bit there that one set has and another hasn't.
+-- What is left of a word, from a bit on, shows the first bit there that one set has and another hasn't.
 pub mod FirstLemmas
 -- Whether some number below a bound passes a test.
 pub mod AnyLemmas
--- A word of a set: its 64 bits tell members, and the ones among them count these.
+-- A word of a set: its 64 bits show members, and the ones among them count these.
 pub mod WordLemmas

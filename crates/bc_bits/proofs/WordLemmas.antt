@@ -1,4 +1,4 @@
--- A word of a set: its 64 bits tell members, and the ones among them count these.
+-- A word of a set: its 64 bits show members, and the ones among them count these.
 use Rattle.std.proofs.Common.{◌≡◌, ℕ, ◌+◌, ◌*◌, ◌/◌, ◌%◌, ◌^◌, ◌<◌, ◌==◌, List, get_or, refl, ap, sym, ◌∙◌, arith, rules}
 use Prim.Native.Nat.{zero, suc}
 use Rattle.std.specs.Int.{bit_at}

@@ -1,4 +1,4 @@
--- What a source told, and what was read of it.
+-- What a source reported, and what was read of it.
 use Rattle.std.proofs.Common.{◌≡◌, ℕ, ◌+◌, ◌*◌, ◌<◌, ◌≤◌, List, [], ◌++◌, append-nil, ◌∙◌, Option, None, Some, IfSome, length, refl, sym, ap, subst, inl, inr, arith}
 use Rattle.bc_io.specs.declared.reading.ReadAll.{ReadAll}
 use Rattle.bc_io.specs.declared.reading.ReadAll.TheVariants as reads
@@ -15,7 +15,7 @@ use Rattle.bc_cli.proofs.Incoming.{length-trace_text}
 use Rattle.bc_cli.specs.declared.status.Status.{Status}
 use Rattle.bc_cli.specs.declared.status.Status.TheVariants.{BadTrace, TooLong, NoMemory}
 
--- what was read of a source that told its bytes
+-- what was read of a source that reported its bytes
 pub read_is : (told : Option (List ℕ)) (read bytes : List ℕ) → IfSome told (λ left. read ≡ left) → told ≡ Some bytes → read ≡ bytes
 read_is None read bytes h e = cc
 read_is (Some left) read bytes h e = cc
@@ -34,7 +34,7 @@ may_give-whole (Some left) (Some rest) bytes h =
 pub few-read : (old new : Option (List ℕ)) (t : TraceLists) → ReadAsTrace old new t → 8 * all_ops_of t + 10 * length t.phases ≤ longest_trace
 few-read old new t h = omega (arith, length-trace_text t h.spelled.trace, ap length h.spelled.text, h.whole.short)
 
--- a status that the reader told
+-- a status that the reader returned
 pub told_or_no_memory : (s told wanted : Status) → told ≡ s → IsOrNoMemory s wanted → IsOrNoMemory told wanted
 told_or_no_memory s told wanted is h = subst (λ (s : Status). IsOrNoMemory s wanted) (sym is) h
 
@@ -47,12 +47,12 @@ refused_so f answers.NoMemory status e same = inr e
 pub not_faulty : {X : Type 0} (read bytes : List ℕ) (f : TraceFault) → read ≡ bytes → ((f : TraceFault) → Fault read f.line f.cause → ⊥) → Fault bytes f.line f.cause → X
 not_faulty read bytes f e none fault = absurd (none f (subst (λ b. Fault b f.line f.cause) (sym e) fault))
 
--- a source that told few bytes didn't give too many
+-- a source that reported few bytes didn't give too many
 pub not_longer : (told : Option (List ℕ)) (bytes : List ℕ) → IfSome told (λ left. longest_trace < length left) → told ≡ Some bytes → length bytes ≤ longest_trace → ⊥
 not_longer None bytes h e short = cc
 not_longer (Some left) bytes h e short = let same : left ≡ bytes = cc in omega (arith, ap length same)
 
--- a source that gave no byte too many, and had no fault, was not read for want of memory alone
+-- a source that gave no byte too many, and had no fault, is left unread by running out of memory alone
 pub unread-short : (e : ReadAll) → (e ≡ reads.TooLong → ⊥) → (e ≡ reads.ReadFault → ⊥) → unread e ≡ NoMemory
 unread-short reads.TooLong long fault = absurd (long refl)
 unread-short reads.ReadFault long fault = absurd (fault refl)

@@ -45,7 +45,7 @@ few-replies t k =
 
 -- ---- one phase
 
--- where all states fit no phase ends for want of heap
+-- where all states fit no phase ends out of heap
 pub no-cut : (t : TraceLists) (k : ℕ) (e f : EngineView) (replies : List (List Reply)) (need : Option ℕ) (n : ℕ) → need ≡ Some n → Ran t k e f replies need → FitsThroughout t → ⊥
 no-cut t k e f replies need n some h fits =
     let at = cut t k e f replies need n some h in

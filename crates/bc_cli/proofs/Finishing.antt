@@ -60,7 +60,7 @@ fails-at_done t e a b c h texts front = record {
 
 -- ---- room
 
--- the line of the need stands behind all
+-- the line of the need stands after all
 cut-whole : (xs ys zs : List ℕ) → IsPrefix (xs ++ (ys ++ zs)) (xs ++ ys ++ zs)
 cut-whole xs ys zs = subst (λ all. IsPrefix (xs ++ (ys ++ zs)) all) (sym (append_assoc xs ys zs)) (IsPrefix-refl (xs ++ (ys ++ zs)))
 

@@ -143,7 +143,7 @@ phases_in s m (p ∷ ps) ok =
       length-phase_lines p ps,
     )
 
--- the lines before and behind the phases
+-- the lines before and after the phases
 pub trace_frame : (t : TraceLists) → 5 + length (flat_map line_text (flat_map phase_lines t.phases)) ≤ length (trace_text t)
 unfolding trace_text line_text spelling name
 trace_frame t =

@@ -4,7 +4,7 @@ pub mod Pieces
 pub mod Replies
 -- How long the text of a trace is, by how many operations it has.
 pub mod Incoming
--- What a source told, and what was read of it.
+-- What a source reported, and what was read of it.
 pub mod Bytes
 -- A run writes at most four times as many bytes as its trace has.
 pub mod Room

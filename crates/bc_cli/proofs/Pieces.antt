@@ -35,7 +35,7 @@ texts-more s ps p n e =
     ∙ ap (λ t. phases_text 1 (replies_of_phases s ps) ++ t) (append-nil (phase_text (1 + length (replies_of_phases s ps)) r))
     ∙ ap (λ m. phases_text 1 (replies_of_phases s ps) ++ phase_text m r) (omega (arith, length-replies s ps))
 
--- the texts of some phases are the front of those of these phases and more
+-- the texts of some phases are a prefix of those of these phases and more
 pub texts-front : (s : State) (ps qs : List PhaseLists) → IsPrefix (texts_from s ps) (texts_from s (ps ++ qs))
 unfolding texts_from
 texts-front s ps qs = (
@@ -61,7 +61,7 @@ unfolding after_phases
 state-step s ps i d lt =
     ap (after_phases s) (take_more ps i d lt) ∙ after_phases-append s (take i ps) (get_or ps i d ∷ [])
 
--- the texts of the first phases are a front of those of all
+-- the texts of the first phases are a prefix of those of all
 pub texts_before-front : (s : State) (ps : List PhaseLists) (i : ℕ) → IsPrefix (texts_from s (take i ps)) (texts_from s ps)
 texts_before-front s ps i = subst (λ qs. IsPrefix (texts_from s (take i ps)) (texts_from s qs)) (take-append-drop i ps) (texts-front s (take i ps) (drop i ps))
 
@@ -78,7 +78,7 @@ room-for-next a b xs ys whole room falls p =
     let few : length xs + length ys ≤ length whole = omega (arith, IsPrefix-length (xs ++ ys) whole p, length-append xs ys) in
     HasRoom-rest a b (length xs) (length ys) (HasRoom-less a (length xs + length ys) (length whole) few room) falls
 
--- what was written, and then a front of the next text
+-- what was written, and then a prefix of the next text
 pub front-behind : (a b c : Option (List ℕ)) (xs ys : List ℕ) → HeldGrows a b xs → WritesFront b c ys → WritesFrontAfter a c xs ys
 front-behind a b c xs ys held w = record {
   front = w.front;
@@ -91,7 +91,7 @@ front-behind a b c xs ys held w = record {
 pub Rose-since : (a b c : ℕ) → b ≡ a → Rose b c → Rose a c
 Rose-since a b c same rose = subst (λ n. Rose n c) same rose
 
--- what a failed write took is a front, and not all
+-- what a failed write took is a prefix, and not all
 pub front-taken : (a b : Option (List ℕ)) (k l : Option ℕ) (xs : List ℕ) → TakesFront a b k l xs → WritesFront a b xs
 front-taken a b k l xs t = record {
   front = t.taken;

@@ -31,7 +31,7 @@ use std::thread::Threads;
 /// Does what the words ask for. `run` reads a trace from the source, replays it, and writes the replies to the sink. `churn`
 /// draws a trace, replays it, and writes how many replies of each kind there were.
 ///
-/// The words come without the program's name. The gate goes on to the engine. A sink that tells its
+/// The words come without the program's name. The gate goes on to the engine. A sink that reports its
 /// room must have room for all that the command may write.
 pub fn top<R, S, K, G>(
     rt: &R,

@@ -30,7 +30,7 @@ attempts-none lanes r told = (0, (refl, refl))
 pub attempts-one : {lanes : List (List Op)} {r q : RunningView} {told answers : List (List Reply)} → Attempted lanes r told q answers → RanByAttempts lanes r told q answers
 attempts-one {lanes} {r} {q} {told} {answers} one = (suc 0, (r, told, (refl, refl), one))
 
--- and so many more behind others
+-- and so many more after others
 attempts-more : {lanes : List (List Op)} {r q : RunningView} {told mid : List (List Reply)} → RanByAttempts lanes r told q mid → (n : ℕ) (x : RunningView) (answers : List (List Reply)) → RanAttempts lanes q mid n x answers → RanByAttempts lanes r told x answers
 attempts-more {lanes} {r} {q} {told} {mid} first zero x answers same =
     subst (λ (y : RunningView). RanByAttempts lanes r told y answers) (sym same.0) (subst (λ (rs : List (List Reply)). RanByAttempts lanes r told q rs) (sym same.1) first)

@@ -162,7 +162,7 @@ ready-did setup hs lane ops replies {h} {k} serials next within did ready =
       meant = order.meant;
     }
 
--- a stretch of the phase, from what is told of its lists and of its heaps
+-- a stretch of the phase, from what is said of its lists and of its heaps
 runs-made : {lanes : List (List Op)} {r q : RunningView} {told answers : List (Vec Reply Global)} → LanesWentOn lanes r (lists_of told) q (lists_of answers) → ((setup : Setup) → CanRunLanes setup r → CanRunLanes setup q) → length answers ≡ length told → HasAllReplyRoom lanes answers → BirthsWithin lanes r.serials (lists_of told) q.serials (lists_of answers) → q.holders ≡ r.holders → LanesRan lanes r told q answers
 runs-made {lanes} {r} {q} {told} {answers} goes ready long room births held = record {
   goes = goes;
@@ -210,7 +210,7 @@ room-to {lanes} {r} {q} {before} {after} b n j v lt is =
       | inr past ↦ b.roomy j v within (is ∙ with_first-past n after before j v past)
     ]
 
--- the lane behind the first n makes at most an object by each operation
+-- the lane after the first n makes at most an object by each operation
 births-to : {hs : List ℕ} {lanes : List (List Op)} {h k : HeapView} {serials nexts : List ℕ} {told answers : List (List Reply)} (ran : RanBeside hs lanes h serials told k nexts answers) (n : ℕ) → n < length lanes → length lanes ≡ length serials → length told ≡ length lanes
     → BirthsWithin lanes (with_first n nexts serials) (with_first n answers told) (with_first (suc n) nexts serials) (with_first (suc n) answers told)
 births-to {hs} {lanes} {h} {k} {serials} {nexts} {told} {answers} ran n lt each long j = elim (cases_eq j n) [
@@ -270,7 +270,7 @@ lane-ran {lanes} {r} {q} {before} {after} b n lt =
     (subst (λ (rs : List (List Reply)). BirthsWithin lanes serials told (with_first (suc n) q.serials r.serials) rs) (sym (lists-to before after (suc n))) (births-to ran n lt b.each count)))
     refl
 
--- so are those of the first n lanes, behind a stretch in which pages come back
+-- so are those of the first n lanes, after a stretch in which pages come back
 first-ran : {lanes : List (List Op)} {r q : RunningView} {before after : List (Vec Reply Global)} (b : RanAbreast lanes r before q after) (n : ℕ) → n ≤ length lanes → LanesRan lanes r before (run_to b n) (told_to before after n)
 first-ran {lanes} {r} {q} {before} {after} b zero le =
     runs-moved lanes r (run_to b 0) before (b.ran.first.0, ap (λ (h : HeapView). running_of h r.holders r.serials) b.ran.first.1)
@@ -300,7 +300,7 @@ last-ran {lanes} {r} {q} {before} {after} b n all =
     subst (λ (x : RunningView). LanesRan lanes (run_to b n) (told_to before after n) x after) (sym is)
     (subst (λ (vs : List (Vec Reply Global)). LanesRan lanes (run_to b n) vs end after) (sym told) runs)
 
--- and the lanes behind the first n
+-- and the lanes after the first n
 later-ran : {lanes : List (List Op)} {r q : RunningView} {before after : List (Vec Reply Global)} (b : RanAbreast lanes r before q after) (m n : ℕ) → n + m ≡ length lanes → LanesRan lanes (run_to b n) (told_to before after n) q after
 later-ran b zero n all = last-ran b n (omega arith)
 later-ran b (suc m) n all = runs-then (lane-ran b n (omega arith)) (later-ran b m (suc n) (omega arith))
@@ -335,7 +335,7 @@ own-did hs lane (op ∷ ops) (reply ∷ replies) h k serial next other ne did =
     let rest = own-did hs lane ops replies did.0 k did.1 next other ne did.3 in
     (rest.0 ∙ first.0, rest.1 ∙ first.1)
 
--- so do all lanes behind it, and none frees or moves a cell
+-- so do all lanes after it, and none frees or moves a cell
 own-from : {hs : List ℕ} {lanes : List (List Op)} {h k : HeapView} {serials nexts : List ℕ} {told answers : List (List Reply)} (ran : RanBeside hs lanes h serials told k nexts answers) (m n lane : ℕ) → n + m ≡ length lanes → lane < n → SameOwn lane (ran.at n) k
 own-from {hs} {lanes} {h} {k} ran zero n lane all below =
     let back = subst (λ (i : ℕ). IsLaidBack (ran.at i) k) (let end : length lanes ≡ n = omega arith in end) ran.back in

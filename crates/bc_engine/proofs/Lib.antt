@@ -6,7 +6,7 @@ pub mod Attempts
 pub mod Giving
 -- The heap that an engine begins with is ready, and stands for the opening state.
 pub mod OpeningLemmas
--- Lists of steps, one behind another.
+-- Lists of steps, one after another.
 pub mod StepLists
 -- Lanes that go on
 pub mod GoingLemmas

@@ -116,7 +116,7 @@ pub record HasBegun (e : EngineView) (p : PhaseLists) (vs : List (Vec Reply Glob
   pub phase : IsPhase e.setup p
   pub room : IsRoomFor p.lanes vs
 
--- rounds that end for want of heap cut the phase
+-- rounds that end out of heap cut the phase
 pub cut-by : (e f : EngineView) (p : PhaseLists) (vs ws : List (Vec Reply Global)) (need : ℕ) → HasBegun e p vs → IsEngine f → length ws ≡ length p.lanes → IsTooSmall p.lanes e vs f ws need → CutPhase e p f (lists_of ws) need
 cut-by e f p vs ws need begun engine long small =
     let answers = lists_of ws in
@@ -195,7 +195,7 @@ pub births-lent : (e f : EngineView) (p : PhaseLists) (os : List (List Op)) (us 
 births-lent e f p os us ws lanes births j =
     omega (arith, births j, ap (λ (ls : List (List Op)). length (of_lane ls j)) lanes)
 
--- with the list of answers taken out before, and put back behind
+-- with the list of answers taken out before, and put back after
 pub did-answers : {e x f y : EngineView} {p : PhaseLists} {replies : List (List Reply)} (asked answers : List Answer) → x ≡ with_answers e asked → f ≡ with_answers y answers → DidPhase x p y replies → DidPhase e p f replies
 did-answers {e} {x} {f} {y} {p} {replies} asked answers taken kept did =
     let did = subst (λ (z : EngineView). DidPhase z p y replies) taken did in
@@ -206,7 +206,7 @@ cut-answers {e} {x} {f} {y} {p} asked answers taken kept replies need cut =
     let cut = subst (λ (z : EngineView). CutPhase z p y replies need) taken cut in
     subst (λ (z : EngineView). CutPhase e p z replies need) (sym kept) (record { cause = cut.cause; stands = cut.stands; above = cut.above })
 
--- what is told of a phase that ended in its midst
+-- what is said of a phase that ended in the middle
 pub ended-weaker : {T : Type 0} (x : Result T PhaseNo) (P Q : List (List Reply) → ℕ → Type 0) → ((replies : List (List Reply)) (need : ℕ) → P replies need → Q replies need) → IfPhaseOutOfHeap x P → IfPhaseOutOfHeap x Q
 ended-weaker (Ok y) P Q f told = tt
 ended-weaker (Err (OutOfHeap replies need)) P Q f told = f replies need told

@@ -38,11 +38,11 @@ ran {lanes} {e} underway runs = record { runs = runs; underway = runs.underway e
 pub ran-more : {lanes : List (List Op)} {e : EngineView} {r q : RunningView} {told mid replies : List (Vec Reply Global)} → LanesRan lanes r mid q replies → IsAt lanes e told r mid → IsAt lanes e told q replies
 ran-more {lanes} {e} runs at = record { runs = runs-then at.runs runs; underway = runs.underway e.setup at.underway }
 
--- what is told of a heap that is too small, where it needs so many superpages
+-- what is said of a heap that is too small, where it needs so many superpages
 pub refused-at : (T : Type 0) (cause : CycleNo) (need : ℕ) (P : ℕ → Type 0) → cause ≡ cycle.OutOfHeap need → IfOutOfHeap {T = T} (Err cause) P → P need
 refused-at T cause need P is told = subst (λ (x : CycleNo). IfOutOfHeap {T = T} (Err x) P) is told
 
--- what is told of rounds that ended for want of heap, or for want of room for answers
+-- what is said of rounds that ended out of heap, or without room for answers
 pub small-at : (T : Type 0) (stop : RoundsNo) (need : ℕ) (P : ℕ → Type 0) → stop ≡ TooSmall need → IfTooSmall {T = T} (Err stop) P → P need
 small-at T stop need P is told = subst (λ (x : RoundsNo). IfTooSmall {T = T} (Err x) P) is told
 
@@ -58,7 +58,7 @@ pub room-both : (T U : Type 0) (stop : RoundsNo) (P Q R : Type 0) → (P → Q �
 room-both T U (TooSmall need) P Q R f told more = tt
 room-both T U (NoRoom error) P Q R f told more = f told more
 
--- an end for want of heap is what the phase is cut by
+-- an end out of heap is what the phase is cut by
 pub too-small : {lanes : List (List Op)} {e : EngineView} (f : EngineView) {r : RunningView} {told replies : List (Vec Reply Global)} (need : ℕ) → KeepsMeaning r.heap f.running.heap → NeedOfHeap f.running.heap.space f.running.heap.roots f.running.heap.chunks need × (superpages f.running.heap.space < need) → f.running.holders ≡ r.holders → f.running.serials ≡ r.serials → f.ended ≡ Some (OutOfHeap need) → IsAt lanes e told r replies → IsTooSmall lanes e told f replies need
 too-small {lanes} {e} f {r} {told} {replies} need meaning needs held same end at = record {
   cause = end;

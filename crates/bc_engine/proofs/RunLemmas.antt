@@ -102,7 +102,7 @@ pub op-fits : (setup : Setup) (lanes : List (List Op)) (lane n : ℕ) (op : Op) 
 op-fits setup lanes lane n op ops within less at =
     subst (IsOp setup) (sym at) (at-index (IsOp setup) (of_lane lanes lane) n op (at-index (AllByRecursion (IsOp setup)) lanes lane [] ops within) less)
 
--- what an operation that was done has to do with the lists: it was the lane's next one, and its reply was kept behind the others
+-- what an operation that was done has to do with the lists: it was the lane's next one, and its reply was kept after the others
 pub record IsKept (lanes : List (List Op)) (lane : ℕ) (op : Op) (reply : Reply) (vs : List (Vec Reply Global)) (w : Vec Reply Global) : Type 0 where
   pub within : lane < length lanes
   pub there : lane < length vs
@@ -181,7 +181,7 @@ each-further lanes told mid answers n b before others each one none j lt some = 
     here true yes_one at_end less = (yes_one refl).1 ∙ ap (λ (k : ℕ). k + 1) same
     here false yes_one at_end less = absurd (let end = at_end refl in omega (arith, end, less, same))
 
--- and the lanes behind it are as before
+-- and the lanes after it are as before
 pub as-before : {lane : ℕ} {r q : RunningView} {mid answers : List (List Reply)} (told : List (List Reply)) → AreAsBefore lane told mid → LeavesOthers lane r mid q answers → AreAsBefore (lane + 1) told answers
 as-before {lane} told before leaves j le = leaves.replies j (omega (arith, le)) ∙ before j (omega (arith, le))
 

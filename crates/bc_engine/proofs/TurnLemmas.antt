@@ -38,7 +38,7 @@ pub turn-alone : {lanes : List (List Op)} {r q x y : RunningView} {told replies 
 turn-alone {lanes} {r} {q} {x} {y} ran leaves attempts stopped answered moved settled rest =
     record { mid = q; ran = ran; leaves = leaves; way = inr (attempts, stopped, (x.heap.space, answered, settled)); rest = rest ∙ ap (λ (z : RunningView). with_space z y.heap.space) moved }
 
--- of what was there before, told otherwise
+-- of what was there before, said otherwise
 pub turn-same : {lanes : List (List Op)} {r q x : RunningView} {told mid replies : List (Vec Reply Global)} {asked kept answers : List Answer} {hints : List ℕ} → q ≡ r → mid ≡ told → kept ≡ asked → RanTurn lanes q mid kept hints x replies answers → RanTurn lanes r told asked hints x replies answers
 turn-same {lanes} {r} {q} {x} {told} {mid} {replies} {asked} {kept} {answers} {hints} same back list turn =
     subst (λ (y : RunningView). RanTurn lanes y told asked hints x replies answers) same
@@ -79,7 +79,7 @@ line-hints : (lines : List (List ℕ)) (turn next : ℕ) → IsLineOf lines turn
 line-hints [] turn next is = get_or_past [] next [] (omega arith) ∙ sym (get_or_past [] (turn % 0) [] (omega arith))
 line-hints (hints ∷ lines) turn next is = ap (λ (i : ℕ). slice_index_or (hints ∷ lines) i []) (is (omega arith))
 
--- behind the line of a turn comes that of the next turn
+-- after the line of a turn comes that of the next turn
 behind : (length turn : ℕ) → 0 < length → (if nat_lt (turn % length + 1) length then turn % length + 1 else 0) ≡ (turn + 1) % length
 behind length turn some =
     let place : ℕ = turn % length in
@@ -193,7 +193,7 @@ want-lent e f g p asked kept os ls us vs ws none room lanes lines lent all ended
       wants = ap (λ (x : EngineView). with_answers x kept.items) ended;
     }
 
--- with the list of answers taken out before, and put back behind
+-- with the list of answers taken out before, and put back after
 pub had-answers : {e x f : EngineView} (y : EngineView) {p : PhaseLists} {replies : List (List Reply)} (asked answers : List Answer) → x ≡ with_answers e asked → f ≡ with_answers y answers → HadTurns x p (with_answers y answers) replies → HadTurns e p f replies
 had-answers {e} {x} {f} y {p} {replies} asked answers taken kept had =
     subst (λ (z : EngineView). HadTurns e p z replies) (sym kept) (record {

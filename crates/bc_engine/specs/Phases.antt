@@ -16,7 +16,7 @@ pub record DidPhase (e : EngineView) (p : PhaseLists) (f : EngineView) (replies 
   pub stands : (s : State) → EngineStands e s → (replies ≡ replies_to_lanes s 0 p.lanes) × EngineStands f (after_phase s p)
   pub need : (s : State) → EngineStands f s → (n : ℕ) × IsNeed s n × (n ≤ f.setup.superpages)
 
--- the phase ended in its midst: for some cut the replies are those up to it, and the engine stands for the state there, whose need
+-- the phase ended in the middle: for some cut the replies are those up to it, and the engine stands for the state there, whose need
 -- this is, and it is above the number of superpages
 pub record CutPhase (e : EngineView) (p : PhaseLists) (f : EngineView) (replies : List (List Reply)) (need : ℕ) : Type 0 where
   pub cause : f.ended ≡ Some (ended.OutOfHeap need)

@@ -13,11 +13,11 @@
 // stops only where no frame is free and no other page can leave. What the lanes do so is
 // what they do one after another (`RanBeside`), so a turn is a stretch of the phase like any other. Where tables
 // of its kind don't pay (`paces`), or where there is no memory for one, they do run one after another (`lanes`), and then the notices
-// are answered. So a turn takes memory and is never refused for want of it. An operation that stops has at most moved pages.
+// are answered. So a turn takes memory and is never refused for lack of it. An operation that stops has at most moved pages.
 // Then the heap is settled. The lines of a phase are used in order, one for each turn, and from the first one again when they
-// are used up. So the heap gets by with the frames that the setup gives it, and no reply tells which pages were away; but what
+// are used up. So the heap gets by with the frames that the setup gives it, and no reply says which pages were away; but what
 // became of each notice is kept, in order (`Engine::answers`). Room for the answers of a turn is taken before it, and only where
-// there is none does a phase end in its midst for want of memory.
+// there is none does a phase end in the middle, out of memory.
 //
 // Then the nurseries are emptied, and if all lanes are at their ends the rounds are through. If not, each lane that has
 // operations left does one more on empty chunks. That one can't stop: an empty chunk has room for any object, where a
@@ -38,11 +38,11 @@
 // on it (`IsRunning` in `bc_whole_heap`), of which it is part that bookmarks and counters stand for the pages that left; it has
 // the sizes of the setup and its frames, of which two aren't those of nursery pages, and superpages are in use for the setup's
 // domains alone; and there is a state of the heap that never frees, moves or pages that it stands for, with just these holders
-// and births. As long as it hasn't ended, write buffers are empty and no page is remembered. `facts` tells all this.
+// and births. As long as it hasn't ended, write buffers are empty and no page is remembered. `facts` says all this.
 //
 // The theorem is the contract of `Engine::phase`. Done, the replies are those of the heap that never frees, to every
 // operation, the engine stands for the state after the phase, and its superpages are at least that state's need
-// (`DidPhase`). Refused for want of heap, the replies and the state are those of a cut, and the need that is answered
+// (`DidPhase`). Refused, out of heap, the replies and the state are those of a cut, and the need that is answered
 // is the need of that state and above the number of superpages (`CutPhase`). `Engine::open`, `give` and `serial`
 // say the same of the opening state, of one give and of one operation.
 #![tactic(auto)]

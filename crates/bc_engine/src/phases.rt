@@ -41,13 +41,13 @@ impl Engine {
     /// operations in the phase together are fewer than 2^32.
     ///
     /// It answers `OutOfHeap` where an emptying of the nurseries finds that the heap is too small, with the replies up to there,
-    /// and `NoMemory` where there is no memory for all replies, before anything is done, or for the answers to the notices of a turn, before that
-    /// turn: nothing else can be refused for want of memory. Both end the engine. One that ended for want of heap answers the same need
-    /// again with no replies, and changes nothing; one that ended for want of memory answers that alone.
+    /// and `NoMemory` where there is no memory for all replies, before anything is done, or for the answers to the notices of a turn,
+    /// before that turn: nothing else is refused for lack of memory. Both end the engine. One that ended out of heap answers the same need
+    /// again with no replies, and changes nothing; one that ended out of memory answers that alone.
     ///
-    /// In each turn of the lanes a page is given up for each hint of the turn's line: beside lanes at a table one that can be had, on the heap
-    /// itself one that can leave; none where there is no such page. No reply tells that, but the engine's answers do. The n-th turn has the
-    /// n-th line, and behind the last line comes the first one again.
+    /// In each turn of the lanes a page is given up for each hint of the turn's line: beside lanes at a table one that can be taken, on the heap
+    /// itself one that can leave; none where there is no such page. No reply says that, but the engine's answers do. The n-th turn has the
+    /// n-th line, and after the last line comes the first one again.
     pub fn phase<R, G>(
         &mut self,
         rt: &R,
@@ -96,7 +96,7 @@ impl Engine {
         }
     }
 
-    /// Ends the engine for want of memory.
+    /// Ends the engine, out of memory.
     fn end_for_want(&mut self)
         ensures { self.new ≡ record self.old { ended = Some Ended.NoMemory } }
     {
@@ -205,7 +205,7 @@ impl Engine {
         }
     }
 
-    /// What an engine with empty chunks stands for has a need, and there are at least as many superpages, told to a caller. It does
+    /// What an engine with empty chunks stands for has a need, and there are at least as many superpages, stated for a caller. It does
     /// nothing.
     fn room_facts(&self)
         requires going { self.now.ended ≡ None }

@@ -65,7 +65,7 @@ Marks-none a met f none = record {
   reads = record { grows = ([], refl); pages = λ i lt. refl; frames = λ i le lt. refl };
 }
 
--- words that are told otherwise
+-- words that are written otherwise
 pub Marks-same : (a b : Seat) (met more : List ℕ) (f g : (Word → Bool) → Bool) → ((test : Word → Bool) → f test ≡ g test) → Marks a met f b more → Marks a met g b more
 Marks-same a b met more f g is m = record {
   seat = m.seat;

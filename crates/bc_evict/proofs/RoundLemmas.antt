@@ -1,4 +1,4 @@
--- Going round pages: each has its own place behind the start, and the table's pages come in the order of the heap's.
+-- Going round pages: each has its own place after the start, and the table's pages come in the order of the heap's.
 use Rattle.std.proofs.Common.{◌≡◌, ℕ, ◌+◌, ◌-◌, ◌<◌, ◌≤◌, if◌then◌else◌, nat_lt, Bool, inl, inr, ap, sym, subst, ◌∙◌, arith}
 use Rattle.std.proofs.lemmas.Bool.{cases_lt, lt-ltb, le-ltb}
 use Rattle.bc_evict.specs.Looking.{steps_behind}
@@ -9,7 +9,7 @@ behind_before pages start page lt = ap (λ (b : Bool). if b then pages + page - 
 pub behind_after : (pages start page : ℕ) → start ≤ page → steps_behind pages start page ≡ page - start
 behind_after pages start page le = ap (λ (b : Bool). if b then pages + page - start else page - start) (le-ltb page start le)
 
--- two pages don't lie as many steps behind
+-- two pages don't lie as many steps after
 pub one_place : (pages start p q : ℕ) → start < pages → p < pages → q < pages → steps_behind pages start p ≡ steps_behind pages start q → p ≡ q
 one_place pages start p q some lt_p lt_q same = elim (cases_lt p start) [
   | inl a ↦ elim (cases_lt q start) [

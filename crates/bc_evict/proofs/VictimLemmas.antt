@@ -144,7 +144,7 @@ homes_once k looks page p none lt = elim (cases_eq page p) [
       omega arith
 ]
 
--- a page that could be had was taken by a seat that had nothing in hand and no right
+-- a page that could be taken was taken by a seat that had nothing in hand and no right
 module _ (k : Key) (v : View) (seat : Seat) (held : Held) (t : HasTakenAny k v seat held) (about : v.about ≡ k) where
   ready_about : t.ready.about ≡ k
   ready_about = ap (λ (x : View). x.about) t.looked.view ∙ about

@@ -1,4 +1,4 @@
-//! What a page's word tells when it says Gone.
+//! What is known of a page whose word says Gone.
 
 ghost use Rattle.std.specs.Prelude.{◌≡◌, ℕ, ◌<◌};
 ghost use Rattle.bc_pins.specs.Key.{Key, pages_of};

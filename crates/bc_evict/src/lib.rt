@@ -1,6 +1,6 @@
 // Evictions inside a turn: a page in a worker's hands is given up, so that its frame can be another page's.
 //
-// A page that leaves isn't read any more until it comes back, so what it refers to has to stand outside it (`bc_bookmarks` tells
+// A page that leaves isn't read any more until it comes back, so what it refers to has to stand outside it (`bc_bookmarks` says
 // why). Between turns an eviction is one call on a space. In a turn lanes and pagers work beside each other, each with atomic
 // steps on the words of a table (`bc_pins`), and nobody may ever find a page's word saying Gone whose targets aren't bookmarked
 // yet. So the order is what counts here:
@@ -20,7 +20,7 @@
 // A lane brings an own page that is Gone back in the turn, into a frame of its own:
 //
 //     claim_frame   a frame that is free, word by word; where each frame word was full, none
-//     free_frame    or else a page that can be had is given up, and the right to its frame kept
+//     free_frame    or else a page that can be taken is given up, and the right to its frame kept
 //     reload        the page is in hand, its box was opened, and it is counted nowhere any more
 //
 // The theorems are the contracts. `bookmark` is exact (`HasBookmarked`): the bits are those of the page's targets, and a superpage

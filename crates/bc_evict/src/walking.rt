@@ -1,4 +1,4 @@
-//! Going round the pages, and taking the first of a kind that can be had.
+//! Going round the pages, and taking the first of a kind that can be taken.
 
 ghost use Rattle.std.specs.Prelude.{◌≡◌, ℕ, ◌+◌, ◌*◌, ◌^◌, ◌<◌, ◌≤◌, true, false, IfSome, IfNone};
 ghost use Rattle.bc_bookmarks.specs.Targets.{HasCell};
@@ -20,7 +20,7 @@ pub enum Kind {
     Filled,
 }
 
-/// Takes the first page of a kind that can be had, going round from a hint on.
+/// Takes the first page of a kind that can be taken, going round from a hint on.
 pub fn take_first(pins: &Pins, seat: &mut Seat, hint: u32, kind: Kind) -> Option<Held>
     requires seat { IsAt pins.now seat.old }
     requires free { IsFree seat.old }
@@ -40,7 +40,7 @@ pub fn take_first(pins: &Pins, seat: &mut Seat, hint: u32, kind: Kind) -> Option
     None
 }
 
-/// Takes the first page that can be had, whatever lies on it, going round from a hint on.
+/// Takes the first page that can be taken, whatever lies on it, going round from a hint on.
 pub(crate) fn take_any(pins: &Pins, seat: &mut Seat, hint: u32) -> Option<Held>
     requires seat { IsAt pins.now seat.old }
     requires free { IsFree seat.old }
@@ -75,7 +75,7 @@ fn start_at(pins: &Pins, hint: u32) -> u32
     if page < pins.pages() { page } else { 0 }
 }
 
-/// The number so many steps behind a start, going round among the numbers below a count.
+/// The number so many steps after a start, going round among the numbers below a count.
 pub(crate) fn place_behind(start: u32, steps: u32, count: u32) -> u32
     requires start { start < count }
     requires steps { steps < count }
@@ -90,7 +90,7 @@ pub(crate) fn place_behind(start: u32, steps: u32, count: u32) -> u32
     }
 }
 
-/// Takes a page if it is of the kind and can be had.
+/// Takes a page if it is of the kind and can be taken.
 fn take_page(pins: &Pins, seat: &mut Seat, page: u32, kind: Kind) -> Option<Held>
     requires seat { IsAt pins.now seat.old }
     requires free { IsFree seat.old }

@@ -1,4 +1,4 @@
--- The flags of a pool as its bits tell them, and what a frame that is taken or given leaves of them.
+-- The flags of a pool as its bits show them, and what a frame that is taken or given leaves of them.
 use Rattle.std.proofs.Common.{◌≡◌, ◌≢◌, ℕ, ◌+◌, ◌-◌, ◌*◌, ◌/◌, ◌<◌, ◌≤◌, inl, inr, Bool, true, false, not, List, length, set, ap, sym, ◌∙◌, arith, length-set, get_or-set_same, get_or-set_other}
 use Rattle.std.proofs.lemmas.Bool.{cases_eq, cases_lt}
 use Rattle.std.proofs.lemmas.List.{get_or_past, ext_get_or}
@@ -26,7 +26,7 @@ is_free-out ws n f le = get_or_past (flags_in ws n) f false (rw length-flags_in 
 pub free-frame : (ws : List ℕ) (n f : ℕ) → is_free (flags_in ws n) f ≡ true → f < n
 free-frame ws n f free = let lt = free-below (flags_in ws n) f free in let long = length-flags_in ws n in omega arith
 
--- a pool of which each frame is told by its flag
+-- a pool of which each frame is known by its flag
 pub flags_in-are : (ws : List ℕ) (n : ℕ) (fs : List Bool) → length fs ≡ n → ((f : ℕ) → f < n → not (has ws f) ≡ is_free fs f) → flags_in ws n ≡ fs
 flags_in-are ws n fs long each =
     ext_get_or false (flags_in ws n) fs (length-flags_in ws n ∙ sym long) (λ f lt.

@@ -1,4 +1,4 @@
--- A pool's words of 64 frames: a new pool's, what a word tells, and one that is put in place of another.
+-- A pool's words of 64 frames: a new pool's, what a word says, and one that is put in place of another.
 use Rattle.std.proofs.Common.{◌≡◌, ◌≢◌, ℕ, ◌+◌, ◌-◌, ◌*◌, ◌/◌, ◌%◌, ◌^◌, ◌<◌, ◌≤◌, ◌==◌, inl, inr, max, Bool, true, false, not, List, length, set, get_or, replicate, nat_lt, bit_or, refl, ap, sym, ◌∙◌, arith, tests, w64, length-set, get_or-set_same, get_or-set_other}
 use Prim.Native.Nat.{zero, suc}
 use Rattle.std.specs.Int.{bit_at, trailing_ones}
@@ -20,7 +20,7 @@ use Rattle.bc_frames.proofs.FlagLemmas.{length-flags_in, is_free-in, is_free-out
 bit-of : (n : ℕ) (c : Bool) → n < 2 → (n == 1) ≡ c → n ≡ one_if c
 bit-of n c lt e = grind (arith, tests)
 
--- a word of the pool tells which of its frames aren't free
+-- a word of the pool says which of its frames aren't free
 pub word-tells : (ws : List ℕ) (n free first w b : ℕ) → HasFrameBits ws n free first → w < length ws → b < 64 → bit_at (get_or ws w 0) b ≡ one_if (not (is_free (flags_in ws n) (64 * w + b)))
 word-tells ws n free first w b h within lt =
     bit-of (bit_at (get_or ws w 0) b) (not (is_free (flags_in ws n) (64 * w + b))) (bit_at-lt (get_or ws w 0) b) (sym (has-word ws w b lt) ∙ elim (cases_lt (64 * w + b) n) [

@@ -42,7 +42,7 @@ impl Frame {
 /// The frames that nobody uses.
 #[derive(Drop)]
 pub struct FramePool {
-    /// A bit for each frame, by its number: set where the frame isn't free, and behind the last one.
+    /// A bit for each frame, by its number: set where the frame isn't free, and after the last one.
     words: Vec<u64>,
     /// How many frames there are.
     frames: u32,
@@ -174,7 +174,7 @@ impl FramePool {
         }
     }
 
-    /// Tells which of 64 frames are free, from 64 times this number on: those whose bits are clear. Others stay as they are.
+    /// Sets which of 64 frames are free, from 64 times this number on: those whose bits are clear. Others stay as they are.
     pub fn put_word(&mut self, word: u32, bits: u64)
         ensures long { length self.new ≡ length self.old }
         ensures here { (f : ℕ) → f / 64 ≡ word → f < length self.old → is_free self.new f ≡ (bit_at bits (f % 64) == 0) }

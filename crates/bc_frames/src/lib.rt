@@ -7,7 +7,7 @@
 //
 // A `Frame` can't be copied, so who has one has a frame that nobody else has. A pool is seen as a
 // flag for each frame, true where it is free. It keeps a bit for each frame in words of 64, set where the frame
-// isn't free and behind the last frame, how many are free, and the first word that may have a free one: `claim`
+// isn't free and after the last frame, how many are free, and the first word that may have a free one: `claim`
 // takes the first clear bit from there on. The store is seen as the boxes' contents by page.
 //
 // A page that was never used has no box yet: its place in the store says so, and contracts see zeros there (`Place`). Room for

@@ -49,12 +49,12 @@ covered-kept roots cells found ways more new v kept covered n to =
       least = subst (λ (w : Way). AtMost w v) (sym (kept.old_ways by.entry by.within)) by.least;
     }
 
--- where the origin of a way to come is told of the finds so far
+-- where the origin of a way to come is found among the finds so far
 abbrev pub ComesFrom : (ℕ → Way) → ℕ → Way → Origin → Type 0
 ComesFrom ways count w (Slot r) = w ≡ from_slot r
 ComesFrom ways count w (Field e i) = (e < count) × (w ≡ by_field (ways e) i)
 
--- a way was gone: where it leads to is found, and all finds are by ways that aren't behind it
+-- a way was gone: where it leads to is found, and all finds are by ways that aren't after it
 pub record WasGone (roots : List ℕ) (cells : List CellList) (found : List Found) (ways : ℕ → Way) (w : Way) (more : List Found) (seen : List Bool) : Type 0 where
   pub new : ℕ → Way
   pub noted : AreNotedFinds roots cells more seen new
@@ -218,7 +218,7 @@ fields-next roots cells found seen entry field more after s within g =
       below = λ _ k lt. subst (λ (w : Way). Before (g.new k) (by_field w (field + 1))) (sym same) (at_most-next (g.new k) (s.ways entry) field (g.at_most k lt));
     }
 
--- all fields of a find were gone over: a field behind them is nil
+-- all fields of a find were gone over: a field after them is nil
 pub fields-last : (roots : List ℕ) (cells : List CellList) (found : List Found) (seen : List Bool) (entry field : ℕ) → entry < length found → ((i : ℕ) → field ≤ i → field_target cells (Some (find_at found entry).node) i ≡ None) → FieldsNoted roots cells found seen entry field → FieldsNoted roots cells found seen (entry + 1) 0
 fields-last roots cells found seen entry field within nil s =
     let all : (i : ℕ) → IsCovered roots cells found s.ways (by_field (s.ways entry) i) = λ i. (elim (cases_lt i field) [
@@ -304,7 +304,7 @@ word-within cells (Ref a) n e = number_at-within cells a.0 n e
 pub target-within : (cells : List CellList) (bits n : ℕ) → target_of cells bits ≡ Some n → n < length cells
 target-within cells bits n e = word-within cells (word_of_bits bits) n e
 
--- behind the last field and the last slot there is nil
+-- after the last field and the last slot there is nil
 pub target-nil : (cells : List CellList) → target_of cells 0 ≡ None
 target-nil cells = ap (word_target cells) word_of_bits-nil
 

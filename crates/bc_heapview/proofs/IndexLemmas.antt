@@ -78,7 +78,7 @@ indexed-old cells c end index lt there is =
       ];
     }
 
--- no object lies behind the end
+-- no object lies after the end
 number_at-none : (cells : List CellList) (a : ℕ) → ((k : ℕ) → k < length cells → (cell_at cells k).address ≢ a) → number_at cells a ≡ None
 number_at-none [] a off = refl
 number_at-none (c ∷ cs) a off =

@@ -1,4 +1,4 @@
--- What a source told, and what was read of it.
+-- What a source reported, and what was read of it.
 use Rattle.std.proofs.Common.{◌≡◌, ℕ, ◌+◌, ◌<◌, ◌≤◌, List, [], ◌++◌, append-nil, ◌∙◌, Option, None, Some, IfSome, length, length-append, drop, refl, sym, ap, subst, inl, inr, arith}
 use Rattle.std.proofs.lemmas.List.{drop_all, length-drop}
 use Rattle.bc_io.specs.Told.{HasRoom}
@@ -17,7 +17,7 @@ use Rattle.bc_heapview.specs.ViewStatuses.{image_refusal, unread_view}
 use Rattle.bc_heapview.specs.declared.status.ViewStatus.{ViewStatus}
 use Rattle.bc_heapview.specs.declared.status.ViewStatus.TheVariants.{Done, BadWords, BadImage, TooLong, ReadFault, WriteFault, NoMemory}
 
--- what was read of a source that told its bytes
+-- what was read of a source that reported its bytes
 pub read_is : (told : Option (List ℕ)) (read bytes : List ℕ) → IfSome told (λ left. read ≡ left) → told ≡ Some bytes → read ≡ bytes
 read_is None read bytes h e = cc
 read_is (Some left) read bytes h e = cc
@@ -32,16 +32,16 @@ can_give-whole (Some left) (Some rest) bytes h =
     let all : left ≡ bytes ++ rest = cc in
     all ∙ ap (λ xs. bytes ++ xs) none ∙ append-nil bytes
 
--- a status that the reader told
+-- a status that the reader returned
 pub told_unless : (s told wanted : ViewStatus) → told ≡ s → IsUnlessMemory s wanted → IsUnlessMemory told wanted
 told_unless s told wanted is h = subst (λ (s : ViewStatus). IsUnlessMemory s wanted) (sym is) h
 
--- a source that told few bytes didn't give too many
+-- a source that reported few bytes didn't give too many
 pub not_longer : (told : Option (List ℕ)) (bytes : List ℕ) → IfSome told (λ left. longest_image < length left) → told ≡ Some bytes → length bytes ≤ longest_image → ⊥
 not_longer None bytes h e short = cc
 not_longer (Some left) bytes h e short = let same : left ≡ bytes = cc in omega (arith, ap length same)
 
--- a source that gave no byte too many, and had no fault, was not read for want of memory alone
+-- a source that gave no byte too many, and had no fault, is left unread by running out of memory alone
 pub unread-short : (e : ReadAll) → (e ≡ reads.TooLong → ⊥) → (e ≡ reads.ReadFault → ⊥) → unread_view e ≡ NoMemory
 unread-short reads.TooLong long fault = absurd (long refl)
 unread-short reads.ReadFault long fault = absurd (fault refl)
@@ -54,7 +54,7 @@ unread-firm reads.NoMemory fault = inr refl
 
 -- ---- what the scan of the bytes says
 
--- the refusal tells the bytes' fault
+-- the refusal names the bytes' fault
 pub tells_fault : (old new : Option (List ℕ)) (read bytes : List ℕ) (error : ReadImage) (status : ViewStatus) → read ≡ bytes → ReadsImage old new bytes → status ≡ image_refusal error → TellsImageFault read error → IfBadImage status (FaultyImage old new)
 tells_fault old new read bytes (answers.Fault f) status same whole e told = rw e (record { bytes = bytes; whole = whole; fault = inl (subst (λ (b : List ℕ). IsFault b f) same told) })
 tells_fault old new read bytes answers.NoMemory status same whole e told = rw e tt
@@ -105,7 +105,7 @@ read_as_image old new read bytes l used same whole le image = record {
   image = no_rest bytes l used le (subst (λ (b : List ℕ). ImageOf b l (drop used b)) same image);
 }
 
--- where bytes follow an image, the fault is told where the image ends
+-- where bytes follow an image, the fault is reported where the image ends
 pub rest_told : (used : ℕ) (f : ImageFault) (bytes : List ℕ) (r : HasRest bytes f) → used ≡ length (image_bytes r.listing) → IsUnlessMemory (BadImage used Rest) (BadImage f.at f.cause)
 rest_told used f bytes r e = inl (ap (λ (n : ℕ). BadImage n Rest) e ∙ ap (λ (g : ImageFault). BadImage g.at g.cause) (sym r.fault))
 

@@ -6,7 +6,7 @@ pub mod FindLemmas
 pub mod IndexLemmas
 -- The way of a find, from its end on
 pub mod BackLemmas
--- The order of ways, told by lists of fields
+-- The order of ways, determined by lists of fields
 pub mod OrderLemmas
 -- Ways through a listing are ways through a state
 pub mod StateLemmas

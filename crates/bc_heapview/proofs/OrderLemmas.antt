@@ -1,4 +1,4 @@
--- The order of ways, told by lists of fields.
+-- The order of ways, determined by lists of fields.
 use Rattle.std.proofs.Common.{◌≡◌, ◌⊎◌, ℕ, ◌+◌, ◌<◌, ◌≤◌, List, [], ◌∷◌, length, map, refl, sym, ◌∙◌, ap, subst, inl, inr, arith}
 use Rattle.std.proofs.lemmas.Bool.{cases_lt}
 use Rattle.bc_heapview.specs.Answers.{ComesFirst, fields_of}

@@ -32,7 +32,7 @@ none-reached l s b found pictures searched none reached =
     let at : FoundBy found searched.ways to.0 w = searched.all w to.0 to.1 in
     none at.entry at.within (ap (birth_at l.cells) at.node_is ∙ to.2)
 
--- the way of a find comes behind no other way to its object
+-- the way of a find comes after no other way to its object
 module _ (l : ListingLists) (s : State) (b : Birth) (found : List Found) (pictures : PicturesObjects l s) (searched : IsSearched l.roots l.cells found) (entry : ℕ) (is : IsFoundAt found l.cells b entry) where
   pub find-least : (p : ℕ) (fs : List ℕ) → IsWay s b p fs → AtMost (searched.ways entry) (along (from_slot p) fs)
   find-least p fs way =
@@ -61,7 +61,7 @@ module _ (l : ListingLists) (s : State) (b : Birth) (found : List Found) (pictur
         births = tell-births l.roots l.cells s.slots s.made pictures.stands (from_slot place) first steps begins back.births;
       }
 
--- the answers, told of what the calls were given
+-- the answers, said of what the calls were given
 pub answer-none : (l : ListingLists) (b : Birth) (roots : List ℕ) (cells cells2 : List CellList) (found found2 : List Found) → roots ≡ l.roots → cells ≡ l.cells → cells2 ≡ l.cells → found2 ≡ found → IsSearched roots cells found → HasNoFind found2 cells2 b → (s : State) → PicturesObjects l s → NoWay s b
 answer-none l b roots cells cells2 found found2 r c c2 f searched none s pictures =
     let here : IsSearched l.roots l.cells found = subst (λ (x : List ℕ). IsSearched x l.cells found) r (subst (λ (x : List CellList). IsSearched roots x found) c searched) in

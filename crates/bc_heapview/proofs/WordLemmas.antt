@@ -75,7 +75,7 @@ module _ (words : List Text) (name : Text) (begins : words ≡ name ∷ drop 1 w
       let same_rest : is.values ≡ drop 1 words = cc in
       subst (λ f. Asks f (drop 1 words) q) same_first (subst (λ vs. Asks is.first vs q) same_rest is.asked)
 
-  -- where the words are a question, a parse fails for want of memory alone
+  -- where the words are a question, a parse fails out of memory alone
   pub err_question : (a : App) (error : Error) → a ≡ app name → (is_simple_and_free a ≡ true → HasKind (fault_of a words) error) → (q : Question) → IsQuestionOf words q → kind_of error ≡ OutOfMemory
   err_question a error e kinds q is = err_parse a error words name e kinds (values_done name (drop 1 words) (asked_bare name (drop 1 words) q (question_values q is))).no_fault
 

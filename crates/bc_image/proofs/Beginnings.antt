@@ -23,7 +23,7 @@ use Rattle.bc_image.proofs.Running.{FitsLinked, Runs, next-item}
 abbrev pub head_progress : ℕ → Setup → ℕ → Stage → ℕ → Progress
 head_progress v s ph st k = record { stage = st; version = v; setup = s; phases = ph; stood = k; superpage = 0; class = 0; domain = 0; left = 0; least = 0; address = 0; fields = 0 }
 
--- behind the numbers
+-- after the numbers
 abbrev pub head_draft : ℕ → Setup → ℕ → Stage → ℕ → List Holder → List ℕ → List ℕ → ImageDraft
 head_draft v s ph st k hs bs rs = record { progress = head_progress v s ph st k; holders = hs; births = bs; roots = rs; born = []; cells = []; head = no_head; fields = [] }
 

@@ -39,7 +39,7 @@ page_draft l st q c dom left least a f born cs h fs = record {
 abbrev pub stage_at : ListingLists → ℕ → Stage
 stage_at l q = if q == l.setup.superpages then stages.Finished else stages.Pair
 
--- behind the last item of an object
+-- after the last item of an object
 abbrev pub object_done : ListingLists → ℕ → ℕ → ℕ → ℕ → ℕ → ℕ → List ℕ → List CellList → Head → List ℕ → ImageDraft
 object_done l q c dom left a f born cs h fs =
     let d : ImageDraft = page_draft l stages.Field q c dom left 0 a f born cs h fs in

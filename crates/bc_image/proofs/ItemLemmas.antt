@@ -1,4 +1,4 @@
--- What an item that passed tells.
+-- What an item that passed says.
 use Rattle.std.proofs.Common.{◌≡◌, ℕ, ◌+◌, ◌*◌, ◌/◌, ◌%◌, ◌^◌, ◌<◌, ◌≤◌, ◌==◌, ◌&&◌, ◌||◌, ◌-◌, ◌≢◌, Bool, if◌then◌else◌, true, false, nat_lt, nat_le, List, refl, sym, ◌∙◌, subst, inl, inr, arith}
 use Rattle.std.proofs.lemmas.Bool.{and_parts, or_cases, eqb-true, eq-eqb}
 use Rattle.std.proofs.lemmas.Bool.Decides.{nat_tests}
@@ -134,7 +134,7 @@ field-kept p e b lt cl left =
     let ob : (0 < p.left) × (0 < p.fields) = (left, omega arith) in
     record { bounded = b; place = subst (λ s. HasPlace s p) (sym e) lt; object = subst (λ s. HasObjectLeft s p) (sym e) ob; classed = subst (λ s. HasClass s p) (sym e) cl })
 
--- what is true of a progress stays so behind an item that passed
+-- what is true of a progress stays so after an item that passed
 pub progress-kept : (st : Stage) (p : Progress) (births : List ℕ) (n : ℕ) → p.stage ≡ st → IsBoundedProgress p → HasPlace st p → HasClass st p → HasObjectLeft st p → passes_at st p births n ≡ true → IsProgress (advanced_at st p n)
 progress-kept stages.Magic p births n e b place cl ob h = record { bounded = record { some_lanes = b.some_lanes; lanes = b.lanes; some_domains = b.some_domains; domains = b.domains; some_slots = b.some_slots; slots = b.slots; some_superpages = b.some_superpages; superpages = b.superpages; nursery = b.nursery; stood = b.stood; superpage = b.superpage; address = b.address; class = b.class }; place = place; object = tt; classed = tt }
 progress-kept stages.Version p births n e b place cl ob h = record { bounded = record { some_lanes = b.some_lanes; lanes = b.lanes; some_domains = b.some_domains; domains = b.domains; some_slots = b.some_slots; slots = b.slots; some_superpages = b.some_superpages; superpages = b.superpages; nursery = b.nursery; stood = b.stood; superpage = b.superpage; address = b.address; class = b.class }; place = place; object = tt; classed = tt }

@@ -1,4 +1,4 @@
--- What an item that passed tells
+-- What an item that passed says
 pub mod ItemLemmas
 -- Reading, item by item
 pub mod ReadLemmas

@@ -32,7 +32,7 @@ link-below bytes cells (suc left) p number k h =
 none-image : (bytes : List ℕ) (f : ImageFault) → items_of_all bytes ≡ Err f → (l : ListingLists) (rest : List ℕ) → ImageOf bytes l rest → ⊥
 none-image bytes f e l rest is = let r = law-image bytes l rest is in (let c : Err f ≡ Ok (r.draft, length (image_items l)) = sym e ∙ r.read in absurd cc)
 
--- a failure of the reader, where there is an image, is want of memory
+-- a failure of the reader, where there is an image, is out of memory
 pub gives-memory : (bytes : List ℕ) (e : ReadImage) → GivesItems (Err e) (items_of_all bytes) → (l : ListingLists) (rest : List ℕ) → ImageOf bytes l rest → e ≡ NoMemory
 gives-memory bytes (Fault f) g l rest is = absurd (none-image bytes f g l rest is)
 gives-memory bytes NoMemory g l rest is = refl

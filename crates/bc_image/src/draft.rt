@@ -131,7 +131,7 @@ impl Draft {
         }
     }
 
-    /// Takes an item up, or tells the test of its place that it fails. After an error or a failed test the draft is of no use.
+    /// Takes an item up, or returns the test of its place that it fails. After an error or a failed test the draft is of no use.
     pub fn take(&mut self, alloc: Global, item: u64) -> Result<Option<ImageCause>, AllocError>
         requires { (d : ImageDraft) × ShowsLists self.old d × IsDraft d }
         ensures { (d : ImageDraft) → ShowsLists self.old d → IfOk result (λ r. (r ≡ placed d item) × (r ≡ None → ShowsLists self.new (put d item))) }

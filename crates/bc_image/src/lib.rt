@@ -1,6 +1,6 @@
 // Images: a heap saved as a list of items of 8 bytes, each a number with its most significant byte first.
 //
-// An image begins with eight letters, the version, the setup and how many phases are done. Behind them stand who holds each
+// An image begins with eight letters, the version, the setup and how many phases are done. After them stand who holds each
 // domain, how many objects each lane has made, the words of the root slots, and superpage by superpage its objects: 0 where there
 // is none, or else their domain and class, how many they are, and each with its address, its head and its fields. A reference is
 // the address of an object of the image.
@@ -14,7 +14,8 @@
 // (`law_one_image`).
 //
 // Where things are: `listing` what an image says, `progress` what may stand where, `draft` the listing that is being read,
-// `reading` the one pass over the items, `births` births that stand twice, `linking` references to nowhere, `scanning` the whole, `fault` what may be wrong.
+// `reading` the one pass over the items, `births` births that stand twice, `linking` references to nowhere, `scanning` the whole, `fault`
+// what may be wrong.
 #![tactic(auto)]
 
 mod births;

@@ -154,7 +154,7 @@ impl Progress {
         }
     }
 
-    /// Behind the last object of a superpage.
+    /// After the last object of a superpage.
     fn superpage_ended(&mut self)
         requires { self.old.superpage + 1 < 2 ^ 32 }
         ensures { self.new ≡ superpage_ended self.old }
@@ -167,7 +167,7 @@ impl Progress {
         };
     }
 
-    /// Behind an object.
+    /// After an object.
     fn object_ended(&mut self)
         requires more { 0 < self.old.left }
         requires address { self.old.address + self.old.class < 2 ^ 32 }
@@ -182,7 +182,7 @@ impl Progress {
         }
     }
 
-    /// Behind a holder, a birth or a root slot, of which there are so many.
+    /// After a holder, a birth or a root slot, of which there are so many.
     fn one_stood(&mut self, all: u32, next: Stage)
         requires { self.old.stood + 1 < 2 ^ 32 }
         ensures { self.new ≡ one_stood self.old all next }
@@ -194,7 +194,7 @@ impl Progress {
         }
     }
 
-    /// Behind a field, or behind a head if there is none.
+    /// After a field, or after a head if there is none.
     fn field_stood(&mut self)
         requires more { 0 < self.old.left }
         requires address { self.old.address + self.old.class < 2 ^ 32 }
@@ -206,7 +206,7 @@ impl Progress {
         }
     }
 
-    /// Behind what the objects of a superpage are, or behind the 0 of one that has none.
+    /// After what the objects of a superpage are, or after the 0 of one that has none.
     fn begin_superpage(&mut self, item: u64)
         requires small { item / 256 < 2 ^ 32 }
         requires superpage { self.old.superpage + 1 < 2 ^ 32 }
@@ -221,7 +221,7 @@ impl Progress {
         self.stage = Stage::Count;
     }
 
-    /// The item as a number, behind which comes this.
+    /// The item as a number, after which comes this.
     fn number(&mut self, item: u64, next: Stage) -> u32
         requires { item < 2 ^ 32 }
         ensures number { result ≡ item }
@@ -231,7 +231,7 @@ impl Progress {
         item as u32
     }
 
-    /// Behind an item that passed.
+    /// After an item that passed.
     #[tactic(auto, unfolding(crate::specs::Items::advanced))]
     pub fn advance(&mut self, item: u64)
         requires progress { IsProgress self.old }

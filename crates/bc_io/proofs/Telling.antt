@@ -54,7 +54,7 @@ has_rest (Some _) m n room = omega arith
 pub HasRoom-rest : (a b : Option ℕ) (m n : ℕ) → HasRoom a (m + n) → RoomFalls a b m → HasRoom b n
 HasRoom-rest a b m n room falls = subst (λ told. HasRoom told n) (sym falls) (has_rest a m n room)
 
--- there is room for what comes behind the bytes that were taken, where there was room for all
+-- there is room for what comes after the bytes that were taken, where there was room for all
 pub HasRoom-next : (a b : Option ℕ) (xs ys zs : List ℕ) → HasRoom a (length (xs ++ ys ++ zs)) → RoomFalls a b (length xs) → HasRoom b (length ys)
 HasRoom-next a b xs ys zs room falls =
     let both = length-append (xs ++ ys) zs in
@@ -76,7 +76,7 @@ LeftFalls-nil (Some left) = refl
 pub LeftFalls-more : (a b c : Option (List ℕ)) (xs ys : List ℕ) → LeftFalls a b xs → LeftFalls b c ys → LeftFalls a c (xs ++ ys)
 LeftFalls-more a b c xs ys p q = p ∙ ap (λ known. prepend_known xs known) q ∙ prepend_known-append c xs ys
 
--- ---- fronts
+-- ---- prefixes
 
 pub IsPrefix-refl : (xs : List ℕ) → IsPrefix xs xs
 IsPrefix-refl xs = ([], sym (append-nil xs))
@@ -84,21 +84,21 @@ IsPrefix-refl xs = ([], sym (append-nil xs))
 pub IsPrefix-nil : (xs : List ℕ) → IsPrefix [] xs
 IsPrefix-nil xs = (xs, refl)
 
--- a front of a front is a front
+-- a prefix of a prefix is a prefix
 pub IsPrefix-trans : (xs ys zs : List ℕ) → IsPrefix xs ys → IsPrefix ys zs → IsPrefix xs zs
 IsPrefix-trans xs ys zs p q = (p.0 ++ q.0, q.1 ∙ ap (λ front. front ++ q.0) p.1 ∙ append_assoc xs p.0 q.0)
 
--- bytes are a front of themselves and more
+-- bytes are a prefix of themselves and more
 pub IsPrefix-append : (xs ys : List ℕ) → IsPrefix xs (xs ++ ys)
 IsPrefix-append xs ys = (ys, refl)
 
--- behind the same bytes, a front stays a front
+-- after the same bytes, a prefix stays a prefix
 pub append-IsPrefix : (xs ys zs : List ℕ) → IsPrefix ys zs → IsPrefix (xs ++ ys) (xs ++ zs)
 append-IsPrefix xs ys zs p = (p.0, ap (λ rest. xs ++ rest) p.1 ∙ sym (append_assoc xs ys p.0))
 
 -- ---- a write that met a fault
 
--- whole bytes were taken, and then a front of others: a front of both
+-- whole bytes were taken, and then a prefix of others: a prefix of both
 pub TakesFront-after : (a b c : Option (List ℕ)) (k l m : Option ℕ) (xs ys : List ℕ) → HeldGrows a b xs → RoomFalls k l (length xs)
     → TakesFront b c l m ys → TakesFront a c k m (xs ++ ys)
 TakesFront-after a b c k l m xs ys grows falls front = record {
@@ -110,7 +110,7 @@ TakesFront-after a b c k l m xs ys grows falls front = record {
   falls = subst (λ n. RoomFalls k m n) (sym (length-append xs front.taken)) (RoomFalls-more k l m (length xs) (length front.taken) falls front.falls);
 }
 
--- a front of these bytes is a front of them and more
+-- a prefix of these bytes is a prefix of them and more
 pub TakesFront-append : (a b : Option (List ℕ)) (k l : Option ℕ) (xs ys : List ℕ) → TakesFront a b k l xs → TakesFront a b k l (xs ++ ys)
 TakesFront-append a b k l xs ys front = record {
   taken = front.taken;
@@ -121,7 +121,7 @@ TakesFront-append a b k l xs ys front = record {
   falls = front.falls;
 }
 
--- what was taken is a front
+-- what was taken is a prefix
 pub TakesFront-IsPrefix : (a b : Option (List ℕ)) (k l : Option ℕ) (xs : List ℕ) (front : TakesFront a b k l xs) → IsPrefix front.taken xs
 TakesFront-IsPrefix a b k l xs front = (front.rest, front.whole)
 
@@ -152,7 +152,7 @@ GivesExactly-more a b c xs ys n p q sum = record {
 pub take-take_rest : (xs : List ℕ) (i m : ℕ) → take m (take (length xs - i) (drop i xs)) ≡ take m (drop i xs)
 take-take_rest xs i m = rw take_rest refl
 
--- bytes were written over those behind `front`: they are what stands there
+-- bytes were written over those after `front`: they are what stands there
 pub take-written : (front read behind rest : List ℕ) (len filled count : ℕ) → length front ≡ filled → count ≤ length read → filled + count ≤ len
     → take (filled + count) (take len (front ++ (read ++ behind) ++ rest)) ≡ front ++ take count read
 take-written front read behind rest len filled count at within short =

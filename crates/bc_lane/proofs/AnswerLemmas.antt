@@ -84,7 +84,7 @@ brought-looked part k v w hand end page op about looks passes q near = elim (cas
   | inr ne ↦ inl (passes q near ne)
 ]
 
--- why an operation isn't done, told since an earlier view
+-- why an operation isn't done, said since an earlier view
 pub stops-since : (u v : View) (part : LanePart) (w : View) (hand : Option Held) (end : ℕ) (op : Op) (why : Stop) → ReadsOn u v → StopsOp v part w hand end op why → StopsOp u part w hand end op why
 stops-since u v part w hand end op stop.End reads stops = stops
 stops-since u v part w hand end op stop.NurseryFull reads stops = stops

@@ -1,4 +1,4 @@
--- An operation that looks at a cell of another lane's is told so, and changes nothing.
+-- An operation that looks at a cell of another lane's is answered so, and changes nothing.
 use Rattle.std.proofs.Common.{◌≡◌, ◌≢◌, ℕ, ◌==◌, true, List, get_or, inl, inr, refl, ap, sym, ◌∙◌}
 use Rattle.std.proofs.lemmas.Option.{same_Some}
 use Rattle.std.specs.List.{list_all}

@@ -236,7 +236,7 @@ module _ (v u : View) (seat : Seat) (page frame : ℕ) (held : Held) (f : HasFra
   abbrev now : View
   now = record v { rights = []; seen = u.seen; gone = w.gone; busy = w.busy; read = (r.looks ++ f.looks) ++ v.read; left = u.left; emptied = u.emptied; bookmarked = u.bookmarked; fetched = page ∷ v.fetched; hand = Some hand }
 
-  -- the view, told of the one before the frame was found
+  -- the view, said of the one before the frame was found
   is-now : w ≡ now
   is-now =
       r.view

@@ -200,7 +200,7 @@ module _ (part : LanePart) (k : Key) (v : View) (hand : Option Held) (end : ℕ)
 pub superpage-page : (a : ℕ) (ds : List ℕ) → get_or ds (superpage_of a) 0 ≡ get_or ds (page_of a / 4) 0
 superpage-page a ds = ap (λ (q : ℕ). get_or ds q 0) (page_of-superpage a)
 
--- what is told of where an operation looks at a cell, whatever the whole heap
+-- what is known of where an operation looks at a cell, whatever the whole heap
 module _ (part : LanePart) (k : Key) (end : ℕ) (op : Op) (at : Address) (table : IsLaneTable k part.holders.items) (held : LaneHoldsAll part op) (below : at.0 < end) (leads-on : LeadsToPageWhere part end op (λ q. q ≡ page_of at.0))
     (at-each : (v : View) → (hand : Option Held) → (h : HeapView) → IsWhole part v hand end h → IsOpOf h.roots op → LooksAtObject h.roots (touched_slot op) at)
     (some : (v : View) × (hand : Option Held) × (h : HeapView) × (v.about ≡ k) × IsWhole part v hand end h × IsOpOf h.roots op) where

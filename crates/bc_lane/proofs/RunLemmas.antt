@@ -80,7 +80,7 @@ looks-longer ops end old v hand replies more page l =
           );
     }
 
--- the next operation behind those that were done looks at it
+-- the next operation after those that were done looks at it
 looks-next : (ops : List Op) (end : ℕ) (old cur : LaneTurn) (v w : View) (hand after : Option Held) (ran : LaneRan ops end old v hand cur w after) (page : ℕ) → LooksNext ops end cur w after page → LooksInRun ops end old v hand ran.replies page
 looks-next ops end old cur v w hand after ran page next =
     let place = ran.next in
@@ -230,7 +230,7 @@ did-then holders lane (o ∷ ops) more [] rest h m k s n t first second = absurd
 did-then holders lane (o ∷ ops) more (r ∷ rs) rest h m k s n t first second =
     (first.0, first.1, first.2, did-then holders lane ops more rs rest first.0 m k first.1 n t first.3 second)
 
--- the first operations of a list from a place on, and those behind them
+-- the first operations of a list from a place on, and those after them
 ops-then : (ops : List Op) (from a b : ℕ) → take (a + b) (drop from ops) ≡ take a (drop from ops) ++ take b (drop (from + a) ops)
 ops-then ops from a b =
     sym (take-append-drop a (take (a + b) (drop from ops)))
@@ -245,7 +245,7 @@ pub fits-all : (h k : HeapView) (ops : List Op) → SameSizes h k → AllByRecur
 fits-all h k [] same fits = tt
 fits-all h k (op ∷ ops) same fits = (fits-same h k op same fits.0, fits-all h k ops same fits.1)
 
--- what the second looks at is behind the first
+-- what the second looks at is after the first
 looks-then : (ops : List Op) (end : ℕ) (old cur : LaneTurn) (v w : View) (hand after : Option Held) (one : LaneRan ops end old v hand cur w after) (more : List Reply) (page : ℕ) → LooksInRun ops end cur w after more page → LooksInRun ops end old v hand (one.replies ++ more) page
 looks-then ops end old cur v w hand after one more page l =
     let long = length-append one.replies more in

@@ -43,7 +43,7 @@ going-on pins ops old new seat after hand last going same seated count births = 
 pub stopped-at : (u : View) (ops : List Op) (end : ℕ) (turn : LaneTurn) (v : View) (hand : Option Held) (op : Op) (why : Stop) → turn.next < length ops → op ≡ get_or ops turn.next op → StopsOp u turn.part v hand end op why → WhyStopped u ops end turn v hand why
 stopped-at u ops end turn v hand op why less is stops = inr (op, less, is, stops)
 
--- and told since an earlier view
+-- and read since an earlier view
 pub why-since : (u v : View) (ops : List Op) (end : ℕ) (turn : LaneTurn) (w : View) (hand : Option Held) (why : Stop) → ReadsOn u v → WhyStopped v ops end turn w hand why → WhyStopped u ops end turn w hand why
 why-since u v ops end turn w hand why reads is = elim is [
   | inl done ↦ inl done

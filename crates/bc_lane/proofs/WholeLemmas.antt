@@ -71,7 +71,7 @@ pages-as v v' hand hand' end end' s e1 e2 e3 shown =
     (subst (λ (x : Option Held). ShowsPages v x end' s) e2
     (subst (λ (x : ℕ). ShowsPages v hand x s) e3 shown))
 
--- at a station: what stays is told by other names
+-- at a station: what stays is given by other names
 module _ (part : LanePart) (v sv : View) (hand : Option Held) (end : ℕ) (op : Op) (shs : List ℕ) (slane sslots : ℕ) (sstarts : List ℕ) (is_v : sv ≡ v) (is_hs : shs ≡ part.holders.items) (is_lane : slane ≡ part.lane) (is_starts : sstarts ≡ part.starts.items) (is_slots : sslots ≡ part.slots)
     (chs cst : List ℕ) (is_chs : chs ≡ part.holders.items) (is_cst : cst ≡ part.starts.items) where
   abbrev Cells' : Option Held → ℕ → Layout → Type 0

@@ -135,13 +135,13 @@ LooksOn h op page = (at : Address) × LooksAtObject h.roots (touched_slot op) at
 abbrev pub ReadLast : View → ℕ → ℕ → Type 0
 ReadLast v page found = (rest : List (ℕ × ℕ)) × (v.read ≡ (page_at page, found) ∷ rest)
 
--- the page's word was read since, and told last that the page is in another's hands; which is noted
+-- the page's word was read since, and said last that the page is in another's hands; which is noted
 pub record ReadsHeld (v w : View) (page : ℕ) : Type 0 where
   pub last : ReadLast w page 3
   pub since : length v.read < length w.read
   pub noted : 0 < times page w.busy
 
--- what a word told when it was read last
+-- what a word said when it was read last
 abbrev pub LastOf : List (ℕ × ℕ) → ℕ → ℕ → Type 0
 LastOf looks i found = (rest : List ℕ) × (reads_of i looks ≡ found ∷ rest)
 
@@ -282,7 +282,7 @@ pub record SameSizes (h k : HeapView) : Type 0 where
   pub domains : k.roots.domains ≡ h.roots.domains
   pub slots : k.roots.slots ≡ h.roots.slots
 
--- one of the operations with these replies looks at a cell on this page, or the one behind them: in the heap that those before it made of
+-- one of the operations with these replies looks at a cell on this page, or the one after them: in the heap that those before it made of
 -- the one to which what the lane had belonged
 pub record LooksInRun (ops : List Op) (end : ℕ) (old : LaneTurn) (v : View) (hand : Option Held) (replies : List Reply) (page : ℕ) : Type 0 where
   pub before : ℕ

@@ -19,7 +19,7 @@ use bc_gates::Gate;
 use bc_model::{Op, Reply};
 use bc_pins::{Held, Pins, Seat};
 
-/// Does an operation of the lane, or tells why it isn't done. The page of the lane's cell that it looks at is in hand then. A
+/// Does an operation of the lane, or returns why it isn't done. The page of the lane's cell that it looks at is in hand then. A
 /// cell of another lane's is only asked for its domain.
 pub(crate) fn answer<G: Gate>(
     part: &mut LanePart,
@@ -52,7 +52,7 @@ pub(crate) fn answer<G: Gate>(
     }
 }
 
-/// Does an operation of the lane that looks at a cell of its own on this page, or tells why it isn't done. Where the page was in
+/// Does an operation of the lane that looks at a cell of its own on this page, or returns why it isn't done. Where the page was in
 /// hand before, nothing is read at the table.
 fn answer_on<G: Gate>(
     part: &mut LanePart,

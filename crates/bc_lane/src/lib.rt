@@ -8,14 +8,14 @@
 // hands, and where one is gone for which there is no frame.
 //
 // An operation is that of `bc_mutator`, done over the page in hand (`PinnedCells`) and the lane's words (`LaneSlots`). What the
-// proofs have to know of the seat meanwhile is told by a type parameter, the station. An operation may look at a cell of another
-// lane's; then its superpage's header tells the domain, and the answer is that it is foreign (`looking`). No other lane's page is
+// proofs have to know of the seat meanwhile is given by a type parameter, the station. An operation may look at a cell of another
+// lane's; then its superpage's header says the domain, and the answer is that it is foreign (`looking`). No other lane's page is
 // ever taken.
 //
 // The theorem is the contract of `LaneTurn::run`: whatever whole heap what the lane has belonged to, it then belongs to that heap
 // with the lane's operations done, one after another, and answered so (`LaneRan`); and each stop has its cause (`WhyStopped`). These
 // heaps have none of the lane's pages Gone: the first is the one that was opened, with every page back (`law_opening`). So a page
-// that comes back, and one that leaves, change nothing of them; what they change at the table `ReadsOn` tells. What
+// that comes back, and one that leaves, change nothing of them; what they change at the table `ReadsOn` says. What
 // other lanes have isn't among the arguments, so lanes side by side are lanes one after another.
 #![tactic(auto)]
 

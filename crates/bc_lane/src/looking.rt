@@ -28,7 +28,7 @@ pub(crate) enum Looking {
     Foreign,
 }
 
-/// Tells where an operation of the lane looks.
+/// Returns where an operation of the lane looks.
 pub(crate) fn looks(part: &LanePart, pins: &Pins, end: u32, op: &Op) -> Looking
     requires whole { (v : View) × (hand : Option Held) × (h : HeapView) × (v.about ≡ key_of pins.now) × IsWhole part.now v hand end h × IsOpOf h.roots op.now }
     requires table { IsLaneTable (key_of pins.now) part.now.holders.items }

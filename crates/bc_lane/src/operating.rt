@@ -24,7 +24,7 @@ use std::marker::{Brand, PhantomData};
 use std::mem;
 
 /// Does an operation over what the lane has, with the page in hand on which the operation looks at a cell, if it does. The
-/// station tells the proofs what stays meanwhile.
+/// station says to the proofs what stays meanwhile.
 fn operate_at<S: Station>(
     part: &mut LanePart,
     _seat: &Seat,
@@ -87,7 +87,7 @@ fn operate_at<S: Station>(
     answer
 }
 
-/// Does an operation over what the lane has, or tells that there is no room in the chunk or the write buffer. What it looks at is
+/// Does an operation over what the lane has, or returns that there is no room in the chunk or the write buffer. What it looks at is
 /// in hand.
 pub(crate) fn operate(
     part: &mut LanePart,

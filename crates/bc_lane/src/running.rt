@@ -67,7 +67,7 @@ fn go<G: Gate>(
     Stop::End
 }
 
-/// Does the next operation and keeps its reply, or tells why it isn't done.
+/// Does the next operation and keeps its reply, or returns why it isn't done.
 fn advance<G: Gate>(
     turn: &mut LaneTurn,
     pins: &Pins,

@@ -15,7 +15,7 @@ pub struct LaneRoots {
     pub words: Vec<u64>,
 }
 
-/// Room for what a lane takes into a turn. It is taken before anything is, so that nothing which was given can be lost for want of
+/// Room for what a lane takes into a turn. It is taken before anything is, so that nothing which was given can be lost for lack of
 /// memory.
 #[derive(Drop)]
 pub struct LaneRoom {

@@ -1,4 +1,4 @@
--- A cut of a phase answers each lane a front of what the whole phase answers it.
+-- A cut of a phase answers each lane a prefix of what the whole phase answers it.
 use Rattle.std.proofs.Common.{◌≡◌, ℕ, ◌+◌, ◌<◌, ◌≤◌, zero, suc, List, [], ◌∷◌, length, get_or, take, refl, sym, ap, ◌∙◌, inl, inr, arith}
 use Rattle.std.proofs.Math.Seq.{take-nil}
 use Rattle.std.specs.List.{AllByRecursion}

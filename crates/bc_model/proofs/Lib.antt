@@ -32,7 +32,7 @@ pub mod Needs
 pub mod NeedFound
 -- Every state of a run of a well-formed trace is one
 pub mod RunStates
--- A cut of a phase answers each lane a front of what the whole phase answers it.
+-- A cut of a phase answers each lane a prefix of what the whole phase answers it.
 pub mod CutFronts
 -- An operation that is refused changes nothing.
 pub mod Refusals

@@ -182,7 +182,7 @@ found slots made (suc n) xs rest few distinct reached cover = elim (next slots m
       | inr k ↦ none b k led
     ]
 
--- the objects that were born, of a lane in front of others
+-- the objects that were born, of a lane before others
 births_of : ℕ → ℕ → List Birth → List Birth
 births_of lane zero others = others
 births_of lane (suc n) others = record { lane = lane; serial = suc n } ∷ births_of lane n others

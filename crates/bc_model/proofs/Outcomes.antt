@@ -241,7 +241,7 @@ plain-outcome s j o r h none ok answers = answered (record {
   field = λ p i b n e. absurd (none p (object-looks o p (field-object o p i n)));
 }) ok answers
 
--- what a slot holds, told to a lane
+-- what a slot holds, as a reply to a lane
 who-outcome : (s : State) (j : ℕ) (p : Slot) → HoldsNamed s j (op.Who p) → Outcome s j (op.Who p) (told s j (slot_of s p))
 who-outcome s j p h = go (slot_of s p) refl
   where

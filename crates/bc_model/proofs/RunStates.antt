@@ -78,7 +78,7 @@ pub all-append : {X : Type 0} (P : X → Type 0) (xs ys : List X) → AllByRecur
 all-append P [] ys h k = k
 all-append P (x ∷ xs) ys h k = (h.0, all-append P xs ys h.1 k)
 
--- what holds of all operations of a list holds of those at its front
+-- what holds of all operations of a list holds of those of its prefixes
 pub all-take : (P : Op → Type 0) (n : ℕ) (ops : List Op) → AllByRecursion P ops → AllByRecursion P (take n ops)
 all-take P zero ops h = tt
 all-take P (suc n) [] h = tt

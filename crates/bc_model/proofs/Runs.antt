@@ -70,7 +70,7 @@ run-reply s t j ops i o r rs within is ok =
     ∙ ap (λ (x : State × Reply). rs ++ x.1 ∷ replies_to x.0 j (drop (i + 1) ops)) ok
     ∙ ap (λ (xs : List Reply). rs ++ xs) (sym (replies_to-more s j ops i o within is))
 
--- the list of what is behind the element at i
+-- the list of what is after the element at i
 pub lists_of-at : {X : Type 0} (vs : List (Vec X Global)) (i : ℕ) (v : Vec X Global) (xs : List X) → i < length vs → v ≡ get_or vs i v → xs ≡ v.items → xs ≡ get_or (lists_of vs) i xs
 lists_of-at vs i v xs within is e = e ∙ ap (λ x. x.items) is ∙ sym (get_or-map (λ x. x.items) vs i v xs within)
 

@@ -49,7 +49,7 @@ held-first hs lane d rest e = eqb-true (get_or hs d 0) lane (and_parts (get_or h
 held-second : (hs : List ℕ) (lane d e : ℕ) → list_all (λ x. get_or hs x 0 == lane) (d ∷ e ∷ []) ≡ true → get_or hs e 0 ≡ lane
 held-second hs lane d e both = held-first hs lane e [] (and_parts (get_or hs d 0 == lane) (list_all (λ x. get_or hs x 0 == lane) (e ∷ [])) both).1
 
--- an operation that tells something
+-- an operation that returns something
 pub act-told : {cells : Layout → Type 0} {slots : RootWords → Type 0} {chunk : Nursery} {buffer : Entries} {hs : List ℕ} {lane : ℕ} {op : Op} {h : HeapView} (serial : ℕ) (o : Op) (reply : Reply) → Serves cells slots chunk buffer hs lane op h → op ≡ o → Answers h hs lane o reply → HasRecorded h h hs lane o reply → HasChanged h h hs lane serial o reply
     → (k : HeapView) × IsPartOf cells slots chunk buffer lane k × DidAct h k hs lane serial serial op reply
 act-told {hs = hs} {lane = lane} {op = op} {h = h} serial o reply s e answers recorded changed =

@@ -25,7 +25,7 @@ use Rattle.bc_mutator.specs.Objects.{MayOperate, cell_of, whole_memory, own_chun
 use Rattle.bc_mutator.proofs.ObjectLemmas.{cell_of-above, cell_of-below, memory-there, there-above}
 use Rattle.bc_mutator.proofs.WritingLemmas.{CanWrite, written-memory}
 
--- an object has as many fields as its head tells
+-- an object has as many fields as its head says
 young-filled : (c : Nursery) (a : ℕ) → IsChunk c → has_object c a ≡ true → length (the_object c a).fields ≡ (the_object c a).head.fields
 young-filled c a whole on =
     let n = has-number c a on in

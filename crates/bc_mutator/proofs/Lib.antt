@@ -2,7 +2,7 @@
 pub mod ObjectLemmas
 -- What the words of a heap are read as in the state that it stands for.
 pub mod MeaningLemmas
--- What a lane is told that asks about its slots.
+-- What is returned to a lane that asks about its slots.
 pub mod TellingLemmas
 -- A root slot becomes another word
 pub mod RootLemmas

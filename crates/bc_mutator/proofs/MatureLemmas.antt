@@ -163,7 +163,7 @@ module _ (s t : Layout) (r : RootWords) (cs : List Nursery) (bs es : List Entrie
         remembered = still-remembered s t (page_of cell) (after-write (page_of cell)) e.remembered;
       }
 
-  -- what was recorded stays so, and the field is recorded now if the word refers behind the superpages
+  -- what was recorded stays so, and the field is recorded now if the word refers past the superpages
   own-kept : (cell i : ℕ) → Records s t (buffer_of bs lane) (buffer_of es lane) at index word → IsRecorded (buffer_of bs lane) cell i → IsRecorded (buffer_of es lane) cell i
   own-kept cell i (inl k) h = subst (λ (b : Entries). IsRecorded b cell i) (sym k.1.0) h
   own-kept cell i (inr k) h = subst (λ (b : Entries). IsRecorded b cell i) (sym k.1.0) (more-recorded (buffer_of bs lane) at index cell i h)

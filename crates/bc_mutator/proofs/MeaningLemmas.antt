@@ -106,7 +106,7 @@ pub holds-not : (state : State) (hs : List ℕ) (lane d e : ℕ) → state.holde
 holds-not state hs lane d e same domain off =
     ne_eqb (get_or state.holders e 0) lane (λ f. off (sym (ap₂ (λ (xs : List ℕ) (x : ℕ). get_or xs x 0) same (sym domain)) ∙ f))
 
--- what an operation on an object does, told by where the object lies
+-- what an operation on an object does, determined by where the object lies
 pub acts-on : (h : HeapView) (hs : List ℕ) (lane : ℕ) (w : Word) (a : Address) → MayOperate h hs lane → w ≡ word.Ref a → IsCellOrYoung h.space (own_chunk h lane) a.0 → get_or hs (cell_of h.space (own_chunk h lane) a.0).head.domain 0 ≡ lane → ActsOn h hs lane w a
 acts-on h hs lane w a ready e there held = λ serials state v means read next.
     let c = cell_of h.space (own_chunk h lane) a.0 in

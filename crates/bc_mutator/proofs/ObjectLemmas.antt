@@ -33,7 +33,7 @@ use Rattle.bc_mutator.specs.Objects.{LieBehind, cell_of}
 pub one_address : (x y : Address) → Ref x ≡ Ref y → x ≡ y
 one_address x y e = cc
 
--- the lane's chunk lies behind the superpages
+-- the lane's chunk lies past the superpages
 pub LieBehind-laid : (s : Layout) (words : ℕ) (cs : List Nursery) (l : ℕ) → AreChunks (end_of s) words cs → l < length cs → IsChunk (chunk_of cs l) → LieBehind s (chunk_of cs l)
 LieBehind-laid s words cs l laid lt whole = λ a on.
     let base = laid.base l lt in
@@ -46,7 +46,7 @@ cell_of-below s c a lt = rw (lt-ltb a (end_of s) lt) refl
 pub cell_of-above : (s : Layout) (c : Nursery) (a : ℕ) → end_of s ≤ a → cell_of s c a ≡ young (the_object c a)
 cell_of-above s c a le = rw (le-ltb a (end_of s) le) refl
 
--- where the object lies tells what it is
+-- where the object lies determines what it is
 pub there-below : (s : Layout) (c : Nursery) (a : ℕ) → LieBehind s c → IsCellOrYoung s c a → a < end_of s → IsAllocated s a
 there-below s c a behind (inl on) lt = on
 there-below s c a behind (inr on) lt = absurd (let le = behind a on in omega arith)

@@ -54,7 +54,7 @@ head-above s chunk a head le read = read ∙ sym (ap (λ (c : Cell). c.head) (ce
 pub field-above : (s : Layout) (chunk : Nursery) (a index : ℕ) (word : Word) → end_of s ≤ a → word ≡ nursery.field_at chunk a index → word ≡ get_or (cell_of s chunk a).fields index Nil
 field-above s chunk a index word le read = read ∙ sym (ap (λ (c : Cell). get_or c.fields index Nil) (cell_of-above s chunk a le))
 
--- a cell's field is written, and recorded where the word refers behind the superpages
+-- a cell's field is written, and recorded where the word refers past the superpages
 pub plain-cell : (s : Layout) (b : Entries) (cell : Address) (index : ℕ) (word : Word) → HasField s cell.0 index → is_gone (state_at s.states (page_of cell.0)) ≡ false → RefersBelow s word → WroteCell s (record s { pages = with_word s.pages (cell.0 + 1 + index) (word_bits word) }) b b cell index word
 plain-cell s b cell index word has here below = record {
   space = refl;

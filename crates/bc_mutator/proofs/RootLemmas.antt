@@ -254,7 +254,7 @@ own-field h hs lane i w a ready of = λ b e. elim (cases_lt a.0 (end_of h.space)
     named b c held (inl on) = inl on
     named b c held (inr on) = inr (subst (λ (l : ℕ). has_object (own_chunk h l) b.0 ≡ true) held on.0)
 
--- what is told of what is loaded
+-- what is returned of what is loaded
 pub loaded-read : (m : Memory) (state : State) (w : Word) (v : Value) → IsRead m state w v → loaded v ≡ loaded_as w
 loaded-read m state word.Nil v h = ap loaded (read-nil m state word.Nil v refl h)
 loaded-read m state (word.Num n) v h = ap loaded (read-num m state (word.Num n) v n refl h)

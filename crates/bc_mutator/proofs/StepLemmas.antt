@@ -44,7 +44,7 @@ did-step h k hs lane serial next op reply held done = record {
   changed = done.changed;
 }
 
--- and one that doesn't is told so
+-- and one that doesn't is answered so
 step-foreign : (state : State) (hs : List ℕ) (lane : ℕ) (op : Op) → state.holders ≡ hs → list_all (λ d. get_or hs d 0 == lane) (domains_of op) ≡ false → step state lane op ≡ (state, Foreign)
 step-foreign state hs lane op same off =
     go (list_all (λ d. get_or state.holders d 0 == lane) (domains_of op)) (ap (λ (xs : List ℕ). list_all (λ d. get_or xs d 0 == lane) (domains_of op)) same ∙ off)

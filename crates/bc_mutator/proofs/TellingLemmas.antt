@@ -1,4 +1,4 @@
--- What a lane is told that asks about its slots.
+-- What is returned to a lane that asks about its slots.
 use Rattle.std.proofs.Common.{◌≡◌, ◌≢◌, ℕ, Bool, true, false, if◌then◌else◌, List, length, Some, refl, sym, ap, subst, ◌∙◌, inl, inr, eq-eqb}
 use Rattle.std.proofs.lemmas.Bool.{cases_Bool}
 use Rattle.bc_whole_heap.specs.Heaps.{HeapView}
@@ -41,7 +41,7 @@ pub who-num : (h : HeapView) (hs : List ℕ) (lane n : ℕ) (p : Slot) (w : Word
 who-num h hs lane n p w e is = λ serials state means.
     ap (λ (v : Value). (state, told state lane v)) (read-num (whole_memory h) state w (slot_of state p) n is (word-read h hs serials state p w e means))
 
--- what is told of an object
+-- what is returned of an object
 told-if : (state : State) (t : Bool) (x y : Reply) → let pair : State × Reply = (state, if t then x else y) in pair ≡ (if t then (state, x) else (state, y))
 told-if state true x y = refl
 told-if state false x y = refl

@@ -29,7 +29,7 @@ since-answered k (other ∷ hints) [] views v w none = absurd none
 since-answered k (first ∷ hints) (other ∷ answers) [] v w none = absurd none
 since-answered k (first ∷ hints) (other ∷ answers) (given ∷ views) v w m = (m.1, subst (λ (x : View). IsAnswer k x first other m.1) m.0 m.2, since-answered k hints answers views m.1 w m.3)
 
--- views that are told, with none behind them, and with some and then more
+-- views that are known, with none after them, and with some and then more
 told-none : (told : Option (List View)) → told ≡ told_with told []
 told-none None = refl
 told-none (Some views) = ap (λ (l : List View). Some l) (sym (append-nil views))

@@ -108,7 +108,7 @@ took_after k kind v u seat held w looks looked t reads = record {
   else_none = reads.none;
 }
 
--- the first page that could be had is in hand, and may be given up
+-- the first page that could be taken is in hand, and may be given up
 module _ (k : Key) (kind : Kind) (hint : ℕ) (v : View) (seat : Seat) (held : Held) (f : HasTakenFirst k kind hint v seat held) where
   about_ready : v.about ≡ k → f.ready.about ≡ k
   about_ready about = ap (λ (x : View). x.about) f.looked.view ∙ about
@@ -185,7 +185,7 @@ module _ (k : Key) (behind : (q : ℕ) → pages_of k ≤ q → opened_state k q
         view = all.view;
       }
 
-  -- no bare page could be had: the answer that the first page with a cell was evicted
+  -- no bare page could be taken: the answer that the first page with a cell was evicted
   pub has-evicted : (v u : View) (hint : ℕ) (seat : Seat) (held : Held) (w : View) → v.hand ≡ None → HasTriedAll k Bare v u → HasTakenFirst k Filled hint u seat held → HasEvacuated k (view_of seat) held.page w → HasEvicted k v hint held.page w
   has-evicted v u hint seat held w nothing one f d =
       let x = f.ready in

@@ -10,7 +10,7 @@ pub enum Answer {
     Discarded(u32),
     /// This page had one, and is Gone.
     Evicted(u32),
-    /// No page could be had.
+    /// No page could be taken.
     Declined,
 }
 
@@ -77,7 +77,7 @@ impl Answers {
         self.room - self.list.len()
     }
 
-    /// Keeps an answer behind the others.
+    /// Keeps an answer after the others.
     pub(crate) fn keep(&mut self, answer: Answer)
         requires room { length self.old.list < self.old.room }
         ensures kept { self.new ≡ record self.old { list = self.old.list ++ answer ∷ [] } }

@@ -3,23 +3,23 @@
 // A notice names a page, its hint. The pager answers each with a page that it gave up, or declines it:
 //
 //     Discarded(p)   p had no allocated cell, and is Absent
-//     Evicted(p)     p had an allocated cell, was bookmarked, and is Gone: the first that could be had, going round from the hint,
+//     Evicted(p)     p had an allocated cell, was bookmarked, and is Gone: the first that could be taken, going round from the hint,
 //                    where no page without cells could be
-//     Declined       no page could be had
+//     Declined       no page could be taken
 //
-// It works at the table of a turn (`bc_pins`) with a seat of its own, beside the others, and waits for nobody. A page can be had if
+// It works at the table of a turn (`bc_pins`) with a seat of its own, beside the others, and waits for nobody. A page can be taken if
 // its word says Home when the pager tries to take it: a Remembered page is named by a write buffer, a Held one is in another's hands,
 // and the others have no frame. So an answer can't say that no page was at home at some moment; it says what was read of each
 // page's word since the notice was given, with nothing in the pager's own hands.
 //
 // That is the definition (`specs/Answering.antt`), and the theorem is the contract of `serve`: each notice that it took has one answer,
 // in order, that the definition allows (`HasServed`), and no page is made Gone or Absent but those that the answers name. An answer
-// begins where its notice was given: a source of notices may tell the views that the seat had then (`Notices`), and each answer begins
+// begins where its notice was given: a source of notices may know the views that the seat had then (`Notices`), and each answer begins
 // at its own (`AreAnsweredSince`). `serve` ends where no notice is left or no room for an answer is (`ended`).
 //
 // How the pieces work together: `serving` takes notices and keeps answers; `walking` goes round the pages and takes the first of a kind
-// that can be had; `leaving` gives it up (`bc_evict`), with its frame. `notices` has the trait by which notices come, and a list of
-// them; `answers` what is kept. Pages behind the table are Absent for the whole turn, and none of them is tried.
+// that can be taken; `leaving` gives it up (`bc_evict`), with its frame. `notices` has the trait by which notices come, and a list of
+// them; `answers` what is kept. Pages after the table are Absent for the whole turn, and none of them is tried.
 //
 // A notice costs two looks at each page's header at most, and a try at each page of the kind; one page is given up for it. Nothing but
 // `ListNotices::new` and `Answers::new` takes memory.

@@ -25,10 +25,10 @@ pub trait Notices {
     // How many calls answered that there is none. The count stays at the last value of 64 bits.
     ghost ends: { Self → ℕ };
 
-    // The hints of all its notices, those that were given among them, where they are told. They never change.
+    // The hints of all its notices, those that were given among them, where they are known. They never change.
     ghost told: { Self → Option (List ℕ) };
 
-    // The views that the seat had when the notices were given, in order, where they are told.
+    // The views that the seat had when the notices were given, in order, where they are known.
     ghost since: { Self → Option (List View) };
 
     /// The next notice, or none. It makes no step with the seat.
@@ -72,7 +72,7 @@ impl ListNotices {
         })
     }
 
-    /// How many notices were given: all, where it was told that there is none.
+    /// How many notices were given: all, where it answered that there is no more.
     pub fn given(&self) -> usize
         ensures given { result ≡ self.now.given }
         ensures within { self.now.given ≤ length self.now.hints }

@@ -1,4 +1,4 @@
--- A heap that is built of a listing: before its first object, behind the last one, and what is listed of it.
+-- A heap that is built of a listing: before its first object, after the last one, and what is listed of it.
 use Rattle.std.proofs.Common.{◌≡◌, ℕ, ◌+◌, ◌*◌, ◌/◌, ◌%◌, ◌<◌, ◌≤◌, true, false, List, [], length, map, get_or, replicate, slice_index, slice_index_or, Some, None, refl, sym, ap, ap₂, subst, ◌∙◌, arith}
 use Prim.Native.Nat.{zero, suc}
 use Rattle.std.specs.Option.{is_some}
@@ -103,7 +103,7 @@ module _ (s t : Layout) (cells : List CellList) (new : s ≡ new_space (superpag
     closed = λ a c there. absurd (let bad : None ≡ Some c = sym (memory_none a) ∙ there in cc);
   }
 
--- ---- behind the last one
+-- ---- after the last one
 
 pub built-whole : (l : ListingLists) (s t u : Layout) → s ≡ new_space l.setup.superpages l.setup.frames (l.setup.lanes * l.setup.nursery) → superpages s ≡ l.setup.superpages
     → PromisesFirst s l.cells (length l.cells) t → IsPlacing l.cells (length l.cells) u → Same t u → IsBuiltIn l u

@@ -35,7 +35,7 @@ item_bytes-none = refl
 pub puts-none : (s : Stream) → Puts s s []
 puts-none s = record { taken = []; whole = append-nil s.waiting; grows = HeldGrows-nil s.held; falls = RoomFalls-none s.room; firm = refl }
 
--- where the bytes go, with more behind them
+-- where the bytes go, with more after them
 whole-more : (s t : Stream) (xs ys : List ℕ) (h : Puts s t xs) → s.waiting ++ (xs ++ ys) ≡ h.taken ++ (t.waiting ++ ys)
 whole-more s t xs ys h = sym (append_assoc s.waiting xs ys) ∙ ap (λ (bs : List ℕ). bs ++ ys) h.whole ∙ append_assoc h.taken t.waiting ys
 
@@ -79,7 +79,7 @@ pub breaks-flushed : (held more : Option (List ℕ)) (room less : Option ℕ) (b
 breaks-flushed held more room less before after ws vs front rose =
     record { front = subst (TakesFront held more room less) (sym (append-nil ws)) front; rose = rose }
 
--- an item waits behind the others
+-- an item waits after the others
 pub puts-pushed : (s : Stream) (item : ℕ) (vs : List ℕ) → vs ≡ s.waiting ++ bytes_high_first 8 item → Puts s (record s { waiting = vs }) (item_bytes (item ∷ []))
 unfolding item_bytes
 puts-pushed s item vs pushed =

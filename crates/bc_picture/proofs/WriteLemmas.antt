@@ -14,7 +14,7 @@ pub image-is : (l : ListingLists) → image_bytes l ≡ item_bytes (image_items 
 unfolding image_bytes item_bytes
 image-is l = refl
 
--- five lists one behind another, and what they begin with
+-- five lists one after another, and what they begin with
 abbrev pub five : (n h b r s : List ℕ) → List ℕ
 five n h b r s = n ++ (((h ++ b) ++ r) ++ s)
 

@@ -52,7 +52,7 @@ pub record PromisesFirst (s : Layout) (cells : List CellList) (count : ℕ) (t :
   pub unused : (q : ℕ) → q < superpages s → ((k : ℕ) → k < count → k < length cells → (cell_at cells k).address / 2048 ≢ q) → header_of t q ≡ unused_header
 
 -- the first objects lie in their cells and the others are promised. A page has come home for those that lie on it, the last such page is
--- Home, and none behind it was touched
+-- Home, and none after it was touched
 pub record IsPlacing (cells : List CellList) (count : ℕ) (s : Layout) : Type 0 where
   pub memory : memory s ≡ memory_of (take count cells)
   pub promised : (x : ℕ) → is_cell s.classes s.promised x ≡ is_some (memory_of (drop count cells) x)

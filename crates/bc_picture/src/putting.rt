@@ -36,7 +36,7 @@ fn make_room<K: Sink>(sink: &mut K, waiting: &mut Waiting) -> Result<(), WriteFa
     Ok(())
 }
 
-/// Puts an item behind what waits, which is written first where there is no room for the item.
+/// Puts an item after what waits, which is written first where there is no room for the item.
 pub(crate) fn put<K: Sink>(sink: &mut K, waiting: &mut Waiting, item: u64) -> Result<(), WriteFault>
     requires room { HasStreamRoom (stream_of (K.held sink.old) (K.room sink.old) (K.faults sink.old) waiting.old) (item_bytes (item ∷ [])) }
     ensures puts { OnOk result (Puts (stream_of (K.held sink.old) (K.room sink.old) (K.faults sink.old) waiting.old)
@@ -49,7 +49,7 @@ pub(crate) fn put<K: Sink>(sink: &mut K, waiting: &mut Waiting, item: u64) -> Re
     Ok(())
 }
 
-/// Puts items behind what waits.
+/// Puts items after what waits.
 pub(crate) fn put_all<K: Sink>(
     sink: &mut K,
     waiting: &mut Waiting,

@@ -52,7 +52,7 @@ impl Waiting {
         &self.bytes[..self.filled]
     }
 
-    /// Puts an item behind them.
+    /// Puts an item after them.
     pub fn push(&mut self, item: u64)
         requires { length self.old + 8 ≤ 4096 }
         ensures { self.new ≡ self.old ++ bytes_high_first 8 item }

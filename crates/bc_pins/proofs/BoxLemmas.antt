@@ -22,7 +22,7 @@ use Rattle.bc_pins.specs.Key.{home_slot}
 some_lodged : (a b : Lodged) → some (some a) ≡ some (some b) → a ≡ b
 some_lodged a b e = some-injective a b (some-injective (some a) (some b) e)
 
--- a page's box lies in its lists as its state tells
+-- a page's box lies in its lists as its state says
 pub record BoxLies (st : PageState) (box : Option Homed) (place : Option (List ℕ)) (c : List ℕ) : Type 0 where
   pub lies : LiesIn (is_resident st) box place
   pub content : content_of box place ≡ c

@@ -582,7 +582,7 @@ module _ (id : TableId) (k : Key) (all : List Seat) (root : Worker Lodged View) 
       new = λ a set. elim (cases_Bool (is_bookmarked k.opening a)) [ inl was ↦ inl was | inr fresh_bit ↦ inr (new_marked a set fresh_bit) ];
     }
 
--- it is known from what each step of a closing tells
+-- it is known from what each step of a closing says
 pub ended_from : (id : TableId) (k : Key) (all : List Seat) (root : Worker Lodged View) (r : RestView) (whole parts : SpaceParts) (n : ℕ) (ws told : List ℕ) (xs out : List Lodged) (middle headers : List Header) (sup start : ℕ) (now : List Bool) (st : StoreView) (boxes : List (Option Homed)) (places : List (Option (List ℕ)))
     → whole ≡ r.whole → n ≡ r.pages → IsRest whole parts n → r.pages ≡ pages_of k → parts_layout r.whole ≡ k.opening → r.whole.pool ≡ k.pool → r.whole.nursery.items ≡ k.nursery → k.frames ≡ length k.pool
     → Gathered id k all [] root → Final (Seen (Rule k) root.id root.me.0) ws xs → told ≡ ws → out ≡ xs → StatesSet parts.headers.items middle n told → sup ≡ k.supers → SummariesSet middle headers sup told → start ≡ frame_at k 0 → PoolSet parts.pool now (length parts.pool) start told → st.places ≡ parts.store.places

@@ -280,7 +280,7 @@ module _ (k : Key) (s : Table) (r : Rule k s) (p id frame : ℕ) (v : View) (at 
             ]);
       }
 
--- whatever the table is, a try to take a page from Gone keeps the rule and tells what it found
+-- whatever the table is, a try to take a page from Gone keeps the rule and says what it found
 pub fetched : (k : Key) (slots p id frame : ℕ) (v : View) → p < pages_of k → v.about ≡ k → v.hand ≡ None → 0 < has_role v (owner k p) → v.rights ≡ frame ∷ []
     → Allows (Rule k) slots id (v, []) (page_at p) (λ n. either (n == 4) 3 n) (Fetched (step slots (page_at p) 4 3 maybe.none) (v, []))
 fetched k slots p id frame v near about nothing mine right s r size at fits =

@@ -47,7 +47,7 @@ first_set : (front : List Seat) (seat : Seat) (w b : ℕ)
     → sets_bit w b (view_of seat).bookmarked + total (λ (s : Seat). sets_bit w b (view_of s).bookmarked) front ≡ total (λ (s : Seat). sets_bit w b (view_of s).bookmarked) (front ++ seat ∷ [])
 first_set front seat w b = let c = total_append (λ (s : Seat). sets_bit w b (view_of s).bookmarked) front (seat ∷ []) in omega arith
 
--- and of what words and bits tell
+-- and of what words and bits say
 told_moved : (f : View → List (ℕ × ℕ)) (v : View) (front : List Seat) (seat : Seat) (w b n : ℕ)
     → tells w b (f v) + total (λ (s : Seat). tells w b (f (view_of s))) (front ++ seat ∷ []) ≡ n
     → tells w b (f v ++ f (view_of seat)) + total (λ (s : Seat). tells w b (f (view_of s))) front ≡ n

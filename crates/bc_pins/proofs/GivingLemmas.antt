@@ -8,7 +8,7 @@ use Rattle.bc_pins.specs.Key.{Key, frame_slot, store_slot}
 use Rattle.bc_pins.specs.Steps.{Mine, both_slots}
 use Rattle.bc_pins.proofs.CallLemmas.{headed}
 
--- the store slot comes to the front
+-- the store slot comes first
 pub stored_at : (k : Key) (p i : ℕ) (me after : Mine) → i ≡ store_slot k p → me.1 ≡ both_slots k p Nothing Nothing → after ≡ (me.0, turned me.1) → after.1 ≡ (i, Nothing) ∷ rest after.1
 stored_at k p i me after at is e =
     let l : after.1 ≡ (store_slot k p, Nothing) ∷ (frame_slot k p, Nothing) ∷ [] = ap (λ (m : Mine). m.1) e ∙ ap turned is in

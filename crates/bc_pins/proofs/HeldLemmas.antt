@@ -17,7 +17,7 @@ module _ (s : Layout) (p : ℕ) (c : List ℕ) (cell index o bits : ℕ) (l : Is
   room : o < length c
   room = let a = field-room s cell index l at.allocated at.within in let b = old.long in omega arith
 
-  -- the place of a word of an allocated cell tells the cell and the word
+  -- the place of a word of an allocated cell determines the cell and the word
   place : (a i : ℕ) → IsAllocated s a → page_of a ≡ p → i ≤ fields_at s a → offset_of a + i ≡ o → (a ≡ cell) × (i ≡ 1 + index)
   place a i there on le e = elim (cases_eq a cell) [
     | inl same ↦ let z = ap offset_of same in (same, omega arith)

@@ -1,4 +1,4 @@
--- The space at the opening, by what is left of its parts: its allocated cells lie on pages of the table, and pages behind it are Absent.
+-- The space at the opening, by what is left of its parts: its allocated cells lie on pages of the table, and pages past it are Absent.
 use Rattle.std.proofs.Common.{◌≡◌, ℕ, ◌*◌, ◌/◌, ◌%◌, ◌<◌, ◌≤◌, List, [], length, map, get_or, inl, inr, ap, sym, subst, ◌∙◌, arith}
 use Rattle.std.proofs.lemmas.Bool.{cases_lt}
 use Rattle.std.proofs.lemmas.List.{length-map, get_or_past}

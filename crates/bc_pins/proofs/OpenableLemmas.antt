@@ -95,7 +95,7 @@ module _ (k : Key) (states : List (List PageState)) (pages bits : List (List ℕ
         | inr le ↦ absurd (allocated-not_absent s a l there (bare (page_of a) le (omega arith)))
       ]
 
-  -- no Gone page has a target behind the table's superpages
+  -- no Gone page has a target past the table's superpages
   pub opened_none : (q : ℕ) → k.supers ≤ q → q < superpages s → slice_index s.incoming q ≡ 0
   opened_none q le lt = o.summarised.incoming q lt ∙ count_below-none (λ p. gone_in s p && has_target_in (memory s) p q) (4 * superpages s) (λ p less.
       elim (cases_Bool (gone_in s p)) [

@@ -63,7 +63,7 @@ content_fixed s p l ready lt = record {
     here : (a i : ℕ) (f : IsFieldOn s p a i) → word_at s.pages (a + 1 + i) ≡ field_bits (content_at s.pages p) a i
     here a i f = field-word s a i l f.allocated f.within ∙ ap (λ (q : ℕ). slice_index (content_at s.pages q) (offset_of a + 1 + i)) f.on
 
--- a page's box lies in its slots as its word tells
+-- a page's box lies in its slots as its word says
 pub slots_lie : (st : PageState) (box : Option Homed) (place : Option (List ℕ)) (a b : Slot) → st ≢ state.Held → LiesIn (is_resident st) box place
     → a ≡ some (some (home_of box)) → b ≡ some (some (away_of place)) → Lies (state_word st) a b (content_of box place)
 slots_lie state.Absent None (Some c) a b ne l e f = (e, f)

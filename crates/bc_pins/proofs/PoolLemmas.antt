@@ -18,7 +18,7 @@ use Rattle.bc_pins.proofs.TallyLemmas.{bit_few, bit_in, ge-nat_lt, in_bit}
 pub pool_none : (o : List Bool) (start : ℕ) (ws : List ℕ) → PoolSet o o 0 start ws
 pool_none o start ws = record { long = refl; near = λ f lt. absurd (omega arith); far = λ f _. refl }
 
--- the frames of one word more are told
+-- the frames of one word more are known
 pub pool_more : (o n m : List Bool) (w start bits : ℕ) (ws : List ℕ) → PoolSet o n (min (64 * w) (length o)) start ws → length m ≡ length n
     → ((f : ℕ) → f / 64 ≡ w → f < length n → is_free m f ≡ (bit_at bits (f % 64) == 0)) → ((f : ℕ) → f / 64 ≢ w → is_free m f ≡ is_free n f) → bits ≡ get_or ws (start + w) 0 → PoolSet o m (min (64 * (w + 1)) (length o)) start ws
 pool_more o n m w start bits ws s long here others is =

@@ -102,7 +102,7 @@ remembered_word k s r p near ne lt =
     let less = total_less (λ (u : View). grips_remembered p u.hand) (λ (u : View). grips p u.hand) s.views (λ u. flag_less p u.hand) in
     one_is (page_word s p) 2 (omega arith)
 
--- what a word tells
+-- what a word says
 pub reads : (k : Key) (s : Table) (r : Rule k s) (p id : ℕ) (v : View) → p < pages_of k → get_elem? s.views id ≡ some v → v.about ≡ k → ReadsWord v p (page_word s p)
 reads k s r p id v near at about =
     let facts = (r.seats id v at).saw in
@@ -258,7 +258,7 @@ look_step k s r p id role v at near about some_role =
       saw = looked_saw k s p id v at wide near about facts.saw;
     }
 
--- whatever the table is, a look keeps the rule and tells what it found
+-- whatever the table is, a look keeps the rule and says what it found
 looks : (k : Key) (slots p id role : ℕ) (me : Mine) → p < pages_of k → me.0.about ≡ k → 0 < has_role me.0 role → Allows (Rule k) slots id me (page_at p) (λ n. n) (Looked (step slots (page_at p) 0 0 maybe.none) me)
 looks k slots p id role me near about some_role s r size at fits = (
   having_read me.0 p (page_word s p),

@@ -276,7 +276,7 @@ module _ (k : Key) (s : Table) (r : Rule k s) (p id old role : ℕ) (v : View) (
   pub hit_told : Takes v p flag h
   hit_told = told
 
--- whatever the table is, a try to take keeps the rule and tells what it found
+-- whatever the table is, a try to take keeps the rule and says what it found
 pub taken : (k : Key) (slots p id old role : ℕ) (v : View) → p < pages_of k → 1 ≤ old → old ≤ 2 → v.about ≡ k → v.hand ≡ None → 0 < has_role v role
     → Allows (Rule k) slots id (v, []) (page_at p) (λ n. either (n == old) 3 n) (Took (step slots (page_at p) old 3 maybe.none) (v, []))
 taken k slots p id old role v near lo hi about nothing some_role s r size at fits =

@@ -74,7 +74,7 @@ module _ (k : Key) (ps : List (List ℕ)) (gone : ℕ → Bool) (c : ℕ → Lis
       (λ i lt. ap (λ (b : Bool). one_if (b && has_target_in (memory_of k.opening.classes k.opening.cells ps) (pages_of k + i) q)) (g.behind (pages_of k + i) (omega arith) (omega arith))) in
       count_sum f all ∙ cut ∙ (omega arith)
 
-  -- where they are summarised, none has a target behind the table's superpages
+  -- where they are summarised, none has a target past the table's superpages
   pub none_behind : ((p : ℕ) → p < pages_of k → slice_index words (page_at p) ≡ 4 → Summary k words p (c p)) → (q : ℕ) → k.supers ≤ q
       → count_below (λ p. gone p && has_target_in (memory_of k.opening.classes k.opening.cells ps) p q) all ≡ 0
   none_behind summed q le = tally q ∙ sum_none (λ p. if slice_index words (page_at p) == 4 then points k p (c p) q else 0) (pages_of k) (λ p lt.
@@ -92,7 +92,7 @@ module _ (k : Key) (ps : List (List ℕ)) (gone : ℕ → Bool) (c : ℕ → Lis
         | inr off ↦ ap (λ (b : Bool). if b then points k p (c p) q else 0) off
       ])
 
--- a bit of a set of a header, as the set tells it
+-- a bit of a set of a header, as the set has it
 pub set_bit : (ws : List ℕ) (n : ℕ) → has ws n ≡ true → bit_at (slice_index ws (n / 64)) (n % 64) ≡ 1
 unfolding has
 set_bit ws n on = eqb-true (bit_at (slice_index ws (n / 64)) (n % 64)) 1 on

@@ -102,7 +102,7 @@ tried_about v page Work true = refl
 tried_about v page Work false = refl
 tried_about v page Victim remembered = refl
 
--- what was told of a page holds of the view that tried first
+-- what was read of a page holds of the view that tried first
 pub takes_tried : (v : View) (page : ℕ) (want : Want) (remembered flag : Bool) (homed : Homed) → Takes v page flag homed → Takes (tried v page want remembered) page flag homed
 takes_tried v page Work true flag homed t = record { mine = t.mine; unowned = t.unowned; fixed = t.fixed; young = t.young; recorded = t.recorded; found = t.found; here = t.here }
 takes_tried v page Work false flag homed t = t

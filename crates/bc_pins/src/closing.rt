@@ -48,7 +48,7 @@ impl Pins {
     }
 }
 
-/// The space of its parts, with the marks and finished cells that the words of a mark turn tell from a place on.
+/// The space of its parts, with the marks and finished cells that the words of a mark turn hold from a place on.
 fn put_together(
     mut parts: SpaceParts,
     closed: Ended<Lodged, Global>,

@@ -73,7 +73,7 @@ pub(crate) fn drain(closed: &mut Closed<Lodged, Global>, into: &mut Vec<Lodged>)
     }
 }
 
-/// The state that a page's word tells.
+/// The state that a page's word stands for.
 fn state_of(word: u64) -> PageState
     requires { word ≤ 4 }
     ensures state { state_word result ≡ word }
@@ -87,7 +87,7 @@ fn state_of(word: u64) -> PageState
     }
 }
 
-/// Writes into the headers what the words of so many pages tell.
+/// Writes into the headers what the words of so many pages say.
 pub(crate) fn set_states(headers: &mut Vec<Header>, closed: &Closed<Lodged, Global>, pages: usize)
     requires pages { (pages ≤ 4 * length headers.old.items) × (pages < 2 ^ 32) }
     requires words { IsFull closed.now.words × (4 * pages ≤ slots_len closed.now.words) }
@@ -100,7 +100,7 @@ pub(crate) fn set_states(headers: &mut Vec<Header>, closed: &Closed<Lodged, Glob
     }
 }
 
-/// Writes into a header what the words tell of its superpage's bookmarks and counter.
+/// Writes into a header what the words say of its superpage's bookmarks and counter.
 fn set_summary(
     header: &mut Header,
     closed: &Closed<Lodged, Global>,
@@ -118,7 +118,7 @@ fn set_summary(
     }
 }
 
-/// Writes into the headers of so many superpages what the words tell of bookmarks and counters.
+/// Writes into the headers of so many superpages what the words say of bookmarks and counters.
 pub(crate) fn set_summaries(
     headers: &mut Vec<Header>,
     closed: &Closed<Lodged, Global>,
@@ -134,7 +134,7 @@ pub(crate) fn set_summaries(
     }
 }
 
-/// Writes into a header the marks and finished cells that the words tell of its superpage from a place on.
+/// Writes into a header the marks and finished cells that the words hold of its superpage from a place on.
 fn set_header_marks(
     header: &mut Header,
     closed: &Closed<Lodged, Global>,
@@ -153,7 +153,7 @@ fn set_header_marks(
     }
 }
 
-/// Writes into the headers of so many superpages the marks and finished cells that the words tell from a place on.
+/// Writes into the headers of so many superpages the marks and finished cells that the words hold from a place on.
 pub(crate) fn set_marks(
     headers: &mut Vec<Header>,
     closed: &Closed<Lodged, Global>,
@@ -176,7 +176,7 @@ pub(crate) fn set_marks(
     }
 }
 
-/// Lays the marks and finished cells into a space's parts that the words tell from a place on.
+/// Lays the marks and finished cells into a space's parts that the words hold from a place on.
 pub(crate) fn lay_marks(
     parts: &mut SpaceParts,
     closed: &Closed<Lodged, Global>,
@@ -191,7 +191,7 @@ pub(crate) fn lay_marks(
     set_marks(&mut parts.headers, closed, superpages, start);
 }
 
-/// Tells the pool which of 64 frames are free: those whose bits are clear. A word that the pool has so already is left alone.
+/// Sets in the pool which of 64 frames are free: those whose bits are clear. A word that the pool has so already is left alone.
 fn put_frame_word(pool: &mut FramePool, word: u32, bits: u64)
     ensures long { length pool.new ≡ length pool.old }
     ensures here { (f : ℕ) → f / 64 ≡ word → f < length pool.old → is_free pool.new f ≡ (bit_at bits (f % 64) == 0) }
@@ -202,7 +202,7 @@ fn put_frame_word(pool: &mut FramePool, word: u32, bits: u64)
     }
 }
 
-/// Tells the pool which frames are free: those whose bits are clear in the words from a place on.
+/// Sets in the pool which frames are free: those whose bits are clear in the words from a place on.
 pub(crate) fn put_frames(pool: &mut FramePool, closed: &Closed<Lodged, Global>, start: usize)
     requires start { start < 2 ^ 32 }
     requires words { IsFull closed.now.words × (start + (length pool.old + 63) / 64 ≤ slots_len closed.now.words) }

@@ -1,4 +1,4 @@
-//! What a table is told once, when it is made.
+//! What a table is made from, once.
 
 ghost use Rattle.std.specs.Prelude.{◌≡◌, ◌+◌, ◌*◌, ◌<◌, ◌^◌};
 ghost use Rattle.bc_pins.specs.Key.{page_at, home_slot};
@@ -28,7 +28,7 @@ pub enum Role {
     Pager(u32),
 }
 
-/// What a table is told: its size, the turn, the space at the opening, who holds what. Contracts see it as a key.
+/// What a table is made from: its size, the turn, the space at the opening, who holds what. Contracts see it as a key.
 #[derive(Drop)]
 pub struct About {
     /// How many superpages the table has: those up to the last that has a page which isn't Absent.
@@ -92,7 +92,7 @@ pub(crate) fn finished_entry(word: usize, superpages: usize, frame_words: usize)
     49 * superpages + frame_words + 1 + word
 }
 
-/// Where the slot for a page's frame lies among the slots of a table; the one for its place in the store is four behind.
+/// Where the slot for a page's frame lies among the slots of a table; the one for its place in the store is four after.
 pub(crate) fn home_entry(page: usize) -> usize
     requires { page < 2 ^ 32 }
     ensures { result ≡ home_slot page }

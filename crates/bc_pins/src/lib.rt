@@ -1,6 +1,6 @@
 // The table of a turn: the pages of a heap while workers run beside each other.
 //
-// In a turn a space is taken apart. Each page has a word, which changes in single atomic steps and tells where the page is, and
+// In a turn a space is taken apart. Each page has a word, which changes in single atomic steps and says where the page is, and
 // two slots: one for its frame, where the box lies while the page is Home, and one for its place in the store, where it lies
 // shut while the page is Gone or Absent. Whoever makes the word Held has the page: both slots are out with that seat, and the box
 // is in its hands (`Held`). `take` does this and `put` undoes it; `look` reads a word. Nobody waits, and only `open` takes memory.
@@ -15,8 +15,9 @@
 // read as Gone is Gone until it is taken; a page that was read as Held was taken by somebody, and an own page so read is in
 // another's hands, or that one put it back, or made it Gone or Absent; what was read as Absent, Remembered or Gone isn't Home; a
 // Gone page is summarised by the table's bookmark bits; counters count Gone pages and what is counted for those in hand; each role
-// is in one view; each frame is in one place, so that at most as many are in use as there are (`law_frames_in_use`). `proofs/PageSteps.antt` has the one lemma by which every step on a page's word keeps
-// it, and `proofs/SideSteps.antt` the one for a step on another word.
+// is in one view; each frame is in one place, so that at most as many are in use as there are (`law_frames_in_use`).
+// `proofs/PageSteps.antt` has the one lemma by which every step on a page's word keeps it, and `proofs/SideSteps.antt` the one for a step
+// on another word.
 //
 // A page in hand is given up in single steps: `bookmark_bit` for its targets, `counter_add` for each superpage that has one,
 // `store_in`, and `relinquish_word`, after which its word says Gone; or `store_in` and `absent_word` where no cell lies on it. The
@@ -30,7 +31,7 @@
 //
 // In a turn of lanes a page comes back from Gone by the lane that holds its domain, which has the right to one frame: `take_gone`,
 // after which the frame is the page's and the page is counted in each superpage that has a target of it; `store_out`, which opens
-// its box and is its read; and `counter_sub` for each of these superpages. A right is had by `frame_claim`, which sets all bits of
+// its box and is its read; and `counter_sub` for each of these superpages. A right is taken by `frame_claim`, which sets all bits of
 // a frame word, so that all frames are the seat's that were free there, or by giving a page up. So `close` sets the pool's words
 // exactly, and raises the reads by as many pages as the seats took from Gone.
 //
@@ -42,10 +43,10 @@
 // cells have words of their own, so a page is put back by `put` alone. A page may leave only where the seat knows its targets to be
 // marked. No content changes in a mark turn, so what refers to what is the opening's.
 //
-// Where things are: `pins` the table and a seat, `key` what a table is told, `views` slots and views, `rule` the rule and what
-// steps tell, `taking` the calls on pages, `giving` the steps by which one is given up, `reloading` those by which one comes back,
-// `marking` those of a mark turn, `holding` a page in hand, `reading` what everybody may read; `opening` with `room`, `filling`, `lodging` and `rest`; `closing` with `gathering`. Gates, where a test
-// may look on, are passed on from `bc_gates`.
+// Where things are: `pins` the table and a seat, `key` what a table is made from, `views` slots and views, `rule` the rule and what
+// steps say, `taking` the calls on pages, `giving` the steps by which one is given up, `reloading` those by which one comes back,
+// `marking` those of a mark turn, `holding` a page in hand, `reading` what everybody may read; `opening` with `room`, `filling`, `lodging`
+// and `rest`; `closing` with `gathering`. Gates, where a test may look on, are passed on from `bc_gates`.
 #![tactic(auto)]
 
 mod closing;

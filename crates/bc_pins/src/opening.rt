@@ -16,7 +16,7 @@ use bc_superpages::{Space, SpaceParts};
 use std::alloc::{AllocError, Global};
 use std::snapshot::Snapshot;
 
-/// What a table is told.
+/// What a table is made from.
 fn about_of(
     parts: &SpaceParts,
     superpages: usize,
@@ -41,7 +41,8 @@ fn about_of(
 
 impl Pins {
     /// Opens a table over a space: each page up to the last that isn't Absent has its word and its slots, and each role its
-    /// seat, in their order. In a mark turn no lane holds a domain. It takes all its memory first, and where there is none it gives the space back.
+    /// seat, in their order. In a mark turn no lane holds a domain. It takes all its memory first, and where there is none it gives the
+    /// space back.
     pub fn open(
         alloc: Global,
         space: Space,

@@ -17,7 +17,7 @@ use bc_superpages::Header;
 
 impl Pins {
     /// What holds of the space at the opening: its layout, that each allocated cell lies on a page of the table, and that each page
-    /// behind the table's is Absent. In a mark turn nobody holds a domain.
+    /// after the table's is Absent. In a mark turn nobody holds a domain.
     pub fn facts(&self)
         ensures layout { IsLayout (key_of self.now).opening }
         ensures inside { (a : ℕ) → IsAllocated (key_of self.now).opening a → page_of a < pages_of (key_of self.now) }

@@ -1,4 +1,4 @@
-//! The rule of a table, and what each kind of step tells. These types are for the proofs alone.
+//! The rule of a table, and what each kind of step says. These types are for the proofs alone.
 
 use crate::key::About;
 use crate::views::{Lodged, View};

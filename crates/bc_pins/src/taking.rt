@@ -44,7 +44,7 @@ pub enum TakeNo {
 }
 
 impl Pins {
-    /// Takes a page into the seat's hands; for a victim only one that isn't remembered. Each refusal tells what the last step on
+    /// Takes a page into the seat's hands; for a victim only one that isn't remembered. Each refusal returns what the last step on
     /// the page's word read.
     pub fn take(&self, seat: &mut Seat, page: u32, want: Want) -> Result<Held, TakeNo>
         requires seat { IsAt self.now seat.old }

@@ -126,7 +126,7 @@ came-home {hs} {lane} {s} {t} {r} {op} {page} found back =
       back = subst (λ (p : ℕ). Reloaded back.1 p t) (sym found.same) back.3;
     })
 
--- a page that may leave behind one that was given up might have left before it
+-- a page that may leave after one that was given up might have left before it
 pub eligible-freed : (s u : Layout) → Frees s u → memory u ≡ memory s → EligibleNamesCells s → EligibleNamesCells u
 eligible-freed s u h same names p lt may =
     let count : superpages u ≡ superpages s = ap superpages h.same in

@@ -1,4 +1,4 @@
--- What an operation does after the page that it touches came home, told of the heap before.
+-- What an operation does after the page that it touches came home, said of the heap before.
 use Rattle.std.specs.Option.{IfSome, IfNone}
 use Rattle.std.specs.Prelude.{IsErrOf}
 use Rattle.std.specs.Result.{OnErr}
@@ -154,7 +154,7 @@ moves-then s u t h k = record {
   summarised = k.summarised;
 }
 
--- a stop for want of a frame is no other
+-- a stop for lack of a frame is no other
 frame_nursery : {T : Type 0} (stop : Stop) → stop ≡ NoFrame → IsErrOf {T = T} (Err stop) NurseryFull → ⊥
 frame_nursery stop is e = cc
 
@@ -179,7 +179,7 @@ frame-nursery T hs lane words op stop is touches = (λ e. absurd (frame_nursery 
 pub frame-buffer : (T X : Type 0) (stop : Stop) → stop ≡ NoFrame → IsErrOf {T = T} (Err stop) BufferFull → X
 frame-buffer T X stop is e = absurd (frame_buffer {T = T} stop is e)
 
--- what is told of an answer that it stopped so
+-- what is said of an answer that it stopped so
 pub at_err : {T : Type 0} {P : Type 0} (r : Result T Stop) (stop : Stop) → IsErrOf r stop → OnErr r P → P
 at_err {T} {P} r stop is told = subst (λ (x : Result T Stop). OnErr x P) is told
 

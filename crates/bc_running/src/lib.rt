@@ -11,11 +11,11 @@
 //
 // Pages may be gone. An operation looks at one object at most (`touching`): its page is brought home first, for which one other may have
 // to leave. Where none can it stops, and is done after the nurseries were emptied: then no page is Remembered, and each can leave.
-// Which pages move is told exactly (`BringsHome`), and so is when it stops (`LooksAtGone`).
+// Which pages move is stated exactly (`BringsHome`), and so is when it stops (`LooksAtGone`).
 // In a turn (`take_turn`) the lanes run side by side, and a pager answers notices beside them (`bc_turn`). Where there is no table, notices are
 // answered on the heap itself (`answer`), and after a turn the space is settled (`settle`).
 //
-// The theorem is that of the crates below, told of the value as a whole. An operation is the step of every state that the heap
+// The theorem is that of the crates below, said of the value as a whole. An operation is the step of every state that the heap
 // stands for (`RunningStands`), a collection keeps what it stands for, and what isn't the lane's stays (`StaysBut`).
 #![tactic(auto)]
 

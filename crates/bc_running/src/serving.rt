@@ -32,7 +32,7 @@ pub(crate) fn serve_heap(heap: &mut Heap, holders: &[u32], hints: &[u32])
     serve_space(&mut heap.space, hints);
 }
 
-/// Answers the notices with these hints on a heap that is running, in their order, and keeps the answers behind those that there are.
+/// Answers the notices with these hints on a heap that is running, in their order, and keeps the answers after those that there are.
 pub(crate) fn answer_heap(
     heap: &mut Heap,
     holders: &[u32],

@@ -131,7 +131,7 @@ lane_of start ops k j = churn_lane (ops_in ops k) (number_before start ops k) (h
 abbrev both_lanes : ℕ → ℕ → ℕ → List (List Op)
 both_lanes start ops k = lane_of start ops k 0 ∷ lane_of start ops k 1 ∷ []
 
--- behind the lanes of a phase there is one give
+-- after the lanes of a phase there is one give
 state-suc : (start ops k : ℕ) → state_before start ops (suc k) ≡ given (after_lanes (state_before start ops k) 0 (both_lanes start ops k)) (phase_give start ops k)
 unfolding state_before after_phases phase_from after_gives lane_of
 state-suc start ops k =
@@ -199,7 +199,7 @@ small-before start ops (suc k) =
     subst AreSmall (sym (state-suc start ops k)) (given-small (after_lanes (state_before start ops k) 0 (both_lanes start ops k)) (phase_give start ops k)
     (lanes-small (state_before start ops k) (lane_of start ops k 0) (lane_of start ops k 1) (work-of start ops k 0).small (work-of start ops k 1).small (small-before start ops k)))
 
--- behind a phase all that is read was made in it
+-- after a phase all that is read was made in it
 clean-behind : (start ops k : ℕ) → Clean (state_before start ops k).made InRange (after_lanes (state_before start ops k) 0 (both_lanes start ops k))
 unfolding lane_of
 clean-behind start ops k =

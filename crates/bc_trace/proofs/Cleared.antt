@@ -1,4 +1,4 @@
--- Phases of the churn: each lane first clears what it holds, so that behind a phase slots and fields refer to objects alone
+-- Phases of the churn: each lane first clears what it holds, so that after a phase slots and fields refer to objects alone
 -- that were made in it.
 use Rattle.std.proofs.Common.{◌≡◌, ℕ, ◌+◌, ◌-◌, ◌<◌, ◌≤◌, ◌⊎◌, ◌==◌, ◌&&◌, Bool, true, false, if◌then◌else◌, List, [], ◌∷◌, ◌++◌, map, zero, suc, length, get_or, set, slice_index, refl, sym, ap, subst, ◌∙◌, inl, inr, arith, length-set, get_or-set_same}
 use Rattle.std.specs.List.{AllByRecursion, list_all}
@@ -163,7 +163,7 @@ nothing-made s = record {
   fields = λ b y i. subst (λ (o : Object). Refers (Young s.made) (get_or o.fields i Nil)) (sym (get_or_past (made_by s.made b.lane) (b.serial - 1) no_object (omega (arith, y)))) tt;
 }
 
--- behind the lanes' clears and more operations of theirs, all that may be read refers to what was made in the phase
+-- after the lanes' clears and more operations of theirs, all that may be read refers to what was made in the phase
 pub phase-clean : (s : State) (holders : List ℕ) (a b : List Op) → s.holders ≡ holders → ((d : ℕ) → slice_index holders d < 2) → AllByRecursion (IsOp churn_setup) a → AllByRecursion (IsOp churn_setup) b → Clean s.made InRange (after_lanes s 0 ((lane_clears holders 0 ++ a) ∷ (lane_clears holders 1 ++ b) ∷ []))
 unfolding after_lanes
 phase-clean s holders a b same two fa fb =

@@ -103,7 +103,7 @@ counts-phase before p old new long more e =
 
 -- ---- the output
 
--- a piece at the end, and the rest behind it
+-- a piece at the end, and the rest after it
 text-more : (t u a rest : List ℕ) → u ≡ t ++ a → t ++ (a ++ rest) ≡ u ++ rest
 text-more t u a rest e = sym (append_assoc t a rest) ∙ ap (λ x. x ++ rest) (sym e)
 

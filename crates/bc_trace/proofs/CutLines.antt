@@ -27,7 +27,7 @@ parts_none (b ∷ bs) c none =
     let no : eqb b c ≡ false = ne_eqb b c (none 0 (omega arith)) in
     slice_split-cons_no (λ b. eqb b c) b bs no ∙ rw rest refl
 
--- the words behind the space at i
+-- the words after the space at i
 pub words_after-drop : (line : List ℕ) (i : ℕ) → i < length line → words_after (drop i line) ≡ line_words (drop (i + 1) line)
 words_after-drop line i lt = rw (drop-cons line i 0 lt, add-one) refl
 

@@ -78,7 +78,7 @@ phase-made start ops k x holders phases new p so_far number held made pushed =
     let q : p ≡ churn_phase start ops k = made ∙ ap (λ (y : ℕ). phase_from k (ops_in ops k) y holders) number ∙ ap (λ (hs : List ℕ). phase_from k (ops_in ops k) (number_before start ops k) hs) held in
     pushed ∙ ap (λ (ps : List PhaseLists). ps ++ p ∷ []) so_far ∙ ap (λ (y : PhaseLists). map (churn_phase start ops) (numbers_below k) ++ y ∷ []) q ∙ sym (phases-more start ops k)
 
--- the number and the holders behind it
+-- the number and the holders after it
 pub number-made : (start ops k x new : ℕ) → x ≡ number_before start ops k → new ≡ number_after_phase (ops_in ops k) x → new ≡ number_before start ops (k + 1)
 number-made start ops k x new e made = made ∙ ap (λ (y : ℕ). number_after_phase (ops_in ops k) y) e ∙ sym (before-more start ops k)
 

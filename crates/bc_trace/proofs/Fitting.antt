@@ -1,4 +1,4 @@
--- The replies of a run fit, and are short: they tell births of few lanes with serials below 2 ^ 32, numbers of a trace and
+-- The replies of a run fit, and are short: they hold births of few lanes with serials below 2 ^ 32, numbers of a trace and
 -- lengths of objects.
 use Rattle.std.proofs.Common.{ℕ, zero, suc, ◌+◌, ◌^◌, ◌<◌, ◌≤◌, Bool, true, false, nat_lt, List, [], ◌∷◌, length, get_or, take, sym, subst, arith}
 use Rattle.std.specs.Prelude.{if◌then◌else◌, sum_by}
@@ -29,7 +29,7 @@ use Rattle.bc_model.proofs.Serials.{HasSerials-less, HasSerials-step, HasSerials
 use Rattle.bc_model.proofs.Steps.{SameSizes-step, IsState-step, IsOps-same}
 use Rattle.bc_trace.specs.ReplyRanges.{FitsReply, FitsPhase}
 
--- the numbers that a reply tells have few digits
+-- the numbers that a reply holds have few digits
 abbrev pub IsShort : Reply → Type 0
 IsShort (replies.Obj b) = (b.lane < 2 ^ 32) × (b.serial < 2 ^ 32)
 IsShort (replies.Num v) = v < 2 ^ 63
@@ -129,7 +129,7 @@ short-run t h few =
     short-phases t.setup (opening t.setup) t.phases (record { state = IsState-opening t.setup h.setup; sizes = HasSizes-opening t.setup }) h.phases
     (HasSerials-opening t.setup (all_ops_of t) few)
 
--- ---- those of a cut: fronts of these
+-- ---- those of a cut: prefixes of these
 
 at-place : {X : Type 0} (P : X → Type 0) (d : X) (xs : List X) (i : ℕ) → P d → AllByRecursion P xs → P (get_or xs i d)
 at-place P d [] i h all = h

@@ -38,7 +38,7 @@ pub mod LinesAhead
 pub mod Answered
 -- Lines that pass can be gone on with up to the end of a trace.
 pub mod Endings
--- A text shows the replies that it tells
+-- A text shows the replies that it spells
 pub mod Shown
 -- The replies of a run fit, and are short
 pub mod Fitting
@@ -50,7 +50,7 @@ pub mod Formed
 pub mod Counting
 -- Young objects
 pub mod Young
--- Phases of the churn: what is behind their clears
+-- Phases of the churn: what is after their clears
 pub mod Cleared
 -- How many there can be
 pub mod Few

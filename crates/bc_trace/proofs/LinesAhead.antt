@@ -132,7 +132,7 @@ module _ (s : Progress) (text rest : List ℕ) where
     begins = line_text_of (give g) text numbers after rest begins (first ∙ operands-more [] g.domain lanes ∙ ap (λ t. operands_text (g.domain ∷ []) ++ t) second ∙ operands-more (g.domain ∷ []) g.lane after) feed;
   }
 
--- ---- behind the line
+-- ---- after the line
 
 module _ {s : Progress} {text rest : List ℕ} {l : Line} (h : IsAhead s text l rest) where
   pub shorter_ahead : length rest < length text

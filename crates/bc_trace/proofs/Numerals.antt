@@ -6,7 +6,7 @@ use Rattle.std.proofs.lemmas.Bool.{lt-ltb, le-ltb, and_right}
 use Rattle.std.proofs.lemmas.List.{drop_all}
 use Rattle.bc_trace.specs.Reading.{read_on, digits_of}
 
--- what these digits say behind digits of value v
+-- what these digits say after digits of value v
 unfoldable pub digits_on : ℕ → List ℕ → Option ℕ
 digits_on v bytes = cond (all_ascii_digits bytes && ltb (read_on v bytes) (2 ^ 63)) (Some (read_on v bytes)) None
 

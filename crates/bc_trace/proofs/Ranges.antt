@@ -11,7 +11,7 @@ use Rattle.bc_trace.specs.Said.{IsSmall}
 most : (n m : ℕ) → (leb 1 n && leb n m) ≡ true → n ≤ m
 most n m e = leb-true n m (and_parts (leb 1 n) (leb n m) e).1
 
--- behind a line whose numbers are in range
+-- after a line whose numbers are in range
 pub IsSmall-after : (l : Line) (s : Progress) (n : ℕ) → in_range s l ≡ true → IsSmall s n → IsSmall (after l s) (n + 1)
 unfolding in_range is_setting
 IsSmall-after (version v) s n e h = record { lanes = h.lanes; nursery = h.nursery; superpages = h.superpages; stood = omega (arith, h.stood) }

@@ -117,7 +117,7 @@ module _ (s : Setup) (setup : IsSetup s) where
         runs-cons (ops_draft k ls os) (ops_draft k ls (os ++ o ∷ more)) (op o) (map op more) line
         (runs-at (ops_draft k ls (os ++ o ∷ [])) (ops_draft k ls ((os ++ o ∷ []) ++ more)) (ops_draft k ls (os ++ o ∷ more)) (map op more) (ap (λ (xs : List Op). draft (progress stages.Ops s k) ps ts ls xs []) (append_assoc os (o ∷ []) more)) rest)
 
-    -- the lanes behind the one that was begun last
+    -- the lanes after the one that was begun last
     record LanesRun (k : ℕ) (front : List (List Op)) (os : List Op) (lanes : List (List Op)) : Type 0 where
       before : List (List Op)
       last : List Op

@@ -1,4 +1,4 @@
--- A text shows the replies that it tells: each line is one reply's, and the lines of lanes, phases and the end are no reply's.
+-- A text shows the replies that it spells: each line is one reply's, and the lines of lanes, phases and the end are no reply's.
 use Rattle.std.proofs.Common.{◌≡◌, ◌≢◌, ℕ, suc, ◌^◌, ◌<◌, ◌≤◌, true, false, ◌==◌, eqb, leb, if◌then◌else◌, List, [], ◌∷◌, ◌++◌, get_or, drop, refl, sym, ap, ap₂, ◌∙◌, append_assoc, inl, inr, arith}
 use Rattle.std.specs.Prelude.{codes}
 use Rattle.std.specs.List.{AllByRecursion, flat_map, list_all, slice_split}
@@ -47,7 +47,7 @@ Lacks-tests c (b ∷ bs) h = (ne_eqb b c h.0, Lacks-tests c bs h.1)
 abbrev birth_in : List (List ℕ) → Birth
 birth_in parts = record { lane = read_on 0 (get_or parts 0 []); serial = read_on 0 (get_or parts 1 []) }
 
--- by the first three bytes, and what stands behind the fourth
+-- by the first three bytes, and what stands after the fourth
 abbrev reply_by : ℕ → ℕ → ℕ → List ℕ → Reply
 reply_by a b c rest =
     if a == 111 then (if b == 98 then replies.Obj (birth_in (slice_split (λ x. eqb x 46) rest)) else replies.Done)
@@ -120,7 +120,7 @@ cut_alike c (x ∷ xs) (y ∷ ys) a b h g e =
     let rest = cut_alike c xs ys a b h.1 g.1 cc in
     (cc, rest.1)
 
--- one reply in front of each
+-- one reply before each
 one_reply : (r q : Reply) (a b : List ℕ) → FitsReply r → FitsReply q → reply_text r ++ a ≡ reply_text q ++ b → (r ≡ q) × (a ≡ b)
 one_reply r q a b h g e =
     let same = cut_alike 10 (reply_word r) (reply_word q) a b (Lacks-word r h) (Lacks-word q g)
@@ -184,7 +184,7 @@ sort-phases k [] x h = omega (arith, sort-last_line x h)
 sort-phases k (p ∷ ps) x h =
     omega (arith, ap sort_of (append_assoc (phase_text k p) (phases_text (suc k) ps) x), sort-phase k p (phases_text (suc k) ps ++ x))
 
--- ---- replies, lanes and phases in front of what is none
+-- ---- replies, lanes and phases before what is none
 
 same_replies : (rs qs : List Reply) (a b : List ℕ) → AllByRecursion FitsReply rs → AllByRecursion FitsReply qs → 1 ≤ sort_of a → 1 ≤ sort_of b → flat_map reply_text rs ++ a ≡ flat_map reply_text qs ++ b → (rs ≡ qs) × (a ≡ b)
 same_replies [] [] a b h g ha hb e = (refl, e)
@@ -198,7 +198,7 @@ same_replies (r ∷ rs) (q ∷ qs) a b h g ha hb e =
     let rest = same_replies rs qs a b h.1 g.1 ha hb first.1 in
     (ap₂ (λ (x : Reply) (xs : List Reply). x ∷ xs) first.0 rest.0, rest.1)
 
--- one line in front of both
+-- one line before both
 same_behind : (line s t a b : List ℕ) → (line ++ s) ++ a ≡ (line ++ t) ++ b → s ++ a ≡ t ++ b
 same_behind line s t a b e = append_cancel_left line (s ++ a) (t ++ b) (sym (append_assoc line s a) ∙ e ∙ append_assoc line t b)
 

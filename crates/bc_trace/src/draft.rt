@@ -46,7 +46,7 @@ impl Draft {
         }
     }
 
-    /// Behind the last operation of a lane.
+    /// After the last operation of a lane.
     #[inline(always)]
     fn end_lane(&mut self, alloc: Global) -> Result<(), AllocError>
         ensures { OnOk result (shown self.new ≡ lanes_ended (shown self.old)) }
@@ -56,7 +56,7 @@ impl Draft {
         Ok(())
     }
 
-    /// Behind the last line of a phase.
+    /// After the last line of a phase.
     #[inline(always)]
     fn end_phase(&mut self, alloc: Global) -> Result<(), AllocError>
         ensures { OnOk result (shown self.new ≡ phase_ended (shown self.old)) }

@@ -22,7 +22,7 @@ pub enum Stage {
     Ops,
     /// In a phase, after its first give.
     Gives,
-    /// Behind `done`.
+    /// After `done`.
     Finished,
 }
 

@@ -31,7 +31,7 @@ is-gone Remembered lt = absurd (omega arith)
 is-gone Held lt = absurd (omega arith)
 is-gone Gone lt = refl
 
--- a page behind all superpages
+-- a page past all superpages
 pub state-behind : (s : Layout) (p : ℕ) → IsLayout s → 4 * superpages s ≤ p → state_at s.states p ≡ Absent
 state-behind s p layout far =
     let long = layout.long.states in
@@ -51,7 +51,7 @@ module _ (k : Key) (s t : Layout) (seats : List Seat) (opening : k.opening ≡ s
   opened-as : (p : ℕ) → state_at s.states p ≡ opened_state k p
   opened-as p = ap (λ (x : Layout). state_at x.states p) (sym opening)
 
-  -- a page behind the table
+  -- a page past the table
   pub far-same : (p : ℕ) → pages_of k ≤ p → state_at t.states p ≡ state_at s.states p
   far-same p far = elim (cases_lt p (4 * superpages k.opening)) [
     | inl inside ↦ (closed.behind p far inside).0 ∙ sym (opened-as p)

@@ -64,7 +64,7 @@ module _ (k : Key) (s t : Layout) (seats : List Seat) (told : List Answer) (left
   abbrev CameFor : ℕ → ℕ → Type 0
   CameFor q b = IsNewTarget s t q b ⊎ ((p : ℕ) × (0 < total (says_evicted p) told + times p left) × (0 < times p fetched))
 
-  -- the sets of superpages behind the table
+  -- the sets of superpages past the table
   set-behind : (q : ℕ) → k.supers ≤ q → set_of t.bookmarks q ≡ set_of s.bookmarks q
   set-behind q far = closed.bits_behind q far ∙ ap (λ (x : Layout). set_of x.bookmarks q) opening
 
@@ -115,7 +115,7 @@ module _ (k : Key) (s t : Layout) (seats : List Seat) (told : List Answer) (left
     place : 64 * (word % 16) + b % 64 ≡ b
     place = ap (λ (n : ℕ). 64 * n + b % 64) word-place ∙ place-back
 
-    -- as the table tells it
+    -- as the table has it
     told_bit : has (set_of t.bookmarks (word / 16)) (64 * (word % 16) + b % 64) ≡ has (set_of t.bookmarks q) b
     told_bit = ap (λ (n : ℕ). has (set_of t.bookmarks n) (64 * (word % 16) + b % 64)) word-set ∙ ap (has (set_of t.bookmarks q)) place
 

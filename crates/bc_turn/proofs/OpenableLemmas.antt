@@ -30,7 +30,7 @@ home_remembered : Home ≡ Remembered → ⊥
 home_remembered e = cc
 
 module _ (h : HeapView) (hs : List ℕ) (layout : IsLayout h.space) (whole : AreWhole h.chunks) (run : IsRunning h hs) where
-  -- an object of a chunk lies behind the superpages
+  -- an object of a chunk lies past the superpages
   behind : (d a : ℕ) → d < length hs → has_object (chunk_of h.chunks (get_or hs d 0)) a ≡ true → 2048 * superpages h.space ≤ a
   behind d a lt there =
       let within = run.closed.holder d lt in

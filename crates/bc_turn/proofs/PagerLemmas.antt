@@ -43,7 +43,7 @@ answers-keep k (hint ∷ hints) (answer ∷ told) v w is =
     let rest = answers-keep k hints told is.0 w is.2 in
     record { changed = rest.changed ∙ one.changed; recorded = rest.recorded ∙ one.recorded; fetched = rest.fetched ∙ one.fetched; returned = rest.returned ∙ one.returned }
 
--- an answer names no page behind the table
+-- an answer names no page past the table
 names-none : (k : Key) (v : View) (hint : ℕ) (answer : Answer) (w : View) → IsAnswer k v hint answer w → (p : ℕ) → pages_of k ≤ p → (says_evicted p answer ≡ 0) × (says_discarded p answer ≡ 0)
 names-none k v hint (Discarded page) w is p far = (refl, one_other page p (λ e. let near = is.inside in absurd (omega arith)))
 names-none k v hint (Evicted page) w is p far = (one_other page p (λ e. let near = is.inside in absurd (omega arith)), refl)

@@ -76,7 +76,7 @@ pub nothing-more : (xs : List Reply) → xs ≡ xs ++ []
 nothing-more [] = refl
 nothing-more (x ∷ xs) = ap (λ (l : List Reply). x ∷ l) (nothing-more xs)
 
--- why a lane stopped, told of the heap to which belongs what it has and of the space after the turn
+-- why a lane stopped, said of the heap to which belongs what it has and of the space after the turn
 stops-beside : (hs : List ℕ) (n end : ℕ) (part : LanePart) (u v : View) (k : HeapView) (t : Layout) (op : Op) (why : Stop) → part.holders.items ≡ hs → part.lane ≡ n → IsWhole part v None end k → IsOpOf k.roots op → NotesGone v k.space t → StopsOp u part v None end op why
     → StopsBeside hs n op k t
 stops-beside hs n end part u v k t op why eh el whole fits notes stops =
@@ -102,7 +102,7 @@ module _ (pins : Pins) (h : HeapView) (hs serials : List ℕ) (lanes : List (Lis
   abbrev lane : ℕ → ℕ
   lane i = get_or busy i 0
 
-  -- what a run tells of the heap at the beginning
+  -- what a run says of the heap at the beginning
   pub first-ran : (i : ℕ) → i < length busy → LaneRan (of_lane lanes (lane i)) end (old i) (view_of (seat i)) None (new i) (view_of (after i)) None
   first-ran i lt = (ran.each i lt).ran (heap_back h) (begun.each i lt).whole
 

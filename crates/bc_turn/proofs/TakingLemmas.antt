@@ -251,7 +251,7 @@ spare-slots hs old new spare same is = subst (λ (s : ℕ). IsSpareOf hs s spare
 pub ops-within : (vs : List (Vec Op Global)) (lane : ℕ) → lane < length (lists_of vs) → lane < length vs
 ops-within vs lane lt = let long = length-map vs (λ (v : Vec Op Global). v.items) in omega arith
 
--- the same where the place is told by a number
+-- the same where the place is given by a number
 pub ops-of : (vs : List (Vec Op Global)) (lane place : ℕ) (v : Vec Op Global) (ops : List Op) → lane < length (lists_of vs) → place ≡ lane → v ≡ get_or vs place v → ops ≡ v.items → ops ≡ of_lane (lists_of vs) lane
 ops-of vs lane place v ops lt e is value = ops-at vs lane v ops (ops-within vs lane lt) (is ∙ ap (λ (i : ℕ). get_or vs i v) e) value
 

@@ -1,4 +1,4 @@
--- A turn put together: what its steps tell makes the lanes' begin, their runs, and what they lay back.
+-- A turn put together: what its steps say makes the lanes' begin, their runs, and what they lay back.
 use Rattle.std.proofs.Common.{◌≡◌, ℕ, ◌+◌, ◌-◌, ◌*◌, ◌^◌, ◌<◌, ◌≤◌, ◌==◌, true, false, List, [], ◌∷◌, ◌++◌, length, map, get_or, None, Vec, vec_capacity, inl, inr, refl, ap, sym, subst, ◌∙◌, arith, ◌/◌}
 use Prim.Native.Nat.{zero, suc}
 use Rattle.std.specs.declared.alloc.Global.{Global}
@@ -86,7 +86,7 @@ words-enough hs part r shows holders domains starts = by-count (length part.doma
 back-place : (n i : ℕ) → i < n → n - (n - (i + 1) + 1) ≡ i
 back-place n i lt = omega arith
 
--- the roles of a turn: each lane's, and the pager's behind them
+-- the roles of a turn: each lane's, and the pager's after them
 pub roles-long : (busy : List ℕ) → length (turn_roles busy) ≡ length busy + 1
 roles-long busy = length_push (map (λ (l : ℕ). Lane l) busy) (Pager 0) ∙ ap (λ (n : ℕ). n + 1) (length-map busy (λ (l : ℕ). Lane l))
 

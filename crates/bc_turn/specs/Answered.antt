@@ -1,4 +1,4 @@
--- Notices that a pager answered beside the lanes of a turn, and pages that lanes brought back, told of the space before the turn and
+-- Notices that a pager answered beside the lanes of a turn, and pages that lanes brought back, said of the space before the turn and
 -- after it.
 use Rattle.std.specs.Prelude.{◌≡◌, ◌⊎◌, ℕ, ◌+◌, ◌-◌, ◌^◌, ◌<◌, ◌≤◌, ◌==◌, true, List, [], ◌∷◌, ◌++◌, length, min}
 use Rattle.bc_bits.specs.Bits.{has}
@@ -29,7 +29,7 @@ abbrev pub is_in : PageState → Layout → ℕ → ℕ
 is_in state s page = one_if (state_word (state_at s.states page) == state_word state)
 
 -- the notices with these hints were answered by a pager that worked beside the lanes at a table that was opened over a space, and closed
--- to another one. Each has one answer, in order, by what the pager did and read; behind the answers that were kept before. Besides, lanes
+-- to another one. Each has one answer, in order, by what the pager did and read; after the answers that were kept before. Besides, lanes
 -- brought pages back, each one that is looked at in the turn, and for their frames made pages Gone or Absent, no more than they brought back.
 -- By these lists and the answers each page is accounted for: how often it is Gone or Absent afterwards. A notice was declined only where
 -- each page that is Home afterwards is looked at in the turn. Pages were read as often as lanes brought one back

@@ -48,7 +48,7 @@ pub record AreBegun (pins : Pins) (h : HeapView) (holders serials : List ℕ) (l
   pub each : (i : ℕ) → i < length busy → IsBegunLane pins h holders serials lanes before (turn i) (seat i)
   pub lane_is : (i : ℕ) → i < length busy → (turn i).part.lane ≡ slice_index busy i
 
--- what a lane's run tells: whatever whole heap what the lane had belonged to, what it has now belongs to that heap with its
+-- what a lane's run says: whatever whole heap what the lane had belonged to, what it has now belongs to that heap with its
 -- operations done, and the stop has its cause there. The seat is that seat, with nothing in hand, and counts still the boxes that it opens
 pub record RanLane (ops : List Op) (old : LaneTurn) (seat : Seat) (new : LaneTurn) (after : Seat) (why : Stop) : Type 0 where
   pub ran : (h : HeapView) → IsWhole old.part (view_of seat) None (end_of h.space) h → LaneRan ops (end_of h.space) old (view_of seat) None new (view_of after) None

@@ -36,7 +36,7 @@ pub record IsLaidBack (h k : HeapView) : Type 0 where
   pub chunks : k.chunks ≡ h.chunks
   pub buffers : k.buffers ≡ h.buffers
 
--- why a lane's next operation can't be done in this turn, told of the heap that its operations make and of the space after the turn: as
+-- why a lane's next operation can't be done in this turn, said of the heap that its operations make and of the space after the turn: as
 -- on plain data, or it looks at an object in a cell on a page that is Gone after the turn. When the lane stopped the page was Gone and
 -- there was no frame for it, or it was in the hands of a pager or of another lane, who put none back
 abbrev pub StopsBeside : List ℕ → ℕ → Op → HeapView → Layout → Type 0

@@ -5,8 +5,8 @@
 // runs has a seat and a pager has the last one, and each of these lanes takes what is its own out of the heap (`bc_lane`): the words of
 // its domains' root slots, its chunk, its write buffer, the number of its births and its replies so far. Then they work (`run_beside`): on
 // threads that the call joins, or, where the caller says that these wouldn't pay (`TurnThreads`), one after another on the caller's. The
-// contract doesn't tell these apart. A lane runs until it is at its end or its next operation can't be done in this turn: its chunk or
-// its write buffer has no room, or the operation looks at an object whose page is in other hands, or gone while no frame can be had for
+// contract doesn't distinguish these. A lane runs until it is at its end or its next operation can't be done in this turn: its chunk or
+// its write buffer has no room, or the operation looks at an object whose page is in other hands, or gone while no frame can be taken for
 // it. The page is Gone after the turn then (`StopsBeside`), since who takes a page that isn't its own puts none back. When all are through
 // each lane lays back what it took, the table is closed, and the heap is one value again.
 //
@@ -16,7 +16,7 @@
 // turn. Where no notice came it is through before the lanes begin, and starts no thread; then a lane that is alone starts none either.
 // Where notices came and no lane has operations left, the pager is alone at a table. Where there is neither, nothing is done.
 //
-// Each notice has one answer (`AnsweredBeside`): by what the pager did and read, behind the answers that the caller's list had. Lanes
+// Each notice has one answer (`AnsweredBeside`): by what the pager did and read, after the answers that the caller's list had. Lanes
 // bring pages of their own back, and for their frames make others Gone or Absent, no more than they bring back. By the answers and the
 // lists of these pages each page is accounted for: how often it is Gone, or Absent, at the close. The bookmark bits that came are those of
 // targets of pages that became Gone, or came for pages that lanes brought back, and pages were read as often as one came back. Where a
@@ -35,13 +35,13 @@
 //
 // What holds meanwhile, of each lane that runs: what it has belongs to the heap that was with every page back (`heap_back`), before it
 // runs, and after it to that heap with its operations done; and what another lane does changes nothing of what belongs to it. So the
-// lanes may be put one behind another,
+// lanes may be put one after another,
 // in the order of their numbers: lane j finds the heap `at j` and leaves the heap `at (j + 1)`, though no heap was ever like that, and
 // the heap after the turn is the last of them, but for pages that moved (`RanBeside`, `IsLaidBack`). Pages that are Remembered
 // afterwards are those that the operations make so, and no others. A pager changes where pages lie, and nothing of what they hold, so
 // none of that speaks of it.
 //
-// The theorem is the contract of `take_turn`: clause `ran` tells of the lanes, clause `answered` of the notices. That lanes can run on the
+// The theorem is the contract of `take_turn`: clause `ran` speaks of the lanes, clause `answered` of the notices. That lanes can run on the
 // heap afterwards, and that it stands for what the last of those heaps stands for, is `law_back`.
 #![tactic(auto)]
 

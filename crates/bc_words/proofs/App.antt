@@ -1,4 +1,4 @@
--- The simple command by which `clap` reads the words after the first: the option `--workers` and any plain values. Behind this file
+-- The simple command by which `clap` reads the words after the first: the option `--workers` and any plain values. After this file
 -- its rules are known by these facts alone.
 use Rattle.std.proofs.Common.{◌≡◌, ◌≢◌, ◌∙◌, ◌&&◌, ◌||◌, ap, ap₂, ℕ, Bool, true, false, List, [], ◌∷◌, Some, None, cond, codes, refl}
 use Rattle.std.specs.Str.{bytes_eq}

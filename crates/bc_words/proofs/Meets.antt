@@ -1,4 +1,4 @@
--- What one word is to the command, before any `--`: it passes over, it is the option with a value or without, it is refused, or it is
+-- What one word is to the command, before any `--`: it is skipped, it is the option with a value or without, it is refused, or it is
 -- a plain word, which is a value of whatever waits.
 use Rattle.std.proofs.Common.{◌≡◌, ◌≢◌, ◌∙◌, ap, sym, refl, ℕ, zero, suc, ◌==◌, false, List, [], ◌∷◌, ◌++◌, subst, Option, Some, None, codes, inl, inr, arith}
 use Rattle.std.specs.Prelude.{option_and_then, slice_get}

@@ -7,7 +7,7 @@ use Rattle.bc_words.specs.declared.command.Command.{Command}
 abbrev IsBare : Word → Type 0
 IsBare word = ¬ IsHyphened word
 
--- ---- what the first word tells
+-- ---- what the first word says
 
 apart_first : {ws vs ps : List Word} → Parts ws vs ps → (value : Word) (rest : List Word) → ws ≡ codes "--workers" ∷ value ∷ rest
     → (more : List Word) × (vs ≡ value ∷ more) × Parts rest more ps
@@ -52,12 +52,12 @@ bare_first (bare {rest = tail} {workers = vs} {plain = more} w h p) word rest pl
     let rest_is : tail ≡ rest = cc in
     (more, ap (λ x. x ∷ more) word_is, subst (λ r. Parts r vs more) rest_is p)
 
--- ---- a value behind plain words
+-- ---- a value after plain words
 
 with_bare : {rest vs ps : List Word} (word : Word) → IsBare word → (more : List Word) → ps ≡ word ∷ more → Parts rest vs more → Parts (word ∷ rest) vs ps
 with_bare {rest = rest} {vs = vs} word h more e p = subst (λ xs. Parts (word ∷ rest) vs xs) (sym e) (bare word h p)
 
--- from behind the plain words, by what takes it off there, and to there, by what puts it on
+-- from the place after the plain words, by what takes it off there, and to there, by what puts it on
 taken : (front behind back : List Word) (value : Word) → AllByRecursion IsBare front
     → ((vs ps : List Word) → Parts behind vs ps → (more : List Word) × (vs ≡ value ∷ more) × Parts back more ps)
     → (vs ps : List Word) → Parts (front ++ behind) vs ps → (more : List Word) × (vs ≡ value ∷ more) × Parts (front ++ back) more ps

@@ -193,7 +193,7 @@ ok_command words name begins m none rows got got_is o d o_is empty u u_is c =
           subst (λ g. AsksFor name (option_to_list g) (texts u.now) c) (sym read_new) (subst (λ ps. AsksFor name (option_to_list read.new) ps c) (sym read_plain) read.asked),
     )
 
--- where the words are a command, a parse fails for want of memory alone
+-- where the words are a command, a parse fails out of memory alone
 pub err_command : (words : List Text) (name : Text) → words ≡ name ∷ drop 1 words → (a : App) (error : Error) → a ≡ app name
     → (is_simple_and_free a ≡ true → HasKind (fault_of a words) error) → (c : Command) → IsCommandOf words c → kind_of error ≡ OutOfMemory
 err_command words name begins a error e kinds c command =

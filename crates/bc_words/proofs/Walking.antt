@@ -93,7 +93,7 @@ or_else_nil : (k : Kinds) → or_else k [] ≡ k
 or_else_nil [] = refl
 or_else_nil (k ∷ ks) = refl
 
--- a plain value, once `--` was passed over
+-- a plain value, once `--` was skipped
 pub trailing_turn : (name : Text) (rows : List Row) (pending : Option (Text × List Text)) (waiting : Waiting) (word : Text)
     → Turn name (at rows pending waiting true) word (settle_fault rules false (hold rows pending)) (at (settled_rows rules pending rows) (Some (values_id, word ∷ [])) positional true)
 trailing_turn name rows pending waiting word =

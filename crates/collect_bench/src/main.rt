@@ -9,10 +9,10 @@
 //
 // A heap fills so many superpages with objects of so many fields, or, where `fields` is 0, with objects of all seven size classes in all 64
 // domains: 448 pairs, whose superpages lie mixed. There are frames for one page in `share`. Of each superpage one object in `kept` is
-// kept, or the first one alone where `kept` is 0: it is the front of a list of such objects of its domain. All others are on lists that
-// are dropped before the collection. The heap's line tells how it stood before, those of the collections how they left it: how many
+// kept, or the first one alone where `kept` is 0: it is the head of a list of such objects of its domain. All others are on lists that
+// are dropped before the collection. The heap's line says how it stood before, those of the collections how they left it: how many
 // objects lie in cells, superpages in use, pages that are gone, and pages that were read back, before or in the collection. How long
-// collections took, in nanoseconds, goes to standard error, with the same words in front.
+// collections took, in nanoseconds, goes to standard error, with the same words before it.
 //
 // Its arguments are those four numbers, for as many heaps as there are. It promises nothing: what is proved is that every condition of the
 // calls is met.
@@ -142,7 +142,7 @@ where
     Ok(workshop)
 }
 
-/// Does the operation, or tells why it stopped.
+/// Does the operation, or returns why it stopped.
 fn try_once(workshop: &mut Workshop, op: &Op) -> Result<Result<(), Halt>> {
     match workshop.operate(0, op) {
         Ok(Reply::NotObj | Reply::Range | Reply::Foreign) => bail!("an operation was refused"),
@@ -151,7 +151,7 @@ fn try_once(workshop: &mut Workshop, op: &Op) -> Result<Result<(), Halt>> {
     }
 }
 
-/// Makes an object of the domain, which becomes the front of the list of this slot.
+/// Makes an object of the domain, which becomes the head of the list of this slot.
 fn make<R>(rt: &R, mut workshop: Workshop, domain: u32, fields: u32, list: u32) -> Result<Workshop>
 where
     R: AllocGlobal + Threads + Sync,

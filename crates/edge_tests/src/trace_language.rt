@@ -28,7 +28,7 @@ const FIRST_PATH: [&str; 15] = [
     "done",
 ];
 
-/// The first path with another text for line `line`, which counts from 1, and `rest` behind it.
+/// The first path with another text for line `line`, which counts from 1, and `rest` after it.
 fn changed(alloc: Global, line: usize, text: &str, rest: &str) -> Result<Vec<u8>, AllocError> {
     let mut bytes = Vec::new(alloc);
     for (i, own) in FIRST_PATH.iter().enumerate() {
@@ -88,7 +88,7 @@ fn each_spoilt_line_is_refused_at_its_number_and_with_its_cause(
 
 #[test]
 fn what_goes_on_behind_done_or_stops_before_it_is_refused(rt: HostRuntime) -> Result<(), Fail> {
-    // A line behind `done`, and a byte behind its line feed.
+    // A line after `done`, and a byte after its line feed.
     let line_behind = changed(rt.alloc(), 0, "", "phase\n")?;
     let byte_behind = changed(rt.alloc(), 0, "", "x")?;
     let whole = changed(rt.alloc(), 0, "", "")?;

@@ -3,7 +3,7 @@
 // Copy this crate, and change the nodes. A runtime needs three things of the library: a heap (`Heap::open`), a handle for each root slot
 // that it works with (`heap.root`), and the operations (`heap.new`, `load`, `link`, ..), each of which passes on why it isn't done by `?`.
 // Whatever no root slot leads to is freed at some time. A value is looked at where a slot holds it: `load` copies a field into a slot and
-// tells what it is.
+// returns what it is.
 #![tactic(auto)]
 
 use anyhow::{Result, bail};

@@ -7,7 +7,7 @@
 // of 2 from 8 to 1,048,576. What was collected goes to standard output, so that the gate can compare it; how long it took, in
 // nanoseconds, goes to standard error.
 //
-// Behind the word `frames` the objects lie in cells most of whose pages are gone: there are two frames beyond those of the nursery,
+// After the word `frames` the objects lie in cells most of whose pages are gone: there are two frames beyond those of the nursery,
 // or 16, or half as many as pages. A third heap is there then, a chain in the order of its pages (`ordered`). What is printed
 // is how many pages were gone, and how many the collection read back.
 //

@@ -27,7 +27,7 @@ none-empty cs k c first lt is next on empty =
     let off : is_some first ≡ false = ap is_some next ∙ ap (λ (os : List ChunkObject). is_some (option_map address_of (find (λ o. is_after None o.address) os))) here in
     both_ways (is_some first) off on
 
--- behind the last chunk of the list there is an empty one
+-- after the last chunk of the list there is an empty one
 pub all-empty : (cs : List Nursery) → ((k : ℕ) → k < length cs → (chunk_of cs k).objects ≡ []) → (l : ℕ) → (chunk_of cs l).objects ≡ []
 all-empty cs each l = elim (cases_lt l (length cs)) [
   | inl lt ↦ each l lt

@@ -1,4 +1,4 @@
--- The need of a heap whose nurseries couldn't be emptied, by what is told of the heap that is left.
+-- The need of a heap whose nurseries couldn't be emptied, by what is said of the heap that is left.
 use Rattle.std.proofs.Common.{◌≡◌, ℕ, ◌<◌, Err, arith, subst}
 use Rattle.bc_cycle.specs.Causes.{IfOutOfHeap}
 use Rattle.bc_cycle.specs.Emptying.{KeepsMeaning}

@@ -5,7 +5,7 @@
 // shape, in as few frames as they like, collect them, and compare replies.
 //
 // Between the calls the heap is running (`IsSound`), and a workshop whose nurseries couldn't be emptied is lost. So every condition
-// of the calls below holds, and a caller has none to meet. What a call does is told by the clauses of the collector's own calls,
+// of the calls below holds, and a caller has none to meet. What a call does is said by the clauses of the collector's own calls,
 // passed on. What a space has can be counted.
 #![tactic(auto)]
 

@@ -1,4 +1,4 @@
-//! What is counted of a phase, and the words that tell it.
+//! What is counted of a phase, and the words that print it.
 
 use crate::kinds::Kind;
 use crate::rooms::{Sight, gone_in};
@@ -38,7 +38,7 @@ pub(crate) fn print_time<R: Print>(rt: &R, clock: bool, taken: Duration) -> Resu
     Ok(())
 }
 
-/// Ends the line of a phase, with its need where it ended for want of heap.
+/// Ends the line of a phase, with its need where it ended out of heap.
 pub(crate) fn print_need<R: Print>(rt: &R, need: Option<u64>) -> Result<()> {
     match need {
         Some(need) => println!(rt; " need={need}")?,

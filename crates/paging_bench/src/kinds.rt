@@ -1,9 +1,9 @@
-//! What kind an emptying of the nurseries was, told from outside.
+//! What kind an emptying of the nurseries was, seen from outside.
 //!
-//! Whether the survivors find cells is the condition by which an emptying promotes them and does nothing else, and it is told by headers before
+//! Whether the survivors find cells is the condition by which an emptying promotes them and does nothing else, and it is known by headers before
 //! it. Where they don't, a bookmark collection marks what it keeps and frees the other cells on pages that aren't gone, and they find cells or
-//! not, told by the same count from its marks, which nothing clears. Then the fail-safe marks anew what is live. So behind a bookmark
-//! collection as many cells are allocated as were kept and survived, and the marks make room for all survivors. Behind a fail-safe one of the
+//! not, by the same count from its marks, which nothing clears. Then the fail-safe marks anew what is live. So after a bookmark
+//! collection as many cells are allocated as were kept and survived, and the marks make room for all survivors. After a fail-safe one of the
 //! two fails: where each survivor is live and no cell on a page that is gone was dead, it marks the very cells that the bookmark collection
 //! kept, and these made no room; and else cells are missing. Page reads don't come into it, but in one case: where no cell is missing and
 //! survivors found room though the marks make none, objects were moved. A fail-safe that moves objects reads each page that is gone.
@@ -34,7 +34,7 @@ impl Kind {
 }
 
 /// What an emptying was that didn't promote alone, by what was seen before it, how many objects of each pair survived, how many pages had
-/// been read, and the space behind it.
+/// been read, and the space after it.
 pub(crate) fn kind_of_collection(
     sights: &[Sight],
     survivors: &Pairs,

@@ -12,22 +12,22 @@
 // while the nurseries were emptied in one of these three ways. `failsafe_gone` is how many pages were gone when fail-safes began,
 // all of them together. `evictions` and `discards` are pages that left memory with and without objects, for operations, notices,
 // promotions and bookmark collections; in a fail-safe pages go and come for one another, and only what comes is counted. The next ones
-// tell how things stand behind the phase: frames that aren't free, those of nursery pages among them, superpages in use, and pages
-// that are gone. `replies` is a number made of all replies, which is the same however the heap pages. A phase that ends for
-// want of heap is the last, and its line has `need=N` at its end.
+// say how things stand after the phase: frames that aren't free, those of nursery pages among them, superpages in use, and pages
+// that are gone. `replies` is a number made of all replies, which is the same however the heap pages. A phase that ends out
+// of heap is the last, and its line has `need=N` at its end.
 //
 // Words after the program's name change what it does:
 //
 //     touch-all    an ordinary full collector in place of the bookmark collection: where the survivors find no cell, the fail-safe
-//     steps        a line beside for each emptying: its kind, how many pages it read, how many are home, gone and absent behind it, how many
-//                  cells were freed before it since frames were short, its survivors, objects in cells and superpages in use behind it, and
+//     steps        a line beside for each emptying: its kind, how many pages it read, how many are home, gone and absent after it, how many
+//                  cells were freed before it since frames were short, its survivors, objects in cells and superpages in use after it, and
 //                  all pages that were read so far
 //     timed        the engine itself does the phases, and nothing is counted but operations, reads and how things stand
 //     plain        the same, but lanes run one after another on the heap itself in each turn, and not side by side over a table
-//     clock        a phase's line tells how many `nanoseconds` it took, with `timed` or `plain`: neither reading nor printing is in it
+//     clock        a phase's line says how many `nanoseconds` it took, with `timed` or `plain`: neither reading nor printing is in it
 //
 // Without `timed` the phases are played by the calls of a running heap, in the rounds of the engine (`playing`), since an engine doesn't
-// tell what it did. What kind an emptying was is told from outside (`kinds`), and not by reads. Where the modules are: `players`
+// say what it did. What kind an emptying was is seen from outside (`kinds`), and not by reads. Where the modules are: `players`
 // has the heap with its calls, `rooms` the survivors and the room for them, `counts` what is counted, `timed` the engine's way, `plain`
 // that of lanes one after another.
 //

@@ -1,7 +1,7 @@
 //! A trace is played with lanes one after another on the heap itself, and nothing is counted but operations and page reads.
 //!
 //! The rounds are the engine's, whose lanes run side by side over a table where there is memory for one. So the time of both, on one
-//! trace, tells what a table and its threads cost or save.
+//! trace, shows what a table and its threads cost or save.
 
 ghost use Rattle.bc_model.specs.WellFormed.{IsTrace};
 
@@ -49,7 +49,7 @@ fn has_more(phase: &Phase, replies: &[Vec<Reply>]) -> bool {
     false
 }
 
-/// Plays the rounds of a phase. Where the heap is too small it tells the need.
+/// Plays the rounds of a phase. Where the heap is too small it returns the need.
 fn rounds<R>(
     rt: &R,
     player: &mut Player,

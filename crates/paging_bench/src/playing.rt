@@ -1,8 +1,8 @@
 //! Phases are played on a heap in the rounds of the engine, and what happens is counted.
 //!
 //! A round is the engine's where nobody works beside another: a turn, in which each lane does operations until it is at its end or one stops
-//! and then the notices of the turn's line are served; an emptying of the nurseries; and where a lane has operations left, one more of each such lane on empty chunks.
-//! When none has any, the domains change hands.
+//! and then the notices of the turn's line are served; an emptying of the nurseries; and where a lane has operations left, one more of each
+//! such lane on empty chunks. When none has any, the domains change hands.
 
 ghost use Rattle.bc_model.specs.WellFormed.{IsTrace};
 
@@ -37,7 +37,7 @@ fn mixed(number: u64, more: u64) -> u64 {
     (number ^ more).wrapping_mul(1_099_511_628_211)
 }
 
-/// Two numbers that tell a reply.
+/// Two numbers that identify a reply.
 fn numbers_of(reply: &Reply) -> (u64, u64) {
     match *reply {
         Reply::Obj(birth) => (1, u64::from(birth.lane) << 32 | u64::from(birth.serial)),
@@ -134,7 +134,7 @@ impl Play {
         Ok(())
     }
 
-    /// Empties the nurseries, and counts how. Where the heap is too small it tells the need.
+    /// Empties the nurseries, and counts how. Where the heap is too small it returns the need.
     fn empty<R>(&mut self, rt: &R) -> Result<Option<u64>>
     where
         R: AllocGlobal + Print + Threads + Sync,
@@ -229,7 +229,7 @@ impl Play {
         Ok(())
     }
 
-    /// Plays the rounds of a phase. Where the heap is too small it tells the need.
+    /// Plays the rounds of a phase. Where the heap is too small it returns the need.
     fn rounds<R>(&mut self, rt: &R, phase: &Phase, lanes: &mut [Progress]) -> Result<Option<u64>>
     where
         R: AllocGlobal + Print + Threads + Sync,
@@ -273,7 +273,7 @@ impl Play {
     }
 }
 
-/// The number of the line behind one of so many, and of the first line behind the last.
+/// The number of the line after one of so many, and of the first line after the last.
 pub(crate) fn behind(line: usize, lines: usize) -> usize {
     if line < lines && line + 1 < lines {
         line + 1

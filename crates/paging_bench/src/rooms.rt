@@ -1,4 +1,4 @@
-//! Whether survivors find cells: what superpages have, and what a collection keeps of it, told by headers alone.
+//! Whether survivors find cells: what superpages have, and what a collection keeps of it, known by headers alone.
 
 ghost use Rattle.std.specs.Prelude.{◌≤◌, ◌<◌};
 

@@ -59,7 +59,7 @@ pub fn shows<R: Threads + Sync + Abort>(
     );
 }
 
-/// Shows that `run` over this header and these lines behind it is done, and what it writes.
+/// Shows that `run` over this header and these lines after it is done, and what it writes.
 pub fn shows_done<R: Threads + Sync + Abort>(
     rt: &R,
     alloc: Global,
@@ -72,7 +72,7 @@ pub fn shows_done<R: Threads + Sync + Abort>(
     Ok(())
 }
 
-/// Shows that `run` over this header and these lines behind it is refused, where and why, and that nothing is written.
+/// Shows that `run` over this header and these lines after it is refused, where and why, and that nothing is written.
 pub fn shows_fault<R: Threads + Sync + Abort>(
     rt: &R,
     alloc: Global,
@@ -87,7 +87,7 @@ pub fn shows_fault<R: Threads + Sync + Abort>(
     Ok(())
 }
 
-/// The header's eight lines, and lines behind it.
+/// The header's eight lines, and lines after it.
 pub fn trace(alloc: Global, numbers: [u32; 7], lines: &str) -> Result<String, AllocError> {
     let [lanes, domains, slots, superpages, nursery, buffer, frames] = numbers;
     format!(in alloc;

@@ -235,7 +235,7 @@ fn a_frozen_domain_is_answered_too(rt: HostRuntime) -> Result<(), Fail> {
     Ok(())
 }
 
-/// An object that nothing reaches isn't counted, the shorter of two ways is told, and the earlier of two that are equally long.
+/// An object that nothing reaches isn't counted, the shorter of two ways is printed, and the earlier of two that are equally long.
 #[test]
 fn what_nothing_reaches_is_not_counted(rt: HostRuntime) -> Result<(), Fail> {
     let alloc = rt.alloc();

@@ -4,7 +4,7 @@ pub mod KeepingLemmas
 pub mod ReplyLemmas
 -- Cells of a pair, counted superpage after superpage
 pub mod PairLemmas
--- Why an operation is refused, told of the heap that a runtime has open
+-- Why an operation is refused, said of the heap that a runtime has open
 pub mod RefusalLemmas
 -- One hint has one answer
 pub mod HintLemmas

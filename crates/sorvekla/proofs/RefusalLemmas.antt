@@ -1,4 +1,4 @@
--- Why an operation is refused, told of the heap that a runtime has open.
+-- Why an operation is refused, said of the heap that a runtime has open.
 use Rattle.std.proofs.Common.{◌≡◌, ℕ, ◌<◌, true, Result, Ok, Err, sym, subst}
 use Rattle.std.specs.Result.{IfErr, IfOk, OnErr, OnOk}
 use Rattle.bc_failsafe.specs.Packing.{NeedOfHeap}
@@ -119,7 +119,7 @@ pub told-any : (lane : ℕ) (o : Op) (x : Result Reply HeapError) {r : RunningVi
 told-any lane o (Ok answer) q state st is = subst (λ (x : Reply). is_reply_to o x ≡ true) (is state st).0 (step-told state lane o)
 told-any lane o (Err e) q state st is = tt
 
--- what a reply tells, as the answer of a method
+-- what a reply says, as the answer of a method
 pub told-done : {T : Type 0} {h k : OpenHeap} {lane : ℕ} {o : Op} {answer : Reply} (x : Result T HeapError) (f : T → Reply) → IfOk x (λ t. answer ≡ f t) → DidStep h lane o answer k → IfOk x (λ t. DidStep h lane o (f t) k)
 told-done {T} {h} {k} {lane} {o} (Ok t) f is did = subst (λ (r : Reply). DidStep h lane o r k) is did
 told-done (Err e) f is did = tt

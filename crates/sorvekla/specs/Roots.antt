@@ -12,7 +12,7 @@ use Rattle.sorvekla.specs.declared.roots.Root.{Root}
 abbrev pub is_taken : OpenHeap → Slot → Bool
 is_taken h p = slice_index_or h.taken (place_of h.setup.slots p) false
 
--- the heap with this slot handed out, or not handed out, as told
+-- the heap with this slot handed out, or not handed out, by this flag
 abbrev pub with_taken : OpenHeap → Slot → Bool → OpenHeap
 with_taken h p b = record h { taken = slice_set h.taken (place_of h.setup.slots p) b }
 

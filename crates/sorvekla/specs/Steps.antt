@@ -98,19 +98,19 @@ IsGiveCause h domain lane error.NoDomain k = (h.setup.domains ≤ domain) × (k 
 IsGiveCause h domain lane error.NoLane k = (h.setup.lanes ≤ lane) × (k ≡ h)
 IsGiveCause h domain lane e k = IsCauseOfNone h e k
 
--- the reply that tells a value, an object by its birth
+-- the reply that returns a value, an object by its birth
 abbrev pub reply_of : Value → Reply
 reply_of value.Nil = reply.Nil
 reply_of (value.Num n) = reply.Num n
 reply_of (value.Obj b) = reply.Obj b
 
--- the reply that tells what was loaded
+-- the reply that returns what was loaded
 abbrev pub reply_of_loaded : Loaded → Reply
 reply_of_loaded loaded.Nil = reply.Nil
 reply_of_loaded (loaded.Num n) = reply.Num n
 reply_of_loaded loaded.Object = reply.Ref
 
--- the reply that tells whether two slots hold the same
+-- the reply that returns whether two slots hold the same
 abbrev pub reply_of_same : Bool → Reply
 reply_of_same true = reply.Yes
 reply_of_same false = reply.No
@@ -136,7 +136,7 @@ is_len_reply reply.NotObj = true
 is_len_reply reply.Foreign = true
 is_len_reply _ = false
 
--- can this be the reply to an operation that changes a field or a slot, and tells nothing?
+-- can this be the reply to an operation that changes a field or a slot, and returns nothing?
 abbrev pub is_change_reply : Reply → Bool
 is_change_reply reply.Done = true
 is_change_reply reply.NotObj = true

@@ -56,7 +56,7 @@ impl Heap {
         Ok(heap)
     }
 
-    /// What holds of every heap between calls, told to a proof: there is a state of the plain heap that it stands for. It does nothing.
+    /// What holds of every heap between calls, stated for a proof: there is a state of the plain heap that it stands for. It does nothing.
     pub fn facts(&self)
         ensures stands { (state : State) × Stands self.now state }
         ensures range { IsSetup self.now.setup }

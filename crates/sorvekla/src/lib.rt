@@ -14,7 +14,7 @@
 // for another cause, the nurseries are emptied and the operation is done then, so a caller never sees that. Frames are limited: pages
 // leave for one another, and come back where an operation looks at them. Nothing else has to be done. By hand a caller may have a page
 // leave (`evict`), empty the nurseries (`collect_nurseries`), collect the cells without a page read (`collect`), or pack the whole heap
-// (`failsafe`). `counters` and `objects_in_cells` tell how it stands.
+// (`failsafe`). `counters` and `objects_in_cells` say how it stands.
 //
 // What is refused is a `HeapError` that says why, and none of them ends the heap. `OutOfHeap` comes only where what the root slots lead to
 // needs more superpages than there are. Nothing is lost then: slots can be cleared, and the heap goes on.
@@ -22,7 +22,7 @@
 // The theorem is that no caller can tell this heap from one that never frees, moves or pages (`bc_model`). A heap stands for a state of that
 // one (`Stands`), which has all objects that were ever made. Each operation's answer, and the state that the heap stands for then, are the
 // step of that state (`DidStep`). Collections, pages that leave and everything that is refused keep the state (`StaysSame`). It holds of every
-// call with no premise, and each cause of a refusal is true where it is told (`IsCauseOf`).
+// call with no premise, and each cause of a refusal is true where it is returned (`IsCauseOf`).
 //
 // Beneath is `bc_running`: this crate adds what its calls ask for. What is true of a heap between calls is `IsOpen`, by `CanRunLanes` of
 // `bc_engine`, whose lemmas the proofs cite; of the engine's code nothing runs.

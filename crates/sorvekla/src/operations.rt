@@ -18,7 +18,7 @@ use bc_model::{Birth, Op, Reply, Setup, Slot, Value};
 use std::thread::Threads;
 
 impl Heap {
-    /// A new object of so many fields, up to 127, all nil, in the domain of the slot; the slot refers to it. It is told by its birth, the
+    /// A new object of so many fields, up to 127, all nil, in the domain of the slot; the slot refers to it. It is identified by its birth, the
     /// name that it has for ever.
     pub fn new<R>(&mut self, rt: &R, into: Root, fields: u32) -> Result<Birth, HeapError>
     where
@@ -30,7 +30,7 @@ impl Heap {
         object_told(reply)
     }
 
-    /// What the slot holds: nil, a number, or an object, which is told by its birth.
+    /// What the slot holds: nil, a number, or an object, which is identified by its birth.
     pub fn who<R>(&mut self, rt: &R, root: Root) -> Result<Value, HeapError>
     where
         R: Threads + Sync,
@@ -136,8 +136,8 @@ impl Heap {
     }
 
     /// Does an operation that is given as data, as a trace has it. What the plain heap refuses (no object, no such field, a domain that the
-    /// lane doesn't hold) is told by the reply and is no error here. It takes no memory. Where the chunk or the write buffer is full, or no
-    /// frame can be had, the nurseries are emptied first.
+    /// lane doesn't hold) is answered by the reply and is no error here. It takes no memory. Where the chunk or the write buffer is full, or no
+    /// frame can be taken, the nurseries are emptied first.
     pub fn operate<R>(&mut self, rt: &R, lane: u32, op: &Op) -> Result<Reply, HeapError>
     where
         R: Threads + Sync,

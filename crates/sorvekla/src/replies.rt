@@ -6,7 +6,7 @@ ghost use Rattle.sorvekla.specs.Steps.{IsReplyFault, is_change_reply, is_len_rep
 use crate::errors::HeapError;
 use bc_model::{Birth, Reply, Value};
 
-/// What was loaded into a slot. Which object it is `who` tells.
+/// What was loaded into a slot. Which object it is `who` returns.
 #[derive(Clone, Copy, PartialEq, Eq, Debug)]
 pub enum Loaded {
     Nil,

@@ -48,7 +48,7 @@ fn a_table_of_the_largest_heap_opens_and_closes(rt: HostRuntime) -> Result<(), F
     Ok(())
 }
 
-/// Takes the page with one seat and tries to with the other, and puts back what was taken. Was the other told Busy?
+/// Takes the page with one seat and tries to with the other, and puts back what was taken. Was the other answered Busy?
 fn is_busy_meanwhile(pins: &Pins, first: &mut Seat, second: &mut Seat, page: u32) -> bool
     requires first { IsAt pins.now first.old × IsFree first.old }
     requires second { IsAt pins.now second.old × IsFree second.old }
@@ -70,7 +70,7 @@ fn is_busy_meanwhile(pins: &Pins, first: &mut Seat, second: &mut Seat, page: u32
     }
 }
 
-/// Takes the page and puts it back. Where it was refused, it tells why.
+/// Takes the page and puts it back. Where it was refused, it returns why.
 fn refusal(pins: &Pins, seat: &mut Seat, page: u32) -> Option<TakeNo>
     requires at { IsAt pins.now seat.old }
     requires free { IsFree seat.old }

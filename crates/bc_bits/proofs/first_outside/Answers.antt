@@ -1,4 +1,4 @@
--- What is left of a word tells its first bit, or that it has none.
+-- What is left of a word shows its first bit, or that it has none.
 use Rattle.std.proofs.Common.{inl, inr, arith}
 use Rattle.std.proofs.lemmas.Bool.{cases_lt}
 use Rattle.bc_bits.proofs.FirstLemmas.{rest-none, rest-first}

@@ -33,7 +33,7 @@ fn pair(rt: &impl Abort, workshop: &mut Workshop, first: u32) {
     expect(rt, workshop, Op::Link(B, 0, A), Reply::Done);
 }
 
-/// Four new objects of 127 fields, which fill a page, become the front of the list from the slot on. Slot B is used.
+/// Four new objects of 127 fields, which fill a page, become the head of the list from the slot on. Slot B is used.
 fn page_of_list<R>(rt: &R, mut workshop: Workshop, slot: Slot, first: u32) -> Workshop
 where
     R: Abort + AllocGlobal + Threads + Sync,

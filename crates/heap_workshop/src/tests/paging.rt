@@ -146,7 +146,7 @@ fn a_need_that_is_told_leaves_each_page_where_it_was(rt: HostRuntime) -> Result<
         chain(&rt, &mut workshop, 1 + 200 * part, 200);
         workshop = emptied(&rt, workshop);
     }
-    // A new object comes behind the chain's first, whose page is Remembered from then on, and one of the other domain lies beside it.
+    // A new object comes after the chain's first, whose page is Remembered from then on, and one of the other domain lies beside it.
     expect(&rt, &mut workshop, Op::Load(A, 0, B), Reply::Ref);
     expect(&rt, &mut workshop, Op::New(C, 1), object(601));
     expect(&rt, &mut workshop, Op::Link(C, 0, B), Reply::Done);

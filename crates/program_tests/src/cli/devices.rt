@@ -1,4 +1,4 @@
-//! Faults of the devices: a run tells one as what it is, and leaves a front of its output.
+//! Faults of the devices: a run reports one as what it is, and leaves a prefix of its output.
 
 ghost use Rattle.std.specs.Prelude.{◌+◌, ◌*◌, ◌<◌, ◌≤◌, length};
 
@@ -107,7 +107,7 @@ fn shows<R: Abort>(
     assert_eq!(rt; left.held.as_slice(), held, "at read {read}, write {write}");
 }
 
-/// Shows that the run stops at the write of this number, of so many bytes at most, and leaves this front of the output.
+/// Shows that the run stops at the write of this number, of so many bytes at most, and leaves this prefix of the output.
 fn stops_at_write<R: Threads + Sync + Abort>(
     rt: &R,
     alloc: Global,

@@ -111,7 +111,7 @@ fn all_operations_on_a_chain_but_those_that_find_the_chunk_full_are_done_in_turn
     assert_eq!(rt; passed.status, Status::Done);
     let output = chain_printed(rt.alloc())?;
     assert!(rt; passed.written.as_slice() == output.as_bytes());
-    // A chunk holds 256 such objects, and each one behind so many is made between the turns.
+    // A chunk holds 256 such objects, and each one after so many is made between the turns.
     assert_eq!(rt; gate.passes.load(Ordering::SeqCst), 19_981);
     Ok(())
 }

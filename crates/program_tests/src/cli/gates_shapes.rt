@@ -312,7 +312,7 @@ fn in_a_long_turn_a_pager_answers_nine_notices_beside_the_lane(
     Ok(())
 }
 
-/// Keeps each of two lanes behind its 1000th operation at a table until the other one has come there.
+/// Holds each of two lanes after its 1000th operation at a table until the other one has come there.
 #[derive(Drop)]
 struct Midway {
     done_by_0: AtomicU64,
@@ -363,7 +363,7 @@ fn in_a_long_second_turn_of_a_phase_two_lanes_wait_for_each_other(
             .as_slice()
             .ends_with(b"obj 1.300\nobj 1.300\ndone\n")
     );
-    // A chunk holds 256 such objects: the first turn ends there, and the object behind them is made between the turns.
+    // A chunk holds 256 such objects: the first turn ends there, and the object after them is made between the turns.
     assert_eq!(rt; gate.done_by_0.load(Ordering::SeqCst), 6_299);
     assert_eq!(rt; gate.done_by_1.load(Ordering::SeqCst), 6_299);
     assert_eq!(rt; gate.patience.given_up.load(Ordering::SeqCst), 0);

@@ -10,7 +10,7 @@ use std::thread::Threads;
 /// One lane, one domain, two slots, one superpage.
 const SMALL: [u32; 7] = [1, 1, 2, 1, 1, 4, 3];
 
-/// Shows that `run` over this header and these lines behind it ends for want of heap by this need, and what it writes.
+/// Shows that `run` over this header and these lines after it ends out of heap by this need, and what it writes.
 fn shows_need<R: Threads + Sync + Abort>(
     rt: &R,
     alloc: Global,
@@ -25,7 +25,7 @@ fn shows_need<R: Threads + Sync + Abort>(
     Ok(())
 }
 
-/// Operations that put objects behind a chain's first one, so that the chain has this many objects. Slots 0 and 1 hold the last
+/// Operations that put objects after a chain's first one, so that the chain has this many objects. Slots 0 and 1 hold the last
 /// one, and each refers to the one before.
 pub fn links(alloc: Global, objects: u32) -> Result<String, AllocError> {
     let link = "new 0 1 1\nlink 0 1 0 0 0\ncopy 0 1 0 0\n";
@@ -183,7 +183,7 @@ fn a_superpage_with_a_page_that_is_gone_is_emptied_by_the_fail_safe(
     Ok(())
 }
 
-/// Headers, phases behind them, and what they print: pages that leave for notices, one that is remembered, notices that all are
+/// Headers, phases after them, and what they print: pages that leave for notices, one that is remembered, notices that all are
 /// declined, and a page that comes back while every other one is remembered.
 const WITH_NOTICES: [([u32; 7], &str, &str); 4] = [
     (

@@ -1,4 +1,4 @@
-//! A sink that grows: it tells what it holds, and no room.
+//! A sink that grows: it reports what it holds, and no room.
 
 use bc_io::{Failed, Sink};
 use std::alloc::Global;

@@ -10,7 +10,7 @@ use std::process::Abort;
 use std::test::Fail;
 use std::thread::Threads;
 
-/// The counts of `churn 1 20000`, in the order in which they are told.
+/// The counts of `churn 1 20000`, in the order in which they are printed.
 const COUNTS: [u64; 11] = [6666, 4355, 927, 50, 21, 699, 87, 455, 2092, 1336, 23_952];
 
 /// Shows that these words are no command: nothing is read of a source of which every read fails, and nothing is written.

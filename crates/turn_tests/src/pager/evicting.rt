@@ -1,4 +1,4 @@
-//! Pages with objects at a table: the first that can be had goes, and a notice is declined where none can.
+//! Pages with objects at a table: the first that can be taken goes, and a notice is declined where none can.
 
 ghost use Rattle.std.specs.Prelude.{IfSome};
 ghost use Rattle.bc_pins.specs.Opening.{IsOpenable};

@@ -1,4 +1,4 @@
-//! A source that tells the view that the seat had when its notice was given.
+//! A source that knows the view that the seat had when its notice was given.
 
 ghost use Rattle.std.specs.Prelude.{◌≡◌, [], ◌∷◌, ◌++◌, Some, map, option_to_list, IfSome, IfNone};
 ghost use Rattle.bc_frames.specs.Places.{one_more};

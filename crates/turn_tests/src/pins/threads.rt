@@ -36,7 +36,7 @@ fn bring_bare(space: &mut Space, page: u32) -> bool
     }
 }
 
-/// Makes a superpage of a new space one of domain 1, and tells one of its pages.
+/// Makes a superpage of a new space one of domain 1, and returns one of its pages.
 fn second_domain(space: &mut Space) -> Option<u32>
     requires { space.old ≡ new_space 2 10 2 }
     ensures cells { IfSome result (λ _. (q b : ℕ) → has (set_of space.new.cells q) b ≡ false) }

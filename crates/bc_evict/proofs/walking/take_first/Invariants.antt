@@ -1,4 +1,4 @@
--- The pages so far, going round from the start, couldn't be had.
+-- The pages so far, going round from the start, couldn't be taken.
 use Rattle.bc_pins.specs.Calls.{key_of, view_of, IsSameSeat, IsFree}
 use Rattle.bc_evict.specs.Taking.{HasTriedUpTo}
 use Rattle.bc_evict.proofs.walking.take_first.Given as goal

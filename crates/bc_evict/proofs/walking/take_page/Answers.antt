@@ -1,4 +1,4 @@
--- A page of another kind isn't tried; one that was refused couldn't be had.
+-- A page of another kind isn't tried; one that was refused couldn't be taken.
 use Rattle.std.proofs.Common.{◌≡◌, true, false, not, refl, ap, sym, subst, ◌∙◌}
 use denote.Enum.Bare.{sameb}
 use Rattle.bc_evict.specs.contracts.walking.Kind.{the_type}

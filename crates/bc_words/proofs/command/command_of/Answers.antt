@@ -18,7 +18,7 @@ ok_app c =
     c.new-3.ensures.app c.disable_help_flag.ensures c.disable_version_flag.ensures
     (c.in_ok-arg.ensures.shape (search rules)) workers_is (c.in_ok-command.ensures.shape (search rules)) values_is
 
--- where the words are a command, the parse failed for want of memory
+-- where the words are a command, the parse failed out of memory
 no_memory : (c : goal.Joined-error-2) (command : Command) → IsCommandOf (texts c.args.words.now) command → kind_of c.in-Err.error ≡ OutOfMemory
 no_memory c command is =
     let workers_is : rule_of c.long-workers.result ≡ workers_arg = search rules in

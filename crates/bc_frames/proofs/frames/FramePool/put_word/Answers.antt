@@ -1,4 +1,4 @@
--- The word that is put: its bits tell which of its frames are free, and how many are.
+-- The word that is put: its bits say which of its frames are free, and how many are.
 use Rattle.std.proofs.Common.{◌≡◌, ◌+◌, ◌-◌, length, set, bit_or, ap, ◌∙◌, sym, arith}
 use Rattle.std.specs.Int.Count.{ones}
 use Rattle.std.proofs.lemmas.List.{get_or_read}
