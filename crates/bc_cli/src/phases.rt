@@ -14,7 +14,7 @@ ghost use Rattle.bc_cli.specs.BetweenPhases.{HasRun, HasPhaseRoom, PhaseEnded, R
 
 use crate::status::Ending;
 use crate::texts::{put_texts, texts_room, write_texts};
-use bc_engine::{Engine, PhaseNo};
+use bc_engine::{Engine, PhaseError};
 use bc_gates::Gate;
 use bc_io::Sink;
 use bc_model::{Phase, Replies, Trace};
@@ -139,10 +139,10 @@ where
             replies,
             need: None,
         }),
-        Err(PhaseNo::OutOfHeap { replies, need }) => {
+        Err(PhaseError::OutOfHeap { replies, need }) => {
             let need = Some(need);
             Ok(PhaseEnd { replies, need })
         }
-        Err(PhaseNo::NoMemory) => Err(AllocError),
+        Err(PhaseError::NoMemory) => Err(AllocError),
     }
 }

@@ -28,8 +28,8 @@ use Rattle.bc_engine.specs.Engines.{EngineView, EngineStands, HasEmptyChunks}
 use Rattle.bc_engine.specs.EngineFacts.{with_answers, with_holders, CanRunLanes, HasRoomForBirths, IsEngine}
 use Rattle.bc_engine.specs.Lanes.{of_lane, AreDone, BirthsWithin, LanesWentOn, HasSerialsLeft, HasRoomForOps}
 use Rattle.bc_engine.specs.Phases.{CutPhase, DidPhase}
-use Rattle.bc_engine.specs.declared.phases.PhaseNo.{PhaseNo}
-use Rattle.bc_engine.specs.declared.phases.PhaseNo.TheVariants.{OutOfHeap, NoMemory}
+use Rattle.bc_engine.specs.declared.phases.PhaseError.{PhaseError}
+use Rattle.bc_engine.specs.declared.phases.PhaseError.TheVariants.{OutOfHeap, NoMemory}
 use Rattle.bc_engine.specs.Rounds.{RoundsWentOn, IsRoomFor, IsThrough, IsTooSmall, IsUnderwayOn}
 use Rattle.bc_model.proofs.NeedFound.{need-found}
 use Rattle.bc_model.proofs.RunStates.{length-cut_lanes}
@@ -207,7 +207,7 @@ cut-answers {e} {x} {f} {y} {p} asked answers taken kept replies need cut =
     subst (λ (z : EngineView). CutPhase e p z replies need) (sym kept) (record { cause = cut.cause; stands = cut.stands; above = cut.above })
 
 -- what is said of a phase that ended in the middle
-pub ended-weaker : {T : Type 0} (x : Result T PhaseNo) (P Q : List (List Reply) → ℕ → Type 0) → ((replies : List (List Reply)) (need : ℕ) → P replies need → Q replies need) → IfPhaseOutOfHeap x P → IfPhaseOutOfHeap x Q
+pub ended-weaker : {T : Type 0} (x : Result T PhaseError) (P Q : List (List Reply) → ℕ → Type 0) → ((replies : List (List Reply)) (need : ℕ) → P replies need → Q replies need) → IfPhaseOutOfHeap x P → IfPhaseOutOfHeap x Q
 ended-weaker (Ok y) P Q f told = tt
 ended-weaker (Err (OutOfHeap replies need)) P Q f told = f replies need told
 ended-weaker (Err NoMemory) P Q f told = tt

@@ -2,8 +2,8 @@
 use Rattle.std.proofs.Common.{Vec, Global, ◌≡◌, ◌≢◌, ℕ, ◌<◌, ◌≤◌, List, length, Option, Some, None, Err, refl, sym, subst, arith}
 use Rattle.bc_cycle.specs.Causes.{IfOutOfHeap}
 use Rattle.bc_cycle.specs.Emptying.{KeepsMeaning}
-use Rattle.bc_cycle.specs.declared.emptying.CycleNo.{CycleNo}
-use Rattle.bc_cycle.specs.declared.emptying.CycleNo.TheVariants as cycle
+use Rattle.bc_cycle.specs.declared.emptying.CycleError.{CycleError}
+use Rattle.bc_cycle.specs.declared.emptying.CycleError.TheVariants as cycle
 use Rattle.bc_failsafe.specs.Packing.{NeedOfHeap}
 use Rattle.bc_model.specs.Rows.{lists_of}
 use Rattle.bc_model.specs.declared.traces.Setup.{Setup}
@@ -16,8 +16,8 @@ use Rattle.bc_engine.specs.Lanes.{of_lane, EachFurther, HasMore, IsUnderway, Lan
 use Rattle.bc_engine.specs.Rounds.{RoundsWentOn, IsTooSmall, IsUnderwayOn}
 use Rattle.bc_engine.specs.declared.engines.Ended.{Ended}
 use Rattle.bc_engine.specs.declared.engines.Ended.TheVariants.{OutOfHeap, NoMemory}
-use Rattle.bc_engine.specs.declared.rounds.RoundsNo.{RoundsNo}
-use Rattle.bc_engine.specs.declared.rounds.RoundsNo.TheVariants.{TooSmall, NoRoom}
+use Rattle.bc_engine.specs.declared.rounds.RoundsError.{RoundsError}
+use Rattle.bc_engine.specs.declared.rounds.RoundsError.TheVariants.{TooSmall, NoRoom}
 use Rattle.bc_engine.proofs.EmptyingLemmas.{goes-refused}
 use Rattle.bc_engine.proofs.GoingLemmas.{goes-then}
 use Rattle.bc_engine.proofs.RunLemmas.{runs-same, runs-then, left-le, left-less}
@@ -39,22 +39,22 @@ pub ran-more : {lanes : List (List Op)} {e : EngineView} {r q : RunningView} {to
 ran-more {lanes} {e} runs at = record { runs = runs-then at.runs runs; underway = runs.underway e.setup at.underway }
 
 -- what is said of a heap that is too small, where it needs so many superpages
-pub refused-at : (T : Type 0) (cause : CycleNo) (need : ℕ) (P : ℕ → Type 0) → cause ≡ cycle.OutOfHeap need → IfOutOfHeap {T = T} (Err cause) P → P need
-refused-at T cause need P is told = subst (λ (x : CycleNo). IfOutOfHeap {T = T} (Err x) P) is told
+pub refused-at : (T : Type 0) (cause : CycleError) (need : ℕ) (P : ℕ → Type 0) → cause ≡ cycle.OutOfHeap need → IfOutOfHeap {T = T} (Err cause) P → P need
+refused-at T cause need P is told = subst (λ (x : CycleError). IfOutOfHeap {T = T} (Err x) P) is told
 
 -- what is said of rounds that ended out of heap, or without room for answers
-pub small-at : (T : Type 0) (stop : RoundsNo) (need : ℕ) (P : ℕ → Type 0) → stop ≡ TooSmall need → IfTooSmall {T = T} (Err stop) P → P need
-small-at T stop need P is told = subst (λ (x : RoundsNo). IfTooSmall {T = T} (Err x) P) is told
+pub small-at : (T : Type 0) (stop : RoundsError) (need : ℕ) (P : ℕ → Type 0) → stop ≡ TooSmall need → IfTooSmall {T = T} (Err stop) P → P need
+small-at T stop need P is told = subst (λ (x : RoundsError). IfTooSmall {T = T} (Err x) P) is told
 
-pub room-at : {other : RoundsNo} (T : Type 0) (stop : RoundsNo) (P : Type 0) → stop ≡ other → IfNoRoom {T = T} (Err stop) P → IfNoRoom {T = T} (Err other) P
-room-at T stop P is told = subst (λ (x : RoundsNo). IfNoRoom {T = T} (Err x) P) is told
+pub room-at : {other : RoundsError} (T : Type 0) (stop : RoundsError) (P : Type 0) → stop ≡ other → IfNoRoom {T = T} (Err stop) P → IfNoRoom {T = T} (Err other) P
+room-at T stop P is told = subst (λ (x : RoundsError). IfNoRoom {T = T} (Err x) P) is told
 
 -- of the same end of a longer stretch of rounds
-pub small-weaker : (T U : Type 0) (stop : RoundsNo) (P Q : ℕ → Type 0) → ((need : ℕ) → P need → Q need) → IfTooSmall {T = T} (Err stop) P → IfTooSmall {T = U} (Err stop) Q
+pub small-weaker : (T U : Type 0) (stop : RoundsError) (P Q : ℕ → Type 0) → ((need : ℕ) → P need → Q need) → IfTooSmall {T = T} (Err stop) P → IfTooSmall {T = U} (Err stop) Q
 small-weaker T U (TooSmall need) P Q f told = f need told
 small-weaker T U (NoRoom error) P Q f told = tt
 
-pub room-both : (T U : Type 0) (stop : RoundsNo) (P Q R : Type 0) → (P → Q → R) → IfNoRoom {T = T} (Err stop) P → IfNoRoom {T = T} (Err stop) Q → IfNoRoom {T = U} (Err stop) R
+pub room-both : (T U : Type 0) (stop : RoundsError) (P Q R : Type 0) → (P → Q → R) → IfNoRoom {T = T} (Err stop) P → IfNoRoom {T = T} (Err stop) Q → IfNoRoom {T = U} (Err stop) R
 room-both T U (TooSmall need) P Q R f told more = tt
 room-both T U (NoRoom error) P Q R f told more = f told more
 

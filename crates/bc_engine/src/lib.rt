@@ -9,7 +9,7 @@
 // begins with a turn of the lanes (`turns`): each does operations until it is at its end or one stops. The lanes run side by
 // side, each on a thread of its own where these pay, over a table of the heap's pages (`bc_turn`), and beside them a pager answers the
 // notices of the turn's line, for each of which it gives up a page if it gets one (`bc_pager`). A lane stops where its chunk or its write
-// buffer is full, and where it looks at an object in a cell whose page is in another's hands. One whose page is gone brings it back, and
+// buffer is full, and where it looks at an object in a cell whose page is in another's hands. One whose page is gone reloads it, and
 // stops only where no frame is free and no other page can leave. What the lanes do so is
 // what they do one after another (`RanBeside`), so a turn is a stretch of the phase like any other. Where tables
 // of its kind don't pay (`paces`), or where there is no memory for one, they do run one after another (`lanes`), and then the notices
@@ -59,4 +59,4 @@ pub use bc_pager::Answer;
 pub use engines::Engine;
 pub use laws::law_answers;
 pub use paces::Pacing;
-pub use phases::PhaseNo;
+pub use phases::PhaseError;

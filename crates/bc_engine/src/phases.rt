@@ -16,7 +16,7 @@ ghost use Rattle.bc_model.specs.State.{State};
 ghost use Rattle.bc_model.specs.WellFormed.{IsGive, IsPhase};
 
 use crate::engines::{Ended, Engine};
-use crate::rounds::RoundsNo;
+use crate::rounds::RoundsError;
 use bc_failsafe::law_room;
 use bc_gates::Gate;
 use bc_model::{Give, Op, Phase, Replies, Reply};
@@ -27,7 +27,7 @@ use std::thread::Threads;
 
 /// Why a phase isn't done.
 #[derive(Drop)]
-pub enum PhaseNo {
+pub enum PhaseError {
     /// What the engine stands for after these replies needs this many superpages, which is more than there are. On an engine that
     /// had ended so, there are no replies.
     OutOfHeap { replies: Replies, need: u64 },
@@ -54,7 +54,7 @@ impl Engine {
         alloc: Global,
         phase: &Phase,
         gate: &G,
-    ) -> Result<Replies, PhaseNo>
+    ) -> Result<Replies, PhaseError>
     where
         R: Threads + Sync,
         G: Gate + Sync,
@@ -83,15 +83,15 @@ impl Engine {
                 let replies = Replies {
                     lanes: Vec::new(alloc),
                 };
-                return Err(PhaseNo::OutOfHeap { replies, need });
+                return Err(PhaseError::OutOfHeap { replies, need });
             }
-            Some(Ended::NoMemory) => return Err(PhaseNo::NoMemory),
+            Some(Ended::NoMemory) => return Err(PhaseError::NoMemory),
         }
         match room_for(alloc, &phase.lanes) {
             Ok(replies) => self.replay(rt, alloc, phase, replies, gate),
             Err(_) => {
                 self.end_for_want();
-                Err(PhaseNo::NoMemory)
+                Err(PhaseError::NoMemory)
             }
         }
     }
@@ -111,7 +111,7 @@ impl Engine {
         phase: &Phase,
         replies: Vec<Vec<Reply>>,
         gate: &G,
-    ) -> Result<Replies, PhaseNo>
+    ) -> Result<Replies, PhaseError>
     where
         R: Threads + Sync,
         G: Gate + Sync,
@@ -143,7 +143,7 @@ impl Engine {
         mut replies: Vec<Vec<Reply>>,
         answers: &mut Vec<Answer>,
         gate: &G,
-    ) -> Result<Replies, PhaseNo>
+    ) -> Result<Replies, PhaseError>
     where
         R: Threads + Sync,
         G: Gate + Sync,
@@ -179,14 +179,14 @@ impl Engine {
                 self.room_facts();
                 Ok(Replies { lanes: replies })
             }
-            Err(RoundsNo::TooSmall { need }) => {
+            Err(RoundsError::TooSmall { need }) => {
                 self.facts();
                 let replies = Replies { lanes: replies };
-                Err(PhaseNo::OutOfHeap { replies, need })
+                Err(PhaseError::OutOfHeap { replies, need })
             }
-            Err(RoundsNo::NoRoom(_)) => {
+            Err(RoundsError::NoRoom(_)) => {
                 self.end_for_want();
-                Err(PhaseNo::NoMemory)
+                Err(PhaseError::NoMemory)
             }
         }
     }

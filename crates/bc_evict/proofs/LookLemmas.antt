@@ -8,8 +8,8 @@ use Rattle.bc_bookmarks.specs.Targets.{HasCell}
 use Rattle.bc_pins.specs.declared.holding.Held.{Held}
 use Rattle.bc_pins.specs.declared.pins.Seat.{Seat}
 use Rattle.bc_pins.specs.declared.taking.Want.TheVariants.{Work, Victim}
-use Rattle.bc_pins.specs.declared.taking.TakeNo.{TakeNo}
-use Rattle.bc_pins.specs.declared.taking.TakeNo.TheVariants as refusal
+use Rattle.bc_pins.specs.declared.taking.TakeError.{TakeError}
+use Rattle.bc_pins.specs.declared.taking.TakeError.TheVariants as refusal
 use Rattle.bc_pins.specs.declared.views.View.{View}
 use Rattle.bc_pins.specs.Key.{Key, pages_of, page_at}
 use Rattle.bc_pins.specs.Totals.{times}
@@ -103,7 +103,7 @@ found-once page n =
 not_work : Victim ≡ Work → ⊥
 not_work e = cc
 
-pub never_one : (no : TakeNo) → refusal_word no ≢ 1
+pub never_one : (no : TakeError) → refusal_word no ≢ 1
 never_one refusal.Absent e = absurd (omega arith)
 never_one refusal.Remembered e = absurd (omega arith)
 never_one refusal.Busy e = absurd (omega arith)
@@ -120,7 +120,7 @@ kinds-differ k Filled Bare page a b = absurd (not-both k page a b)
 kinds-differ k Filled Filled page a b = refl
 
 -- where a page is that was refused
-refused_at : (k : Key) (v w : View) (page : ℕ) (kind : Kind) (no : TakeNo) → v.about ≡ k → IsTakeRefused v page Victim no w → IsOfKind k kind page → (st : PageState) × MayStayAs kind st × (state_word st ≡ refusal_word no)
+refused_at : (k : Key) (v w : View) (page : ℕ) (kind : Kind) (no : TakeError) → v.about ≡ k → IsTakeRefused v page Victim no w → IsOfKind k kind page → (st : PageState) × MayStayAs kind st × (state_word st ≡ refusal_word no)
 refused_at k v w page Bare refusal.Absent about r is = (state.Absent, tt, refl)
 refused_at k v w page Bare refusal.Remembered about r is = (state.Remembered, tt, refl)
 refused_at k v w page Bare refusal.Busy about r is = (state.Held, tt, refl)
@@ -130,14 +130,14 @@ refused_at k v w page Filled refusal.Remembered about r is = (state.Remembered, 
 refused_at k v w page Filled refusal.Busy about r is = (state.Held, tt, refl)
 refused_at k v w page Filled refusal.Gone about r is = (state.Gone, tt, refl)
 
-pub refused_view : (v w : View) (page : ℕ) (why : TakeNo) → IsTakeRefused v page Victim why w → w ≡ having_read v page (refusal_word why)
+pub refused_view : (v w : View) (page : ℕ) (why : TakeError) → IsTakeRefused v page Victim why w → w ≡ having_read v page (refusal_word why)
 refused_view v w page why r = elim r.read [
   | inl e ↦ e
   | inr other ↦ absurd (not_work other.0)
 ]
 
 -- a page that was tried and refused, and one that wasn't tried
-pub tried-refused : (k : Key) (v w : View) (page : ℕ) (kind : Kind) (why : TakeNo) → v.about ≡ k → page < pages_of k → IsTakeRefused v page Victim why w → HasTried k kind page v w
+pub tried-refused : (k : Key) (v w : View) (page : ℕ) (kind : Kind) (why : TakeError) → v.about ≡ k → page < pages_of k → IsTakeRefused v page Victim why w → HasTried k kind page v w
 tried-refused k v w page kind why about inside r = record {
   looks = (page_at page, refusal_word why) ∷ [];
   looked = looked-once k v w page (refusal_word why) inside (never_one why) (refused_view v w page why r);

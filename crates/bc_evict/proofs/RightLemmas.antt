@@ -104,9 +104,9 @@ pub rights-gone : (v w : View) (f : ℕ) → HasGiven v f w → v.rights ≡ f �
 rights-gone v w f h e = given-all f w.rights h.none (λ g ne. h.others g ne ∙ ap (times g) e)
 
 -- a page without an allocated cell may be made Absent
-pub may-vacate : (pins : Pins) (a b : Seat) (held : Held) (page : ℕ) → IsAt pins a → HoldsPage a held → MayDiscard a held → page ≡ held.page → view_of b ≡ view_of a → slots_of b ≡ both_slots (key_of pins) held.page Nothing (Away held.homed.page)
+pub may-discard_raw : (pins : Pins) (a b : Seat) (held : Held) (page : ℕ) → IsAt pins a → HoldsPage a held → MayDiscard a held → page ≡ held.page → view_of b ≡ view_of a → slots_of b ≡ both_slots (key_of pins) held.page Nothing (Away held.homed.page)
     → (x : Hand) × ((view_of b).hand ≡ Some x) × (x.page ≡ page) × (slots_of b ≡ both_slots (key_of pins) page Nothing (Away x.content)) × MayVacate (key_of pins) x
-may-vacate pins a b held page at holds may is view slots =
+may-discard_raw pins a b held page at holds may is view slots =
     let h : Hand = holds.hand in (
       h,
       ap (λ (v : View). v.hand) view ∙ holds.has,

@@ -18,8 +18,8 @@ use Rattle.bc_pins.specs.declared.pins.Seat.{Seat}
 use Rattle.bc_pins.specs.declared.views.Hand.{Hand}
 use Rattle.bc_pins.specs.declared.views.View.{View}
 use Rattle.bc_pins.specs.declared.taking.Want.TheVariants.{Victim}
-use Rattle.bc_pins.specs.declared.taking.TakeNo.{TakeNo}
-use Rattle.bc_pins.specs.declared.taking.TakeNo.TheVariants as refusal
+use Rattle.bc_pins.specs.declared.taking.TakeError.{TakeError}
+use Rattle.bc_pins.specs.declared.taking.TakeError.TheVariants as refusal
 use Rattle.bc_pins.specs.Key.{Key, pages_of, page_at}
 use Rattle.bc_pins.specs.Totals.{times}
 use Rattle.bc_pins.specs.Views.{reads_of, reads_at, state_word}
@@ -66,7 +66,7 @@ module _ (k : Key) (kind : Kind) (u : View) (seat : Seat) (held : Held) (t : IsT
   taken-filled there = may-bookmark u seat held.page held t.grasps takes t.quiet (subst (λ (x : Key). HasCell x.opening held.page) (sym about) there)
 
 -- where a page may be that was refused as a victim
-passed_at : (no : TakeNo) → (st : PageState) × MayStay st × (state_word st ≡ refusal_word no)
+passed_at : (no : TakeError) → (st : PageState) × MayStay st × (state_word st ≡ refusal_word no)
 passed_at refusal.Absent = (state.Absent, tt, refl)
 passed_at refusal.Remembered = (state.Remembered, tt, refl)
 passed_at refusal.Busy = (state.Held, tt, refl)
@@ -76,7 +76,7 @@ passed_at refusal.Gone = (state.Gone, tt, refl)
 pub passed-none : (k : Key) (v : View) (start : ℕ) → HasPassedUpTo k start 0 v v
 passed-none k v start = record { looks = []; looked = looked-none k v; each = λ p lt less. absurd (omega arith); unread = λ p lt le. refl }
 
-pub passed-more : (k : Key) (start steps page : ℕ) (v u w : View) (why : TakeNo) → start < pages_of k → page < pages_of k → steps_behind (pages_of k) start page ≡ steps → HasPassedUpTo k start steps v u → IsTakeRefused u page Victim why w
+pub passed-more : (k : Key) (start steps page : ℕ) (v u w : View) (why : TakeError) → start < pages_of k → page < pages_of k → steps_behind (pages_of k) start page ≡ steps → HasPassedUpTo k start steps v u → IsTakeRefused u page Victim why w
     → HasPassedUpTo k start (steps + 1) v w
 passed-more k start steps page v u w why lt_start lt_page place up r = record {
   looks = (page_at page, refusal_word why) ∷ up.looks;

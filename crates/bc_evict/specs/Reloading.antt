@@ -10,11 +10,11 @@ use Rattle.bc_pins.specs.Totals.{times}
 use Rattle.bc_pins.specs.Views.{reads_of}
 use Rattle.bc_pins.specs.Steps.{both_slots, fetching, without, having_read, Fetches, ReadsWord}
 use Rattle.bc_pins.specs.Calls.{view_of, slots_of, IsFree, IsSameSeat}
-use Rattle.bc_evict.specs.declared.reloading.ReloadNo.{ReloadNo}
-use Rattle.bc_evict.specs.declared.reloading.ReloadNo.TheVariants.{Busy, Home, Remembered, Absent}
+use Rattle.bc_evict.specs.declared.reloading.ReloadError.{ReloadError}
+use Rattle.bc_evict.specs.declared.reloading.ReloadError.TheVariants.{Busy, Home, Remembered, Absent}
 
 -- the word of a page by which each refusal comes
-abbrev pub reload_word : ReloadNo → ℕ
+abbrev pub reload_word : ReloadError → ℕ
 reload_word Absent = 0
 reload_word Home = 1
 reload_word Remembered = 2
@@ -58,7 +58,7 @@ pub record HasReloaded (v : View) (page frame : ℕ) (seat : Seat) (held : Held)
   pub slots : slots_of seat ≡ both_slots v.about page Nothing Nothing
 
 -- the page's word was read, and nothing else changed
-pub record IsReloadRefused (v : View) (page : ℕ) (no : ReloadNo) (seat : Seat) : Type 0 where
+pub record IsReloadRefused (v : View) (page : ℕ) (no : ReloadError) (seat : Seat) : Type 0 where
   pub view : view_of seat ≡ having_read v page (reload_word no)
   pub reads : ReadsWord v page (reload_word no)
   pub free : IsFree seat

@@ -7,7 +7,7 @@
 //
 //     take          the page's word says Held: nobody else touches it
 //     bookmark      a bit for each of its targets, in a mark turn a mark too, and then one count in each superpage that has one
-//     relinquish    the box goes into the store, and last of all the word says Gone
+//     evict         the box goes into the store, and last of all the word says Gone
 //     give_frame    the bit of the frame is cleared
 //
 // A page without an allocated cell has no targets, and nobody will ask for its words: `discard` makes it Absent, with no bookmark
@@ -25,7 +25,7 @@
 //
 // The theorems are the contracts. `bookmark` is exact (`HasBookmarked`): the bits are those of the page's targets, and a superpage
 // is counted exactly where one lies in it, once however many they are. `reload` takes just these counts off again (`HasReloaded`),
-// and each refusal of `claim_frame`, `free_frame` and `reload` says what was read. `relinquish` may be called only where all of
+// and each refusal of `claim_frame`, `free_frame` and `reload` says what was read. `evict` may be called only where all of
 // this was done (`MayRelinquish`), and `law_gone_pages` says what that is for: whatever steps were made, and whoever makes one
 // next, a page whose word says Gone is summarised.
 //
@@ -45,8 +45,8 @@ mod walking;
 
 pub use bookmarking::bookmark;
 pub use laws::law_gone_pages;
-pub use leaving::{discard, relinquish};
-pub use reloading::{ReloadNo, reload};
+pub use leaving::{discard, evict};
+pub use reloading::{ReloadError, reload};
 pub use rights::{FrameRight, claim_frame, give_frame};
 pub use victims::free_frame;
 pub use walking::{Kind, take_first};

@@ -5,7 +5,7 @@ ghost use Rattle.bc_pins.specs.Calls.{view_of, IsAt, IsFree, IsSameSeat};
 ghost use Rattle.bc_evict.specs.Victims.{FindsNoVictim, HasFreed};
 
 use crate::bookmarking::bookmark;
-use crate::leaving::{discard, relinquish};
+use crate::leaving::{discard, evict};
 use crate::rights::FrameRight;
 use crate::walking::{Kind, kind_of, take_any};
 use bc_pins::{Pins, Seat};
@@ -26,7 +26,7 @@ pub fn free_frame(pins: &Pins, seat: &mut Seat, hint: u32) -> Option<FrameRight>
         Kind::Bare => Some(discard(pins, seat, held)),
         Kind::Filled => {
             bookmark(pins, seat, &held);
-            Some(relinquish(pins, seat, held))
+            Some(evict(pins, seat, held))
         }
     }
 }

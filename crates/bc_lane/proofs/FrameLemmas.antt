@@ -13,7 +13,7 @@ use Rattle.bc_lane.proofs.HandLemmas.{off-page, refused-looks, same-worker, then
 use Rattle.bc_lane.proofs.ReloadLemmas.{HasFetched, besides, shows-besides, shows-fetched}
 use Rattle.bc_pins.specs.declared.holding.Held.{Held}
 use Rattle.bc_pins.specs.declared.pins.Seat.{Seat}
-use Rattle.bc_pins.specs.declared.taking.TakeNo.TheVariants.{Gone}
+use Rattle.bc_pins.specs.declared.taking.TakeError.TheVariants.{Gone}
 use Rattle.bc_pins.specs.declared.taking.Want.TheVariants.{Work}
 use Rattle.bc_pins.specs.declared.views.Hand.{Hand}
 use Rattle.bc_pins.specs.declared.views.Lodged.TheVariants.{Nothing}

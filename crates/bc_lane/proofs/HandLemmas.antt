@@ -8,8 +8,8 @@ use Rattle.bc_pins.specs.declared.holding.Held.{Held}
 use Rattle.bc_pins.specs.declared.key.Role.{Role}
 use Rattle.bc_pins.specs.declared.pins.Pins.{Pins}
 use Rattle.bc_pins.specs.declared.pins.Seat.{Seat}
-use Rattle.bc_pins.specs.declared.taking.TakeNo.{TakeNo}
-use Rattle.bc_pins.specs.declared.taking.TakeNo.TheVariants.{Absent, Busy, Gone, Remembered}
+use Rattle.bc_pins.specs.declared.taking.TakeError.{TakeError}
+use Rattle.bc_pins.specs.declared.taking.TakeError.TheVariants.{Absent, Busy, Gone, Remembered}
 use Rattle.bc_pins.specs.declared.taking.Want.{Want}
 use Rattle.bc_pins.specs.declared.taking.Want.TheVariants.{Victim, Work}
 use Rattle.bc_pins.specs.declared.views.Hand.{Hand}
@@ -176,13 +176,13 @@ taken-reads v seat page held g own =
     (then-reads v u (gripping u page held.remembered held.homed) (tried-reads v page held.remembered own) (gripping-reads u page held.remembered held.homed (tried-own v page held.remembered own)))
 
 -- or refused
-pub refused-read : (v w : View) (page : ℕ) (want : Want) (refusal : TakeNo) → IsTakeRefused v page want refusal w → ReadLast w page (refusal_word refusal)
+pub refused-read : (v w : View) (page : ℕ) (want : Want) (refusal : TakeError) → IsTakeRefused v page want refusal w → ReadLast w page (refusal_word refusal)
 refused-read v w page want refusal r = elim r.read [
   | inl e ↦ (v.read, ap (λ (x : View). x.read) e)
   | inr e ↦ ((page_at page, 2) ∷ v.read, ap (λ (x : View). x.read) e.1)
 ]
 
-pub refused-reads : (v w : View) (page : ℕ) (want : Want) (refusal : TakeNo) → IsTakeRefused v page want refusal w → IsOwnPage v page → ReadsOn v w
+pub refused-reads : (v w : View) (page : ℕ) (want : Want) (refusal : TakeError) → IsTakeRefused v page want refusal w → IsOwnPage v page → ReadsOn v w
 refused-reads v w page want refusal r own = elim r.read [
   | inl e ↦ subst (λ (x : View). ReadsOn v x) (sym e) (reads-word v page (refusal_word refusal) own)
   | inr e ↦ subst (λ (x : View). ReadsOn v x) (sym e.1)
@@ -190,7 +190,7 @@ refused-reads v w page want refusal r own = elim r.read [
 ]
 
 -- nothing was fetched by it
-pub refused-fetched : (v w : View) (page : ℕ) (want : Want) (refusal : TakeNo) → IsTakeRefused v page want refusal w → w.fetched ≡ v.fetched
+pub refused-fetched : (v w : View) (page : ℕ) (want : Want) (refusal : TakeError) → IsTakeRefused v page want refusal w → w.fetched ≡ v.fetched
 refused-fetched v w page want refusal r = elim r.read [
   | inl e ↦ ap (λ (x : View). x.fetched) e
   | inr e ↦ ap (λ (x : View). x.fetched) e.1
@@ -204,7 +204,7 @@ tried-fetched v page false = refl
 read-since : (v w : View) (page found : ℕ) → w ≡ having_read v page found → length v.read < length w.read
 read-since v w page found e = let long = ap (λ (x : View). length x.read) e in omega arith
 
-pub refused-since : (v w : View) (page : ℕ) (want : Want) (refusal : TakeNo) → IsTakeRefused v page want refusal w → length v.read < length w.read
+pub refused-since : (v w : View) (page : ℕ) (want : Want) (refusal : TakeError) → IsTakeRefused v page want refusal w → length v.read < length w.read
 refused-since v w page want refusal r = elim r.read [
   | inl e ↦ read-since v w page (refusal_word refusal) e
   | inr e ↦ let one = read-since v (having_read v page 2) page 2 refl in let two = read-since (having_read v page 2) w page (refusal_word refusal) e.1 in omega arith
@@ -259,7 +259,7 @@ put-reads seat w held has own e =
       few = omega arith;
     })
 
-pub refused-shown : (v w : View) (page : ℕ) (want : Want) (refusal : TakeNo) (end : ℕ) (s : Layout) → IsTakeRefused v page want refusal w → ShowsPages v None end s → ShowsPages w None end s
+pub refused-shown : (v w : View) (page : ℕ) (want : Want) (refusal : TakeError) (end : ℕ) (s : Layout) → IsTakeRefused v page want refusal w → ShowsPages v None end s → ShowsPages w None end s
 refused-shown v w page want refusal end s r shown = elim r.read [
   | inl e ↦ subst (λ (x : View). ShowsPages x None end s) (sym e) (shows-read v page (refusal_word refusal) end s shown)
   | inr e ↦ subst (λ (x : View). ShowsPages x None end s) (sym e.1) (shows-read (having_read v page 2) page (refusal_word refusal) end s (shows-read v page 2 end s shown))

@@ -1,11 +1,11 @@
--- A page that a seat left as it was: it read it as Home only where it made it Gone or Absent, and didn't bring it back.
+-- A page that a seat left as it was: it read it as Home only where it made it Gone or Absent, and didn't reload it.
 use Rattle.std.proofs.Common.{◌≡◌, ◌≢◌, ℕ, ◌+◌, ◌<◌, Bool, true, false, List, [], ◌∷◌, ◌++◌, if◌then◌else◌, inl, inr, refl, ap, sym, subst, ◌∙◌, arith}
 use Rattle.bc_evict.specs.Reloading.{HasReloaded}
 use Rattle.bc_lane.specs.Shown.{IsOwnPage}
 use Rattle.bc_lane.specs.Turns.{FindsNoFrameAtAll, HasFrame, LooksOnIn, PassesBy, ReadsOn}
 use Rattle.bc_pins.specs.declared.holding.Held.{Held}
 use Rattle.bc_pins.specs.declared.pins.Seat.{Seat}
-use Rattle.bc_pins.specs.declared.taking.TakeNo.{TakeNo}
+use Rattle.bc_pins.specs.declared.taking.TakeError.{TakeError}
 use Rattle.bc_pins.specs.declared.taking.Want.{Want}
 use Rattle.bc_pins.specs.declared.taking.Want.TheVariants.{Work}
 use Rattle.bc_pins.specs.declared.views.View.{View}
@@ -43,7 +43,7 @@ taken-passes v seat page q held g ne =
     (passes-on v u (gripping u page held.remembered held.homed) q (tried-passes v page q held.remembered ne) (gripping-passes u page q held.remembered held.homed ne))
 
 -- or it couldn't be
-pub refused-passes : (v w : View) (page q : ℕ) (want : Want) (refusal : TakeNo) → IsTakeRefused v page want refusal w → q ≢ page → PassesBy v w q
+pub refused-passes : (v w : View) (page q : ℕ) (want : Want) (refusal : TakeError) → IsTakeRefused v page want refusal w → q ≢ page → PassesBy v w q
 refused-passes v w page q want refusal r ne = elim r.read [
   | inl e ↦ subst (λ (x : View). PassesBy v x q) (sym e) (other-read v page (refusal_word refusal) q ne)
   | inr e ↦ subst (λ (x : View). PassesBy v x q) (sym e.1)

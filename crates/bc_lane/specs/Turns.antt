@@ -165,9 +165,9 @@ pub record FindsNoFrameFor (v w : View) (page : ℕ) : Type 0 where
   pub frames : (word : ℕ) → word < frame_words w.about → LastOf looks (frame_at w.about word) all_bits
   pub pages : (q : ℕ) → q < pages_of w.about → (place : PageState) × MayStay place × LastOf looks (page_at q) (state_word place)
 
--- a seat read on, took and put back pages of the table, brought own pages back that were Gone, and made pages Gone or Absent for their
--- frames, no more than it brought back. A page that isn't its own it made Gone or Absent as often as it read it as Home; none such it
--- brought back, put back as Remembered or recorded. It has the rights to frames that it had, counted no superpage, and returned no page
+-- a seat read on, took and put back pages of the table, reloaded own pages that were Gone, and made pages Gone or Absent for their
+-- frames, no more than it reloaded. A page that isn't its own it made Gone or Absent as often as it read it as Home; none such it
+-- reloaded, put back as Remembered or recorded. It has the rights to frames that it had, counted no superpage, and returned no page
 pub record ReadsOn (v w : View) : Type 0 where
   pub same : w ≡ record v { hand = w.hand; changed = w.changed; recorded = w.recorded; seen = w.seen; gone = w.gone; busy = w.busy; read = w.read; left = w.left; emptied = w.emptied; fetched = w.fetched; bookmarked = w.bookmarked }
   pub more : List (ℕ × ℕ)
@@ -180,7 +180,7 @@ pub record ReadsOn (v w : View) : Type 0 where
   pub far : (page : ℕ) → pages_of v.about ≤ page → (times page w.left ≡ times page v.left) × (times page w.emptied ≡ times page v.emptied) × (times page w.fetched ≡ times page v.fetched)
   pub few : (length w.left + length w.emptied) + length v.fetched ≤ length w.fetched + (length v.left + length v.emptied)
 
--- a page that a seat left as it was: as often as it read it as Home it made it Gone or Absent, and it didn't bring it back
+-- a page that a seat left as it was: as often as it read it as Home it made it Gone or Absent, and it didn't reload it
 pub record PassesBy (v w : View) (page : ℕ) : Type 0 where
   pub home : times 1 (reads_at page w.read) + (times page v.left + times page v.emptied) ≡ times 1 (reads_at page v.read) + (times page w.left + times page w.emptied)
   pub fetched : times page w.fetched ≡ times page v.fetched

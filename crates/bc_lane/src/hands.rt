@@ -14,10 +14,10 @@ ghost use Rattle.bc_superpages.specs.Layout.{Layout};
 use crate::stops::Stop;
 use bc_evict::{FrameRight, claim_frame, free_frame, reload};
 use bc_gates::Gate;
-use bc_pins::{Held, Pins, Seat, TakeNo, Want};
+use bc_pins::{Held, Pins, Seat, TakeError, Want};
 
 /// Puts back the page in hand, if there is one.
-pub(crate) fn lay_down(pins: &Pins, seat: &mut Seat, hand: &mut Option<Held>)
+pub(crate) fn put_hand_back(pins: &Pins, seat: &mut Seat, hand: &mut Option<Held>)
     requires at { IsAt pins.now seat.old }
     requires hands { HasInHand seat.old hand.old }
     requires shown { (end : ℕ) × (s : Layout) × ShowsPages (view_of seat.old) hand.old end s }
@@ -40,7 +40,7 @@ pub(crate) fn lay_down(pins: &Pins, seat: &mut Seat, hand: &mut Option<Held>)
 
 /// Takes an own page on which an allocated cell lies. Where it is gone it comes back, into a frame that is free, or for which another page
 /// leaves.
-fn pick_up(pins: &Pins, seat: &mut Seat, page: u32) -> Result<Held, Stop>
+fn take_or_reload(pins: &Pins, seat: &mut Seat, page: u32) -> Result<Held, Stop>
     requires at { IsAt pins.now seat.old }
     requires free { IsFree seat.old }
     requires rights { (view_of seat.old).rights ≡ [] }
@@ -59,15 +59,15 @@ fn pick_up(pins: &Pins, seat: &mut Seat, page: u32) -> Result<Held, Stop>
 {
     match pins.take(seat, page, Want::Work) {
         Ok(held) => Ok(held),
-        Err(TakeNo::Busy) => Err(Stop::Busy(page)),
-        Err(TakeNo::Gone) => fetch(pins, seat, page),
-        Err(TakeNo::Remembered) => unreachable!(),
-        Err(TakeNo::Absent) => unreachable!(),
+        Err(TakeError::Busy) => Err(Stop::Busy(page)),
+        Err(TakeError::Gone) => reload_page(pins, seat, page),
+        Err(TakeError::Remembered) => unreachable!(),
+        Err(TakeError::Absent) => unreachable!(),
     }
 }
 
 /// Brings an own page back that was read as Gone, if there is a frame for it.
-fn fetch(pins: &Pins, seat: &mut Seat, page: u32) -> Result<Held, Stop>
+fn reload_page(pins: &Pins, seat: &mut Seat, page: u32) -> Result<Held, Stop>
     requires at { IsAt pins.now seat.old }
     requires free { IsFree seat.old }
     requires rights { (view_of seat.old).rights ≡ [] }
@@ -113,7 +113,7 @@ fn find_frame(pins: &Pins, seat: &mut Seat, hint: u32) -> Option<FrameRight>
 
 /// Sees to it that an own page on which an allocated cell lies is in hand. Where it is, nothing is done; any other page in hand
 /// is put back, and one that is gone comes back. Where it can't be taken none is in hand.
-pub(crate) fn bring<G: Gate>(
+pub(crate) fn take_page<G: Gate>(
     pins: &Pins,
     seat: &mut Seat,
     hand: &mut Option<Held>,
@@ -141,8 +141,8 @@ pub(crate) fn bring<G: Gate>(
     if has_page(hand, page) {
         return Ok(());
     }
-    lay_down(pins, seat, hand);
-    match pick_up(pins, seat, page) {
+    put_hand_back(pins, seat, hand);
+    match take_or_reload(pins, seat, page) {
         Ok(mut held) => {
             held.note_use();
             *hand = Some(held);

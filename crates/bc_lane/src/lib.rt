@@ -19,7 +19,7 @@
 // other lanes have isn't among the arguments, so lanes side by side are lanes one after another.
 #![tactic(auto)]
 
-mod answering;
+mod attempting;
 mod cells;
 mod hands;
 mod laws;

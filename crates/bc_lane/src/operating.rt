@@ -62,7 +62,7 @@ fn operate_at<S: Station>(
         words: mem::replace(&mut part.words, Vec::new(alloc)),
         of: PhantomData,
     };
-    let answer = operate_parts(
+    let operate_or_stop = operate_parts(
         &mut cells,
         &mut roots,
         &mut part.chunk,
@@ -84,7 +84,7 @@ fn operate_at<S: Station>(
     } = roots;
     *hand = after;
     part.words = words;
-    answer
+    operate_or_stop
 }
 
 /// Does an operation over what the lane has, or returns that there is no room in the chunk or the write buffer. What it looks at is

@@ -9,8 +9,8 @@ ghost use Rattle.bc_nursery.specs.Objects.{left_of};
 ghost use Rattle.bc_pins.specs.Calls.{IsFree, view_of};
 ghost use Rattle.bc_whole_heap.specs.Heaps.{HeapView, end_of};
 
-use crate::answering::answer;
-use crate::hands::lay_down;
+use crate::attempting::operate_or_stop;
+use crate::hands::put_hand_back;
 use crate::stops::Stop;
 use crate::turns::LaneTurn;
 use bc_gates::Gate;
@@ -34,14 +34,14 @@ impl LaneTurn {
     {
         let end = pins.end();
         let mut hand = None;
-        let why = go(self, pins, seat, &mut hand, end, ops, gate);
-        lay_down(pins, seat, &mut hand);
+        let why = run_to_stop(self, pins, seat, &mut hand, end, ops, gate);
+        put_hand_back(pins, seat, &mut hand);
         why
     }
 }
 
 /// Does operations until all are done or one can't be.
-fn go<G: Gate>(
+fn run_to_stop<G: Gate>(
     turn: &mut LaneTurn,
     pins: &Pins,
     seat: &mut Seat,
@@ -60,7 +60,7 @@ fn go<G: Gate>(
     ensures seat { IsSameLane seat.old seat.new }
 {
     'operations: while turn.next < ops.len() {
-        if let Err(why) = advance(turn, pins, seat, hand, end, ops, gate) {
+        if let Err(why) = operate_next(turn, pins, seat, hand, end, ops, gate) {
             return why;
         }
     }
@@ -68,7 +68,7 @@ fn go<G: Gate>(
 }
 
 /// Does the next operation and keeps its reply, or returns why it isn't done.
-fn advance<G: Gate>(
+fn operate_next<G: Gate>(
     turn: &mut LaneTurn,
     pins: &Pins,
     seat: &mut Seat,
@@ -89,7 +89,7 @@ fn advance<G: Gate>(
     ensures seat { IsSameLane seat.old seat.new }
 {
     gate.at(turn.part.lane, 1);
-    let reply = answer(&mut turn.part, pins, seat, hand, end, &ops[turn.next], gate)?;
+    let reply = operate_or_stop(&mut turn.part, pins, seat, hand, end, &ops[turn.next], gate)?;
     keep(turn, reply);
     gate.at(turn.part.lane, 2);
     Ok(())

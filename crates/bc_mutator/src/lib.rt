@@ -21,7 +21,7 @@
 // Between operations the heap is closed (`IsRunning`, `IsClosedHeap`). Words of a domain, be they root words or fields,
 // refer to cells, and to the chunk of the one lane that holds the domain. So whatever a lane comes to, from its slots on,
 // is a cell or an object of its own chunk (`IsCellOrYoung`), and one comparison of the address with the end of the
-// superpages says which (`home_of`). A reference from a cell to the chunk is recorded: before it is written the field goes
+// superpages says which (`place_of_object`). A reference from a cell to the chunk is recorded: before it is written the field goes
 // into the lane's write buffer, and the cell's page is Remembered from then on. So what the root slots of the lane's
 // domains, the write buffer and the chunk itself hold are all the references to the chunk. Where a recorded field is
 // written again its entry stays, so an entry may name a field that refers to no chunk.

@@ -15,7 +15,7 @@ use bc_word::{Address, Head, Word};
 
 /// Where an object that a lane looks at lies.
 #[derive(Clone, Copy, PartialEq, Eq, Debug)]
-pub(crate) enum Home {
+pub(crate) enum ObjectPlace {
     /// In a cell of a superpage.
     Cell,
     /// In the lane's chunk, past the superpages.
@@ -23,14 +23,14 @@ pub(crate) enum Home {
 }
 
 /// Where the object at an address lies: whatever is below the end of the superpages is a cell.
-pub(crate) fn home_of<C: Cells>(cells: &C, at: Address) -> Home
-    ensures cell { result ≡ Home.Cell → (s : Layout) → C.shows cells.now s → at.0 < end_of s }
-    ensures chunk { result ≡ Home.Chunk → (s : Layout) → C.shows cells.now s → end_of s ≤ at.0 }
+pub(crate) fn place_of_object<C: Cells>(cells: &C, at: Address) -> ObjectPlace
+    ensures cell { result ≡ ObjectPlace.Cell → (s : Layout) → C.shows cells.now s → at.0 < end_of s }
+    ensures chunk { result ≡ ObjectPlace.Chunk → (s : Layout) → C.shows cells.now s → end_of s ≤ at.0 }
 {
     if at.0 < cells.end() {
-        Home::Cell
+        ObjectPlace::Cell
     } else {
-        Home::Chunk
+        ObjectPlace::Chunk
     }
 }
 
@@ -41,9 +41,9 @@ pub(crate) fn head_at<C: Cells>(cells: &C, chunk: &Chunk, at: Address) -> Head
     ensures head { (s : Layout) → IsSpaceOf (C.shows cells.now) chunk.now s → IsCellOrYoung s chunk.now at.0
         → result ≡ (cell_of s chunk.now at.0).head }
 {
-    match home_of(cells, at) {
-        Home::Cell => cells.head(at),
-        Home::Chunk => chunk.head(at),
+    match place_of_object(cells, at) {
+        ObjectPlace::Cell => cells.head(at),
+        ObjectPlace::Chunk => chunk.head(at),
     }
 }
 
@@ -57,8 +57,8 @@ pub(crate) fn field_at<C: Cells>(cells: &C, chunk: &Chunk, at: Address, index: u
         → result ≡ slice_index_or (cell_of s chunk.now at.0).fields index Nil }
     ensures fits { FitsWord result }
 {
-    match home_of(cells, at) {
-        Home::Cell => cells.field(at, index),
-        Home::Chunk => chunk.field(at, index),
+    match place_of_object(cells, at) {
+        ObjectPlace::Cell => cells.field(at, index),
+        ObjectPlace::Chunk => chunk.field(at, index),
     }
 }

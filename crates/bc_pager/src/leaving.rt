@@ -5,11 +5,11 @@ ghost use Rattle.bc_evict.specs.Evicting.{MayBookmark, MayDiscard};
 ghost use Rattle.bc_pins.specs.Calls.{key_of, view_of, IsAt, IsSameSeat, IsFree, HoldsPage};
 ghost use Rattle.bc_evict.specs.Taking.{HasVacated, HasEvacuated};
 
-use bc_evict::{bookmark, discard, give_frame, relinquish};
+use bc_evict::{bookmark, discard, evict, give_frame};
 use bc_pins::{Held, Pins, Seat};
 
 /// Makes the page in hand Absent, on which no allocated cell lies. Its frame is free.
-pub(crate) fn throw_away(pins: &Pins, seat: &mut Seat, held: Held)
+pub(crate) fn discard_held(pins: &Pins, seat: &mut Seat, held: Held)
     requires seat { IsAt pins.now seat.old }
     requires held { HoldsPage seat.old held }
     requires may { MayDiscard seat.old held }
@@ -23,7 +23,7 @@ pub(crate) fn throw_away(pins: &Pins, seat: &mut Seat, held: Held)
 }
 
 /// Bookmarks the page in hand and makes it Gone. Its frame is free.
-pub(crate) fn send_out(pins: &Pins, seat: &mut Seat, held: Held)
+pub(crate) fn evict_held(pins: &Pins, seat: &mut Seat, held: Held)
     requires seat { IsAt pins.now seat.old }
     requires held { HoldsPage seat.old held }
     requires may { MayBookmark seat.old held }
@@ -33,6 +33,6 @@ pub(crate) fn send_out(pins: &Pins, seat: &mut Seat, held: Held)
     ensures evacuated { HasEvacuated (key_of pins.now) (view_of seat.old) held.entry.page (view_of seat.new) }
 {
     bookmark(pins, seat, &held);
-    let right = relinquish(pins, seat, held);
+    let right = evict(pins, seat, held);
     give_frame(pins, seat, right);
 }

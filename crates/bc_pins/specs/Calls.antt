@@ -12,8 +12,8 @@ use Rattle.bc_pins.specs.declared.pins.Seat.{Seat}
 use Rattle.bc_pins.specs.declared.holding.Held.{Held}
 use Rattle.bc_pins.specs.declared.taking.Want.{Want}
 use Rattle.bc_pins.specs.declared.taking.Want.TheVariants.{Work, Victim}
-use Rattle.bc_pins.specs.declared.taking.TakeNo.{TakeNo}
-use Rattle.bc_pins.specs.declared.taking.TakeNo.TheVariants.{Busy, Gone, Remembered, Absent}
+use Rattle.bc_pins.specs.declared.taking.TakeError.{TakeError}
+use Rattle.bc_pins.specs.declared.taking.TakeError.TheVariants.{Busy, Gone, Remembered, Absent}
 use Rattle.bc_pins.specs.Key.{Key, pages_of, owner, role_number}
 use Rattle.bc_pins.specs.Totals.{times}
 use Rattle.bc_pins.specs.Contents.{IsBarePage, IsContent, RefersYoung}
@@ -103,7 +103,7 @@ abbrev pub IsPlainVictim : Want → Held → Type 0
 IsPlainVictim want held = want ≡ Victim → held.remembered ≡ false
 
 -- the word of a page by which each refusal comes
-abbrev pub refusal_word : TakeNo → ℕ
+abbrev pub refusal_word : TakeError → ℕ
 refusal_word Absent = 0
 refusal_word Remembered = 2
 refusal_word Busy = 3
@@ -112,7 +112,7 @@ refusal_word Gone = 4
 -- the refusal is what the last step on the page's word read; Remembered comes with Victim alone. What was read as Remembered
 -- before is refused as that or as Busy, and what is known to be Gone as Gone. Busy is noted where the seat holds the page's domain.
 -- No allocated cell lies on a page that is Absent, and one lies on a page that is Gone
-pub record IsTakeRefused (v : View) (page : ℕ) (want : Want) (no : TakeNo) (w : View) : Type 0 where
+pub record IsTakeRefused (v : View) (page : ℕ) (want : Want) (no : TakeError) (w : View) : Type 0 where
   pub read : (w ≡ having_read v page (refusal_word no)) ⊎ ((want ≡ Work) × (w ≡ having_read (having_read v page 2) page (refusal_word no)))
   pub victim : no ≡ Remembered → want ≡ Victim
   pub seen : 0 < times page v.seen → (no ≡ Busy) ⊎ (no ≡ Remembered)

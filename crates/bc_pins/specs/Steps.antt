@@ -373,7 +373,7 @@ pub record SawFinished (st : Step Lodged) (m : Mine) (found : ℕ) (m' : Mine) :
 pub record GaveFrames (st : Step Lodged) (m : Mine) (found : ℕ) (m' : Mine) : Type 0 where
   pub view : (w bits : ℕ) → st.word ≡ frame_at m.0.about w → st.first ≡ bit_not w64 bits → bits < 2 ^ 64 → m' ≡ (giving m.0 w bits found, m.1)
 
--- relinquish word: the slots are at home, and the seat has a right to the page's frame, which is one of the heap's
+-- evict word: the slots are at home, and the seat has a right to the page's frame, which is one of the heap's
 pub record Left (st : Step Lodged) (m m' : Mine) : Type 0 where
   pub slots : m'.1 ≡ rest (rest m.1)
   pub view : (h : Hand) → m.0.hand ≡ Some h → m'.0 ≡ leaving m.0 h

@@ -20,7 +20,7 @@
 // on another word.
 //
 // A page in hand is given up in single steps: `bookmark_bit` for its targets, `counter_add` for each superpage that has one,
-// `store_in`, and `relinquish_word`, after which its word says Gone; or `store_in` and `absent_word` where no cell lies on it. The
+// `store_in`, and `evict_word`, after which its word says Gone; or `store_in` and `discard_word` where no cell lies on it. The
 // word is the last of them. The right to the page's frame is then in the seat's view, and `frame_give` gives it back.
 //
 // `open` makes words and slots out of a space's headers and lists, and deals a seat for each role. `close` joins all seats into
@@ -74,5 +74,5 @@ pub use key::{About, Role, Turn};
 pub use laws::law_frames_in_use;
 pub use pins::{Pins, Seat};
 pub use rest::Rest;
-pub use taking::{TakeNo, Want};
+pub use taking::{TakeError, Want};
 pub use views::{Hand, Lodged, View};

@@ -4,7 +4,7 @@ ghost use Rattle.std.specs.Prelude.{◌≡◌, ◌≢◌, ◌<◌, ◌≤◌, �
 ghost use Rattle.bc_pins.specs.Key.{pages_of};
 ghost use Rattle.bc_pins.specs.Views.{state_word, home_word};
 ghost use Rattle.bc_pins.specs.Steps.{having_read, ReadsWord, Takes};
-ghost use Rattle.bc_pins.specs.declared.taking.TakeNo.TheVariants.{Busy};
+ghost use Rattle.bc_pins.specs.declared.taking.TakeError.TheVariants.{Busy};
 ghost use Rattle.bc_pins.specs.Calls.{key_of, view_of, IsAt, IsSameSeat, IsFree, HoldsPage, Grasps, MayWork, MayPut, tried, IsPlainVictim, IsTakeRefused, WasSeen, put_back};
 
 use crate::holding::Held;
@@ -32,7 +32,7 @@ pub enum Want {
 
 /// Why a page can't be taken.
 #[derive(Clone, Copy, PartialEq, Eq, Debug)]
-pub enum TakeNo {
+pub enum TakeError {
     /// Another worker has it in hand.
     Busy,
     /// Its content lies in the store.
@@ -46,7 +46,7 @@ pub enum TakeNo {
 impl Pins {
     /// Takes a page into the seat's hands; for a victim only one that isn't remembered. Each refusal returns what the last step on
     /// the page's word read.
-    pub fn take(&self, seat: &mut Seat, page: u32, want: Want) -> Result<Held, TakeNo>
+    pub fn take(&self, seat: &mut Seat, page: u32, want: Want) -> Result<Held, TakeError>
         requires seat { IsAt self.now seat.old }
         requires free { IsFree seat.old }
         requires page { page < pages_of (key_of self.now) }
@@ -61,16 +61,16 @@ impl Pins {
             Ok(held) => Ok(held),
             Err(REMEMBERED) => match want {
                 Want::Work => self.grip_remembered(seat, page),
-                Want::Victim => Err(TakeNo::Remembered),
+                Want::Victim => Err(TakeError::Remembered),
             },
-            Err(HELD) => Err(TakeNo::Busy),
-            Err(0) => Err(TakeNo::Absent),
-            Err(_) => Err(TakeNo::Gone),
+            Err(HELD) => Err(TakeError::Busy),
+            Err(0) => Err(TakeError::Absent),
+            Err(_) => Err(TakeError::Gone),
         }
     }
 
     /// The second try: the page was read as remembered.
-    fn grip_remembered(&self, seat: &mut Seat, page: u32) -> Result<Held, TakeNo>
+    fn grip_remembered(&self, seat: &mut Seat, page: u32) -> Result<Held, TakeError>
         requires seat { IsAt self.now seat.old }
         requires free { IsFree seat.old }
         requires page { page < pages_of (key_of self.now) }
@@ -82,7 +82,7 @@ impl Pins {
     {
         match self.grip(seat, page, REMEMBERED) {
             Ok(held) => Ok(held),
-            Err(_) => Err(TakeNo::Busy),
+            Err(_) => Err(TakeError::Busy),
         }
     }
 

@@ -10,8 +10,8 @@ use Rattle.bc_cycle.specs.Emptying.{outline_nursery, outline_object, HasRoomToLi
 use Rattle.bc_cycle.specs.declared.heaps.Heap.{Heap}
 use Rattle.bc_promotion.proofs.ListingLemmas.{words_in-same}
 use Rattle.bc_whole_heap.specs.LaneChunks.{chunk_of}
-use Rattle.bc_cycle.specs.declared.emptying.CycleNo.{CycleNo}
-use Rattle.bc_cycle.specs.declared.emptying.CycleNo.TheVariants.{OutOfHeap, NoMemory}
+use Rattle.bc_cycle.specs.declared.emptying.CycleError.{CycleError}
+use Rattle.bc_cycle.specs.declared.emptying.CycleError.TheVariants.{OutOfHeap, NoMemory}
 use Rattle.bc_whole_heap.specs.Heaps.{HeapView, no_chunk}
 use Rattle.bc_whole_heap.specs.HeapFacts.{HasTwoFrames}
 use Rattle.bc_whole_heap.specs.Running.{IsRunning, IsRunningForSurvivors}
@@ -97,7 +97,7 @@ pub sound-kept : (r : RunningView) (k : HeapView) → IsSound r → KeepsMeaning
 sound-kept r k h is order = sound-collected r k h (kept-collects r.heap k r.holders is (order r.holders (running-survivors r.heap r.holders h.running)))
 
 -- so lanes can run on whichever answer there is
-pub sound-answered : {T : Type 0} (result : Result T CycleNo) (r : RunningView) (k : HeapView) → IsSound r → OnOk result (IsEmptied r.heap k) → IfOutOfHeap result (λ need. KeepsMeaning r.heap k)
+pub sound-answered : {T : Type 0} (result : Result T CycleError) (r : RunningView) (k : HeapView) → IsSound r → OnOk result (IsEmptied r.heap k) → IfOutOfHeap result (λ need. KeepsMeaning r.heap k)
     → IfOutOfHeap result (λ need. (hs : List ℕ) → IsRunningForSurvivors r.heap hs → IsRunning k hs) → result ≢ Err NoMemory → IsSound (running_of k r.holders r.serials)
 sound-answered (Ok x) r k h emptied kept order memory = sound-emptied r k h emptied
 sound-answered (Err (OutOfHeap need)) r k h emptied kept order memory = sound-kept r k h kept order

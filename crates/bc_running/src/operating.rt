@@ -15,7 +15,7 @@ ghost use Rattle.bc_whole_heap.specs.LaneStates.{StandsAs};
 ghost use Rattle.bc_running.specs.RunningFacts.{IsSound, StaysBut, running_of};
 ghost use Rattle.bc_running.specs.Touching.{BringsHome, LooksAtGone, RecordsAfter, SameRemembered};
 
-use crate::touching::bring_touched;
+use crate::touching::reload_touched;
 use crate::whole::operate_here;
 use bc_cycle::Heap;
 use bc_model::{Op, Reply};
@@ -55,7 +55,7 @@ pub(crate) fn attempt(
         → (heap.new.buffers.items ≡ heap.old.buffers.items) × SameRemembered heap.old.space heap.new.space }
 {
     heap_facts(&heap.space, &heap.roots, &heap.chunks);
-    match bring_touched(&mut heap.space, &heap.roots, holders, lane, op) {
+    match reload_touched(&mut heap.space, &heap.roots, holders, lane, op) {
         Ok(()) => operate_here(heap, holders, &mut serials[lane as usize], lane, op),
         Err(stop) => Err(stop),
     }

@@ -1,4 +1,4 @@
--- Notices that a pager answered beside the lanes of a turn, and pages that lanes brought back, said of the space before the turn and
+-- Notices that a pager answered beside the lanes of a turn, and pages that lanes reloaded, said of the space before the turn and
 -- after it.
 use Rattle.std.specs.Prelude.{◌≡◌, ◌⊎◌, ℕ, ◌+◌, ◌-◌, ◌^◌, ◌<◌, ◌≤◌, ◌==◌, true, List, [], ◌∷◌, ◌++◌, length, min}
 use Rattle.bc_bits.specs.Bits.{has}
@@ -18,7 +18,7 @@ use Rattle.bc_superpages.specs.Layout.{Layout, set_of}
 use Rattle.bc_superpages.specs.LayoutAt.{state_at}
 
 -- bookmark bits stay. Each that came is that of a target of a page that became Gone; or some page was made Gone by an answer or a lane,
--- and brought back by a lane
+-- and reloaded by a lane
 pub record BookmarksBeside (s t : Layout) (told : List Answer) (left fetched : List ℕ) : Type 0 where
   pub stay : (q b : ℕ) → has (set_of s.bookmarks q) b ≡ true → has (set_of t.bookmarks q) b ≡ true
   pub only : (q b : ℕ) → has (set_of t.bookmarks q) b ≡ true
@@ -30,9 +30,9 @@ is_in state s page = one_if (state_word (state_at s.states page) == state_word s
 
 -- the notices with these hints were answered by a pager that worked beside the lanes at a table that was opened over a space, and closed
 -- to another one. Each has one answer, in order, by what the pager did and read; after the answers that were kept before. Besides, lanes
--- brought pages back, each one that is looked at in the turn, and for their frames made pages Gone or Absent, no more than they brought back.
+-- reloaded pages, each one that is looked at in the turn, and for their frames made pages Gone or Absent, no more than they reloaded.
 -- By these lists and the answers each page is accounted for: how often it is Gone or Absent afterwards. A notice was declined only where
--- each page that is Home afterwards is looked at in the turn. Pages were read as often as lanes brought one back
+-- each page that is Home afterwards is looked at in the turn. Pages were read as often as lanes reloaded one
 pub record AnsweredBeside (IsLooked : ℕ → Type 0) (s : Layout) (hints : List ℕ) (before after : List Answer) (t : Layout) : Type 0 where
   pub key : Key
   pub opening : key.opening ≡ s
@@ -40,7 +40,7 @@ pub record AnsweredBeside (IsLooked : ℕ → Type 0) (s : Layout) (hints : List
   pub told : List Answer
   pub kept : after ≡ before ++ told
   pub each : AreAnswered key hints told (fresh key (role_number (Pager 0) ∷ [])) end
-  -- the pages that lanes brought back, made Gone, and made Absent
+  -- the pages that lanes reloaded, made Gone, and made Absent
   pub fetched : List ℕ
   pub left : List ℕ
   pub emptied : List ℕ

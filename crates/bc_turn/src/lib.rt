@@ -12,16 +12,16 @@
 //
 // The pager (`bc_pager`) takes the notices with the turn's hints, in order, and gives up a page for each, or declines it. Who comes first
 // has a page, and nobody waits: a lane that has it in hand keeps it, and the pager goes on to another; a page that the pager got first is
-// in other hands, where a lane that looks there stops, and then gone, from where its lane brings it back. A pager has its seat in every
+// in other hands, where a lane that looks there stops, and then gone, from where its lane reloads it. A pager has its seat in every
 // turn. Where no notice came it is through before the lanes begin, and starts no thread; then a lane that is alone starts none either.
 // Where notices came and no lane has operations left, the pager is alone at a table. Where there is neither, nothing is done.
 //
 // Each notice has one answer (`AnsweredBeside`): by what the pager did and read, after the answers that the caller's list had. Lanes
-// bring pages of their own back, and for their frames make others Gone or Absent, no more than they bring back. By the answers and the
+// reload pages of their own, and for their frames make others Gone or Absent, no more than they reload. By the answers and the
 // lists of these pages each page is accounted for: how often it is Gone, or Absent, at the close. The bookmark bits that came are those of
-// targets of pages that became Gone, or came for pages that lanes brought back, and pages were read as often as one came back. Where a
+// targets of pages that became Gone, or came for pages that lanes reloaded, and pages were read as often as one came back. Where a
 // notice was declined, each page that is Home afterwards is looked at in the turn (`declined`), by an operation that its lane did or by the
-// next one that it would do; and so is each page that a lane brought back (`IsLookedAt`).
+// next one that it would do; and so is each page that a lane reloaded (`IsLookedAt`).
 //
 // What takes memory comes first: room for what each lane takes along (`fit_room`), with a chunk, a write buffer and a list of replies
 // without words that stand in the heap's places meanwhile; the roles, the notices and the list of runs; and the table (`open_table`).

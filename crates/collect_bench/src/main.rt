@@ -260,7 +260,7 @@ where
     print_standing(rt, plan, "built", &workshop, 0)?;
     let before = workshop.space().reads();
     let start = Instant::now(rt)?;
-    let collected = workshop.collect_cells(rt, rt.alloc());
+    let collected = workshop.collect(rt, rt.alloc());
     let taken = start.elapsed(rt)?;
     ensure!(collected, "the nursery isn't empty");
     print_standing(rt, plan, "bookmarks", &workshop, before)?;
@@ -276,7 +276,7 @@ where
     let mut workshop = build(rt, plan)?;
     let before = workshop.space().reads();
     let start = Instant::now(rt)?;
-    let collected = workshop.collect();
+    let collected = workshop.failsafe();
     let taken = start.elapsed(rt)?;
     if let Err(Need(superpages)) = collected {
         bail!("{superpages} superpages needed");

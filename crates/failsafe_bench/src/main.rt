@@ -100,7 +100,7 @@ const FIRST_TABLE: u32 = 4;
 fn act(workshop: &mut Workshop, op: Op) -> Result<()> {
     let answer = match workshop.operate(0, &op) {
         Err(Halt::Stopped(_)) => {
-            collect(workshop)?;
+            failsafe(workshop)?;
             workshop.operate(0, &op)
         }
         answer => answer,
@@ -112,8 +112,8 @@ fn act(workshop: &mut Workshop, op: Op) -> Result<()> {
     }
 }
 
-fn collect(workshop: &mut Workshop) -> Result<()> {
-    match workshop.collect() {
+fn failsafe(workshop: &mut Workshop) -> Result<()> {
+    match workshop.failsafe() {
         Ok(()) => Ok(()),
         Err(Need(superpages)) => bail!("{superpages} superpages needed"),
     }
@@ -259,7 +259,7 @@ fn heap_of(alloc: Global, nodes: u32, shape: Shape, beyond: Beyond) -> Result<Wo
     for node in 0..nodes {
         make(&mut workshop, node)?;
     }
-    collect(&mut workshop)?;
+    failsafe(&mut workshop)?;
     link(&mut workshop, nodes, shape)?;
     Ok(workshop)
 }
@@ -280,7 +280,7 @@ fn young_heap(alloc: Global, nodes: u32, shape: Shape) -> Result<Workshop>
 /// Collects the whole heap, and says how many nanoseconds that takes.
 fn time<R: Clock>(rt: &R, workshop: &mut Workshop) -> Result<u64> {
     let start = Instant::now(rt)?;
-    collect(workshop)?;
+    failsafe(workshop)?;
     Ok(nanoseconds(start.elapsed(rt)?))
 }
 

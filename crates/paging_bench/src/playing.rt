@@ -170,7 +170,7 @@ impl Play {
         R: AllocGlobal + Threads + Sync,
     {
         if self.touch_all && !fit {
-            let refused = self.player.collect();
+            let refused = self.player.failsafe();
             if refused.is_some() {
                 return refused;
             }

@@ -11,7 +11,7 @@ ghost use Rattle.bc_model.specs.WellFormed.{IsPhase, IsTrace};
 
 use crate::counts::{operations, print_need, print_standing, print_time};
 use anyhow::{Result, bail};
-use bc_engine::{Engine, PhaseNo};
+use bc_engine::{Engine, PhaseError};
 use bc_gates::OpenGate;
 use bc_model::{Op, Phase, Setup, Trace};
 use std::rt::Clock;
@@ -55,12 +55,12 @@ where
     let need = match engine.phase(rt, rt.alloc(), phase, &OpenGate) {
         Ok(_replies) => None,
         Err(
-            PhaseNo::OutOfHeap {
+            PhaseError::OutOfHeap {
                 replies: _replies,
                 need,
             },
         ) => Some(need),
-        Err(PhaseNo::NoMemory) => bail!("out of memory"),
+        Err(PhaseError::NoMemory) => bail!("out of memory"),
     };
     let taken = start.elapsed(rt)?;
     let space = &engine.heap().space;

@@ -30,7 +30,7 @@ fn bring_bare(space: &mut Space, page: u32)
 {
     if page < space.pages() && space.state(page) == PageState::Absent {
         space.facts();
-        match space.bring(page) {
+        match space.open_page(page) {
             Ok(()) => {}
             Err(_) => {}
         }

@@ -1,4 +1,4 @@
--- What the tests' lane needs that brings a page back in the turn.
+-- What the tests' lane needs that reloads a page in the turn.
 use Rattle.std.proofs.Common.{◌≡◌, ℕ, ◌+◌, ◌-◌, ◌^◌, ◌<◌, false, true, min, List, [], ◌∷◌, length, Some, refl, ap, sym, subst, ◌∙◌, arith}
 use Rattle.std.proofs.lemmas.Option.{same_Some}
 use Rattle.bc_frames.specs.Places.{one_more}
@@ -41,7 +41,7 @@ counts-same a b x counts = let opens = x.opens in let fetched = ap length x.fetc
 pub counts-more : (a b : Seat) (page : ℕ) → b.opens ≡ one_more a.opens → (view_of b).fetched ≡ page ∷ (view_of a).fetched → CountsFetches a → CountsFetches b
 counts-more a b page opens fetched counts = let long = ap length fetched in omega arith
 
--- a seat that was dealt and brought pages back may come back
+-- a seat that was dealt and reloaded pages may come back
 module _ (pins : Pins) (role : Role) (seat : Seat) (d : IsDealt pins.table.shared.table_id (key_of pins) role seat) where
   dealt_view : view_of seat ≡ fresh (key_of pins) (role_number role ∷ [])
   dealt_view = ap (λ (m : Mine). m.0) d.me

@@ -105,7 +105,7 @@ fn eight_notices_are_declined_where_every_page_is_absent(rt: HostRuntime) -> Res
 #[test]
 fn a_page_without_cells_is_discarded_once_it_is_not_held(rt: HostRuntime) -> Result<(), Fail> {
     let mut space = Space::new(rt.alloc(), 1, 6, 1)?;
-    let Ok(()) = space.bring(0) else {
+    let Ok(()) = space.open_page(0) else {
         panic!(rt; "a free frame")
     };
     let roles = [Role::Lane(0), Role::Pager(0)];

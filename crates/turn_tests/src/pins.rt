@@ -6,7 +6,7 @@ ghost use Rattle.bc_pins.specs.Calls.{key_of, view_of, IsAt, IsSameSeat, IsFree}
 
 mod threads;
 
-use bc_pins::{Held, Pins, Role, Seat, TakeNo, Turn, Want};
+use bc_pins::{Held, Pins, Role, Seat, TakeError, Turn, Want};
 use bc_superpages::Space;
 use std::marker::{Send, Sync};
 use std::test::Fail;
@@ -65,13 +65,13 @@ fn is_busy_meanwhile(pins: &Pins, first: &mut Seat, second: &mut Seat, page: u32
         Ok(held) => {
             let refused = refusal(pins, second, page);
             pins.put(first, held);
-            refused == Some(TakeNo::Busy)
+            refused == Some(TakeError::Busy)
         }
     }
 }
 
 /// Takes the page and puts it back. Where it was refused, it returns why.
-fn refusal(pins: &Pins, seat: &mut Seat, page: u32) -> Option<TakeNo>
+fn refusal(pins: &Pins, seat: &mut Seat, page: u32) -> Option<TakeError>
     requires at { IsAt pins.now seat.old }
     requires free { IsFree seat.old }
     requires page { page < pages_of (key_of pins.now) }
@@ -91,7 +91,7 @@ fn refusal(pins: &Pins, seat: &mut Seat, page: u32) -> Option<TakeNo>
 #[test]
 fn a_page_that_one_seat_holds_is_busy_for_another(rt: HostRuntime) -> Result<(), Fail> {
     let mut space = Space::new(rt.alloc(), 1, 6, 1)?;
-    let Ok(()) = space.bring(0) else {
+    let Ok(()) = space.open_page(0) else {
         panic!(rt; "a free frame")
     };
     let roles = [Role::Lane(0), Role::Pager(0)];
@@ -113,7 +113,7 @@ fn a_page_that_one_seat_holds_is_busy_for_another(rt: HostRuntime) -> Result<(),
     assert_eq!(rt; pins.pages(), 4);
     assert!(rt; is_busy_meanwhile(&pins, &mut pager, &mut lane, 0));
     assert_eq!(rt; refusal(&pins, &mut lane, 0), None);
-    assert_eq!(rt; refusal(&pins, &mut lane, 1), Some(TakeNo::Absent));
+    assert_eq!(rt; refusal(&pins, &mut lane, 1), Some(TakeError::Absent));
     seats.push_reserved(lane);
     seats.push_reserved(pager);
     let space = pins.close(seats);

@@ -89,12 +89,12 @@ fn a_collection_by_hand_frees_what_is_dead_in_memory_and_reads_nothing_back(
     expect(&rt, &mut workshop, Op::Clear(C), Reply::Done);
     expect(&rt, &mut workshop, Op::New(D, 127), object(49));
     // The chunk has an object.
-    assert_eq!(rt; workshop.collect_cells(&rt, rt.alloc()), false);
+    assert_eq!(rt; workshop.collect(&rt, rt.alloc()), false);
     counted(&rt, &workshop, 3, 48);
     workshop = emptied(&rt, workshop);
     counted(&rt, &workshop, 3, 41);
     expect(&rt, &mut workshop, Op::Clear(D), Reply::Done);
-    assert_eq!(rt; workshop.collect_cells(&rt, rt.alloc()), true);
+    assert_eq!(rt; workshop.collect(&rt, rt.alloc()), true);
     counted(&rt, &workshop, 3, 40);
     assert_eq!(rt; workshop.space().reads(), 0);
     follow(&rt, &mut workshop, 40);

@@ -14,8 +14,8 @@ const TWO_DOMAINS: Setup = Setup {
 };
 
 /// The heap is collected, and then so many superpages are in use, and so many objects lie in cells.
-fn collect(rt: &impl Abort, workshop: &mut Workshop, superpages: u32, objects: u32) {
-    assert_eq!(rt; workshop.collect(), Ok(()));
+fn failsafe(rt: &impl Abort, workshop: &mut Workshop, superpages: u32, objects: u32) {
+    assert_eq!(rt; workshop.failsafe(), Ok(()));
     counted(rt, workshop, superpages, objects);
 }
 
@@ -29,7 +29,7 @@ fn a_cycle_of_two_and_a_self_reference(rt: HostRuntime) -> Result<(), Fail> {
     expect(&rt, &mut workshop, Op::New(C, 1), object(3));
     expect(&rt, &mut workshop, Op::Link(C, 0, C), Reply::Done);
     expect(&rt, &mut workshop, Op::Clear(B), Reply::Done);
-    collect(&rt, &mut workshop, 1, 3);
+    failsafe(&rt, &mut workshop, 1, 3);
     expect(&rt, &mut workshop, Op::Who(A), object(1));
     expect(&rt, &mut workshop, Op::Load(A, 0, B), Reply::Ref);
     expect(&rt, &mut workshop, Op::Who(B), object(2));
@@ -48,11 +48,11 @@ fn a_cycle_that_nothing_refers_to_is_gone(rt: HostRuntime) -> Result<(), Fail> {
     expect(&rt, &mut workshop, Op::New(B, 1), object(2));
     expect(&rt, &mut workshop, Op::Link(A, 0, B), Reply::Done);
     expect(&rt, &mut workshop, Op::Link(B, 0, A), Reply::Done);
-    collect(&rt, &mut workshop, 1, 2);
+    failsafe(&rt, &mut workshop, 1, 2);
     expect(&rt, &mut workshop, Op::Clear(A), Reply::Done);
-    collect(&rt, &mut workshop, 1, 2);
+    failsafe(&rt, &mut workshop, 1, 2);
     expect(&rt, &mut workshop, Op::Clear(B), Reply::Done);
-    collect(&rt, &mut workshop, 0, 0);
+    failsafe(&rt, &mut workshop, 0, 0);
     Ok(())
 }
 
@@ -63,11 +63,11 @@ fn two_slots_and_a_field_share_a_target(rt: HostRuntime) -> Result<(), Fail> {
     expect(&rt, &mut workshop, Op::Copy(A, B), Reply::Done);
     expect(&rt, &mut workshop, Op::New(C, 1), object(2));
     expect(&rt, &mut workshop, Op::Link(C, 0, A), Reply::Done);
-    collect(&rt, &mut workshop, 2, 2);
+    failsafe(&rt, &mut workshop, 2, 2);
     expect(&rt, &mut workshop, Op::Same(A, B), Reply::Yes);
     expect(&rt, &mut workshop, Op::Len(A), Reply::Len(3));
     expect(&rt, &mut workshop, Op::Set(A, 2, 7), Reply::Done);
-    collect(&rt, &mut workshop, 2, 2);
+    failsafe(&rt, &mut workshop, 2, 2);
     expect(&rt, &mut workshop, Op::Load(B, 2, D), Reply::Num(7));
     expect(&rt, &mut workshop, Op::Load(B, 3, D), Reply::Range);
     expect(&rt, &mut workshop, Op::Load(C, 0, D), Reply::Ref);
@@ -81,7 +81,7 @@ fn a_chain_goes_back_and_forth_between_chunk_and_cells(rt: HostRuntime) -> Resul
     let mut workshop = Workshop::open(rt.alloc(), &SMALL)?;
     expect(&rt, &mut workshop, Op::New(A, 1), object(1));
     expect(&rt, &mut workshop, Op::New(B, 1), object(2));
-    collect(&rt, &mut workshop, 1, 2);
+    failsafe(&rt, &mut workshop, 1, 2);
     // The third and the fourth lie in the chunk, and the chain is 1, 3, 2, 4, 1.
     expect(&rt, &mut workshop, Op::New(C, 1), object(3));
     expect(&rt, &mut workshop, Op::New(D, 1), object(4));
@@ -92,7 +92,7 @@ fn a_chain_goes_back_and_forth_between_chunk_and_cells(rt: HostRuntime) -> Resul
     expect(&rt, &mut workshop, Op::Clear(B), Reply::Done);
     expect(&rt, &mut workshop, Op::Clear(C), Reply::Done);
     expect(&rt, &mut workshop, Op::Clear(D), Reply::Done);
-    collect(&rt, &mut workshop, 1, 4);
+    failsafe(&rt, &mut workshop, 1, 4);
     expect(&rt, &mut workshop, Op::Load(A, 0, B), Reply::Ref);
     expect(&rt, &mut workshop, Op::Who(B), object(3));
     expect(&rt, &mut workshop, Op::Load(B, 0, B), Reply::Ref);
@@ -109,12 +109,12 @@ fn an_object_of_each_domain_needs_a_superpage(rt: HostRuntime) -> Result<(), Fai
     let mut workshop = Workshop::open(rt.alloc(), &TWO_DOMAINS)?;
     expect(&rt, &mut workshop, Op::New(A, 1), object(1));
     expect(&rt, &mut workshop, Op::New(X, 1), object(2));
-    assert_eq!(rt; workshop.collect(), Err(Need(2)));
+    assert_eq!(rt; workshop.failsafe(), Err(Need(2)));
     assert_eq!(rt; superpages_in_use(workshop.space()), 0);
     expect(&rt, &mut workshop, Op::Who(A), object(1));
     expect(&rt, &mut workshop, Op::Who(X), object(2));
     expect(&rt, &mut workshop, Op::Clear(A), Reply::Done);
-    collect(&rt, &mut workshop, 1, 1);
+    failsafe(&rt, &mut workshop, 1, 1);
     expect(&rt, &mut workshop, Op::Who(X), object(2));
     Ok(())
 }
@@ -123,7 +123,7 @@ fn an_object_of_each_domain_needs_a_superpage(rt: HostRuntime) -> Result<(), Fai
 fn garbage_in_cells_and_in_the_chunk_is_left_behind(rt: HostRuntime) -> Result<(), Fail> {
     let mut workshop = Workshop::open(rt.alloc(), &ONE_SUPERPAGE)?;
     chain(&rt, &mut workshop, 1, 500);
-    collect(&rt, &mut workshop, 1, 500);
+    failsafe(&rt, &mut workshop, 1, 500);
     // Only the last three of the chain stay, and an object that is made now.
     expect(&rt, &mut workshop, Op::Load(A, 0, B), Reply::Ref);
     expect(&rt, &mut workshop, Op::Load(B, 0, B), Reply::Ref);
@@ -131,7 +131,7 @@ fn garbage_in_cells_and_in_the_chunk_is_left_behind(rt: HostRuntime) -> Result<(
     expect(&rt, &mut workshop, Op::New(D, 1), object(501));
     expect(&rt, &mut workshop, Op::New(D, 1), object(502));
     expect(&rt, &mut workshop, Op::Clear(B), Reply::Done);
-    collect(&rt, &mut workshop, 1, 4);
+    failsafe(&rt, &mut workshop, 1, 4);
     expect(&rt, &mut workshop, Op::Who(D), object(502));
     expect(&rt, &mut workshop, Op::Who(A), object(500));
     expect(&rt, &mut workshop, Op::Load(A, 0, B), Reply::Ref);
@@ -146,9 +146,9 @@ fn garbage_in_cells_and_in_the_chunk_is_left_behind(rt: HostRuntime) -> Result<(
 fn a_heap_may_be_exactly_full(rt: HostRuntime) -> Result<(), Fail> {
     let mut workshop = Workshop::open(rt.alloc(), &ONE_SUPERPAGE)?;
     chain(&rt, &mut workshop, 1, 1024);
-    collect(&rt, &mut workshop, 1, 1024);
+    failsafe(&rt, &mut workshop, 1, 1024);
     follow(&rt, &mut workshop, 1024);
-    collect(&rt, &mut workshop, 1, 1024);
+    failsafe(&rt, &mut workshop, 1, 1024);
     follow(&rt, &mut workshop, 1024);
     Ok(())
 }
@@ -157,12 +157,12 @@ fn a_heap_may_be_exactly_full(rt: HostRuntime) -> Result<(), Fail> {
 fn one_object_too_many_needs_a_superpage_more(rt: HostRuntime) -> Result<(), Fail> {
     let mut workshop = Workshop::open(rt.alloc(), &ONE_SUPERPAGE)?;
     chain(&rt, &mut workshop, 1, 1025);
-    assert_eq!(rt; workshop.collect(), Err(Need(2)));
+    assert_eq!(rt; workshop.failsafe(), Err(Need(2)));
     assert_eq!(rt; objects_in_cells(workshop.space()), 0);
     follow(&rt, &mut workshop, 1025);
     // Without the last one it fits.
     expect(&rt, &mut workshop, Op::Load(A, 0, A), Reply::Ref);
-    collect(&rt, &mut workshop, 1, 1024);
+    failsafe(&rt, &mut workshop, 1, 1024);
     follow(&rt, &mut workshop, 1024);
     Ok(())
 }

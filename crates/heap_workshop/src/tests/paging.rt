@@ -162,7 +162,7 @@ fn a_need_that_is_told_leaves_each_page_where_it_was(rt: HostRuntime) -> Result<
             PageState::Absent
         ]
     );
-    assert_eq!(rt; workshop.collect(), Err(Need(2)));
+    assert_eq!(rt; workshop.failsafe(), Err(Need(2)));
     assert_eq!(rt; first_pages(workshop.space()), pages);
     counted(&rt, &workshop, 1, 600);
     expect(&rt, &mut workshop, Op::Who(X), object(602));

@@ -9,7 +9,7 @@ use super::{repeated, shows, shows_done, trace};
 use bc_bits::count;
 use bc_cli::top::top;
 use bc_cli::{OpenGate, Status};
-use bc_engine::{Answer, Engine, PhaseNo};
+use bc_engine::{Answer, Engine, PhaseError};
 use bc_io::{MemSink, MemSource};
 use bc_model::{Op, Phase, Replies, Setup, Slot};
 use bc_superpages::Space;
@@ -305,17 +305,17 @@ enum PhaseEnd {
     NoMemory,
 }
 
-fn end_of(answer: Result<Replies, PhaseNo>) -> PhaseEnd {
+fn end_of(answer: Result<Replies, PhaseError>) -> PhaseEnd {
     match answer {
         Ok(_replies) => PhaseEnd::Done,
-        Err(PhaseNo::OutOfHeap { replies, need }) => {
+        Err(PhaseError::OutOfHeap { replies, need }) => {
             let replies = match replies.lanes.first() {
                 Some(lane) => lane.len(),
                 None => 0,
             };
             PhaseEnd::OutOfHeap { need, replies }
         }
-        Err(PhaseNo::NoMemory) => PhaseEnd::NoMemory,
+        Err(PhaseError::NoMemory) => PhaseEnd::NoMemory,
     }
 }
 

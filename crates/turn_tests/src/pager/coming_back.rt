@@ -1,4 +1,4 @@
-//! A lane that gives a page up for a frame, and brings it back in the same turn.
+//! A lane that gives a page up for a frame, and reloads it in the same turn.
 
 ghost use Rattle.std.specs.Prelude.{◌≡◌, ◌/◌, ◌<◌, [], true, slice_index};
 ghost use Rattle.bc_pins.specs.Key.{pages_of, owner};

@@ -14,7 +14,7 @@ ghost use Rattle.bc_evict.specs.Objects.{HeldHasObject};
 
 use super::furnished::Furnished;
 use bc_bits::contains;
-use bc_evict::{bookmark, give_frame, relinquish};
+use bc_evict::{bookmark, evict, give_frame};
 use bc_pins::{Held, Pins, Role, Seat, Turn, Want};
 use bc_superpages::{PageState, Space};
 use bc_word::{Address, Word, pack, unpack_head};
@@ -129,7 +129,7 @@ fn give_up(pins: &Pins, seat: &mut Seat, held: Held)
     ensures rights { (view_of seat.new).rights ≡ [] }
 {
     bookmark(pins, seat, &held);
-    let right = relinquish(pins, seat, held);
+    let right = evict(pins, seat, held);
     give_frame(pins, seat, right);
 }
 

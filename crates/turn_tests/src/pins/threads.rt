@@ -30,7 +30,7 @@ fn bring_bare(space: &mut Space, page: u32) -> bool
         return false;
     }
     space.facts();
-    match space.bring(page) {
+    match space.open_page(page) {
         Ok(()) => true,
         Err(_) => false,
     }

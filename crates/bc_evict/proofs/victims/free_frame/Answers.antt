@@ -25,5 +25,5 @@ pub returns-in-Filled-clause-some : goal.returns-in-Filled-clause-some
 returns-in-Filled-clause-some c =
     let held = any-held (key_of c.args.pins.now) (view_of c.args.seat.now) c.take_any.new.seat c.in_ok-held.held c.in_ok-held.ensures.some c.requires.seat.about Filled
     (subst (IsOfKind (key_of c.args.pins.now) Filled) c.page.ensures.page c.in-Filled.ensures.kind) in
-    freed-filled (key_of c.args.pins.now) (view_of c.args.seat.now) c.take_any.new.seat c.in_ok-held.held c.in_ok-held.ensures.some c.requires.seat.about c.requires.free.hand c.requires.none c.relinquish.result.frame
-    c.relinquish.ensures.frame held.hand (view_of c.bookmark.new.seat) (c.bookmark.ensures.bookmarked held.hand held.has) (view_of c.relinquish.new.seat) c.relinquish.ensures.view c.relinquish.ensures.right.within
+    freed-filled (key_of c.args.pins.now) (view_of c.args.seat.now) c.take_any.new.seat c.in_ok-held.held c.in_ok-held.ensures.some c.requires.seat.about c.requires.free.hand c.requires.none c.evict.result.frame
+    c.evict.ensures.frame held.hand (view_of c.bookmark.new.seat) (c.bookmark.ensures.bookmarked held.hand held.has) (view_of c.evict.new.seat) c.evict.ensures.view c.evict.ensures.right.within

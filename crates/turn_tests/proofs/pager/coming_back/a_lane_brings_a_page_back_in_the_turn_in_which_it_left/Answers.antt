@@ -1,4 +1,4 @@
--- The two seats of a table over a space with objects, of which the lane's brought a page back.
+-- The two seats of a table over a space with objects, of which the lane's reloaded a page.
 use Rattle.std.proofs.Common.{rules, ◌≡◌, [], ◌∷◌, ◌++◌, List, map, refl, ap, sym, subst, ◌∙◌}
 use Rattle.bc_pins.specs.declared.key.Role.TheVariants.{Lane, Pager}
 use Rattle.bc_pins.specs.declared.pins.Seat.{Seat}

@@ -8,5 +8,5 @@ use Rattle.turn_tests.proofs.pager.giving_up.give_up.Goals as goal
 pub returns-clause-rights : goal.returns-clause-rights
 returns-clause-rights c =
     let before : (view_of c.bookmark.new.seat).rights ≡ [] = ap (λ (v : View). v.rights) (c.bookmark.ensures.bookmarked c.requires.held.hand c.requires.held.has).same ∙ c.requires.none in
-    rights-gone (view_of c.relinquish-right.new.seat) (view_of c.give_frame.new.seat) c.relinquish-right.result.frame c.give_frame.ensures.given
-    (ap (λ (v : View). v.rights) c.relinquish-right.ensures.view ∙ ap (λ (l : List ℕ). c.args.held.homed.frame ∷ l) before ∙ ap (λ (f : ℕ). f ∷ []) (sym c.relinquish-right.ensures.frame))
+    rights-gone (view_of c.evict-right.new.seat) (view_of c.give_frame.new.seat) c.evict-right.result.frame c.give_frame.ensures.given
+    (ap (λ (v : View). v.rights) c.evict-right.ensures.view ∙ ap (λ (l : List ℕ). c.args.held.homed.frame ∷ l) before ∙ ap (λ (f : ℕ). f ∷ []) (sym c.evict-right.ensures.frame))
