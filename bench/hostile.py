@@ -44,7 +44,10 @@ class Run:
 
 
 def built(words):
-    """The program that the option --bc names, or the one that bin/bc builds; and the other words."""
+    """The program that the option --bc names, or the one that bin/bc builds; and the other words. Asked for help it prints that, and ends."""
+    if words[:1] in (['-h'], ['--help']):
+        print(sys.modules['__main__'].__doc__)
+        raise SystemExit(0)
     if '--bc' in words:
         at = words.index('--bc')
         return str(Path(words[at + 1]).resolve()), words[:at] + words[at + 2:]

@@ -223,9 +223,9 @@ SHAPES = [
           short_phases, 986_000, 200_000, 50_000),
     Shape('short phases', 'a server of the largest setup whose phases have one operation each: what a phase costs besides its work', LARGEST,
           lambda setup, count: short_phases(setup, count, 'who 0 0\n'), 100_000, 10_000, 2_000, 4.0),
-    Shape('buffer 1', 'a program that keeps young objects in old ones, with a write buffer of one entry, in the largest setup: an '
-          'emptying for each store', Setup(16, 64, 256, 4096, 16, 1), stores, 300_000, 30_000, 3_000, 4.0),
-    Shape('nursery 1', 'a program of large objects with a nursery of one page, in the largest setup: an emptying for each four objects',
+    Shape('buffer 1', 'a program that keeps young objects in old ones, with a write buffer of one entry, in the largest setup: a '
+          'minor collection for each store', Setup(16, 64, 256, 4096, 16, 1), stores, 300_000, 30_000, 3_000, 4.0),
+    Shape('nursery 1', 'a program of large objects with a nursery of one page, in the largest setup: a minor collection for each four objects',
           Setup(16, 64, 256, 4096, 1, 4096), large_objects, 160_000, 20_000, 8_000),
     Shape('448 pairs', 'a heap just large enough, with an object of each size class in each of 64 domains: each fourth object is a fail-safe',
           Setup(1, 64, 32, 448, 1, 4096), lambda setup, count: pairs(setup, count, 64), 4_000, 800, 200, 10.0),
@@ -274,7 +274,7 @@ FOUR_APART = Setup(4, 4, 64, 128, 4, 4096)
 SETUPS = [
     ('phases of one `who`', Setup(), Setup(1, 64, 256, 4096, 16, 4096), lambda setup: short_phases(setup, 2_000, 'who 0 0\n')),
     ('the same, sixteen lanes in both', Setup(16), LARGEST, lambda setup: short_phases(setup, 2_000, 'who 0 0\n')),
-    ('stores with an emptying each', Setup(1, 1, 2, 8, 1, 1), Setup(16, 64, 256, 4096, 1, 1), lambda setup: stores(setup, 4_000)),
+    ('stores with a minor collection each', Setup(1, 1, 2, 8, 1, 1), Setup(16, 64, 256, 4096, 1, 1), lambda setup: stores(setup, 4_000)),
     ('objects of 127 fields', Setup(1, 1, 64, 640, 1, 1), Setup(16, 64, 256, 4096, 1, 1), lambda setup: large_objects(setup, 8_000)),
     ('an even mix of four lanes', FOUR_APART, Setup(16, 64, 256, 4096, 4, 4096),
      lambda setup: whole(setup, islice(mixed_phases(setup, EVEN, working=FOUR_APART), 4))),

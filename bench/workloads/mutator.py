@@ -6,7 +6,10 @@ order, and keeps alive what the program keeps.
 
 Beside the trace the objects themselves are kept, to know what a load answers, and how many superpages is needed by what is reached
 at the end of each phase: `Mutator.trace` makes the heap as large as the most of these, times a factor."""
+import argparse
+import os
 import random
+import sys
 from math import ceil
 
 LIMIT = 16_777_216
@@ -18,6 +21,42 @@ CLASSES = (2, 4, 8, 16, 32, 64, 128)
 
 class Refused(Exception):
     """What a trace can't say."""
+
+
+def whole(least, most):
+    """A type of an option of the command line: a whole number from the least to the most."""
+    def number(word):
+        if not word.isdecimal() or not least <= int(word) <= most:
+            raise argparse.ArgumentTypeError(f'{word} is no whole number from {least} to {most}')
+        return int(word)
+    return number
+
+
+def share(most):
+    """A type of an option: a number from 0 to the most."""
+    def number(word):
+        try:
+            found = float(word)
+        except ValueError:
+            found = -1.0
+        if not 0 <= found <= most:
+            raise argparse.ArgumentTypeError(f'{word} is no number from 0 to {most}')
+        return found
+    return number
+
+
+def printed(text):
+    """Writes a whole text to standard output, and answers the exit status: a reader that went away is none of our business."""
+    try:
+        sys.stdout.write(text)
+        sys.stdout.flush()
+    except BrokenPipeError:
+        os.dup2(os.open(os.devnull, os.O_WRONLY), sys.stdout.fileno())
+    except OSError as error:
+        os.dup2(os.open(os.devnull, os.O_WRONLY), sys.stdout.fileno())
+        print(f'{os.path.basename(sys.argv[0])}: {error}', file=sys.stderr)
+        return 1
+    return 0
 
 
 class Thing:
@@ -104,7 +143,10 @@ class Domain:
         self.held[slot] = None
         self.free.append(slot)
         if not self.mutator.is_done:
-            self.write(f'clear {self.number} {slot}')
+            try:
+                self.write(f'clear {self.number} {slot}')
+            except Refused:
+                self.mutator.is_done = True  # Python drops what is raised here; the next line that the program writes is refused too
 
     def new(self, fields):
         """A variable with a new object, whose fields hold nothing."""
