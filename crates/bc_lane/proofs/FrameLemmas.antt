@@ -4,16 +4,16 @@ use Rattle.bc_bits.specs.Counting.{one_if}
 use Rattle.bc_evict.specs.Claiming.{FindsNoFrame, HasClaimed, all_bits}
 use Rattle.bc_evict.specs.Looking.{MayStay}
 use Rattle.bc_evict.specs.Reloading.{HasReloaded}
-use Rattle.bc_evict.specs.Victims.{FindsNoVictim, HasFreed}
+use Rattle.bc_evict.specs.Victims.{FindsNoVictim, HasFreed, IsPassed}
 use Rattle.bc_frames.specs.Places.{one_more}
 use Rattle.bc_lane.specs.Shown.{IsOwnPage, ShowsPages}
-use Rattle.bc_lane.specs.Turns.{FindsNoFrameAtAll, FindsNoFrameFor, HasFrame, IsRefusedPage, IsSameLane, LastOf, ReadsHeld, ReadsOn}
+use Rattle.bc_lane.specs.Turns.{FindsNoFrameAtAll, FindsNoFrameFor, HasFrame, IsRefusedPage, IsSameLane, ReadsHeld, ReadsOn, ShowsNoFrame}
 use Rattle.bc_lane.specs.declared.stops.Stop.{Stop}
 use Rattle.bc_lane.proofs.HandLemmas.{off-page, refused-looks, same-worker, then-worker}
 use Rattle.bc_lane.proofs.ReloadLemmas.{HasFetched, besides, shows-besides, shows-fetched}
 use Rattle.bc_pins.specs.declared.holding.Held.{Held}
 use Rattle.bc_pins.specs.declared.pins.Seat.{Seat}
-use Rattle.bc_pins.specs.declared.taking.TakeError.TheVariants.{Gone}
+use Rattle.bc_pins.specs.declared.taking.TakeError.TheVariants as refusal
 use Rattle.bc_pins.specs.declared.taking.Want.TheVariants.{Work}
 use Rattle.bc_pins.specs.declared.views.Hand.{Hand}
 use Rattle.bc_pins.specs.declared.views.Lodged.TheVariants.{Nothing}
@@ -27,14 +27,8 @@ use Rattle.bc_pins.specs.Views.{entries, opened_word, reads_at, reads_of, record
 use Rattle.bc_pins.proofs.LogLemmas.{reads-append, times-reads}
 use Rattle.bc_pins.proofs.TotalLemmas.{one_other}
 use Rattle.bc_superpages.specs.declared.headers.PageState.{PageState}
+use Rattle.bc_superpages.specs.declared.headers.PageState.TheVariants as state
 use Rattle.bc_superpages.specs.Layout.{Layout}
-
--- what was read last is so before earlier reads
-pub last-more : (a b : List (ℕ × ℕ)) (i found : ℕ) → LastOf a i found → LastOf (a ++ b) i found
-last-more a b i found last = (last.0 ++ reads_of i b, reads-append i a b ∙ ap (λ (l : List ℕ). l ++ reads_of i b) last.1)
-
-last-behind : (a b : List (ℕ × ℕ)) (i found : ℕ) → reads_of i a ≡ [] → reads_of i b ≡ found ∷ [] → LastOf (a ++ b) i found
-last-behind a b i found none last = ([], reads-append i a b ∙ ap (λ (l : List ℕ). l ++ reads_of i b) none ∙ last)
 
 -- a frame was claimed
 pub claimed-frame : (v w : View) (frame : ℕ) → HasClaimed v frame w → HasFrame v frame w
@@ -132,31 +126,45 @@ module _ (v u w : View) (c : FindsNoFrame v u) (f : FindsNoVictim u w) where
       ∙ ap (λ (x : View). record x { read = f.looks ++ x.read; seen = w.seen; gone = w.gone; busy = w.busy }) c.view
       ∙ ap (λ (l : List (ℕ × ℕ)). record v { read = l; seen = w.seen; gone = w.gone; busy = w.busy }) (sym (append_assoc f.looks c.looks v.read))
 
-  none-frames : (word : ℕ) → word < frame_words v.about → LastOf none-looks (frame_at v.about word) all_bits
+  none-frames : (word : ℕ) → word < frame_words v.about → reads_of (frame_at v.about word) none-looks ≡ all_bits ∷ []
   none-frames word lt =
       let same = ap (λ (x : View). x.about) c.view in
-      last-behind f.looks c.looks (frame_at v.about word) all_bits
-      (f.looked.words (frame_at v.about word) (subst (λ (k : Key). 16 * k.supers ≤ frame_at v.about word) (sym same) (omega arith))) (c.each word lt)
+      reads-append (frame_at v.about word) f.looks c.looks
+      ∙ ap (λ (l : List ℕ). l ++ reads_of (frame_at v.about word) c.looks)
+      (f.looked.words (frame_at v.about word) (subst (λ (k : Key). 16 * k.supers ≤ frame_at v.about word) (sym same) (omega arith)))
+      ∙ c.each word lt
 
-  none-pages : (q : ℕ) → q < pages_of v.about → (place : PageState) × MayStay place × LastOf none-looks (page_at q) (state_word place)
+  none-pages : (q : ℕ) → q < pages_of v.about → IsPassed none-looks q
   none-pages q near =
-      let p = f.each q (subst (λ (k : Key). q < pages_of k) (sym (ap (λ (x : View). x.about) c.view)) near) in
-      (p.0, p.1, last-more f.looks c.looks (page_at q) (state_word p.0) ([], p.2))
+      let p = f.each q (subst (λ (k : Key). q < pages_of k) (sym (ap (λ (x : View). x.about) c.view)) near) in (
+        p.0,
+        p.1,
+        reads-append (page_at q) f.looks c.looks ∙ ap (λ (l : List ℕ). l ++ reads_of (page_at q) c.looks) p.2
+            ∙ ap (λ (l : List ℕ). state_word p.0 ∷ l) (c.pages q near),
+      )
 
   pub finds-none : FindsNoFrameAtAll v w
   finds-none = record {
     looks = none-looks;
     view = none-view;
     gone = λ p. let more = f.looked.gone p in let same = ap (λ (x : View). times p x.gone) c.view in omega arith;
-    frames = subst (λ (k : Key). (word : ℕ) → word < frame_words k → LastOf none-looks (frame_at k word) all_bits) (sym none-about) none-frames;
-    pages = subst (λ (k : Key). (q : ℕ) → q < pages_of k → (place : PageState) × MayStay place × LastOf none-looks (page_at q) (state_word place)) (sym none-about) none-pages;
-    none = subst (λ (k : Key). (q : ℕ) → q < pages_of k → times 1 (reads_at q none-looks) ≡ 0) (sym none-about)
-        (λ q near.
-        let both = times-reads 1 (page_at q) f.looks c.looks in
-        let one = f.looked.none q (subst (λ (k : Key). q < pages_of k) (sym (ap (λ (x : View). x.about) c.view)) near) in
-        let two = ap (times 1) (c.pages q near) in
-        omega arith);
+    none = record { frames = none-frames; pages = none-pages };
   }
+
+-- where a page was looked at so it wasn't Home
+stays-away : (place : PageState) → MayStay place → state_word place ≢ 1
+stays-away state.Absent may e = absurd (omega arith)
+stays-away state.Home may e = may
+stays-away state.Remembered may e = absurd (omega arith)
+stays-away state.Held may e = absurd (omega arith)
+stays-away state.Gone may e = absurd (omega arith)
+
+pub none-home : (k : Key) (looks : List (ℕ × ℕ)) (q : ℕ) → ShowsNoFrame k looks → q < pages_of k → times 1 (reads_at q looks) ≡ 0
+none-home k looks q none near =
+    let p = none.pages q near in
+    let once = ap (times 1) p.2 in
+    let other = one_other (state_word p.0) 1 (stays-away p.0 p.1) in
+    omega arith
 
 -- a seat that found none has read on, and shows what it showed
 pub none-found-reads : (v w : View) → FindsNoFrameAtAll v w → ReadsOn v w
@@ -168,7 +176,7 @@ none-found-reads v w a = record {
   behind = λ q far. (ap (λ (x : View). entries q x.changed) a.view, ap (λ (x : View). times q x.recorded) a.view);
   others = λ q none. (ap (λ (x : View). entries q x.changed) a.view, ap (λ (x : View). times q x.recorded) a.view);
   foreign = λ q near none.
-      let zero_reads = a.none q (subst (λ (k : Key). q < pages_of k) (sym (ap (λ (x : View). x.about) a.view)) near) in
+      let zero_reads = none-home v.about a.looks q a.none near in
       let left = ap (λ (x : View). times q x.left) a.view in
       let emptied = ap (λ (x : View). times q x.emptied) a.view in
       omega arith;
@@ -189,16 +197,18 @@ none-found-shows v w end s a shown =
     shown
 
 -- so a page that was read as Gone before has no frame
-pub no-frame-for : (v u w : View) (page : ℕ) → IsTakeRefused v page Work Gone u → FindsNoFrameAtAll u w → 0 < times page u.gone → FindsNoFrameFor v w page
-no-frame-for v u w page refused a noted =
+pub no-frame-for : (v u w : View) (page : ℕ) → IsTakeRefused v page Work refusal.Gone u → u.rights ≡ [] → FindsNoFrameAtAll u w → 0 < times page u.gone → FindsNoFrameFor v w page
+no-frame-for v u w page refused free a noted =
     let r = refused-looks v u page refused in
     record {
-      looks = a.looks ++ r.0;
-      read = ap (λ (x : View). x.read) a.view ∙ ap (λ (l : List (ℕ × ℕ)). a.looks ++ l) r.1 ∙ sym (append_assoc a.looks r.0 v.read);
-      gone = (let both = times-reads 4 (page_at page) a.looks r.0 in let some = r.2 in omega arith);
+      ready = u;
+      before = r.0;
+      gone = r.1;
+      rights = free;
+      looks = a.looks;
+      view = a.view ∙ sym (ap (λ (x : View). record u { hand = x.hand; changed = x.changed; recorded = x.recorded; read = a.looks ++ u.read; seen = x.seen; gone = x.gone; busy = x.busy }) a.view);
+      none = a.none;
       noted = (let more = a.gone page in omega arith);
-      frames = λ word lt. last-more a.looks r.0 (frame_at w.about word) all_bits (a.frames word lt);
-      pages = λ q near. let p = a.pages q near in (p.0, p.1, last-more a.looks r.0 (page_at q) (state_word p.0) p.2);
     }
 
 -- what was read since a view was read since an earlier one
@@ -211,12 +221,14 @@ held-since u v w page reads held = record {
 
 pub no-frame-since : (u v w : View) (page : ℕ) → ReadsOn u v → FindsNoFrameFor v w page → FindsNoFrameFor u w page
 no-frame-since u v w page reads f = record {
-  looks = f.looks ++ reads.more;
-  read = f.read ∙ ap (λ (l : List (ℕ × ℕ)). f.looks ++ l) reads.read ∙ sym (append_assoc f.looks reads.more u.read);
-  gone = (let both = times-reads 4 (page_at page) f.looks reads.more in let some = f.gone in omega arith);
+  ready = f.ready;
+  before = f.before ++ reads.more;
+  gone = f.gone ∙ ap (λ (l : List (ℕ × ℕ)). (page_at page, 4) ∷ (f.before ++ l)) reads.read ∙ ap (λ (l : List (ℕ × ℕ)). (page_at page, 4) ∷ l) (sym (append_assoc f.before reads.more u.read));
+  rights = f.rights;
+  looks = f.looks;
+  view = f.view;
+  none = f.none;
   noted = f.noted;
-  frames = λ word lt. last-more f.looks reads.more (frame_at w.about word) all_bits (f.frames word lt);
-  pages = λ q near. let p = f.pages q near in (p.0, p.1, last-more f.looks reads.more (page_at q) (state_word p.0) p.2);
 }
 
 pub refused-since-then : (u v w : View) (page : ℕ) (why : Stop) → ReadsOn u v → IsRefusedPage v w page why → IsRefusedPage u w page why

@@ -2,7 +2,7 @@
 use Rattle.std.proofs.Common.{◌≡◌, ◌≢◌, ℕ, ◌-◌, ◌^◌, ◌<◌, ◌≤◌, Bool, true, false, min, if◌then◌else◌, ◌+◌, List, [], ◌∷◌, ◌++◌, length, Option, Some, None, inl, inr, refl, ap, sym, subst, ◌∙◌, append_assoc, arith}
 use Rattle.std.proofs.lemmas.Bool.{lt-ltb}
 use Rattle.bc_lane.specs.Shown.{HasPage, IsOwnPage, ShowsPages}
-use Rattle.bc_lane.specs.Turns.{HasInHand, IsSameLane, ReadLast, ReadsHeld, ReadsOn}
+use Rattle.bc_lane.specs.Turns.{HasInHand, IsLaidDown, IsSameLane, ReadLast, ReadsHeld, ReadsOn}
 use Rattle.bc_lane.proofs.PageLemmas.{owns-page, recorded-else, shows-back, shows-given, shows-read, shows-taken}
 use Rattle.bc_pins.specs.declared.holding.Held.{Held}
 use Rattle.bc_pins.specs.declared.key.Role.{Role}
@@ -228,10 +228,10 @@ refused-gone v w page want own r = elim r.read [
   | inr e ↦ noted-gone (having_read v page 2) w page own e.1
 ]
 
-pub refused-looks : (v w : View) (page : ℕ) → IsTakeRefused v page Work Gone w → (looks : List (ℕ × ℕ)) × (w.read ≡ looks ++ v.read) × (0 < times 4 (reads_at page looks))
+pub refused-looks : (v w : View) (page : ℕ) → IsTakeRefused v page Work Gone w → (before : List (ℕ × ℕ)) × (w.read ≡ (page_at page, 4) ∷ (before ++ v.read))
 refused-looks v w page r = elim r.read [
-  | inl e ↦ ((page_at page, 4) ∷ [], ap (λ (x : View). x.read) e, let here = reads-here (page_at page) 4 4 [] in omega arith)
-  | inr e ↦ ((page_at page, 4) ∷ (page_at page, 2) ∷ [], ap (λ (x : View). x.read) e.1, let here = reads-here (page_at page) 4 4 ((page_at page, 2) ∷ []) in omega arith)
+  | inl e ↦ ([], ap (λ (x : View). x.read) e)
+  | inr e ↦ ((page_at page, 2) ∷ [], ap (λ (x : View). x.read) e.1)
 ]
 
 -- it was put back, on a page of the table
@@ -258,6 +258,15 @@ put-reads seat w held has own e =
       far = λ q past. (refl, refl, refl);
       few = omega arith;
     })
+
+pub put-laid : (v w : View) (held : Held) → IsOwnPage v held.page → w ≡ put_back v held → IsLaidDown v w
+put-laid v w held own e =
+    let same : put_back v held ≡ record v { hand = None; changed = (put_back v held).changed; recorded = (put_back v held).recorded } =
+    ap (λ (b : Bool). record (put_back v held) { returned = if b then v.returned else held.page ∷ v.returned }) (owns-page v held.page own) in
+    subst (λ (x : View). IsLaidDown v x) (sym e) same
+
+pub none-laid : (v : View) → v.hand ≡ None → IsLaidDown v v
+none-laid v none = ap (λ (h : Option Hand). record v { hand = h }) none
 
 pub refused-shown : (v w : View) (page : ℕ) (want : Want) (refusal : TakeError) (end : ℕ) (s : Layout) → IsTakeRefused v page want refusal w → ShowsPages v None end s → ShowsPages w None end s
 refused-shown v w page want refusal end s r shown = elim r.read [

@@ -2,6 +2,7 @@
 use Rattle.std.proofs.Common.{◌≡◌, ◌≢◌, ℕ, ◌+◌, ◌<◌, Bool, true, false, List, [], ◌∷◌, ◌++◌, if◌then◌else◌, inl, inr, refl, ap, sym, subst, ◌∙◌, arith}
 use Rattle.bc_evict.specs.Reloading.{HasReloaded}
 use Rattle.bc_lane.specs.Shown.{IsOwnPage}
+use Rattle.bc_lane.proofs.FrameLemmas.{none-home}
 use Rattle.bc_lane.specs.Turns.{FindsNoFrameAtAll, HasFrame, LooksOnIn, PassesBy, ReadsOn}
 use Rattle.bc_pins.specs.declared.holding.Held.{Held}
 use Rattle.bc_pins.specs.declared.pins.Seat.{Seat}
@@ -58,7 +59,7 @@ put-passes v w held q e = subst (λ (x : View). PassesBy v x q) (sym e) (record 
 pub none-found-passes : (v w : View) (q : ℕ) → q < pages_of v.about → FindsNoFrameAtAll v w → PassesBy v w q
 none-found-passes v w q near a =
     let read = ap (λ (x : View). times 1 (reads_at q x.read)) a.view ∙ times-reads 1 (page_at q) a.looks v.read in
-    let none = a.none q (subst (λ (k : Key). q < pages_of k) (sym (ap (λ (x : View). x.about) a.view)) near) in
+    let none = none-home v.about a.looks q a.none near in
     let left = ap (λ (x : View). times q x.left) a.view in
     let emptied = ap (λ (x : View). times q x.emptied) a.view in
     record { home = omega arith; fetched = ap (λ (x : View). times q x.fetched) a.view }

@@ -3,9 +3,7 @@ use Rattle.std.proofs.Common.{◌≡◌, ◌⊎◌, ℕ, ◌+◌, ◌-◌, ◌*�
 use Rattle.std.proofs.lemmas.List.{get_or_default}
 use Rattle.std.specs.List.{AllByRecursion}
 use Rattle.bc_lane.specs.Shown.{ShowsPages}
-use Rattle.bc_evict.specs.Claiming.{all_bits}
-use Rattle.bc_evict.specs.Looking.{MayStay}
-use Rattle.bc_lane.specs.Turns.{DoesOne, FindsNoFrameFor, IsGoing, IsLaneSeat, IsLaneTable, IsNextOp, IsWhole, LaneRan, LastOf, LooksNext, LooksOnIn, PassesBy, ReadsHeld, ReadsOn, SamePart, StaysWhole, StopsOp, WhyStopped}
+use Rattle.bc_lane.specs.Turns.{DoesOne, FindsNoFrameFor, IsGoing, IsLaidDown, IsLaneSeat, IsLaneTable, IsNextOp, IsWhole, LaneRan, LooksNext, LooksOnIn, PassesBy, ReadsHeld, ReadsOn, SamePart, StaysWhole, StopsOp, WhyStopped}
 use Rattle.bc_lane.specs.declared.parts.LanePart.{LanePart}
 use Rattle.bc_lane.specs.declared.stops.Stop.{Stop}
 use Rattle.bc_lane.specs.declared.stops.Stop.TheVariants as stop
@@ -23,8 +21,6 @@ use Rattle.bc_pins.specs.declared.views.View.{View}
 use Rattle.bc_pins.specs.Calls.{key_of, view_of}
 use Rattle.bc_pins.specs.Key.{Key, frame_at, frame_words, page_at, pages_of}
 use Rattle.bc_pins.specs.Totals.{times}
-use Rattle.bc_pins.specs.Views.{state_word}
-use Rattle.bc_superpages.specs.declared.headers.PageState.{PageState}
 use Rattle.bc_superpages.specs.Layout.{Layout, superpages}
 use Rattle.bc_whole_heap.specs.Heaps.{HeapView, end_of}
 
@@ -56,40 +52,38 @@ same-end part v hand k e end h about w is =
     is ∙ ap (λ (a : Key). 2048 * superpages a.opening) (sym about) ∙ sym (ap end_of w.belongs.space.same)
 
 -- the page in hand is put back at the end: the reason is the same
-record SameNotes (v w : View) : Type 0 where
-  pub read : w.read ≡ v.read
-  pub gone : w.gone ≡ v.gone
-  pub busy : w.busy ≡ v.busy
-  pub about : w.about ≡ v.about
-
-held-laid : (u v w : View) (page : ℕ) → SameNotes v w → ReadsHeld u v page → ReadsHeld u w page
-held-laid u v w page same held = record {
-  last = (held.last.0, same.read ∙ held.last.1);
-  since = subst (λ (l : List (ℕ × ℕ)). length u.read < length l) (sym same.read) held.since;
-  noted = subst (λ (l : List ℕ). 0 < times page l) (sym same.busy) held.noted;
+held-laid : (u v w : View) (page : ℕ) → IsLaidDown v w → ReadsHeld u v page → ReadsHeld u w page
+held-laid u v w page laid held = record {
+  last = (held.last.0, ap (λ (x : View). x.read) laid ∙ held.last.1);
+  since = subst (λ (l : List (ℕ × ℕ)). length u.read < length l) (sym (ap (λ (x : View). x.read) laid)) held.since;
+  noted = subst (λ (l : List ℕ). 0 < times page l) (sym (ap (λ (x : View). x.busy) laid)) held.noted;
 }
 
-no-frame-laid : (u v w : View) (page : ℕ) → SameNotes v w → FindsNoFrameFor u v page → FindsNoFrameFor u w page
-no-frame-laid u v w page same f = record {
-  looks = f.looks;
-  read = same.read ∙ f.read;
+no-frame-laid : (u v w : View) (page : ℕ) → IsLaidDown v w → FindsNoFrameFor u v page → FindsNoFrameFor u w page
+no-frame-laid u v w page laid f = record {
+  ready = f.ready;
+  before = f.before;
   gone = f.gone;
-  noted = subst (λ (l : List ℕ). 0 < times page l) (sym same.gone) f.noted;
-  frames = subst (λ (k : Key). (word : ℕ) → word < frame_words k → LastOf f.looks (frame_at k word) all_bits) (sym same.about) f.frames;
-  pages = subst (λ (k : Key). (q : ℕ) → q < pages_of k → (place : PageState) × MayStay place × LastOf f.looks (page_at q) (state_word place)) (sym same.about) f.pages;
+  rights = f.rights;
+  looks = f.looks;
+  view =
+      laid ∙ ap (λ (x : View). record x { hand = None; changed = w.changed; recorded = w.recorded }) f.view
+      ∙ ap (λ (x : View). record f.ready { hand = x.hand; changed = w.changed; recorded = w.recorded; read = f.looks ++ f.ready.read; seen = x.seen; gone = x.gone; busy = x.busy }) (sym laid);
+  none = f.none;
+  noted = subst (λ (l : List ℕ). 0 < times page l) (sym (ap (λ (x : View). x.gone) laid)) f.noted;
 }
 
-stops-laid : (u : View) (part : LanePart) (v w : View) (hand : Option Held) (end : ℕ) (op : Op) (why : Stop) → SameNotes v w → ((e : ℕ) → (s : Layout) → ShowsPages w None e s → ShowsPages v hand e s) → StopsOp u part v hand end op why → StopsOp u part w None end op why
-stops-laid u part v w hand end op stop.End same back stops = absurd stops
-stops-laid u part v w hand end op stop.NurseryFull same back stops = stops
-stops-laid u part v w hand end op stop.BufferFull same back stops = λ h whole fits. stops h (whole-moved part w v None hand end h back whole) fits
-stops-laid u part v w hand end op (stop.Busy page) same back stops = (held-laid u v w page same stops.0, λ h whole fits. stops.1 h (whole-moved part w v None hand end h back whole) fits)
-stops-laid u part v w hand end op stop.NoFrame same back stops = (stops.0, no-frame-laid u v w stops.0 same stops.1, λ h whole fits. stops.2 h (whole-moved part w v None hand end h back whole) fits)
+stops-laid : (u : View) (part : LanePart) (v w : View) (hand : Option Held) (end : ℕ) (op : Op) (why : Stop) → IsLaidDown v w → ((e : ℕ) → (s : Layout) → ShowsPages w None e s → ShowsPages v hand e s) → StopsOp u part v hand end op why → StopsOp u part w None end op why
+stops-laid u part v w hand end op stop.End laid back stops = absurd stops
+stops-laid u part v w hand end op stop.NurseryFull laid back stops = stops
+stops-laid u part v w hand end op stop.BufferFull laid back stops = λ h whole fits. stops h (whole-moved part w v None hand end h back whole) fits
+stops-laid u part v w hand end op (stop.Busy page) laid back stops = (held-laid u v w page laid stops.0, λ h whole fits. stops.1 h (whole-moved part w v None hand end h back whole) fits)
+stops-laid u part v w hand end op stop.NoFrame laid back stops = (stops.0, no-frame-laid u v w stops.0 laid stops.1, λ h whole fits. stops.2 h (whole-moved part w v None hand end h back whole) fits)
 
-pub why-laid : (u : View) (ops : List Op) (turn : LaneTurn) (v w : View) (hand : Option Held) (end : ℕ) (why : Stop) → w.read ≡ v.read → w.gone ≡ v.gone → w.busy ≡ v.busy → w.about ≡ v.about → ((e : ℕ) → (s : Layout) → ShowsPages w None e s → ShowsPages v hand e s) → WhyStopped u ops end turn v hand why → WhyStopped u ops end turn w None why
-why-laid u ops turn v w hand end why read gone busy about back is = elim is [
+pub why-laid : (u : View) (ops : List Op) (turn : LaneTurn) (v w : View) (hand : Option Held) (end : ℕ) (why : Stop) → IsLaidDown v w → ((e : ℕ) → (s : Layout) → ShowsPages w None e s → ShowsPages v hand e s) → WhyStopped u ops end turn v hand why → WhyStopped u ops end turn w None why
+why-laid u ops turn v w hand end why laid back is = elim is [
   | inl done ↦ inl done
-  | inr next ↦ inr (next.0, next.1, next.2, stops-laid u turn.part v w hand end next.0 why (record { read = read; gone = gone; busy = busy; about = about }) back next.3)
+  | inr next ↦ inr (next.0, next.1, next.2, stops-laid u turn.part v w hand end next.0 why laid back next.3)
 ]
 
 pub ran-laid : (ops : List Op) (end : ℕ) (old new : LaneTurn) (v w x : View) (hand after : Option Held) → LaneRan ops end old v hand new w after → ReadsOn w x → ((q : ℕ) → PassesBy w x q) → ((e : ℕ) → (s : Layout) → ShowsPages w after e s → ShowsPages x None e s) → LaneRan ops end old v hand new x None

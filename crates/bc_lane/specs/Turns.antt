@@ -31,13 +31,12 @@ use Rattle.bc_pins.specs.declared.pins.Pins.{Pins}
 use Rattle.bc_pins.specs.declared.pins.Seat.{Seat}
 use Rattle.bc_pins.specs.declared.views.View.{View}
 use Rattle.bc_evict.specs.Claiming.{all_bits}
-use Rattle.bc_evict.specs.Looking.{MayStay}
+use Rattle.bc_evict.specs.Victims.{IsPassed}
 use Rattle.bc_pins.specs.Calls.{CountsFetches, HoldsPage, IsAt, IsFree, IsSameWorker, key_of, view_of}
 use Rattle.bc_pins.specs.Contents.{IsBarePage}
 use Rattle.bc_pins.specs.Key.{Key, frame_at, frame_words, lane_role, owner, page_at, pages_of}
 use Rattle.bc_pins.specs.Totals.{times}
-use Rattle.bc_pins.specs.Views.{entries, has_role, opened_state, reads_at, reads_of, state_word}
-use Rattle.bc_superpages.specs.declared.headers.PageState.{PageState}
+use Rattle.bc_pins.specs.Views.{entries, has_role, opened_state, reads_at, reads_of}
 use Rattle.bc_superpages.specs.declared.headers.PageState.TheVariants.{Absent}
 use Rattle.bc_superpages.specs.LayoutAt.{IsAllocated}
 use Rattle.bc_superpages.specs.RootWords.{RootWords}
@@ -141,29 +140,36 @@ pub record ReadsHeld (v w : View) (page : ℕ) : Type 0 where
   pub since : length v.read < length w.read
   pub noted : 0 < times page w.busy
 
--- what a word said when it was read last
-abbrev pub LastOf : List (ℕ × ℕ) → ℕ → ℕ → Type 0
-LastOf looks i found = (rest : List ℕ) × (reads_of i looks ≡ found ∷ rest)
+-- the page in hand was put back, if there was one: nothing else changed but what the seat records of its page
+abbrev pub IsLaidDown : View → View → Type 0
+IsLaidDown v w = w ≡ record v { hand = None; changed = w.changed; recorded = w.recorded }
 
--- no frame was found: the last step on each frame word since found no clear bit, and the last step on the word of each page of the table
--- found no page that can leave. Nothing else changed but what is noted of pages
+-- by these looks no frame is free and no page can leave: each frame word was read once and had no clear bit, and the word of each page of
+-- the table was read once, and it was a state in which no page can be taken
+pub record ShowsNoFrame (k : Key) (looks : List (ℕ × ℕ)) : Type 0 where
+  pub frames : (word : ℕ) → word < frame_words k → reads_of (frame_at k word) looks ≡ all_bits ∷ []
+  pub pages : (q : ℕ) → q < pages_of k → IsPassed looks q
+
+-- no frame was found. Nothing changed but what was read and what is noted of pages: so no frame was claimed, and none given back
 pub record FindsNoFrameAtAll (v w : View) : Type 0 where
   pub looks : List (ℕ × ℕ)
   pub view : w ≡ record v { read = looks ++ v.read; seen = w.seen; gone = w.gone; busy = w.busy }
   pub gone : (page : ℕ) → times page v.gone ≤ times page w.gone
-  pub frames : (word : ℕ) → word < frame_words w.about → LastOf looks (frame_at w.about word) all_bits
-  pub pages : (q : ℕ) → q < pages_of w.about → (place : PageState) × MayStay place × LastOf looks (page_at q) (state_word place)
-  pub none : (q : ℕ) → q < pages_of w.about → times 1 (reads_at q looks) ≡ 0
+  pub none : ShowsNoFrame v.about looks
 
--- the page was read as Gone since, as is noted, and no frame was found for it: the last step on each frame word since found no clear bit, and
--- the last step on the word of each page of the table found no page that can leave
+-- the page was read as Gone since, as is noted, by a seat that had no right to a frame, and then no frame was found for it. From then on the
+-- seat claimed no frame and gave none back, made no page Gone or Absent and brought none back
 pub record FindsNoFrameFor (v w : View) (page : ℕ) : Type 0 where
+  -- what the seat's view was when it began to look for a frame, and what it had read before the page's word
+  pub ready : View
+  pub before : List (ℕ × ℕ)
+  pub gone : ready.read ≡ (page_at page, 4) ∷ (before ++ v.read)
+  pub rights : ready.rights ≡ []
+  -- what it has read since
   pub looks : List (ℕ × ℕ)
-  pub read : w.read ≡ looks ++ v.read
-  pub gone : 0 < times 4 (reads_at page looks)
+  pub view : w ≡ record ready { hand = w.hand; changed = w.changed; recorded = w.recorded; read = looks ++ ready.read; seen = w.seen; gone = w.gone; busy = w.busy }
+  pub none : ShowsNoFrame ready.about looks
   pub noted : 0 < times page w.gone
-  pub frames : (word : ℕ) → word < frame_words w.about → LastOf looks (frame_at w.about word) all_bits
-  pub pages : (q : ℕ) → q < pages_of w.about → (place : PageState) × MayStay place × LastOf looks (page_at q) (state_word place)
 
 -- a seat read on, took and put back pages of the table, reloaded own pages that were Gone, and made pages Gone or Absent for their
 -- frames, no more than it reloaded. A page that isn't its own it made Gone or Absent as often as it read it as Home; none such it

@@ -4,7 +4,7 @@
 ghost use Rattle.std.specs.Prelude.{◌≡◌, ◌≢◌, ℕ, ◌<◌, true, [], Some, None, IfOk, IfErr, IfSome, IfNone, OnOk, OnErr};
 ghost use Rattle.bc_lane.specs.declared.stops.Stop.TheVariants as stop;
 ghost use Rattle.bc_lane.specs.Shown.{HasPage, IsOwnPage, ShowsPages};
-ghost use Rattle.bc_lane.specs.Turns.{FindsNoFrameAtAll, HasFrame, HasInHand, IsRefusedPage, IsSameLane, PassesBy, ReadsOn};
+ghost use Rattle.bc_lane.specs.Turns.{FindsNoFrameAtAll, HasFrame, HasInHand, IsLaidDown, IsRefusedPage, IsSameLane, PassesBy, ReadsOn};
 ghost use Rattle.bc_pins.specs.Calls.{HoldsPage, IsAt, IsFree, IsSameSeat, key_of, view_of};
 ghost use Rattle.bc_pins.specs.Contents.{IsBarePage};
 ghost use Rattle.bc_pins.specs.Key.{pages_of};
@@ -26,9 +26,7 @@ pub(crate) fn put_hand_back(pins: &Pins, seat: &mut Seat, hand: &mut Option<Held
     ensures none { hand.new ≡ None }
     ensures shows { (end : ℕ) → (s : Layout) → ShowsPages (view_of seat.old) hand.old end s → ShowsPages (view_of seat.new) None end s }
     ensures back { (end : ℕ) → (s : Layout) → ShowsPages (view_of seat.new) None end s → ShowsPages (view_of seat.old) hand.old end s }
-    ensures read { (view_of seat.new).read ≡ (view_of seat.old).read }
-    ensures gone { (view_of seat.new).gone ≡ (view_of seat.old).gone }
-    ensures busy { (view_of seat.new).busy ≡ (view_of seat.old).busy }
+    ensures laid { IsLaidDown (view_of seat.old) (view_of seat.new) }
     ensures reads { ReadsOn (view_of seat.old) (view_of seat.new) }
     ensures passes { (q : ℕ) → PassesBy (view_of seat.old) (view_of seat.new) q }
 {

@@ -1,5 +1,5 @@
-use Rattle.std.proofs.Common.{ap, sym, ◌∙◌}
-use Rattle.bc_lane.proofs.HandLemmas.{in-hand, in-none, may-put, none-reads, put-reads, same-lane, seat-lane, shown-back, shown-none, shown-put, some-back}
+use Rattle.std.proofs.Common.{refl, ap, sym, ◌∙◌}
+use Rattle.bc_lane.proofs.HandLemmas.{in-hand, in-none, may-put, none-laid, none-reads, put-laid, put-reads, same-lane, seat-lane, shown-back, shown-none, shown-put, some-back}
 use Rattle.bc_lane.proofs.PageLemmas.{shown-hand}
 use Rattle.bc_lane.proofs.PassLemmas.{none-passes, put-passes}
 use Rattle.bc_pins.specs.Calls.{view_of}
@@ -53,3 +53,13 @@ returns-in-Some-clause-passes c = λ q. put-passes (view_of c.args.seat.now) (vi
 
 pub returns-in-None-clause-passes : goal.returns-in-None-clause-passes
 returns-in-None-clause-passes c = λ q. none-passes (view_of c.args.seat.now) q
+
+pub returns-in-Some-clause-laid : goal.returns-in-Some-clause-laid
+returns-in-Some-clause-laid c =
+    let s = c.requires.shown in
+    let is = sym c.take.ensures.value ∙ c.in-Some.is in
+    put-laid (view_of c.args.seat.now) (view_of c.put.new.seat) c.in-Some.held (shown-hand (view_of c.args.seat.now) c.args.hand.now c.in-Some.held s.0 s.1 is s.2).in_hand.own c.put.ensures.view
+
+pub returns-in-None-clause-laid : goal.returns-in-None-clause-laid
+returns-in-None-clause-laid c =
+    none-laid (view_of c.args.seat.now) (in-none c.args.seat.now c.args.hand.now (sym c.take.ensures.value ∙ c.in-None.is) c.requires.hands).hand

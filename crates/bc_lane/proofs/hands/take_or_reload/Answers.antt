@@ -79,8 +79,9 @@ pub returns-in-Err-Gone-clause-err : goal.returns-in-Err-Gone-clause-err
 returns-in-Err-Gone-clause-err c =
     let r = rw c.in-Err-Gone.field-0-is at c.in-Err-Gone.ensures.err in
     let noted = refused-gone (view_of c.args.seat.now) (view_of c.take.new.seat) c.args.page Work c.requires.own r.1 in
+    let free = rights-on (view_of c.args.seat.now) (view_of c.take.new.seat) (refused-reads (view_of c.args.seat.now) (view_of c.take.new.seat) c.args.page Work Gone r.1 c.requires.own) c.requires.rights in
     IfErr-weaker c.reload_page.result _ _
-    (λ why none. (none.0, inr (none.1, no-frame-for (view_of c.args.seat.now) (view_of c.take.new.seat) (view_of c.reload_page.new.seat) c.args.page r.1 none.2 noted)))
+    (λ why none. (none.0, inr (none.1, no-frame-for (view_of c.args.seat.now) (view_of c.take.new.seat) (view_of c.reload_page.new.seat) c.args.page r.1 free none.2 noted)))
     c.reload_page.ensures.err
 
 pub returns-in-Err-Gone-clause-still : goal.returns-in-Err-Gone-clause-still

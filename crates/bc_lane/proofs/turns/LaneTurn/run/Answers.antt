@@ -35,8 +35,8 @@ pub returns-clause-why : goal.returns-clause-why
 returns-clause-why g c = λ h w.
     let e = same-end c.args.self.now.part (view_of c.args.seat.now) None (key_of c.args.pins.now) (end_of h.space) c.end-end.result h c.requires.going.seated.at.about w c.end-end.ensures.end in
     subst (λ (n : ℕ). WhyStopped (view_of c.args.seat.now) c.args.ops.now n c.run_to_stop-why.new.turn (view_of c.put_hand_back.new.seat) None c.run_to_stop-why.result) e
-    (why-laid (view_of c.args.seat.now) c.args.ops.now c.run_to_stop-why.new.turn (view_of c.run_to_stop-why.new.seat) (view_of c.put_hand_back.new.seat) c.run_to_stop-why.new.hand c.end-end.result c.run_to_stop-why.result c.put_hand_back.ensures.read c.put_hand_back.ensures.gone c.put_hand_back.ensures.busy
-    c.put_hand_back.ensures.same.worker.about c.put_hand_back.ensures.back c.run_to_stop-why.ensures.why)
+    (why-laid (view_of c.args.seat.now) c.args.ops.now c.run_to_stop-why.new.turn (view_of c.run_to_stop-why.new.seat) (view_of c.put_hand_back.new.seat) c.run_to_stop-why.new.hand c.end-end.result c.run_to_stop-why.result c.put_hand_back.ensures.laid
+    c.put_hand_back.ensures.back c.run_to_stop-why.ensures.why)
 
 pub returns-clause-seat : goal.returns-clause-seat
 returns-clause-seat g c = then-lane c.args.seat.now c.run_to_stop-why.new.seat c.put_hand_back.new.seat c.run_to_stop-why.ensures.seat c.put_hand_back.ensures.same
