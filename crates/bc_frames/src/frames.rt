@@ -9,10 +9,12 @@ ghost use Rattle.bc_frames.specs.Pool.{is_free, free_count};
 use std::alloc::{AllocError, Global};
 use std::marker::Model;
 
-/// The right to one frame of memory. It can't be copied.
+/// The right to one frame of memory. It can't be copied. It remembers whether what lies in the frame was used lately, which the model
+/// doesn't see.
 #[derive(Drop)]
 pub struct Frame {
     number: u32,
+    used: bool,
 }
 
 impl Model for Frame {
@@ -35,7 +37,26 @@ impl Frame {
     pub fn of(number: u32) -> Self
         ensures number { result ≡ number }
     {
-        Frame { number }
+        Frame {
+            number,
+            used: false,
+        }
+    }
+
+    /// Notes that what lies in the frame was used. No contract sees it.
+    pub fn note_use(&mut self)
+        ensures same { self.new ≡ self.old }
+    {
+        self.used = true;
+    }
+
+    /// Was what lies in the frame used since this was asked last? No contract sees it.
+    pub fn take_use(&mut self) -> bool
+        ensures same { self.new ≡ self.old }
+    {
+        let used = self.used;
+        self.used = false;
+        used
     }
 }
 
@@ -103,7 +124,10 @@ impl FramePool {
         let number = first_clear(self.words.as_slice(), self.first)?;
         self.first = number / 64;
         self.occupy(number);
-        Some(Frame { number })
+        Some(Frame {
+            number,
+            used: false,
+        })
     }
 
     /// Makes a frame free, which is not free and is one of this pool's.
@@ -112,7 +136,7 @@ impl FramePool {
         requires taken { is_free self.old frame ≡ false }
         ensures given { self.new ≡ slice_set self.old frame true }
     {
-        let Frame { number } = frame;
+        let Frame { number, used: _ } = frame;
         self.release(number);
     }
 

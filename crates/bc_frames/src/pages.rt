@@ -5,11 +5,10 @@ ghost use Rattle.std.specs.Prelude.{◌≡◌, ℕ, ◌+◌, ◌-◌, ◌<◌, �
 use crate::shutting::Shut;
 use std::marker::Model;
 
-/// The box of one page: 512 words, a part of a row. It remembers whether its page was used lately, which the model doesn't see.
+/// The box of one page: 512 words, a part of a row.
 #[derive(Drop)]
 pub struct Page {
     words: &'static mut [u64; 512],
-    used: bool,
 }
 
 impl Model for Page {
@@ -28,23 +27,7 @@ impl Page {
         ensures words { result ≡ words.old }
         ensures long { length words.old ≡ 512 }
     {
-        Page { words, used: false }
-    }
-
-    /// Notes that the page was used. No contract sees it.
-    pub fn note_use(&mut self)
-        ensures same { self.new ≡ self.old }
-    {
-        self.used = true;
-    }
-
-    /// Was the page used since this was asked last? No contract sees it.
-    pub fn take_use(&mut self) -> bool
-        ensures same { self.new ≡ self.old }
-    {
-        let used = self.used;
-        self.used = false;
-        used
+        Page { words }
     }
 
     /// The word at a place, which is below 512.

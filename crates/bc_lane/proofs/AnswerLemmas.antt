@@ -133,11 +133,11 @@ module _ (part new : LanePart) (seat : Seat) (hand after : Option Held) (end : �
       still
 
   pub stops-operated : (v : View) → ReadsOn v (view_of seat) → IfErr result (λ why. StopsOp (view_of seat) part (view_of seat) hand end op why) → IfErr result (λ why. StopsOp v new (view_of seat) after end op why)
-  stops-operated v reads why = run_to_stop result why still
+  stops-operated v reads why = go result why still
     where
-      run_to_stop : (r : Result Reply Stop) → IfErr r (λ w. StopsOp (view_of seat) part (view_of seat) hand end op w) → OnErr r ((new ≡ part) × (after ≡ hand)) → IfErr r (λ w. StopsOp v new (view_of seat) after end op w)
-      run_to_stop (Ok reply) stops same = tt
-      run_to_stop (Err w) stops same =
+      go : (r : Result Reply Stop) → IfErr r (λ w. StopsOp (view_of seat) part (view_of seat) hand end op w) → OnErr r ((new ≡ part) × (after ≡ hand)) → IfErr r (λ w. StopsOp v new (view_of seat) after end op w)
+      go (Ok reply) stops same = tt
+      go (Err w) stops same =
           stops-since v (view_of seat) new (view_of seat) after end op w reads
           (subst (λ (p : LanePart). StopsOp (view_of seat) p (view_of seat) after end op w) (sym same.0)
           (subst (λ (x : Option Held). StopsOp (view_of seat) part (view_of seat) x end op w) (sym same.1) stops))

@@ -145,11 +145,11 @@ cell-domain : (s : Layout) (a : ℕ) → IsLayout s → IsAllocated s a → (spa
 cell-domain s a l on = (allocated-object s a l on).of_domain
 
 looked-own : (r : RootWords) (op : Op) (at : Address) → LooksAtObject r (touched_slot op) at → (p : Slot) × (touched_slot op ≡ Some p) × (slot_word r p ≡ Ref at)
-looked-own r op at looks = run_to_stop (touched_slot op) refl looks
+looked-own r op at looks = go (touched_slot op) refl looks
   where
-    run_to_stop : (o : Option Slot) → touched_slot op ≡ o → LooksAtObject r o at → (p : Slot) × (touched_slot op ≡ Some p) × (slot_word r p ≡ Ref at)
-    run_to_stop None e l = absurd l
-    run_to_stop (Some p) e l = (p, e, l)
+    go : (o : Option Slot) → touched_slot op ≡ o → LooksAtObject r o at → (p : Slot) × (touched_slot op ≡ Some p) × (slot_word r p ≡ Ref at)
+    go None e l = absurd l
+    go (Some p) e l = (p, e, l)
 
 module _ (part : LanePart) (k : Key) (v : View) (hand : Option Held) (end : ℕ) (h : HeapView) (op : Op) (about : v.about ≡ k) (w : IsWhole part v hand end h) (fits : IsOpOf h.roots op) (table : IsLaneTable k part.holders.items)
     (held : LaneHoldsAll part op) (at : Address) (below : at.0 < end) (looks : LooksAtObject h.roots (touched_slot op) at) where

@@ -63,7 +63,7 @@ impl Held {
     pub fn note_use(&mut self)
         ensures same { self.new ≡ self.old }
     {
-        self.homed.page.note_use();
+        self.homed.frame.note_use();
     }
 
     /// A word of the page, by its place there.
