@@ -12,9 +12,9 @@ use Rattle.bc_pins.specs.Key.{pages_of, page_at, frame_at, frame_words}
 use Rattle.bc_pins.specs.Views.{reads_of}
 use Rattle.bc_pins.specs.Steps.{AreRights, clear_frames, claiming, given_back, giving}
 use Rattle.bc_pins.specs.Totals.{times}
-use Rattle.bc_pins.proofs.TotalLemmas.{times_append}
+use Rattle.bc_pins.proofs.TotalLemmas.{one_same, times_append}
 use Rattle.bc_pins.proofs.ClaimSteps.{claim_in}
-use Rattle.bc_pins.proofs.LogLemmas.{reads-append, reads-else}
+use Rattle.bc_pins.proofs.LogLemmas.{reads-append, reads-else, reads-here, times-reads}
 use Rattle.bc_evict.specs.Claiming.{all_bits, HasClaimed, FindsNoFrameUpTo, FindsNoFrame}
 use Rattle.bc_evict.specs.Looking.{steps_behind}
 use Rattle.bc_evict.proofs.RoundLemmas.{one_place, has_place}
@@ -184,6 +184,17 @@ append-none (x ∷ l) = ap (λ (m : List ℕ). x ∷ m) (append-none l)
 claimed-list : (v : View) (w found : ℕ) → v.rights ≡ [] → clear_frames w found 64 ++ v.rights ≡ clear_frames w found 64
 claimed-list v w found none = ap (λ (l : List ℕ). clear_frames w found 64 ++ l) none ∙ append-none (clear_frames w found 64)
 
+-- it was free, as its word was read
+abbrev WasFree : View → ℕ → List (ℕ × ℕ) → Type 0
+WasFree v frame looks = (found : ℕ) × (0 < times found (reads_of (frame_at v.about (frame / 64)) looks)) × (bit_at found (frame % 64) ≡ 0)
+
+was-free : (v : View) (word found kept : ℕ) (looks : List (ℕ × ℕ)) → Kept found kept → 0 < times found (reads_of (frame_at v.about word) looks) → WasFree v (64 * word + kept) looks
+was-free v word found kept looks k read =
+    let near = k.near in
+    let q : (64 * word + kept) / 64 ≡ word = omega arith in
+    let r : (64 * word + kept) % 64 ≡ kept = omega arith in
+    (found, subst (λ (w : ℕ). 0 < times found (reads_of (frame_at v.about w) looks)) (sym q) read, ap (bit_at found) r ∙ k.clear)
+
 abbrev claims : View → ℕ → List (ℕ × ℕ) → View
 claims v frame looks = record v { rights = frame ∷ []; read = looks ++ v.read }
 
@@ -198,6 +209,10 @@ claimed-given v u w word found kept more_found k none is given within =
       view = given ∙ ap (λ (x : View). giving x word (others_of found kept) more_found) is
           ∙ ap (λ (l : List ℕ). record v { rights = l; read = (frame_at v.about word, more_found) ∷ (frame_at v.about word, found) ∷ v.read }) rights;
       within = within;
+      free = was-free v word found kept ((frame_at v.about word, more_found) ∷ (frame_at v.about word, found) ∷ []) k
+          (let one = one_same found in let first = reads-here (frame_at v.about word) found found [] in
+          let all = times-reads found (frame_at v.about word) ((frame_at v.about word, more_found) ∷ []) ((frame_at v.about word, found) ∷ []) in
+          omega arith);
       pages = λ p lt. reads-else (page_at p) (frame_at v.about word) more_found ((frame_at v.about word, found) ∷ []) (λ e. omega arith) ∙ reads-else (page_at p) (frame_at v.about word) found [] (λ e. omega arith);
     }
 
@@ -217,6 +232,7 @@ claimed-alone v u word found kept k none is alone within =
       looks = (frame_at v.about word, found) ∷ [];
       view = is ∙ ap (λ (l : List ℕ). record v { rights = l; read = (frame_at v.about word, found) ∷ v.read }) rights;
       within = within;
+      free = was-free v word found kept ((frame_at v.about word, found) ∷ []) k (let one = one_same found in let first = reads-here (frame_at v.about word) found found [] in omega arith);
       pages = λ p lt. reads-else (page_at p) (frame_at v.about word) found [] (λ e. omega arith);
     }
 
@@ -231,6 +247,11 @@ claimed-after v u w start steps frame first then_one =
       view = then_one.view ∙ ap (λ (x : View). record x { rights = frame ∷ []; read = then_one.looks ++ x.read }) first.view
           ∙ ap (λ (l : List (ℕ × ℕ)). record v { rights = frame ∷ []; read = l }) (sym (append_assoc then_one.looks first.looks v.read));
       within = omega arith;
+      free = (let was = then_one.free in
+          let at : frame_at u.about (frame / 64) ≡ frame_at v.about (frame / 64) = ap (λ k. frame_at k (frame / 64)) about in
+          let read = subst (λ (i : ℕ). 0 < times was.0 (reads_of i then_one.looks)) at was.1 in
+          let all = times-reads was.0 (frame_at v.about (frame / 64)) then_one.looks first.looks in
+          (was.0, omega arith, was.2));
       pages = λ p lt.
           reads-append (page_at p) then_one.looks first.looks
           ∙ ap (λ (l : List ℕ). l ++ reads_of (page_at p) first.looks) (then_one.pages p (subst (λ k. p < pages_of k) (sym about) lt)) ∙ first.pages p lt;

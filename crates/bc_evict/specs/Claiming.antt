@@ -1,7 +1,9 @@
 -- A frame that a seat claims, and what it has read where none is free.
-use Rattle.std.specs.Prelude.{◌≡◌, ℕ, ◌<◌, ◌≤◌, List, [], ◌∷◌, ◌++◌}
+use Rattle.std.specs.Prelude.{◌≡◌, ℕ, ◌/◌, ◌%◌, ◌<◌, ◌≤◌, List, [], ◌∷◌, ◌++◌}
+use Rattle.std.specs.Int.{bit_at}
 use Rattle.bc_pins.specs.declared.views.View.{View}
 use Rattle.bc_pins.specs.Key.{pages_of, page_at, frame_at, frame_words}
+use Rattle.bc_pins.specs.Totals.{times}
 use Rattle.bc_pins.specs.Views.{reads_of}
 use Rattle.bc_evict.specs.Looking.{steps_behind}
 
@@ -9,11 +11,13 @@ use Rattle.bc_evict.specs.Looking.{steps_behind}
 abbrev pub all_bits : ℕ
 all_bits = 18446744073709551615
 
--- the seat has the right to this frame, which is one of the heap's, and to no other. Nothing else changed but what was read of frame words
+-- the seat has the right to this frame, which is one of the heap's, and to no other. The frame was free: its word was read with its bit
+-- clear. Nothing else changed but what was read of frame words
 pub record HasClaimed (v : View) (frame : ℕ) (w : View) : Type 0 where
   pub looks : List (ℕ × ℕ)
   pub view : w ≡ record v { rights = frame ∷ []; read = looks ++ v.read }
   pub within : frame < v.about.frames
+  pub free : (found : ℕ) × (0 < times found (reads_of (frame_at v.about (frame / 64)) looks)) × (bit_at found (frame % 64) ≡ 0)
   pub pages : (page : ℕ) → page < pages_of v.about → reads_of (page_at page) looks ≡ []
 
 -- of the first frame words, gone round from a start, each was read once and had no clear bit, and of the others none was read. Nothing else

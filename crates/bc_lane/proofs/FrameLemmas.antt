@@ -197,19 +197,10 @@ none-found-shows v w end s a shown =
     shown
 
 -- so a page that was read as Gone before has no frame
-pub no-frame-for : (v u w : View) (page : ℕ) → IsTakeRefused v page Work refusal.Gone u → u.rights ≡ [] → FindsNoFrameAtAll u w → 0 < times page u.gone → FindsNoFrameFor v w page
-no-frame-for v u w page refused free a noted =
+pub no-frame-for : (v u w : View) (page : ℕ) → IsTakeRefused v page Work refusal.Gone u → u.hand ≡ None → u.rights ≡ [] → FindsNoFrameAtAll u w → 0 < times page u.gone → FindsNoFrameFor v w page
+no-frame-for v u w page refused hands free a noted =
     let r = refused-looks v u page refused in
-    record {
-      ready = u;
-      before = r.0;
-      gone = r.1;
-      rights = free;
-      looks = a.looks;
-      view = a.view ∙ sym (ap (λ (x : View). record u { hand = x.hand; changed = x.changed; recorded = x.recorded; read = a.looks ++ u.read; seen = x.seen; gone = x.gone; busy = x.busy }) a.view);
-      none = a.none;
-      noted = (let more = a.gone page in omega arith);
-    }
+    record { ready = u; before = r.0; gone = r.1; hands = hands; rights = free; none = a; noted = (let more = a.gone page in omega arith) }
 
 -- what was read since a view was read since an earlier one
 pub held-since : (u v w : View) (page : ℕ) → ReadsOn u v → ReadsHeld v w page → ReadsHeld u w page
@@ -224,9 +215,8 @@ no-frame-since u v w page reads f = record {
   ready = f.ready;
   before = f.before ++ reads.more;
   gone = f.gone ∙ ap (λ (l : List (ℕ × ℕ)). (page_at page, 4) ∷ (f.before ++ l)) reads.read ∙ ap (λ (l : List (ℕ × ℕ)). (page_at page, 4) ∷ l) (sym (append_assoc f.before reads.more u.read));
+  hands = f.hands;
   rights = f.rights;
-  looks = f.looks;
-  view = f.view;
   none = f.none;
   noted = f.noted;
 }

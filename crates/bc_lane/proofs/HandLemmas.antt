@@ -196,6 +196,17 @@ refused-fetched v w page want refusal r = elim r.read [
   | inr e ↦ ap (λ (x : View). x.fetched) e.1
 ]
 
+-- nor put back
+pub refused-changed : (v w : View) (page : ℕ) (want : Want) (refusal : TakeError) → IsTakeRefused v page want refusal w → w.changed ≡ v.changed
+refused-changed v w page want refusal r = elim r.read [
+  | inl e ↦ ap (λ (x : View). x.changed) e
+  | inr e ↦ ap (λ (x : View). x.changed) e.1
+]
+
+pub tried-changed : (v : View) (page : ℕ) (b : Bool) → (tried v page Work b).changed ≡ v.changed
+tried-changed v page true = refl
+tried-changed v page false = refl
+
 pub tried-fetched : (v : View) (page : ℕ) (b : Bool) → (tried v page Work b).fetched ≡ v.fetched
 tried-fetched v page true = refl
 tried-fetched v page false = refl

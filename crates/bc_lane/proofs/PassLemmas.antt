@@ -1,9 +1,9 @@
 -- A page that a seat left as it was: it read it as Home only where it made it Gone or Absent, and didn't reload it.
-use Rattle.std.proofs.Common.{◌≡◌, ◌≢◌, ℕ, ◌+◌, ◌<◌, Bool, true, false, List, [], ◌∷◌, ◌++◌, if◌then◌else◌, inl, inr, refl, ap, sym, subst, ◌∙◌, arith}
+use Rattle.std.proofs.Common.{◌≡◌, ◌≢◌, ℕ, ◌+◌, ◌<◌, Bool, true, false, List, [], ◌∷◌, ◌++◌, if◌then◌else◌, Option, Some, ◌⊎◌, inl, inr, refl, ap, sym, subst, ◌∙◌, arith}
 use Rattle.bc_evict.specs.Reloading.{HasReloaded}
 use Rattle.bc_lane.specs.Shown.{IsOwnPage}
 use Rattle.bc_lane.proofs.FrameLemmas.{none-home}
-use Rattle.bc_lane.specs.Turns.{FindsNoFrameAtAll, HasFrame, LooksOnIn, PassesBy, ReadsOn}
+use Rattle.bc_lane.specs.Turns.{FindsNoFrameAtAll, HasFrame, IsInHandAs, IsPutBack, LooksOnIn, PassesBy, PutsBack, ReadsOn}
 use Rattle.bc_pins.specs.declared.holding.Held.{Held}
 use Rattle.bc_pins.specs.declared.pins.Seat.{Seat}
 use Rattle.bc_pins.specs.declared.taking.TakeError.{TakeError}
@@ -12,7 +12,7 @@ use Rattle.bc_pins.specs.declared.taking.Want.TheVariants.{Work}
 use Rattle.bc_pins.specs.declared.views.View.{View}
 use Rattle.bc_pins.specs.Calls.{Grasps, IsTakeRefused, put_back, refusal_word, tried, view_of}
 use Rattle.bc_pins.specs.Key.{Key, page_at, pages_of}
-use Rattle.bc_pins.specs.Steps.{gripping, having_read}
+use Rattle.bc_pins.specs.Steps.{gripping, having_read, owns}
 use Rattle.bc_pins.specs.Totals.{times}
 use Rattle.bc_pins.specs.Views.{reads_at}
 use Rattle.bc_pins.proofs.LogLemmas.{pages-else, times-reads}
@@ -54,6 +54,25 @@ refused-passes v w page q want refusal r ne = elim r.read [
 -- a page was put back
 pub put-passes : (v w : View) (held : Held) (q : ℕ) → w ≡ put_back v held → PassesBy v w q
 put-passes v w held q e = subst (λ (x : View). PassesBy v x q) (sym e) (record { home = refl; fetched = refl })
+
+-- what was put back, of a seat that put back nothing, and of one after another
+pub same-puts : (v w : View) (hand : Option Held) → w.changed ≡ v.changed → PutsBack v hand w
+same-puts v w hand same page content put = inl (subst (λ (l : List (ℕ × List ℕ)). IsPutBack page content l) same put)
+
+pub puts-on : (u v w : View) (hand : Option Held) → PutsBack u hand v → w.changed ≡ v.changed → PutsBack u hand w
+puts-on u v w hand puts same page content put = puts page content (subst (λ (l : List (ℕ × List ℕ)). IsPutBack page content l) same put)
+
+-- of one that put its page back
+puts-one : (own : Bool) (page p : ℕ) (content c : List ℕ) (l : List (ℕ × List ℕ)) → IsPutBack page content (if own then (p, c) ∷ l else l) → IsPutBack page content l ⊎ ((p ≡ page) × (c ≡ content))
+puts-one true page p content c l put = elim put [ inl here ↦ inr here | inr before ↦ inl before ]
+puts-one false page p content c l put = inl put
+
+pub put-puts : (v w : View) (hand : Option Held) (held : Held) → hand ≡ Some held → w ≡ put_back v held → PutsBack v hand w
+put-puts v w hand held is e page content put =
+    elim (puts-one (owns v held.page) page held.page content held.homed.page v.changed (subst (λ (x : View). IsPutBack page content x.changed) e put)) [
+      | inl before ↦ inl before
+      | inr here ↦ inr (subst (λ (x : Option Held). IsInHandAs x page content) (sym is) here)
+    ]
 
 -- no frame was found
 pub none-found-passes : (v w : View) (q : ℕ) → q < pages_of v.about → FindsNoFrameAtAll v w → PassesBy v w q

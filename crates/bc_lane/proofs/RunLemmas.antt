@@ -1,10 +1,11 @@
 -- Operations of a lane, one more after those that were done.
-use Rattle.std.proofs.Common.{◌≡◌, ◌⊎◌, ℕ, ◌+◌, ◌<◌, ◌≤◌, List, [], ◌∷◌, ◌++◌, length, get_or, take, drop, Option, Vec, Global, vec_capacity, inl, inr, refl, ap, sym, subst, ◌∙◌, arith, append_assoc, length-append, length-drop}
+use Rattle.std.proofs.Common.{◌≡◌, ◌⊎◌, ℕ, ◌+◌, ◌<◌, ◌≤◌, List, [], ◌∷◌, ◌++◌, length, get_or, take, drop, Option, Some, None, Vec, Global, vec_capacity, inl, inr, refl, ap, sym, subst, ◌∙◌, arith, append_assoc, length-append, length-drop}
 use Rattle.std.proofs.Math.Seq.{take-append-add, take-length}
 use Rattle.std.proofs.lemmas.List.{drop-drop, drop-take, get_or-drop, take-append-drop, take-append-le, take-take, take_more}
 use Rattle.std.specs.List.{AllByRecursion}
 use Rattle.bc_lane.specs.Doing.{DidAll}
-use Rattle.bc_lane.specs.Turns.{DoesOne, IsWhole, LaneRan, LooksInRun, LooksNext, LooksOn, PassesBy, ReadsOn, SamePart, SameSizes}
+use Rattle.bc_lane.specs.Shown.{ShowsPages}
+use Rattle.bc_lane.specs.Turns.{ComesInRun, DoesOne, HadInRun, IsInHandAs, IsPutBack, IsWhole, LaneRan, LooksInRun, LooksNext, LooksOn, PassesBy, PutsBack, ReadsOn, SamePart, SameSizes}
 use Rattle.bc_lane.specs.declared.parts.LanePart.{LanePart}
 use Rattle.bc_lane.specs.declared.turns.LaneTurn.{LaneTurn}
 use Rattle.bc_lane.proofs.HandLemmas.{none-reads, then-reads}
@@ -20,6 +21,7 @@ use Rattle.bc_mutator.specs.Operations.{IsOpOf}
 use Rattle.bc_pins.specs.declared.holding.Held.{Held}
 use Rattle.bc_pins.specs.declared.views.View.{View}
 use Rattle.bc_pins.specs.Key.{Key, pages_of}
+use Rattle.bc_superpages.specs.Layout.{Layout, content_at}
 use Rattle.bc_superpages.specs.RootWords.{RootWords}
 use Rattle.bc_whole_heap.specs.Heaps.{HeapView}
 
@@ -61,24 +63,44 @@ same-part a b c x y = record {
   starts = y.starts ∙ x.starts;
 }
 
--- an operation that looks at a page is among more operations
-looks-longer : (ops : List Op) (end : ℕ) (old : LaneTurn) (v : View) (hand : Option Held) (replies more : List Reply) (page : ℕ) → LooksInRun ops end old v hand replies page → LooksInRun ops end old v hand (replies ++ more) page
-looks-longer ops end old v hand replies more page l =
+-- a heap that comes in a run comes in a longer one
+comes-longer : (ops : List Op) (end : ℕ) (old : LaneTurn) (v : View) (hand : Option Held) (replies more : List Reply) (before : ℕ) (P : HeapView → Type 0) → ComesInRun ops end old v hand replies before P → ComesInRun ops end old v hand (replies ++ more) before P
+comes-longer ops end old v hand replies more before P l =
     let long = length-append replies more in
     record {
-      before = l.before;
       within = (let within = l.within in omega arith);
-      op = l.op;
-      less = l.less;
-      is = l.is;
-      looks = λ h wh fits.
-          let k = l.looks h wh fits in (
+      comes = λ h wh fits.
+          let k = l.comes h wh fits in (
             k.0,
             k.1,
-            subst (λ (rs : List Reply). DidAll old.part.holders.items old.part.lane (take l.before (drop old.next ops)) rs h old.part.serial k.0 k.1) (sym (take-append-le l.before replies more l.within)) k.2,
+            subst (λ (rs : List Reply). DidAll old.part.holders.items old.part.lane (take before (drop old.next ops)) rs h old.part.serial k.0 k.1) (sym (take-append-le before replies more l.within)) k.2,
             k.3,
           );
     }
+
+-- the heap after all operations of a run comes in it
+comes-last : (ops : List Op) (end : ℕ) (old cur : LaneTurn) (v w : View) (hand after : Option Held) (P : HeapView → Type 0) (ran : LaneRan ops end old v hand cur w after)
+    → ((h m : HeapView) → AllByRecursion (IsOpOf h.roots) ops → IsWhole cur.part w after end m → SameSizes h m → P m) → ComesInRun ops end old v hand ran.replies (length ran.replies) P
+comes-last ops end old cur v w hand after P ran holds = record {
+  within = omega arith;
+  comes = λ h wh fits.
+      let m = ran.done h wh fits in (
+        m.0,
+        cur.part.serial,
+        subst (λ (rs : List Reply). DidAll old.part.holders.items old.part.lane (take (length ran.replies) (drop old.next ops)) rs h old.part.serial m.0 cur.part.serial) (sym (take-length ran.replies)) m.3,
+        holds h m.0 fits m.1 m.2,
+      );
+}
+
+-- an operation that looks at a page is among more operations
+looks-longer : (ops : List Op) (end : ℕ) (old : LaneTurn) (v : View) (hand : Option Held) (replies more : List Reply) (page : ℕ) → LooksInRun ops end old v hand replies page → LooksInRun ops end old v hand (replies ++ more) page
+looks-longer ops end old v hand replies more page l =
+    record { before = l.before; op = l.op; less = l.less; is = l.is; run = comes-longer ops end old v hand replies more l.before (λ k. LooksOn k l.op page) l.run }
+
+-- and a content that a page had
+had-longer : (ops : List Op) (end : ℕ) (old : LaneTurn) (v : View) (hand : Option Held) (replies more : List Reply) (page : ℕ) (content : List ℕ) → HadInRun ops end old v hand replies page content → HadInRun ops end old v hand (replies ++ more) page content
+had-longer ops end old v hand replies more page content l =
+    record { before = l.before; run = comes-longer ops end old v hand replies more l.before (λ k. content_at k.space.pages page ≡ content) l.run }
 
 -- the next operation after those that were done looks at it
 looks-next : (ops : List Op) (end : ℕ) (old cur : LaneTurn) (v w : View) (hand after : Option Held) (ran : LaneRan ops end old v hand cur w after) (page : ℕ) → LooksNext ops end cur w after page → LooksInRun ops end old v hand ran.replies page
@@ -87,19 +109,32 @@ looks-next ops end old cur v w hand after ran page next =
     let op : Op = next.0 in
     record {
       before = length ran.replies;
-      within = omega arith;
       op = op;
       less = (let less = next.1 in omega arith);
       is = subst (λ (n : ℕ). op ≡ get_or ops n op) place next.2;
-      looks = λ h wh fits.
-          let m = ran.done h wh fits in
-          let fit : IsOpOf h.roots op = subst (IsOpOf h.roots) (sym next.2) (at-index (IsOpOf h.roots) ops cur.next op fits next.1) in (
-            m.0,
-            cur.part.serial,
-            subst (λ (rs : List Reply). DidAll old.part.holders.items old.part.lane (take (length ran.replies) (drop old.next ops)) rs h old.part.serial m.0 cur.part.serial) (sym (take-length ran.replies)) m.3,
-            next.3 m.0 m.1 (fits-same h m.0 op m.2 fit),
-          );
+      run = comes-last ops end old cur v w hand after (λ k. LooksOn k op page) ran
+          (λ h m fits whole same. next.3 m whole (fits-same h m op same (subst (IsOpOf h.roots) (sym next.2) (at-index (IsOpOf h.roots) ops cur.next op fits next.1))));
     }
+
+-- the page in hand has its content in the heap behind them
+had-in-hand : (v : View) (hand : Option Held) (end page : ℕ) (content : List ℕ) (s : Layout) → IsInHandAs hand page content → ShowsPages v hand end s → content_at s.pages page ≡ content
+had-in-hand v None end page content s in_hand shown = absurd in_hand
+had-in-hand v (Some held) end page content s in_hand shown = subst (λ (p : ℕ). content_at s.pages p ≡ held.homed.page) in_hand.0 shown.in_hand.content ∙ in_hand.1
+
+had-next : (ops : List Op) (end : ℕ) (old cur : LaneTurn) (v w : View) (hand after : Option Held) (ran : LaneRan ops end old v hand cur w after) (page : ℕ) (content : List ℕ) → IsInHandAs after page content → HadInRun ops end old v hand ran.replies page content
+had-next ops end old cur v w hand after ran page content in_hand = record {
+  before = length ran.replies;
+  run = comes-last ops end old cur v w hand after (λ k. content_at k.space.pages page ≡ content) ran
+      (λ h m fits whole same. had-in-hand w after end page content m.space in_hand whole.belongs.space);
+}
+
+-- what a seat put back, and then put back
+puts-more : (ops : List Op) (end : ℕ) (old cur : LaneTurn) (v w x : View) (hand after : Option Held) (ran : LaneRan ops end old v hand cur w after) → PutsBack w after x
+    → (page : ℕ) (content : List ℕ) → IsPutBack page content x.changed → IsPutBack page content v.changed ⊎ HadInRun ops end old v hand ran.replies page content
+puts-more ops end old cur v w x hand after ran puts page content put = elim (puts page content put) [
+  | inl before ↦ ran.puts page content before
+  | inr in_hand ↦ inr (had-next ops end old cur v w hand after ran page content in_hand)
+]
 
 -- a page that was left as it was, or looked at, and then left as it was or looked at by the next operation
 looked-more : (ops : List Op) (end : ℕ) (old cur : LaneTurn) (v w x : View) (hand after : Option Held) (ran : LaneRan ops end old v hand cur w after) → ((q : ℕ) → q < pages_of w.about → PassesBy w x q ⊎ LooksNext ops end cur w after q)
@@ -124,6 +159,7 @@ ran-none ops end turn v hand = record {
   serial = omega arith;
   reads = none-reads v;
   looked = λ q near. inl (none-passes v q);
+  puts = λ page content put. inl put;
   done = λ h w fits. (h, w, record { domains = refl; slots = refl }, (refl, refl));
 }
   where
@@ -136,7 +172,7 @@ module _ (ops : List Op) (end : ℕ) (old cur new : LaneTurn) (v w x : View) (ha
     (ran : LaneRan ops end old v hand cur w after) (h0 : HeapView) (w0 : IsWhole old.part v hand end h0) (fits0 : AllByRecursion (IsOpOf h0.roots) ops)
     (less : cur.next < length ops) (is : op ≡ get_or ops cur.next op) (does : DoesOne cur.part w after new.part x last end op reply) (same : SamePart cur.part new.part)
     (next : new.next ≡ cur.next + 1) (count : new.count ≡ cur.count) (kept : new.replies.items ≡ cur.replies.items ++ reply ∷ []) (room : vec_capacity new.replies ≡ vec_capacity cur.replies) (reads : ReadsOn w x)
-    (looked : (q : ℕ) → q < pages_of w.about → PassesBy w x q ⊎ LooksNext ops end cur w after q) where
+    (looked : (q : ℕ) → q < pages_of w.about → PassesBy w x q ⊎ LooksNext ops end cur w after q) (puts : PutsBack w after x) where
   abbrev hs : List ℕ
   hs = old.part.holders.items
 
@@ -195,13 +231,17 @@ module _ (ops : List Op) (end : ℕ) (old cur new : LaneTurn) (v w x : View) (ha
           | inl passes ↦ inl passes
           | inr looks ↦ inr (looks-longer ops end old v hand ran.replies (reply ∷ []) q looks)
         ];
+        puts = λ page content put. elim (puts-more ops end old cur v w x hand after ran puts page content put) [
+          | inl before ↦ inl before
+          | inr had ↦ inr (had-longer ops end old v hand ran.replies (reply ∷ []) page content had)
+        ];
         done = one;
       }
 
 -- an operation stopped, and nothing was done
 pub ran-stopped : (ops : List Op) (end : ℕ) (old cur new : LaneTurn) (v w x : View) (hand after last : Option Held) → LaneRan ops end old v hand cur w after → new.part ≡ cur.part → new.next ≡ cur.next → new.count ≡ cur.count → new.replies ≡ cur.replies
-    → ReadsOn w x → ((q : ℕ) → q < pages_of w.about → PassesBy w x q ⊎ LooksNext ops end cur w after q) → ((h : HeapView) → IsWhole cur.part w after end h → IsWhole cur.part x last end h) → LaneRan ops end old v hand new x last
-ran-stopped ops end old cur new v w x hand after last ran part next count kept reads looked still =
+    → ReadsOn w x → ((q : ℕ) → q < pages_of w.about → PassesBy w x q ⊎ LooksNext ops end cur w after q) → PutsBack w after x → ((h : HeapView) → IsWhole cur.part w after end h → IsWhole cur.part x last end h) → LaneRan ops end old v hand new x last
+ran-stopped ops end old cur new v w x hand after last ran part next count kept reads looked puts still =
     let serial = ap (λ (p : LanePart). p.serial) part in
     let place = ran.next in
     let births = ran.serial in
@@ -215,6 +255,7 @@ ran-stopped ops end old cur new v w x hand after last ran part next count kept r
       serial = omega arith;
       reads = then-reads v w x ran.reads reads;
       looked = looked-more ops end old cur v w x hand after ran looked;
+      puts = puts-more ops end old cur v w x hand after ran puts;
       done = λ h wh fits.
           let m = ran.done h wh fits in
           subst (λ (p : LanePart). (k : HeapView) × IsWhole p x last end k × SameSizes h k × DidAll old.part.holders.items old.part.lane (take (length ran.replies) (drop old.next ops)) ran.replies h old.part.serial k p.serial) (sym part)
@@ -245,24 +286,19 @@ pub fits-all : (h k : HeapView) (ops : List Op) → SameSizes h k → AllByRecur
 fits-all h k [] same fits = tt
 fits-all h k (op ∷ ops) same fits = (fits-same h k op same fits.0, fits-all h k ops same fits.1)
 
--- what the second looks at is after the first
-looks-then : (ops : List Op) (end : ℕ) (old cur : LaneTurn) (v w : View) (hand after : Option Held) (one : LaneRan ops end old v hand cur w after) (more : List Reply) (page : ℕ) → LooksInRun ops end cur w after more page → LooksInRun ops end old v hand (one.replies ++ more) page
-looks-then ops end old cur v w hand after one more page l =
+-- what comes in the second is after the first
+comes-then : (ops : List Op) (end : ℕ) (old cur : LaneTurn) (v w : View) (hand after : Option Held) (one : LaneRan ops end old v hand cur w after) (more : List Reply) (b : ℕ) (P : HeapView → Type 0) → ComesInRun ops end cur w after more b P
+    → ComesInRun ops end old v hand (one.replies ++ more) (length one.replies + b) P
+comes-then ops end old cur v w hand after one more b P l =
     let long = length-append one.replies more in
     let place = one.next in
     let a : ℕ = length one.replies in
-    let b : ℕ = l.before in
     let hs : List ℕ = old.part.holders.items in
-    let place_is : cur.next + b ≡ old.next + (a + b) = omega arith in
     record {
-      before = a + b;
       within = (let within = l.within in omega arith);
-      op = l.op;
-      less = (let less = l.less in omega arith);
-      is = subst (λ (n : ℕ). l.op ≡ get_or ops n l.op) place_is l.is;
-      looks = λ h wh fits.
+      comes = λ h wh fits.
           let m = one.done h wh fits in
-          let k = l.looks m.0 m.1 (fits-all h m.0 ops m.2 fits) in
+          let k = l.comes m.0 m.1 (fits-all h m.0 ops m.2 fits) in
           let second : DidAll hs old.part.lane (take b (drop (old.next + a) ops)) (take b more) m.0 cur.part.serial k.0 k.1 =
           subst (λ (n : ℕ). DidAll hs old.part.lane (take b (drop n ops)) (take b more) m.0 cur.part.serial k.0 k.1) place
           (subst (λ (i : ℕ). DidAll hs i (take b (drop cur.next ops)) (take b more) m.0 cur.part.serial k.0 k.1) one.same.lane
@@ -276,6 +312,33 @@ looks-then ops end old cur v w hand after one more page l =
             k.3,
           );
     }
+
+looks-then : (ops : List Op) (end : ℕ) (old cur : LaneTurn) (v w : View) (hand after : Option Held) (one : LaneRan ops end old v hand cur w after) (more : List Reply) (page : ℕ) → LooksInRun ops end cur w after more page → LooksInRun ops end old v hand (one.replies ++ more) page
+looks-then ops end old cur v w hand after one more page l =
+    let place = one.next in
+    let place_is : cur.next + l.before ≡ old.next + (length one.replies + l.before) = omega arith in
+    record {
+      before = length one.replies + l.before;
+      op = l.op;
+      less = (let less = l.less in omega arith);
+      is = subst (λ (n : ℕ). l.op ≡ get_or ops n l.op) place_is l.is;
+      run = comes-then ops end old cur v w hand after one more l.before (λ k. LooksOn k l.op page) l.run;
+    }
+
+had-then : (ops : List Op) (end : ℕ) (old cur : LaneTurn) (v w : View) (hand after : Option Held) (one : LaneRan ops end old v hand cur w after) (more : List Reply) (page : ℕ) (content : List ℕ) → HadInRun ops end cur w after more page content
+    → HadInRun ops end old v hand (one.replies ++ more) page content
+had-then ops end old cur v w hand after one more page content l =
+    record { before = length one.replies + l.before; run = comes-then ops end old cur v w hand after one more l.before (λ k. content_at k.space.pages page ≡ content) l.run }
+
+puts-then : (ops : List Op) (end : ℕ) (old cur new : LaneTurn) (v w x : View) (hand after last : Option Held) (one : LaneRan ops end old v hand cur w after) (two : LaneRan ops end cur w after new x last)
+    → (page : ℕ) (content : List ℕ) → IsPutBack page content x.changed → IsPutBack page content v.changed ⊎ HadInRun ops end old v hand (one.replies ++ two.replies) page content
+puts-then ops end old cur new v w x hand after last one two page content put = elim (two.puts page content put) [
+  | inl before ↦ elim (one.puts page content before) [
+    | inl first ↦ inl first
+    | inr had ↦ inr (had-longer ops end old v hand one.replies two.replies page content had)
+  ]
+  | inr had ↦ inr (had-then ops end old cur v w hand after one two.replies page content had)
+]
 
 looked-then : (ops : List Op) (end : ℕ) (old cur new : LaneTurn) (v w x : View) (hand after last : Option Held) (one : LaneRan ops end old v hand cur w after) (two : LaneRan ops end cur w after new x last)
     → (q : ℕ) → q < pages_of v.about → PassesBy v x q ⊎ LooksInRun ops end old v hand (one.replies ++ two.replies) q
@@ -304,6 +367,7 @@ ran-then ops end old cur new v w x hand after last one two =
       serial = omega arith;
       reads = then-reads v w x one.reads two.reads;
       looked = looked-then ops end old cur new v w x hand after last one two;
+      puts = puts-then ops end old cur new v w x hand after last one two;
       done = λ h wh fits.
           let m = one.done h wh fits in
           let k = two.done m.0 m.1 (fits-all h m.0 ops m.2 fits) in

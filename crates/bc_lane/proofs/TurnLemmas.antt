@@ -3,7 +3,7 @@ use Rattle.std.proofs.Common.{◌≡◌, ◌⊎◌, ℕ, ◌+◌, ◌-◌, ◌*�
 use Rattle.std.proofs.lemmas.List.{get_or_default}
 use Rattle.std.specs.List.{AllByRecursion}
 use Rattle.bc_lane.specs.Shown.{ShowsPages}
-use Rattle.bc_lane.specs.Turns.{DoesOne, FindsNoFrameFor, IsGoing, IsLaidDown, IsLaneSeat, IsLaneTable, IsNextOp, IsWhole, LaneRan, LooksNext, LooksOnIn, PassesBy, ReadsHeld, ReadsOn, SamePart, StaysWhole, StopsOp, WhyStopped}
+use Rattle.bc_lane.specs.Turns.{DoesOne, FindsNoFrameFor, IsGoing, IsLaidDown, IsLaneSeat, IsLaneTable, IsNextOp, IsWhole, LaneRan, LooksNext, LooksOnIn, PassesBy, PutsBack, ReadsHeld, ReadsOn, SamePart, StaysWhole, StopsOp, WhyStopped}
 use Rattle.bc_lane.specs.declared.parts.LanePart.{LanePart}
 use Rattle.bc_lane.specs.declared.stops.Stop.{Stop}
 use Rattle.bc_lane.specs.declared.stops.Stop.TheVariants as stop
@@ -59,36 +59,26 @@ held-laid u v w page laid held = record {
   noted = subst (λ (l : List ℕ). 0 < times page l) (sym (ap (λ (x : View). x.busy) laid)) held.noted;
 }
 
-no-frame-laid : (u v w : View) (page : ℕ) → IsLaidDown v w → FindsNoFrameFor u v page → FindsNoFrameFor u w page
-no-frame-laid u v w page laid f = record {
-  ready = f.ready;
-  before = f.before;
-  gone = f.gone;
-  rights = f.rights;
-  looks = f.looks;
-  view =
-      laid ∙ ap (λ (x : View). record x { hand = None; changed = w.changed; recorded = w.recorded }) f.view
-      ∙ ap (λ (x : View). record f.ready { hand = x.hand; changed = w.changed; recorded = w.recorded; read = f.looks ++ f.ready.read; seen = x.seen; gone = x.gone; busy = x.busy }) (sym laid);
-  none = f.none;
-  noted = subst (λ (l : List ℕ). 0 < times page l) (sym (ap (λ (x : View). x.gone) laid)) f.noted;
-}
+-- where no frame was found none is in hand, so nothing changed
+no-frame-laid : (u v w : View) (page : ℕ) → (v.hand ≡ None → w ≡ v) → FindsNoFrameFor u v page → FindsNoFrameFor u w page
+no-frame-laid u v w page idle f = subst (λ (x : View). FindsNoFrameFor u x page) (sym (idle (ap (λ (x : View). x.hand) f.none.view ∙ f.hands))) f
 
-stops-laid : (u : View) (part : LanePart) (v w : View) (hand : Option Held) (end : ℕ) (op : Op) (why : Stop) → IsLaidDown v w → ((e : ℕ) → (s : Layout) → ShowsPages w None e s → ShowsPages v hand e s) → StopsOp u part v hand end op why → StopsOp u part w None end op why
-stops-laid u part v w hand end op stop.End laid back stops = absurd stops
-stops-laid u part v w hand end op stop.NurseryFull laid back stops = stops
-stops-laid u part v w hand end op stop.BufferFull laid back stops = λ h whole fits. stops h (whole-moved part w v None hand end h back whole) fits
-stops-laid u part v w hand end op (stop.Busy page) laid back stops = (held-laid u v w page laid stops.0, λ h whole fits. stops.1 h (whole-moved part w v None hand end h back whole) fits)
-stops-laid u part v w hand end op stop.NoFrame laid back stops = (stops.0, no-frame-laid u v w stops.0 laid stops.1, λ h whole fits. stops.2 h (whole-moved part w v None hand end h back whole) fits)
+stops-laid : (u : View) (part : LanePart) (v w : View) (hand : Option Held) (end : ℕ) (op : Op) (why : Stop) → IsLaidDown v w → (v.hand ≡ None → w ≡ v) → ((e : ℕ) → (s : Layout) → ShowsPages w None e s → ShowsPages v hand e s) → StopsOp u part v hand end op why → StopsOp u part w None end op why
+stops-laid u part v w hand end op stop.End laid idle back stops = absurd stops
+stops-laid u part v w hand end op stop.NurseryFull laid idle back stops = stops
+stops-laid u part v w hand end op stop.BufferFull laid idle back stops = λ h whole fits. stops h (whole-moved part w v None hand end h back whole) fits
+stops-laid u part v w hand end op (stop.Busy page) laid idle back stops = (held-laid u v w page laid stops.0, λ h whole fits. stops.1 h (whole-moved part w v None hand end h back whole) fits)
+stops-laid u part v w hand end op stop.NoFrame laid idle back stops = (stops.0, no-frame-laid u v w stops.0 idle stops.1, λ h whole fits. stops.2 h (whole-moved part w v None hand end h back whole) fits)
 
-pub why-laid : (u : View) (ops : List Op) (turn : LaneTurn) (v w : View) (hand : Option Held) (end : ℕ) (why : Stop) → IsLaidDown v w → ((e : ℕ) → (s : Layout) → ShowsPages w None e s → ShowsPages v hand e s) → WhyStopped u ops end turn v hand why → WhyStopped u ops end turn w None why
-why-laid u ops turn v w hand end why laid back is = elim is [
+pub why-laid : (u : View) (ops : List Op) (turn : LaneTurn) (v w : View) (hand : Option Held) (end : ℕ) (why : Stop) → IsLaidDown v w → (v.hand ≡ None → w ≡ v) → ((e : ℕ) → (s : Layout) → ShowsPages w None e s → ShowsPages v hand e s) → WhyStopped u ops end turn v hand why → WhyStopped u ops end turn w None why
+why-laid u ops turn v w hand end why laid idle back is = elim is [
   | inl done ↦ inl done
-  | inr next ↦ inr (next.0, next.1, next.2, stops-laid u turn.part v w hand end next.0 why laid back next.3)
+  | inr next ↦ inr (next.0, next.1, next.2, stops-laid u turn.part v w hand end next.0 why laid idle back next.3)
 ]
 
-pub ran-laid : (ops : List Op) (end : ℕ) (old new : LaneTurn) (v w x : View) (hand after : Option Held) → LaneRan ops end old v hand new w after → ReadsOn w x → ((q : ℕ) → PassesBy w x q) → ((e : ℕ) → (s : Layout) → ShowsPages w after e s → ShowsPages x None e s) → LaneRan ops end old v hand new x None
-ran-laid ops end old new v w x hand after ran reads passes shows =
-    ran-stopped ops end old new new v w x hand after None ran refl refl refl refl reads (λ q near. inl (passes q)) (λ h whole. whole-moved new.part w x after None end h shows whole)
+pub ran-laid : (ops : List Op) (end : ℕ) (old new : LaneTurn) (v w x : View) (hand after : Option Held) → LaneRan ops end old v hand new w after → ReadsOn w x → ((q : ℕ) → PassesBy w x q) → PutsBack w after x → ((e : ℕ) → (s : Layout) → ShowsPages w after e s → ShowsPages x None e s) → LaneRan ops end old v hand new x None
+ran-laid ops end old new v w x hand after ran reads passes puts shows =
+    ran-stopped ops end old new new v w x hand after None ran refl refl refl refl reads (λ q near. inl (passes q)) puts (λ h whole. whole-moved new.part w x after None end h shows whole)
 
 -- the operation that looks at a page is the next one
 looks-here : (ops : List Op) (end : ℕ) (turn : LaneTurn) (v w : View) (hand : Option Held) (op : Op) (q : ℕ) → turn.next < length ops → op ≡ get_or ops turn.next op → PassesBy v w q ⊎ LooksOnIn turn.part v hand end op q
@@ -104,7 +94,7 @@ module _ (pins : Pins) (ops : List Op) (end : ℕ) (turn new : LaneTurn) (part :
     (same : SamePart turn.part part) (seated : IsLaneSeat pins turn.part.lane after last) (reads : ReadsOn (view_of seat) (view_of after))
     (does : DoesOne turn.part (view_of seat) hand part (view_of after) last end op reply) (part_is : new.part ≡ part) (next : new.next ≡ turn.next + 1) (count : new.count ≡ turn.count)
     (kept : new.replies.items ≡ turn.replies.items ++ reply ∷ []) (room : vec_capacity new.replies ≡ vec_capacity turn.replies)
-    (looked : (q : ℕ) → q < pages_of (view_of seat).about → PassesBy (view_of seat) (view_of after) q ⊎ LooksOnIn turn.part (view_of seat) hand end op q) where
+    (looked : (q : ℕ) → q < pages_of (view_of seat).about → PassesBy (view_of seat) (view_of after) q ⊎ LooksOnIn turn.part (view_of seat) hand end op q) (puts : PutsBack (view_of seat) hand (view_of after)) where
   does-new : DoesOne turn.part (view_of seat) hand new.part (view_of after) last end op reply
   does-new = subst (λ (p : LanePart). DoesOne turn.part (view_of seat) hand p (view_of after) last end op reply) (sym part_is) does
 
@@ -119,18 +109,18 @@ module _ (pins : Pins) (ops : List Op) (end : ℕ) (turn new : LaneTurn) (part :
 
   pub advanced-ran : LaneRan ops end turn (view_of seat) hand new (view_of after) last
   advanced-ran =
-      ran-more ops end turn turn new (view_of seat) (view_of seat) (view_of after) hand hand last op reply none h w fits less is does-new same-new next count kept room reads next-looked
+      ran-more ops end turn turn new (view_of seat) (view_of seat) (view_of after) hand hand last op reply none h w fits less is does-new same-new next count kept room reads next-looked puts
 
   pub advanced-going : IsGoing pins ops new after last
   advanced-going =
-      let few = one-birth ops end turn turn new (view_of seat) (view_of seat) (view_of after) hand hand last op reply none h w fits less is does-new same-new next count kept room reads next-looked in
+      let few = one-birth ops end turn turn new (view_of seat) (view_of seat) (view_of after) hand hand last op reply none h w fits less is does-new same-new next count kept room reads next-looked puts in
       let births = going.births in
       going-on pins ops turn new seat after hand last going same-new seated count (omega arith)
 
 -- or it stopped
 module _ (pins : Pins) (ops : List Op) (end : ℕ) (turn new : LaneTurn) (part : LanePart) (seat after : Seat) (hand last : Option Held) (going : IsGoing pins ops turn seat hand) (less : turn.next < length ops)
     (same : SamePart turn.part part) (seated : IsLaneSeat pins turn.part.lane after last) (reads : ReadsOn (view_of seat) (view_of after))
-    (still : StaysWhole turn.part (view_of seat) hand part (view_of after) last end)
+    (still : StaysWhole turn.part (view_of seat) hand part (view_of after) last end) (puts : PutsBack (view_of seat) hand (view_of after))
     (part_is : new.part ≡ part) (next : new.next ≡ turn.next) (count : new.count ≡ turn.count) (kept : new.replies ≡ turn.replies) where
   stayed-part : new.part ≡ turn.part
   stayed-part = part_is ∙ still.0
@@ -139,7 +129,7 @@ module _ (pins : Pins) (ops : List Op) (end : ℕ) (turn new : LaneTurn) (part :
       → LaneRan ops end turn (view_of seat) hand new (view_of after) last
   stayed-ran op is looked =
       ran-stopped ops end turn turn new (view_of seat) (view_of seat) (view_of after) hand hand last (ran-none ops end turn (view_of seat) hand)
-      stayed-part next count kept reads (λ q near. looks-here ops end turn (view_of seat) (view_of after) hand op q less is (looked q near)) still.1
+      stayed-part next count kept reads (λ q near. looks-here ops end turn (view_of seat) (view_of after) hand op q less is (looked q near)) puts still.1
 
   pub stayed-going : IsGoing pins ops new after last
   stayed-going =

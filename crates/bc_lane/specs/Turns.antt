@@ -38,6 +38,7 @@ use Rattle.bc_pins.specs.Key.{Key, frame_at, frame_words, lane_role, owner, page
 use Rattle.bc_pins.specs.Totals.{times}
 use Rattle.bc_pins.specs.Views.{entries, has_role, opened_state, reads_at, reads_of}
 use Rattle.bc_superpages.specs.declared.headers.PageState.TheVariants.{Absent}
+use Rattle.bc_superpages.specs.Layout.{content_at}
 use Rattle.bc_superpages.specs.LayoutAt.{IsAllocated}
 use Rattle.bc_superpages.specs.RootWords.{RootWords}
 use Rattle.bc_whole_heap.specs.Heaps.{HeapView}
@@ -157,18 +158,15 @@ pub record FindsNoFrameAtAll (v w : View) : Type 0 where
   pub gone : (page : ℕ) → times page v.gone ≤ times page w.gone
   pub none : ShowsNoFrame v.about looks
 
--- the page was read as Gone since, as is noted, by a seat that had no right to a frame, and then no frame was found for it. From then on the
--- seat claimed no frame and gave none back, made no page Gone or Absent and brought none back
+-- the page was read as Gone since, as is noted, by a seat that had nothing in hand and no right to a frame; and from then on no frame was found
 pub record FindsNoFrameFor (v w : View) (page : ℕ) : Type 0 where
   -- what the seat's view was when it began to look for a frame, and what it had read before the page's word
   pub ready : View
   pub before : List (ℕ × ℕ)
   pub gone : ready.read ≡ (page_at page, 4) ∷ (before ++ v.read)
+  pub hands : ready.hand ≡ None
   pub rights : ready.rights ≡ []
-  -- what it has read since
-  pub looks : List (ℕ × ℕ)
-  pub view : w ≡ record ready { hand = w.hand; changed = w.changed; recorded = w.recorded; read = looks ++ ready.read; seen = w.seen; gone = w.gone; busy = w.busy }
-  pub none : ShowsNoFrame ready.about looks
+  pub none : FindsNoFrameAtAll ready w
   pub noted : 0 < times page w.gone
 
 -- a seat read on, took and put back pages of the table, reloaded own pages that were Gone, and made pages Gone or Absent for their
@@ -190,6 +188,20 @@ pub record ReadsOn (v w : View) : Type 0 where
 pub record PassesBy (v w : View) (page : ℕ) : Type 0 where
   pub home : times 1 (reads_at page w.read) + (times page v.left + times page v.emptied) ≡ times 1 (reads_at page v.read) + (times page w.left + times page w.emptied)
   pub fetched : times page w.fetched ≡ times page v.fetched
+
+-- the page was put back with this content, as one of these entries says
+abbrev pub IsPutBack : ℕ → List ℕ → List (ℕ × List ℕ) → Type 0
+IsPutBack page content [] = ⊥
+IsPutBack page content (e ∷ es) = ((e.0 ≡ page) × (e.1 ≡ content)) ⊎ IsPutBack page content es
+
+-- the page is in hand, with this content
+abbrev pub IsInHandAs : Option Held → ℕ → List ℕ → Type 0
+IsInHandAs None page content = ⊥
+IsInHandAs (Some held) page content = (held.page ≡ page) × (held.homed.page ≡ content)
+
+-- a seat that had this in hand put back nothing but that, as it had it
+abbrev pub PutsBack : View → Option Held → View → Type 0
+PutsBack v hand w = (page : ℕ) → (content : List ℕ) → IsPutBack page content w.changed → IsPutBack page content v.changed ⊎ IsInHandAs hand page content
 
 -- a seat has the right to this frame and to no other, which it claimed, or for which it made one page Gone or Absent, the one that it
 -- read as Home. What it knew to be Gone it knows still, and nothing else changed that the view says
@@ -288,20 +300,29 @@ pub record SameSizes (h k : HeapView) : Type 0 where
   pub domains : k.roots.domains ≡ h.roots.domains
   pub slots : k.roots.slots ≡ h.roots.slots
 
+-- this is true of the heap that the first of the operations with these replies, so many, made of the one to which what the lane had belonged
+pub record ComesInRun (ops : List Op) (end : ℕ) (old : LaneTurn) (v : View) (hand : Option Held) (replies : List Reply) (before : ℕ) (P : HeapView → Type 0) : Type 0 where
+  pub within : before ≤ length replies
+  pub comes : (h : HeapView) → IsWhole old.part v hand end h → AllByRecursion (IsOpOf h.roots) ops
+      → (k : HeapView) × (serial : ℕ) × DidAll old.part.holders.items old.part.lane (take before (drop old.next ops)) (take before replies) h old.part.serial k serial × P k
+
 -- one of the operations with these replies looks at a cell on this page, or the one after them: in the heap that those before it made of
 -- the one to which what the lane had belonged
 pub record LooksInRun (ops : List Op) (end : ℕ) (old : LaneTurn) (v : View) (hand : Option Held) (replies : List Reply) (page : ℕ) : Type 0 where
   pub before : ℕ
-  pub within : before ≤ length replies
   pub op : Op
   pub less : old.next + before < length ops
   pub is : op ≡ slice_index_or ops (old.next + before) op
-  pub looks : (h : HeapView) → IsWhole old.part v hand end h → AllByRecursion (IsOpOf h.roots) ops
-      → (k : HeapView) × (serial : ℕ) × DidAll old.part.holders.items old.part.lane (take before (drop old.next ops)) (take before replies) h old.part.serial k serial × LooksOn k op page
+  pub run : ComesInRun ops end old v hand replies before (λ k. LooksOn k op page)
+
+-- the page had this content in the heap that some of the operations with these replies, the first, made
+pub record HadInRun (ops : List Op) (end : ℕ) (old : LaneTurn) (v : View) (hand : Option Held) (replies : List Reply) (page : ℕ) (content : List ℕ) : Type 0 where
+  pub before : ℕ
+  pub run : ComesInRun ops end old v hand replies before (λ k. content_at k.space.pages page ≡ content)
 
 -- operations of the lane were done, in their order: whatever whole heap what the lane had belonged to, what it has now belongs to
 -- that heap with these operations done. Their replies are kept, where there was room for them. A page on which none of them looks, nor
--- the next one, the seat left as it was
+-- the next one, the seat left as it was; and each page that it put back it put back as it was in the heap that some of them made
 pub record LaneRan (ops : List Op) (end : ℕ) (old : LaneTurn) (v : View) (hand : Option Held) (new : LaneTurn) (w : View) (after : Option Held) : Type 0 where
   pub replies : List Reply
   pub kept : new.replies.items ≡ old.replies.items ++ replies
@@ -312,6 +333,7 @@ pub record LaneRan (ops : List Op) (end : ℕ) (old : LaneTurn) (v : View) (hand
   pub serial : new.part.serial ≤ old.part.serial + length replies
   pub reads : ReadsOn v w
   pub looked : (page : ℕ) → page < pages_of v.about → PassesBy v w page ⊎ LooksInRun ops end old v hand replies page
+  pub puts : (page : ℕ) → (content : List ℕ) → IsPutBack page content w.changed → IsPutBack page content v.changed ⊎ HadInRun ops end old v hand replies page content
   pub done : (h : HeapView) → IsWhole old.part v hand end h → AllByRecursion (IsOpOf h.roots) ops
       → (k : HeapView) × IsWhole new.part w after end k × SameSizes h k
       × DidAll old.part.holders.items old.part.lane (take (length replies) (drop old.next ops)) replies h old.part.serial k new.part.serial

@@ -3,7 +3,7 @@
 ghost use Rattle.std.specs.Prelude.{◌≡◌, ◌⊎◌, ℕ, ◌+◌, ◌^◌, ◌<◌, Err, IfOk, IfErr, OnErr};
 ghost use Rattle.bc_lane.specs.declared.stops.Stop.TheVariants.{NurseryFull};
 ghost use Rattle.bc_lane.specs.Shown.{HasPage};
-ghost use Rattle.bc_lane.specs.Turns.{DoesOne, IsLaneSeat, IsLaneTable, IsSameLane, IsWhole, LooksOnIn, LooksOwn, PassesBy, ReadsOn, SamePart, StaysWhole, StopsOp};
+ghost use Rattle.bc_lane.specs.Turns.{DoesOne, IsLaneSeat, IsLaneTable, IsSameLane, IsWhole, LooksOnIn, LooksOwn, PassesBy, PutsBack, ReadsOn, SamePart, StaysWhole, StopsOp};
 ghost use Rattle.bc_mutator.specs.Operations.{IsOpOf, WantsMore};
 ghost use Rattle.bc_nursery.specs.Objects.{left_of};
 ghost use Rattle.bc_pins.specs.Calls.{key_of, view_of};
@@ -40,6 +40,7 @@ pub(crate) fn operate_or_stop<G: Gate>(
     ensures seat { IsSameLane seat.old seat.new }
     ensures reads { ReadsOn (view_of seat.old) (view_of seat.new) }
     ensures looked { (q : ℕ) → q < pages_of (view_of seat.old).about → PassesBy (view_of seat.old) (view_of seat.new) q ⊎ LooksOnIn part.old (view_of seat.old) hand.old end op.now q }
+    ensures puts { PutsBack (view_of seat.old) hand.old (view_of seat.new) }
     ensures done { IfOk result (λ reply. DoesOne part.old (view_of seat.old) hand.old part.new (view_of seat.new) hand.new end op.now reply) }
     ensures still { OnErr result (StaysWhole part.old (view_of seat.old) hand.old part.new (view_of seat.new) hand.new end) }
     ensures why { IfErr result (λ why. StopsOp (view_of seat.old) part.new (view_of seat.new) hand.new end op.now why) }
@@ -76,6 +77,7 @@ fn operate_in_hand<G: Gate>(
     ensures kept { HasPage hand.old page → seat.new ≡ seat.old }
     ensures reads { ReadsOn (view_of seat.old) (view_of seat.new) }
     ensures looked { (q : ℕ) → q < pages_of (view_of seat.old).about → PassesBy (view_of seat.old) (view_of seat.new) q ⊎ LooksOnIn part.old (view_of seat.old) hand.old end op.now q }
+    ensures puts { PutsBack (view_of seat.old) hand.old (view_of seat.new) }
     ensures done { IfOk result (λ reply. DoesOne part.old (view_of seat.old) hand.old part.new (view_of seat.new) hand.new end op.now reply) }
     ensures still { OnErr result (StaysWhole part.old (view_of seat.old) hand.old part.new (view_of seat.new) hand.new end) }
     ensures why { IfErr result (λ why. StopsOp (view_of seat.old) part.new (view_of seat.new) hand.new end op.now why) }

@@ -4,7 +4,7 @@
 ghost use Rattle.std.specs.Prelude.{◌≡◌, ◌≢◌, ℕ, ◌<◌, true, [], Some, None, IfOk, IfErr, IfSome, IfNone, OnOk, OnErr};
 ghost use Rattle.bc_lane.specs.declared.stops.Stop.TheVariants as stop;
 ghost use Rattle.bc_lane.specs.Shown.{HasPage, IsOwnPage, ShowsPages};
-ghost use Rattle.bc_lane.specs.Turns.{FindsNoFrameAtAll, HasFrame, HasInHand, IsLaidDown, IsRefusedPage, IsSameLane, PassesBy, ReadsOn};
+ghost use Rattle.bc_lane.specs.Turns.{FindsNoFrameAtAll, HasFrame, HasInHand, IsLaidDown, IsRefusedPage, IsSameLane, PassesBy, PutsBack, ReadsOn};
 ghost use Rattle.bc_pins.specs.Calls.{HoldsPage, IsAt, IsFree, IsSameSeat, key_of, view_of};
 ghost use Rattle.bc_pins.specs.Contents.{IsBarePage};
 ghost use Rattle.bc_pins.specs.Key.{pages_of};
@@ -27,8 +27,10 @@ pub(crate) fn put_hand_back(pins: &Pins, seat: &mut Seat, hand: &mut Option<Held
     ensures shows { (end : ℕ) → (s : Layout) → ShowsPages (view_of seat.old) hand.old end s → ShowsPages (view_of seat.new) None end s }
     ensures back { (end : ℕ) → (s : Layout) → ShowsPages (view_of seat.new) None end s → ShowsPages (view_of seat.old) hand.old end s }
     ensures laid { IsLaidDown (view_of seat.old) (view_of seat.new) }
+    ensures idle { (view_of seat.old).hand ≡ None → seat.new ≡ seat.old }
     ensures reads { ReadsOn (view_of seat.old) (view_of seat.new) }
     ensures passes { (q : ℕ) → PassesBy (view_of seat.old) (view_of seat.new) q }
+    ensures puts { PutsBack (view_of seat.old) hand.old (view_of seat.new) }
 {
     match hand.take() {
         Some(held) => pins.put(seat, held),
@@ -54,6 +56,7 @@ fn take_or_reload(pins: &Pins, seat: &mut Seat, page: u32) -> Result<Held, Stop>
     ensures still { OnErr result ((end : ℕ) → (s : Layout) → ShowsPages (view_of seat.old) None end s → ShowsPages (view_of seat.new) None end s) }
     ensures reads { ReadsOn (view_of seat.old) (view_of seat.new) }
     ensures passes { (q : ℕ) → q < pages_of (view_of seat.old).about → q ≢ page → PassesBy (view_of seat.old) (view_of seat.new) q }
+    ensures changed { (view_of seat.new).changed ≡ (view_of seat.old).changed }
 {
     match pins.take(seat, page, Want::Work) {
         Ok(held) => Ok(held),
@@ -81,6 +84,7 @@ fn reload_page(pins: &Pins, seat: &mut Seat, page: u32) -> Result<Held, Stop>
     ensures still { OnErr result ((end : ℕ) → (s : Layout) → ShowsPages (view_of seat.old) None end s → ShowsPages (view_of seat.new) None end s) }
     ensures reads { ReadsOn (view_of seat.old) (view_of seat.new) }
     ensures passes { (q : ℕ) → q < pages_of (view_of seat.old).about → q ≢ page → PassesBy (view_of seat.old) (view_of seat.new) q }
+    ensures changed { (view_of seat.new).changed ≡ (view_of seat.old).changed }
 {
     match find_frame(pins, seat, page.saturating_add(1)) {
         Some(right) => match reload(pins, seat, page, right) {
@@ -135,6 +139,7 @@ pub(crate) fn take_page<G: Gate>(
     ensures stop { IfErr result (λ why. IsRefusedPage (view_of seat.old) (view_of seat.new) page why) }
     ensures reads { ReadsOn (view_of seat.old) (view_of seat.new) }
     ensures passes { (q : ℕ) → q < pages_of (view_of seat.old).about → q ≢ page → PassesBy (view_of seat.old) (view_of seat.new) q }
+    ensures puts { PutsBack (view_of seat.old) hand.old (view_of seat.new) }
 {
     if has_page(hand, page) {
         return Ok(());

@@ -14,7 +14,7 @@ use Rattle.bc_pins.specs.Key.{Key, pages_of, counter_at, owner, frame_slot, stor
 use Rattle.bc_pins.specs.Totals.{total, times, sum_to}
 use Rattle.bc_pins.specs.Contents.{IsContent, RefersYoung}
 use Rattle.bc_pins.specs.Views.{grips, grips_remembered, frame_in_hand, counted_for, sets_bit, has_role, withholds, reads_at, reads_as, opened_content, record_of}
-use Rattle.bc_pins.specs.Facts.{Table, Slot, word, Lies, Summary, Frames, frame_lodged, points, adds_to, Bits, IsIdle, page_word, remembered_now, IsBitOfTarget, fetched_ever}
+use Rattle.bc_pins.specs.Facts.{Table, Slot, word, Lies, Summary, Frames, frame_lodged, points, adds_to, Bits, IsIdle, page_word, remembered_now, IsBitOfTarget, fetched_ever, puts_with}
 use Rattle.bc_pins.specs.Tracing.{tells}
 use Rattle.bc_pins.specs.Rule.{Rule}
 use Rattle.bc_pins.specs.Opening.{ClosesPage, HasClosed}
@@ -22,7 +22,7 @@ use Rattle.bc_pins.proofs.TotalLemmas.{total_at, total_only, total_two, one_same
 use Rattle.bc_pins.proofs.WithholdLemmas.{foreign_none}
 use Rattle.bc_pins.proofs.TracingLemmas.{KeepsMarks, tracing_kept}
 use Rattle.bc_pins.proofs.ReadLemmas.{remembered_word}
-use Rattle.bc_pins.proofs.JoinLemmas.{look_none}
+use Rattle.bc_pins.proofs.JoinLemmas.{look_none, puts_none}
 use Rattle.bc_pins.proofs.SumLemmas.{sum_same}
 
 -- a list in which nothing stands is empty
@@ -57,12 +57,18 @@ all_home (h ∷ hs) (x ∷ xs) size home out =
 
 module _ (k : Key) (s : Table) (r : Rule k s) (id : ℕ) (v : View) (at : get_elem? s.views id ≡ some v) (about : v.about ≡ k) (nothing : v.hand ≡ None) (all_roles : (n : ℕ) → times n v.roles ≡ times n k.roles)
     (xs : List Lodged) (size : length s.homes ≡ length xs) (out : (i : ℕ) (y : Lodged) → get_elem? s.homes i ≡ some (some y) → get_elem? xs i ≡ some y) where
-  idle_else : (j : ℕ) (u : View) → j ≢ id → get_elem? s.views j ≡ some u → IsIdle u
-  idle_else j u ne is = (r.seats j u is).seated.idle (none_times u.roles (λ n.
+  no_role : (j : ℕ) (u : View) → j ≢ id → get_elem? s.views j ≡ some u → (n : ℕ) → has_role u n ≡ 0
+  no_role j u ne is n =
       let two = total_two (λ (z : View). times n z.roles) s.views j id u v ne is at in
       let each = r.roles.each n in
       let all = all_roles n in
-      omega arith))
+      omega arith
+
+  idle_else : (j : ℕ) (u : View) → j ≢ id → get_elem? s.views j ≡ some u → IsIdle u
+  idle_else j u ne is = (r.seats j u is).seated.idle (none_times u.roles (no_role j u ne is))
+
+  only_put : (p w b : ℕ) → total (λ (u : View). puts_with k p w b u.changed) s.views ≡ puts_with k p w b v.changed
+  only_put p w b = total_only (λ (u : View). puts_with k p w b u.changed) s.views id v at (λ j u ne is. puts_none k p w b u.changed ((r.seats j u is).records.others p (no_role j u ne is (owner k p))))
 
   only : (f : View → ℕ) → ((u : View) → IsIdle u → f u ≡ 0) → total f s.views ≡ f v
   only f z = total_only f s.views id v at (λ j u ne is. z u (idle_else j u ne is))
@@ -221,6 +227,7 @@ module _ (k : Key) (s : Table) (r : Rule k s) (id : ℕ) (v : View) (at : get_el
     ];
     targets = record {
       each = λ p w b few on. let was = (r.seats id v at).targets.each p w b few on in (was.0, λ z. subst (λ (c : List ℕ). IsBitOfTarget k p c w b) (record_is p) (was.1 (let a = only_fetched p in omega arith)));
+      had = λ p w b few on. let was = (r.seats id v at).targets.had p w b few on in let a = only_put p w b in omega arith;
     };
     unfetched = λ turn p. let all = all_roles (owner k p) in let none = r.unheld turn p in (r.seats id v at).records.unfetched p (omega arith);
     gone = λ p lt. let saw = (r.seats id v at).saw.gone p lt in (saw.0, saw.2);

@@ -383,6 +383,7 @@ module _ (id : TableId) (k : Key) (all : List Seat) (root : Worker Lodged View) 
               page = entry.0;
               inside = target.0;
               left = omega arith;
+              had = (let some = e.closed.targets.had entry.0 w b few entry.1 in let puts = e.gathered.put entry.0 w b in omega arith);
               still = λ z. (
                 word_gone _ (word_is entry.0 target.0 ∙ one_is (get_or words (page_at entry.0) 0) 4 (omega arith)),
                 subst (λ (c : List ℕ). IsBitOfTarget k entry.0 c w b) (sym (near entry.0 target.0)) (target.1 (omega arith)),

@@ -246,12 +246,14 @@ module _ (k : Key) (s : Table) (r : Rule k s) (p id frame : ℕ) (v : View) (at 
         count = λ q lt. let h = counts_here q lt in let d = no_count p q in let e : (if page_word s p == 4 then points k p c q else 0) ≡ points k p c q = ap (λ (b : Bool). if b then points k p c q else 0) (eq-eqb (page_word s p) 4 is) in omega arith;
         else_count = λ j q ne. counts_else j q ne ∙ sym (no_count j q);
         bookmarked = refl;
+        put_more = λ q i b. omega arith;
+        put_new = λ i b on. inl on;
         won = refl;
         known = refl;
         finished = refl;
         left_marked = λ e. absurd (omega arith);
         marking = marking_kept;
-        targets = targets_kept k s r.rec (set s.words (page_at p) 3) homes id v w at (λ q. omega arith) refl (r.seats id v at).targets;
+        targets = targets_kept k s r.rec (set s.words (page_at p) 3) homes id v w at (λ q. omega arith) refl refl (r.seats id v at).targets;
         roles = refl;
         seated = record { about = (r.seats id v at).seated.about; idle = λ e. let z : has_role v (owner k p) ≡ 0 = ap (times (owner k p)) e in absurd (omega arith) };
         records = records_kept;

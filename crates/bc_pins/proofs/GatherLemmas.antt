@@ -18,7 +18,8 @@ use Rattle.bc_pins.specs.Closing.{IsBack, AreBack, Gathered, fetches_of}
 use Rattle.bc_pins.proofs.TotalLemmas.{total_append, times_append}
 use Rattle.bc_pins.proofs.LogLemmas.{times-reads}
 use Rattle.bc_pins.proofs.TracingLemmas.{tells_append}
-use Rattle.bc_pins.proofs.JoinLemmas.{entries_append, sets_append, look_skips, look_first}
+use Rattle.bc_pins.proofs.JoinLemmas.{entries_append, puts_append, sets_append, look_skips, look_first}
+use Rattle.bc_pins.specs.Facts.{puts_with}
 use Rattle.bc_pins.proofs.DealLemmas.{front_of, end_of}
 
 -- what moves from a seat to the root
@@ -59,6 +60,19 @@ told_moved f v front seat w b n e =
 first_told : (f : View → List (ℕ × ℕ)) (front : List Seat) (seat : Seat) (w b : ℕ)
     → tells w b (f (view_of seat)) + total (λ (s : Seat). tells w b (f (view_of s))) front ≡ total (λ (s : Seat). tells w b (f (view_of s))) (front ++ seat ∷ [])
 first_told f front seat w b = let c = total_append (λ (s : Seat). tells w b (f (view_of s))) front (seat ∷ []) in omega arith
+
+-- and of contents
+put_moved : (k : Key) (v : View) (front : List Seat) (seat : Seat) (p w b n : ℕ)
+    → puts_with k p w b v.changed + total (λ (s : Seat). puts_with k p w b (view_of s).changed) (front ++ seat ∷ []) ≡ n
+    → puts_with k p w b (v.changed ++ (view_of seat).changed) + total (λ (s : Seat). puts_with k p w b (view_of s).changed) front ≡ n
+put_moved k v front seat p w b n e =
+    let a = puts_append k p w b v.changed (view_of seat).changed in
+    let c = total_append (λ (s : Seat). puts_with k p w b (view_of s).changed) front (seat ∷ []) in
+    omega arith
+
+first_put : (k : Key) (front : List Seat) (seat : Seat) (p w b : ℕ)
+    → puts_with k p w b (view_of seat).changed + total (λ (s : Seat). puts_with k p w b (view_of s).changed) front ≡ total (λ (s : Seat). puts_with k p w b (view_of s).changed) (front ++ seat ∷ [])
+first_put k front seat p w b = let c = total_append (λ (s : Seat). puts_with k p w b (view_of s).changed) front (seat ∷ []) in omega arith
 
 -- and of what was read of a page's word
 read_moved : (v : View) (front : List Seat) (seat : Seat) (p n m : ℕ)
@@ -107,6 +121,7 @@ module _ (id : TableId) (k : Key) (apart : (r : ℕ) → times r k.roles ≤ 1) 
         returned = λ p. first_moved (λ v. v.returned) front seat p ∙ ap (total (λ (s : Seat). times p (view_of s).returned)) (sym is);
         gone = λ p. first_moved (λ v. v.gone) front seat p ∙ ap (total (λ (s : Seat). times p (view_of s).gone)) (sym is);
         busy = λ p. first_moved (λ v. v.busy) front seat p ∙ ap (total (λ (s : Seat). times p (view_of s).busy)) (sym is);
+        put = λ p w b. first_put k front seat p w b ∙ ap (total (λ (s : Seat). puts_with k p w b (view_of s).changed)) (sym is);
         read = λ p n. first_moved (λ v. reads_at p v.read) front seat n ∙ ap (total (λ (s : Seat). reads_as p n (view_of s))) (sym is);
         mine = λ j le lt d p has.
             let e : get_or all j d ≡ seat = (let z : j ≡ length front = omega arith in ap (λ (i : ℕ). get_or all i d) z ∙ here d) in
@@ -158,6 +173,7 @@ module _ (id : TableId) (k : Key) (apart : (r : ℕ) → times r k.roles ≤ 1) 
         returned = λ p. ap (λ (u : View). times p u.returned + total (λ (s : Seat). times p (view_of s).returned) front) view ∙ moved (λ u. u.returned) v front seat p _ (g.returned p);
         gone = λ p. ap (λ (u : View). times p u.gone + total (λ (s : Seat). times p (view_of s).gone) front) view ∙ moved (λ u. u.gone) v front seat p _ (g.gone p);
         busy = λ p. ap (λ (u : View). times p u.busy + total (λ (s : Seat). times p (view_of s).busy) front) view ∙ moved (λ u. u.busy) v front seat p _ (g.busy p);
+        put = λ p x b. ap (λ (u : View). puts_with k p x b u.changed + total (λ (s : Seat). puts_with k p x b (view_of s).changed) front) view ∙ put_moved k v front seat p x b _ (g.put p x b);
         read = λ p n. ap (λ (u : View). reads_as p n u + total (λ (s : Seat). reads_as p n (view_of s)) front) view ∙ read_moved v front seat p n _ (g.read p n);
         mine = λ j le lt d p has.
             let sum = times_append (owner k p) v.roles w.roles in

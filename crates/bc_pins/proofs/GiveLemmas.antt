@@ -17,7 +17,7 @@ use Rattle.bc_pins.specs.Key.{Key, pages_of, owner, page_at, frame_slot, store_s
 use Rattle.bc_pins.specs.Totals.{total, times}
 use Rattle.bc_pins.specs.Contents.{IsContent, RefersYoung}
 use Rattle.bc_pins.specs.Views.{grips, grips_remembered, frame_in_hand, counted_for, marked_for, has_role, withholds, entries, look_up, opened_content}
-use Rattle.bc_pins.specs.Facts.{Table, fetched_ever, slot, IsHomed, Lies, RecordsContent, Marking, frame_lodged, points, page_word, IsBitOfTarget, MarksTargets}
+use Rattle.bc_pins.specs.Facts.{Table, fetched_ever, slot, IsHomed, Lies, RecordsContent, Marking, frame_lodged, points, page_word, IsBitOfTarget, MarksTargets, has_bit_of, puts_with}
 use Rattle.bc_pins.specs.Tidy.{IsTidy}
 use Rattle.bc_pins.specs.Rule.{Rule}
 use Rattle.bc_pins.specs.Steps.{Mine, owns, both_slots, released, Gave}
@@ -61,6 +61,18 @@ returned_other false q p l ne = let z = one_other p q (λ e. ne (sym e)) in omeg
 changed_entries : (b : Bool) (q p : ℕ) (c : List ℕ) (l : List (ℕ × List ℕ)) → entries q (if b then (p, c) ∷ l else l) ≡ (if b then one_if (p == q) else 0) + entries q l
 changed_entries true q p c l = refl
 changed_entries false q p c l = omega arith
+
+-- no content is forgotten by it, and the new one is among those that were put back
+changed_more : (own : Bool) (k : Key) (q p i b : ℕ) (c : List ℕ) (l : List (ℕ × List ℕ)) → puts_with k q i b l ≤ puts_with k q i b (if own then (p, c) ∷ l else l)
+changed_more true k q p i b c l = omega arith
+changed_more false k q p i b c l = omega arith
+
+changed_with : (own : Bool) (k : Key) (p i b : ℕ) (c : List ℕ) (l : List (ℕ × List ℕ)) → own ≡ true → has_bit_of k p c i b ≡ true → 0 < puts_with k p i b (if own then (p, c) ∷ l else l)
+changed_with true k p i b c l e on =
+    let here : (if p == p then one_if (has_bit_of k p c i b) else 0) ≡ one_if (has_bit_of k p c i b) = ap (λ (t : Bool). if t then one_if (has_bit_of k p c i b) else 0) (eq-eqb p p refl) in
+    let one : one_if (has_bit_of k p c i b) ≡ 1 = ap one_if on in
+    omega arith
+changed_with false k p i b c l e on = absurd (cc)
 
 pub look_other : (b : Bool) (q p : ℕ) (c d : List ℕ) (l : List (ℕ × List ℕ)) → p ≢ q → look_up q (if b then (p, c) ∷ l else l) d ≡ look_up q l d
 look_other true q p c d l ne = ap (λ (b : Bool). if b then c else look_up q l d) (ne_eqb p q ne)
@@ -247,6 +259,11 @@ module _ (k : Key) (s : Table) (r : Rule k s) (id x role : ℕ) (v : View) (g : 
                 | inr ne ↦ subst (λ (c : List ℕ). IsBitOfTarget k q c y b) (sym (there_is q p h.page (r.rec q) ne)) (was.1 none_before)
               ],
             );
+        had = λ q y b few on.
+            let was = facts.targets.had q y b few on in
+            let sum = total_set (λ (u : View). puts_with k q y b u.changed) s.views id v w at in
+            let more = changed_more (owns v p) k q p y b h.page v.changed in
+            omega arith;
       }
 
   -- in a mark turn it is Remembered only where it was taken so
@@ -368,6 +385,11 @@ module _ (k : Key) (s : Table) (r : Rule k s) (id x role : ℕ) (v : View) (g : 
         count = λ q lt. let a = hand_counted p q in let b = never_four (points k p (rec' p) q) in let c = was_no_four (points k p (r.rec p) q) in omega arith;
         else_count = λ j q ne. sym (hand_counted j q);
         bookmarked = refl;
+        put_more = λ q i b. changed_more (owns v p) k q p i b h.page v.changed;
+        put_new = λ i b on. elim (cases_lt 0 (has_role v (owner k p))) [
+          | inl mine ↦ inr (changed_with (owns v p) k p i b h.page v.changed (owning mine) (subst (λ (c : List ℕ). has_bit_of k p c i b ≡ true) same_here on))
+          | inr le ↦ inl (subst (λ (c : List ℕ). has_bit_of k p c i b ≡ true) (lane_kept (omega arith)) on)
+        ];
         won = refl;
         known = refl;
         finished = refl;

@@ -10,7 +10,7 @@ use Rattle.bc_pins.specs.declared.views.View.{View}
 use Rattle.bc_pins.specs.Key.{Key, owner, page_at}
 use Rattle.bc_pins.specs.Totals.{total, times}
 use Rattle.bc_pins.specs.Views.{grips, grips_remembered, frame_in_hand, counted_for, sets_bit, marked_for, has_role, withholds, reads_as, entries, look_up, opened_content, record_of, sets_for}
-use Rattle.bc_pins.specs.Facts.{Table}
+use Rattle.bc_pins.specs.Facts.{Table, has_bit_of, puts_with}
 use Rattle.bc_pins.specs.Tracing.{tells}
 use Rattle.bc_pins.specs.Rule.{SeatFacts, Rule}
 use Rattle.bc_pins.specs.Steps.{united, nobody}
@@ -30,6 +30,20 @@ join_sum f vs id other v w a b at there z e =
 pub entries_append : (p : ℕ) (l m : List (ℕ × List ℕ)) → entries p (l ++ m) ≡ entries p l + entries p m
 entries_append p [] m = omega arith
 entries_append p (e ∷ l) m = let a = entries_append p l m in omega arith
+
+pub puts_append : (k : Key) (p w b : ℕ) (l m : List (ℕ × List ℕ)) → puts_with k p w b (l ++ m) ≡ puts_with k p w b l + puts_with k p w b m
+puts_append k p w b [] m = omega arith
+puts_append k p w b (e ∷ l) m = let a = puts_append k p w b l m in omega arith
+
+pub puts_none : (k : Key) (p w b : ℕ) (l : List (ℕ × List ℕ)) → entries p l ≡ 0 → puts_with k p w b l ≡ 0
+puts_none k p w b [] none_is = refl
+puts_none k p w b (e ∷ l) none_is = elim (cases_Bool (e.0 == p)) [
+  | inl on ↦ let a : one_if (e.0 == p) ≡ 1 = ap one_if on in absurd (omega arith)
+  | inr off ↦
+      let a : (if e.0 == p then one_if (has_bit_of k p e.1 w b) else 0) ≡ 0 = ap (λ (t : Bool). if t then one_if (has_bit_of k p e.1 w b) else 0) off in
+      let rest = puts_none k p w b l (omega arith) in
+      omega arith
+]
 
 pub sets_append : (x b : ℕ) (l m : List (ℕ × ℕ × ℕ)) → sets_bit x b (l ++ m) ≡ sets_bit x b l + sets_bit x b m
 sets_append x b [] m = omega arith
@@ -109,6 +123,7 @@ module _ (k : Key) (s : Table) (r : Rule k s) (id other : ℕ) (v w : View) (at 
     flag = λ p. sum_of (λ u. grips_remembered p u.hand) refl (let a : grips_remembered p w.hand ≡ 0 = ap (grips_remembered p) nothing in omega arith);
     recorded = λ p. sum_of (λ u. times p u.recorded) refl (times_append p v.recorded w.recorded);
     fetched = λ p. sum_of (λ u. times p u.fetched) refl (times_append p v.fetched w.fetched);
+    put = λ a p x b. sum_of (λ u. puts_with a p x b u.changed) refl (puts_append a p x b v.changed w.changed);
     left = λ p. sum_of (λ u. times p u.left) refl (times_append p v.left w.left);
     emptied = λ p. sum_of (λ u. times p u.emptied) refl (times_append p v.emptied w.emptied);
     withheld = λ a p. sum_of (withholds a p) (foreign_nobody a p) (both_withhold a p);
@@ -250,6 +265,13 @@ module _ (k : Key) (s : Table) (r : Rule k s) (id other : ℕ) (v w : View) (at 
           elim (cases_lt 0 (sets_for p x b v.bookmarked)) [
             | inl has ↦ let a = mine.targets.each p x b few has in (a.0, λ z. a.1 (let d = sums.fetched p in omega arith))
             | inr le ↦ let a = theirs.targets.each p x b few (omega arith) in (a.0, λ z. a.1 (let d = sums.fetched p in omega arith))
+          ];
+      had = λ p x b few on.
+          let c = sets_for_append p x b v.bookmarked w.bookmarked in
+          let d = sums.put k p x b in
+          elim (cases_lt 0 (sets_for p x b v.bookmarked)) [
+            | inl has ↦ let a = mine.targets.had p x b few has in omega arith
+            | inr le ↦ let a = theirs.targets.had p x b few (omega arith) in omega arith
           ];
     };
     knows = λ turn x b told.

@@ -30,13 +30,13 @@ use Rattle.bc_pins.specs.Key.{Key, pages_of, owner, counter_at, bookmark_at, pag
 use Rattle.bc_pins.specs.Totals.{times}
 use Rattle.bc_pins.specs.Contents.{IsContent, IsFieldOn, NamesFixed, field_bits, objects_in}
 use Rattle.bc_pins.specs.Views.{grips, grips_remembered, frame_in_hand, counted_for, sets_bit, marked_for, has_role, entries, look_up, opened_content, sets_for}
-use Rattle.bc_pins.specs.Facts.{Table, word, RecordsContent, Seated, Marking, points, adds_to, Counters, bookmark_bit, ever_set, cell_bit, Bits, page_word, IsBitOfTarget, MarksTargets}
+use Rattle.bc_pins.specs.Facts.{Table, word, RecordsContent, Seated, Marking, points, adds_to, Counters, bookmark_bit, ever_set, cell_bit, Bits, page_word, IsBitOfTarget, MarksTargets, had_with, has_bit_of, puts_with}
 use Rattle.bc_pins.specs.Rule.{Rule}
 use Rattle.bc_pins.specs.Steps.{Mine, bookmarking, counting, AreTargets, SetBits, Counted}
 use Rattle.bc_pins.proofs.TotalLemmas.{total_set, total_less_at, one_same, one_other, one_few}
 use Rattle.bc_pins.proofs.SumLemmas.{sum_few_below, sum_one}
 use Rattle.bc_pins.proofs.TakeLemmas.{some_hand}
-use Rattle.bc_pins.proofs.TallyLemmas.{in_bit, bit_few}
+use Rattle.bc_pins.proofs.TallyLemmas.{bit_of_target, in_bit, bit_few}
 use Rattle.bc_pins.proofs.MarkedLemmas.{targets_kept, KeepsBits}
 use Rattle.bc_pins.proofs.LogLemmas.{reads-else, reads-more}
 use Rattle.bc_pins.proofs.TracingLemmas.{KeepsMarks, keeps_set, knows_stay, tracing_kept}
@@ -229,6 +229,19 @@ module _ (k : Key) (s : Table) (r : Rule k s) (id role : ℕ) (v : View) (h : Ha
                       (subst (λ (n : ℕ). IsBitOfTarget k n (r.rec n) w b) page (subst (λ (c : List ℕ). IsBitOfTarget k h.page c w b) content target)),
                 )
           ];
+          had = λ p j b few on.
+              let kept = total_set (λ (y : View). puts_with k p j b y.changed) s.views id v u at in
+              elim (cases_lt 0 (sets_for p j b v.bookmarked)) [
+                | inl was ↦ let a = old.had p j b few was in omega arith
+                | inr none_was ↦
+                    let new = both_are (h.page == p) (w == j) (bit_at bits b) (omega arith) in
+                    let page : h.page ≡ p = eqb-true h.page p new.0 in
+                    let word_is : w ≡ j = eqb-true w j new.1 in
+                    let on_target = bit_of_target k h.page h.content w b (targets b few new.2) in
+                    let a = (r.content h.page near).had w b (subst (λ (c : List ℕ). has_bit_of k h.page c w b ≡ true) content on_target) in
+                    let here : 0 < had_with k s p j b = subst (λ (n : ℕ). 0 < had_with k s n j b) page (subst (λ (n : ℕ). 0 < had_with k s h.page n b) word_is a) in
+                    omega arith
+              ];
         }
 
     marks_kept : KeepsMarks k s t
@@ -248,6 +261,7 @@ module _ (k : Key) (s : Table) (r : Rule k s) (id role : ℕ) (v : View) (h : Ha
           left = refl;
           emptied = refl;
           fetched = refl;
+          changed = refl;
           returned = refl;
           busy = refl;
           seen = refl;
@@ -380,6 +394,7 @@ module _ (k : Key) (s : Table) (r : Rule k s) (id role : ℕ) (v : View) (h : Ha
           left = refl;
           emptied = refl;
           fetched = refl;
+          changed = refl;
           returned = refl;
           busy = refl;
           seen = refl;
@@ -390,7 +405,7 @@ module _ (k : Key) (s : Table) (r : Rule k s) (id role : ℕ) (v : View) (h : Ha
           seated = seated_kept c_view refl refl refl;
           records = records_kept c_view (record h { counted = q ∷ h.counted }) refl refl refl refl refl refl refl refl;
           marking = c_marking;
-          targets = targets_kept k s r.rec (set s.words c_at y) s.homes id v c_view at (λ q. omega arith) refl (r.seats id v at).targets;
+          targets = targets_kept k s r.rec (set s.words c_at y) s.homes id v c_view at (λ q. omega arith) refl refl (r.seats id v at).targets;
           set = λ j b less one. ap (λ (n : ℕ). bit_at n b) (get_or-set_other s.words c_at (bookmark_at k j) y 0 (λ e. omega arith)) ∙ one;
           counters = counters_now;
           bits = λ j b less few. bits_same k s r c_at y id v c_view j b at less few (λ e. omega arith) refl;

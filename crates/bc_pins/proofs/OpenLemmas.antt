@@ -9,7 +9,7 @@ use Rattle.bc_pins.specs.declared.views.Lodged.{Lodged}
 use Rattle.bc_pins.specs.declared.views.View.{View}
 use Rattle.bc_pins.specs.Key.{Key}
 use Rattle.bc_pins.specs.Views.{opened_content, opened_word}
-use Rattle.bc_pins.specs.Facts.{Table, page_word}
+use Rattle.bc_pins.specs.Facts.{Table, has_bit_of, page_word}
 use Rattle.bc_pins.specs.Rule.{SeatFacts, Rule}
 use Rattle.bc_pins.specs.Steps.{fresh}
 use Rattle.bc_pins.specs.Opening.{opened, MayOpen}
@@ -41,6 +41,7 @@ starts k words slots may =
             young = λ y. let a : one_if (page_word s p == 2) ≡ 1 = ap (λ (n : ℕ). one_if (n == 2)) (page.word ∙ page.young y) in omega arith;
             bare = λ z. page.bare (sym page.word ∙ z);
             gone = λ e. page.gone (sym page.word ∙ e);
+            had = λ w b on. let a : one_if (has_bit_of k p (opened_content k p) w b) ≡ 1 = ap one_if on in omega arith;
           };
       standing = λ p lt.
           let page = may.pages p lt in

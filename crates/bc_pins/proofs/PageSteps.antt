@@ -1,5 +1,5 @@
 -- What a step on a page word owes, and that the rule then holds after it: the frame lemma of the page words.
-use Rattle.std.proofs.Common.{◌≡◌, ℕ, ◌+◌, ◌<◌, ◌≤◌, ◌*◌, ◌/◌, ◌%◌, ◌≢◌, ◌==◌, ◌&&◌, ◌⊎◌, nat_lt, List, length, set, if◌then◌else◌, Some, inl, inr, ap, sym, subst, ◌∙◌, arith, get_or-set_same, get_or-set_other, Bool, [], ◌∷◌, false}
+use Rattle.std.proofs.Common.{true, ◌≡◌, ℕ, ◌+◌, ◌<◌, ◌≤◌, ◌*◌, ◌/◌, ◌%◌, ◌≢◌, ◌==◌, ◌&&◌, ◌⊎◌, nat_lt, List, length, set, if◌then◌else◌, Some, inl, inr, ap, sym, subst, ◌∙◌, arith, get_or-set_same, get_or-set_other, Bool, [], ◌∷◌, false}
 use mathlib.Core.Option.{some}
 use mathlib.Core.Option as maybe
 use lib.ListN.{get_elem?}
@@ -16,7 +16,7 @@ use Rattle.std.specs.Int.{bit_at}
 use Rattle.bc_pins.specs.Totals.{total, times}
 use Rattle.bc_pins.specs.Contents.{IsContent, RefersYoung, IsBarePage}
 use Rattle.bc_pins.specs.Views.{grips, grips_remembered, frame_in_hand, counted_for, sets_bit, has_role, withholds, reads_as, opened_content, sets_for, marked_for}
-use Rattle.bc_pins.specs.Facts.{Table, word, Lies, Place, remembered_now, Summary, Content, Standing, RecordsContent, Saw, Seated, Marking, Roles, frame_lodged, Frames, points, adds_to, Counters, bookmark_bit, is_clear, Bits, page_word, IsBitOfTarget, MarksTargets, HasBookmarkBit, fetched_ever}
+use Rattle.bc_pins.specs.Facts.{Table, word, Lies, Place, remembered_now, Summary, Content, Standing, RecordsContent, Saw, Seated, Marking, Roles, frame_lodged, Frames, points, adds_to, Counters, bookmark_bit, is_clear, Bits, page_word, IsBitOfTarget, MarksTargets, HasBookmarkBit, fetched_ever, had_with, has_bit_of, puts_with}
 use Rattle.bc_pins.specs.Tracing.{RefersToCell, HasMarkBit, tells, Knows}
 use Rattle.bc_pins.specs.Rule.{SeatFacts, Rule}
 use Rattle.bc_pins.proofs.TotalLemmas.{total_set, total_at, total_only, total_two, one_few, one_is}
@@ -81,6 +81,9 @@ pub record PageStep (k : Key) (s : Table) (rec rec' : ℕ → List ℕ) (p x : �
   pub count : (q : ℕ) → q < k.supers → (if x == 4 then points k p (rec' p) q else 0) + counted_for p q w.hand ≡ (if page_word s p == 4 then points k p (rec p) q else 0) + counted_for p q v.hand
   pub else_count : (r q : ℕ) → r ≢ p → counted_for r q w.hand ≡ counted_for r q v.hand
   pub bookmarked : w.bookmarked ≡ v.bookmarked
+  -- contents: none is forgotten, and a new record was put back
+  pub put_more : (q i b : ℕ) → puts_with k q i b v.changed ≤ puts_with k q i b w.changed
+  pub put_new : (i b : ℕ) → has_bit_of k p (rec' p) i b ≡ true → (has_bit_of k p (rec p) i b ≡ true) ⊎ (0 < puts_with k p i b w.changed)
   -- marks
   pub won : w.won ≡ v.won
   pub known : w.known ≡ v.known
@@ -166,6 +169,20 @@ module _ (k : Key) (s : Table) (r : Rule k s) (rec' : ℕ → List ℕ) (p x : �
       (let a = sum (λ u. times p u.fetched) in let b = d.fetched_more in omega arith)
       (λ q ne. let a = same_sum (λ u. times q u.fetched) (d.else_fetched q ne) in omega arith)
 
+  -- and none of its contents is forgotten
+  had_grows : (q i b : ℕ) → had_with k s q i b ≤ had_with k t q i b
+  had_grows q i b =
+      let a = sum (λ u. puts_with k q i b u.changed) in
+      let c = d.put_more q i b in
+      let e = total_at (λ (u : View). puts_with k q i b u.changed) s.views id v at in
+      omega arith
+
+  had_here : (i b : ℕ) → 0 < puts_with k p i b w.changed → 0 < had_with k t p i b
+  had_here i b lt =
+      let a = sum (λ u. puts_with k p i b u.changed) in
+      let e = total_at (λ (u : View). puts_with k p i b u.changed) s.views id v at in
+      omega arith
+
   place_there : (q : ℕ) → q ≢ p → q < pages_of k → Place k t rec' q
   place_there q ne lt =
       let old = r.place q lt in
@@ -197,6 +214,7 @@ module _ (k : Key) (s : Table) (r : Rule k s) (rec' : ℕ → List ℕ) (p x : �
         young = λ y. let was = old.young (subst (λ c. RefersYoung k.opening q c) same y) in omega arith;
         bare = λ z. old.bare (sym (there q ne) ∙ z);
         gone = λ e. summary_kept q (rec' q) (subst (Summary k s.words q) (sym same) (old.gone (sym (there q ne) ∙ e)));
+        had = λ i b on. let was = old.had i b (subst (λ c. has_bit_of k q c i b ≡ true) same on) in let c = had_grows q i b in omega arith;
       }
 
   content_here : p < pages_of k → Content k t rec' p
@@ -205,6 +223,7 @@ module _ (k : Key) (s : Table) (r : Rule k s) (rec' : ℕ → List ℕ) (p x : �
     young = λ y. elim (d.young y) [ inl was ↦ let a = (r.content p lt).young was in let b = grown p in omega arith | inr now ↦ held_by now ];
     bare = λ z. d.bare (sym here ∙ z);
     gone = λ e. summary_kept p (rec' p) (d.summarised (sym here ∙ e));
+    had = λ i b on. elim (d.put_new i b on) [ inl was ↦ let a = (r.content p lt).had i b was in let c = had_grows p i b in omega arith | inr new ↦ had_here i b new ];
   }
 
   withheld_else : (q : ℕ) → q ≢ p → withholds k q w ≡ withholds k q v
@@ -435,6 +454,7 @@ module _ (k : Key) (s : Table) (r : Rule k s) (rec' : ℕ → List ℕ) (p x : �
                 | inr other ↦ d.else_rec q other
               ])) (was.1 none_before),
         );
+    had = λ q w b few on. let was = (r.seats j u is).targets.had q w b few on in let c = had_grows q w b in omega arith;
   }
 
   unowned_kept : (q : ℕ) → times (owner k q) k.roles ≡ 0 → rec' q ≡ opened_content k q

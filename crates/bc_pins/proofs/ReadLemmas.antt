@@ -243,12 +243,14 @@ look_step k s r p id role v at near about some_role =
       count = λ q lt. refl;
       else_count = λ j q ne. refl;
       bookmarked = refl;
+      put_more = λ q i b. omega arith;
+      put_new = λ i b on. inl on;
       won = refl;
       known = refl;
       finished = refl;
       left_marked = λ e ne. absurd (ne e);
       marking = record { once = facts.marking.once; whose = facts.marking.whose; unmarked = facts.marking.unmarked };
-      targets = targets_kept k s r.rec (set s.words (page_at p) (page_word s p)) s.homes id v w at (λ q. omega arith) refl facts.targets;
+      targets = targets_kept k s r.rec (set s.words (page_at p) (page_word s p)) s.homes id v w at (λ q. omega arith) refl refl facts.targets;
       roles = refl;
       seated = record {
         about = facts.seated.about;

@@ -9,7 +9,7 @@ use Rattle.bc_pins.specs.declared.views.View.{View}
 use Rattle.bc_pins.specs.Key.{Key, pages_of, owner}
 use Rattle.bc_pins.specs.Totals.{total, times}
 use Rattle.bc_pins.specs.Views.{grips, grips_remembered, frame_in_hand, counted_for, sets_bit, withholds, reads_as, marked_for, entries, look_up, opened_content, sets_for}
-use Rattle.bc_pins.specs.Facts.{IsIdle, Table, page_word, remembered_now, adds_to, Marking, MarksTargets, fetched_ever}
+use Rattle.bc_pins.specs.Facts.{IsIdle, Table, page_word, remembered_now, adds_to, Marking, MarksTargets, fetched_ever, puts_with}
 use Rattle.bc_pins.specs.Tracing.{tells}
 use Rattle.bc_pins.specs.Rule.{SeatFacts, Rule}
 use Rattle.bc_pins.specs.Steps.{dealer, dealt}
@@ -29,6 +29,7 @@ pub record SameSums (old new : List View) : Type 0 where
   pub flag : (p : ℕ) → total (λ (v : View). grips_remembered p v.hand) new ≡ total (λ (v : View). grips_remembered p v.hand) old
   pub recorded : (p : ℕ) → total (λ (v : View). times p v.recorded) new ≡ total (λ (v : View). times p v.recorded) old
   pub fetched : (p : ℕ) → total (λ (v : View). times p v.fetched) new ≡ total (λ (v : View). times p v.fetched) old
+  pub put : (k : Key) (p w b : ℕ) → total (λ (v : View). puts_with k p w b v.changed) new ≡ total (λ (v : View). puts_with k p w b v.changed) old
   pub left : (p : ℕ) → total (λ (v : View). times p v.left) new ≡ total (λ (v : View). times p v.left) old
   pub emptied : (p : ℕ) → total (λ (v : View). times p v.emptied) new ≡ total (λ (v : View). times p v.emptied) old
   pub withheld : (k : Key) (p : ℕ) → total (withholds k p) new ≡ total (withholds k p) old
@@ -87,7 +88,7 @@ views_step k s r views sums each = record {
   content = λ p lt.
       let old = r.content p lt in
       let now = now_same s views sums p in
-      record { fixed = old.fixed; young = λ y. let a = old.young y in omega arith; bare = old.bare; gone = old.gone };
+      record { fixed = old.fixed; young = λ y. let a = old.young y in omega arith; bare = old.bare; gone = old.gone; had = λ w b on. let was = old.had w b on in let a = sums.put k p w b in omega arith };
   standing = λ p near.
       let old = r.standing p near in
       let now = now_same s views sums p in
@@ -134,7 +135,7 @@ seat_kept k s rec views sums u old = record {
     taken = old.saw.taken;
   };
   marking = old.marking;
-  targets = targets_more k s (with_views s views) rec u u (λ q. let a = sums.fetched q in omega arith) refl old.targets;
+  targets = targets_more k s (with_views s views) rec u u (λ q. let a = sums.fetched q in omega arith) (λ q w b. let a = sums.put k q w b in omega arith) refl old.targets;
   knows = old.knows;
 }
 
@@ -150,7 +151,7 @@ no_marking v nothing none_set = record {
 }
 
 pub no_targets : (k : Key) (s : Table) (rec : ℕ → List ℕ) (v : View) → v.bookmarked ≡ [] → MarksTargets k s rec v
-no_targets k s rec v none_set = record { each = λ p w b few on. let z : sets_for p w b v.bookmarked ≡ 0 = ap (sets_for p w b) none_set in absurd (omega arith) }
+no_targets k s rec v none_set = record { each = λ p w b few on. let z : sets_for p w b v.bookmarked ≡ 0 = ap (sets_for p w b) none_set in absurd (omega arith); had = λ p w b few on. let z : sets_for p w b v.bookmarked ≡ 0 = ap (sets_for p w b) none_set in absurd (omega arith) }
 
 -- roles cut in two
 pub cut_times : (r : ℕ) (l : List ℕ) → times r (drop 1 l) + times r (take 1 l) ≡ times r l
@@ -184,6 +185,7 @@ module _ (k : Key) (s : Table) (r : Rule k s) (id : ℕ) (v : View) (at : get_el
     flag = λ p. split_sum (λ u. grips_remembered p u.hand) s.views id v (dealer v) (dealt v) at (omega arith);
     recorded = λ p. split_sum (λ u. times p u.recorded) s.views id v (dealer v) (dealt v) at (omega arith);
     fetched = λ p. split_sum (λ u. times p u.fetched) s.views id v (dealer v) (dealt v) at (omega arith);
+    put = λ a p w b. split_sum (λ u. puts_with a p w b u.changed) s.views id v (dealer v) (dealt v) at (omega arith);
     left = λ p. split_sum (λ u. times p u.left) s.views id v (dealer v) (dealt v) at (omega arith);
     emptied = λ p. split_sum (λ u. times p u.emptied) s.views id v (dealer v) (dealt v) at (omega arith);
     withheld = λ a p. split_sum (withholds a p) s.views id v (dealer v) (dealt v) at (split_withheld a p);
@@ -217,7 +219,7 @@ module _ (k : Key) (s : Table) (r : Rule k s) (id : ℕ) (v : View) (at : get_el
       taken = facts.saw.taken;
     };
     marking = record { once = facts.marking.once; whose = facts.marking.whose; unmarked = facts.marking.unmarked };
-    targets = targets_more k s (with_views s views) r.rec v (dealer v) (λ q. let a = sums.fetched q in omega arith) refl facts.targets;
+    targets = targets_more k s (with_views s views) r.rec v (dealer v) (λ q. let a = sums.fetched q in omega arith) (λ q w b. let a = sums.put k q w b in omega arith) refl facts.targets;
     knows = facts.knows;
   }
 

@@ -12,7 +12,7 @@ use Rattle.bc_pins.specs.Key.{Key, pages_of, owner, counter_at, bookmark_at, fra
 use Rattle.std.specs.Int.{bit_at}
 use Rattle.bc_pins.specs.Totals.{total, times}
 use Rattle.bc_pins.specs.Views.{grips, grips_remembered, frame_in_hand, counted_for, sets_bit, withholds, reads_of, reads_as}
-use Rattle.bc_pins.specs.Facts.{Table, word, Place, remembered_now, Content, Standing, RecordsContent, Saw, Seated, Marking, Frames, points, adds_to, Counters, bookmark_bit, frame_bit, is_clear, Bits, page_word, MarksTargets, fetched_ever}
+use Rattle.bc_pins.specs.Facts.{Table, word, Place, remembered_now, Content, Standing, RecordsContent, Saw, Seated, Marking, Frames, points, adds_to, Counters, bookmark_bit, frame_bit, is_clear, Bits, page_word, MarksTargets, fetched_ever, had_with, puts_with}
 use Rattle.bc_pins.specs.Tracing.{tells, Tracing, Knows}
 use Rattle.bc_pins.specs.Rule.{SeatFacts, Rule}
 use Rattle.bc_pins.proofs.TotalLemmas.{total_set}
@@ -35,6 +35,7 @@ pub record SideStep (k : Key) (s : Table) (rec : ℕ → List ℕ) (i x id : ℕ
   pub left : w.left ≡ v.left
   pub emptied : w.emptied ≡ v.emptied
   pub fetched : w.fetched ≡ v.fetched
+  pub changed : w.changed ≡ v.changed
   pub returned : w.returned ≡ v.returned
   pub busy : w.busy ≡ v.busy
   pub seen : w.seen ≡ v.seen
@@ -83,6 +84,9 @@ module _ (k : Key) (s : Table) (r : Rule k s) (i x id : ℕ) (v w : View) (at : 
       let held = old.held in
       record { lies = rw (page_same p lt) old.lies; held = omega arith }
 
+  had_same : (p i b : ℕ) → had_with k t p i b ≡ had_with k s p i b
+  had_same p i b = let a = same_sum (λ u. puts_with k p i b u.changed) (ap (puts_with k p i b) d.changed) in omega arith
+
   content_kept : (p : ℕ) → p < pages_of k → Content k t r.rec p
   content_kept p lt =
       let old = r.content p lt in
@@ -92,6 +96,7 @@ module _ (k : Key) (s : Table) (r : Rule k s) (i x id : ℕ) (v w : View) (at : 
         young = λ y. let was = old.young y in omega arith;
         bare = λ z. old.bare (sym (page_same p lt) ∙ z);
         gone = λ e. summary_more k s.words t.words p (r.rec p) d.set (old.gone (sym (page_same p lt) ∙ e));
+        had = λ i b on. let was = old.had i b on in let a = had_same p i b in omega arith;
       }
 
   withheld_same : (p : ℕ) → withholds k p w ≡ withholds k p v
@@ -181,7 +186,7 @@ module _ (k : Key) (s : Table) (r : Rule k s) (i x id : ℕ) (v w : View) (at : 
       }
 
   seat_else : (j : ℕ) (u : View) → get_elem? s.views j ≡ some u → SeatFacts k t r.rec u
-  seat_else j u is = let old = r.seats j u is in record { seated = old.seated; records = old.records; saw = saw_same u old.saw; marking = old.marking; targets = targets_more k s t r.rec u u (λ q. let a = fetched_same q in omega arith) refl old.targets; knows = λ turn. knows_stay k s t u (d.stay turn) (old.knows turn) }
+  seat_else j u is = let old = r.seats j u is in record { seated = old.seated; records = old.records; saw = saw_same u old.saw; marking = old.marking; targets = targets_more k s t r.rec u u (λ q. let a = fetched_same q in omega arith) (λ q i b. let a = had_same q i b in omega arith) refl old.targets; knows = λ turn. knows_stay k s t u (d.stay turn) (old.knows turn) }
 
   seat_each : (j : ℕ) (u : View) → get_elem? t.views j ≡ some u → SeatFacts k t r.rec u
   seat_each j u is = elim (at_set s.views id j w u is) [

@@ -215,12 +215,14 @@ module _ (k : Key) (s : Table) (r : Rule k s) (p id old role : ℕ) (v : View) (
         count = λ q lt. let a = no_count p q in let b = hand_counts p q in let c = not_gone (points k p (r.rec p) q) in omega arith;
         else_count = λ j q ne. hand_counts j q ∙ sym (no_count j q);
         bookmarked = refl;
+        put_more = λ q i b. omega arith;
+        put_new = λ i b on. inl on;
         won = refl;
         known = refl;
         finished = refl;
         left_marked = λ e. absurd (omega arith);
         marking = marking_kept;
-        targets = targets_kept k s r.rec (set s.words (page_at p) 3) homes id v w at (λ q. omega arith) refl (r.seats id v at).targets;
+        targets = targets_kept k s r.rec (set s.words (page_at p) 3) homes id v w at (λ q. omega arith) refl refl (r.seats id v at).targets;
         roles = refl;
         seated = seated_kept;
         records = records_kept;

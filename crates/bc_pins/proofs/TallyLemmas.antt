@@ -1,27 +1,30 @@
 -- Counters and bookmark bits at the opening and at the closing: what the space's headers say of its Gone pages is what the
 -- table's words say of them.
-use Rattle.std.proofs.Common.{◌≡◌, ℕ, ◌+◌, ◌-◌, ◌*◌, ◌/◌, ◌%◌, ◌<◌, ◌≤◌, ◌==◌, ◌&&◌, nat_lt, Bool, true, false, if◌then◌else◌, List, length, slice_index, Some, None, inl, inr, refl, ap, sym, ◌∙◌, arith}
+use Rattle.std.proofs.Common.{◌≡◌, ℕ, ◌+◌, ◌-◌, ◌*◌, ◌/◌, ◌%◌, ◌<◌, ◌≤◌, ◌==◌, ◌&&◌, nat_lt, Bool, true, false, if◌then◌else◌, List, length, slice_index, Some, None, inl, inr, refl, ap, sym, subst, ◌∙◌, arith}
 use Rattle.std.specs.Int.{bit_at}
-use Rattle.std.proofs.lemmas.Bool.{cases_Bool, cases_lt, eqb-true, eq-eqb, ltb-true}
+use Rattle.std.proofs.lemmas.Bool.{and_from, cases_Bool, cases_lt, eqb-true, eq-eqb, ltb-true}
 use Rattle.bc_bits.proofs.BitLemmas.{has-beyond}
 use Rattle.bc_classes.specs.ClassNumbers.{IsClass}
 use Rattle.bc_classes.proofs.ClassLemmas.{cap-few}
 use Rattle.bc_word.proofs.AddressLemmas.{cell_number-few}
 use Rattle.bc_bits.specs.Bits.{has}
 use Rattle.bc_bits.specs.Counting.{one_if, count_below}
-use Rattle.bc_word.specs.Addresses.{page_of, offset_of, cell_number}
+use Rattle.bc_memory.specs.Memory.{Memory}
+use Rattle.bc_word.specs.Addresses.{page_of, offset_of, superpage_of, cell_number}
+use Rattle.bc_word.specs.declared.words.Word.{Word}
+use Rattle.bc_word.specs.declared.words.Word.TheVariants.{Nil, Num, Ref}
 use Rattle.bc_superpages.specs.declared.headers.PageState.{PageState}
 use Rattle.bc_superpages.specs.declared.headers.PageState.TheVariants as state
 use Rattle.bc_superpages.specs.Headers.{is_gone}
 use Rattle.bc_superpages.specs.Layout.{Layout, content_at, is_cell}
 use Rattle.bc_superpages.specs.Memory.{memory_of, cell_on}
-use Rattle.bc_bookmarks.specs.Targets.{names, names_in, is_target, has_target_in}
-use Rattle.bc_bookmarks.proofs.TargetLemmas.{some_on-same, in-target}
+use Rattle.bc_bookmarks.specs.Targets.{names, names_in, names_cell, some_on, is_target, has_target_in}
+use Rattle.bc_bookmarks.proofs.TargetLemmas.{some_on-same, some_on-weaker, in-target}
 use Rattle.bc_pins.specs.Key.{Key, pages_of, page_at}
 use Rattle.bc_pins.specs.Totals.{sum_to}
 use Rattle.bc_pins.specs.Views.{state_word}
 use Rattle.bc_pins.specs.Contents.{objects_in}
-use Rattle.bc_pins.specs.Facts.{points, Summary}
+use Rattle.bc_pins.specs.Facts.{points, has_bit_of, IsBitOfTarget, Summary}
 use Rattle.bc_pins.proofs.SumLemmas.{sum_same, sum_none, sum_cut, count_sum}
 
 pub ge-nat_lt : (f m : ℕ) → m ≤ f → nat_lt f m ≡ false
@@ -47,6 +50,25 @@ target_in s ps p a c e = some_on-same (names a) (memory_of s.classes s.cells ps)
 
 superpage_in : (s : Layout) (ps : List (List ℕ)) (p q : ℕ) (c : List ℕ) → content_at ps p ≡ c → has_target_in (memory_of s.classes s.cells ps) p q ≡ has_target_in (objects_in s c) p q
 superpage_in s ps p q c e = sym (some_on-same (names_in q) (memory_of s.classes s.cells ps) (objects_in s c) p (objects_at s ps p c e))
+
+-- a word that names an address names the cell there
+names_it : (cs : List ℕ) (a : ℕ) (w : Word) → names a w ≡ true → names_cell cs (superpage_of a) (cell_number (slice_index cs (superpage_of a)) a) w ≡ true
+names_it cs a Nil on = on
+names_it cs a (Num v) on = on
+names_it cs a (Ref x) on =
+    let is : x.0 ≡ a = eqb-true x.0 a on in
+    and_from _ _ (eq-eqb (superpage_of x.0) (superpage_of a) (ap superpage_of is))
+    (eq-eqb (cell_number (slice_index cs (superpage_of a)) x.0) (cell_number (slice_index cs (superpage_of a)) a) (ap (cell_number (slice_index cs (superpage_of a))) is))
+
+-- a target of a page is one by its bit
+pub bit_of_target : (k : Key) (page : ℕ) (c : List ℕ) (w b : ℕ) → IsBitOfTarget k page c w b → has_bit_of k page c w b ≡ true
+bit_of_target k page c w b is =
+    let a : ℕ = is.address in
+    let cs : List ℕ = k.opening.classes in
+    let objects : Memory = objects_in k.opening c in
+    let on = some_on-weaker (names a) (names_cell cs (superpage_of a) (cell_number (slice_index cs (superpage_of a)) a)) objects page (names_it cs a) is.target in
+    subst (λ (n : ℕ). some_on (names_cell cs (w / 16) n) objects page ≡ true) is.number
+    (subst (λ (q : ℕ). some_on (names_cell cs q (cell_number (slice_index cs (superpage_of a)) a)) objects page ≡ true) is.superpage on)
 
 choice : (b y : Bool) → one_if (b && y) ≡ (if b then one_if y else 0)
 choice true y = refl

@@ -117,6 +117,7 @@ module _ (k : Key) (s : Table) (r : Rule k s) (id role : ℕ) (v : View) (h : Ha
         left = refl;
         emptied = refl;
         fetched = refl;
+        changed = refl;
         returned = refl;
         busy = refl;
         seen = refl;
@@ -127,7 +128,7 @@ module _ (k : Key) (s : Table) (r : Rule k s) (id role : ℕ) (v : View) (h : Ha
         seated = seated_kept k s r id role v h at about has_one some_role u refl refl refl;
         records = records_kept k s r id role v h at about has_one some_role u (record h { counted = without q h.counted }) refl refl refl refl refl refl refl refl;
         marking = marking_now;
-        targets = targets_kept k s r.rec (set s.words i x) s.homes id v u at (λ q. omega arith) refl (r.seats id v at).targets;
+        targets = targets_kept k s r.rec (set s.words i x) s.homes id v u at (λ q. omega arith) refl refl (r.seats id v at).targets;
         set = λ j b less one. ap (λ (n : ℕ). bit_at n b) (get_or-set_other s.words i (bookmark_at k j) x 0 (λ e. omega arith)) ∙ one;
         counters = counters_now;
         bits = λ j b less few. bits_same k s r i x id v u j b at less few (λ e. omega arith) refl;

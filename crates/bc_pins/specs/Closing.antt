@@ -13,7 +13,7 @@ use Rattle.std.specs.Int.{bit_at}
 use Rattle.bc_frames.specs.Pool.{is_free}
 use Rattle.bc_bits.specs.BitChanges.{AreWords}
 use Rattle.bc_superpages.specs.Kept.{IsCellSet, IsLayout}
-use Rattle.bc_pins.specs.Facts.{opened_bit, IsBitOfTarget}
+use Rattle.bc_pins.specs.Facts.{has_bit_of, opened_bit, puts_with, IsBitOfTarget}
 use Rattle.bc_superpages.specs.LayoutAt.{state_at}
 use Rattle.bc_superpages.specs.Collecting.{is_marked}
 use Rattle.bc_superpages.specs.Paging.{is_bookmarked}
@@ -71,6 +71,7 @@ pub record Gathered (id : TableId) (k : Key) (all front : List Seat) (root : Wor
   pub returned : (p : ℕ) → times p root.me.0.returned + total (λ (seat : Seat). times p (view_of seat).returned) front ≡ total (λ (seat : Seat). times p (view_of seat).returned) all
   pub gone : (p : ℕ) → times p root.me.0.gone + total (λ (seat : Seat). times p (view_of seat).gone) front ≡ total (λ (seat : Seat). times p (view_of seat).gone) all
   pub busy : (p : ℕ) → times p root.me.0.busy + total (λ (seat : Seat). times p (view_of seat).busy) front ≡ total (λ (seat : Seat). times p (view_of seat).busy) all
+  pub put : (p w b : ℕ) → puts_with k p w b root.me.0.changed + total (λ (seat : Seat). puts_with k p w b (view_of seat).changed) front ≡ total (λ (seat : Seat). puts_with k p w b (view_of seat).changed) all
   pub read : (p n : ℕ) → reads_as p n root.me.0 + total (λ (seat : Seat). reads_as p n (view_of seat)) front ≡ total (λ (seat : Seat). reads_as p n (view_of seat)) all
   pub mine : (j : ℕ) → length front ≤ j → j < length all → (d : Seat) (p : ℕ) → 0 < has_role (view_of (slice_index_or all j d)) (owner k p)
       → (0 < has_role root.me.0 (owner k p)) × (record_of root.me.0 p ≡ record_of (view_of (slice_index_or all j d)) p)
@@ -143,12 +144,17 @@ pub record ClosedState (k : Key) (seats : List Seat) (st : PageState) (p : ℕ) 
   pub away : 0 < total (λ (seat : Seat). reads_as p 0 (view_of seat)) seats + total (λ (seat : Seat). reads_as p 2 (view_of seat)) seats + total (λ (seat : Seat). reads_as p 4 (view_of seat)) seats
       → total (λ (seat : Seat). times p (view_of seat).fetched) seats ≡ 0 → st ≢ state.Home
 
--- bit b of a bookmark word is that of a target of a page that a seat made Gone. Where none took it from Gone it is Gone still, and has the
--- target
+-- how many of the contents that the page had in the turn have the target of this bit: the opening's, and those with which a seat put it back
+abbrev pub had_by : Key → List Seat → ℕ → ℕ → ℕ → ℕ
+had_by k seats page w b = one_if (has_bit_of k page (opened_content k page) w b) + total (λ (seat : Seat). puts_with k page w b (view_of seat).changed) seats
+
+-- bit b of a bookmark word is that of a target of a page that a seat made Gone, by a content that the page had in the turn. Where none took
+-- it from Gone it is Gone still, and has the target
 pub record IsOfPageLeft (k : Key) (seats : List Seat) (s : Layout) (w b : ℕ) : Type 0 where
   pub page : ℕ
   pub inside : page < pages_of k
   pub left : 0 < total (λ (seat : Seat). times page (view_of seat).left) seats
+  pub had : 0 < had_by k seats page w b
   pub still : total (λ (seat : Seat). times page (view_of seat).fetched) seats ≡ 0
       → (state_at s.states page ≡ state.Gone) × IsBitOfTarget k page (content_at s.pages page) w b
 

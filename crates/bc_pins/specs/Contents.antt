@@ -1,5 +1,6 @@
 -- What a page's content keeps in a turn, and what it refers to. The space is the one at the opening.
-use Rattle.std.specs.Prelude.{◌≡◌, ℕ, ◌+◌, ◌*◌, ◌<◌, ◌≤◌, ◌⊎◌, List, length, slice_index, if◌then◌else◌, Some, None}
+use Rattle.std.specs.Prelude.{◌≡◌, ℕ, ◌+◌, ◌*◌, ◌<◌, ◌≤◌, ◌⊎◌, Bool, List, length, slice_index, if◌then◌else◌, Some, None}
+use Rattle.bc_bookmarks.specs.Targets.{names_cell, some_on}
 use Rattle.bc_word.specs.declared.words.Word.{Word}
 use Rattle.bc_word.specs.declared.words.Word.TheVariants.{Nil, Num, Ref}
 use Rattle.bc_word.specs.Words.{word_of_bits}
@@ -50,6 +51,10 @@ pub record RefersYoung (s : Layout) (page : ℕ) (c : List ℕ) : Type 0 where
 -- the objects of a page whose content is c
 abbrev pub objects_in : Layout → List ℕ → Memory
 objects_in s c address = if is_cell s.classes s.cells address then Some (cell_on c (offset_of address)) else None
+
+-- is cell b of superpage q a target of the page, where its content is c?
+abbrev pub has_target_with : Layout → ℕ → List ℕ → ℕ → ℕ → Bool
+has_target_with s page c q b = some_on (names_cell s.classes q b) (objects_in s c) page
 
 -- no allocated cell lies on the page
 abbrev pub IsBarePage : Layout → ℕ → Type 0

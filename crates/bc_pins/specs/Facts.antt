@@ -1,6 +1,6 @@
 -- The turn facts: what holds of the words, the slots and the views of a table between any two steps of a turn. Each is said
 -- of one page, one seat or one frame. A page's record is the content that its lane put back last, or else the opening's.
-use Rattle.std.specs.Prelude.{◌≡◌, ℕ, ◌+◌, ◌*◌, ◌/◌, ◌%◌, ◌<◌, ◌≤◌, ◌==◌, ◌&&◌, ◌⊎◌, Bool, true, false, if◌then◌else◌, List, [], nat_lt, slice_index, Some, None}
+use Rattle.std.specs.Prelude.{◌≡◌, ℕ, ◌+◌, ◌*◌, ◌/◌, ◌%◌, ◌<◌, ◌≤◌, ◌==◌, ◌&&◌, ◌⊎◌, Bool, true, false, if◌then◌else◌, List, [], ◌∷◌, nat_lt, slice_index, Some, None}
 use Rattle.std.specs.Int.{bit_at}
 use Prim.Native.Nat.{zero, suc}
 use mathlib.Core.Option.{some, none}
@@ -19,8 +19,8 @@ use Rattle.bc_pins.specs.declared.views.Hand.{Hand}
 use Rattle.bc_pins.specs.declared.views.View.{View}
 use Rattle.bc_pins.specs.Key.{Key, pages_of, owner, page_at, counter_at, bookmark_at, frame_at, frame_words, frame_slot, store_slot}
 use Rattle.bc_pins.specs.Totals.{total, times, sum_to}
-use Rattle.bc_pins.specs.Contents.{IsContent, RefersYoung, IsBarePage, objects_in}
-use Rattle.bc_pins.specs.Views.{grips, grips_remembered, frame_in_hand, counted_for, sets_bit, sets_for, marked_for, has_role, withholds, reads_as, entries, opened_word, record_of}
+use Rattle.bc_pins.specs.Contents.{IsContent, RefersYoung, IsBarePage, has_target_with, objects_in}
+use Rattle.bc_pins.specs.Views.{grips, grips_remembered, frame_in_hand, counted_for, sets_bit, sets_for, marked_for, has_role, withholds, reads_as, entries, opened_content, opened_word, record_of}
 
 -- a table as the rule sees it: its words, its slots, and the views of its seats
 abbrev pub Table : Type 0
@@ -94,13 +94,27 @@ pub record Summary (k : Key) (words : List ℕ) (page : ℕ) (c : List ℕ) : Ty
   pub there : HasCell k.opening page
   pub targets : (a : ℕ) → is_target (objects_in k.opening c) page a ≡ true → HasBookmarkBit k words a
 
+-- is bit b of a bookmark word that of a target of the page, where it has this content?
+abbrev pub has_bit_of : Key → ℕ → List ℕ → ℕ → ℕ → Bool
+has_bit_of k page content w b = has_target_with k.opening page content (w / 16) (64 * (w % 16) + b)
+
+-- how many of the contents with which the page was put back have that target
+abbrev pub puts_with : Key → ℕ → ℕ → ℕ → List (ℕ × List ℕ) → ℕ
+puts_with k page w b [] = 0
+puts_with k page w b (e ∷ es) = (if e.0 == page then one_if (has_bit_of k page e.1 w b) else 0) + puts_with k page w b es
+
+-- how many of the contents that the page had in the turn have it: the opening's, and those with which its lane put it back
+abbrev pub had_with : Key → Table → ℕ → ℕ → ℕ → ℕ
+had_with k s page w b = one_if (has_bit_of k page (opened_content k page) w b) + total (λ (v : View). puts_with k page w b v.changed) s.views
+
 -- Remembered, and Fixed: a page whose record refers to a nursery is Remembered or in hand so. Whatever was put back keeps
--- what is fixed, an Absent page has no allocated cell, and a Gone page is summarised
+-- what is fixed, an Absent page has no allocated cell, and a Gone page is summarised. Its record is a content that it had
 pub record Content (k : Key) (s : Table) (rec : ℕ → List ℕ) (page : ℕ) : Type 0 where
   pub fixed : IsContent k.opening page (rec page)
   pub young : RefersYoung k.opening page (rec page) → 0 < remembered_now s page
   pub bare : page_word s page ≡ 0 → IsBarePage k.opening page
   pub gone : page_word s page ≡ 4 → Summary k s.words page (rec page)
+  pub had : (w b : ℕ) → has_bit_of k page (rec page) w b ≡ true → 0 < had_with k s page w b
 
 -- nobody holds a page's domain in a mark turn
 abbrev pub IsUnheld : Key → Type 0
@@ -241,7 +255,8 @@ pub record IsBitOfTarget (k : Key) (page : ℕ) (content : List ℕ) (w b : ℕ)
   pub superpage : superpage_of address ≡ w / 16
   pub number : cell_number (class_at k.opening address) address ≡ 64 * (w % 16) + b
 
--- each bookmark bit that a seat set for a page is that of a target which the page has by its record, unless it was taken from Gone
--- since: then its lane may have changed it
+-- each bookmark bit that a seat set for a page is that of a target which the page had in the turn, and which it has by its record, unless
+-- it was taken from Gone since: then its lane may have changed it
 pub record MarksTargets (k : Key) (s : Table) (rec : ℕ → List ℕ) (v : View) : Type 0 where
   pub each : (p w b : ℕ) → b < 64 → 0 < sets_for p w b v.bookmarked → (p < pages_of k) × (fetched_ever s p ≡ 0 → IsBitOfTarget k p (rec p) w b)
+  pub had : (p w b : ℕ) → b < 64 → 0 < sets_for p w b v.bookmarked → 0 < had_with k s p w b

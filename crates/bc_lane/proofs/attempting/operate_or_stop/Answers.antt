@@ -1,7 +1,7 @@
-use Rattle.std.proofs.Common.{inl}
+use Rattle.std.proofs.Common.{inl, refl}
 use Rattle.bc_lane.proofs.AnswerLemmas.{foreign-does, foreign-wants, hands-operated, stays-brought, stops-operated, touches-none}
 use Rattle.bc_lane.proofs.HandLemmas.{none-reads, same-lane}
-use Rattle.bc_lane.proofs.PassLemmas.{none-passes}
+use Rattle.bc_lane.proofs.PassLemmas.{none-passes, same-puts}
 use Rattle.bc_pins.specs.Calls.{key_of, view_of}
 use Rattle.bc_lane.proofs.attempting.operate_or_stop.Goals as goal
 
@@ -63,3 +63,9 @@ returns-in-Nowhere-clause-looked g c = λ q near. inl (none-passes (view_of c.ar
 
 pub returns-in-Foreign-clause-looked : goal.returns-in-Foreign-clause-looked
 returns-in-Foreign-clause-looked g c = λ q near. inl (none-passes (view_of c.args.seat.now) q)
+
+pub returns-in-Nowhere-clause-puts : goal.returns-in-Nowhere-clause-puts
+returns-in-Nowhere-clause-puts g c = same-puts (view_of c.args.seat.now) (view_of c.args.seat.now) c.args.hand.now refl
+
+pub returns-in-Foreign-clause-puts : goal.returns-in-Foreign-clause-puts
+returns-in-Foreign-clause-puts g c = same-puts (view_of c.args.seat.now) (view_of c.args.seat.now) c.args.hand.now refl

@@ -1,8 +1,9 @@
-use Rattle.std.proofs.Common.{refl, ap, sym, ◌∙◌}
+use Rattle.std.proofs.Common.{◌≡◌, Option, Some, None, refl, ap, sym, ◌∙◌}
 use Rattle.bc_lane.proofs.HandLemmas.{in-hand, in-none, may-put, none-laid, none-reads, put-laid, put-reads, same-lane, seat-lane, shown-back, shown-none, shown-put, some-back}
 use Rattle.bc_lane.proofs.PageLemmas.{shown-hand}
-use Rattle.bc_lane.proofs.PassLemmas.{none-passes, put-passes}
+use Rattle.bc_lane.proofs.PassLemmas.{none-passes, put-passes, put-puts, same-puts}
 use Rattle.bc_pins.specs.Calls.{view_of}
+use Rattle.bc_pins.specs.declared.views.Hand.{Hand}
 use Rattle.bc_pins.specs.declared.views.View.{View}
 use Rattle.bc_lane.proofs.hands.put_hand_back.Goals as goal
 
@@ -63,3 +64,17 @@ returns-in-Some-clause-laid c =
 pub returns-in-None-clause-laid : goal.returns-in-None-clause-laid
 returns-in-None-clause-laid c =
     none-laid (view_of c.args.seat.now) (in-none c.args.seat.now c.args.hand.now (sym c.take.ensures.value ∙ c.in-None.is) c.requires.hands).hand
+
+pub returns-in-Some-clause-puts : goal.returns-in-Some-clause-puts
+returns-in-Some-clause-puts c = put-puts (view_of c.args.seat.now) (view_of c.put.new.seat) c.args.hand.now c.in-Some.held (sym c.take.ensures.value ∙ c.in-Some.is) c.put.ensures.view
+
+pub returns-in-None-clause-puts : goal.returns-in-None-clause-puts
+returns-in-None-clause-puts c = same-puts (view_of c.args.seat.now) (view_of c.args.seat.now) c.args.hand.now refl
+
+pub returns-in-Some-clause-idle : goal.returns-in-Some-clause-idle
+returns-in-Some-clause-idle c = λ none.
+    let has = (in-hand c.args.seat.now c.args.hand.now c.in-Some.held (sym c.take.ensures.value ∙ c.in-Some.is) c.requires.hands).has in
+    absurd (never-both _ _ has none)
+  where
+    never-both : (hand : Option Hand) (h : Hand) → hand ≡ Some h → hand ≡ None → ⊥
+    never-both hand h is none = cc

@@ -65,3 +65,9 @@ returns-in-Ok-clause-passes c = λ q near ne.
 
 pub returns-in-None-clause-passes : goal.returns-in-None-clause-passes
 returns-in-None-clause-passes c = λ q near ne. none-found-passes (view_of c.args.seat.now) (view_of c.find_frame.new.seat) q near c.in-None.ensures.none
+
+pub returns-in-Ok-clause-changed : goal.returns-in-Ok-clause-changed
+returns-in-Ok-clause-changed c = ap (λ (v : View). v.changed) c.in-Ok.ensures.ok.0.view ∙ ap (λ (v : View). v.changed) c.in-Some.ensures.some.view
+
+pub returns-in-None-clause-changed : goal.returns-in-None-clause-changed
+returns-in-None-clause-changed c = ap (λ (v : View). v.changed) c.in-None.ensures.none.view

@@ -1,7 +1,7 @@
 use Rattle.std.proofs.Common.{◌≡◌, ◌<◌, true, inl, inr, refl, ap, sym, subst, ◌∙◌}
 use Rattle.std.proofs.lemmas.Result.{IfErr-weaker, IfOk-weaker, on_err_weaker}
 use Rattle.bc_lane.proofs.FrameLemmas.{no-frame-for}
-use Rattle.bc_lane.proofs.HandLemmas.{holds-taken, never-absent, never-remembered, own-lane, refused-fetched, refused-gone, refused-held, refused-reads, refused-shown, rights-on, seat-lane, shown-taken, taken-reads, then-lane, then-reads, tried-fetched}
+use Rattle.bc_lane.proofs.HandLemmas.{holds-taken, never-absent, never-remembered, own-lane, refused-changed, refused-fetched, refused-gone, refused-held, refused-reads, refused-shown, rights-on, seat-lane, shown-taken, taken-reads, then-lane, then-reads, tried-changed, tried-fetched}
 use Rattle.bc_lane.proofs.PassLemmas.{passes-on, refused-passes, taken-passes}
 use Rattle.bc_pins.specs.Calls.{view_of}
 use Rattle.bc_pins.specs.Key.{Key, pages_of}
@@ -81,7 +81,7 @@ returns-in-Err-Gone-clause-err c =
     let noted = refused-gone (view_of c.args.seat.now) (view_of c.take.new.seat) c.args.page Work c.requires.own r.1 in
     let free = rights-on (view_of c.args.seat.now) (view_of c.take.new.seat) (refused-reads (view_of c.args.seat.now) (view_of c.take.new.seat) c.args.page Work Gone r.1 c.requires.own) c.requires.rights in
     IfErr-weaker c.reload_page.result _ _
-    (λ why none. (none.0, inr (none.1, no-frame-for (view_of c.args.seat.now) (view_of c.take.new.seat) (view_of c.reload_page.new.seat) c.args.page r.1 free none.2 noted)))
+    (λ why none. (none.0, inr (none.1, no-frame-for (view_of c.args.seat.now) (view_of c.take.new.seat) (view_of c.reload_page.new.seat) c.args.page r.1 r.0.hand free none.2 noted)))
     c.reload_page.ensures.err
 
 pub returns-in-Err-Gone-clause-still : goal.returns-in-Err-Gone-clause-still
@@ -130,3 +130,16 @@ returns-in-Err-Gone-clause-passes c =
     passes-on (view_of c.args.seat.now) (view_of c.take.new.seat) (view_of c.reload_page.new.seat) q
     (refused-passes (view_of c.args.seat.now) (view_of c.take.new.seat) c.args.page q Work Gone r.1 ne)
     (c.reload_page.ensures.passes q (subst (λ (k : Key). q < pages_of k) (sym c.take.ensures.same.about) near) ne)
+
+pub returns-in-Ok-clause-changed : goal.returns-in-Ok-clause-changed
+returns-in-Ok-clause-changed c = ap (λ (v : View). v.changed) c.in-Ok.ensures.ok.view ∙ tried-changed (view_of c.args.seat.now) c.args.page c.in-Ok.held.remembered
+
+pub returns-in-Err-Busy-clause-changed : goal.returns-in-Err-Busy-clause-changed
+returns-in-Err-Busy-clause-changed c =
+    let r = rw c.in-Err-Busy.field-0-is at c.in-Err-Busy.ensures.err in
+    refused-changed (view_of c.args.seat.now) (view_of c.take.new.seat) c.args.page Work Busy r.1
+
+pub returns-in-Err-Gone-clause-changed : goal.returns-in-Err-Gone-clause-changed
+returns-in-Err-Gone-clause-changed c =
+    let r = rw c.in-Err-Gone.field-0-is at c.in-Err-Gone.ensures.err in
+    c.reload_page.ensures.changed ∙ refused-changed (view_of c.args.seat.now) (view_of c.take.new.seat) c.args.page Work Gone r.1

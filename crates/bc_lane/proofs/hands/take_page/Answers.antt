@@ -2,7 +2,7 @@ use Rattle.std.proofs.Common.{◌≡◌, ◌<◌, true, false, Option, Some, ref
 use Rattle.bc_lane.specs.Shown.{ShowsPages}
 use Rattle.bc_lane.specs.Turns.{HasInHand}
 use Rattle.bc_lane.proofs.FrameLemmas.{refused-since-then}
-use Rattle.bc_lane.proofs.PassLemmas.{none-passes, passes-on}
+use Rattle.bc_lane.proofs.PassLemmas.{none-passes, passes-on, puts-on, same-puts}
 use Rattle.bc_lane.proofs.HandLemmas.{at-lane, none-reads, own-lane, rights-on, same-lane, then-lane, then-reads}
 use Rattle.bc_pins.specs.Calls.{HoldsPage, view_of}
 use Rattle.bc_pins.specs.Contents.{IsBarePage}
@@ -89,3 +89,12 @@ pub returns-in-Err-clause-passes : goal.returns-in-Err-clause-passes
 returns-in-Err-clause-passes g c = λ q near ne.
     passes-on (view_of c.args.seat.now) (view_of c.put_hand_back.new.seat) (view_of c.take_or_reload.new.seat) q (c.put_hand_back.ensures.passes q)
     (c.take_or_reload.ensures.passes q (subst (λ (k : Key). q < pages_of k) (sym c.put_hand_back.ensures.same.worker.about) near) ne)
+
+pub returns-then-has_page-clause-puts : goal.returns-then-has_page-clause-puts
+returns-then-has_page-clause-puts g c = same-puts (view_of c.args.seat.now) (view_of c.args.seat.now) c.args.hand.now refl
+
+pub returns-in-Ok-clause-puts : goal.returns-in-Ok-clause-puts
+returns-in-Ok-clause-puts g c = puts-on (view_of c.args.seat.now) (view_of c.put_hand_back.new.seat) (view_of c.take_or_reload.new.seat) c.args.hand.now c.put_hand_back.ensures.puts c.take_or_reload.ensures.changed
+
+pub returns-in-Err-clause-puts : goal.returns-in-Err-clause-puts
+returns-in-Err-clause-puts g c = puts-on (view_of c.args.seat.now) (view_of c.put_hand_back.new.seat) (view_of c.take_or_reload.new.seat) c.args.hand.now c.put_hand_back.ensures.puts c.take_or_reload.ensures.changed

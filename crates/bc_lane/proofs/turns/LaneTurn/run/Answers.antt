@@ -1,4 +1,4 @@
-use Rattle.std.proofs.Common.{ℕ, None, sym, subst}
+use Rattle.std.proofs.Common.{ℕ, None, ap, sym, subst}
 use Rattle.bc_lane.specs.Turns.{IsWhole, LaneRan, WhyStopped}
 use Rattle.bc_lane.proofs.HandLemmas.{then-lane}
 use Rattle.bc_lane.proofs.TurnLemmas.{ran-laid, same-end, why-laid}
@@ -29,14 +29,14 @@ pub returns-clause-ran : goal.returns-clause-ran
 returns-clause-ran g c = λ h w.
     let e = same-end c.args.self.now.part (view_of c.args.seat.now) None (key_of c.args.pins.now) (end_of h.space) c.end-end.result h c.requires.going.seated.at.about w c.end-end.ensures.end in
     subst (λ (n : ℕ). LaneRan c.args.ops.now n c.args.self.now (view_of c.args.seat.now) None c.run_to_stop-why.new.turn (view_of c.put_hand_back.new.seat) None) e
-    (ran-laid c.args.ops.now c.end-end.result c.args.self.now c.run_to_stop-why.new.turn (view_of c.args.seat.now) (view_of c.run_to_stop-why.new.seat) (view_of c.put_hand_back.new.seat) None c.run_to_stop-why.new.hand c.run_to_stop-why.ensures.ran c.put_hand_back.ensures.reads c.put_hand_back.ensures.passes c.put_hand_back.ensures.shows)
+    (ran-laid c.args.ops.now c.end-end.result c.args.self.now c.run_to_stop-why.new.turn (view_of c.args.seat.now) (view_of c.run_to_stop-why.new.seat) (view_of c.put_hand_back.new.seat) None c.run_to_stop-why.new.hand c.run_to_stop-why.ensures.ran c.put_hand_back.ensures.reads c.put_hand_back.ensures.passes c.put_hand_back.ensures.puts c.put_hand_back.ensures.shows)
 
 pub returns-clause-why : goal.returns-clause-why
 returns-clause-why g c = λ h w.
     let e = same-end c.args.self.now.part (view_of c.args.seat.now) None (key_of c.args.pins.now) (end_of h.space) c.end-end.result h c.requires.going.seated.at.about w c.end-end.ensures.end in
     subst (λ (n : ℕ). WhyStopped (view_of c.args.seat.now) c.args.ops.now n c.run_to_stop-why.new.turn (view_of c.put_hand_back.new.seat) None c.run_to_stop-why.result) e
     (why-laid (view_of c.args.seat.now) c.args.ops.now c.run_to_stop-why.new.turn (view_of c.run_to_stop-why.new.seat) (view_of c.put_hand_back.new.seat) c.run_to_stop-why.new.hand c.end-end.result c.run_to_stop-why.result c.put_hand_back.ensures.laid
-    c.put_hand_back.ensures.back c.run_to_stop-why.ensures.why)
+    (λ none. ap view_of (c.put_hand_back.ensures.idle none)) c.put_hand_back.ensures.back c.run_to_stop-why.ensures.why)
 
 pub returns-clause-seat : goal.returns-clause-seat
 returns-clause-seat g c = then-lane c.args.seat.now c.run_to_stop-why.new.seat c.put_hand_back.new.seat c.run_to_stop-why.ensures.seat c.put_hand_back.ensures.same
