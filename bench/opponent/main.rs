@@ -8,8 +8,10 @@
 //! a look at what lies on it. All else is the same: the heap, the nurseries, where survivors are placed, and the choice of the page that
 //! makes room.
 //!
-//! A line has the words of crates/paging_bench, and `early`, bookmark collections before pages had to leave, `sweeps` and `sweep_reads`,
-//! of mark-and-sweep, and `nanoseconds` of processor time. With `fewest` the last line has `fewest`, the reads of the best choice of pages
+//! A line has words as those of crates/paging_bench: `promotions`, `collections` and `failsafes` are minor collections by what they needed, `early`
+//! bookmark collections before pages had to leave, `lane_reads` the pages that operations read, and the other reads those of collections. It
+//! has `sweeps` and `sweep_reads` of mark-and-sweep, `evictions` and `discards` of pages with and without objects, but for those in a fail-safe,
+//! and `nanoseconds` of processor time. With `fewest` the last line has `fewest`, the reads of the best choice of pages
 //! for what operations and placing touched. With `steps` there is a line for each emptying of the nurseries as well: the operations before it,
 //! its kind (promotion, early, collection, sweep or fail-safe), the pages that it read, and how many are home, gone and absent after it.
 
@@ -223,12 +225,7 @@ impl Play {
         let (evicted, discarded) = all_left();
         let start = processor_time();
         let mut lanes = vec![Progress::default(); phase.lanes.len()];
-        let mut need = self.rounds(phase, &mut lanes);
-        if need.is_none() {
-            let counted = self.counts.promotions;
-            need = self.empty();
-            self.counts.promotions = counted;
-        }
+        let need = self.rounds(phase, &mut lanes);
         for (domain, lane) in &phase.gives {
             self.holders[*domain] = *lane;
         }

@@ -46,14 +46,14 @@ turn-answered {lanes} {r} {q} {before} {after} {asked} {answers} {hints} turn = 
 rounds-answered : (lanes : List (List Op)) (lines : List (List ℕ)) (e : EngineView) (before : List (Vec Reply Global)) (n : ℕ) (f : EngineView) (after : List (Vec Reply Global)) → RanRounds lanes lines e before n f after → length f.answers ≡ length e.answers + hints_before lines n
 rounds-answered lanes lines e before zero f after ran = omega (arith, ap (λ (x : EngineView). length x.answers) ran.0)
 rounds-answered lanes lines e before (suc n) f after ran =
-    omega (arith, rounds-answered lanes lines e before n ran.0 ran.1 ran.2, turn-answered ran.3.turn)
+    omega (arith, rounds-answered lanes lines e before n ran.0 ran.1 ran.2, turn-answered ran.3.first.turn)
 
 pub done-answered : (e f : EngineView) (p : PhaseLists) (replies : List (List Reply)) (had : HadTurns e p f replies) → length f.answers ≡ hints_before p.turns (suc had.rounds.0)
 done-answered e f p replies had =
     let all = had.rounds in
-    omega (arith, ap (λ (x : EngineView). length x.answers) had.given, rounds-answered p.lanes p.turns (with_answers e []) had.room all.0 all.1 all.2 all.3, turn-answered all.4.turn)
+    omega (arith, ap (λ (x : EngineView). length x.answers) had.given, rounds-answered p.lanes p.turns (with_answers e []) had.room all.0 all.1 all.2 all.3, turn-answered all.4.first.turn)
 
 pub cut-answered : (e f : EngineView) (p : PhaseLists) (replies : List (List Reply)) (had : HadTurnsToCut e p f replies) → length f.answers ≡ hints_before p.turns (suc had.rounds.0)
 cut-answered e f p replies had =
     let all = had.rounds in
-    omega (arith, rounds-answered p.lanes p.turns (with_answers e []) had.room all.0 all.1 all.2 all.3, turn-answered all.4.turn)
+    omega (arith, rounds-answered p.lanes p.turns (with_answers e []) had.room all.0 all.1 all.2 all.3, turn-answered all.4.first.turn)

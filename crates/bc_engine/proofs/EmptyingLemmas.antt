@@ -1,7 +1,8 @@
 -- What an emptying of the nurseries, or its refusal, means to an engine.
-use Rattle.std.proofs.Common.{Vec, Global, ◌≡◌, ℕ, inl, inr, List, length, map, sym, ap, subst, ◌∙◌}
+use Rattle.std.proofs.Common.{Vec, Global, ◌≡◌, ℕ, ◌<◌, ◌≤◌, Bool, true, false, inl, inr, List, length, map, refl, sym, ap, subst, ◌∙◌, arith}
 use Rattle.std.proofs.Math.ListN.{get_or-map}
 use Rattle.std.proofs.lemmas.List.{length-map}
+use Rattle.bc_cycle.specs.Collecting.{IsCollectedHeap}
 use Rattle.bc_cycle.specs.Emptying.{outline_nursery, IsEmptied, KeepsMeaning}
 use Rattle.bc_cycle.proofs.ChunkLists.{chunk-emptied}
 use Rattle.bc_whole_heap.specs.Closed.{buffer_of, no_buffer}
@@ -29,7 +30,9 @@ use Rattle.bc_engine.proofs.GoingLemmas.{goes-none}
 use Rattle.bc_engine.proofs.RunLemmas.{runs-none, runs-same}
 use Rattle.bc_engine.specs.Engines.{HasEmptyChunks}
 use Rattle.bc_engine.specs.EngineFacts.{HasSetup, CanRunLanes, IsUnrecorded}
-use Rattle.bc_engine.specs.Rounds.{MayCollect}
+use Rattle.bc_engine.specs.Counting.{CountsEarly}
+use Rattle.bc_engine.specs.Rounds.{MayCollect, SameLanes}
+use Rattle.bc_engine.specs.declared.counters.Counters.{Counters}
 
 -- what is true of a heap with the holders and births that there were is true with those that there are, which are the same
 through : (r q : RunningView) (P : RunningView → Type 0) → q.holders ≡ r.holders → q.serials ≡ r.serials → P (running_of q.heap r.holders r.serials) → P q
@@ -131,18 +134,26 @@ pub ready-refused : (setup : Setup) {r q : RunningView} → q.holders ≡ r.hold
 ready-refused setup {r} {q} held same is sound ready =
     through r q (CanRunLanes setup) held same (ready-kept setup is (subst (IsRunning q.heap) held sound.running) ready)
 
+-- what came between a turn and its minor collection, as the call answers it
+pub may-collect : {nurseries n : ℕ} {r q : RunningView} {c d : Counters} (early : Bool) → nurseries ≤ n → (early ≡ true → (r.heap.space.free < nurseries) × IsCollectedHeap r.heap q.heap) → (early ≡ false → q ≡ r) → CountsEarly c early d → SameLanes r q → MayCollect n r q c d
+may-collect true few collected same counts lanes = record {
+  way = let is = collected refl in inr (omega (arith, is.0, few), is.1, counts);
+  lanes = lanes;
+}
+may-collect false few collected same counts lanes = record { way = inl (same refl, counts); lanes = lanes }
+
 -- what lanes can run on, and what it stands for, stays where a bookmark collection may have come
-pub runs-collected : (lanes : List (List Op)) {n : ℕ} {r q : RunningView} (told : List (Vec Reply Global)) → MayCollect n r q → IsSound q → LanesRan lanes r told q told
+pub runs-collected : (lanes : List (List Op)) {n : ℕ} {r q : RunningView} {c d : Counters} (told : List (Vec Reply Global)) → MayCollect n r q c d → IsSound q → LanesRan lanes r told q told
 runs-collected lanes {n} {r} {q} told collects sound = elim collects.way [
-  | inl same ↦ runs-same lanes r q told same
+  | inl none ↦ runs-same lanes r q told none.0
   | inr collected ↦
       runs-none lanes r q told collects.lanes.0 collects.lanes.1
       (λ state st. through r q (λ (x : RunningView). RunningStands x state) collects.lanes.0 collects.lanes.1 (stands-refused state collected.1.meaning st))
       (λ setup ready. ready-refused setup collects.lanes.0 collects.lanes.1 collected.1.meaning sound ready)
 ]
 
-pub slots-collected : {n : ℕ} {r q : RunningView} → MayCollect n r q → q.heap.roots.slots ≡ r.heap.roots.slots
+pub slots-collected : {n : ℕ} {r q : RunningView} {c d : Counters} → MayCollect n r q c d → q.heap.roots.slots ≡ r.heap.roots.slots
 slots-collected {n} {r} {q} collects = elim collects.way [
-  | inl same ↦ ap (λ (x : RunningView). x.heap.roots.slots) same
+  | inl none ↦ ap (λ (x : RunningView). x.heap.roots.slots) none.0
   | inr collected ↦ ap (λ (x : RootWords). x.slots) collected.1.meaning.sizes.roots
 ]

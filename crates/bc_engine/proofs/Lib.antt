@@ -30,3 +30,5 @@ pub mod PhaseLemmas
 pub mod Births
 -- There is an answer to each notice.
 pub mod AnswerLemmas
+-- Counts that go on as the heap's do add up to it.
+pub mod CountLemmas

@@ -14,11 +14,13 @@ use Rattle.bc_superpages.specs.Layout.{superpages}
 use Rattle.bc_engine.specs.declared.engines.Ended.TheVariants.{NoMemory}
 use Rattle.bc_running.specs.Running.{RunningView, RunningStands}
 use Rattle.bc_running.specs.RunningFacts.{new_running}
+use Rattle.bc_engine.specs.Counting.{IsCounted, no_counts}
 use Rattle.bc_engine.specs.Engines.{EngineView}
 
--- the engine that a run of this setup begins with: a new heap, and no answer of any phase
+-- the engine that a run of this setup begins with: a new heap, no answer of any phase, and nothing counted
 abbrev pub new_engine : Setup → ℕ → EngineView
-new_engine setup workers = record { running = new_running setup; setup = setup; workers = workers; ended = None; answers = [] }
+new_engine setup workers =
+    record { running = new_running setup; setup = setup; workers = workers; ended = None; answers = []; counters = no_counts }
 
 -- the engine with these holders of the domains
 abbrev pub with_holders : EngineView → List ℕ → EngineView
@@ -68,6 +70,7 @@ pub record IsEngine (e : EngineView) : Type 0 where
 abbrev pub HasRoomForBirths : EngineView → ℕ → Type 0
 HasRoomForBirths e n = (j : ℕ) → slice_index e.running.serials j + n < 2 ^ 32
 
--- what the type keeps: until it runs out of memory an engine's heap is in order
+-- what the type keeps: until it runs out of memory an engine's heap is in order, and the page reads that it counted are the heap's
 pub record IsSoundEngine (e : EngineView) : Type 0 where
   pub alive : e.ended ≢ Some NoMemory → IsEngine e
+  pub counted : IsCounted e.counters e.running.heap.space.reads

@@ -3,12 +3,13 @@
 use Rattle.std.specs.Prelude.{ℕ, List, Option}
 use Rattle.bc_model.specs.State.{State}
 use Rattle.bc_model.specs.declared.traces.Setup.{Setup}
+use Rattle.bc_engine.specs.declared.counters.Counters.{Counters}
 use Rattle.bc_engine.specs.declared.engines.Ended.{Ended}
 use Rattle.bc_pager.specs.declared.answers.Answer.{Answer}
 use Rattle.bc_running.specs.Running.{RunningView, RunningStands}
 pub use Rattle.bc_running.specs.Running.{HasEmptyChunks}
 
--- what contracts see of an engine: its heap, who holds each domain, how many births each lane made, the setup, and how it ended
+-- what contracts see of an engine: its heap, who holds each domain, how many births each lane made, the setup, how it ended, and what it counted
 pub record EngineView : Type 0 where
   pub running : RunningView
   pub setup : Setup
@@ -18,6 +19,8 @@ pub record EngineView : Type 0 where
   pub ended : Option Ended
   -- what became of the notices of the latest phase
   pub answers : List Answer
+  -- what it did since it was opened
+  pub counters : Counters
 
 -- the engine stands for the state
 abbrev pub EngineStands : EngineView → State → Type 0

@@ -10,4 +10,5 @@ engine_of e = record {
   workers = e.workers;
   ended = e.ended;
   answers = e.answers.items;
+  counters = e.counters;
 }

@@ -1,5 +1,7 @@
 -- An engine
 pub mod Engines
+-- What an engine counts.
+pub mod Counting
 -- What is true of an engine between calls
 pub mod EngineFacts
 -- What a phase does to an engine.

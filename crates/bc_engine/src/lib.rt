@@ -40,6 +40,9 @@
 // domains alone; and there is a state of the heap that never frees, moves or pages that it stands for, with just these holders
 // and births. As long as it hasn't ended, write buffers are empty and no page is remembered. `facts` says all this.
 //
+// An engine counts what it does (`counters`): turns, collections by kind and reason, and the pages that were read back or left, by whose step it
+// was. Each round says how the counts go on, and all page reads by their causes add up to the heap's own count at any time (`IsCounted`).
+//
 // The theorem is the contract of `Engine::phase`. Done, the replies are those of the heap that never frees, to every
 // operation, the engine stands for the state after the phase, and its superpages are at least that state's need
 // (`DidPhase`). Refused, out of heap, the replies and the state are those of a cut, and the need that is answered
@@ -47,6 +50,7 @@
 // say the same of the opening state, of one give and of one operation.
 #![tactic(auto)]
 
+mod counters;
 mod engines;
 mod lanes;
 mod laws;
@@ -56,6 +60,7 @@ mod rounds;
 mod turns;
 
 pub use bc_pager::Answer;
+pub use counters::{Counters, PageCounts};
 pub use engines::Engine;
 pub use laws::law_answers;
 pub use paces::Pacing;

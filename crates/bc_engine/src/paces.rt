@@ -68,6 +68,8 @@ pub enum Pacing {
     /// Each at a table, with a thread for each lane that has operations left, and one for the pager if there are notices. So a test may hold
     /// one of them up until another has come.
     SideBySide,
+    /// Each without a table: one lane after another on the heap itself, and then the notices. So a bench reads the same pages at each run.
+    Plain,
 }
 
 /// How a turn runs.
@@ -164,8 +166,10 @@ pub(crate) fn way_of_turn(
     requires { length replies.now ≡ length lanes.now }
 {
     pace.costs = 0;
-    if pace.pacing == Pacing::SideBySide {
-        return TurnWay::AtTable(TurnThreads::Each);
+    match pace.pacing {
+        Pacing::Learned => {}
+        Pacing::SideBySide => return TurnWay::AtTable(TurnThreads::Each),
+        Pacing::Plain => return TurnWay::Plain,
     }
     let ahead = all_ahead(setup, lanes, replies);
     let threads = threads_cost(lanes, replies, hints);

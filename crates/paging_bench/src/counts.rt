@@ -1,10 +1,9 @@
-//! What is counted of a phase, and the words that print it.
+//! What is printed of a phase.
 
-use crate::kinds::Kind;
-use crate::rooms::{Sight, gone_in};
 use anyhow::Result;
-use bc_model::Phase;
-use bc_superpages::{PageState, Space};
+use bc_engine::{Counters, PageCounts};
+use bc_model::{Phase, Replies, Reply};
+use bc_superpages::Space;
 use heap_workshop::{pages_gone, superpages_in_use};
 use std::time::Duration;
 
@@ -15,6 +14,45 @@ pub(crate) fn operations(phase: &Phase) -> usize {
         all = all.saturating_add(ops.len());
     }
     all
+}
+
+/// Prints by how much an engine's counters went on.
+pub(crate) fn print_counters<R: Print>(rt: &R, before: &Counters, after: &Counters) -> Result<()> {
+    let turns = after.turns.saturating_sub(before.turns);
+    let early = after.early.saturating_sub(before.early);
+    let promotions = after.promotions.saturating_sub(before.promotions);
+    let collections = after.collections.saturating_sub(before.collections);
+    let failsafes = after.failsafes.saturating_sub(before.failsafes);
+    print!(rt; " turns={turns} early={early} promotions={promotions}")?;
+    print!(rt; " collections={collections} failsafes={failsafes}")?;
+    let reads = more_pages(&before.reads, &after.reads);
+    let all = reads.all();
+    let PageCounts {
+        turns,
+        alone,
+        collections,
+    } = reads;
+    print!(rt;
+        " reads={all} turn_reads={turns} alone_reads={alone} collection_reads={collections}"
+    )?;
+    let left = more_pages(&before.departures, &after.departures);
+    let all = left.all();
+    let PageCounts {
+        turns,
+        alone,
+        collections,
+    } = left;
+    print!(rt; " left={all} turn_left={turns} alone_left={alone} collection_left={collections}")?;
+    Ok(())
+}
+
+/// By how much the counts went on. They go round.
+fn more_pages(before: &PageCounts, after: &PageCounts) -> PageCounts {
+    PageCounts {
+        turns: after.turns.wrapping_sub(before.turns),
+        alone: after.alone.wrapping_sub(before.alone),
+        collections: after.collections.wrapping_sub(before.collections),
+    }
 }
 
 /// Prints how things stand: how many of all frames are in use, and what of the space.
@@ -47,170 +85,43 @@ pub(crate) fn print_need<R: Print>(rt: &R, need: Option<u64>) -> Result<()> {
     Ok(())
 }
 
-/// Emptyings of one kind, and the pages that were read in them.
-#[derive(Clone, Copy)]
-struct Emptyings {
-    times: u64,
-    reads: u64,
+/// A number made of another one and the one before it, by the step of a well-known hash (FNV-1a).
+fn mixed(number: u64, more: u64) -> u64 {
+    (number ^ more).wrapping_mul(1_099_511_628_211)
 }
 
-impl Emptyings {
-    const NONE: Emptyings = Emptyings { times: 0, reads: 0 };
-
-    fn add(&mut self, reads: u64) {
-        self.times = self.times.saturating_add(1);
-        self.reads = self.reads.saturating_add(reads);
-    }
-}
-
-/// What is counted of a phase.
-#[derive(Clone, Copy)]
-pub(crate) struct Counts {
-    promotions: Emptyings,
-    collections: Emptyings,
-    failsafes: Emptyings,
-    /// Pages that were gone when fail-safes began.
-    failsafe_gone: u64,
-    /// Page reads of operations.
-    lane_reads: u64,
-    /// Pages that left with objects on them, and without.
-    evictions: u64,
-    discards: u64,
-}
-
-impl Counts {
-    pub(crate) const NONE: Counts = Counts {
-        promotions: Emptyings::NONE,
-        collections: Emptyings::NONE,
-        failsafes: Emptyings::NONE,
-        failsafe_gone: 0,
-        lane_reads: 0,
-        evictions: 0,
-        discards: 0,
-    };
-
-    /// So many pages left, so many of them with objects.
-    fn left(&mut self, pages: u32, with_objects: u32) {
-        let evictions = u64::from(with_objects);
-        let discards = u64::from(pages.saturating_sub(with_objects));
-        self.evictions = self.evictions.saturating_add(evictions);
-        self.discards = self.discards.saturating_add(discards);
-    }
-
-    /// An emptying of this kind that began with the pages that were seen, after so many reads.
-    pub(crate) fn emptied(&mut self, kind: Kind, sights: &[Sight], reads: u64, space: &Space) {
-        let reads = space.reads().saturating_sub(reads);
-        let gone = gone_in(sights);
-        match kind {
-            Kind::Promotion => self.promotions.add(reads),
-            Kind::Collection => self.collections.add(reads),
-            Kind::Failsafe => {
-                self.failsafes.add(reads);
-                self.failsafe_gone = self.failsafe_gone.saturating_add(u64::from(gone));
-                return;
-            }
-        }
-        let evicted = pages_gone(space).saturating_sub(gone);
-        let discarded = given_up(sights, space);
-        self.left(evicted.saturating_add(discarded), evicted);
-    }
-
-    /// How many pages were read.
-    fn reads(&self) -> u64 {
-        self.lane_reads
-            .saturating_add(self.promotions.reads)
-            .saturating_add(self.collections.reads)
-            .saturating_add(self.failsafes.reads)
-    }
-
-    /// Prints what was counted.
-    pub(crate) fn print<R: Print>(&self, rt: &R) -> Result<()> {
-        let promotions = self.promotions.times;
-        let collections = self.collections.times;
-        let failsafes = self.failsafes.times;
-        print!(rt; " promotions={promotions} collections={collections} failsafes={failsafes}")?;
-        let reads = self.reads();
-        let lanes = self.lane_reads;
-        print!(rt; " reads={reads} lane_reads={lanes}")?;
-        let promotions = self.promotions.reads;
-        let collections = self.collections.reads;
-        print!(rt; " promotion_reads={promotions} collection_reads={collections}")?;
-        let failsafes = self.failsafes.reads;
-        let gone = self.failsafe_gone;
-        print!(rt; " failsafe_reads={failsafes} failsafe_gone={gone}")?;
-        let evictions = self.evictions;
-        let discards = self.discards;
-        print!(rt; " evictions={evictions} discards={discards}")?;
-        Ok(())
+/// Two numbers for a reply.
+fn numbers_of(reply: &Reply) -> (u64, u64) {
+    match *reply {
+        Reply::Obj(birth) => (1, u64::from(birth.lane) << 32 | u64::from(birth.serial)),
+        Reply::Done => (2, 0),
+        Reply::Nil => (3, 0),
+        Reply::Num(number) => (4, number),
+        Reply::Ref => (5, 0),
+        Reply::Len(fields) => (6, u64::from(fields)),
+        Reply::Yes => (7, 0),
+        Reply::No => (8, 0),
+        Reply::NotObj => (9, 0),
+        Reply::Range => (10, 0),
+        Reply::Foreign => (11, 0),
     }
 }
 
-/// How many pages were resident and are Absent now.
-fn given_up(sights: &[Sight], space: &Space) -> u32 {
-    let mut pages: u32 = 0;
-    let mut page: u32 = 0;
-    for sight in sights {
-        for number in 0..4 {
-            if page < space.pages() {
-                if was_given_up(sight.pages[number], space.state(page)) {
-                    pages = pages.saturating_add(1);
-                }
-                page += 1;
-            }
-        }
+/// A number made of the replies of a lane.
+fn replies_of_lane(replies: &[Reply]) -> u64 {
+    let mut all = 0;
+    for reply in replies {
+        let (kind, value) = numbers_of(reply);
+        all = mixed(mixed(all, kind), value);
     }
-    pages
+    all
 }
 
-fn was_given_up(before: PageState, now: PageState) -> bool {
-    now == PageState::Absent && before != PageState::Absent && !before.is_gone()
-}
-
-/// A number that is at most the largest one of 32 bits.
-pub(crate) fn small(number: u64) -> u32 {
-    match u32::try_from(number) {
-        Ok(number) => number,
-        Err(_) => u32::MAX,
+/// A number made of the replies of all lanes.
+pub(crate) fn replies_of(replies: &Replies) -> u64 {
+    let mut all = 0;
+    for lane in &replies.lanes {
+        all = mixed(all, replies_of_lane(lane));
     }
-}
-
-/// How pages stood when they were looked at last.
-#[derive(Clone, Copy)]
-pub(crate) struct Watch {
-    reads: u64,
-    free: u32,
-    gone: u32,
-}
-
-impl Watch {
-    /// How they stand.
-    pub(crate) fn on(space: &Space) -> Self {
-        Watch {
-            reads: space.reads(),
-            free: space.free_frames(),
-            gone: pages_gone(space),
-        }
-    }
-
-    /// How many were read so far.
-    pub(crate) fn reads(&self) -> u64 {
-        self.reads
-    }
-
-    /// Counts what came and left in an operation, or for notices. Such a page comes back by a read alone.
-    pub(crate) fn moved(&mut self, counts: &mut Counts, space: &Space) {
-        let back = small(space.reads().saturating_sub(self.reads));
-        if back == 0 && space.free_frames() == self.free {
-            return;
-        }
-        let left = space
-            .free_frames()
-            .saturating_add(back)
-            .saturating_sub(self.free);
-        let now = Watch::on(space);
-        let evicted = now.gone.saturating_add(back).saturating_sub(self.gone);
-        counts.lane_reads = counts.lane_reads.saturating_add(u64::from(back));
-        counts.left(left, evicted);
-        *self = now;
-    }
+    all
 }

@@ -1,6 +1,9 @@
-//! The calls of an engine that a run doesn't make: an operation by itself, and a give before any phase.
+//! The calls of an engine that a run doesn't make: an operation by itself, a give before any phase, and what it counted.
 
-use bc_engine::Engine;
+use super::gates::run_paced;
+use super::trace;
+use bc_cli::OpenGate;
+use bc_engine::{Engine, Pacing};
 use bc_model::{Birth, Op, Reply, Setup, Slot};
 use std::test::Fail;
 
@@ -23,5 +26,38 @@ fn after_a_give_the_new_holder_makes_an_object(rt: HostRuntime) -> Result<(), Fa
     let slot = Slot { domain: 1, slot: 0 };
     let reply = engine.serial(0, &Op::New(slot, 1));
     assert_eq!(rt; reply, Reply::Obj(Birth { lane: 0, serial: 1 }));
+    Ok(())
+}
+
+/// Three objects on a page each, of which two are gone, are looked at and changed; then one page is given up for a notice and comes back.
+const THREE_PAGES: &str =
+    "phase\nlane 0\nnew 0 0 1\nnew 0 1 3\nnew 0 2 7\nend\nphase\nlane 0\nwho 0 0\nwho 0 1\nnew 0 3 0\nlink 0 0 0 0 3\n\
+    link 0 1 0 0 3\nwho 0 2\nload 0 0 0 0 3\nwho 0 3\nend\nphase\nturn 0 0 0\nlane 0\nclear 0 3\nend\nphase\nlane 0\nwho 0 1\nend\ndone\n";
+
+#[test]
+fn counters_tell_turns_minor_collections_and_reads(rt: HostRuntime) -> Result<(), Fail> {
+    let text = trace(rt.alloc(), [1, 1, 4, 3, 1, 4, 3], THREE_PAGES)?;
+    let passed = run_paced(&rt, rt.alloc(), &text, Pacing::Plain, &OpenGate)?;
+    let Some(counters) = passed.counters else {
+        assert!(rt; false, "no heap is handed back");
+        return Ok(());
+    };
+    assert_eq!(rt; (counters.turns, counters.early), (5, 0));
+    assert_eq!(rt;
+        (
+            counters.promotions,
+            counters.collections,
+            counters.failsafes
+        ),
+        (5, 0, 0)
+    );
+    assert_eq!(rt;
+        (
+            counters.reads.turns,
+            counters.reads.alone,
+            counters.reads.collections
+        ),
+        (3, 1, 0)
+    );
     Ok(())
 }

@@ -3,7 +3,7 @@
 use super::sink::Paper;
 use super::{repeated, trace};
 use bc_cli::{Gate, Outcome, Status, read_trace, run_trace};
-use bc_engine::{Answer, Pacing};
+use bc_engine::{Answer, Counters, Pacing};
 use bc_io::MemSource;
 use std::alloc::{AllocError, Global};
 use std::sync::atomic::{AtomicU64, Ordering};
@@ -20,36 +20,52 @@ pub const BEFORE: u32 = 1;
 /// The reply to its operation is kept.
 pub const AFTER: u32 = 2;
 
-/// What a run past a gate ended with, what it wrote, and the answers to the notices of its last phase.
+/// What a run past a gate ended with, what it wrote, the answers to the notices of its last phase, and what its engine counted.
 #[derive(Drop)]
 pub struct Passed {
     pub status: Status,
     pub written: Vec<u8>,
     pub answers: Vec<Answer>,
+    pub counters: Option<Counters>,
 }
 
-/// Runs the trace with this text, past a gate: each turn at a table, its lanes and its pager on threads of their own. Where no heap is handed
-/// back there are no answers.
+/// Runs the trace with this text, past a gate: each turn at a table, its lanes and its pager on threads of their own.
 pub fn run_past<R: Threads + Sync, G: Gate + Sync>(
     rt: &R,
     alloc: Global,
     text: &str,
     gate: &G,
 ) -> Result<Passed, AllocError> {
+    run_paced(rt, alloc, text, Pacing::SideBySide, gate)
+}
+
+/// Runs the trace with this text, past a gate, with turns that run so. Where no heap is handed back there are no answers and no counters.
+pub fn run_paced<R: Threads + Sync, G: Gate + Sync>(
+    rt: &R,
+    alloc: Global,
+    text: &str,
+    pacing: Pacing,
+    gate: &G,
+) -> Result<Passed, AllocError> {
     let mut source = MemSource::new(text.as_bytes().to_vec(alloc)?, 4096, Vec::new(alloc));
     let mut sink = Paper::new(alloc);
     let outcome = match read_trace(alloc, &mut source) {
-        Ok(trace) => run_trace(rt, alloc, &trace, 1, Pacing::SideBySide, &mut sink, gate),
+        Ok(trace) => run_trace(rt, alloc, &trace, 1, pacing, &mut sink, gate),
         Err(status) => Outcome::without_heap(status),
     };
     let answers = match &outcome.heap {
         Some(engine) => engine.answers().to_vec(alloc)?,
         None => Vec::new(alloc),
     };
+    let counters = match &outcome.heap {
+        Some(engine) => Some(engine.counters()),
+        None => None,
+    };
     Ok(Passed {
         status: outcome.status,
         written: sink.into_bytes(),
         answers,
+        counters,
     })
 }
 

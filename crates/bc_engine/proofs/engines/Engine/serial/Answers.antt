@@ -1,7 +1,14 @@
 use Rattle.std.proofs.Common.{Err, arith}
 use Rattle.bc_engine.proofs.Sizes.{op-of_heap}
 use Rattle.bc_engine.proofs.Attempts.{does-step, ready-sound, ready-step, never-stops, unrecorded-kept}
+use Rattle.bc_engine.proofs.CountLemmas.{alone-counted, alone-counts}
+use Rattle.bc_engine.specs.Counting.{CountsAlone}
+use Rattle.bc_engine.proofs.engines.Engine.serial.Goals.{After-count_alone}
 use Rattle.bc_engine.proofs.engines.Engine.serial.Goals as goal
+
+-- the reads of the operation are counted
+the-count : (c : After-count_alone) → CountsAlone c.self.inside.counters c.self.inside.running.heap.space.reads c.operate.new.self.heap.space.reads c.count_alone.new.self
+the-count c = alone-counts c.self.inside.counters c.count_alone.new.self c.self.inside.running.heap.space.reads c.operate.new.self.heap.space.reads c.tally_of-before.ensures.reads c.tally_of.ensures.reads c.count_alone.ensures.counts
 
 pub invariant_of-self : goal.invariant_of-self
 invariant_of-self c =
@@ -16,7 +23,11 @@ invariant_of-self c =
             ready = ready-step c.self.inside.setup c.args.lane c.args.op.now c.operate.result e.stays e.sound e.step e.stopped old.ready;
             going = λ going. unrecorded-kept (e.unrecorded empty) e.stays unrecorded;
           };
+      counted = alone-counted c.self.inside.counters c.count_alone.new.self c.self.inside.running.heap.space.reads c.operate.new.self.heap.space.reads c.tally_of-before.ensures.fits c.tally_of.ensures.fits (the-count c) c.self.invariant.counted;
     }
+
+pub returns-clause-counts : goal.returns-clause-counts
+returns-clause-counts c = rw (← c.self.view_is) (the-count c)
 
 pub returns-clause-does : goal.returns-clause-does
 returns-clause-does c =

@@ -5,4 +5,5 @@ invariant_of-self c = record {
   alive = λ alive.
       let old = c.self.invariant.alive alive in
       record { workers = old.workers; ready = old.ready; going = old.going };
+  counted = c.self.invariant.counted;
 }

@@ -1,3 +1,4 @@
+use Rattle.bc_cycle.specs.declared.emptying.EmptyingKind.{EmptyingKind}
 use Rattle.heap_workshop.proofs.RefusalLemmas.{refused-need}
 use Rattle.heap_workshop.proofs.workshops.Workshop.empty.Goals as goal
 
@@ -13,4 +14,4 @@ returns-in-Ok-clause-kept g c = rw (← c.self.view_is) c.in-Ok.ensures.kept
 pub returns-in-Err-OutOfHeap-clause-need : goal.returns-in-Err-OutOfHeap-clause-need
 returns-in-Err-OutOfHeap-clause-need g c =
     let refused = c.in-Err-OutOfHeap in
-    rw (← c.self.view_is) (refused-need (Unit {0}) c.self.inside.running.heap c.empty_nursery.new.self.heap refused.field-0 refused.need refused.field-0-is refused.ensures.meaning refused.ensures.need)
+    rw (← c.self.view_is) (refused-need EmptyingKind c.self.inside.running.heap c.empty_nursery.new.self.heap refused.field-0 refused.need refused.field-0-is refused.ensures.meaning refused.ensures.need)

@@ -5,7 +5,7 @@ use Rattle.bc_model.specs.Lists.{PhaseLists, TraceLists}
 use Rattle.bc_model.specs.Rows.{lists_of}
 use Rattle.bc_model.specs.declared.operations.Op.{Op}
 use Rattle.paging_bench.proofs.Counted.{phase-at, room-behind, room-here}
-use Rattle.paging_bench.proofs.timed.replay.Goals as goal
+use Rattle.paging_bench.proofs.phases.replay.Goals as goal
 
 pub loop-index-init : goal.loop-index-init
 loop-index-init g c = record {

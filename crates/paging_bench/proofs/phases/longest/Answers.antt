@@ -1,7 +1,7 @@
 use Rattle.std.proofs.Common.{◌≤◌, length, arith}
 use Rattle.paging_bench.proofs.Counted.{longest-more}
-use Rattle.paging_bench.proofs.timed.longest.Goals.{then-most-len, else-most-len}
-use Rattle.paging_bench.proofs.timed.longest.Goals as goal
+use Rattle.paging_bench.proofs.phases.longest.Goals.{then-most-len, else-most-len}
+use Rattle.paging_bench.proofs.phases.longest.Goals as goal
 
 pub loop-ops-preserved : goal.loop-ops-preserved
 loop-ops-preserved c =

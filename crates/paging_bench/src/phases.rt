@@ -1,4 +1,4 @@
-//! A trace is replayed by the engine itself, and nothing is counted but operations, page reads and how things stand.
+//! A trace is replayed by the engine, whose counters say what it did in each phase.
 //!
 //! That a lane has births left for its operations is kept by counting: of 2^32 - 1 births each phase takes off as many as its longest lane
 //! has operations.
@@ -9,9 +9,11 @@ ghost use Rattle.bc_engine.specs.Lanes.{HasRoomForOps, of_lane};
 ghost use Rattle.bc_model.specs.Rows.{lists_of};
 ghost use Rattle.bc_model.specs.WellFormed.{IsPhase, IsTrace};
 
-use crate::counts::{operations, print_need, print_standing, print_time};
+use crate::counts::{
+    operations, print_counters, print_need, print_standing, print_time, replies_of,
+};
 use anyhow::{Result, bail};
-use bc_engine::{Engine, PhaseError};
+use bc_engine::{Engine, Pacing, PhaseError};
 use bc_gates::OpenGate;
 use bc_model::{Op, Phase, Setup, Trace};
 use std::rt::Clock;
@@ -49,36 +51,33 @@ where
     ensures setup { engine.new.setup ≡ engine.old.setup }
     ensures births { (n : ℕ) → HasRoomForOps engine.old phase.now.lanes n → HasRoomForBirths engine.new n }
 {
-    let before = engine.heap().space.reads();
+    let before = engine.counters();
     let count = operations(phase);
     let start = Instant::now(rt)?;
-    let need = match engine.phase(rt, rt.alloc(), phase, &OpenGate) {
-        Ok(_replies) => None,
-        Err(
-            PhaseError::OutOfHeap {
-                replies: _replies,
-                need,
-            },
-        ) => Some(need),
+    let (replies, need) = match engine.phase(rt, rt.alloc(), phase, &OpenGate) {
+        Ok(replies) => (replies, None),
+        Err(PhaseError::OutOfHeap { replies, need }) => (replies, Some(need)),
         Err(PhaseError::NoMemory) => bail!("out of memory"),
     };
     let taken = start.elapsed(rt)?;
-    let space = &engine.heap().space;
-    let reads = space.reads().saturating_sub(before);
-    print!(rt; "phase={number} operations={count} reads={reads}")?;
-    print_standing(rt, space, setup.frames)?;
+    print!(rt; "phase={number} operations={count}")?;
+    print_counters(rt, &before, &engine.counters())?;
+    print_standing(rt, &engine.heap().space, setup.frames)?;
+    let all = replies_of(&replies);
+    print!(rt; " replies={all}")?;
     print_time(rt, clock, taken)?;
     print_need(rt, need)?;
     Ok(need.is_none())
 }
 
 /// Replays a trace on a new heap. `left` is how many births each lane has left at least.
-pub(crate) fn replay<R>(rt: &R, trace: &Trace, clock: bool) -> Result<()>
+pub(crate) fn replay<R>(rt: &R, trace: &Trace, pacing: Pacing, clock: bool) -> Result<()>
 where
     R: AllocGlobal + Clock + Print + Threads + Sync,
     requires { IsTrace trace.now }
 {
     let mut engine = Engine::open(rt.alloc(), &trace.setup, 1)?;
+    engine.set_pacing(pacing);
     let mut left = u32::MAX as usize;
     for index in 0..trace.phases.len() {
         let phase = &trace.phases[index];

@@ -1,6 +1,6 @@
 use Rattle.std.proofs.Common.{◌≡◌, ◌^◌, ◌<◌, None}
 use Rattle.bc_engine.specs.EngineFacts.{HasRoomForBirths}
-use Rattle.paging_bench.proofs.timed.replay.Given as goal
+use Rattle.paging_bench.proofs.phases.replay.Given as goal
 
 abbrev pub invariant-loop-index : goal.invariant-loop-index
 invariant-loop-index g l = record {
