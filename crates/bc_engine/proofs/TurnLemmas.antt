@@ -20,7 +20,7 @@ use Rattle.bc_running.specs.RunningFacts.{with_space}
 use Rattle.bc_running.specs.Serving.{AnsweredAlone}
 use Rattle.bc_superpages.specs.RootWords.{RootWords}
 use Rattle.bc_turn.specs.Answered.{AnsweredBeside}
-use Rattle.bc_turn.specs.Looked.{IsLookedAt}
+use Rattle.bc_turn.specs.Looked.{HadInTurn, IsLookedAt}
 use Rattle.bc_turn.specs.Taking.{IsRoomKept}
 use Rattle.bc_turn.specs.declared.rooms.TurnRoom.{TurnRoom}
 use Rattle.bc_turn.proofs.RoomLemmas.{room-kept}
@@ -29,7 +29,7 @@ use Rattle.bc_engine.specs.Lanes.{of_lane, EachStopped, LanesRan, LeavesCells, S
 use Rattle.bc_engine.specs.Turns.{RanTurn, hints_of, line_behind}
 
 -- the lanes ran side by side, beside them notices were answered, and then the heap was settled
-pub turn-together : {lanes : List (List Op)} {r q x : RunningView} {told replies : List (Vec Reply Global)} {asked answers : List Answer} {hints : List ℕ} → LanesRan lanes r told q replies → LeavesCells r q → EachStopped (StopsInTurn q.heap.space) lanes r told q replies → AnsweredBeside (IsLookedAt r.holders lanes r.heap r.serials (lists_of told) (lists_of replies)) r.heap.space hints asked answers q.heap.space → Settled q.heap.space x.heap.space → x ≡ with_space q x.heap.space → RanTurn lanes r told asked hints x replies answers
+pub turn-together : {lanes : List (List Op)} {r q x : RunningView} {told replies : List (Vec Reply Global)} {asked answers : List Answer} {hints : List ℕ} → LanesRan lanes r told q replies → LeavesCells r q → EachStopped (StopsInTurn q.heap.space) lanes r told q replies → AnsweredBeside (IsLookedAt r.holders lanes r.heap r.serials (lists_of told) (lists_of replies)) (HadInTurn r.holders lanes r.heap r.serials (lists_of told) (lists_of replies)) r.heap.space hints asked answers q.heap.space → Settled q.heap.space x.heap.space → x ≡ with_space q x.heap.space → RanTurn lanes r told asked hints x replies answers
 turn-together {lanes} {r} {q} {x} ran leaves stopped answered settled rest =
     record { mid = q; ran = ran; leaves = leaves; way = inl (stopped, answered, settled); rest = rest }
 

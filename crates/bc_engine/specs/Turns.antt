@@ -11,7 +11,7 @@ use Rattle.bc_running.specs.RunningFacts.{with_space}
 use Rattle.bc_running.specs.Serving.{AnsweredAlone}
 use Rattle.bc_superpages.specs.Layout.{Layout}
 use Rattle.bc_turn.specs.Answered.{AnsweredBeside}
-use Rattle.bc_turn.specs.Looked.{IsLookedAt}
+use Rattle.bc_turn.specs.Looked.{HadInTurn, IsLookedAt}
 use Rattle.bc_engine.specs.Attempts.{EachAlone, RanByAttempts}
 use Rattle.bc_engine.specs.Lanes.{EachStopped, LanesRan, LeavesCells, StopsInTurn}
 
@@ -29,7 +29,7 @@ hints_of lines turn = slice_index_or lines (turn % length lines) []
 abbrev pub RanTogether : List (List Op) → RunningView → List (Vec Reply Global) → List Answer → List ℕ → RunningView → RunningView → List (Vec Reply Global) → List Answer → Type 0
 RanTogether lanes r before kept hints mid q after told =
     EachStopped (StopsInTurn mid.heap.space) lanes r before mid after
-    × AnsweredBeside (IsLookedAt r.holders lanes r.heap r.serials (lists_of before) (lists_of after)) r.heap.space hints kept told mid.heap.space
+    × AnsweredBeside (IsLookedAt r.holders lanes r.heap r.serials (lists_of before) (lists_of after)) (HadInTurn r.holders lanes r.heap r.serials (lists_of before) (lists_of after)) r.heap.space hints kept told mid.heap.space
     × Settled mid.heap.space q.heap.space
 
 -- the lanes ran one after another, by attempts alone, and then the notices were answered where nobody worked beside. Then the heap was settled

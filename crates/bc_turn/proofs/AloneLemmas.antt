@@ -8,6 +8,7 @@ use Rattle.bc_pager.specs.Answering.{AreAnswered}
 use Rattle.bc_pager.specs.declared.answers.Answer.{Answer}
 use Rattle.bc_pins.specs.Calls.{CountsFetches, key_of, view_of}
 use Rattle.bc_pins.specs.Closing.{AreBack, Closed, IsBack}
+use Rattle.bc_pins.specs.Facts.{puts_with}
 use Rattle.bc_pins.specs.Key.{role_number}
 use Rattle.bc_pins.specs.Opened.{Opened}
 use Rattle.bc_pins.specs.Opening.{IsOpenable}
@@ -127,9 +128,9 @@ module _ (pins : Pins) (h : HeapView) (hs : List ℕ) (seats : List Seat) (pager
         far = λ p past. (refl, refl, refl);
       })
 
-      pub alone-answered : (hints : List ℕ) (kept told : List Answer) → old.notices.hints ≡ hints → old.answers.list ≡ kept → told ≡ later.answers.list → AnsweredBeside (λ p. ⊥) h.space hints kept told t
+      pub alone-answered : (hints : List ℕ) (kept told : List Answer) → old.notices.hints ≡ hints → old.answers.list ≡ kept → told ≡ later.answers.list → AnsweredBeside (λ p. ⊥) (λ p content. ⊥) h.space hints kept told t
       alone-answered hints kept told hints_are kept_are all_are =
-          answered (λ p. ⊥) (key_of pins) h.space t all hints kept told paged.told [] [] [] (view_of later.seat) opened.opening closed before given moved
+          answered (λ p. ⊥) (λ p content. ⊥) (key_of pins) h.space t all hints kept told paged.told [] [] [] (view_of later.seat) opened.opening closed before given moved
           (all_are ∙ paged.kept ∙ ap (λ (list_before : List Answer). list_before ++ paged.told) kept_are)
           (subst (λ (xs : List ℕ). AreAnswered (key_of pins) xs paged.told (fresh (key_of pins) (role_number (Pager 0) ∷ [])) (view_of later.seat)) hints_are paged.each)
           (λ p some. absurd (omega arith))
@@ -142,3 +143,7 @@ module _ (pins : Pins) (h : HeapView) (hs : List ℕ) (seats : List Seat) (pager
           let left = moved.left_are p in
           let emptied = moved.emptied_are p in
           inl (omega arith)))
+          (λ p w b some.
+          let one = ap (puts_with (key_of pins) p w b) back.changed in
+          let sum = ap (total (λ (s : Seat). puts_with (key_of pins) p w b (view_of s).changed)) only in
+          absurd (omega arith))

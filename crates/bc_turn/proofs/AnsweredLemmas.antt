@@ -1,5 +1,5 @@
 -- What a closed table makes of the pages that a pager's answers name, and of those that lanes moved.
-use Rattle.std.proofs.Common.{◌≡◌, ℕ, ◌+◌, ◌-◌, ◌*◌, ◌/◌, ◌%◌, ◌^◌, ◌<◌, ◌≤◌, ◌==◌, min, List, [], ◌∷◌, ◌++◌, length, get_or, inl, inr, refl, ap, sym, subst, ◌∙◌, arith}
+use Rattle.std.proofs.Common.{◌≡◌, ℕ, ◌+◌, ◌-◌, ◌*◌, ◌/◌, ◌%◌, ◌^◌, ◌<◌, ◌≤◌, ◌==◌, true, min, List, [], ◌∷◌, ◌++◌, length, get_or, inl, inr, refl, ap, sym, subst, ◌∙◌, arith}
 use Rattle.std.proofs.lemmas.Bool.{cases_lt}
 use Rattle.std.proofs.lemmas.List.{get_or_past}
 use Rattle.bc_bits.specs.Counting.{one_if}
@@ -7,6 +7,7 @@ use Rattle.bc_pager.specs.Answering.{AreAnswered, says_declined, says_discarded,
 use Rattle.bc_pager.specs.declared.answers.Answer.{Answer}
 use Rattle.bc_pins.specs.Calls.{view_of}
 use Rattle.bc_pins.specs.Closing.{Closed, fetches_of}
+use Rattle.bc_pins.specs.Facts.{has_bit_of, puts_with}
 use Rattle.bc_pins.specs.Key.{Key, pages_of, role_number}
 use Rattle.bc_pins.specs.Steps.{fresh, no_key}
 use Rattle.bc_pins.specs.Totals.{times, total}
@@ -95,10 +96,10 @@ module _ (k : Key) (s t : Layout) (seats : List Seat) (opening : k.opening ≡ s
     ]
 
 -- the notices were answered beside the lanes
-pub answered : (IsLooked : ℕ → Type 0) (k : Key) (s t : Layout) (seats : List Seat) (hints : List ℕ) (kept after : List Answer) (told : List Answer) (fetched left emptied : List ℕ) (end : View) → k.opening ≡ s → Closed k seats t → IsLayout s → IsLayout t
+pub answered : (IsLooked : ℕ → Type 0) (Had : ℕ → List ℕ → Type 0) (k : Key) (s t : Layout) (seats : List Seat) (hints : List ℕ) (kept after : List Answer) (told : List Answer) (fetched left emptied : List ℕ) (end : View) → k.opening ≡ s → Closed k seats t → IsLayout s → IsLayout t
     → AreMoved k seats told fetched left emptied → after ≡ kept ++ told → AreAnswered k hints told (fresh k (role_number (Pager 0) ∷ [])) end
-    → ((p : ℕ) → 0 < times p fetched → IsLooked p) → (0 < total says_declined told → (p : ℕ) → state_at t.states p ≡ Home → IsLooked p) → AnsweredBeside IsLooked s hints kept after t
-answered IsLooked k s t seats hints kept after told fetched left emptied end opening closed before layout moved is each own declined =
+    → ((p : ℕ) → 0 < times p fetched → IsLooked p) → (0 < total says_declined told → (p : ℕ) → state_at t.states p ≡ Home → IsLooked p) → ((p w b : ℕ) → 0 < total (λ (seat : Seat). puts_with k p w b (view_of seat).changed) seats → (content : List ℕ) × Had p content × (has_bit_of k p content w b ≡ true)) → AnsweredBeside IsLooked Had s hints kept after t
+answered IsLooked Had k s t seats hints kept after told fetched left emptied end opening closed before layout moved is each own declined put =
     let none = name-none k hints told (fresh k (role_number (Pager 0) ∷ [])) end each in
     record {
       key = k;
@@ -115,7 +116,7 @@ answered IsLooked k s t seats hints kept after told fetched left emptied end ope
       gone = gone-count k s t seats opening closed before layout told fetched left emptied moved none;
       absent = absent-count k s t seats opening closed before layout told fetched left emptied moved none;
       declined = declined;
-      bookmarks = new-bits k s t seats told left fetched opening closed before layout moved.fetched_are moved.left_are;
+      bookmarks = new-bits k s t seats told left fetched opening closed before layout moved.fetched_are moved.left_are Had put;
       reads = (
           let all = closed.reads in
           let same = ap (λ (x : Layout). x.reads) opening in
@@ -134,8 +135,8 @@ no-hints [] none = refl
 no-hints (h ∷ hints) none = absurd (omega arith)
 
 -- where there are no notices, none is answered
-pub answered-none : (IsLooked : ℕ → Type 0) (s : Layout) (hints : List ℕ) (kept : List Answer) → s.reads < 2 ^ 64 → length hints ≡ 0 → AnsweredBeside IsLooked s hints kept kept s
-answered-none IsLooked s hints kept small none = record {
+pub answered-none : (IsLooked : ℕ → Type 0) (Had : ℕ → List ℕ → Type 0) (s : Layout) (hints : List ℕ) (kept : List Answer) → s.reads < 2 ^ 64 → length hints ≡ 0 → AnsweredBeside IsLooked Had s hints kept kept s
+answered-none IsLooked Had s hints kept small none = record {
   key = record no_key { opening = s };
   opening = refl;
   end = fresh (record no_key { opening = s }) (role_number (Pager 0) ∷ []);
@@ -151,13 +152,13 @@ answered-none IsLooked s hints kept small none = record {
   gone = λ p. omega arith;
   absent = λ p. omega arith;
   declined = λ some. absurd (omega arith);
-  bookmarks = bits-none s;
+  bookmarks = bits-none Had s;
   reads = (let goal_is : s.reads ≡ min (s.reads + 0) (2 ^ 64 - 1) = omega arith in goal_is);
 }
 
--- where no page is looked at, it is so whatever is said of those that are
-pub answered-lanes : (IsLooked : ℕ → Type 0) (s : Layout) (hints : List ℕ) (kept after : List Answer) (t : Layout) → AnsweredBeside (λ p. ⊥) s hints kept after t → AnsweredBeside IsLooked s hints kept after t
-answered-lanes IsLooked s hints kept after t is = record {
+-- where no page is looked at and none had another content, it is so whatever is said of those that are and had
+pub answered-lanes : (IsLooked : ℕ → Type 0) (Had : ℕ → List ℕ → Type 0) (s : Layout) (hints : List ℕ) (kept after : List Answer) (t : Layout) → AnsweredBeside (λ p. ⊥) (λ p content. ⊥) s hints kept after t → AnsweredBeside IsLooked Had s hints kept after t
+answered-lanes IsLooked Had s hints kept after t is = record {
   key = is.key;
   opening = is.opening;
   end = is.end;
@@ -172,6 +173,19 @@ answered-lanes IsLooked s hints kept after t is = record {
   gone = is.gone;
   absent = is.absent;
   declined = λ some p home. absurd (is.declined some p home);
-  bookmarks = is.bookmarks;
+  bookmarks = record {
+    stay = is.bookmarks.stay;
+    only = λ q b on. elim (is.bookmarks.only q b on) [
+      | inl was ↦ inl was
+      | inr new ↦ inr (record {
+        page = new.page;
+        left_is = new.left_is;
+        content = new.content;
+        had = elim new.had [ inl first ↦ inl first | inr later ↦ absurd later ];
+        target = new.target;
+        still = new.still;
+      })
+    ];
+  };
   reads = is.reads;
 }

@@ -39,14 +39,14 @@ use Rattle.bc_turn.specs.declared.paging.Paging.{Paging}
 use Rattle.bc_turn.specs.declared.rooms.TurnRoom.{TurnRoom}
 use Rattle.bc_turn.specs.declared.runs.Run.{Run}
 use Rattle.bc_turn.specs.Answered.{AnsweredBeside}
-use Rattle.bc_turn.specs.Looked.{IsLookedAt}
+use Rattle.bc_turn.specs.Looked.{HadInTurn, IsLookedAt}
 use Rattle.bc_turn.specs.Begun.{AllRan, AreBegun, AreBusyLanes, IsBegunLane, RanLane, of_lane}
 use Rattle.bc_turn.specs.Beside.{RanBeside}
 use Rattle.bc_turn.specs.Laying.{AreLaidBack}
 use Rattle.bc_turn.specs.Paging.{HasPaged}
 use Rattle.bc_turn.specs.Taking.{AreHeldDomains, AreRunsOf, AreSparesOf, AreTaken, CanRun, HasBusyAmong, HasReplyRoom, HasRoomForLane, LaneHasRun, IsRoomKept, LiesRight, running_lanes, seat_at, spare_lanes, turn_at, turn_roles}
 use Rattle.bc_turn.proofs.AnsweredLemmas.{AreMoved, answered}
-use Rattle.bc_turn.proofs.BegunLemmas.{IsPagerBack, all-fetched, all-homes, are-back, are-moved, are-recorded, begun-lane, gathered, may-operate, none-returned, ops-each, own-fetched, paged-back, pager-logged}
+use Rattle.bc_turn.proofs.BegunLemmas.{IsPagerBack, all-fetched, all-homes, all-put, are-back, are-moved, are-recorded, begun-lane, gathered, may-operate, none-returned, ops-each, own-fetched, paged-back, pager-logged}
 use Rattle.bc_turn.proofs.BesideLemmas.{ran-beside, turn-table}
 use Rattle.bc_turn.proofs.LayingLemmas.{laid-space}
 use Rattle.bc_turn.proofs.RoomLemmas.{beside-longer, busy-among, busy-later, same-numbers}
@@ -368,9 +368,9 @@ module _ (h : HeapView) (hs serials : List ℕ) (lanes : List (List Op)) (before
           each-fits i lt = ops-each h.roots lanes (get_or busy i 0) (busy_are.within i lt) set.ops
 
           pub answered-beside : (t : Layout) → Closed (key_of pins) whole-list t → IsLayout t → (hints : List ℕ) (kept all : List Answer) → old.notices.hints ≡ hints → old.answers.list ≡ kept → all ≡ later.answers.list
-              → AnsweredBeside (IsLookedAt hs lanes h serials (lists_of before) told) h.space hints kept all t
+              → AnsweredBeside (IsLookedAt hs lanes h serials (lists_of before) told) (HadInTurn hs lanes h serials (lists_of before) told) h.space hints kept all t
           answered-beside t closed given hints kept all hints_are kept_are all_are =
-              answered (IsLookedAt hs lanes h serials (lists_of before) told) (key_of pins) h.space t whole-list hints kept all paged.told fetched left emptied (view_of later.seat) set.opened.opening closed set.layout given
+              answered (IsLookedAt hs lanes h serials (lists_of before) told) (HadInTurn hs lanes h serials (lists_of before) told) (key_of pins) h.space t whole-list hints kept all paged.told fetched left emptied (view_of later.seat) set.opened.opening closed set.layout given
               moved (all_are ∙ paged.kept ∙ ap (λ (list_before : List Answer). list_before ++ paged.told) kept_are)
               (subst (λ (hs : List ℕ). AreAnswered (key_of pins) hs paged.told (fresh (key_of pins) (role_number (Pager 0) ∷ [])) (view_of later.seat)) hints_are paged.each)
               (own-fetched pins h hs serials lanes (lists_of before) busy (turn_at d runs) (seat_at d runs) (turn_at d new) (seat_at d new) (begun d) (all-ran d) back later.seat table seats-long seats-are pager-back told home.replies each-fits)
@@ -380,6 +380,7 @@ module _ (h : HeapView) (hs serials : List ℕ) (lanes : List (List Op)) (before
               (all-fetched pins h hs serials lanes (lists_of before) busy (turn_at d runs) (seat_at d runs) (turn_at d new) (seat_at d new) (begun d) (all-ran d) back later.seat table seats-long seats-are pager-back told home.replies each-fits)
               (all-homes pins h hs serials lanes (lists_of before) busy (turn_at d runs) (seat_at d runs) (turn_at d new) (seat_at d new) (begun d) (all-ran d) back later.seat table seats-long seats-are pager-back told home.replies each-fits
               old.notices.hints paged.told paged.each paged.left paged.emptied))
+              (all-put pins h hs serials lanes (lists_of before) busy (turn_at d runs) (seat_at d runs) (turn_at d new) (seat_at d new) (begun d) (all-ran d) back later.seat table seats-long seats-are pager-back told home.replies each-fits)
 
 -- room that came back is kept for the next turn
 pub room-returned : (hs : List ℕ) (slots : ℕ) (lanes : List (List Op)) (h : HeapView) (serials : List ℕ) (before : List (List Reply)) (k : HeapView) (nexts : List ℕ) (after : List (List Reply)) (busy : List ℕ) (room : TurnRoom)

@@ -1,29 +1,42 @@
--- A page on which an operation of a turn looks.
+-- Heaps on the way of a lane's turn: pages on which an operation looks, and contents that a page had.
 use Rattle.std.specs.Prelude.{◌≡◌, ℕ, ◌+◌, ◌/◌, ◌<◌, ◌≤◌, List, ◌++◌, length, take, drop, slice_index, slice_index_or}
 use Rattle.bc_lane.specs.Back.{heap_back}
 use Rattle.bc_lane.specs.Doing.{DidAll}
 use Rattle.bc_lane.specs.Turns.{LooksOn}
 use Rattle.bc_model.specs.declared.operations.Op.{Op}
 use Rattle.bc_model.specs.declared.operations.Reply.{Reply}
+use Rattle.bc_superpages.specs.Layout.{content_at}
 use Rattle.bc_turn.specs.Begun.{of_lane}
 use Rattle.bc_whole_heap.specs.Heaps.{HeapView}
 
--- an operation that the lane of the page's domain did in the turn looks at a cell on the page, or the next one that it would do: in the heap that
--- its operations before that one make of the one before the turn with every page back. `before` and `serials` are the replies and the births of
--- each lane before the turn, `after` the replies after it
-pub record IsLookedAt (holders : List ℕ) (lanes : List (List Op)) (h : HeapView) (serials : List ℕ) (before after : List (List Reply)) (page : ℕ) : Type 0 where
-  pub lane : ℕ
-  pub holder : slice_index holders (slice_index h.space.domains (page / 4)) ≡ lane
+-- the first operations of a lane in the turn, so many, make this heap of the one before the turn with every page back. `before` and `serials` are
+-- the replies and the births of each lane before the turn, `after` the replies after it
+pub record IsOnTheWay (holders : List ℕ) (lanes : List (List Op)) (h : HeapView) (serials : List ℕ) (before after : List (List Reply)) (lane count : ℕ) (heap : HeapView) : Type 0 where
   -- what the lane did in the turn
   pub new : List Reply
   pub told : of_lane after lane ≡ of_lane before lane ++ new
-  -- how much of it before this operation
-  pub count : ℕ
   pub within : count ≤ length new
+  pub serial : ℕ
+  pub did : DidAll holders lane (take count (drop (length (of_lane before lane)) (of_lane lanes lane))) (take count new) (heap_back h) (slice_index serials lane) heap serial
+
+-- an operation that the lane of the page's domain did in the turn looks at a cell on the page, or the next one that it would do: in the heap that
+-- its operations before that one make
+pub record IsLookedAt (holders : List ℕ) (lanes : List (List Op)) (h : HeapView) (serials : List ℕ) (before after : List (List Reply)) (page : ℕ) : Type 0 where
+  pub lane : ℕ
+  pub holder : slice_index holders (slice_index h.space.domains (page / 4)) ≡ lane
+  pub count : ℕ
   pub op : Op
   pub less : length (of_lane before lane) + count < length (of_lane lanes lane)
   pub is : op ≡ slice_index_or (of_lane lanes lane) (length (of_lane before lane) + count) op
   pub heap : HeapView
-  pub serial : ℕ
-  pub did : DidAll holders lane (take count (drop (length (of_lane before lane)) (of_lane lanes lane))) (take count new) (heap_back h) (slice_index serials lane) heap serial
+  pub way : IsOnTheWay holders lanes h serials before after lane count heap
   pub looks : LooksOn heap op page
+
+-- the page had this content in the turn: in a heap that the first operations of its domain's lane make
+pub record HadInTurn (holders : List ℕ) (lanes : List (List Op)) (h : HeapView) (serials : List ℕ) (before after : List (List Reply)) (page : ℕ) (content : List ℕ) : Type 0 where
+  pub lane : ℕ
+  pub holder : slice_index holders (slice_index h.space.domains (page / 4)) ≡ lane
+  pub count : ℕ
+  pub heap : HeapView
+  pub way : IsOnTheWay holders lanes h serials before after lane count heap
+  pub is : content_at heap.space.pages page ≡ content

@@ -19,7 +19,7 @@
 // Each notice has one answer (`AnsweredBeside`): by what the pager did and read, after the answers that the caller's list had. Lanes
 // reload pages of their own, and for their frames make others Gone or Absent, no more than they reload. By the answers and the
 // lists of these pages each page is accounted for: how often it is Gone, or Absent, at the close. The bookmark bits that came are those of
-// targets of pages that became Gone, or came for pages that lanes reloaded, and pages were read as often as one came back. Where a
+// targets that pages had which were made Gone in the turn, and pages were read as often as one came back. Where a
 // notice was declined, each page that is Home afterwards is looked at in the turn (`declined`), by an operation that its lane did or by the
 // next one that it would do; and so is each page that a lane reloaded (`IsLookedAt`).
 //

@@ -12,7 +12,7 @@ use Rattle.bc_turn.proofs.turns.answer_alone.Goals as goal
 
 pub returns-then-is_empty-clause-answered : goal.returns-then-is_empty-clause-answered
 returns-then-is_empty-clause-answered g c =
-    answered-none (λ p. ⊥) c.args.heap.now.space c.args.hints.now c.args.answers.now.items (let counted = c.reads-reads.ensures in omega arith) (none-left (length c.args.hints.now) (sym c.is_empty.ensures ∙ c.if-is_empty.true))
+    answered-none (λ p. ⊥) (λ p content. ⊥) c.args.heap.now.space c.args.hints.now c.args.answers.now.items (let counted = c.reads-reads.ensures in omega arith) (none-left (length c.args.hints.now) (sym c.is_empty.ensures ∙ c.if-is_empty.true))
 
 pub serve_all-requires : goal.serve_all-requires
 serve_all-requires g c =
