@@ -1,6 +1,6 @@
 /* What bench/failing-allocations and bench/little-memory preload: an allocator that refuses some requests, starts of threads that are refused,
-   and a stack of STACK bytes that the first thread has from the start, which else grows later. At the end it writes to the descriptor REPORT how many requests and starts of threads there were, how many of them were refused, how many blocks are left of those that
-   were given, and how many threads are left. */
+   and stacks of STACK bytes for threads that would have others. At the end it writes to the descriptor REPORT how many requests and starts
+   of threads there were, how many of them were refused, how many blocks are left of those that were given, and how many threads are left. */
 #define _GNU_SOURCE
 #include <dirent.h>
 #include <dlfcn.h>
@@ -26,14 +26,7 @@ static void *besides[MOST];
 
 static unsigned long number(const char *name) { const char *text = getenv(name); return text ? strtoul(text, 0, 10) : 0; }
 
-/* Touches so many bytes of the stack, from the nearest on. */
-static void grow_stack(unsigned long size) {
-  volatile char *room = __builtin_alloca(size + 1);
-  for (unsigned long at = size; at >= 4096; at -= 4096) room[at] = 0;
-}
-
 __attribute__((constructor)) static void begin(void) {
-  grow_stack(number("STACK"));
   report = number("REPORT");
   fail_at = number("FAIL_AT");
   fail_every = number("FAIL_EVERY");
@@ -122,4 +115,11 @@ int pthread_create(pthread_t *thread, const pthread_attr_t *attributes, void *(*
   unsigned long n = __atomic_add_fetch(&starts, 1, __ATOMIC_SEQ_CST);
   if (fail_thread && (n == fail_thread || (fail_threads && n > fail_thread))) { __atomic_add_fetch(&unstarted, 1, __ATOMIC_SEQ_CST); return EAGAIN; }
   return real(thread, attributes, body, argument);
+}
+
+int pthread_attr_setstacksize(pthread_attr_t *attributes, size_t size) {
+  static int (*real)(pthread_attr_t *, size_t);
+  unsigned long other = number("STACK");
+  if (!real) real = (__typeof__(real))dlsym(RTLD_NEXT, "pthread_attr_setstacksize");
+  return real(attributes, other ? other : size);
 }

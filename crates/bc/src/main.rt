@@ -1,8 +1,11 @@
 // bc: the program that replays an allocation trace on the collector's heap, and prints each lane's replies.
 //
-// All its work is that of `bc_cli::top`, whose contract is the theorem. `main` only makes the real source and sink, calls `top`, prints the
-// line that `report` returns of its outcome, and ends with the exit status that it returns. What it does is shown by `.ci/examples` and
-// `.ci/statuses` on the built program.
+// All its work is that of `bc_cli::top`, whose contract is the theorem. `main` only starts a thread that makes the real source and sink and
+// calls `top`, prints the line that `report` gives for the status, and ends with its exit status. What it does is shown by `.ci/examples`
+// and `.ci/statuses` on the built program.
+//
+// The work has a thread of its own because of its stack. The system grows the stack of the first thread as it is touched, and ends the
+// program by a signal where there is no memory for that. The stack of another thread is there when it starts, or the start is refused.
 #![tactic(auto)]
 
 ghost use Rattle.std.specs.Prelude.{◌≡◌, ◌≢◌, ℕ, IfErr, IfOk, IfSome, map, string_bytes, None};
@@ -22,7 +25,10 @@ use std::alloc::{AllocError, Global};
 use std::env;
 use std::io::{ErrorKind, Read, Write};
 use std::process::ExitCode;
-use std::thread::Threads;
+use std::thread::{Builder, Threads};
+
+/// The bytes of the stack on which all work is done. A run touches less than a third of them (`bench/little-memory`).
+const STACK: usize = 1 << 20;
 
 /// The words after the program's name.
 fn words_of(rt: &HostRuntime) -> Result<Vec<String>, Status>
@@ -90,21 +96,28 @@ where
 
 /// What is printed of a run that ended so: the line for standard error, which says what is wrong with it, if it wasn't done, and the exit
 /// status of the program.
-fn report(outcome: Outcome) -> (Option<Fault>, ExitCode)
-    ensures line { result.0 ≡ fault_of outcome.status }
-    ensures status { exit_status result.1 ≡ exit_code_of outcome.status }
+fn report(status: Status) -> (Option<Fault>, ExitCode)
+    ensures line { result.0 ≡ fault_of status }
+    ensures status { exit_status result.1 ≡ exit_code_of status }
 {
-    (outcome.fault(), ExitCode::from(outcome.exit_code()))
+    (status.fault(), ExitCode::from(status.exit_code()))
 }
 
 fn main(rt: HostRuntime) -> ExitCode {
-    let outcome = match words_of(&rt) {
-        Ok(words) => run_words(&rt, &words, rt.stdin(), rt.stdout()),
-        Err(status) => Outcome::without_heap(status),
+    let work = move || match words_of(&rt) {
+        Ok(words) => {
+            let outcome = run_words(&rt, &words, rt.stdin(), rt.stdout());
+            outcome.status
+        }
+        Err(status) => status,
     };
-    let (line, status) = report(outcome);
+    let status = match Builder::new().stack_size(STACK).spawn(&rt, work) {
+        Ok(thread) => thread.join(&rt),
+        Err(_) => Status::NoMemory,
+    };
+    let (line, code) = report(status);
     if let Some(line) = line {
         let _ = eprintln!(rt; "{line}");
     }
-    status
+    code
 }

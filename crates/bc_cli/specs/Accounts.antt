@@ -6,7 +6,8 @@ use Rattle.bc_engine.specs.Engines.{EngineView}
 use Rattle.bc_superpages.specs.Calls.{resident_count}
 
 -- The heap is in order as to its pages. Bookmarks and counters stand for what the pages that left refer to. Free frames, nursery
--- pages and resident pages add up to the setup's frames; that no frame's number is in two places is kept by the type of the space.
+-- pages and resident pages add up to the setup's frames; that each frame's number is in one place is kept by the type of the space
+-- (`IsAccount`).
 pub record KeepsAccount (e : EngineView) : Type 0 where
   pub summarised : IsSummarised e.running.heap.space
   pub frames : e.running.heap.space.frames ≡ e.setup.frames

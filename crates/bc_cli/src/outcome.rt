@@ -3,9 +3,8 @@
 ghost use Rattle.std.specs.Prelude.{◌≡◌, ◌≢◌, Some, None, IfSome};
 ghost use Rattle.bc_engine.specs.declared.engines.Ended.{Ended};
 ghost use Rattle.bc_cli.specs.Accounts.{KeepsAccount};
-ghost use Rattle.bc_cli.specs.Statuses.{exit_code_of, fault_of};
 
-use crate::status::{Fault, Status};
+use crate::status::Status;
 use bc_engine::Engine;
 
 /// What a run ends with.
@@ -37,19 +36,5 @@ impl Outcome {
         ensures heap { result.heap ≡ None }
     {
         Outcome { status, heap: None }
-    }
-
-    /// What is wrong with the run, if it wasn't done.
-    pub fn fault(&self) -> Option<Fault>
-        ensures { result ≡ fault_of self.now.status }
-    {
-        self.status.fault()
-    }
-
-    /// The exit status of the program.
-    pub fn exit_code(&self) -> u8
-        ensures { result ≡ exit_code_of self.now.status }
-    {
-        self.status.exit_code()
     }
 }
