@@ -91,6 +91,19 @@ def check(data):
     except Fault as f:
         return f'fault {f.args[0]} {f.args[1]}'
 
+def crowded(rng):
+    """One class in all superpages, and many births that are equal, or of which only the last bits or the lanes differ."""
+    lanes = rng.randint(1, 16); superpages = rng.randint(1, 3); c = rng.choice((2, 4)); fields = rng.randint(c // 2, c - 1)
+    items = [int.from_bytes(MAGIC, 'big'), 1, lanes, 1, 1, superpages, 1, 1, lanes + 2, 0, 0] + [4000000000] * lanes + [0]
+    few = rng.choice((1, 2, 30, 400, 10 ** 9)); step = rng.choice((1, 2 ** 8, 2 ** 16)); count = 0
+    order = rng.sample(range(10 ** 4), 10 ** 4)
+    for q in range(superpages):
+        n = rng.randint(1, 300); items += [c, n]
+        for k in range(n):
+            s = 1 + step * (order[count] % few); lane = rng.randrange(lanes) if rng.random() < 0.01 else 0; count += 1
+            items += [2048 * q + c * k, fields | lane << 13 | min(s, 4000000000) << 17] + [2 * rng.randrange(9) + 1] * fields
+    return b''.join(struct.pack('>Q', i) for i in items)
+
 def broken(rng, image):
     data = bytearray(image); r = rng.random()
     if r < 0.2: return bytes(data[:rng.randrange(len(data) + 1)])
@@ -108,7 +121,7 @@ def main():
         rng = random.Random(int(sys.argv[2])); out = sys.stdout.buffer
         for _ in range(int(sys.argv[3])):
             r = rng.random(); image = make(rng)
-            data = image if r < 0.25 else broken(rng, image) if r < 0.97 else rng.randbytes(rng.randrange(200))
+            data = image if r < 0.2 else crowded(rng) if r < 0.28 else broken(rng, crowded(rng)) if r < 0.3 else broken(rng, image) if r < 0.97 else rng.randbytes(rng.randrange(200))
             out.write(struct.pack('>Q', len(data)) + data)
         return
     pieces = open(sys.argv[2], 'rb').read(); lines = open(sys.argv[3]).read().split('\n')[:-1]; at = 0; k = 0; kinds = {}

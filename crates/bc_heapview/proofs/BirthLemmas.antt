@@ -21,7 +21,7 @@ use Rattle.bc_standing.proofs.Homes.{births-home, home_at, one_home, reached_liv
 use Rattle.bc_image.specs.Cells.{CellList}
 use Rattle.bc_image.specs.Listings.{ListingLists}
 use Rattle.bc_image.specs.Memories.{number_at, cell_at, memory_of}
-use Rattle.bc_heapview.specs.Pictured.{PicturesObjects}
+use Rattle.bc_image.specs.Pictures.{PicturesObjects}
 use Rattle.bc_heapview.specs.Counts.{AreCounts, AreFewCounts, counts_of, superpages_of}
 use Rattle.bc_heapview.specs.Finds.{addresses_of}
 use Rattle.bc_heapview.specs.Searches.{find_at, IsSearched}

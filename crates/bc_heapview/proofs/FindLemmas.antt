@@ -284,7 +284,7 @@ pub finds-few : (roots : List ℕ) (cells : List CellList) (found : List Found) 
 finds-few roots cells found seen ways noted = omega (arith, seen_count-most seen, noted.counted, noted.sized)
 
 -- what a word refers to is an object of the list
-number_at-within : (cells : List CellList) (a n : ℕ) → number_at cells a ≡ Some n → n < length cells
+pub number_at-within : (cells : List CellList) (a n : ℕ) → number_at cells a ≡ Some n → n < length cells
 number_at-within [] a n e = absurd (let k : None ≡ Some n = e in cc)
 number_at-within (c ∷ cs) a n e = either (c.address == a) (number_at cs a) (λ m h. number_at-within cs a m h) e
   where

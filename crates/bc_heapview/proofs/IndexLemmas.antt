@@ -1,117 +1,226 @@
 -- The index of a listing.
-use Rattle.std.proofs.Common.{◌≡◌, ◌≢◌, ◌⊎◌, ℕ, ◌+◌, ◌<◌, ◌≤◌, ◌==◌, Bool, true, false, if◌then◌else◌, List, [], ◌∷◌, ◌++◌, length, get_or, take, set, option_map, Option, Some, None, refl, sym, ◌∙◌, ap, subst, inl, inr, arith, get_or-set_same, get_or-set_other}
-use Rattle.std.proofs.lemmas.Bool.{cases_lt, cases_eq, cases_Bool, eq-eqb, ne_eqb}
+use Rattle.std.proofs.Common.{◌≡◌, ◌≢◌, ℕ, ◌+◌, ◌-◌, ◌*◌, ◌/◌, ◌%◌, ◌^◌, ◌<◌, ◌≤◌, ◌==◌, ◌||◌, Bool, true, false, if◌then◌else◌, List, [], ◌∷◌, ◌++◌, length, get_or, take, replicate, option_map, Option, Some, None, bit_and, refl, sym, ◌∙◌, ap, ap₂, subst, inl, inr, arith, rules}
+use Rattle.std.proofs.lemmas.Bool.{cases_lt, cases_eq, cases_Bool, eq-eqb, ne_eqb, eqb-true}
 use Prim.Native.Nat.{zero, suc}
-use Rattle.std.proofs.Common.{replicate}
-use Rattle.std.proofs.lemmas.List.{length-set, length-replicate, get_or-replicate, get_or_read, take_more, length-take-le}
+use Rattle.std.specs.Int.{bit_at}
+use Rattle.std.specs.Int.Count.{ones}
+use Rattle.std.specs.Option.{is_some}
+use Rattle.std.proofs.lemmas.List.{get_or_read, take_more, get_or_append_left, get_or_push}
+use Rattle.std.proofs.lemmas.Nat.{mod-pow-add, ones_cat, and_mask, one_shl}
+use Rattle.std.proofs.lemmas.Nat.Bits.{bit_at-lt}
+use Rattle.bc_bits.specs.Bits.{has}
+use Rattle.bc_bits.specs.BitChanges.{with_bit}
+use Rattle.bc_bits.specs.Counting.{one_if, count_below}
+use Rattle.bc_bits.proofs.BitLemmas.{has-beyond, has-zeros, has-with_bit_same, has-with_bit_other}
+use Rattle.bc_bits.proofs.CountLemmas.{count_below-same, count_below-le, count_below-none}
+use Rattle.bc_bits.proofs.WordLemmas.{has-word, ones-count}
 use Rattle.bc_image.specs.Cells.{CellList}
+use Rattle.bc_image.specs.Homes.{HasHomes}
 use Rattle.bc_image.specs.Memories.{number_at, no_cell, cell_at}
-use Rattle.bc_heapview.specs.Targets.{coded, IsIndex}
-use Rattle.bc_image.specs.Homes.{LieBelow}
+use Rattle.bc_heapview.specs.Targets.{AreRanks, Rise, IsIndex}
+use Rattle.bc_heapview.specs.declared.indexes.Index.{Index}
+use Rattle.bc_heapview.proofs.FindLemmas.{number_at-within}
+use Rattle.bc_heapview.proofs.StateLemmas.{number-address}
 
--- what lies there in a list with one object more
-abbrev or_last : Option ℕ → ℕ → Bool → Option ℕ
-or_last (Some k) n is = Some k
-or_last None n is = if is then Some n else None
+some-one : (o : Option ℕ) → is_some (option_map (λ (n : ℕ). n + 1) o) ≡ is_some o
+some-one (Some n) = refl
+some-one None = refl
 
-or_last-shifted : (o : Option ℕ) (n : ℕ) (b : Bool) → option_map (λ (m : ℕ). m + 1) (or_last o n b) ≡ or_last (option_map (λ (m : ℕ). m + 1) o) (n + 1) b
-or_last-shifted (Some k) n b = refl
-or_last-shifted None n true = refl
-or_last-shifted None n false = refl
+-- ---- counts of bits
 
-number_at-push : (cells : List CellList) (c : CellList) (a : ℕ) → number_at (cells ++ c ∷ []) a ≡ or_last (number_at cells a) (length cells) (c.address == a)
-number_at-push [] c a = alone (c.address == a)
+-- a count in two parts
+count-parts : (f : ℕ → Bool) (n m : ℕ) → count_below f (m + n) ≡ count_below (λ j. f (n + j)) m + count_below f n
+unfolding count_below
+count-parts f n zero = let same : 0 + n ≡ n = omega arith in ap (count_below f) same ∙ nothing (count_below f n)
   where
-    alone : (b : Bool) → (if b then Some 0 else None) ≡ or_last None 0 b
-    alone true = refl
-    alone false = refl
-number_at-push (x ∷ xs) c a = at (x.address == a) (number_at (xs ++ c ∷ []) a) (number_at-push xs c a)
+    nothing : (x : ℕ) → x ≡ 0 + x
+    nothing x = omega arith
+count-parts f n (suc m) =
+    let rest = count-parts f n m in
+    let next : suc m + n ≡ suc (m + n) = omega arith in
+    let there = ap (count_below f) next in
+    let same : m + n ≡ n + m = omega arith in
+    let here : one_if (f (m + n)) ≡ one_if (f (n + m)) = ap (λ (x : ℕ). one_if (f x)) same in
+    omega arith
+
+-- a count that ends inside a word
+count-within : (ws : List ℕ) (w b : ℕ) → b ≤ 64 → count_below (has ws) (64 * w + b) ≡ count_below (λ j. bit_at (get_or ws w 0) j == 1) b + count_below (has ws) (64 * w)
+count-within ws w b le =
+    let same = count_below-same (λ j. has ws (64 * w + j)) (λ j. bit_at (get_or ws w 0) j == 1) b (λ j lt. has-word ws w j (omega arith)) in
+    let parts = count-parts (has ws) (64 * w) b in
+    let order : 64 * w + b ≡ b + 64 * w = omega arith in
+    ap (count_below (has ws)) order ∙ parts ∙ ap (λ (n : ℕ). n + count_below (has ws) (64 * w)) same
+
+-- a word more
+pub count-more : (ws : List ℕ) (w total : ℕ) → get_or ws w 0 < 2 ^ 64 → total ≡ count_below (has ws) (64 * w) → total + ones (get_or ws w 0) ≡ count_below (has ws) (64 * (w + 1))
+count-more ws w total fits so_far =
+    let here = ones-count (get_or ws w 0) fits in
+    let all = count-within ws w 64 (omega arith) in
+    let next : 64 * (w + 1) ≡ 64 * w + 64 = omega arith in
+    let end = ap (count_below (has ws)) next in
+    omega arith
+
+pub count-small : (ws : List ℕ) (w n total : ℕ) → w < n → n ≤ 2 ^ 17 → total ≡ count_below (has ws) (64 * (w + 1)) → total < 2 ^ 32
+count-small ws w n total lt few e = let le = count_below-le (has ws) (64 * (w + 1)) in omega arith
+
+pub count-nothing : (ws : List ℕ) → 0 ≡ count_below (has ws) (64 * 0)
+unfolding count_below
+count-nothing ws = refl
+
+-- the lowest bits of a word
+one-bit : (b : ℕ) → b < 2 → ones b ≡ one_if (b == 1)
+unfolding ones
+one-bit zero lt = refl
+one-bit (suc zero) lt = refl
+one-bit (suc (suc b)) lt = absurd (omega arith)
+
+ones-below : (w k : ℕ) → ones (w % 2 ^ k) ≡ count_below (λ j. bit_at w j == 1) k
+unfolding count_below
+ones-below w zero = let none : w % 2 ^ 0 ≡ 0 = omega arith in ap ones none ∙ one-bit 0 (omega arith)
+ones-below w (suc k) =
+    let next : suc k ≡ 1 + k = omega arith in
+    let word = ap (λ (n : ℕ). ones (w % 2 ^ n)) next ∙ ap ones (mod-pow-add w 1 k) ∙ ones_cat k (bit_at w k) (w % 2 ^ k) (small w k) in
+    let rest = ones-below w k in
+    let bit = one-bit (bit_at w k) (bit_at-lt w k) in
+    omega arith
   where
-    at : (b : Bool) (o : Option ℕ) → o ≡ or_last (number_at xs a) (length xs) (c.address == a) → (if b then Some 0 else option_map (λ (m : ℕ). m + 1) o) ≡ or_last (if b then Some 0 else option_map (λ (m : ℕ). m + 1) (number_at xs a)) (length (x ∷ xs)) (c.address == a)
-    at true o e = refl
-    at false o e = ap (option_map (λ (m : ℕ). m + 1)) e ∙ or_last-shifted (number_at xs a) (length xs) (c.address == a) ∙ ap (λ (k : ℕ). or_last (option_map (λ (m : ℕ). m + 1) (number_at xs a)) k (c.address == a)) (omega arith)
+    small : (n k : ℕ) → n % 2 ^ k < 2 ^ k
+    small n k = search rules
 
--- the index of the objects so far, where one more was put at its address unless one is there
-pub record IsIndexed (cells : List CellList) (end : ℕ) (index : List ℕ) : Type 0 where
-  pub sized : length index ≡ end
-  pub at : (a : ℕ) → a < end → get_or index a 0 ≡ coded (number_at cells a)
+pub masked : (w k : ℕ) → k < 64 → ones (bit_and w (1 * 2 ^ k % 2 ^ 64 - 1)) ≡ count_below (λ j. bit_at w j == 1) k
+masked w k lt = ap (λ (n : ℕ). ones (bit_and w (n - 1))) (one_shl k 64 lt) ∙ ap ones (and_mask w k) ∙ ones-below w k
 
-or_last-no : (o : Option ℕ) (n : ℕ) → or_last o n false ≡ o
-or_last-no (Some k) n = refl
-or_last-no None n = refl
+-- ---- the number of an object is how many lie below it
 
-coded-none : (o : Option ℕ) → coded o ≡ 0 → o ≡ None
-coded-none None e = refl
-coded-none (Some k) e = absurd (omega arith)
+count-stretch : (f : ℕ → Bool) (n m : ℕ) → ((j : ℕ) → n ≤ j → j < n + m → f j ≡ false) → count_below f (n + m) ≡ count_below f n
+count-stretch f n m none =
+    let parts = count-parts f n m in
+    let empty = count_below-none (λ j. f (n + j)) m (λ j lt. none (n + j) (omega arith) (omega arith)) in
+    let order : n + m ≡ m + n = omega arith in
+    let turned = ap (count_below f) order in
+    omega arith
 
-or_last-some : (o : Option ℕ) (n : ℕ) (b : Bool) → coded o ≢ 0 → or_last o n b ≡ o
-or_last-some (Some k) n b ne = refl
-or_last-some None n b ne = absurd (ne refl)
+count-one : (f : ℕ → Bool) (n : ℕ) → f n ≡ true → count_below f (n + 1) ≡ count_below f n + 1
+unfolding count_below
+count-one f n on =
+    let next : n + 1 ≡ suc n = omega arith in
+    let there = ap (count_below f) next in
+    let one = ap one_if on in
+    omega arith
 
-number_at-other : (cells : List CellList) (c : CellList) (a : ℕ) → a ≢ c.address → number_at (cells ++ c ∷ []) a ≡ number_at cells a
-number_at-other cells c a ne =
-    number_at-push cells c a ∙ ap (or_last (number_at cells a) (length cells)) (ne_eqb c.address a (λ e. ne (sym e))) ∙ or_last-no (number_at cells a) (length cells)
+module _ (cells : List CellList) (there : List ℕ) (rising : Rise cells) (homes : HasHomes cells there) where
+  -- where a bit is set an object lies
+  home-of : (a : ℕ) → has there a ≡ true → (k : ℕ) × (number_at cells a ≡ Some k)
+  home-of a on = by (number_at cells a) refl (sym (homes a) ∙ on)
+    where
+      by : (o : Option ℕ) → number_at cells a ≡ o → is_some o ≡ true → (k : ℕ) × (number_at cells a ≡ Some k)
+      by (Some k) e is = (k, e)
+      by None e is = absurd (let bad : false ≡ true = is in cc)
 
--- there was none at the address
-pub indexed-new : (cells : List CellList) (c : CellList) (end : ℕ) (index : List ℕ) → c.address < end → get_or index c.address 0 ≡ 0 → IsIndexed cells end index → IsIndexed (cells ++ c ∷ []) end (set index c.address (length cells + 1))
-indexed-new cells c end index lt empty is =
-    let inside : c.address < length index = (let s : length index ≡ end = is.sized in omega arith) in
-    let none : number_at cells c.address ≡ None = coded-none (number_at cells c.address) (sym (is.at c.address lt) ∙ empty) in
-    let here : number_at (cells ++ c ∷ []) c.address ≡ Some (length cells) = number_at-push cells c c.address ∙ ap (λ (o : Option ℕ). or_last o (length cells) (c.address == c.address)) none ∙ ap (or_last None (length cells)) (eq-eqb c.address c.address refl) in
-    record {
-      sized = length-set index c.address (length cells + 1) ∙ is.sized;
-      at = λ a within. elim (cases_eq a c.address) [
-        | inl e ↦ rw e (get_or-set_same index c.address (length cells + 1) 0 inside ∙ sym (ap coded here))
-        | inr ne ↦ get_or-set_other index c.address a (length cells + 1) 0 ne ∙ is.at a within ∙ ap coded (sym (number_at-other cells c a ne))
-      ];
-    }
+  -- and none lies between an object and the one before it
+  between : (a n : ℕ) → ((k : ℕ) → k < length cells → (cell_at cells k).address ≡ a → ⊥) → has there a ≡ false
+  between a n off = elim (cases_Bool (has there a)) [
+    | inl on ↦ (let h = home-of a on in absurd (off h.0 (number_at-within cells a h.0 h.1) (number-address cells a h.0 h.1)))
+    | inr isnt ↦ isnt
+  ]
 
--- there was one
-pub indexed-old : (cells : List CellList) (c : CellList) (end : ℕ) (index : List ℕ) → c.address < end → get_or index c.address 0 ≢ 0 → IsIndexed cells end index → IsIndexed (cells ++ c ∷ []) end index
-indexed-old cells c end index lt there is =
-    let some : coded (number_at cells c.address) ≢ 0 = λ e. there (is.at c.address lt ∙ e) in
-    record {
-      sized = is.sized;
-      at = λ a within. elim (cases_eq a c.address) [
-        | inl e ↦ rw e (is.at c.address lt ∙ ap coded (sym (number_at-push cells c c.address ∙ or_last-some (number_at cells c.address) (length cells) (c.address == c.address) some)))
-        | inr ne ↦ is.at a within ∙ ap coded (sym (number_at-other cells c a ne))
-      ];
-    }
+  below-or-not : (k j a : ℕ) → k + 1 < length cells → j < length cells → (cell_at cells k).address < a → a < (cell_at cells (k + 1)).address → (cell_at cells j).address ≡ a → ⊥
+  below-or-not k j a in_k in_j low high e = elim (cases_lt j (k + 1)) [
+    | inl before ↦ elim (cases_eq j k) [
+      | inl same ↦ (let f : (cell_at cells j).address ≡ (cell_at cells k).address = ap (λ (n : ℕ). (cell_at cells n).address) same in absurd (omega arith))
+      | inr ne ↦ (let f = rising j k (lower j k ne (omega arith)) (omega arith) in absurd (omega arith))
+    ]
+    | inr behind ↦ elim (cases_eq j (k + 1)) [
+      | inl same ↦ (let f : (cell_at cells j).address ≡ (cell_at cells (k + 1)).address = ap (λ (n : ℕ). (cell_at cells n).address) same in absurd (omega arith))
+      | inr ne ↦ (let f = rising (k + 1) j (lower (k + 1) j (λ e. ne (sym e)) behind) in_j in absurd (omega arith))
+    ]
+  ]
+    where
+      lower : (x y : ℕ) → x ≢ y → x ≤ y → x < y
+      lower zero zero ne le = absurd (ne refl)
+      lower zero (suc y) ne le = omega arith
+      lower (suc x) zero ne le = absurd (omega arith)
+      lower (suc x) (suc y) ne le = let r = lower x y (λ q. ne (ap suc q)) (omega arith) in omega arith
 
--- no object lies after the end
-number_at-none : (cells : List CellList) (a : ℕ) → ((k : ℕ) → k < length cells → (cell_at cells k).address ≢ a) → number_at cells a ≡ None
-number_at-none [] a off = refl
-number_at-none (c ∷ cs) a off =
-    let first : c.address ≢ a = off 0 (omega arith) in
-    rw (ne_eqb c.address a first) (ap (option_map (λ (m : ℕ). m + 1)) (number_at-none cs a (λ k lt. off (suc k) (omega arith))))
+  first-none : (j a : ℕ) → j < length cells → a < (cell_at cells 0).address → (cell_at cells j).address ≡ a → ⊥
+  first-none zero a in_j low e = absurd (omega arith)
+  first-none (suc j) a in_j low e = let f = rising 0 (suc j) (omega arith) in_j in absurd (omega arith)
 
-pub indexed-all : (cells : List CellList) (end : ℕ) (index : List ℕ) → LieBelow cells end → IsIndexed cells end index → IsIndex cells index
-indexed-all cells end index below is = record {
-  below = λ a le. number_at-none cells a (λ k lt e. let b : (cell_at cells k).address < end = below k lt in let s : length index ≡ end = is.sized in absurd (omega arith));
-  at = λ a lt. is.at a (let s : length index ≡ end = is.sized in omega arith);
-}
+  here : (k : ℕ) → k < length cells → has there (cell_at cells k).address ≡ true
+  here k lt = homes (cell_at cells k).address ∙ there-is cells k lt
+    where
+      there-is : (xs : List CellList) (k : ℕ) → k < length xs → is_some (number_at xs (cell_at xs k).address) ≡ true
+      there-is [] k lt = absurd (omega arith)
+      there-is (x ∷ xs) zero lt = ap (λ (b : Bool). is_some (let o : Option ℕ = if b then Some 0 else option_map (λ (n : ℕ). n + 1) (number_at xs x.address) in o)) (eq-eqb x.address x.address refl)
+      there-is (x ∷ xs) (suc k) lt = at (x.address == (cell_at xs k).address) (number_at xs (cell_at xs k).address) (there-is xs k (omega arith))
+        where
+          at : (b : Bool) (o : Option ℕ) → is_some o ≡ true → is_some (let p : Option ℕ = if b then Some 0 else option_map (λ (n : ℕ). n + 1) o in p) ≡ true
+          at true o e = refl
+          at false o e = some-one o ∙ e
 
-pub indexed-begin : (end : ℕ) → IsIndexed [] end (replicate end 0)
-indexed-begin end = record { sized = length-replicate end 0; at = λ a lt. get_or-replicate end a 0 0 lt }
+  pub rank-is : (k : ℕ) → k < length cells → count_below (has there) (cell_at cells k).address ≡ k
+  rank-is zero lt = count_below-none (has there) (cell_at cells 0).address (λ a low. between a 0 (λ j in_j e. first-none j a in_j low e))
+  rank-is (suc k) lt =
+      let a : ℕ = (cell_at cells k).address in
+      let b : ℕ = (cell_at cells (suc k)).address in
+      let next : suc k ≡ k + 1 = omega arith in
+      let up : a < b = rising k (suc k) (omega arith) lt in
+      let before = rank-is k (omega arith) in
+      let one = count-one (has there) a (here k (omega arith)) in
+      let rest = count-stretch (has there) (a + 1) (b - (a + 1)) (λ j from to. between j 0 (λ i in_i e. below-or-not k i j (omega arith) in_i (omega arith) (subst (λ (n : ℕ). j < (cell_at cells n).address) next (omega arith)) e)) in
+      let all : a + 1 + (b - (a + 1)) ≡ b = omega arith in
+      let whole = ap (count_below (has there)) all in
+      omega arith
 
--- a step of the loop over the objects
-module _ (cells : List CellList) (i end : ℕ) (index : List ℕ) (c : CellList) (address count : ℕ) (lt : i < length cells) (item : c ≡ get_or cells i c) (at : address ≡ c.address) (counted : count ≡ i) (below : LieBelow cells end) (is : IsIndexed (take i cells) end index) where
-  there : get_or cells i no_cell ≡ c
-  there = sym (get_or_read cells i c lt item no_cell)
+  -- what lies at an address
+  pub number-none : (a : ℕ) → has there a ≡ false → None ≡ number_at cells a
+  number-none a off = by (number_at cells a) refl (sym (homes a) ∙ off)
+    where
+      by : (o : Option ℕ) → number_at cells a ≡ o → is_some o ≡ false → None ≡ number_at cells a
+      by None e is = sym e
+      by (Some k) e is = absurd (let bad : true ≡ false = is in cc)
 
-  more : take (i + 1) cells ≡ take i cells ++ c ∷ []
-  more = take_more cells i c lt ∙ ap (λ (x : CellList). take i cells ++ x ∷ []) (sym item)
+  pub number-some : (a n : ℕ) → has there a ≡ true → n ≡ count_below (has there) a → Some n ≡ number_at cells a
+  number-some a n on is =
+      let h = home-of a on in
+      let at = number-address cells a h.0 h.1 in
+      let rank = rank-is h.0 (number_at-within cells a h.0 h.1) in
+      let same : n ≡ h.0 = is ∙ ap (count_below (has there)) (sym at) ∙ rank in
+      ap (λ (m : ℕ). Some m) same ∙ sym h.1
 
-  pub step-within : address < end
-  step-within = rw at (subst (λ (x : CellList). x.address < end) there (below i lt))
+-- a set bit lies in the set
+pub set-within : (there : List ℕ) (a : ℕ) → has there a ≡ true → a / 64 < length there
+set-within there a on = elim (cases_lt (a / 64) (length there)) [
+  | inl lt ↦ lt
+  | inr ge ↦ absurd (let bad : true ≡ false = sym on ∙ has-beyond there a (omega arith) in cc)
+]
 
-  long : length (take i cells) ≡ i
-  long = length-take-le i cells (omega arith)
+module _ (cells : List CellList) (index : Index) (is : IsIndex cells index) (a before below : ℕ) (on : has index.there.items a ≡ true)
+    (before_is : before ≡ get_or index.before.items (a / 64) 0) (below_is : below ≡ count_below (λ j. bit_at (get_or index.there.items (a / 64) 0) j == 1) (a % 64)) where
+  rank : before + below ≡ count_below (has index.there.items) a
+  rank =
+      let inside = set-within index.there.items a on in
+      let words = is.ranks.at (a / 64) inside in
+      let parts = count-within index.there.items (a / 64) (a % 64) (omega arith) in
+      let whole : 64 * (a / 64) + a % 64 ≡ a = omega arith in
+      let all = ap (count_below (has index.there.items)) whole in
+      omega arith
 
-  pub step-new : get_or index address 0 ≡ 0 → IsIndexed (take (i + 1) cells) end (set index address (count + 1))
-  step-new empty =
-      let next = indexed-new (take i cells) c end index (subst (λ (a : ℕ). a < end) at step-within) (subst (λ (a : ℕ). get_or index a 0 ≡ 0) at empty) is in
-      rw (more, at, counted) (subst (λ (n : ℕ). IsIndexed (take i cells ++ c ∷ []) end (set index c.address (n + 1))) long next)
+  pub rank-small : before + below < 2 ^ 32
+  rank-small =
+      let r = rank in
+      let le = count_below-le (has index.there.items) a in
+      let inside = set-within index.there.items a on in
+      let few = is.few in
+      omega arith
 
-  pub step-old : get_or index address 0 ≢ 0 → IsIndexed (take (i + 1) cells) end index
-  step-old full = rw more (indexed-old (take i cells) c end index (subst (λ (a : ℕ). a < end) at step-within) (λ e. full (rw at e)) is)
+  pub rank-number : Some (before + below) ≡ number_at cells a
+  rank-number = number-some cells index.there.items is.rising is.homes a (before + below) on rank
+
+pub push-ranks : (there before : List ℕ) (i total : ℕ) → length before ≡ i → total ≡ count_below (has there) (64 * i) → ((w : ℕ) → w < i → get_or before w 0 ≡ count_below (has there) (64 * w)) → (w : ℕ) → w < i + 1 → get_or (before ++ total ∷ []) w 0 ≡ count_below (has there) (64 * w)
+push-ranks there before i total sized is at w lt = elim (cases_lt w i) [
+  | inl low ↦ get_or_append_left before (total ∷ []) 0 w (omega arith) ∙ at w low
+  | inr from ↦
+      let last : w ≡ length before = omega arith in
+      ap (λ (n : ℕ). get_or (before ++ total ∷ []) n 0) last ∙ get_or_push before total 0 (length before) refl ∙ is ∙ ap (λ (n : ℕ). count_below (has there) (64 * n)) (sym sized ∙ sym last)
+]

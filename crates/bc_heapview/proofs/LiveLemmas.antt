@@ -16,7 +16,7 @@ use Rattle.bc_standing.proofs.Homes.{births-there, one_home, reached_live, live_
 use Rattle.bc_image.specs.Cells.{CellList}
 use Rattle.bc_image.specs.Listings.{ListingLists}
 use Rattle.bc_image.specs.Memories.{number_at, cell_at, cell_of, memory_of}
-use Rattle.bc_heapview.specs.Pictured.{PicturesObjects}
+use Rattle.bc_image.specs.Pictures.{PicturesObjects}
 use Rattle.bc_heapview.specs.Finds.{addresses_of}
 use Rattle.bc_heapview.specs.Backs.{birth_at, WayLeadsTo}
 use Rattle.bc_heapview.specs.Searches.{find_at, FoundBy, IsSearched}

@@ -11,7 +11,7 @@ use Rattle.bc_model.specs.declared.values.Value.TheVariants.{Nil, Obj}
 use Rattle.bc_model.proofs.Needs.{HasPath-reached}
 use Rattle.bc_image.specs.Cells.{CellList}
 use Rattle.bc_image.specs.Listings.{ListingLists}
-use Rattle.bc_heapview.specs.Pictured.{PicturesObjects}
+use Rattle.bc_image.specs.Pictures.{PicturesObjects}
 use Rattle.bc_heapview.specs.Answers.{IsWay, IsLeastWay, IsPathTo, NoWay, fields_of, TellBirths}
 use Rattle.bc_heapview.specs.Backs.{birth_at, go_on, WayLeadsTo, AreSteps, IsWayBack, HasNoFind, IsFoundAt}
 use Rattle.bc_heapview.specs.PathLists.{PathList}

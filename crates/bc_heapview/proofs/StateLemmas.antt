@@ -95,7 +95,7 @@ number-either c cs a k true o here rest h =
     subst (λ (i : ℕ). (cell_at (c ∷ cs) i).address ≡ a) e (here refl)
 number-either c cs a k false o here rest h = number-shifted c cs a k o rest h
 
-number-address : (cells : List CellList) (a k : ℕ) → number_at cells a ≡ Some k → (cell_at cells k).address ≡ a
+pub number-address : (cells : List CellList) (a k : ℕ) → number_at cells a ≡ Some k → (cell_at cells k).address ≡ a
 number-address [] a k e = absurd (let h : None ≡ Some k = e in cc)
 number-address (c ∷ cs) a k e = number-either c cs a k (c.address == a) (number_at cs a) (λ h. eqb-true c.address a h) (λ n h. number-address cs a n h) e
 

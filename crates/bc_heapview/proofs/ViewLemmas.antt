@@ -50,6 +50,7 @@ viewable l is =
       few_slots = omega arith;
       few = few-cells (length l.cells) (2048 * l.setup.superpages) (λ k lt. (let f = far l.cells is.rising k lt in let b = below k lt in omega arith)) (omega arith);
       below = below;
+      rising = is.rising;
       packed = record {
         roots_packed = λ r lt. word-packed l.cells (slice_index l.roots r) homes (number-all (λ n. (n < 2 ^ 64) × IsLinked l.cells (word_of_bits n)) l.roots r lt is.roots);
         fields_packed = λ k i lt in_fields. word-packed l.cells (slice_index (cell_at l.cells k).fields i) homes (number-all (λ n. (n < 2 ^ 64) × IsLinked l.cells (word_of_bits n)) (cell_at l.cells k).fields i in_fields (all-at (IsListed l) l.cells k lt is.cells).fields);

@@ -8,7 +8,7 @@ use Rattle.bc_model.specs.declared.values.Value.{Value}
 use Rattle.bc_model.specs.declared.values.Value.TheVariants.{Nil, Obj}
 use Rattle.bc_image.specs.Listings.{ListingLists}
 use Rattle.bc_heapview.specs.PathLists.{PathList}
-use Rattle.bc_heapview.specs.Targets.{AllPacked}
+use Rattle.bc_heapview.specs.Targets.{AllPacked, Rise}
 use Rattle.bc_image.specs.Homes.{LieBelow}
 use Rattle.bc_heapview.specs.declared.steps.Step.{Step}
 
@@ -57,4 +57,5 @@ pub record IsViewable (l : ListingLists) : Type 0 where
   pub few_slots : length l.roots < 2 ^ 32
   pub few : length l.cells + 1 < 2 ^ 32
   pub below : LieBelow l.cells (2048 * l.setup.superpages)
+  pub rising : Rise l.cells
   pub packed : AllPacked l.roots l.cells

@@ -8,8 +8,6 @@ pub mod Searches
 pub mod PathLists
 -- The way of a find, from its steps
 pub mod Backs
--- What a listing says of a state, as far as an answer asks
-pub mod Pictured
 -- The least way to an object of a state
 pub mod Answers
 -- Where finds lie

@@ -5,7 +5,7 @@ use Rattle.std.specs.Io.KnownBytes.{IsAtEnd}
 use Rattle.bc_image.specs.Faults.{IsFault}
 use Rattle.bc_image.specs.Images.{ImageOf, image_bytes}
 use Rattle.bc_image.specs.Listings.{ListingLists}
-use Rattle.bc_heapview.specs.Pictured.{PicturesObjects}
+use Rattle.bc_image.specs.Pictures.{PicturesObjects}
 use Rattle.bc_image.specs.declared.fault.ImageCause.{ImageCause}
 use Rattle.bc_image.specs.declared.fault.ImageCause.TheVariants.{Rest}
 use Rattle.bc_image.specs.declared.fault.ImageFault.{ImageFault}

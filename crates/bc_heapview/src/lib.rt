@@ -4,7 +4,7 @@
 // `counts` it answers how many objects of each domain and size class the heap's root slots lead to, and how many superpages they
 // need; to `path L S` the shortest way to the object that lane L made as its S-th, the first one among those of its length, or
 // that there is none. Its contract is the theorem: whatever state of the plain heap the image pictures, the counts are that state's,
-// and the way is a least way in that state. Who holds a domain doesn't matter, so frozen domains are answered too (`specs/Pictured`).
+// and the way is a least way in that state. Who holds a domain doesn't matter, so frozen domains are answered too (`PicturesObjects` of bc_image), and each image pictures the objects of a state (`law_pictured`).
 // `specs/Answers` has what a least way is, `specs/Counts` what the counts are,
 // `specs/Views` what each status says, `specs/Questions` which words ask what.
 //
@@ -15,7 +15,8 @@
 // their order. It notes each object once, with where it came from. The order in which objects are found is the order of their least
 // ways, so the first way that leads to an object is its least, and following back where each came from gives the fields. Counts
 // are a tally over what was found. The search takes a few words for each object, and looks at each word of an object once.
-// Which object lies at an address an index says (`index_of`), with four bytes for each word of the superpages, 32 MiB at most.
+// Which object lies at an address an index says (`indexes`): a bit for each address, and how many bits are set before each 64 of them. That is
+// 384 bytes for each superpage of the image. So memory is linear in the objects and the superpages.
 #![tactic(auto)]
 
 mod indexes;

@@ -2,7 +2,7 @@
 
 ghost use Rattle.std.specs.Prelude.{◌≡◌, ℕ, ◌+◌, ◌*◌, ◌^◌, ◌<◌, ◌≤◌, List, length, slice_index, IfOk, MatchOption};
 ghost use Rattle.bc_image.specs.Cells.{CellList};
-ghost use Rattle.bc_heapview.specs.Pictured.{PicturesObjects};
+ghost use Rattle.bc_image.specs.Pictures.{PicturesObjects};
 ghost use Rattle.bc_model.specs.State.{State};
 ghost use Rattle.bc_image.specs.Images.{IsImageListing};
 ghost use Rattle.bc_heapview.specs.Answers.{NoWay, IsPathTo, IsViewable};
@@ -71,7 +71,7 @@ fn way_back(
 
 /// The least way to the object of this birth, or nothing where no root slot leads to it: no way is shorter, and none of its length
 /// comes before it, by domain, slot, and then the fields from the first on. It takes a few words of memory for each object and
-/// address, and time linear in the objects and their words.
+/// superpage, and time linear in the objects and their words.
 pub fn path(alloc: Global, listing: &Listing, birth: Birth) -> Result<Option<Path>, AllocError>
     requires listing { IsImageListing listing.now }
     ensures least { (s : State) → PicturesObjects listing.now s
@@ -88,8 +88,7 @@ fn least_path(alloc: Global, listing: &Listing, birth: Birth) -> Result<Option<P
         → IfOk result (λ found. MatchOption found (NoWay s birth) (λ p. IsPathTo s birth p)) }
     ensures few { IfOk result (λ found. steps_in found ≤ length listing.now.cells) }
 {
-    let end = 2048 * listing.setup.superpages as usize;
-    let index = index_of(alloc, &listing.cells, end)?;
+    let index = index_of(alloc, &listing.cells, listing.setup.superpages)?;
     let found = search(alloc, &index, &listing.roots, &listing.cells)?;
     let entry = match find_of(&found, &listing.cells, birth) {
         Some(entry) => entry,

@@ -7,7 +7,7 @@ ghost use Rattle.bc_image.specs.Memories.{cell_at};
 ghost use Rattle.bc_heapview.specs.Targets.{IsIndex, AllPacked};
 ghost use Rattle.bc_heapview.specs.Searches.{found_after, seen_after, find_at, IsSearched, SlotsNoted, FieldsNoted};
 
-use crate::indexes::target;
+use crate::indexes::{Index, target};
 use bc_image::Cell;
 use std::alloc::{AllocError, Global};
 
@@ -46,7 +46,7 @@ fn note(
 
 /// Takes up what the root slots refer to, in their order.
 fn note_slots(
-    index: &[u32],
+    index: &Index,
     roots: &[u64],
     cells: &[Cell],
     found: &mut Vec<Found>,
@@ -68,7 +68,7 @@ fn note_slots(
 
 /// Takes up what the fields of a find refer to, in their order.
 fn note_fields(
-    index: &[u32],
+    index: &Index,
     fields: &[u64],
     entry: u32,
     cells: &[Cell],
@@ -95,7 +95,7 @@ fn note_fields(
 /// All objects that the root slots lead to, in the order of their least ways.
 pub(crate) fn search(
     alloc: Global,
-    index: &[u32],
+    index: &Index,
     roots: &[u64],
     cells: &[Cell],
 ) -> Result<Vec<Found>, AllocError>

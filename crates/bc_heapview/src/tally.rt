@@ -3,7 +3,7 @@
 ghost use Rattle.std.specs.Prelude.{◌≡◌, ℕ, ◌^◌, ◌<◌, ◌≤◌, ◌++◌, List, length, slice_index_or, IfOk, OnOk};
 ghost use Rattle.bc_classes.specs.ClassNumbers.{IsClass};
 ghost use Rattle.bc_image.specs.Images.{IsImageListing};
-ghost use Rattle.bc_heapview.specs.Pictured.{PicturesObjects};
+ghost use Rattle.bc_image.specs.Pictures.{PicturesObjects};
 ghost use Rattle.bc_model.specs.State.{State};
 ghost use Rattle.bc_heapview.specs.Counts.{AreCounts, AreFewCounts, counts_of, domain_counts, pair_counts, superpages_of};
 ghost use Rattle.bc_heapview.specs.Tallies.{AreCountable, IsPairTally, tally_at};
@@ -34,7 +34,7 @@ pub struct Count {
 }
 
 /// How many objects of each domain and class the root slots lead to: an entry for each pair that has one, by domain and then
-/// by class. It takes a few words of memory for each object and address, and time linear in the objects and their words.
+/// by class. It takes a few words of memory for each object and superpage, and time linear in the objects and their words.
 pub fn counts(alloc: Global, listing: &Listing) -> Result<Vec<Count>, AllocError>
     requires listing { IsImageListing listing.now }
     ensures counts { (s : State) → PicturesObjects listing.now s → IfOk result (λ v. AreCounts s v.items) }
@@ -54,8 +54,7 @@ fn tally_of(alloc: Global, listing: &Listing) -> Result<Vec<u64>, AllocError>
     ensures tally { IfOk result (λ tally. (found : List Found) × IsSearched listing.now.roots listing.now.cells found
         × IsPairTally listing.now.cells found tally.items) }
 {
-    let end = 2048 * listing.setup.superpages as usize;
-    let index = index_of(alloc, &listing.cells, end)?;
+    let index = index_of(alloc, &listing.cells, listing.setup.superpages)?;
     let found = search(alloc, &index, &listing.roots, &listing.cells)?;
     let mut tally = vec![in alloc; 0u64; STRIDE * DOMAINS]?;
     add_up(&mut tally, &found, &listing.cells);

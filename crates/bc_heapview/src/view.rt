@@ -5,7 +5,7 @@ ghost use Rattle.bc_io.specs.Faults.{Rose};
 ghost use Rattle.bc_io.specs.Told.{GivesAtMost, GivesExactly, HasRoom, HeldGrows, IsPrefix};
 ghost use Rattle.bc_image.specs.Images.{ImageOf, IsImageListing};
 ghost use Rattle.bc_image.specs.Listings.{ListingLists};
-ghost use Rattle.bc_heapview.specs.Pictured.{PicturesObjects};
+ghost use Rattle.bc_image.specs.Pictures.{PicturesObjects};
 ghost use Rattle.bc_image.specs.declared.fault.ImageFault.{ImageFault};
 ghost use Rattle.bc_model.specs.State.{State};
 ghost use Rattle.bc_heapview.specs.Questions.{IsQuestionOf};

@@ -87,7 +87,7 @@ made_in m end lanes counts = map (λ j. map (λ s. found_below m (birth_on j s) 
 
 -- ---- lists of numbers
 
-numbers-length : (n : ℕ) → length (numbers_below n) ≡ n
+pub numbers-length : (n : ℕ) → length (numbers_below n) ≡ n
 numbers-length zero = refl
 numbers-length (suc n) = length_push (numbers_below n) n ∙ (let e = numbers-length n in omega arith)
 
@@ -99,7 +99,7 @@ numbers-at (suc n) i lt =
       | inr ge ↦ let same : i ≡ n = omega arith in get_or_push (numbers_below n) n 0 i (numbers-length n ∙ sym same) ∙ sym same
     ]
 
-mapped-at : {X : Type 0} (f : ℕ → X) (n i : ℕ) (d : X) → i < n → get_or (map f (numbers_below n)) i d ≡ f i
+pub mapped-at : {X : Type 0} (f : ℕ → X) (n i : ℕ) (d : X) → i < n → get_or (map f (numbers_below n)) i d ≡ f i
 mapped-at f n i d lt =
     get_or-map_at f (numbers_below n) i d (let e = numbers-length n in omega arith) ∙ ap f (numbers-at n i lt)
   where

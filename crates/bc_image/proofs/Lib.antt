@@ -24,5 +24,11 @@ pub mod LinkLemmas
 pub mod ScanLemmas
 -- States that one image pictures
 pub mod OneImage
+-- Words by the numbers of their items
+pub mod PlaceLemmas
+-- Each listing that an image may have pictures a state
+pub mod Pictured
+-- Keys of births, put in order
+pub mod KeyLemmas
 -- Births that stand twice
 pub mod BirthLemmas

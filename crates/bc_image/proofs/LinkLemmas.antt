@@ -1,23 +1,18 @@
 -- Looking for references to nowhere.
-use Rattle.std.proofs.Common.{◌≡◌, ℕ, ◌+◌, ◌-◌, ◌/◌, ◌<◌, ◌≤◌, ◌==◌, ◌&&◌, ◌||◌, Bool, true, false, if◌then◌else◌, List, [], ◌∷◌, ◌++◌, length, get_or, set, replicate, take, option_map, Option, Some, None, Ok, Err, refl, sym, ◌∙◌, ap, subst, inl, inr, arith, get_or-set_same, get_or-set_other}
+use Rattle.std.proofs.Common.{◌≡◌, ℕ, ◌+◌, ◌*◌, ◌/◌, ◌<◌, ◌≤◌, ◌==◌, ◌||◌, Bool, true, false, if◌then◌else◌, List, [], ◌∷◌, ◌++◌, length, get_or, replicate, take, drop, option_map, Option, Some, None, refl, sym, ◌∙◌, ap, inl, inr, arith}
 use Prim.Native.Nat.{zero, suc}
 use Rattle.std.specs.Option.{is_some}
-use Rattle.std.proofs.lemmas.Bool.{cases_Bool, cases_eq, eq-eqb, ne_eqb}
-use Rattle.std.proofs.lemmas.List.{take_more}
+use Rattle.std.proofs.lemmas.Bool.{cases_eq, eq-eqb, ne_eqb}
+use Rattle.std.proofs.lemmas.List.{get_or_read, take_more}
+use Rattle.bc_bits.specs.Bits.{has}
+use Rattle.bc_bits.specs.BitChanges.{with_bit}
+use Rattle.bc_bits.proofs.BitLemmas.{has-zeros, has-with_bit_same, has-with_bit_other}
 use Rattle.bc_word.specs.Words.{word_of_bits}
-use Rattle.bc_image.specs.Bytes.{item_at}
 use Rattle.bc_image.specs.Cells.{CellList}
-use Rattle.bc_image.specs.Drafts.{ImageDraft, empty_draft, judged, put, IsDraft}
-use Rattle.bc_image.specs.Faults.{is_word, leads_nowhere, linking}
-use Rattle.bc_image.specs.Homes.{TellsHomes, LieBelow}
-use Rattle.bc_image.specs.Items.{is_finished, advanced, first_progress, IsProgress, IsSmallItem}
+use Rattle.bc_image.specs.Faults.{leads_nowhere}
+use Rattle.bc_image.specs.Homes.{HasHomes, LieBelow}
 use Rattle.bc_image.specs.Memories.{number_at, no_cell, cell_at}
-use Rattle.bc_image.specs.Reading.{reading, items_of_all, fault_at}
-use Rattle.bc_image.specs.declared.fault.ImageCause.TheVariants as causes
-use Rattle.bc_image.specs.declared.progress.Progress.{Progress}
-use Rattle.bc_image.proofs.ReadLemmas.{reading-finished, reading-next, draft-kept, judged-passed, empty-is}
-use Rattle.bc_image.proofs.ItemLemmas.{passed-small}
-use Rattle.bc_image.proofs.Running.{went-on, ok-parts, reading-zero, put-progress, linking-none}
+use Rattle.bc_image.specs.Numbered.{numbered, words_below, first_lost}
 
 -- ---- where objects lie
 
@@ -37,13 +32,8 @@ number-push (x ∷ xs) c a = at (x.address == a) (number_at (xs ++ c ∷ []) a) 
     at true o p e = refl
     at false o p e = kept o ∙ e ∙ ap (λ (t : Bool). t || (c.address == a)) (sym (kept p))
 
-bare : (n a : ℕ) → get_or (replicate n false) a false ≡ false
-bare zero a = refl
-bare (suc n) zero = refl
-bare (suc n) (suc a) = bare n a
-
-pub homes-begin : (end : ℕ) (cells : List CellList) → TellsHomes (take 0 cells) (replicate end false)
-homes-begin end cells a = bare end a
+pub homes-begin : (words : ℕ) → HasHomes [] (replicate words 0)
+homes-begin words a = has-zeros words a
 
 or-true : (t : Bool) → true ≡ (t || true)
 or-true true = refl
@@ -53,14 +43,22 @@ or-false : (t : Bool) → t ≡ (t || false)
 or-false true = refl
 or-false false = refl
 
-pub homes-more : (cells : List CellList) (i at : ℕ) (c : CellList) (there : List Bool) → i < length cells → c ≡ cell_at cells i → at ≡ c.address → at < length there → TellsHomes (take i cells) there → TellsHomes (take (i + 1) cells) (set there at true)
-homes-more cells i at c there lt is e inside h a =
-    let more : take (i + 1) cells ≡ take i cells ++ c ∷ [] = take_more cells i no_cell lt ∙ ap (λ (x : CellList). take i cells ++ x ∷ []) (sym is) in
-    let now : is_some (number_at (take (i + 1) cells) a) ≡ (is_some (number_at (take i cells) a) || (c.address == a)) = ap (λ (xs : List CellList). is_some (number_at xs a)) more ∙ number-push (take i cells) c a in
-    (elim (cases_eq a at) [
-      | inl same ↦ ap (λ (k : ℕ). get_or (set there at true) k false) same ∙ get_or-set_same there at true false inside ∙ or-true (is_some (number_at (take i cells) a)) ∙ ap (λ (t : Bool). is_some (number_at (take i cells) a) || t) (sym (eq-eqb c.address a (sym e ∙ sym same))) ∙ sym now
-      | inr ne ↦ get_or-set_other there at a true false ne ∙ h a ∙ or-false (is_some (number_at (take i cells) a)) ∙ ap (λ (t : Bool). is_some (number_at (take i cells) a) || t) (sym (ne_eqb c.address a (λ q. ne (sym q ∙ sym e)))) ∙ sym now
-    ])
+-- a step of the loop over the objects
+module _ (cells : List CellList) (i : ℕ) (c : CellList) (at : ℕ) (lt : i < length cells) (item : c ≡ get_or cells i c) (at_is : at ≡ c.address) where
+  pub home-below : (words : ℕ) → LieBelow cells (64 * words) → at < 64 * words
+  home-below words below =
+      let h = below i lt in
+      let same : (cell_at cells i).address ≡ c.address = ap (λ (x : CellList). x.address) (sym (get_or_read cells i c lt item no_cell)) in
+      omega arith
+
+  pub homes-more : (there : List ℕ) → at < 64 * length there → HasHomes (take i cells) there → HasHomes (take (i + 1) cells) (with_bit there at)
+  homes-more there inside h a =
+      let more : take (i + 1) cells ≡ take i cells ++ c ∷ [] = take_more cells i c lt ∙ ap (λ (x : CellList). take i cells ++ x ∷ []) (sym item) in
+      let now : is_some (number_at (take (i + 1) cells) a) ≡ (is_some (number_at (take i cells) a) || (c.address == a)) = ap (λ (xs : List CellList). is_some (number_at xs a)) more ∙ number-push (take i cells) c a in
+      (elim (cases_eq a at) [
+        | inl same ↦ ap (has (with_bit there at)) same ∙ has-with_bit_same there at inside ∙ or-true (is_some (number_at (take i cells) a)) ∙ ap (λ (t : Bool). is_some (number_at (take i cells) a) || t) (sym (eq-eqb c.address a (sym at_is ∙ sym same))) ∙ sym now
+        | inr ne ↦ has-with_bit_other there at a ne ∙ h a ∙ or-false (is_some (number_at (take i cells) a)) ∙ ap (λ (t : Bool). is_some (number_at (take i cells) a) || t) (sym (ne_eqb c.address a (λ q. ne (sym q ∙ sym at_is)))) ∙ sym now
+      ])
 
 pub below-more : (cells : List CellList) (i at end more : ℕ) (c : CellList) → c ≡ cell_at cells i → at ≡ c.address → at < more → end ≤ more → ((k : ℕ) → k < i → (cell_at cells k).address < end) → (k : ℕ) → k < i + 1 → (cell_at cells k).address < more
 below-more cells i at end more c is e lt le h k less = elim (cases_eq k i) [
@@ -68,81 +66,91 @@ below-more cells i at end more c is e lt le h k less = elim (cases_eq k i) [
   | inr ne ↦ (let f = h k (omega arith) in omega arith)
 ]
 
--- ---- the walk over the items
+pub below-words : (cells : List CellList) (end : ℕ) → LieBelow cells end → LieBelow cells (64 * (end / 64 + 1))
+below-words cells end below k lt = let h = below k lt in omega arith
 
-pub record IsLinking (bytes : List ℕ) (cells : List CellList) (p : Progress) (number count : ℕ) : Type 0 where
-  pub now : ImageDraft
-  pub last : ImageDraft
-  pub is : p ≡ now.progress
-  pub draft_is : IsDraft now
-  pub so_far : reading bytes now number (length bytes / 8 - number) ≡ Ok (last, count)
-  pub links : linking bytes cells p number (count - number) ≡ linking bytes cells first_progress 0 count
+-- ---- the first word that leads nowhere
 
-pub link-begin : (bytes : List ℕ) (cells : List CellList) (d : ImageDraft) (count : ℕ) → items_of_all bytes ≡ Ok (d, count) → IsLinking bytes cells first_progress 0 count
-link-begin bytes cells d count read = record {
-  now = empty_draft;
-  last = d;
-  is = refl;
-  draft_is = empty-is;
-  so_far = ap (reading bytes empty_draft 0) (omega arith) ∙ read;
-  links = ap (linking bytes cells first_progress 0) (omega arith);
-}
+lost-front : (cells : List CellList) (xs ys : List (ℕ × ℕ)) (n : ℕ) → first_lost cells xs ≡ Some n → first_lost cells (xs ++ ys) ≡ Some n
+lost-front cells [] ys n e = absurd (let bad : None ≡ Some n = e in cc)
+lost-front cells (x ∷ xs) ys n e = by (leads_nowhere cells (word_of_bits x.1)) e (lost-front cells xs ys n)
+  where
+    by : (t : Bool) → (if t then Some x.0 else first_lost cells xs) ≡ Some n → (first_lost cells xs ≡ Some n → first_lost cells (xs ++ ys) ≡ Some n) → (if t then Some x.0 else first_lost cells (xs ++ ys)) ≡ Some n
+    by true h rest = h
+    by false h rest = rest h
 
-link-step : (bytes : List ℕ) (left : ℕ) (d e : ImageDraft) (number count : ℕ) → number < count → reading bytes d number left ≡ Ok (e, count) → (judged d (item_at bytes number) ≡ None) × (reading bytes (put d (item_at bytes number)) (number + 1) (left - 1) ≡ Ok (e, count))
-link-step bytes left d e number count lt read = elim (cases_Bool (is_finished d.progress.stage)) [
-  | inl is ↦ absurd (let q : number ≡ count = (ok-parts d e number count (sym (reading-finished bytes d number left is) ∙ read)).1 in omega arith)
-  | inr isnt ↦ by left isnt read
+pub lost-behind : (cells : List CellList) (xs ys : List (ℕ × ℕ)) → first_lost cells xs ≡ None → first_lost cells (xs ++ ys) ≡ first_lost cells ys
+lost-behind cells [] ys e = refl
+lost-behind cells (x ∷ xs) ys e = by (leads_nowhere cells (word_of_bits x.1)) e (lost-behind cells xs ys)
+  where
+    by : (t : Bool) → (if t then Some x.0 else first_lost cells xs) ≡ None → (first_lost cells xs ≡ None → first_lost cells (xs ++ ys) ≡ first_lost cells ys) → (if t then Some x.0 else first_lost cells (xs ++ ys)) ≡ first_lost cells ys
+    by true h rest = absurd (let bad : Some x.0 ≡ None = h in cc)
+    by false h rest = rest h
+
+pub lost-first : (cells : List CellList) (xs ys : List (ℕ × ℕ)) (n : ℕ) → Some n ≡ first_lost cells xs → Some n ≡ first_lost cells (xs ++ ys)
+lost-first cells xs ys n e = sym (lost-front cells xs ys n (sym e))
+
+drop-one : (ws : List ℕ) (i : ℕ) → i < length ws → drop i ws ≡ get_or ws i 0 ∷ drop (i + 1) ws
+drop-one [] i lt = absurd (omega arith)
+drop-one (w ∷ ws) zero lt = refl
+drop-one (w ∷ ws) (suc i) lt = drop-one ws i (omega arith) ∙ ap (λ (n : ℕ). get_or ws i 0 ∷ drop n (w ∷ ws)) (let e : suc (i + 1) ≡ suc i + 1 = omega arith in e)
+
+drop-end : (ws : List ℕ) (i : ℕ) → length ws ≤ i → drop i ws ≡ []
+drop-end [] zero le = refl
+drop-end [] (suc i) le = refl
+drop-end (w ∷ ws) zero le = absurd (omega arith)
+drop-end (w ∷ ws) (suc i) le = drop-end ws i (omega arith)
+
+-- the words from a place on
+abbrev pub IsLooking : List CellList → ℕ → List ℕ → ℕ → Type 0
+IsLooking cells number words place = first_lost cells (numbered number words) ≡ first_lost cells (numbered (number + place) (drop place words))
+
+pub looking-begin : (cells : List CellList) (number : ℕ) (words : List ℕ) → IsLooking cells number words 0
+looking-begin cells number words = ap (λ (n : ℕ). first_lost cells (numbered n words)) (let e : number ≡ number + 0 = omega arith in e)
+
+looking-here : (cells : List CellList) (number : ℕ) (words : List ℕ) (place : ℕ) → place < length words → IsLooking cells number words place
+    → first_lost cells (numbered number words) ≡ (if leads_nowhere cells (word_of_bits (get_or words place 0)) then Some (number + place) else first_lost cells (numbered (number + place + 1) (drop (place + 1) words)))
+looking-here cells number words place lt h = h ∙ ap (λ (ws : List ℕ). first_lost cells (numbered (number + place) ws)) (drop-one words place lt)
+
+pub looking-found : (cells : List CellList) (number : ℕ) (words : List ℕ) (place : ℕ) → place < length words → IsLooking cells number words place → leads_nowhere cells (word_of_bits (get_or words place 0)) ≡ true → Some (number + place) ≡ first_lost cells (numbered number words)
+looking-found cells number words place lt h lost = sym (looking-here cells number words place lt h ∙ ap (λ (t : Bool). if t then Some (number + place) else first_lost cells (numbered (number + place + 1) (drop (place + 1) words))) lost)
+
+pub looking-more : (cells : List CellList) (number : ℕ) (words : List ℕ) (place : ℕ) → place < length words → IsLooking cells number words place → leads_nowhere cells (word_of_bits (get_or words place 0)) ≡ false → IsLooking cells number words (place + 1)
+looking-more cells number words place lt h kept =
+    looking-here cells number words place lt h ∙ ap (λ (t : Bool). if t then Some (number + place) else first_lost cells (numbered (number + place + 1) (drop (place + 1) words))) kept
+    ∙ ap (λ (n : ℕ). first_lost cells (numbered n (drop (place + 1) words))) (let e : number + place + 1 ≡ number + (place + 1) = omega arith in e)
+
+pub looking-end : (cells : List CellList) (number : ℕ) (words : List ℕ) (place : ℕ) → length words ≤ place → IsLooking cells number words place → None ≡ first_lost cells (numbered number words)
+looking-end cells number words place le h = sym (h ∙ ap (λ (ws : List ℕ). first_lost cells (numbered (number + place) ws)) (drop-end words place le))
+
+-- the fields of the first so many objects lead somewhere
+pub fields-more : (all : List CellList) (heads : List ℕ) (cells : List CellList) (k : ℕ) (fields : List ℕ) (first : ℕ) → fields ≡ (cell_at cells k).fields → first ≡ get_or heads k 0 + 1 → first_lost all (words_below heads cells k) ≡ None → None ≡ first_lost all (numbered first fields) → first_lost all (words_below heads cells (k + 1)) ≡ None
+fields-more all heads cells k fields first fields_are first_is so_far none =
+    ap (λ (n : ℕ). first_lost all (words_below heads cells n)) (let e : k + 1 ≡ suc k = omega arith in e)
+    ∙ lost-behind all (words_below heads cells k) (numbered (get_or heads k 0 + 1) (cell_at cells k).fields) so_far
+    ∙ ap (λ (n : ℕ). first_lost all (numbered n (cell_at cells k).fields)) (sym first_is) ∙ ap (λ (ws : List ℕ). first_lost all (numbered first ws)) (sym fields_are) ∙ sym none
+
+fields-stay : (all : List CellList) (heads : List ℕ) (cells : List CellList) (k m n : ℕ) → k ≤ m → first_lost all (words_below heads cells k) ≡ Some n → first_lost all (words_below heads cells m) ≡ Some n
+fields-stay all heads cells k zero n le e = ap (λ (i : ℕ). first_lost all (words_below heads cells i)) (let f : zero ≡ k = omega arith in f) ∙ e
+fields-stay all heads cells k (suc m) n le e = elim (cases_eq k (suc m)) [
+  | inl same ↦ ap (λ (i : ℕ). first_lost all (words_below heads cells i)) (sym same) ∙ e
+  | inr ne ↦ lost-front all (words_below heads cells m) (numbered (get_or heads m 0 + 1) (cell_at cells m).fields) n (fields-stay all heads cells k m n (lower k m ne le) e)
 ]
   where
-    by : (n : ℕ) → is_finished d.progress.stage ≡ false → reading bytes d number n ≡ Ok (e, count) → (judged d (item_at bytes number) ≡ None) × (reading bytes (put d (item_at bytes number)) (number + 1) (n - 1) ≡ Ok (e, count))
-    by zero isnt h = absurd (let c : Err (fault_at number causes.Short) ≡ Ok (e, count) = sym (reading-zero bytes d number isnt) ∙ h in cc)
-    by (suc n) isnt h =
-        let on = went-on number (judged d (item_at bytes number)) (reading bytes (put d (item_at bytes number)) (number + 1) n) e count (sym (reading-next bytes d number n isnt) ∙ h) in
-        let less : suc n - 1 ≡ n = omega arith in
-        (on.0, ap (reading bytes (put d (item_at bytes number)) (number + 1)) less ∙ on.1)
+    lower : (x y : ℕ) → (x ≡ suc y → ⊥) → x ≤ suc y → x ≤ y
+    lower zero y ne le = omega arith
+    lower (suc zero) zero ne le = absurd (ne refl)
+    lower (suc (suc x)) zero ne le = absurd (omega arith)
+    lower (suc x) (suc y) ne le = let r = lower x y (λ q. ne (ap suc q)) (omega arith) in omega arith
 
-module _ (bytes : List ℕ) (cells : List CellList) (p : Progress) (number count : ℕ) (r : IsLinking bytes cells p number count) where
-  step : number < count → (judged r.now (item_at bytes number) ≡ None) × (reading bytes (put r.now (item_at bytes number)) (number + 1) (length bytes / 8 - number - 1) ≡ Ok (r.last, count))
-  step lt = link-step bytes (length bytes / 8 - number) r.now r.last number count lt r.so_far
+pub fields-found : (all : List CellList) (heads : List ℕ) (cells : List CellList) (k : ℕ) (fields : List ℕ) (first number : ℕ) → k < length cells → fields ≡ (cell_at cells k).fields → first ≡ get_or heads k 0 + 1 → first_lost all (words_below heads cells k) ≡ None → Some number ≡ first_lost all (numbered first fields) → Some number ≡ first_lost all (words_below heads cells (length cells))
+fields-found all heads cells k fields first number lt fields_are first_is so_far found =
+    sym (fields-stay all heads cells (suc k) (length cells) number (omega arith)
+    (lost-behind all (words_below heads cells k) (numbered (get_or heads k 0 + 1) (cell_at cells k).fields) so_far
+    ∙ ap (λ (n : ℕ). first_lost all (numbered n (cell_at cells k).fields)) (sym first_is) ∙ ap (λ (ws : List ℕ). first_lost all (numbered first ws)) (sym fields_are) ∙ sym found))
 
-  pub link-progress : IsProgress p
-  link-progress = subst IsProgress (sym r.is) r.draft_is.progress
-
-  pub link-small : (bits : ℕ) → bits ≡ item_at bytes number → number < count → IsSmallItem p.stage bits
-  link-small bits e lt =
-      let s = step lt in
-      subst (λ (n : ℕ). IsSmallItem p.stage n) (sym e) (subst (λ (x : Progress). IsSmallItem x.stage (item_at bytes number)) (sym r.is)
-      (passed-small r.now.progress.stage r.now.progress r.now.births (item_at bytes number) r.draft_is.progress.bounded (judged-passed r.now (item_at bytes number) s.0)))
-
-  pub link-found : (bits : ℕ) → bits ≡ item_at bytes number → number < count → (is_word p.stage && leads_nowhere cells (word_of_bits bits)) ≡ true → Some number ≡ linking bytes cells first_progress 0 count
-  unfolding linking
-  link-found bits e lt lost =
-      let here : (is_word p.stage && leads_nowhere cells (word_of_bits (item_at bytes number))) ≡ true = subst (λ (n : ℕ). (is_word p.stage && leads_nowhere cells (word_of_bits n)) ≡ true) e lost in
-      let left : count - number ≡ suc (count - (number + 1)) = omega arith in
-      sym (sym r.links ∙ ap (linking bytes cells p number) left ∙ rw here refl)
-
-  pub link-end : count ≤ number → None ≡ linking bytes cells first_progress 0 count
-  link-end le =
-      let left : count - number ≡ 0 = omega arith in
-      sym (sym r.links ∙ ap (linking bytes cells p number) left ∙ linking-none bytes cells p number)
-
-  pub link-more : (bits : ℕ) (q : Progress) → bits ≡ item_at bytes number → number < count → (is_word p.stage && leads_nowhere cells (word_of_bits bits)) ≡ false → q ≡ advanced p bits → IsLinking bytes cells q (number + 1) count
-  unfolding linking
-  link-more bits q e lt kept on =
-      let s = step lt in
-      let n : ℕ = item_at bytes number in
-      let here : (is_word p.stage && leads_nowhere cells (word_of_bits n)) ≡ false = subst (λ (k : ℕ). (is_word p.stage && leads_nowhere cells (word_of_bits k)) ≡ false) e kept in
-      let left : count - number ≡ suc (count - (number + 1)) = omega arith in
-      let q_is : q ≡ advanced p n = on ∙ ap (advanced p) e in
-      let skipped : linking bytes cells p number (suc (count - (number + 1))) ≡ linking bytes cells (advanced p n) (number + 1) (count - (number + 1)) = rw here refl in
-      record {
-        now = put r.now n;
-        last = r.last;
-        is = q_is ∙ ap (λ (x : Progress). advanced x n) r.is ∙ sym (put-progress r.now n);
-        draft_is = draft-kept r.now n r.draft_is s.0;
-        so_far = ap (reading bytes (put r.now n) (number + 1)) (let g : length bytes / 8 - (number + 1) ≡ length bytes / 8 - number - 1 = omega arith in g) ∙ s.1;
-        links = ap (λ (x : Progress). linking bytes cells x (number + 1) (count - (number + 1))) q_is ∙ sym skipped ∙ ap (linking bytes cells p number) (sym left) ∙ r.links;
-      }
+pub fields-end : (all : List CellList) (heads : List ℕ) (cells : List CellList) (k : ℕ) → length cells ≤ k → k ≤ length cells → first_lost all (words_below heads cells k) ≡ None → None ≡ first_lost all (words_below heads cells (length cells))
+fields-end all heads cells k ge le none = sym (ap (λ (n : ℕ). first_lost all (words_below heads cells n)) (let e : length cells ≡ k = omega arith in e) ∙ none)
 
 -- ---- an item of a list
 
@@ -153,6 +161,3 @@ item-here cells i c lt e = e ∙ get_or_default cells i c no_cell lt
     get_or_default [] k x y h = absurd (omega arith)
     get_or_default (z ∷ zs) zero x y h = refl
     get_or_default (z ∷ zs) (suc k) x y h = get_or_default zs k x y (omega arith)
-
-pub item-below : (cells : List CellList) (i at end : ℕ) (c : CellList) → c ≡ cell_at cells i → at ≡ c.address → i < length cells → LieBelow cells end → at < end
-item-below cells i at end c is e lt below = let h = below i lt in let f : at ≡ (cell_at cells i).address = e ∙ ap (λ (x : CellList). x.address) is in omega arith

@@ -1,21 +1,28 @@
 -- Reading, item by item.
-use Rattle.std.proofs.Common.{◌≡◌, ℕ, ◌+◌, ◌-◌, ◌*◌, ◌/◌, ◌%◌, ◌==◌, [], ◌∷◌, ◌++◌, ◌<◌, ◌≤◌, Bool, true, false, if◌then◌else◌, List, length, Option, Some, None, Ok, Err, refl, sym, ◌∙◌, ap, subst, arith}
+use Rattle.std.proofs.Common.{◌≡◌, ℕ, ◌+◌, ◌-◌, ◌*◌, ◌/◌, ◌%◌, ◌^◌, ◌==◌, [], ◌∷◌, ◌++◌, ◌<◌, ◌≤◌, Bool, true, false, if◌then◌else◌, List, length, get_or, map, Option, Some, None, Ok, Err, refl, sym, ◌∙◌, ap, subst, arith}
 use Prim.Native.Nat.{zero, suc}
 use Rattle.bc_image.specs.Bytes.{item_at}
 use Rattle.std.proofs.lemmas.Bool.{eqb-true}
-use Rattle.std.proofs.lemmas.List.{length_push}
+use Rattle.std.proofs.lemmas.List.{length_push, length-map}
 use Rattle.bc_word.specs.Heads.{head_of_bits}
 use Rattle.bc_image.specs.Drafts.{ImageDraft, empty_draft, judged, put, put_at, finished_object, birth_bits, is_twice_at, born_with, ShowsLists, IsDraft, HasBirths}
-use Rattle.bc_image.specs.Items.{is_finished, IsBoundedProgress, IsSmallItem, passes, passes_at, cause_of, advanced, advanced_at, superpage_ended, object_ended, field_stood}
+use Rattle.bc_image.specs.Items.{is_finished, IsBoundedProgress, IsSmallItem, passes, passes_at, cause_of, advanced, advanced_at, first_progress, superpage_ended, object_ended, field_stood}
 use Rattle.bc_image.specs.declared.progress.Progress.{Progress}
 use Rattle.bc_image.specs.declared.progress.Stage.{Stage}
 use Rattle.bc_image.proofs.ItemLemmas.{progress-kept, passed-small}
-use Rattle.bc_image.specs.Births.{placed, passing, all_passing}
+use Rattle.bc_image.specs.Numbered.{numbered, word_at, words_from, words_below, draft_words, HasWords}
+use Rattle.bc_image.proofs.PlaceLemmas.{IsPlaced, Stepped, heads_with, put-step, empty-placed, placed-few, joined-words, no-words}
+use Rattle.bc_image.specs.Births.{placed, passing, all_passing, head_at, heads_from, outcome_of, ShowsHeads, HasPassed}
 use Rattle.bc_image.specs.Reading.{fault_at, go_on, reading}
 use Rattle.bc_image.specs.declared.draft.Draft.{Draft}
 use Rattle.bc_image.specs.declared.fault.ImageCause.{ImageCause}
 use Rattle.bc_image.specs.declared.fault.ImageCause.TheVariants as causes
 use Rattle.bc_image.specs.declared.progress.Stage.TheVariants as stages
+
+-- an address owes a head
+abbrev pub owed : Stage → ℕ
+owed stages.Head = 1
+owed _ = 0
 
 -- so many of the items were read
 pub record IsReading (bytes : List ℕ) (draft : Draft) (number count : ℕ) : Type 0 where
@@ -23,6 +30,12 @@ pub record IsReading (bytes : List ℕ) (draft : Draft) (number count : ℕ) : T
   pub shows : ShowsLists draft now
   pub draft_is : IsDraft now
   pub so_far : passing bytes now number (count - number) ≡ all_passing bytes
+  pub hs : List (ℕ × ℕ)
+  pub heads : ShowsHeads draft hs
+  pub all : (left : ℕ) → hs ++ heads_from bytes now.progress number left ≡ heads_from bytes first_progress 0 (number + left)
+  pub few : 2 * length hs + owed now.progress.stage ≤ number
+  pub placed : IsPlaced now.progress.stage number (map (λ (h : ℕ × ℕ). h.0) hs) now
+  pub words : (left : ℕ) → draft_words (map (λ (h : ℕ × ℕ). h.0) hs) now ++ words_from bytes now.progress number left ≡ words_from bytes first_progress 0 (number + left)
 
 pub reading-finished : (bytes : List ℕ) (d : ImageDraft) (number left : ℕ) → is_finished d.progress.stage ≡ true → reading bytes d number left ≡ Ok (d, number)
 unfolding reading
@@ -157,46 +170,254 @@ empty-is = record {
   births = refl;
 }
 
-pub read-begin : (bytes : List ℕ) (draft : Draft) → ShowsLists draft empty_draft → IsReading bytes draft 0 (length bytes / 8)
-read-begin bytes draft shows = record {
+-- ---- heads are at most half of the items
+
+owed-le : (st : Stage) → owed st ≤ 1
+owed-le stages.Head = omega arith
+owed-le stages.Magic = omega arith
+owed-le stages.Version = omega arith
+owed-le stages.Lanes = omega arith
+owed-le stages.Domains = omega arith
+owed-le stages.Slots = omega arith
+owed-le stages.Superpages = omega arith
+owed-le stages.Nursery = omega arith
+owed-le stages.Buffer = omega arith
+owed-le stages.Frames = omega arith
+owed-le stages.Phases = omega arith
+owed-le stages.Holder = omega arith
+owed-le stages.Birth = omega arith
+owed-le stages.Root = omega arith
+owed-le stages.Pair = omega arith
+owed-le stages.Count = omega arith
+owed-le stages.Address = omega arith
+owed-le stages.Field = omega arith
+owed-le stages.Finished = omega arith
+
+owed-if : (t : Bool) (x y : Progress) → owed x.stage ≡ 0 → owed y.stage ≡ 0 → (let q : Progress = if t then x else y in owed q.stage) ≡ 0
+owed-if true x y h k = h
+owed-if false x y h k = k
+
+owed-ended : (p : Progress) (t : Bool) → (let q : Progress = record p { superpage = p.superpage + 1; stage = if t then stages.Finished else stages.Pair } in owed q.stage) ≡ 0
+owed-ended p true = refl
+owed-ended p false = refl
+
+owed-object : (p : Progress) → owed (object_ended p).stage ≡ 0
+owed-object p =
+    let q : Progress = record p { left = p.left - 1; least = p.address + p.class; stage = stages.Address } in
+    owed-if (p.left - 1 == 0) (superpage_ended q) q (owed-ended q (q.superpage + 1 == q.setup.superpages)) refl
+
+owed-head : (p : Progress) (n : ℕ) → owed (advanced_at stages.Head p n).stage ≡ 0
+owed-head p n =
+    let q : Progress = record p { fields = n % 128; stage = stages.Field } in
+    owed-if (n % 128 == 0) (object_ended q) q (owed-object q) refl
+
+owed-more : (st : Stage) (p : Progress) (number n : ℕ) → 2 * length (head_at st number n) + owed (advanced_at st p n).stage ≤ owed st + 1
+owed-more stages.Head p number n = (let h = owed-head p n in omega arith)
+owed-more stages.Magic p number n = (let h = owed-le (advanced_at stages.Magic p n).stage in omega arith)
+owed-more stages.Version p number n = (let h = owed-le (advanced_at stages.Version p n).stage in omega arith)
+owed-more stages.Lanes p number n = (let h = owed-le (advanced_at stages.Lanes p n).stage in omega arith)
+owed-more stages.Domains p number n = (let h = owed-le (advanced_at stages.Domains p n).stage in omega arith)
+owed-more stages.Slots p number n = (let h = owed-le (advanced_at stages.Slots p n).stage in omega arith)
+owed-more stages.Superpages p number n = (let h = owed-le (advanced_at stages.Superpages p n).stage in omega arith)
+owed-more stages.Nursery p number n = (let h = owed-le (advanced_at stages.Nursery p n).stage in omega arith)
+owed-more stages.Buffer p number n = (let h = owed-le (advanced_at stages.Buffer p n).stage in omega arith)
+owed-more stages.Frames p number n = (let h = owed-le (advanced_at stages.Frames p n).stage in omega arith)
+owed-more stages.Phases p number n = (let h = owed-le (advanced_at stages.Phases p n).stage in omega arith)
+owed-more stages.Holder p number n = (let h = owed-le (advanced_at stages.Holder p n).stage in omega arith)
+owed-more stages.Birth p number n = (let h = owed-le (advanced_at stages.Birth p n).stage in omega arith)
+owed-more stages.Root p number n = (let h = owed-le (advanced_at stages.Root p n).stage in omega arith)
+owed-more stages.Pair p number n = (let h = owed-le (advanced_at stages.Pair p n).stage in omega arith)
+owed-more stages.Count p number n = (let h = owed-le (advanced_at stages.Count p n).stage in omega arith)
+owed-more stages.Address p number n = (let h = owed-le (advanced_at stages.Address p n).stage in omega arith)
+owed-more stages.Field p number n = (let h = owed-le (advanced_at stages.Field p n).stage in omega arith)
+owed-more stages.Finished p number n = (let h = owed-le (advanced_at stages.Finished p n).stage in omega arith)
+
+put-owed : (d : ImageDraft) (number n : ℕ) → 2 * length (head_at d.progress.stage number n) + owed (put d n).progress.stage ≤ owed d.progress.stage + 1
+unfolding put advanced
+put-owed d number n = owed-more d.progress.stage d.progress number n
+
+joined : {X : Type 0} (xs ys : List X) → length (xs ++ ys) ≡ length xs + length ys
+joined [] ys = (let e : length ys ≡ 0 + length ys = omega arith in e)
+joined (x ∷ xs) ys = (let h = joined xs ys in omega arith)
+
+heads-joined : (xs ys zs : List (ℕ × ℕ)) → (xs ++ ys) ++ zs ≡ xs ++ (ys ++ zs)
+heads-joined [] ys zs = refl
+heads-joined (x ∷ xs) ys zs = ap (λ (hs : List (ℕ × ℕ)). x ∷ hs) (heads-joined xs ys zs)
+
+heads-nil : (xs : List (ℕ × ℕ)) → xs ++ [] ≡ xs
+heads-nil [] = refl
+heads-nil (x ∷ xs) = ap (λ (hs : List (ℕ × ℕ)). x ∷ hs) (heads-nil xs)
+
+heads-none : (bytes : List ℕ) (p : Progress) (number : ℕ) → heads_from bytes p number 0 ≡ []
+unfolding heads_from
+heads-none bytes p number = refl
+
+heads-next : (bytes : List ℕ) (d : ImageDraft) (number left : ℕ) → head_at d.progress.stage number (item_at bytes number) ++ heads_from bytes (put d (item_at bytes number)).progress (number + 1) left ≡ heads_from bytes d.progress number (suc left)
+unfolding heads_from put
+heads-next bytes d number left = refl
+
+heads-map : (hs : List (ℕ × ℕ)) (h : ℕ × ℕ) → map (λ (x : ℕ × ℕ). x.0) hs ++ h.0 ∷ [] ≡ map (λ (x : ℕ × ℕ). x.0) (hs ++ h ∷ [])
+heads-map [] h = refl
+heads-map (x ∷ hs) h = ap (λ (ns : List ℕ). x.0 ∷ ns) (heads-map hs h)
+
+none-map : (hs : List (ℕ × ℕ)) → map (λ (x : ℕ × ℕ). x.0) hs ≡ map (λ (x : ℕ × ℕ). x.0) (hs ++ [])
+none-map hs = ap (map (λ (x : ℕ × ℕ). x.0)) (sym (heads-nil hs))
+
+-- the numbers of the heads, with an item that may be one
+with-head : (st : Stage) (hs : List (ℕ × ℕ)) (number n : ℕ) → heads_with st (map (λ (x : ℕ × ℕ). x.0) hs) number ≡ map (λ (x : ℕ × ℕ). x.0) (hs ++ head_at st number n)
+with-head stages.Head hs number n = heads-map hs (number, birth_bits n)
+with-head stages.Magic hs number n = none-map hs
+with-head stages.Version hs number n = none-map hs
+with-head stages.Lanes hs number n = none-map hs
+with-head stages.Domains hs number n = none-map hs
+with-head stages.Slots hs number n = none-map hs
+with-head stages.Superpages hs number n = none-map hs
+with-head stages.Nursery hs number n = none-map hs
+with-head stages.Buffer hs number n = none-map hs
+with-head stages.Frames hs number n = none-map hs
+with-head stages.Phases hs number n = none-map hs
+with-head stages.Holder hs number n = none-map hs
+with-head stages.Birth hs number n = none-map hs
+with-head stages.Root hs number n = none-map hs
+with-head stages.Pair hs number n = none-map hs
+with-head stages.Count hs number n = none-map hs
+with-head stages.Address hs number n = none-map hs
+with-head stages.Field hs number n = none-map hs
+with-head stages.Finished hs number n = none-map hs
+
+words-next : (bytes : List ℕ) (d : ImageDraft) (number left : ℕ) → word_at d.progress.stage number (item_at bytes number) ++ words_from bytes (put d (item_at bytes number)).progress (number + 1) left ≡ words_from bytes d.progress number (suc left)
+unfolding words_from put
+words-next bytes d number left = refl
+
+words-none : (bytes : List ℕ) (p : Progress) (number : ℕ) → words_from bytes p number 0 ≡ []
+unfolding words_from
+words-none bytes p number = refl
+
+placed-finished : (st : Stage) (number : ℕ) (heads : List ℕ) (d : ImageDraft) → is_finished st ≡ true → IsPlaced st number heads d → IsPlaced stages.Finished number heads d
+placed-finished stages.Finished number heads d is h = h
+placed-finished stages.Magic number heads d is h = absurd (let bad : false ≡ true = is in cc)
+placed-finished stages.Version number heads d is h = absurd (let bad : false ≡ true = is in cc)
+placed-finished stages.Lanes number heads d is h = absurd (let bad : false ≡ true = is in cc)
+placed-finished stages.Domains number heads d is h = absurd (let bad : false ≡ true = is in cc)
+placed-finished stages.Slots number heads d is h = absurd (let bad : false ≡ true = is in cc)
+placed-finished stages.Superpages number heads d is h = absurd (let bad : false ≡ true = is in cc)
+placed-finished stages.Nursery number heads d is h = absurd (let bad : false ≡ true = is in cc)
+placed-finished stages.Buffer number heads d is h = absurd (let bad : false ≡ true = is in cc)
+placed-finished stages.Frames number heads d is h = absurd (let bad : false ≡ true = is in cc)
+placed-finished stages.Phases number heads d is h = absurd (let bad : false ≡ true = is in cc)
+placed-finished stages.Holder number heads d is h = absurd (let bad : false ≡ true = is in cc)
+placed-finished stages.Birth number heads d is h = absurd (let bad : false ≡ true = is in cc)
+placed-finished stages.Root number heads d is h = absurd (let bad : false ≡ true = is in cc)
+placed-finished stages.Pair number heads d is h = absurd (let bad : false ≡ true = is in cc)
+placed-finished stages.Count number heads d is h = absurd (let bad : false ≡ true = is in cc)
+placed-finished stages.Address number heads d is h = absurd (let bad : false ≡ true = is in cc)
+placed-finished stages.Head number heads d is h = absurd (let bad : false ≡ true = is in cc)
+placed-finished stages.Field number heads d is h = absurd (let bad : false ≡ true = is in cc)
+
+-- the words of a draft that is whole
+whole-words : (heads : List ℕ) (d : ImageDraft) → d.fields ≡ [] → draft_words heads d ≡ numbered (10 + length d.holders + length d.births) d.roots ++ words_below heads d.cells (length d.cells)
+whole-words heads d none =
+    ap (λ (fs : List ℕ). numbered (10 + length d.holders + length d.births) d.roots ++ (words_below heads d.cells (length d.cells) ++ numbered (get_or heads (length d.cells) 0 + 1) fs)) none
+    ∙ ap (λ (ws : List (ℕ × ℕ)). numbered (10 + length d.holders + length d.births) d.roots ++ ws) (no-words (words_below heads d.cells (length d.cells)))
+
+-- ---- the pass over the items
+
+pub read-begin : (bytes : List ℕ) (draft : Draft) → ShowsLists draft empty_draft → ShowsHeads draft [] → IsReading bytes draft 0 (length bytes / 8)
+read-begin bytes draft shows heads = record {
   now = empty_draft;
   shows = shows;
   draft_is = empty-is;
   so_far = ap (λ (n : ℕ). passing bytes empty_draft 0 n) (omega arith);
+  hs = [];
+  heads = heads;
+  all = λ left. ap (heads_from bytes first_progress 0) (let e : left ≡ 0 + left = omega arith in e);
+  few = omega arith;
+  placed = empty-placed;
+  words = λ left. ap (words_from bytes first_progress 0) (let e : left ≡ 0 + left = omega arith in e);
 }
 
-pub read-end : (bytes : List ℕ) (draft : Draft) (number count : ℕ) → (r : IsReading bytes draft number count) → is_finished draft.progress.stage ≡ true → (d : ImageDraft) × ShowsLists draft d × (all_passing bytes ≡ Ok (d, number))
-read-end bytes draft number count r is =
-    (r.now, r.shows, sym r.so_far ∙ passing-finished bytes r.now number (count - number) (ap (λ p. is_finished p.stage) (sym r.shows.progress) ∙ is))
+module _ (bytes : List ℕ) (draft : Draft) (number count : ℕ) (r : IsReading bytes draft number count) (few : length bytes < 2 ^ 32) where
+  stepped : (n : ℕ) → Stepped number (map (λ (h : ℕ × ℕ). h.0) r.hs) r.now n
+  stepped n = put-step number (map (λ (h : ℕ × ℕ). h.0) r.hs) r.now n r.draft_is.progress.object r.placed
 
-pub read-fault : (bytes : List ℕ) (draft : Draft) (number count : ℕ) (cause : ImageCause) → (r : IsReading bytes draft number count) → number < count → is_finished draft.progress.stage ≡ false → Some cause ≡ placed r.now (item_at bytes number) → all_passing bytes ≡ Err (fault_at number cause)
-read-fault bytes draft number count cause r lt isnt told =
-    let off = ap (λ p. is_finished p.stage) (sym r.shows.progress) ∙ isnt in
-    sym r.so_far ∙ ap (passing bytes r.now number) (left-suc count number lt) ∙ passing-next bytes r.now number (count - (number + 1)) off ∙ ap (λ (o : Option ImageCause). go_on number o (passing bytes (put r.now (item_at bytes number)) (number + 1) (count - (number + 1)))) (sym told)
+  -- there is room for another key
+  pub read-room : number < count → count ≤ length bytes / 8 → length draft.heads.items < 2 ^ 28
+  read-room lt le =
+      let h = r.few in
+      let long = ap length r.heads.heads ∙ length-map r.hs (λ (x : ℕ × ℕ). x.0) in
+      omega arith
 
-pub read-more : (bytes : List ℕ) (draft after : Draft) (number count : ℕ) → (r : IsReading bytes draft number count) → number < count → is_finished draft.progress.stage ≡ false → None ≡ placed r.now (item_at bytes number) → ShowsLists after (put r.now (item_at bytes number)) → IsReading bytes after (number + 1) count
-read-more bytes draft after number count r lt isnt told shows =
-    let off = ap (λ p. is_finished p.stage) (sym r.shows.progress) ∙ isnt in
-    let step = ap (passing bytes r.now number) (left-suc count number lt) ∙ passing-next bytes r.now number (count - (number + 1)) off ∙ ap (λ (o : Option ImageCause). go_on number o (passing bytes (put r.now (item_at bytes number)) (number + 1) (count - (number + 1)))) (sym told) in
-    record {
-      now = put r.now (item_at bytes number);
-      shows = shows;
-      draft_is = draft-placed r.now (item_at bytes number) r.draft_is (sym told);
-      so_far = sym step ∙ r.so_far;
-    }
+  pub read-more : (after : Draft) → number < count → is_finished draft.progress.stage ≡ false → None ≡ placed r.now (item_at bytes number) → ShowsLists after (put r.now (item_at bytes number)) → ShowsHeads after (r.hs ++ head_at draft.progress.stage number (item_at bytes number)) → IsReading bytes after (number + 1) count
+  read-more after lt isnt told shows heads =
+      let off = ap (λ p. is_finished p.stage) (sym r.shows.progress) ∙ isnt in
+      let n : ℕ = item_at bytes number in
+      let step = ap (passing bytes r.now number) (left-suc count number lt) ∙ passing-next bytes r.now number (count - (number + 1)) off ∙ ap (λ (o : Option ImageCause). go_on number o (passing bytes (put r.now (item_at bytes number)) (number + 1) (count - (number + 1)))) (sym told) in
+      let more : List (ℕ × ℕ) = head_at r.now.progress.stage number n in
+      record {
+        now = put r.now n;
+        shows = shows;
+        draft_is = draft-placed r.now n r.draft_is (sym told);
+        so_far = sym step ∙ r.so_far;
+        hs = r.hs ++ more;
+        heads = subst (λ (p : Progress). ShowsHeads after (r.hs ++ head_at p.stage number n)) r.shows.progress heads;
+        all = λ left. heads-joined r.hs more (heads_from bytes (put r.now n).progress (number + 1) left) ∙ ap (λ (hs : List (ℕ × ℕ)). r.hs ++ hs) (heads-next bytes r.now number left) ∙ r.all (suc left)
+            ∙ ap (heads_from bytes first_progress 0) (let e : number + suc left ≡ number + 1 + left = omega arith in e);
+        few = (let h = r.few in let o = put-owed r.now number n in let long = joined r.hs more in omega arith);
+        placed = subst (λ (ns : List ℕ). IsPlaced (put r.now n).progress.stage (number + 1) ns (put r.now n)) (with-head r.now.progress.stage r.hs number n) (stepped n).placed;
+        words = λ left.
+            ap (λ (ns : List ℕ). draft_words ns (put r.now n) ++ words_from bytes (put r.now n).progress (number + 1) left) (sym (with-head r.now.progress.stage r.hs number n))
+            ∙ ap (λ (ws : List (ℕ × ℕ)). ws ++ words_from bytes (put r.now n).progress (number + 1) left) (stepped n).words
+            ∙ joined-words (draft_words (map (λ (h : ℕ × ℕ). h.0) r.hs) r.now) (word_at r.now.progress.stage number n) (words_from bytes (put r.now n).progress (number + 1) left)
+            ∙ ap (λ (ws : List (ℕ × ℕ)). draft_words (map (λ (h : ℕ × ℕ). h.0) r.hs) r.now ++ ws) (words-next bytes r.now number left)
+            ∙ r.words (suc left)
+            ∙ ap (words_from bytes first_progress 0) (let e : number + suc left ≡ number + 1 + left = omega arith in e);
+      }
 
-pub read-short : (bytes : List ℕ) (draft : Draft) (count number : ℕ) → (r : IsReading bytes draft number count) → count ≤ number → is_finished draft.progress.stage ≡ false → number ≤ count → all_passing bytes ≡ Err (fault_at count causes.Short)
-read-short bytes draft count number r ge isnt le =
-    let off = ap (λ p. is_finished p.stage) (sym r.shows.progress) ∙ isnt in
-    let same : number ≡ count = omega arith in
-    let none : count - number ≡ 0 = omega arith in
-    sym r.so_far ∙ ap (passing bytes r.now number) none ∙ passing-short bytes r.now number off ∙ ap (λ (n : ℕ). Err (fault_at n causes.Short)) same
+  -- the heads so far are the first items' heads
+  all-heads : r.hs ≡ heads_from bytes first_progress 0 number
+  all-heads = sym (heads-nil r.hs) ∙ ap (λ (hs : List (ℕ × ℕ)). r.hs ++ hs) (sym (heads-none bytes r.now.progress number)) ∙ r.all 0 ∙ ap (heads_from bytes first_progress 0) (let e : number + 0 ≡ number = omega arith in e)
 
-pub read-end-all : (bytes : List ℕ) (draft : Draft) (count number : ℕ) → (r : IsReading bytes draft number count) → count ≤ number → number ≤ count → is_finished draft.progress.stage ≡ true → (d : ImageDraft) × ShowsLists draft d × (all_passing bytes ≡ Ok (d, count))
-read-end-all bytes draft count number r ge le is =
-    let same : number ≡ count = omega arith in
-    let at = read-end bytes draft number count r is in
-    (at.0, at.1, at.2 ∙ ap (λ (n : ℕ). Ok (at.0, n)) same)
+  finished-words : is_finished r.now.progress.stage ≡ true → HasWords bytes draft number
+  finished-words is =
+      let h = placed-finished r.now.progress.stage number (map (λ (x : ℕ × ℕ). x.0) r.hs) r.now is r.placed in
+      let heads = r.heads.heads in
+      let all : draft_words (map (λ (x : ℕ × ℕ). x.0) r.hs) r.now ≡ words_from bytes first_progress 0 number =
+      sym (no-words (draft_words (map (λ (x : ℕ × ℕ). x.0) r.hs) r.now)) ∙ ap (λ (ws : List (ℕ × ℕ)). draft_words (map (λ (x : ℕ × ℕ). x.0) r.hs) r.now ++ ws) (sym (words-none bytes r.now.progress number)) ∙ r.words 0
+      ∙ ap (words_from bytes first_progress 0) (let e : number + 0 ≡ number = omega arith in e) in
+      let few = placed-few number (map (λ (x : ℕ × ℕ). x.0) r.hs) r.now h in
+      let s = r.shows in
+      record {
+        few = rw (s.holders, s.births) few;
+        heads = rw (s.cells, heads) (let e = h.field.0 in omega arith);
+        words = rw (s.holders, s.births, s.roots, s.cells, heads) (sym (whole-words (map (λ (x : ℕ × ℕ). x.0) r.hs) r.now h.field.1) ∙ all);
+      }
+
+  passed : (fault : Option ImageCause) → number ≤ length bytes / 8 → all_passing bytes ≡ outcome_of fault r.now number → (fault ≡ None → HasWords bytes draft number) → HasPassed bytes (record { draft = draft; count = number; fault = fault })
+  passed fault le is words = record {
+    lists = r.now;
+    shows = r.shows;
+    heads = subst (ShowsHeads draft) all-heads r.heads;
+    few = (let h = r.few in let long = ap length (sym all-heads) in omega arith);
+    within = omega arith;
+    outcome = is;
+    words = words;
+  }
+
+  pub read-end : number ≤ length bytes / 8 → is_finished draft.progress.stage ≡ true → HasPassed bytes (record { draft = draft; count = number; fault = None })
+  read-end le is = passed None le (sym r.so_far ∙ passing-finished bytes r.now number (count - number) (ap (λ p. is_finished p.stage) (sym r.shows.progress) ∙ is)) (λ _. finished-words (ap (λ p. is_finished p.stage) (sym r.shows.progress) ∙ is))
+
+  pub read-fault : (cause : ImageCause) → number < count → count ≤ length bytes / 8 → is_finished draft.progress.stage ≡ false → Some cause ≡ placed r.now (item_at bytes number) → HasPassed bytes (record { draft = draft; count = number; fault = Some cause })
+  read-fault cause lt le isnt told =
+      let off = ap (λ p. is_finished p.stage) (sym r.shows.progress) ∙ isnt in
+      passed (Some cause) (omega arith)
+      (sym r.so_far ∙ ap (passing bytes r.now number) (left-suc count number lt) ∙ passing-next bytes r.now number (count - (number + 1)) off ∙ ap (λ (o : Option ImageCause). go_on number o (passing bytes (put r.now (item_at bytes number)) (number + 1) (count - (number + 1)))) (sym told))
+      (λ e. absurd (let bad : Some cause ≡ None = e in cc))
+
+  pub read-short : number ≡ length bytes / 8 → count ≤ number → is_finished draft.progress.stage ≡ false → HasPassed bytes (record { draft = draft; count = number; fault = Some causes.Short })
+  read-short is ge isnt =
+      let off = ap (λ p. is_finished p.stage) (sym r.shows.progress) ∙ isnt in
+      let none : count - number ≡ 0 = omega arith in
+      passed (Some causes.Short) (omega arith) (sym r.so_far ∙ ap (passing bytes r.now number) none ∙ passing-short bytes r.now number off) (λ e. absurd (let bad : Some causes.Short ≡ None = e in cc))
 
 -- ---- the judgement of an item
 

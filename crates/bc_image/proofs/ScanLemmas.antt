@@ -1,15 +1,16 @@
 -- From what was read to the listing.
-use Rattle.std.proofs.Common.{◌≡◌, ℕ, ◌+◌, ◌*◌, ◌/◌, ◌<◌, ◌≤◌, ◌&&◌, Bool, true, false, if◌then◌else◌, List, length, get_or, drop, Option, Some, None, Ok, Err, refl, sym, ◌∙◌, ap, subst, arith, Fits, w8}
+use Rattle.std.proofs.Common.{◌≡◌, ℕ, ◌+◌, ◌*◌, ◌/◌, ◌<◌, ◌≤◌, ◌&&◌, Bool, true, false, if◌then◌else◌, List, length, get_or, drop, Option, Some, None, Ok, Err, refl, inl, option_map, sym, ◌∙◌, ap, subst, arith, Fits, w8}
 use Prim.Native.Nat.{zero, suc}
 use Rattle.bc_word.specs.Words.{word_of_bits}
 use Rattle.bc_image.specs.Bytes.{item_at}
 use Rattle.bc_image.specs.Cells.{CellList}
 use Rattle.bc_image.specs.Drafts.{ImageDraft, empty_draft, ShowsLists}
-use Rattle.bc_image.specs.Faults.{is_word, leads_nowhere, linking, listing_of}
+use Rattle.bc_image.specs.Faults.{is_word, leads_nowhere, linking, listing_of, fault_of, IsFault, IsImageFaultOrMemory}
 use Rattle.bc_image.specs.Images.{ImageOf, image_bytes, image_items}
 use Rattle.bc_image.specs.Items.{advanced, first_progress}
 use Rattle.bc_image.specs.Listings.{ListingLists}
-use Rattle.bc_image.specs.Reading.{items_of_all, GivesItems}
+use Rattle.bc_image.specs.Reading.{items_of_all, fault_at, GivesItems}
+use Rattle.bc_image.specs.declared.fault.ImageCause.TheVariants.{Link}
 use Rattle.bc_image.specs.declared.draft.Draft.{Draft}
 use Rattle.bc_image.specs.declared.fault.ImageFault.{ImageFault}
 use Rattle.bc_image.specs.declared.fault.ReadImage.{ReadImage}
@@ -79,3 +80,17 @@ module _ (bytes : List ℕ) (fits : (i : ℕ) → Fits w8 (get_or bytes i 0)) (d
       let parts = ok-parts r.draft gives.0 (length (image_items l)) count (sym r.read ∙ gives.2) in
       let none : linking bytes gives.0.cells first_progress 0 count ≡ None = subst (λ (n : ℕ). linking bytes gives.0.cells first_progress 0 n ≡ None) parts.1 (subst (λ (d : ImageDraft). linking bytes d.cells first_progress 0 (length (image_items l)) ≡ None) parts.0 r.links) in
       (let c : Some number ≡ None = links (Some number) e ∙ none in absurd cc)
+
+  -- a word that leads nowhere is the first fault of items that pass, and there is no other
+  pub scan-outcome : (o : Option ℕ) → o ≡ linking bytes xs first_progress 0 count → fault_of bytes (items_of_all bytes) ≡ option_map (λ (n : ℕ). fault_at n Link) o
+  scan-outcome (Some n) e = rw gives.2 (rw (sym (links (Some n) e)) refl)
+  scan-outcome None e = rw gives.2 (rw (sym (links None e)) refl)
+
+  pub scan-fault : (number : ℕ) → Some number ≡ linking bytes xs first_progress 0 count → IsFault bytes (fault_at number Link)
+  scan-fault number e = scan-outcome (Some number) e
+
+  pub scan-faulty : (number : ℕ) → Some number ≡ linking bytes xs first_progress 0 count → (f : ImageFault) → IsFault bytes f → IsImageFaultOrMemory f (Fault (fault_at number Link))
+  scan-faulty number e f is = inl (let same : Some (fault_at number Link) ≡ Some f = sym (scan-outcome (Some number) e) ∙ is in cc)
+
+  pub scan-whole : None ≡ linking bytes xs first_progress 0 count → (f : ImageFault) → IsFault bytes f → ⊥
+  scan-whole e f is = (let bad : None ≡ Some f = sym (scan-outcome None e) ∙ is in cc)

@@ -1,7 +1,6 @@
 -- The listing that is being read, as plain lists.
 use Rattle.std.specs.Prelude.{◌≡◌, ℕ, ◌/◌, ◌%◌, ◌==◌, nat_eq, Bool, false, if◌then◌else◌, List, [], ◌∷◌, ◌++◌, length, Option, Some, None}
 use Rattle.std.specs.List.{list_any}
-use Rattle.std.specs.HashSet.{HashSet, contains}
 use Rattle.bc_word.specs.Heads.{head_of_bits}
 use Rattle.bc_word.specs.declared.heads.Head.{Head}
 use Rattle.bc_image.specs.Cells.{CellList}
@@ -93,10 +92,6 @@ pub record ShowsLists (x : Draft) (d : ImageDraft) : Type 0 where
   pub cells : x.cells.items ≡ d.cells
   pub head : x.head ≡ d.head
   pub fields : x.fields.items ≡ d.fields
-
--- the set has these births
-abbrev pub HasBorn : {H : Type 0} → HashSet ℕ H → List ℕ → Type 0
-HasBorn set born = (q : ℕ) → contains nat_eq set q ≡ list_any (nat_eq q) born
 
 -- how many births there are
 abbrev pub HasBirths : Stage → Progress → List ℕ → Type 0

@@ -22,3 +22,5 @@ pub mod Faults
 pub mod Homes
 -- Births that stand twice
 pub mod Births
+-- Words by the numbers of their items
+pub mod Numbered

@@ -8,6 +8,12 @@ use Rattle.bc_image.specs.Listings.{ListingLists}
 use Rattle.bc_image.specs.Memories.{memory_of}
 use Rattle.bc_image.specs.declared.listing.Holder.TheVariants.{Lane}
 
+-- Each reached object has its one cell, and the slots and the sizes agree. That is all that an answer about objects asks; a listing with
+-- a frozen domain pictures objects too, though no state has a holder that is frozen.
+pub record PicturesObjects (l : ListingLists) (s : State) : Type 0 where
+  pub stands : StandsFor (memory_of l.cells) (map word_of_bits l.roots) s
+  pub sizes : HasSizes l.setup s
+
 -- each reached object has its one cell, and the slots, holders and births agree
 pub record Pictures (l : ListingLists) (s : State) : Type 0 where
   pub stands : StandsFor (memory_of l.cells) (map word_of_bits l.roots) s

@@ -10,14 +10,18 @@
 // other, both ways, and the contract of `scan` speaks of both: it answers the listing exactly where the bytes begin with an image,
 // and else the first fault.
 //
+// The bytes are read once. A birth that stands twice and a reference to nowhere are judged afterwards, among the heads and words that were
+// kept; both in time and memory linear in the objects and superpages, whatever the bytes are.
+//
 // What an image pictures (`Pictures`) is a state as far as its slots lead; states that one image pictures are alike
 // (`law_one_image`).
 //
 // Where things are: `listing` what an image says, `progress` what may stand where, `draft` the listing that is being read,
-// `reading` the one pass over the items, `births` births that stand twice, `linking` references to nowhere, `scanning` the whole, `fault`
-// what may be wrong.
+// `reading` the one pass over the bytes, `births` births that stand twice, `addresses` where objects lie, `linking` references to nowhere,
+// `scanning` the whole, `fault` what may be wrong.
 #![tactic(auto)]
 
+mod addresses;
 mod births;
 mod draft;
 mod fault;
@@ -28,7 +32,8 @@ mod progress;
 mod reading;
 mod scanning;
 
+pub use addresses::{homes, is_there};
 pub use fault::{ImageCause, ImageFault, ReadImage};
-pub use laws::{law_one_image, law_read_back};
+pub use laws::{law_one_image, law_pictured, law_read_back};
 pub use listing::{Cell, Holder, Listing};
 pub use scanning::scan;

@@ -25,7 +25,7 @@ pub fn scan(alloc: Global, bytes: &[u8]) -> Result<(Listing, usize), ReadImage>
     ensures faulty { (f : ImageFault) → IsFault bytes.now f → IsErrAnd result (IsImageFaultOrMemory f) }
 {
     let (draft, count) = read_items(alloc, bytes)?;
-    if let Some(number) = first_link(alloc, bytes, &draft.cells, count)? {
+    if let Some(number) = first_link(alloc, &draft)? {
         return Err(ReadImage::Fault(ImageFault {
             at: 8 * number as u64,
             cause: ImageCause::Link,

@@ -16,7 +16,7 @@ returns-clause-tally c =
     let roots = ap (λ (l : ListingLists). l.roots) c.listing.view_is in
     let cells = ap (λ (l : ListingLists). l.cells) c.listing.view_is in
     let kept = with_items_is c.in_ok-tally.tally c.add_up.new.tally (search rules) in
-    let h = searched-tally c.args.listing.now c.deref-3.result.now c.deref-4.result.now c.deref-6.result.now c.in_ok-found.found.items c.deref-5.result.now c.add_up.new.tally (c.deref-3.ensures.value ∙ roots) (c.deref-4.ensures.value ∙ cells) (c.deref-6.ensures.value ∙ cells) c.deref-5.ensures.value
+    let h = searched-tally c.args.listing.now c.deref-2.result.now c.deref-3.result.now c.deref-5.result.now c.in_ok-found.found.items c.deref-4.result.now c.add_up.new.tally (c.deref-2.ensures.value ∙ roots) (c.deref-3.ensures.value ∙ cells) (c.deref-5.ensures.value ∙ cells) c.deref-4.ensures.value
     c.in_ok-found.ensures.searched c.add_up.ensures.tally in
     (h.0, h.1, subst (λ (t : List ℕ). IsPairTally c.args.listing.now.cells h.0 t) (sym kept) h.2)
 
@@ -27,4 +27,4 @@ returns-clause-small c = λ i.
     let le = c.add_up.ensures.small i in
     let few = c.in_ok-found.ensures.few in
     let most = c.requires.viewable.few in
-    subst (λ (t : List ℕ). get_or t i 0 < 2 ^ 32) (sym kept) (omega (arith, le, few, most, cells, ap length c.deref-5.ensures.value, ap length c.deref-4.ensures.value))
+    subst (λ (t : List ℕ). get_or t i 0 < 2 ^ 32) (sym kept) (omega (arith, le, few, most, cells, ap length c.deref-4.ensures.value, ap length c.deref-3.ensures.value))

@@ -1,19 +1,11 @@
-use Rattle.std.proofs.Common.{◌%◌, [], ◌∷◌, ◌++◌, eq-eqb}
-use Rattle.bc_word.specs.Heads.{head_of_bits}
-use Rattle.bc_image.specs.Drafts.{ImageDraft, birth_bits}
+use Rattle.std.proofs.Common.{ap, ◌∙◌}
+use Rattle.std.proofs.lemmas.Result.{on_ok_weaker}
 use Rattle.bc_image.proofs.draft.Draft.put_head.Goals as goal
 
-pub returns : goal.returns
-returns c = record {
-  lists = λ d s.
-      let e : ImageDraft = record d { born = d.born ++ birth_bits c.args.item ∷ []; head = head_of_bits c.args.item } in
-      rw (eq-eqb (c.args.item % 128) 0 c.if-item-ne0.false) (c.finish_object.ensures.lists e (record {
-        progress = s.progress;
-        holders = s.holders;
-        births = s.births;
-        roots = s.roots;
-        cells = s.cells;
-        head = c.unpack_head-self.ensures.head;
-        fields = s.fields;
-      }));
-}
+pub returns-clause-lists : goal.returns-clause-lists
+returns-clause-lists c d s = c.begin.ensures.lists d (c.in_ok-note_head.ensures.lists d s)
+
+pub returns-clause-heads : goal.returns-clause-heads
+returns-clause-heads c hs h =
+    let x = c.in_ok-note_head.ensures.heads hs h in
+    on_ok_weaker c.begin.result (λ k. record { heads = ap (λ v. v.items) k.heads ∙ x.heads; keys = ap (λ v. v.items) k.keys ∙ x.keys }) c.begin.ensures.heads

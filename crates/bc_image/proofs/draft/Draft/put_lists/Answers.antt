@@ -7,5 +7,5 @@ put_holder-requires c = passed-holder c.args.self.now.progress c.args.self.now.b
 pub put_birth-requires : goal.put_birth-requires
 put_birth-requires c = passed-birth c.args.self.now.progress c.args.self.now.births.items c.args.item c.in-Birth.is c.requires.passed
 
-pub put_head-requires : goal.put_head-requires
-put_head-requires c = passed-head c.args.self.now.progress c.args.self.now.births.items c.args.item c.in-Head.is c.requires.passed
+pub put_head-requires-clause-item : goal.put_head-requires-clause-item
+put_head-requires-clause-item c = passed-head c.args.self.now.progress c.args.self.now.births.items c.args.item c.in-Head.is c.requires.passed

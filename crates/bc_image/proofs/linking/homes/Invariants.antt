@@ -1,9 +1,0 @@
-use Rattle.std.proofs.Common.{◌≡◌, length, take}
-use Rattle.bc_image.specs.Homes.{TellsHomes}
-use Rattle.bc_image.proofs.linking.homes.Given as goal
-
-abbrev pub invariant-loop-cell : goal.invariant-loop-cell
-invariant-loop-cell l = record {
-  sized : length l.there.items ≡ l.end;
-  homes : TellsHomes (take l.cell-index l.cells) l.there.items;
-}
