@@ -36,11 +36,22 @@ __attribute__((constructor)) static void begin(void) {
   fail_threads = number("FAIL_THREADS");
 }
 
-static unsigned long left_threads(void) {
+static unsigned long tasks_now(void) {
   DIR *tasks = opendir("/proc/self/task");
   unsigned long count = 0;
   while (tasks && readdir(tasks)) count++;
+  if (tasks) closedir(tasks);
   return count - 2;
+}
+
+/* A thread that was joined may stand in the list for a moment after that: one that is left stands there two seconds later too. */
+static unsigned long left_threads(void) {
+  unsigned long count = tasks_now();
+  for (int look = 0; look < 200 && count > 1; look++) {
+    usleep(10000);
+    count = tasks_now();
+  }
+  return count;
 }
 
 __attribute__((destructor)) static void end(void) {

@@ -27,8 +27,9 @@ use std::io::{ErrorKind, Read, Write};
 use std::process::ExitCode;
 use std::thread::{Builder, Threads};
 
-/// The bytes of the stack on which all work is done. A run touches less than a third of them (`bench/little-memory`).
-const STACK: usize = 1 << 20;
+/// The bytes of the stack on which all work is done: as many as most systems let the first thread's grow to. A run of the program as LLVM
+/// builds it touches 320 KiB of them (`bench/little-memory`).
+const STACK: usize = 8 << 20;
 
 /// The words after the program's name.
 fn words_of(rt: &HostRuntime) -> Result<Vec<String>, Status>

@@ -1,5 +1,7 @@
-use Rattle.std.proofs.Common.{rules, ◌≡◌, ℕ, ◌∙◌, ◌<◌, ◌≤◌, List, length, ap, arith, subst}
+use Rattle.std.proofs.Common.{rules, ◌≡◌, ℕ, ◌∙◌, ◌<◌, ◌≤◌, List, length, ap, arith, subst, sym}
 use Rattle.bc_engine.proofs.Births.{births-opened}
+use Rattle.bc_engine.specs.EngineFacts.{HasRoomForBirths}
+use Rattle.bc_engine.specs.Engines.{EngineView}
 use Rattle.bc_engine.specs.Lanes.{of_lane}
 use Rattle.bc_model.specs.Lists.{PhaseLists, TraceLists}
 use Rattle.bc_model.specs.Rows.{lists_of}
@@ -8,12 +10,14 @@ use Rattle.paging_bench.proofs.Counted.{phase-at, room-behind, room-here}
 use Rattle.paging_bench.proofs.phases.replay.Goals as goal
 
 pub loop-index-init : goal.loop-index-init
-loop-index-init g c = record {
-  setup = c.in_ok-engine.ensures.setup.0 ∙ ap (λ (x : TraceLists). x.setup) c.trace.view_is;
-  going = c.in_ok-engine.ensures.setup.1;
-  births = births-opened c.trace.inside.setup c.in_ok-engine.engine _ (omega arith) c.in_ok-engine.ensures.opening;
-  small = omega arith;
-}
+loop-index-init g c =
+    let same = c.set_pacing.ensures in
+    record {
+      setup = ap (λ (e : EngineView). e.setup) same ∙ c.in_ok-engine.ensures.setup.0 ∙ ap (λ (x : TraceLists). x.setup) c.trace.view_is;
+      going = ap (λ (e : EngineView). e.ended) same ∙ c.in_ok-engine.ensures.setup.1;
+      births = subst (λ (e : EngineView). HasRoomForBirths e _) (sym same) (births-opened c.trace.inside.setup c.in_ok-engine.engine _ (omega arith) c.in_ok-engine.ensures.opening);
+      small = omega arith;
+    }
 
 pub replay_phase-requires-clause-phase : goal.replay_phase-requires-clause-phase
 replay_phase-requires-clause-phase g c κs within =
