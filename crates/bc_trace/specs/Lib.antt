@@ -24,13 +24,3 @@ pub mod Drafts
 pub mod Reading
 -- What a line of the reader stands for.
 pub mod Said
--- What the generator of `churn` draws
-pub mod Draws
--- Which of the twenty kinds are which operation
-pub mod DrawnKinds
--- The workload of `churn`
-pub mod Churn
--- The counts of the replies of a run
-pub mod Counts
--- A line that begins with the name of its kind
-pub mod KindNames

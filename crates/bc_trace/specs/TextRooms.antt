@@ -14,8 +14,3 @@ phase_bytes lanes replies = 27 + line_bytes * (lanes + replies)
 -- the line of a need: twelve bytes, at most twenty digits, and a line feed
 abbrev pub need_bytes : ℕ
 need_bytes = 33
-
--- The output of `churn`. Its first line has two numbers, of at most twenty and ten digits, and eight bytes more; the eleven counts
--- have forty bytes of names, and each a space, at most twenty digits and a line feed; `done` has five bytes.
-abbrev pub churn_bytes : ℕ
-churn_bytes = 38 + 282 + 5

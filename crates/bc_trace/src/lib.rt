@@ -25,13 +25,8 @@
 // exactly where the bytes spell it, and a fault exactly where it is the text's fault. `laws` has
 // what the definitions say together: one trace a text, one text a trace, and one fault a bad text.
 //
-// What a replay prints is put after a text that has room for it (`rooms`), by calls that take no memory: `phase_room`,
-// `need_room` and `churn_room` take the room before there is anything to print. How much is enough is said by `specs/TextRooms.antt`.
-//
-// `churn` makes a trace of its own from a starting number: `draws` has the generator and the table of kinds, and
-// `specs/Churn.antt` says the whole trace as lists. `counts` counts the replies of a run by their kinds and writes the output.
-// `churn_laws` has the table, the sums, and why the run never wants for superpages: a lane clears what it holds as a phase
-// begins, so that what is reached was made in that phase or the one before it.
+// What a replay prints is put after a text that has room for it (`rooms`), by calls that take no memory: `phase_room` and
+// `need_room` take the room before there is anything to print. How much is enough is said by `specs/TextRooms.antt`.
 //
 // A new operation is a row in `Verb`, `verb_name`, `verb_of` and the list `all_verbs`, in `arity`, `op_of`, `is_op`, `verb_of_op` and
 // `operands_of_op`, and in `verb_ahead` and `operands_of_op_ahead`, with one clause in each lemma by cases on operations. A new line
@@ -41,12 +36,8 @@
 
 mod ahead;
 mod checking;
-mod churn;
-mod churn_laws;
-mod counts;
 mod cutting;
 mod draft;
-mod draws;
 mod fault;
 mod grammar;
 mod laws;
@@ -59,11 +50,6 @@ mod rooms;
 mod words;
 mod writing;
 
-pub use churn::generate;
-pub use churn_laws::{
-    law_churn_need, law_churn_ops, law_churn_trace, law_counts, law_kinds, law_reply_kinds,
-};
-pub use counts::{Counts, churn_room, put_churn};
 pub use fault::{Cause, ReadTrace, TraceFault};
 pub use laws::{
     law_first_lines, law_next_word, law_one_fault, law_one_reply, law_one_text, law_one_trace,
@@ -72,4 +58,5 @@ pub use laws::{
 pub use reading::read;
 pub use replies::{need_room, phase_room, phase_text, put_need, put_phase, reply_line};
 pub use rooms::{put, put_number, put_numbered, put_small};
+pub use words::Verb;
 pub use writing::write;

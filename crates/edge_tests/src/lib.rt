@@ -5,7 +5,7 @@
 //
 // - `plain_heap` (bc_model): operations whose answers were worked out by hand
 // - `command_words` (bc_words): lists of words, and the commands that they are
-// - `trace_language` (bc_trace): texts from outside, read and written again, each cause of a fault once, and the counts of replies
+// - `trace_language` (bc_trace, bc_churn): texts from outside, read and written again, each cause of a fault once, and the counts of replies
 // - `images` (bc_image): an image that was written by hand, and what is wrong with it once it is broken
 // - `pictures` (bc_picture): a heap that is built of an image, and written again
 #![tactic(auto)]

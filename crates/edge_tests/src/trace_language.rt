@@ -1,9 +1,10 @@
 //! Texts from outside, read and written again, and each cause of a fault once.
 
+use bc_churn::{Counts, churn_room, generate, put_churn};
 use bc_model::{Birth, Op, Replies, Reply, Slot};
 use bc_trace::{
-    Cause, Counts, ReadTrace, TraceFault, churn_room, generate, need_room, phase_room, phase_text,
-    put_churn, put_need, put_phase, read, reply_line, write,
+    Cause, ReadTrace, TraceFault, need_room, phase_room, phase_text, put_need, put_phase, read,
+    reply_line, write,
 };
 use std::alloc::{AllocError, Global};
 use std::process::Abort;

@@ -1,8 +1,8 @@
 use Rattle.std.proofs.Common.{[], ◌++◌, List, Vec, Global, length, map, ap, ◌∙◌, length-append, arith}
 use Rattle.std.specs.List.{sum}
 use Rattle.bc_model.specs.declared.operations.Reply.{Reply}
-use Rattle.bc_trace.specs.Counts.{phase_replies}
-use Rattle.bc_trace.proofs.ChurnSums.{counted-once}
+use Rattle.bc_churn.specs.Counts.{phase_replies}
+use Rattle.bc_churn.proofs.ChurnSums.{counted-once}
 use Rattle.edge_tests.proofs.trace_language.replies_are_counted_by_their_kinds.Goals as goal
 
 pub add-requires : goal.add-requires

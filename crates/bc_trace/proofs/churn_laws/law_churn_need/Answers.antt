@@ -1,8 +1,0 @@
-use Rattle.bc_trace.proofs.ChurnNeed.{need-cut, need-whole}
-use Rattle.bc_trace.proofs.churn_laws.law_churn_need.Goals as goal
-
-pub returns-clause-cut : goal.returns-clause-cut
-returns-clause-cut c = need-cut
-
-pub returns-clause-whole : goal.returns-clause-whole
-returns-clause-whole c = need-whole

@@ -1,8 +1,0 @@
-use Rattle.bc_trace.proofs.ChurnSums.{phase-ops, trace-ops}
-use Rattle.bc_trace.proofs.churn_laws.law_churn_ops.Goals as goal
-
-pub returns-clause-phase : goal.returns-clause-phase
-returns-clause-phase c = phase-ops
-
-pub returns-clause-trace : goal.returns-clause-trace
-returns-clause-trace c = trace-ops

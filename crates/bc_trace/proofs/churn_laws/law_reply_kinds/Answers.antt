@@ -1,5 +1,0 @@
-use Rattle.bc_trace.proofs.KindTable.{reply-begins}
-use Rattle.bc_trace.proofs.churn_laws.law_reply_kinds.Goals as goal
-
-pub returns : goal.returns
-returns c = reply-begins

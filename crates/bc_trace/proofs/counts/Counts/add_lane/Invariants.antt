@@ -1,6 +1,0 @@
-use Rattle.std.proofs.Common.{◌≡◌, length, take}
-use Rattle.bc_trace.proofs.Counting.{Counted}
-use Rattle.bc_trace.proofs.counts.Counts.add_lane.Given as goal
-
-abbrev pub invariant-loop-reply : goal.invariant-loop-reply
-invariant-loop-reply l = Counted l.initial.self-inside.kinds l.self-inside.kinds (take l.reply-index l.replies) × (length l.self-inside.kinds ≡ length l.initial.self-inside.kinds)
