@@ -20,7 +20,7 @@ use Rattle.bc_pins.proofs.TotalLemmas.{total_set, times_append, one_other}
 use Rattle.bc_pins.proofs.TallyLemmas.{bit_few}
 use Rattle.bc_pins.proofs.MarkedLemmas.{targets_kept}
 use Rattle.bc_pins.proofs.LogLemmas.{reads-else, reads-more}
-use Rattle.bc_pins.proofs.TracingLemmas.{KeepsMarks, keeps_set, knows_stay, tracing_kept}
+use Rattle.bc_pins.proofs.TracingLemmas.{KeepsMarks, keeps_set, knows_read, tracing_kept}
 use Rattle.bc_pins.proofs.SideSteps.{aside, SideStep, side_step, counters_same, bits_same, keeps_aside}
 
 abbrev all_bits : ℕ
@@ -137,7 +137,7 @@ module _ (k : Key) (s : Table) (r : Rule k s) (id role : ℕ) (v : View) (at : g
       record {
         far = omega arith;
         stay = λ turn. keeps_set k s t marks_kept;
-        knows = λ turn. knows_stay k s t v (keeps_set k s t marks_kept) (facts.knows turn);
+        knows = λ turn. knows_read k s t v u (keeps_set k s t marks_kept) (facts.knows turn) refl (λ j less. reads-else j (frame_at v.about w) (word s i) v.read (λ e. let f = ap (λ (a : Key). frame_at a w) about in omega arith));
         tracing = λ turn. tracing_kept k s t marks_kept (r.tracing turn);
         grip = λ p. refl;
         flag = λ p. refl;

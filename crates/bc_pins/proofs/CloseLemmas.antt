@@ -20,7 +20,7 @@ use Rattle.bc_pins.specs.Rule.{Rule}
 use Rattle.bc_pins.specs.Opening.{ClosesPage, HasClosed}
 use Rattle.bc_pins.proofs.TotalLemmas.{total_at, total_only, total_two, one_same}
 use Rattle.bc_pins.proofs.WithholdLemmas.{foreign_none}
-use Rattle.bc_pins.proofs.TracingLemmas.{KeepsMarks, tracing_kept}
+use Rattle.bc_pins.proofs.TracingLemmas.{KeepsMarks, keeps_set, knows_stay, tracing_kept}
 use Rattle.bc_pins.proofs.ReadLemmas.{remembered_word}
 use Rattle.bc_pins.proofs.JoinLemmas.{look_none, puts_none}
 use Rattle.bc_pins.proofs.SumLemmas.{sum_same}
@@ -221,6 +221,7 @@ module _ (k : Key) (s : Table) (r : Rule k s) (id : ℕ) (v : View) (at : get_el
     counters = counters_closed;
     bits = bits_closed;
     tracing = λ turn. tracing_kept k s last last_kept (r.tracing turn);
+    knows = λ turn. knows_stay k s last v (keeps_set k s last last_kept) ((r.seats id v at).knows turn);
     marked = λ p lt. elim ((r.seats id v at).marking.whose p lt) [
       | inl held ↦ let z : grips p v.hand ≡ 0 = ap (grips p) nothing in absurd (omega arith)
       | inr gone ↦ gone

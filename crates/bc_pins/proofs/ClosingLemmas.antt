@@ -180,9 +180,9 @@ module _ (id : TableId) (k : Key) (all : List Seat) (root : Worker Lodged View) 
 
   held_once : (p : ℕ) → p < pages_of k → 0 < total (λ (s : Seat). reads_as p 3 (view_of s)) all → 0 < total (λ (s : Seat). reads_as p 1 (view_of s)) all + total (λ (s : Seat). reads_as p 2 (view_of s)) all + total (λ (s : Seat). times p (view_of s).fetched) all
   held_once p near lt =
-      let one = e.gathered.read p 1 in
-      let two = e.gathered.read p 2 in
-      let three = e.gathered.read p 3 in
+      let one = e.gathered.read (page_at p) 1 in
+      let two = e.gathered.read (page_at p) 2 in
+      let three = e.gathered.read (page_at p) 3 in
       let got = e.gathered.fetched p in
       let a = (e.closed.pages p near).standing.held (omega arith) in
       omega arith
@@ -191,9 +191,9 @@ module _ (id : TableId) (k : Key) (all : List Seat) (root : Worker Lodged View) 
       → total (λ (s : Seat). times p (view_of s).fetched) all ≡ 0 → state_at (map (λ (h : Header). h.pages) headers) p ≢ state.Home
   away_once p near lt none_fetched home =
       let got = e.gathered.fetched p in
-      let none_is = e.gathered.read p 0 in
-      let two = e.gathered.read p 2 in
-      let four = e.gathered.read p 4 in
+      let none_is = e.gathered.read (page_at p) 0 in
+      let two = e.gathered.read (page_at p) 2 in
+      let four = e.gathered.read (page_at p) 4 in
       let is : get_or words (page_at p) 0 ≡ 1 = sym (word_is p near) ∙ ap state_word home in
       let one : one_if (get_or words (page_at p) 0 == 2) ≡ 0 = ap (λ (n : ℕ). one_if (n == 2)) is in
       let hand : grips_remembered p v.hand ≡ 0 = ap (grips_remembered p) e.gathered.hand in
@@ -580,6 +580,14 @@ module _ (id : TableId) (k : Key) (all : List Seat) (root : Worker Lodged View) 
       };
       due = due_s;
       unfetched = λ p. let got = e.gathered.fetched p in let none_is = e.closed.unfetched turn p in omega arith;
+      read_marks = λ w n b lt some few.
+          let sum = e.gathered.read (mark_at k w) n in
+          let between = (e.closed.knows turn).marks w lt n b (omega arith) few in
+          (between.0, subst (λ (x : ℕ). bit_at n b ≤ bit_at x b) (sym (marks_are w lt)) between.1);
+      read_finished = λ w n b lt some few.
+          let sum = e.gathered.read (finished_at k w) n in
+          let between = (e.closed.knows turn).finished w lt n b (omega arith) few in
+          (between.0, subst (λ (x : ℕ). bit_at n b ≤ bit_at x b) (sym (finished_are w lt)) between.1);
       new = λ a set. elim (cases_Bool (is_bookmarked k.opening a)) [ inl was ↦ inl was | inr fresh_bit ↦ inr (new_marked a set fresh_bit) ];
     }
 

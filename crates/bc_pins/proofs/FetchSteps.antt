@@ -23,7 +23,7 @@ use Rattle.bc_pins.specs.Facts.{Table, slot, IsAway, Lies, remembered_now, Recor
 use Rattle.bc_pins.specs.Rule.{Rule}
 use Rattle.bc_pins.specs.Steps.{Mine, both_slots, fetching, without, named_below, having_read, ReadsWord, Fetches, Fetched}
 use Rattle.bc_pins.proofs.TotalLemmas.{total_set, total_at, one_same, one_other, one_is, one_few}
-use Rattle.bc_pins.proofs.LogLemmas.{reads-here, reads-more, pages-else}
+use Rattle.bc_pins.proofs.LogLemmas.{reads-else, reads-here, reads-more, pages-else}
 use Rattle.bc_pins.proofs.MarkedLemmas.{targets_kept}
 use Rattle.bc_pins.proofs.PageSteps.{after, PageStep, page_step}
 use Rattle.bc_pins.proofs.ReadLemmas.{same_page, now_grows, remembered_word, reads, look_step}
@@ -243,6 +243,7 @@ module _ (k : Key) (s : Table) (r : Rule k s) (p id frame : ℕ) (v : View) (at 
         read_held = λ lt. absurd (let z = reads-here (page_at p) 4 3 v.read in omega arith);
         read_away = λ lt. inr (inr (omega arith));
         else_read = λ q n ne. pages-else p q 4 n v.read ne;
+        far_read = λ j less. reads-else j (page_at p) 4 v.read (λ e. omega arith);
         count = λ q lt. let h = counts_here q lt in let d = no_count p q in let e : (if page_word s p == 4 then points k p c q else 0) ≡ points k p c q = ap (λ (b : Bool). if b then points k p c q else 0) (eq-eqb (page_word s p) 4 is) in omega arith;
         else_count = λ j q ne. counts_else j q ne ∙ sym (no_count j q);
         bookmarked = refl;

@@ -7,10 +7,10 @@ use Rattle.bc_frames.specs.Places.{StoreView}
 use Rattle.bc_pins.specs.declared.views.Lodged.{Lodged}
 use Rattle.bc_pins.specs.declared.views.View.{View}
 use Rattle.bc_pins.specs.declared.pins.Seat.{Seat}
-use Rattle.bc_pins.specs.Key.{Key, owner, page_at}
+use Rattle.bc_pins.specs.Key.{Key, owner}
 use Rattle.bc_pins.specs.Totals.{total, times}
 use Rattle.bc_pins.specs.Tidy.{IsTidy}
-use Rattle.bc_pins.specs.Views.{has_role, sets_bit, reads_at, reads_as, entries, look_up, opened_content, record_of}
+use Rattle.bc_pins.specs.Views.{has_role, sets_bit, reads_of, entries, look_up, opened_content, record_of}
 use Rattle.bc_pins.specs.Steps.{Mine, united}
 use Rattle.bc_pins.specs.Tracing.{tells}
 use Rattle.bc_pins.specs.Calls.{view_of, CountsFetches}
@@ -74,13 +74,13 @@ first_put : (k : Key) (front : List Seat) (seat : Seat) (p w b : ℕ)
     → puts_with k p w b (view_of seat).changed + total (λ (s : Seat). puts_with k p w b (view_of s).changed) front ≡ total (λ (s : Seat). puts_with k p w b (view_of s).changed) (front ++ seat ∷ [])
 first_put k front seat p w b = let c = total_append (λ (s : Seat). puts_with k p w b (view_of s).changed) front (seat ∷ []) in omega arith
 
--- and of what was read of a page's word
-read_moved : (v : View) (front : List Seat) (seat : Seat) (p n m : ℕ)
-    → reads_as p n v + total (λ (s : Seat). reads_as p n (view_of s)) (front ++ seat ∷ []) ≡ m
-    → times n (reads_at p (v.read ++ (view_of seat).read)) + total (λ (s : Seat). reads_as p n (view_of s)) front ≡ m
-read_moved v front seat p n m e =
-    let a = times-reads n (page_at p) v.read (view_of seat).read in
-    let b = total_append (λ (s : Seat). reads_as p n (view_of s)) front (seat ∷ []) in
+-- and of what was read of a word
+read_moved : (v : View) (front : List Seat) (seat : Seat) (i n m : ℕ)
+    → times n (reads_of i v.read) + total (λ (s : Seat). times n (reads_of i (view_of s).read)) (front ++ seat ∷ []) ≡ m
+    → times n (reads_of i (v.read ++ (view_of seat).read)) + total (λ (s : Seat). times n (reads_of i (view_of s).read)) front ≡ m
+read_moved v front seat i n m e =
+    let a = times-reads n i v.read (view_of seat).read in
+    let b = total_append (λ (s : Seat). times n (reads_of i (view_of s).read)) front (seat ∷ []) in
     omega arith
 
 pub entries_none : (k : Key) (v : View) (p : ℕ) → IsTidy v → v.about ≡ k → has_role v (owner k p) ≡ 0 → entries p v.changed ≡ 0
@@ -122,7 +122,7 @@ module _ (id : TableId) (k : Key) (apart : (r : ℕ) → times r k.roles ≤ 1) 
         gone = λ p. first_moved (λ v. v.gone) front seat p ∙ ap (total (λ (s : Seat). times p (view_of s).gone)) (sym is);
         busy = λ p. first_moved (λ v. v.busy) front seat p ∙ ap (total (λ (s : Seat). times p (view_of s).busy)) (sym is);
         put = λ p w b. first_put k front seat p w b ∙ ap (total (λ (s : Seat). puts_with k p w b (view_of s).changed)) (sym is);
-        read = λ p n. first_moved (λ v. reads_at p v.read) front seat n ∙ ap (total (λ (s : Seat). reads_as p n (view_of s))) (sym is);
+        read = λ i n. first_moved (λ v. reads_of i v.read) front seat n ∙ ap (total (λ (s : Seat). times n (reads_of i (view_of s).read))) (sym is);
         mine = λ j le lt d p has.
             let e : get_or all j d ≡ seat = (let z : j ≡ length front = omega arith in ap (λ (i : ℕ). get_or all i d) z ∙ here d) in
             (subst (λ (s : Seat). 0 < has_role (view_of s) (owner k p)) e has, sym (ap (λ (s : Seat). record_of (view_of s) p) e));
@@ -174,7 +174,7 @@ module _ (id : TableId) (k : Key) (apart : (r : ℕ) → times r k.roles ≤ 1) 
         gone = λ p. ap (λ (u : View). times p u.gone + total (λ (s : Seat). times p (view_of s).gone) front) view ∙ moved (λ u. u.gone) v front seat p _ (g.gone p);
         busy = λ p. ap (λ (u : View). times p u.busy + total (λ (s : Seat). times p (view_of s).busy) front) view ∙ moved (λ u. u.busy) v front seat p _ (g.busy p);
         put = λ p x b. ap (λ (u : View). puts_with k p x b u.changed + total (λ (s : Seat). puts_with k p x b (view_of s).changed) front) view ∙ put_moved k v front seat p x b _ (g.put p x b);
-        read = λ p n. ap (λ (u : View). reads_as p n u + total (λ (s : Seat). reads_as p n (view_of s)) front) view ∙ read_moved v front seat p n _ (g.read p n);
+        read = λ i n. ap (λ (u : View). times n (reads_of i u.read) + total (λ (s : Seat). times n (reads_of i (view_of s).read)) front) view ∙ read_moved v front seat i n _ (g.read i n);
         mine = λ j le lt d p has.
             let sum = times_append (owner k p) v.roles w.roles in
             let one = one_has (owner k p) in

@@ -382,6 +382,7 @@ module _ (k : Key) (s : Table) (r : Rule k s) (id x role : ℕ) (v : View) (g : 
         read_held = λ lt. absurd (omega arith);
         read_away = λ lt. absurd (omega arith);
         else_read = λ q n ne. refl;
+        far_read = λ j less. refl;
         count = λ q lt. let a = hand_counted p q in let b = never_four (points k p (rec' p) q) in let c = was_no_four (points k p (r.rec p) q) in omega arith;
         else_count = λ j q ne. sym (hand_counted j q);
         bookmarked = refl;

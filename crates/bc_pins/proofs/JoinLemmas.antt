@@ -17,8 +17,8 @@ use Rattle.bc_pins.specs.Steps.{united, nobody}
 use Rattle.bc_pins.proofs.TotalLemmas.{total_set, total_two, times_append}
 use Rattle.bc_pins.proofs.WithholdLemmas.{foreign_none}
 use Rattle.bc_pins.proofs.LogLemmas.{times-reads}
-use Rattle.bc_pins.proofs.TracingLemmas.{tells_append}
-use Rattle.bc_pins.proofs.SeatLemmas.{with_views, SameSums, now_same, views_step, seat_kept, no_hand, no_marking, no_targets}
+use Rattle.bc_pins.proofs.TracingLemmas.{tells_append, knows_none, knows_both}
+use Rattle.bc_pins.proofs.SeatLemmas.{with_views, SameSums, now_same, same_words, views_step, seat_kept, no_hand, no_marking, no_targets}
 
 -- a seat is joined into another
 join_sum : (f : View → ℕ) (vs : List View) (id other : ℕ) (v w a b : View) → get_elem? vs id ≡ some v → get_elem? (set vs id a) other ≡ some w → f b ≡ 0 → f a ≡ f v + f w → total f (set (set vs id a) other b) ≡ total f vs
@@ -274,12 +274,7 @@ module _ (k : Key) (s : Table) (r : Rule k s) (id other : ℕ) (v w : View) (at 
             | inr le ↦ let a = theirs.targets.had p x b few (omega arith) in omega arith
           ];
     };
-    knows = λ turn x b told.
-        let c = tells_append x b v.known w.known in
-        elim (cases_lt 0 (tells x b v.known)) [
-          | inl has ↦ mine.knows turn x b has
-          | inr le ↦ theirs.knows turn x b (omega arith)
-        ];
+    knows = λ turn. knows_both k s (with_views s views) v w (same_words k s views) (mine.knows turn) (theirs.knows turn);
   }
 
   spent : SeatFacts k (with_views s views) r.rec nobody
@@ -289,7 +284,7 @@ module _ (k : Key) (s : Table) (r : Rule k s) (id other : ℕ) (v w : View) (at 
     saw = record { seen = λ p lt. absurd (omega arith); gone = λ p lt. absurd (omega arith); busy = λ p lt. absurd (omega arith); taken = λ p lt. absurd (omega arith) };
     marking = no_marking nobody refl refl;
     targets = no_targets k (with_views s views) r.rec nobody refl;
-    knows = λ turn x b told. absurd (omega arith);
+    knows = λ turn. knows_none k (with_views s views) nobody refl refl;
   }
 
   seat_each : (j : ℕ) (u : View) → get_elem? views j ≡ some u → SeatFacts k (with_views s views) r.rec u

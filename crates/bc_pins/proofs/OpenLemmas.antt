@@ -8,6 +8,7 @@ use Rattle.bc_bits.specs.Counting.{one_if}
 use Rattle.bc_pins.specs.declared.views.Lodged.{Lodged}
 use Rattle.bc_pins.specs.declared.views.View.{View}
 use Rattle.bc_pins.specs.Key.{Key}
+use Rattle.bc_pins.proofs.TracingLemmas.{knows_none}
 use Rattle.bc_pins.specs.Views.{opened_content, opened_word}
 use Rattle.bc_pins.specs.Facts.{Table, has_bit_of, page_word}
 use Rattle.bc_pins.specs.Rule.{SeatFacts, Rule}
@@ -55,7 +56,7 @@ starts k words slots may =
         saw = record { seen = λ p lt. absurd (omega arith); gone = λ p lt. absurd (omega arith); busy = λ p lt. absurd (omega arith); taken = λ p lt. absurd (omega arith) };
         marking = no_marking first refl refl;
         targets = no_targets k s (opened_content k) first refl;
-        knows = λ turn w b told. absurd (omega arith);
+        knows = λ turn. knows_none k s first refl refl;
       };
       roles = record { each = λ r. omega arith; apart = may.apart; nobody = may.nobody };
       unheld = may.unheld;

@@ -11,18 +11,18 @@ use Rattle.bc_word.specs.Addresses.{page_of}
 use Rattle.bc_pins.specs.declared.views.Lodged.{Lodged}
 use Rattle.bc_pins.specs.declared.views.Hand.{Hand}
 use Rattle.bc_pins.specs.declared.views.View.{View}
-use Rattle.bc_pins.specs.Key.{Key, pages_of, owner, counter_at, bookmark_at, frame_at, mark_at, finished_at, page_at, pages_end, frame_slot, store_slot}
+use Rattle.bc_pins.specs.Key.{Key, pages_of, owner, counter_at, bookmark_at, frame_at, notice_at, mark_at, finished_at, page_at, pages_end, frame_slot, store_slot}
 use Rattle.std.specs.Int.{bit_at}
 use Rattle.bc_pins.specs.Totals.{total, times}
 use Rattle.bc_pins.specs.Contents.{IsContent, RefersYoung, IsBarePage}
-use Rattle.bc_pins.specs.Views.{grips, grips_remembered, frame_in_hand, counted_for, sets_bit, has_role, withholds, reads_as, opened_content, sets_for, marked_for}
+use Rattle.bc_pins.specs.Views.{grips, grips_remembered, frame_in_hand, counted_for, sets_bit, has_role, withholds, reads_of, reads_as, opened_content, sets_for, marked_for}
 use Rattle.bc_pins.specs.Facts.{Table, word, Lies, Place, remembered_now, Summary, Content, Standing, RecordsContent, Saw, Seated, Marking, Roles, frame_lodged, Frames, points, adds_to, Counters, bookmark_bit, is_clear, Bits, page_word, IsBitOfTarget, MarksTargets, HasBookmarkBit, fetched_ever, had_with, has_bit_of, puts_with}
 use Rattle.bc_pins.specs.Tracing.{RefersToCell, HasMarkBit, tells, Knows}
 use Rattle.bc_pins.specs.Rule.{SeatFacts, Rule}
 use Rattle.bc_pins.proofs.TotalLemmas.{total_set, total_at, total_only, total_two, one_few, one_is}
 use Rattle.bc_pins.proofs.SumLemmas.{sum_same}
 use Rattle.bc_pins.proofs.MarkedLemmas.{summary_more}
-use Rattle.bc_pins.proofs.TracingLemmas.{leads_bookmarked, KeepsMarks, keeps_set, knows_stay, tracing_kept}
+use Rattle.bc_pins.proofs.TracingLemmas.{leads_bookmarked, KeepsMarks, keeps_set, knows_stay, knows_read, tracing_kept}
 use Rattle.bc_pins.proofs.WithholdLemmas.{foreign_same}
 
 -- the table after a step of seat id on the word of page p
@@ -77,6 +77,7 @@ pub record PageStep (k : Key) (s : Table) (rec rec' : ℕ → List ℕ) (p x : �
   pub read_held : reads_as p 3 v < reads_as p 3 w → 0 < total (reads_as p 1) s.views + total (reads_as p 2) s.views + fetched_ever s p
   pub read_away : reads_as p 0 v + reads_as p 2 v + reads_as p 4 v < reads_as p 0 w + reads_as p 2 w + reads_as p 4 w → (x ≡ 0) ⊎ ((x ≡ 4) ⊎ (0 < one_if (x == 2) + grips_remembered p w.hand + times p w.fetched))
   pub else_read : (q n : ℕ) → q ≢ p → reads_as q n w ≡ reads_as q n v
+  pub far_read : (j : ℕ) → notice_at k < j → reads_of j w.read ≡ reads_of j v.read
   -- counters and bits
   pub count : (q : ℕ) → q < k.supers → (if x == 4 then points k p (rec' p) q else 0) + counted_for p q w.hand ≡ (if page_word s p == 4 then points k p (rec p) q else 0) + counted_for p q v.hand
   pub else_count : (r q : ℕ) → r ≢ p → counted_for r q w.hand ≡ counted_for r q v.hand
@@ -490,7 +491,7 @@ module _ (k : Key) (s : Table) (r : Rule k s) (rec' : ℕ → List ℕ) (p x : �
   }
 
   knows_here : k.lanes ≡ false → Knows k t w
-  knows_here turn = λ i b told. knows_stay k s t v (keeps_set k s t (keeps_marks turn)) ((r.seats id v at).knows turn) i b (subst (λ (l : List (ℕ × ℕ)). 0 < tells i b l) d.known told)
+  knows_here turn = knows_read k s t v w (keeps_set k s t (keeps_marks turn)) ((r.seats id v at).knows turn) d.known d.far_read
 
   seat_else : (j : ℕ) (u : View) → j ≢ id → get_elem? s.views j ≡ some u → SeatFacts k t rec' u
   seat_else j u ne is =

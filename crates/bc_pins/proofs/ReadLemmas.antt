@@ -21,7 +21,7 @@ use Rattle.bc_pins.specs.Steps.{Mine, owns, having_read, ReadsWord, Looked}
 use Rattle.bc_pins.proofs.TotalLemmas.{total_set, one_other, one_is, total_less}
 use Rattle.bc_pins.proofs.WithholdLemmas.{added_other, noted_busy}
 use Rattle.bc_pins.proofs.MarkedLemmas.{targets_kept}
-use Rattle.bc_pins.proofs.LogLemmas.{reads-here, reads-more, pages-else, held_read}
+use Rattle.bc_pins.proofs.LogLemmas.{reads-else, reads-here, reads-more, pages-else, held_read}
 use Rattle.bc_pins.proofs.PageSteps.{after, page_step}
 
 -- no two pages have one word
@@ -240,6 +240,7 @@ look_step k s r p id role v at near about some_role =
       read_held = read_held k s r p v near;
       read_away = read_away (page_word s p) p v;
       else_read = λ q n ne. pages-else p q (page_word s p) n v.read ne;
+      far_read = λ j less. reads-else j (page_at p) (page_word s p) v.read (λ e. omega arith);
       count = λ q lt. refl;
       else_count = λ j q ne. refl;
       bookmarked = refl;

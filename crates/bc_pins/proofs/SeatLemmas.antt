@@ -17,7 +17,7 @@ use Rattle.bc_pins.proofs.TotalLemmas.{total_set, total_append}
 use Rattle.bc_pins.proofs.MarkedLemmas.{targets_more}
 use Rattle.bc_pins.proofs.SumLemmas.{sum_same}
 use Rattle.bc_pins.proofs.WithholdLemmas.{foreign_none}
-use Rattle.bc_pins.proofs.TracingLemmas.{KeepsMarks, tracing_kept}
+use Rattle.bc_pins.proofs.TracingLemmas.{KeepsMarks, KeepsSet, tracing_kept, knows_stay, knows_read, knows_none}
 
 -- the table with other views
 abbrev pub with_views : Table → List View → Table
@@ -123,6 +123,10 @@ views_step k s r views sums each = record {
   tracing = λ turn. tracing_kept k s (with_views s views) (keeps_views k s views sums) (r.tracing turn);
 }
 
+-- the words are the same
+pub same_words : (k : Key) (s : Table) (views : List View) → KeepsSet k s (with_views s views)
+same_words k s views = record { marks = λ w b lt one. one; ends = λ w b lt one. one }
+
 -- a seat that doesn't take part
 pub seat_kept : (k : Key) (s : Table) (rec : ℕ → List ℕ) (views : List View) → SameSums s.views views → (u : View) → SeatFacts k s rec u → SeatFacts k (with_views s views) rec u
 seat_kept k s rec views sums u old = record {
@@ -136,7 +140,7 @@ seat_kept k s rec views sums u old = record {
   };
   marking = old.marking;
   targets = targets_more k s (with_views s views) rec u u (λ q. let a = sums.fetched q in omega arith) (λ q w b. let a = sums.put k q w b in omega arith) refl old.targets;
-  knows = old.knows;
+  knows = λ turn. knows_stay k s (with_views s views) u (same_words k s views) (old.knows turn);
 }
 
 pub no_hand : (z : Hand) → None ≡ Some z → ⊥
@@ -220,7 +224,7 @@ module _ (k : Key) (s : Table) (r : Rule k s) (id : ℕ) (v : View) (at : get_el
     };
     marking = record { once = facts.marking.once; whose = facts.marking.whose; unmarked = facts.marking.unmarked };
     targets = targets_more k s (with_views s views) r.rec v (dealer v) (λ q. let a = sums.fetched q in omega arith) (λ q w b. let a = sums.put k q w b in omega arith) refl facts.targets;
-    knows = facts.knows;
+    knows = λ turn. knows_read k s (with_views s views) v (dealer v) (same_words k s views) (facts.knows turn) refl (λ j less. refl);
   }
 
   has_first : SeatFacts k (with_views s views) r.rec (dealt v)
@@ -236,7 +240,7 @@ module _ (k : Key) (s : Table) (r : Rule k s) (id : ℕ) (v : View) (at : get_el
     saw = record { seen = λ p lt. absurd (omega arith); gone = λ p lt. absurd (omega arith); busy = λ p lt. absurd (omega arith); taken = λ p lt. absurd (omega arith) };
     marking = no_marking (dealt v) refl refl;
     targets = no_targets k (with_views s views) r.rec (dealt v) refl;
-    knows = λ turn w b told. absurd (omega arith);
+    knows = λ turn. knows_none k (with_views s views) (dealt v) refl refl;
   }
 
   seat_each : (j : ℕ) (u : View) → get_elem? views j ≡ some u → SeatFacts k (with_views s views) r.rec u

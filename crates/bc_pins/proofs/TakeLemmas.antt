@@ -24,7 +24,7 @@ use Rattle.bc_pins.specs.Steps.{Mine, both_slots, gripping, having_read, ReadsWo
 use Rattle.bc_pins.proofs.TotalLemmas.{total_set, total_at, total_only, total_two, one_same, one_other, one_is}
 use Rattle.bc_pins.proofs.WithholdLemmas.{foreign_none}
 use Rattle.bc_pins.proofs.MarkedLemmas.{targets_kept}
-use Rattle.bc_pins.proofs.LogLemmas.{reads-more, pages-else, gripped_read, gripped_two, gripped_not}
+use Rattle.bc_pins.proofs.LogLemmas.{reads-else, reads-more, pages-else, gripped_read, gripped_two, gripped_not}
 use Rattle.bc_pins.proofs.PageSteps.{after, PageStep, page_step}
 use Rattle.bc_pins.proofs.ReadLemmas.{same_page, saw_kept, remembered_word, reads, look_step}
 
@@ -212,6 +212,7 @@ module _ (k : Key) (s : Table) (r : Rule k s) (p id old role : ℕ) (v : View) (
         read_held = λ lt. absurd (let a = gripped_not flag p 3 v.read (λ x. omega arith) (λ x. omega arith) in omega arith);
         read_away = λ lt. inr (inr (let a = read_two lt in omega arith));
         else_read = λ q n ne. pages-else p q (if flag then 2 else 1) n v.read ne;
+        far_read = λ j less. reads-else j (page_at p) (if flag then 2 else 1) v.read (λ e. omega arith);
         count = λ q lt. let a = no_count p q in let b = hand_counts p q in let c = not_gone (points k p (r.rec p) q) in omega arith;
         else_count = λ j q ne. hand_counts j q ∙ sym (no_count j q);
         bookmarked = refl;

@@ -19,7 +19,7 @@ use Rattle.bc_pins.proofs.TotalLemmas.{total_set}
 use Rattle.bc_pins.proofs.SumLemmas.{sum_one}
 use Rattle.bc_pins.proofs.MarkedLemmas.{targets_kept}
 use Rattle.bc_pins.proofs.LogLemmas.{reads-else, reads-more}
-use Rattle.bc_pins.proofs.TracingLemmas.{KeepsMarks, keeps_set, knows_stay, tracing_kept}
+use Rattle.bc_pins.proofs.TracingLemmas.{KeepsMarks, keeps_set, knows_read, tracing_kept}
 use Rattle.bc_pins.proofs.SideSteps.{aside, SideStep, side_step, counters_same, bits_same, frames_same, keeps_aside}
 use Rattle.bc_pins.proofs.TakeLemmas.{some_hand}
 use Rattle.bc_pins.proofs.MarkSteps.{seated_kept, records_kept}
@@ -109,7 +109,7 @@ module _ (k : Key) (s : Table) (r : Rule k s) (id role : ℕ) (v : View) (h : Ha
       record {
         far = omega arith;
         stay = λ turn. keeps_set k s t marks_kept;
-        knows = λ turn. knows_stay k s t v (keeps_set k s t marks_kept) ((r.seats id v at).knows turn);
+        knows = λ turn. knows_read k s t v u (keeps_set k s t marks_kept) ((r.seats id v at).knows turn) refl (λ j less. reads-else j (counter_at v.about q) found v.read (λ e. let f = ap (λ (a : Key). counter_at a q) about in omega arith));
         tracing = λ turn. tracing_kept k s t marks_kept (r.tracing turn);
         grip = λ p. sym (ap (grips p) has_one);
         flag = λ p. sym (ap (grips_remembered p) has_one);

@@ -26,11 +26,11 @@ use Rattle.bc_superpages.specs.Parts.{state_in}
 use Rattle.bc_pins.specs.declared.views.Lodged.{Lodged}
 use Rattle.bc_pins.specs.declared.views.View.{View}
 use Rattle.bc_pins.specs.declared.pins.Seat.{Seat}
-use Rattle.bc_pins.specs.Key.{Key, pages_of, page_at, owner, counter_at, bookmark_at}
+use Rattle.bc_pins.specs.Key.{Key, pages_of, page_at, owner, counter_at, bookmark_at, mark_at, finished_at}
 use Rattle.bc_pins.specs.Totals.{total, times}
 use Rattle.bc_pins.specs.Opening.{IsOpenable, IsMarkable}
 use Rattle.bc_pins.specs.Tidy.{IsTidy}
-use Rattle.bc_pins.specs.Views.{state_word, opened_word, opened_state, opened_content, has_role, sets_bit, reads_as, record_of}
+use Rattle.bc_pins.specs.Views.{state_word, opened_word, opened_state, opened_content, has_role, sets_bit, reads_of, reads_as, record_of}
 use Rattle.bc_pins.specs.Tracing.{RefersToCell, opened_mark, opened_finished, tells}
 use Rattle.bc_pins.specs.Calls.{view_of, CountsFetches}
 
@@ -72,7 +72,7 @@ pub record Gathered (id : TableId) (k : Key) (all front : List Seat) (root : Wor
   pub gone : (p : ℕ) → times p root.me.0.gone + total (λ (seat : Seat). times p (view_of seat).gone) front ≡ total (λ (seat : Seat). times p (view_of seat).gone) all
   pub busy : (p : ℕ) → times p root.me.0.busy + total (λ (seat : Seat). times p (view_of seat).busy) front ≡ total (λ (seat : Seat). times p (view_of seat).busy) all
   pub put : (p w b : ℕ) → puts_with k p w b root.me.0.changed + total (λ (seat : Seat). puts_with k p w b (view_of seat).changed) front ≡ total (λ (seat : Seat). puts_with k p w b (view_of seat).changed) all
-  pub read : (p n : ℕ) → reads_as p n root.me.0 + total (λ (seat : Seat). reads_as p n (view_of seat)) front ≡ total (λ (seat : Seat). reads_as p n (view_of seat)) all
+  pub read : (i n : ℕ) → times n (reads_of i root.me.0.read) + total (λ (seat : Seat). times n (reads_of i (view_of seat).read)) front ≡ total (λ (seat : Seat). times n (reads_of i (view_of seat).read)) all
   pub mine : (j : ℕ) → length front ≤ j → j < length all → (d : Seat) (p : ℕ) → 0 < has_role (view_of (slice_index_or all j d)) (owner k p)
       → (0 < has_role root.me.0 (owner k p)) × (record_of root.me.0 p ≡ record_of (view_of (slice_index_or all j d)) p)
 
@@ -216,7 +216,8 @@ pub record LaidSpace (old s : Layout) (superpages start : ℕ) (words : List ℕ
 
 -- the space that the table of a mark turn gives back. But for marks and finished bits it is as another table's. Marks are those of the
 -- opening and those that the seats won, each once, and finished cells those of the opening and those that the seats finished. No page
--- was taken from Gone. Another mark turn may begin over it. A marked cell was marked or is bookmarked, or is reached from such through
+-- was taken from Gone. Whatever a seat read of a mark word has the marks of the opening, and each mark that it has is there still; the same
+-- of finished words. Another mark turn may begin over it. A marked cell was marked or is bookmarked, or is reached from such through
 -- pages that aren't gone; and a cell that was bookmarked in the turn is marked
 pub record ClosedMarks (k : Key) (seats : List Seat) (s : Layout) : Type 0 where
   pub bare : Layout
@@ -227,6 +228,10 @@ pub record ClosedMarks (k : Key) (seats : List Seat) (s : Layout) : Type 0 where
   pub stays : (w b : ℕ) → w < 16 * k.supers → b < 64 → 0 < opened_finished k w b + total (λ (seat : Seat). tells w b (view_of seat).finished) seats → bit_at (slice_index (set_of s.finished (w / 16)) (w % 16)) b ≡ 1
   pub behind : (q : ℕ) → k.supers ≤ q → (set_of s.marks q ≡ set_of k.opening.marks q) × (set_of s.finished q ≡ set_of k.opening.finished q)
   pub unfetched : (p : ℕ) → total (λ (seat : Seat). times p (view_of seat).fetched) seats ≡ 0
+  pub read_marks : (w n b : ℕ) → w < 16 * k.supers → 0 < total (λ (seat : Seat). times n (reads_of (mark_at k w) (view_of seat).read)) seats → b < 64
+      → (opened_mark k w b ≤ bit_at n b) × (bit_at n b ≤ bit_at (slice_index (set_of s.marks (w / 16)) (w % 16)) b)
+  pub read_finished : (w n b : ℕ) → w < 16 * k.supers → 0 < total (λ (seat : Seat). times n (reads_of (finished_at k w) (view_of seat).read)) seats → b < 64
+      → (opened_finished k w b ≤ bit_at n b) × (bit_at n b ≤ bit_at (slice_index (set_of s.finished (w / 16)) (w % 16)) b)
   pub markable : IsMarkable s
   pub due : (a : ℕ) → is_marked s a ≡ true → Reach (λ x. (is_marked k.opening x ≡ true) ⊎ (is_bookmarked s x ≡ true)) (λ x y. (state_at s.states (page_of x) ≢ state.Gone) × RefersToCell s x y) a
   pub new : (a : ℕ) → is_bookmarked s a ≡ true → (is_bookmarked k.opening a ≡ true) ⊎ (is_marked s a ≡ true)

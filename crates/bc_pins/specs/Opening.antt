@@ -22,7 +22,7 @@ use Rattle.bc_pins.specs.Totals.{times, sum_to}
 use Rattle.bc_pins.specs.Contents.{IsContent, RefersYoung, IsBarePage}
 use Rattle.bc_pins.specs.Views.{marked_for, opened_content, opened_word, record_of}
 use Rattle.bc_pins.specs.Facts.{Table, Lies, Summary, Frames, Counters, Bits, points, Standing, IsUnheld, MarksTargets}
-use Rattle.bc_pins.specs.Tracing.{RefersToCell, Tracing}
+use Rattle.bc_pins.specs.Tracing.{RefersToCell, Tracing, Knows}
 use Rattle.bc_pins.specs.Steps.{fresh}
 
 -- the table as it is opened
@@ -79,6 +79,7 @@ pub record HasClosed (k : Key) (v : View) (words : List ℕ) (slots : List Lodge
   pub counters : (q : ℕ) → q < k.supers → slice_index words (counter_at k q) ≡ sum_to (λ p. if slice_index words (page_at p) == 4 then points k p (record_of v p) q else 0) (pages_of k)
   pub bits : (w b : ℕ) → w < 16 * k.supers → b < 64 → Bits k (record { words = words; homes = map some slots; views = v ∷ [] }) w b
   pub tracing : k.lanes ≡ false → Tracing k (record { words = words; homes = map some slots; views = v ∷ [] })
+  pub knows : k.lanes ≡ false → Knows k (record { words = words; homes = map some slots; views = v ∷ [] }) v
   pub marked : (p : ℕ) → 0 < marked_for p v.bookmarked → 0 < times p v.left
   pub targets : MarksTargets k (record { words = words; homes = map some slots; views = v ∷ [] }) (record_of v) v
   -- in a mark turn no page was taken from Gone
