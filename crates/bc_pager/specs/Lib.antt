@@ -2,3 +2,9 @@
 pub mod Answering
 -- Notices that were given, answers that were kept, and a call that serves
 pub mod Serving
+-- Answers to notices where nobody works beside
+pub mod Alone
+-- Pages that leave a space, as answers name them
+pub mod Leaving
+-- A pager at work beside others at the table of a turn
+pub mod Paging

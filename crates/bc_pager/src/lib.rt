@@ -17,19 +17,27 @@
 // begins where its notice was given: a source of notices may know the views that the seat had then (`Notices`), and each answer begins
 // at its own (`AreAnsweredSince`). `serve` ends where no notice is left or no room for an answer is (`ended`).
 //
-// How the pieces work together: `serving` takes notices and keeps answers; `walking` goes round the pages and takes the first of a kind
-// that can be taken; `leaving` gives it up (`bc_evict`), with its frame. `notices` has the trait by which notices come, and a list of
-// them; `answers` what is kept. Pages after the table are Absent for the whole turn, and none of them is tried.
+// How the pieces work together: `serving` takes notices and keeps answers; `bc_evict::take_first` goes round the pages and takes the
+// first of a kind that can be taken; `leaving` gives it up, with its frame. `notices` has the trait by which notices come, and a list of
+// them; `answers` what is kept. `paging` has the pager of a turn, which takes the caller's list of answers with it to its thread and
+// answers all notices of a list. Pages after the table are Absent for the whole turn, and none of them is tried.
+//
+// Where nobody works beside, notices are answered on the space itself (`answer_all`): each by the first page that can be discarded,
+// going round from the hint, else by the first that can be evicted, else it is declined, and nothing changes (`AnsweredAlone`).
 //
 // A notice costs two looks at each page's header at most, and a try at each page of the kind; one page is given up for it. Nothing but
 // `ListNotices::new` and `Answers::new` takes memory.
 #![tactic(auto)]
 
+mod alone;
 mod answers;
 mod leaving;
 mod notices;
+mod paging;
 mod serving;
 
+pub use alone::{answer_all, answer_one};
 pub use answers::{Answer, Answers};
 pub use notices::{ListNotices, Notice, Notices};
+pub use paging::{Paging, seat_pager, serve_all};
 pub use serving::serve;

@@ -15,6 +15,8 @@
 #[cfg(test)]
 mod bookmarks;
 #[cfg(test)]
+mod cells;
+#[cfg(test)]
 mod compact;
 #[cfg(test)]
 mod failsafe;

@@ -2,3 +2,5 @@
 mod TestLemmas
 -- A page that comes back in the turn, in the tests
 mod BackLemmas
+-- A heap without chunks whose cells can be collected, in the tests
+mod RootedLemmas

@@ -7,7 +7,7 @@ ghost use Rattle.bc_pins.specs.Calls.{key_of, view_of, IsAt, IsSameSeat, IsFree}
 mod beside;
 mod coming_back;
 mod evicting;
-mod furnished;
+pub(crate) mod furnished;
 mod giving_up;
 mod marking;
 mod telling;
