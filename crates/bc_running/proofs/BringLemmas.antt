@@ -60,14 +60,14 @@ looks-elsewhere {hs} {lane} {s} {r} {op} layout here looks =
     true_false (is_gone (state_at s.states (page_of looks.at.0))) (there looks.at looks.to (allocated-below s looks.at.0 layout looks.cell)) (ap is_gone looks.gone)
 
 -- it looks at the page that its slot leads to
-record IsLookedAt (hs : List ℕ) (lane : ℕ) (s : Layout) (r : RootWords) (cs : List Nursery) (bs : List Entries) (op : Op) (page : ℕ) : Type 0 where
+record LooksAtGonePage (hs : List ℕ) (lane : ℕ) (s : Layout) (r : RootWords) (cs : List Nursery) (bs : List Entries) (op : Op) (page : ℕ) : Type 0 where
   pub whole : AreWhole cs
   pub running : IsRunning (view_of s r cs bs) hs
   pub held : all_held hs lane op ≡ true
   pub within : page < 4 * superpages s
   pub gone : state_at s.states page ≡ Gone
 
-looks-by : {hs : List ℕ} {lane : ℕ} {s : Layout} {r : RootWords} {cs : List Nursery} {bs : List Entries} {op : Op} {page : ℕ} (p : Slot) → IsLookedAt hs lane s r cs bs op page → touched_slot op ≡ Some p → IsSlot (setup_of r) p → LeadsToPage r (Some p) page → LooksAtGone hs lane s r op
+looks-by : {hs : List ℕ} {lane : ℕ} {s : Layout} {r : RootWords} {cs : List Nursery} {bs : List Entries} {op : Op} {page : ℕ} (p : Slot) → LooksAtGonePage hs lane s r cs bs op page → touched_slot op ≡ Some p → IsSlot (setup_of r) p → LeadsToPage r (Some p) page → LooksAtGone hs lane s r op
 looks-by {hs} {lane} {s} {r} {cs} {bs} {op} {page} p h is slot leads =
     let closed : IsClosedHeap (view_of s r cs bs) hs = h.running.closed in
     let a : Address = leads.0 in
@@ -86,7 +86,7 @@ looks-by {hs} {lane} {s} {r} {cs} {bs} {op} {page} p h is slot leads =
       gone = ap (state_at s.states) leads.2 ∙ h.gone;
     }
 
-looks-at : {hs : List ℕ} {lane : ℕ} {s : Layout} {r : RootWords} {cs : List Nursery} {bs : List Entries} {page : ℕ} (op : Op) → IsOpOf r op → IsLookedAt hs lane s r cs bs op page → LeadsToPage r (touched_slot op) page → LooksAtGone hs lane s r op
+looks-at : {hs : List ℕ} {lane : ℕ} {s : Layout} {r : RootWords} {cs : List Nursery} {bs : List Entries} {page : ℕ} (op : Op) → IsOpOf r op → LooksAtGonePage hs lane s r cs bs op page → LeadsToPage r (touched_slot op) page → LooksAtGone hs lane s r op
 looks-at (Who p) fits h leads = looks-by p h refl fits leads
 looks-at (Len p) fits h leads = looks-by p h refl fits leads
 looks-at (Set p i v) fits h leads = looks-by p h refl fits.0 leads

@@ -20,5 +20,5 @@ pub mod BesideLemmas
 pub mod SeatLemmas
 -- A new heap stands for the opening state
 pub mod StartLemmas
--- Notices that are answered where nobody works beside
-pub mod ServingLemmas
+-- Where there is no line there is no notice, and no answer
+pub mod UnaskedLemmas

@@ -34,7 +34,8 @@ use Rattle.bc_word.specs.Addresses.{page_of}
 use Rattle.bc_word.specs.declared.addresses.Address.{Address}
 use Rattle.bc_running.specs.Running.{RunningView}
 use Rattle.bc_running.specs.RunningFacts.{IsSound, StaysBut, with_space}
-use Rattle.bc_running.specs.Serving.{GivesUpFor, GivesUpFirst}
+use Rattle.bc_pager.specs.Alone.{GivesUpFor}
+use Rattle.bc_running.specs.Serving.{GivesUpFirst}
 use Rattle.bc_running.specs.Touching.{IsTouching, LeadsToPage, TouchesHere}
 use Rattle.bc_mutator.proofs.ObjectLemmas.{one_address}
 
@@ -124,22 +125,13 @@ here-leads t r (Some p) page leads home = λ a refers below.
     let same : a ≡ leads.0 = one_address a leads.0 (sym refers ∙ leads.1) in
     ap (λ (x : Address). is_gone (state_at t.states (page_of x.0))) same ∙ ap (λ (x : ℕ). is_gone (state_at t.states x)) leads.2 ∙ ap is_gone home
 
--- whichever answer is given for a hint
-pub gives-up : (s t : Layout) (hint : ℕ) (result : Option ℕ) → IfSome result (λ page. (page < 4 * superpages s) × GivenUp s hint page t) → IfNone result (NoneLeaves s × (t ≡ s)) → GivesUpFor s hint t
-gives-up s t hint (Some page) some none = inl (page, some.0, some.1)
-gives-up s t hint None some none = inr none
-
 -- one hint more
 pub gives-more : (s u t : Layout) (hints : List ℕ) (n : ℕ) → GivesUpFirst s hints n u → GivesUpFor u (get_or hints n 0) t → GivesUpFirst s hints (n + 1) t
 gives-more s u t hints n first more =
     let e : suc n ≡ n + 1 = omega arith in
     subst (λ (m : ℕ). GivesUpFirst s hints m t) e (u, first, more)
 
--- pages move where one is given up for a hint, and where the space is settled
-pub moves-given : (s t : Layout) (hint : ℕ) → IsLayout s → GivesUpFor s hint t → IsSummarised t → MovesPages s t
-moves-given s t hint k (inl given) sum = MovesPages-after s t t (Frees-given s t hint given.0 k given.1 given.2) (MovesPages-none t sum)
-moves-given s t hint k (inr none) sum = subst (λ (x : Layout). MovesPages s x) (sym none.1) (MovesPages-none s (subst IsSummarised none.1 sum))
-
+-- pages move where the space is settled
 pub moves-settled : (s t : Layout) → Settled s t → IsSummarised t → MovesPages s t
 moves-settled s t change sum = record {
   same = change.same ∙ sym (ap (λ (l : Layout). record s { states = l.states; free = l.free; bookmarks = l.bookmarks; incoming = l.incoming; reads = l.reads }) change.same);

@@ -1,16 +1,9 @@
 -- Notices of a turn: requests that a page leave memory, each with a hint, where nobody works beside.
-use Rattle.std.specs.Prelude.{◌≡◌, ◌⊎◌, ℕ, ◌*◌, ◌<◌, List, [], ◌∷◌, ◌++◌, length, slice_index}
+use Rattle.std.specs.Prelude.{◌≡◌, ℕ, List, length, slice_index}
 use Prim.Native.Nat.{zero, suc}
-use Rattle.bc_bookmarks.specs.Changes.{Discarded, Evicted, Settled}
-use Rattle.bc_bookmarks.specs.Choices.{GivenUp, IsFirstFrom, IsNone, NoneLeaves}
-use Rattle.bc_bookmarks.specs.Kinds.{IsEligible, IsSpare}
-use Rattle.bc_pager.specs.declared.answers.Answer.{Answer}
-use Rattle.bc_pager.specs.declared.answers.Answer.TheVariants as answer
-use Rattle.bc_superpages.specs.Layout.{Layout, superpages}
-
--- a page was given up for the hint, or nothing changed where no page can leave
-abbrev pub GivesUpFor : Layout → ℕ → Layout → Type 0
-GivesUpFor s hint t = ((page : ℕ) × (page < 4 * superpages s) × GivenUp s hint page t) ⊎ (NoneLeaves s × (t ≡ s))
+use Rattle.bc_bookmarks.specs.Changes.{Settled}
+use Rattle.bc_pager.specs.Alone.{GivesUpFor}
+use Rattle.bc_superpages.specs.Layout.{Layout}
 
 -- for each of the first n hints, one after another, a page was given up, or nothing changed where no page can leave
 abbrev pub GivesUpFirst : Layout → List ℕ → ℕ → Layout → Type 0
@@ -20,23 +13,3 @@ GivesUpFirst s hints (suc n) t = (u : Layout) × GivesUpFirst s hints n u × Giv
 -- the notices of a turn were served, each once and in order, and then the space was settled
 abbrev pub Served : Layout → List ℕ → Layout → Type 0
 Served s hints t = (u : Layout) × GivesUpFirst s hints (length hints) u × Settled u t
-
--- an answer where nobody works beside: the first page without cells was given up and is Absent, going round from the hint, or else the
--- first that can leave, which is Gone; or none can leave, and nothing changed
-abbrev pub IsPlainAnswer : Layout → ℕ → Answer → Layout → Type 0
-IsPlainAnswer s hint (answer.Discarded page) t =
-    (page < 4 * superpages s) × IsFirstFrom (IsSpare s) (4 * superpages s) hint page × Discarded s page t
-IsPlainAnswer s hint (answer.Evicted page) t =
-    (page < 4 * superpages s) × IsNone (IsSpare s) (4 * superpages s) × IsFirstFrom (IsEligible s) (4 * superpages s) hint page × Evicted s page t
-IsPlainAnswer s hint answer.Declined t = NoneLeaves s × (t ≡ s)
-
--- each notice has one such answer, in order, and each begins with the space that the one before it left
-abbrev pub ArePlainAnswers : Layout → List ℕ → List Answer → Layout → Type 0
-ArePlainAnswers s [] [] t = t ≡ s
-ArePlainAnswers s [] (told ∷ answers) t = ⊥
-ArePlainAnswers s (hint ∷ hints) [] t = ⊥
-ArePlainAnswers s (hint ∷ hints) (told ∷ answers) t = (u : Layout) × IsPlainAnswer s hint told u × ArePlainAnswers u hints answers t
-
--- the notices with these hints were answered so, after the answers that were kept before
-abbrev pub AnsweredAlone : Layout → List ℕ → List Answer → List Answer → Layout → Type 0
-AnsweredAlone s hints before after t = (told : List Answer) × (after ≡ before ++ told) × ArePlainAnswers s hints told t

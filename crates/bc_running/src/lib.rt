@@ -2,8 +2,8 @@
 //
 // A `Running` is a heap with what the lanes need beside it: the lane that holds each domain, and how many objects each lane has
 // made, by which it numbers the next one. A lane does an operation on it (`operate`), a domain changes hands (`give`), the
-// nurseries are emptied (`empty_nursery`), the whole heap is collected by the fail-safe (`collect`), and the cells are collected by bookmarks
-// (`collect`).
+// nurseries are emptied (`empty_nursery`), the whole heap is collected by the fail-safe (`failsafe`), and the cells are collected by bookmarks
+// (`collect`). Where notices may come while cells are marked it is `empty_nursery_beside` and `collect_beside`, which hand on the answers.
 //
 // What is true of it between calls is `IsSound`: the heap is running (`IsRunning` in `bc_whole_heap`), no object in it has a later
 // birth of a lane than the lane's count, and two frames aren't those of nursery pages. Each call asks for it and leaves it,

@@ -22,10 +22,10 @@ use Rattle.bc_pins.specs.declared.pins.Seat.{Seat}
 use Rattle.bc_reach.specs.Distinct.{Has}
 use Rattle.bc_superpages.specs.Kept.{IsLayout}
 use Rattle.bc_superpages.specs.Layout.{Layout}
-use Rattle.bc_turn.specs.declared.paging.Paging.{Paging}
+use Rattle.bc_pager.specs.declared.paging.Paging.{Paging}
 use Rattle.bc_turn.specs.Answered.{AnsweredBeside}
 use Rattle.bc_turn.specs.Beside.{LiesBack}
-use Rattle.bc_turn.specs.Paging.{HasPaged}
+use Rattle.bc_pager.specs.Paging.{HasPaged}
 use Rattle.bc_turn.specs.Taking.{turn_roles}
 use Rattle.bc_turn.proofs.AnsweredLemmas.{AreMoved, answered}
 use Rattle.bc_turn.proofs.BegunLemmas.{IsPagerBack, paged-back}
@@ -35,8 +35,8 @@ use Rattle.bc_turn.proofs.TableLemmas.{AreSeatsBack, IsTurnTable, lies-back}
 use Rattle.bc_turn.proofs.TakingLemmas.{no-items}
 use Rattle.bc_whole_heap.specs.Heaps.{HeapView}
 use Rattle.bc_pins.specs.Views.{reads_as}
-use Rattle.bc_turn.proofs.DeclinedLemmas.{answers-home}
-use Rattle.bc_turn.proofs.HomeLemmas.{declined-beside}
+use Rattle.bc_pager.proofs.DeclinedLemmas.{answers-home}
+use Rattle.bc_pager.proofs.HomeLemmas.{declined-beside}
 
 -- a space that was neither opened nor changed lies as it did
 pub lies-still : (s : Layout) → IsOpenable s → LiesBack s s
@@ -134,7 +134,7 @@ module _ (pins : Pins) (h : HeapView) (hs : List ℕ) (seats : List Seat) (pager
           (all_are ∙ paged.kept ∙ ap (λ (list_before : List Answer). list_before ++ paged.told) kept_are)
           (subst (λ (xs : List ℕ). AreAnswered (key_of pins) xs paged.told (fresh (key_of pins) (role_number (Pager 0) ∷ [])) (view_of later.seat)) hints_are paged.each)
           (λ p some. absurd (omega arith))
-          (declined-beside (key_of pins) h.space t all old.notices.hints paged.told (fresh (key_of pins) (role_number (Pager 0) ∷ [])) (view_of later.seat) (λ p. ⊥) opened.opening closed given paged.each
+          (declined-beside (key_of pins) t all old.notices.hints paged.told (fresh (key_of pins) (role_number (Pager 0) ∷ [])) (view_of later.seat) (λ p. ⊥) closed given.long.states paged.each
           (λ p n. let sum = ap (total (λ (s : Seat). reads_as p n (view_of s))) only in omega arith)
           (λ p some. let none = moved.fetched_are p in absurd (omega arith))
           (λ p near some.

@@ -1,7 +1,6 @@
 -- What a closed table makes of the pages that a pager's answers name, and of those that lanes moved.
-use Rattle.std.proofs.Common.{◌≡◌, ℕ, ◌+◌, ◌-◌, ◌*◌, ◌/◌, ◌%◌, ◌^◌, ◌<◌, ◌≤◌, ◌==◌, true, min, List, [], ◌∷◌, ◌++◌, length, get_or, inl, inr, refl, ap, sym, subst, ◌∙◌, arith}
+use Rattle.std.proofs.Common.{◌≡◌, ℕ, ◌+◌, ◌-◌, ◌*◌, ◌/◌, ◌%◌, ◌^◌, ◌<◌, ◌≤◌, ◌==◌, true, min, List, [], ◌∷◌, ◌++◌, length, inl, inr, refl, ap, sym, subst, ◌∙◌, arith}
 use Rattle.std.proofs.lemmas.Bool.{cases_lt}
-use Rattle.std.proofs.lemmas.List.{get_or_past}
 use Rattle.bc_bits.specs.Counting.{one_if}
 use Rattle.bc_pager.specs.Answering.{AreAnswered, says_declined, says_discarded, says_evicted}
 use Rattle.bc_pager.specs.declared.answers.Answer.{Answer}
@@ -21,7 +20,8 @@ use Rattle.bc_superpages.specs.Kept.{IsLayout}
 use Rattle.bc_superpages.specs.Layout.{Layout, superpages}
 use Rattle.bc_superpages.specs.LayoutAt.{state_at}
 use Rattle.bc_turn.proofs.NewBitLemmas.{bits-none, new-bits}
-use Rattle.bc_turn.proofs.PagerLemmas.{name-none}
+use Rattle.bc_pager.proofs.HomeLemmas.{state-behind}
+use Rattle.bc_pager.proofs.PagerLemmas.{name-none}
 use Rattle.bc_turn.specs.Answered.{AnsweredBeside, is_in}
 
 -- a state by its word
@@ -31,12 +31,6 @@ is-gone Home lt = absurd (omega arith)
 is-gone Remembered lt = absurd (omega arith)
 is-gone Held lt = absurd (omega arith)
 is-gone Gone lt = refl
-
--- a page past all superpages
-pub state-behind : (s : Layout) (p : ℕ) → IsLayout s → 4 * superpages s ≤ p → state_at s.states p ≡ Absent
-state-behind s p layout far =
-    let long = layout.long.states in
-    ap (λ (states : List PageState). get_or states (p % 4) Absent) (get_or_past s.states (p / 4) [] (omega arith)) ∙ get_or_past [] (p % 4) Absent (omega arith)
 
 -- what the seats have between them of the pages that were made Gone, made Absent and taken from Gone is what the answers say and what lists
 -- of the lanes have, none returned a page of another's, and the lanes made no more Gone and Absent than they took
@@ -59,7 +53,7 @@ module _ (k : Key) (s t : Layout) (seats : List Seat) (opening : k.opening ≡ s
     | inr out ↦
         let supers : superpages t ≡ superpages k.opening = ap superpages closed.same in
         let supers_s : superpages s ≡ superpages k.opening = ap superpages (sym opening) in
-        state-behind t p after (omega arith) ∙ sym (state-behind s p before (omega arith))
+        state-behind t p after.long.states (omega arith) ∙ sym (state-behind s p before.long.states (omega arith))
   ]
 
   module _ (told : List Answer) (fetched left emptied : List ℕ) (moved : AreMoved k seats told fetched left emptied)

@@ -28,14 +28,10 @@ pub mod LendingLemmas
 pub mod WordLemmas
 -- Lanes lay back what is their own
 pub mod EndingLemmas
--- What a pager's answers leave as it was
-pub mod PagerLemmas
 -- Bookmark bits of the space that a closed table gives back
 pub mod NewBitLemmas
 -- What a closed table makes of the pages that answers name
 pub mod AnsweredLemmas
--- What a pager's log says of a notice that was declined
-pub mod DeclinedLemmas
 -- A page that stopped a lane is Gone once the table is closed
 pub mod AwayLemmas
 -- Room that is kept from turn to turn
@@ -44,5 +40,3 @@ pub mod RoomLemmas
 pub mod AloneLemmas
 -- A turn put together
 pub mod TurnLemmas
--- A notice that was declined beside lanes that fetch pages
-pub mod HomeLemmas

@@ -24,7 +24,7 @@ use Rattle.bc_superpages.specs.declared.headers.PageState.TheVariants.{Absent, R
 use Rattle.bc_superpages.specs.Kept.{IsLayout}
 use Rattle.bc_superpages.specs.Layout.{Layout, content_at, superpages}
 use Rattle.bc_superpages.specs.LayoutAt.{state_at}
-use Rattle.bc_turn.proofs.AnsweredLemmas.{state-behind}
+use Rattle.bc_pager.proofs.HomeLemmas.{state-behind}
 use Rattle.bc_turn.proofs.BusyLemmas.{find-index}
 use Rattle.bc_turn.proofs.PassLemmas.{IsOthersPage, Passes}
 use Rattle.bc_turn.specs.Beside.{LiesBack}
@@ -232,7 +232,7 @@ module _ (k : Key) (h m : HeapView) (hs busy : List ℕ) (seat : ℕ → Seat) (
   absent-far : IsLayout t → (p : ℕ) → pages_of k ≤ p → state_at t.states p ≡ Absent
   absent-far layout p far = elim (cases_lt p (4 * superpages k.opening)) [
     | inl inside ↦ (closed.behind p far inside).0 ∙ ap (λ (s : Layout). state_at s.states p) table.opening ∙ table.behind p far
-    | inr out ↦ let supers : superpages t ≡ superpages k.opening = ap superpages closed.same in state-behind t p layout (omega arith)
+    | inr out ↦ let supers : superpages t ≡ superpages k.opening = ap superpages closed.same in state-behind t p layout.long.states (omega arith)
   ]
 
   remembered-before : IsLayout t → (p : ℕ) → state_at t.states p ≡ Remembered → state_at m.space.states p ≡ Remembered

@@ -35,15 +35,15 @@ use Rattle.bc_reach.proofs.Pushed.{Has-get_or, place_of}
 use Rattle.bc_superpages.specs.Kept.{IsLayout}
 use Rattle.bc_superpages.specs.Layout.{Layout}
 use Rattle.bc_superpages.specs.RootWords.{RootWords}
-use Rattle.bc_turn.specs.declared.paging.Paging.{Paging}
+use Rattle.bc_pager.specs.declared.paging.Paging.{Paging}
 use Rattle.bc_turn.specs.declared.rooms.TurnRoom.{TurnRoom}
 use Rattle.bc_turn.specs.declared.runs.Run.{Run}
 use Rattle.bc_turn.specs.Answered.{AnsweredBeside}
-use Rattle.bc_turn.specs.Looked.{HadInTurn, IsLookedAt}
+use Rattle.bc_turn.specs.Looked.{HadInTurn, IsLookedAtInTurn}
 use Rattle.bc_turn.specs.Begun.{AllRan, AreBegun, AreBusyLanes, IsBegunLane, RanLane, of_lane}
 use Rattle.bc_turn.specs.Beside.{RanBeside}
 use Rattle.bc_turn.specs.Laying.{AreLaidBack}
-use Rattle.bc_turn.specs.Paging.{HasPaged}
+use Rattle.bc_pager.specs.Paging.{HasPaged}
 use Rattle.bc_turn.specs.Taking.{AreHeldDomains, AreRunsOf, AreSparesOf, AreTaken, CanRun, HasBusyAmong, HasReplyRoom, HasRoomForLane, LaneHasRun, IsRoomKept, LiesRight, running_lanes, seat_at, spare_lanes, turn_at, turn_roles}
 use Rattle.bc_turn.proofs.AnsweredLemmas.{AreMoved, answered}
 use Rattle.bc_turn.proofs.BegunLemmas.{IsPagerBack, all-fetched, all-homes, all-put, are-back, are-moved, are-recorded, begun-lane, gathered, may-operate, none-returned, ops-each, own-fetched, paged-back, pager-logged}
@@ -54,7 +54,7 @@ use Rattle.bc_turn.proofs.TableLemmas.{IsTurnTable}
 use Rattle.bc_whole_heap.specs.Heaps.{HeapView, end_of}
 use Rattle.bc_whole_heap.specs.LaneStates.{StandsAs}
 use Rattle.bc_whole_heap.specs.Running.{IsRunning}
-use Rattle.bc_turn.proofs.HomeLemmas.{declined-beside}
+use Rattle.bc_pager.proofs.HomeLemmas.{declined-beside}
 
 -- a list has an element
 pub first-of : {X : Type 0} (xs : List X) → 0 < length xs → X
@@ -368,14 +368,14 @@ module _ (h : HeapView) (hs serials : List ℕ) (lanes : List (List Op)) (before
           each-fits i lt = ops-each h.roots lanes (get_or busy i 0) (busy_are.within i lt) set.ops
 
           pub answered-beside : (t : Layout) → Closed (key_of pins) whole-list t → IsLayout t → (hints : List ℕ) (kept all : List Answer) → old.notices.hints ≡ hints → old.answers.list ≡ kept → all ≡ later.answers.list
-              → AnsweredBeside (IsLookedAt hs lanes h serials (lists_of before) told) (HadInTurn hs lanes h serials (lists_of before) told) h.space hints kept all t
+              → AnsweredBeside (IsLookedAtInTurn hs lanes h serials (lists_of before) told) (HadInTurn hs lanes h serials (lists_of before) told) h.space hints kept all t
           answered-beside t closed given hints kept all hints_are kept_are all_are =
-              answered (IsLookedAt hs lanes h serials (lists_of before) told) (HadInTurn hs lanes h serials (lists_of before) told) (key_of pins) h.space t whole-list hints kept all paged.told fetched left emptied (view_of later.seat) set.opened.opening closed set.layout given
+              answered (IsLookedAtInTurn hs lanes h serials (lists_of before) told) (HadInTurn hs lanes h serials (lists_of before) told) (key_of pins) h.space t whole-list hints kept all paged.told fetched left emptied (view_of later.seat) set.opened.opening closed set.layout given
               moved (all_are ∙ paged.kept ∙ ap (λ (list_before : List Answer). list_before ++ paged.told) kept_are)
               (subst (λ (hs : List ℕ). AreAnswered (key_of pins) hs paged.told (fresh (key_of pins) (role_number (Pager 0) ∷ [])) (view_of later.seat)) hints_are paged.each)
               (own-fetched pins h hs serials lanes (lists_of before) busy (turn_at d runs) (seat_at d runs) (turn_at d new) (seat_at d new) (begun d) (all-ran d) back later.seat table seats-long seats-are pager-back told home.replies each-fits)
-              (declined-beside (key_of pins) h.space t whole-list old.notices.hints paged.told (fresh (key_of pins) (role_number (Pager 0) ∷ [])) (view_of later.seat)
-              (IsLookedAt hs lanes h serials (lists_of before) told) set.opened.opening closed given paged.each
+              (declined-beside (key_of pins) t whole-list old.notices.hints paged.told (fresh (key_of pins) (role_number (Pager 0) ∷ [])) (view_of later.seat)
+              (IsLookedAtInTurn hs lanes h serials (lists_of before) told) closed given.long.states paged.each
               (pager-logged pins h hs serials lanes (lists_of before) busy (turn_at d runs) (seat_at d runs) (turn_at d new) (seat_at d new) (begun d) (all-ran d) back later.seat table seats-long seats-are pager-back)
               (all-fetched pins h hs serials lanes (lists_of before) busy (turn_at d runs) (seat_at d runs) (turn_at d new) (seat_at d new) (begun d) (all-ran d) back later.seat table seats-long seats-are pager-back told home.replies each-fits)
               (all-homes pins h hs serials lanes (lists_of before) busy (turn_at d runs) (seat_at d runs) (turn_at d new) (seat_at d new) (begun d) (all-ran d) back later.seat table seats-long seats-are pager-back told home.replies each-fits

@@ -10,5 +10,3 @@ pub mod Taking
 pub mod Looked
 -- Notices that were answered beside the lanes
 pub mod Answered
--- A pager at work
-pub mod Paging

@@ -21,7 +21,7 @@ pub record IsOnTheWay (holders : List ℕ) (lanes : List (List Op)) (h : HeapVie
 
 -- an operation that the lane of the page's domain did in the turn looks at a cell on the page, or the next one that it would do: in the heap that
 -- its operations before that one make
-pub record IsLookedAt (holders : List ℕ) (lanes : List (List Op)) (h : HeapView) (serials : List ℕ) (before after : List (List Reply)) (page : ℕ) : Type 0 where
+pub record IsLookedAtInTurn (holders : List ℕ) (lanes : List (List Op)) (h : HeapView) (serials : List ℕ) (before after : List (List Reply)) (page : ℕ) : Type 0 where
   pub lane : ℕ
   pub holder : slice_index holders (slice_index h.space.domains (page / 4)) ≡ lane
   pub count : ℕ

@@ -21,7 +21,7 @@
 // lists of these pages each page is accounted for: how often it is Gone, or Absent, at the close. The bookmark bits that came are those of
 // targets that pages had which were made Gone in the turn, and pages were read as often as one came back. Where a
 // notice was declined, each page that is Home afterwards is looked at in the turn (`declined`), by an operation that its lane did or by the
-// next one that it would do; and so is each page that a lane reloaded (`IsLookedAt`).
+// next one that it would do; and so is each page that a lane reloaded (`IsLookedAtInTurn`).
 //
 // What takes memory comes first: room for what each lane takes along (`fit_room`), with a chunk, a write buffer and a list of replies
 // without words that stand in the heap's places meanwhile; the roles, the notices and the list of runs; and the table (`open_table`).
@@ -48,7 +48,6 @@
 mod beginning;
 mod ending;
 mod laws;
-mod paging;
 mod rooms;
 mod runs;
 mod turns;

@@ -3,13 +3,13 @@
 ghost use Rattle.std.specs.Prelude.{◌<◌, length};
 ghost use Rattle.std.specs.Thread.{IsSync};
 ghost use Rattle.bc_model.specs.Rows.{lists_of};
-ghost use Rattle.bc_turn.specs.Paging.{HasPaged, IsPagerReady};
+ghost use Rattle.bc_pager.specs.Paging.{HasPaged, IsPagerReady};
 ghost use Rattle.bc_turn.specs.Taking.{CanAllRun, CanRun, HaveRun, LaneHasRun};
 
-use crate::paging::{Paging, serve_all};
 use bc_gates::Gate;
 use bc_lane::LaneTurn;
 use bc_model::Op;
+use bc_pager::{Paging, serve_all};
 use bc_pins::{Pins, Seat};
 use std::thread;
 use std::thread::Threads;

@@ -1,11 +1,10 @@
 use Rattle.std.proofs.Common.{refl}
 use Rattle.bc_bookmarks.proofs.MovingLemmas.{MovesPages-none}
-use Rattle.bc_whole_heap.proofs.MovingLemmas.{closed-moved}
 use Rattle.bc_running.proofs.MovingLemmas.{gives-more, moves-then}
 use Rattle.bc_running.proofs.serving.give_up_all.Goals as goal
 
 pub loop-hint-init : goal.loop-hint-init
-loop-hint-init c = record { gives = refl; moves = MovesPages-none c.args.space.now c.requires.summarised }
+loop-hint-init c = record { gives = refl; moves = MovesPages-none c.args.space.now c.requires.openable.summarised; openable = c.requires.openable }
 
 pub loop-hint-preserved : goal.loop-hint-preserved
 loop-hint-preserved c =
@@ -16,9 +15,5 @@ loop-hint-preserved c =
     record {
       gives = gives-more s u t c.args.hints.now c.loop-hint.hint-index before.gives c.answer_one-answer.ensures.gives;
       moves = moves-then s u t before.moves c.answer_one-answer.ensures.moves;
+      openable = c.answer_one-answer.ensures.openable;
     }
-
-pub answer_one-answer-requires-clause-closed : goal.answer_one-answer-requires-clause-closed
-answer_one-answer-requires-clause-closed c =
-    let h = c.requires.closed in
-    (h.0, h.1, h.2, h.3, closed-moved h.0 h.1 h.2 h.3 c.loop-hint.invariant.moves h.4)

@@ -6,7 +6,7 @@ use Rattle.bc_pager.specs.contracts.answers.Answers as answers
 use Rattle.bc_pager.specs.contracts.notices.ListNotices as notices
 use Rattle.bc_pins.proofs.SharedLemmas.{pins_sync}
 use Rattle.bc_pins.proofs.pins.Seat.TheSendSync as seat
-use Rattle.bc_turn.specs.contracts.paging.Paging as paging
+use Rattle.bc_pager.specs.contracts.paging.Paging as paging
 use Rattle.bc_turn.proofs.runs.run_abreast.Goals as goal
 
 -- a pager may go to another thread

@@ -21,6 +21,7 @@ serve_all-requires g c =
     let room = ap (λ (a : KeptAnswers). a.room) answers in
     let list = ap (λ (a : KeptAnswers). length a.list) answers in
     let hints = ap (λ (n : HintList). length n.hints) notices in
+    let asked = c.requires.answers in
     record { ready = record { seat = alone-dealt c.in_ok-pins.pins (heap_view c.args.heap.now) c.args.holders.now c.seat_pager-paging.new.seats.items c.seat_pager-paging.result.seat (subst (λ (ss : List Seat). Opened c.args.heap.now.space Lanes c.args.holders.now (turn_roles []) c.in_ok-pins.pins ss) c.seat_pager-paging.ensures.seat c.in_ok-pins.ensures.opened); given = ap (λ (n : HintList). n.given) notices; room = omega arith } }
 
 pub close_table-requires-clause-back : goal.close_table-requires-clause-back
@@ -33,3 +34,10 @@ pub returns-clause-answered : goal.returns-clause-answered
 returns-clause-answered g c =
     alone-answered c.in_ok-pins.pins (heap_view c.args.heap.now) c.args.holders.now c.seat_pager-paging.new.seats.items c.seat_pager-paging.result.seat (subst (λ (ss : List Seat). Opened c.args.heap.now.space Lanes c.args.holders.now (turn_roles []) c.in_ok-pins.pins ss) c.seat_pager-paging.ensures.seat c.in_ok-pins.ensures.opened) c.seat_pager-paging.result c.serve_all.new.paging refl c.serve_all.ensures.paged c.close_table.new.heap.space c.close_table.ensures.closed c.requires.layout c.close_table.ensures.layout c.args.hints.now c.args.answers.now.items c.close_table.new.answers.items
     (ap (λ (n : HintList). n.hints) (c.seat_pager-paging.ensures.notices ∙ c.in_ok-notices.ensures.new)) (ap (λ (a : KeptAnswers). a.list) c.seat_pager-paging.ensures.answers) c.close_table.ensures.answers
+
+pub returns-clause-capacity : goal.returns-clause-capacity
+returns-clause-capacity g c =
+    let before = ap (λ (a : KeptAnswers). a.room) c.seat_pager-paging.ensures.answers in
+    let still = c.serve_all.ensures.paged.room in
+    let last = c.close_table.ensures.capacity in
+    omega arith
