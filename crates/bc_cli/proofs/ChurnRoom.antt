@@ -7,10 +7,10 @@ use Rattle.std.proofs.lemmas.Fmt.{length-decimal-le}
 use Rattle.std.proofs.lemmas.List.{get_or_past}
 use Rattle.std.proofs.lemmas.List.Sums.{get_or-le-sum_by, sum_by-cons}
 use Rattle.bc_model.specs.Run.{replies_of}
-use Rattle.bc_trace.specs.Churn.{churn_trace}
-use Rattle.bc_trace.specs.Counts.{churn_line, churn_text, count_line, count_lines, kind_names, run_counts}
+use Rattle.bc_churn.specs.Churn.{churn_trace}
+use Rattle.bc_churn.specs.Counts.{churn_line, churn_text, count_line, count_lines, kind_names, run_counts}
 use Rattle.bc_trace.specs.Replies.{done_text}
-use Rattle.bc_trace.proofs.ChurnSums.{counted-churn}
+use Rattle.bc_churn.proofs.ChurnSums.{counted-churn}
 use Rattle.bc_cli.specs.Output.{summary}
 
 count_line-short : (name : List ℕ) (n : ℕ) → n < 1000000 → length (count_line name n) ≤ length name + 8

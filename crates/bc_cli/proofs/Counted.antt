@@ -10,10 +10,10 @@ use Rattle.bc_model.specs.Run.{opening, before, phase_at, no_phase, replies_of, 
 use Rattle.bc_model.specs.RunLengths.{ops_of, all_ops_of}
 use Rattle.bc_model.specs.declared.operations.Reply.{Reply}
 use Rattle.bc_model.specs.declared.traces.Setup.{Setup}
-use Rattle.bc_trace.specs.Churn.{churn_trace}
-use Rattle.bc_trace.specs.Counts.{all_replies, phase_replies, counts, run_counts}
-use Rattle.bc_trace.proofs.ChurnNeed.{need-cut, setup-is}
-use Rattle.bc_trace.proofs.ChurnSums.{counted-once, counted-run, trace-ops}
+use Rattle.bc_churn.specs.Churn.{churn_trace}
+use Rattle.bc_churn.specs.Counts.{all_replies, phase_replies, counts, run_counts}
+use Rattle.bc_churn.proofs.ChurnNeed.{need-cut, setup-is}
+use Rattle.bc_churn.proofs.ChurnSums.{counted-once, counted-run, trace-ops}
 use Rattle.bc_cli.specs.Churns.{HasChurned}
 use Rattle.bc_cli.specs.Endings.{FitsThroughout}
 use Rattle.bc_cli.specs.BetweenPhases.{HasRun}

@@ -11,7 +11,7 @@ use Rattle.bc_model.specs.Run.{after_phase, after_phases, replies_of_phases, rep
 use Rattle.bc_model.specs.State.{State}
 use Rattle.bc_trace.specs.Replies.{phase_text, phases_text}
 use Rattle.bc_trace.proofs.Texts.{phases_text-append}
-use Rattle.bc_trace.proofs.ChurnNeed.{after_phases-append}
+use Rattle.bc_churn.proofs.ChurnNeed.{after_phases-append}
 use Rattle.bc_cli.specs.Output.{texts_from}
 
 pub replies-append : (s : State) (ps qs : List PhaseLists) → replies_of_phases s (ps ++ qs) ≡ replies_of_phases s ps ++ replies_of_phases (after_phases s ps) qs

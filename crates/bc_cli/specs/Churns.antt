@@ -4,7 +4,7 @@ use Rattle.std.specs.Prelude.{ℕ, List, Option, None, IsSomeAnd}
 use Rattle.bc_engine.specs.Engines.{EngineView, HasEmptyChunks}
 use Rattle.bc_io.specs.Told.{HeldGrows}
 use Rattle.bc_model.specs.Run.{final_state}
-use Rattle.bc_trace.specs.Churn.{churn_trace}
+use Rattle.bc_churn.specs.Churn.{churn_trace}
 use Rattle.bc_cli.specs.Endings.{HandsBack, WritesFront}
 use Rattle.bc_cli.specs.Output.{summary}
 

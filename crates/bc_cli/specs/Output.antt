@@ -4,8 +4,8 @@ use Rattle.std.specs.Prelude.{ℕ, ◌+◌, List, ◌++◌, take}
 use Rattle.bc_model.specs.Lists.{PhaseLists, TraceLists}
 use Rattle.bc_model.specs.Run.{opening, replies_of, replies_of_phases, replies_to_lanes, before, phase_at, replies_of_cut}
 use Rattle.bc_model.specs.State.{State}
-use Rattle.bc_trace.specs.Churn.{churn_trace}
-use Rattle.bc_trace.specs.Counts.{churn_text, run_counts}
+use Rattle.bc_churn.specs.Churn.{churn_trace}
+use Rattle.bc_churn.specs.Counts.{churn_text, run_counts}
 use Rattle.bc_trace.specs.Replies.{phase_text, phases_text, done_text, out_of_heap_text}
 
 -- the texts of phases that are run from this state, the first of them being phase 1

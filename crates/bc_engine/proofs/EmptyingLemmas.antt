@@ -1,8 +1,8 @@
 -- What an emptying of the nurseries, or its refusal, means to an engine.
-use Rattle.std.proofs.Common.{Vec, Global, ◌≡◌, ℕ, ◌<◌, ◌≤◌, Bool, true, false, inl, inr, List, length, map, refl, sym, ap, subst, ◌∙◌, arith}
+use Rattle.std.proofs.Common.{Vec, Global, ◌≡◌, ℕ, ◌<◌, ◌≤◌, Bool, true, false, inl, inr, List, [], length, map, refl, sym, ap, subst, ◌∙◌, arith}
 use Rattle.std.proofs.Math.ListN.{get_or-map}
-use Rattle.std.proofs.lemmas.List.{length-map}
-use Rattle.bc_cycle.specs.Collecting.{IsCollectedHeap}
+use Rattle.std.proofs.lemmas.List.{append-nil, length-map}
+use Rattle.bc_cycle.specs.Collecting.{CollectsBeside}
 use Rattle.bc_cycle.specs.Emptying.{outline_nursery, IsEmptied, KeepsMeaning}
 use Rattle.bc_cycle.proofs.ChunkLists.{chunk-emptied}
 use Rattle.bc_whole_heap.specs.Closed.{buffer_of, no_buffer}
@@ -17,6 +17,7 @@ use Rattle.bc_nursery.specs.Entries.{Entries}
 use Rattle.bc_nursery.specs.Buffers.{without_entries}
 use Rattle.bc_nursery.specs.Objects.{emptied}
 use Rattle.bc_nursery.specs.Nurseries.{Nursery}
+use Rattle.bc_pager.specs.declared.answers.Answer.{Answer}
 use Rattle.bc_promotion.specs.Promises.{HasDomainsBelow}
 use Rattle.bc_superpages.specs.RootWords.{RootWords}
 use Rattle.bc_model.specs.declared.operations.Op.{Op}
@@ -27,11 +28,11 @@ use Rattle.bc_running.specs.RunningFacts.{running_of, IsSound}
 use Rattle.bc_whole_heap.specs.Running.{IsRunning}
 use Rattle.bc_engine.specs.Lanes.{LanesRan, LanesWentOn}
 use Rattle.bc_engine.proofs.GoingLemmas.{goes-none}
-use Rattle.bc_engine.proofs.RunLemmas.{runs-none, runs-same}
+use Rattle.bc_engine.proofs.RunLemmas.{runs-none, runs-same, runs-then}
 use Rattle.bc_engine.specs.Engines.{HasEmptyChunks}
 use Rattle.bc_engine.specs.EngineFacts.{HasSetup, CanRunLanes, IsUnrecorded}
-use Rattle.bc_engine.specs.Counting.{CountsEarly}
-use Rattle.bc_engine.specs.Rounds.{MayCollect, SameLanes}
+use Rattle.bc_engine.specs.Counting.{CountsEarly, left_since}
+use Rattle.bc_engine.specs.Rounds.{CollectsAnd, EmptiesNurseries, MayCollect, SameLanes}
 use Rattle.bc_engine.specs.declared.counters.Counters.{Counters}
 
 -- what is true of a heap with the holders and births that there were is true with those that there are, which are the same
@@ -135,25 +136,45 @@ ready-refused setup {r} {q} held same is sound ready =
     through r q (CanRunLanes setup) held same (ready-kept setup is (subst (IsRunning q.heap) held sound.running) ready)
 
 -- what came between a turn and its minor collection, as the call answers it
-pub may-collect : {nurseries n : ℕ} {r q : RunningView} {c d : Counters} (early : Bool) → nurseries ≤ n → (early ≡ true → (r.heap.space.free < nurseries) × IsCollectedHeap r.heap q.heap) → (early ≡ false → q ≡ r) → CountsEarly c early d → SameLanes r q → MayCollect n r q c d
-may-collect true few collected same counts lanes = record {
-  way = let is = collected refl in inr (omega (arith, is.0, few), is.1, counts);
-  lanes = lanes;
-}
-may-collect false few collected same counts lanes = record { way = inl (same refl, counts); lanes = lanes }
+pub may-collect : {few n from to : ℕ} {lines : List (List ℕ)} {before after : List Answer} {r q : RunningView} {c d : Counters} (early : Bool) → few ≤ n
+    → (early ≡ true → (r.heap.space.free < few) × CollectsBeside lines r.heap from before q.heap to after)
+    → (early ≡ false → (q ≡ r) × (to ≡ from) × (after ≡ before)) → CountsEarly c early (left_since (length before) after) d → SameLanes r q → IsSound q
+    → MayCollect n lines r from before q to after c d
+may-collect true le collected same counts lanes sound =
+    let some = collected refl in
+    let c = some.1 in
+    record { turns = c.turns; told = c.told; uses = c.uses; way = inr (omega (arith, some.0, le), c.collected, counts, c.marking, c.untried); lanes = lanes; sound = sound }
+may-collect {before = before} false le collected same counts lanes sound =
+    let none = same refl in
+    record {
+      turns = 0;
+      told = [];
+      uses = record { answers = none.2 ∙ sym (append-nil before); next = none.1; long = refl };
+      way = inl (none.0, refl, counts);
+      lanes = lanes;
+      sound = sound;
+    }
 
 -- what lanes can run on, and what it stands for, stays where a bookmark collection may have come
-pub runs-collected : (lanes : List (List Op)) {n : ℕ} {r q : RunningView} {c d : Counters} (told : List (Vec Reply Global)) → MayCollect n r q c d → IsSound q → LanesRan lanes r told q told
-runs-collected lanes {n} {r} {q} told collects sound = elim collects.way [
-  | inl none ↦ runs-same lanes r q told none.0
+pub runs-collected : (lanes : List (List Op)) {n from to : ℕ} {lines : List (List ℕ)} {before after : List Answer} {r q : RunningView} {c d : Counters} (told : List (Vec Reply Global)) → MayCollect n lines r from before q to after c d → LanesRan lanes r told q told
+runs-collected lanes {r = r} {q = q} told collects = elim collects.way [
+  | inl same ↦ runs-same lanes r q told same.0
   | inr collected ↦
       runs-none lanes r q told collects.lanes.0 collects.lanes.1
       (λ state st. through r q (λ (x : RunningView). RunningStands x state) collects.lanes.0 collects.lanes.1 (stands-refused state collected.1.meaning st))
-      (λ setup ready. ready-refused setup collects.lanes.0 collects.lanes.1 collected.1.meaning sound ready)
+      (λ setup ready. ready-refused setup collects.lanes.0 collects.lanes.1 collected.1.meaning collects.sound ready)
 ]
 
-pub slots-collected : {n : ℕ} {r q : RunningView} {c d : Counters} → MayCollect n r q c d → q.heap.roots.slots ≡ r.heap.roots.slots
-slots-collected {n} {r} {q} collects = elim collects.way [
-  | inl none ↦ ap (λ (x : RunningView). x.heap.roots.slots) none.0
+slots-collected : {n from to : ℕ} {lines : List (List ℕ)} {before after : List Answer} {r q : RunningView} {c d : Counters} → MayCollect n lines r from before q to after c d → q.heap.roots.slots ≡ r.heap.roots.slots
+slots-collected collects = elim collects.way [
+  | inl same ↦ ap (λ (x : RunningView). x.heap.roots.slots) same.0
   | inr collected ↦ ap (λ (x : RootWords). x.slots) collected.1.meaning.sizes.roots
 ]
+
+-- lanes can run on when it came and the nurseries were emptied
+pub runs-minor : (lanes : List (List Op)) {n from to : ℕ} {lines : List (List ℕ)} {before after : List Answer} {r q : RunningView} {c d : Counters} (told : List (Vec Reply Global)) → CollectsAnd EmptiesNurseries n lines r from before q to after c d → LanesRan lanes r told q told
+runs-minor lanes told minor =
+    runs-then (runs-collected lanes told minor.collects) (runs-emptied lanes told minor.next.lanes.0 minor.next.lanes.1 minor.next.emptied)
+
+pub slots-minor : {n from to : ℕ} {lines : List (List ℕ)} {before after : List Answer} {r q : RunningView} {c d : Counters} → CollectsAnd EmptiesNurseries n lines r from before q to after c d → q.heap.roots.slots ≡ r.heap.roots.slots
+slots-minor minor = slots-emptied minor.next.emptied ∙ slots-collected minor.collects

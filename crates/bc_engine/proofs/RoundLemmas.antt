@@ -1,5 +1,5 @@
 -- A round: the lanes run, the nurseries are emptied, and the lanes that aren't at their ends do one operation more.
-use Rattle.std.proofs.Common.{Vec, Global, ◌≡◌, ◌≢◌, ℕ, ◌<◌, ◌≤◌, List, length, Option, Some, None, Err, refl, sym, subst, arith}
+use Rattle.std.proofs.Common.{Vec, Global, ◌≡◌, ◌≢◌, ℕ, ◌*◌, ◌<◌, ◌≤◌, List, length, Option, Some, None, Err, refl, sym, subst, ◌∙◌, arith}
 use Rattle.bc_cycle.specs.Causes.{IfOutOfHeap}
 use Rattle.bc_cycle.specs.Emptying.{KeepsMeaning}
 use Rattle.bc_cycle.specs.declared.emptying.CycleError.{CycleError}
@@ -9,11 +9,13 @@ use Rattle.bc_model.specs.Rows.{lists_of}
 use Rattle.bc_model.specs.declared.traces.Setup.{Setup}
 use Rattle.bc_model.specs.declared.operations.Op.{Op}
 use Rattle.bc_model.specs.declared.operations.Reply.{Reply}
+use Rattle.bc_pager.specs.declared.answers.Answer.{Answer}
 use Rattle.bc_superpages.specs.Layout.{superpages}
 use Rattle.bc_engine.specs.Answers.{IfNoRoom, IfTooSmall}
 use Rattle.bc_engine.specs.Engines.{EngineView}
 use Rattle.bc_engine.specs.Lanes.{of_lane, EachFurther, HasMore, IsUnderway, LanesRan, left}
-use Rattle.bc_engine.specs.Rounds.{RoundsWentOn, IsTooSmall, IsUnderwayOn}
+use Rattle.bc_engine.specs.Rounds.{CollectsAnd, HadTurn, RoundsWentOn, SameLanes, IsTooSmall, IsUnderwayOn}
+use Rattle.bc_engine.specs.declared.counters.Counters.{Counters}
 use Rattle.bc_engine.specs.declared.engines.Ended.{Ended}
 use Rattle.bc_engine.specs.declared.engines.Ended.TheVariants.{OutOfHeap, NoMemory}
 use Rattle.bc_engine.specs.declared.rounds.RoundsError.{RoundsError}
@@ -89,3 +91,32 @@ small-then g replies need first small = record { cause = small.cause; goes = goe
 -- before the first round
 pub on-begun : (lanes : List (List Op)) (e : EngineView) (told : List (Vec Reply Global)) → e.ended ≡ None → RoundsWentOn lanes e told e told
 on-begun lanes e told going = record { going = going; runs = runs-same lanes e.running e.running told refl }
+
+-- nobody's domain changes hands, and no lane makes an object, in one stretch after another
+pub lanes-then : (r q x : RunningView) → SameLanes r q → SameLanes q x → SameLanes r x
+lanes-then r q x first second = (second.0 ∙ first.0, second.1 ∙ first.1)
+
+-- a turn, of the answers that there were and of the hints of its line
+pub had-hints : {lanes : List (List Op)} {r q : RunningView} {told replies : List (Vec Reply Global)} {asked kept answers : List Answer} {hints line : List ℕ} {c d : Counters} → kept ≡ asked → hints ≡ line → HadTurn lanes r told kept hints q replies answers c d → HadTurn lanes r told asked line q replies answers c d
+had-hints {lanes} {r} {q} {told} {replies} {asked} {kept} {answers} {hints} {line} {c} {d} list same had =
+    subst (λ (hs : List ℕ). HadTurn lanes r told asked hs q replies answers c d) same
+    (subst (λ (xs : List Answer). HadTurn lanes r told xs hints q replies answers c d) list had)
+
+-- what came then, on a heap of the same setup and from the line behind it
+pub minor-from : {Then : List (List ℕ) → RunningView → ℕ → List Answer → RunningView → ℕ → List Answer → Counters → Counters → Type 0} {s t : Setup} {lines : List (List ℕ)} {r q : RunningView} {from line to : ℕ} {before after : List Answer} {c d : Counters} → t ≡ s → from ≡ line → CollectsAnd Then (t.lanes * t.nursery) lines r from before q to after c d → CollectsAnd Then (s.lanes * s.nursery) lines r line before q to after c d
+minor-from {Then} {s} {t} {lines} {r} {q} {from} {line} {to} {before} {after} {c} {d} same at minor =
+    subst (λ (x : Setup). CollectsAnd Then (x.lanes * x.nursery) lines r line before q to after c d) same
+    (subst (λ (n : ℕ). CollectsAnd Then (t.lanes * t.nursery) lines r n before q to after c d) at minor)
+
+-- engines that are alike in each part
+alike : (r : RunningView) (s t : Setup) (v w : ℕ) (x y : Option Ended) (answers : List Answer) (c : Counters) → s ≡ t → v ≡ w → x ≡ y
+    → let e : EngineView = record { running = r; setup = s; workers = v; ended = x; answers = answers; counters = c } in
+    let f : EngineView = record { running = r; setup = t; workers = w; ended = y; answers = answers; counters = c } in e ≡ f
+alike r s t v w x y answers c setup workers ended = cc
+
+-- an engine of which only the heap, the answers and the counts are others, or besides how it ended
+pub rest-of : (e f : EngineView) → f.setup ≡ e.setup → f.workers ≡ e.workers → f.ended ≡ e.ended → f ≡ record e { running = f.running; answers = f.answers; counters = f.counters }
+rest-of e f setup workers ended = alike f.running f.setup e.setup f.workers e.workers f.ended e.ended f.answers f.counters setup workers ended
+
+pub left-from : (e f : EngineView) → f.setup ≡ e.setup → f.workers ≡ e.workers → f ≡ record e { running = f.running; ended = f.ended; answers = f.answers; counters = f.counters }
+left-from e f setup workers = alike f.running f.setup e.setup f.workers e.workers f.ended f.ended f.answers f.counters setup workers refl

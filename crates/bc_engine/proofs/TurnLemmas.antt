@@ -1,35 +1,37 @@
 -- A turn: the lanes run, and the notices of its line are answered.
-use Rattle.std.proofs.Common.{Vec, Global, ◌≡◌, ℕ, ◌+◌, ◌%◌, ◌<◌, ◌≤◌, Bool, true, false, if◌then◌else◌, inl, inr, Some, List, [], ◌∷◌, length, nat_lt, refl, sym, ap, subst, ◌∙◌, arith, tests, slice_index_or}
-use Prim.Native.Nat.{suc}
+use Rattle.std.proofs.Common.{Vec, Global, ◌≡◌, ℕ, ◌+◌, ◌*◌, ◌%◌, ◌<◌, ◌≤◌, Bool, true, false, if◌then◌else◌, inl, inr, Some, List, [], ◌∷◌, length, max, get_or, drop, nat_lt, refl, sym, ap, subst, ◌∙◌, arith, tests}
+use Prim.Native.Nat.{zero, suc}
 use Rattle.std.proofs.Math.Nat.{mod-eq_of_lt, mod-lt, mod_self, suc-mod, zero-mod}
 use Rattle.std.proofs.lemmas.Bool.{cases_lt}
-use Rattle.std.proofs.lemmas.List.{get_or_past, length-map}
+use Rattle.std.proofs.lemmas.List.{at_drop_all, drop_more, get_or-map, length-map}
 use Rattle.bc_engine.specs.Engines.{EngineView}
 use Rattle.bc_engine.specs.EngineFacts.{with_answers, with_holders}
 use Rattle.bc_engine.specs.declared.engines.Ended.TheVariants.{NoMemory}
 use Rattle.bc_engine.specs.PhaseTurns.{HadTurns, HadTurnsToCut, HadTurnsToWant, HasNoHints}
-use Rattle.bc_engine.specs.Rounds.{CutRound, HasNoRoomFor, IsRoomFor, LastRound, RanAll, RanRound, RanRounds, RanToCut, RanToWant}
+use Rattle.bc_engine.specs.Rounds.{CutRound, HasNoRoomFor, IsRoomFor, LastRound, RanAll, RanRound, RanRounds, RanToCut, RanToWant, longest_of, turns_of_cut, turns_of_last, turns_of_round}
 use Rattle.bc_bookmarks.specs.Changes.{Settled}
 use Rattle.bc_model.specs.Lists.{PhaseLists}
 use Rattle.bc_model.specs.Rows.{lists_of}
 use Rattle.bc_model.specs.declared.operations.Op.{Op}
 use Rattle.bc_model.specs.declared.operations.Reply.{Reply}
+use Rattle.bc_marking.proofs.LineLemmas.{along-more}
+use Rattle.bc_marking.specs.Lines.{hints_at, line_along, line_behind}
+use Rattle.bc_pager.specs.Alone.{AnsweredAlone}
 use Rattle.bc_pager.specs.declared.answers.Answer.{Answer}
 use Rattle.bc_running.specs.Running.{RunningView}
 use Rattle.bc_running.specs.RunningFacts.{with_space}
-use Rattle.bc_running.specs.Serving.{AnsweredAlone}
 use Rattle.bc_superpages.specs.RootWords.{RootWords}
 use Rattle.bc_turn.specs.Answered.{AnsweredBeside}
-use Rattle.bc_turn.specs.Looked.{HadInTurn, IsLookedAt}
+use Rattle.bc_turn.specs.Looked.{HadInTurn, IsLookedAtInTurn}
 use Rattle.bc_turn.specs.Taking.{IsRoomKept}
 use Rattle.bc_turn.specs.declared.rooms.TurnRoom.{TurnRoom}
 use Rattle.bc_turn.proofs.RoomLemmas.{room-kept}
 use Rattle.bc_engine.specs.Attempts.{EachAlone, RanByAttempts, StoppedAlone}
 use Rattle.bc_engine.specs.Lanes.{of_lane, EachStopped, LanesRan, LeavesCells, StopsInTurn}
-use Rattle.bc_engine.specs.Turns.{RanTurn, hints_of, line_behind}
+use Rattle.bc_engine.specs.Turns.{RanTurn, hints_of, line_of}
 
 -- the lanes ran side by side, beside them notices were answered, and then the heap was settled
-pub turn-together : {lanes : List (List Op)} {r q x : RunningView} {told replies : List (Vec Reply Global)} {asked answers : List Answer} {hints : List ℕ} → LanesRan lanes r told q replies → LeavesCells r q → EachStopped (StopsInTurn q.heap.space) lanes r told q replies → AnsweredBeside (IsLookedAt r.holders lanes r.heap r.serials (lists_of told) (lists_of replies)) (HadInTurn r.holders lanes r.heap r.serials (lists_of told) (lists_of replies)) r.heap.space hints asked answers q.heap.space → Settled q.heap.space x.heap.space → x ≡ with_space q x.heap.space → RanTurn lanes r told asked hints x replies answers
+pub turn-together : {lanes : List (List Op)} {r q x : RunningView} {told replies : List (Vec Reply Global)} {asked answers : List Answer} {hints : List ℕ} → LanesRan lanes r told q replies → LeavesCells r q → EachStopped (StopsInTurn q.heap.space) lanes r told q replies → AnsweredBeside (IsLookedAtInTurn r.holders lanes r.heap r.serials (lists_of told) (lists_of replies)) (HadInTurn r.holders lanes r.heap r.serials (lists_of told) (lists_of replies)) r.heap.space hints asked answers q.heap.space → Settled q.heap.space x.heap.space → x ≡ with_space q x.heap.space → RanTurn lanes r told asked hints x replies answers
 turn-together {lanes} {r} {q} {x} ran leaves stopped answered settled rest =
     record { mid = q; ran = ran; leaves = leaves; way = inl (stopped, answered, settled); rest = rest }
 
@@ -50,6 +52,27 @@ turn-hints {lanes} {r} {x} {told} {replies} {asked} {kept} {answers} {hints} {li
     subst (λ (hs : List ℕ). RanTurn lanes r told asked hs x replies answers) same
     (subst (λ (xs : List Answer). RanTurn lanes r told xs hints x replies answers) list turn)
 
+-- no line is longer than the longest
+pub hints-short : (lines : List (List ℕ)) (n : ℕ) → length (hints_at lines n) ≤ longest_of lines
+hints-short [] n = omega arith
+hints-short (line ∷ lines) zero = omega arith
+hints-short (line ∷ lines) (suc n) = omega (arith, hints-short lines n)
+
+-- the longest line is that of the lines from one on, and of those before it
+pub longest-more : (lines : List (Vec ℕ Global)) (i most more : ℕ) (line : Vec ℕ Global) → i < length lines → line ≡ get_or lines i line → more ≡ max most (length line.items) → max most (longest_of (drop i (lists_of lines))) ≡ longest_of (lists_of lines)
+    → max more (longest_of (drop (i + 1) (lists_of lines))) ≡ longest_of (lists_of lines)
+longest-more lines i most more line lt is up before =
+    let long : length (lists_of lines) ≡ length lines = length-map lines (λ (v : Vec ℕ Global). v.items) in
+    let here : get_or (lists_of lines) i [] ≡ line.items = get_or-map (λ (v : Vec ℕ Global). v.items) lines i line [] lt ∙ ap (λ (v : Vec ℕ Global). v.items) (sym is) in
+    let next : longest_of (drop i (lists_of lines)) ≡ max (length (get_or (lists_of lines) i [])) (longest_of (drop (i + 1) (lists_of lines))) =
+    ap longest_of (drop_more (lists_of lines) i [] (omega (arith, lt, long))) in
+    omega (arith, before, next, up, ap length here)
+
+pub longest-all : (lines : List (Vec ℕ Global)) (i most : ℕ) → length lines ≤ i → max most (longest_of (drop i (lists_of lines))) ≡ longest_of (lists_of lines) → most ≡ longest_of (lists_of lines)
+longest-all lines i most past before =
+    let none : longest_of (drop i (lists_of lines)) ≡ 0 = at_drop_all longest_of (lists_of lines) i (omega (arith, past, length-map lines (λ (v : Vec ℕ Global). v.items))) in
+    omega (arith, before, none)
+
 -- a turn leaves the number of slots
 pub slots-left : {r q : RunningView} → LeavesCells r q → q.heap.roots.slots ≡ r.heap.roots.slots
 slots-left leaves = ap (λ (x : RootWords). x.slots) leaves.roots
@@ -67,25 +90,12 @@ kept-later {hs} {ks} {m} {n} lanes told answers room held slots more kept =
 pub each-stopped : (vs : List (Vec Op Global)) {r q : RunningView} {told answers : List (Vec Reply Global)} → ((j : ℕ) → j < length vs → StoppedAlone (lists_of vs) r told q answers j) → EachAlone (lists_of vs) r told q answers
 each-stopped vs stopped = λ j lt. stopped j (omega (arith, lt, length-map vs (λ (v : Vec Op Global). v.items)))
 
--- the line of the turn of this number, where there are lines
-abbrev pub IsLineOf : List (List ℕ) → ℕ → ℕ → Type 0
-IsLineOf lines turn next = 0 < length lines → next ≡ turn % length lines
-
--- a phase begins with its first line
-pub line-begun : (lines : List (List ℕ)) → IsLineOf lines 0 0
-line-begun lines some = sym (zero-mod (length lines))
-
-line-hints : (lines : List (List ℕ)) (turn next : ℕ) → IsLineOf lines turn next → slice_index_or lines next [] ≡ hints_of lines turn
-line-hints [] turn next is = get_or_past [] next [] (omega arith) ∙ sym (get_or_past [] (turn % 0) [] (omega arith))
-line-hints (hints ∷ lines) turn next is = ap (λ (i : ℕ). slice_index_or (hints ∷ lines) i []) (is (omega arith))
-
--- after the line of a turn comes that of the next turn
-behind : (length turn : ℕ) → 0 < length → (if nat_lt (turn % length + 1) length then turn % length + 1 else 0) ≡ (turn + 1) % length
+-- the line after that of a turn is that of the next turn
+behind : (length turn : ℕ) → 0 < length → (if nat_lt (turn % length + 1) length then turn % length + 1 else 0) ≡ suc turn % length
 behind length turn some =
     let place : ℕ = turn % length in
     let within : place < length = mod-lt turn some in
-    let one : suc turn ≡ turn + 1 = omega arith in
-    let next : (turn + 1) % length ≡ suc place % length = ap (λ (n : ℕ). n % length) (sym one) ∙ suc-mod turn length in
+    let next : suc turn % length ≡ suc place % length = suc-mod turn length in
     elim (cases_lt (place + 1) length) [
       | inl less ↦
           let same : suc place % length ≡ suc place = mod-eq_of_lt (let e : suc place ≡ place + 1 = omega arith in omega (arith, less, e)) in
@@ -102,51 +112,63 @@ behind length turn some =
     lt-no : (a b : ℕ) → b ≤ a → nat_lt a b ≡ false
     lt-no a b le = grind (arith, tests)
 
-line-next : (lines : List (List ℕ)) (turn next behind_it : ℕ) → behind_it ≡ line_behind lines next → IsLineOf lines turn next → IsLineOf lines (suc turn) behind_it
-line-next lines turn next behind_it moved is some =
-    let one : turn + 1 ≡ suc turn = omega arith in
-    moved ∙ ap (line_behind lines) (is some) ∙ behind (length lines) turn some ∙ ap (λ (n : ℕ). n % length lines) one
+-- so the line of a turn is that of its number, modulo how many lines there are
+pub line-number : (lines : List (List ℕ)) (turn : ℕ) → 0 < length lines → line_of lines turn ≡ turn % length lines
+line-number lines zero some = sym (zero-mod (length lines))
+line-number lines (suc turn) some = ap (line_behind lines) (line-number lines turn some) ∙ behind (length lines) turn some
 
--- so many rounds were run, and this is the line of the next turn
+-- this many rounds were run, in so many turns, and this is the line of the next turn
 pub record IsAtTurn (lanes : List (List Op)) (lines : List (List ℕ)) (e : EngineView) (told : List (Vec Reply Global)) (f : EngineView) (replies : List (Vec Reply Global)) (next : ℕ) : Type 0 where
   pub count : ℕ
-  pub rounds : RanRounds lanes lines e told count f replies
-  pub line : IsLineOf lines count next
+  pub used : ℕ
+  pub rounds : RanRounds lanes lines e told count used f replies
+  pub line : next ≡ line_of lines used
 
 pub turns-begun : (lanes : List (List Op)) (lines : List (List ℕ)) (e : EngineView) (told : List (Vec Reply Global)) → IsAtTurn lanes lines e told e told 0
-turns-begun lanes lines e told = record { count = 0; rounds = (refl, refl); line = line-begun lines }
+turns-begun lanes lines e told = record { count = 0; used = 0; rounds = (refl, refl, refl); line = refl }
+
+-- the line after those of a round
+round-line : {lanes : List (List Op)} {lines : List (List ℕ)} {f g : EngineView} {mid replies : List (Vec Reply Global)} (used : ℕ) {next : ℕ} (r : RanRound lanes lines f mid (line_of lines used) g replies next) → next ≡ line_of lines (used + turns_of_round r)
+round-line {lines = lines} used {next} r =
+    let c = r.empties.collects in
+    let b = r.empties.next.beside in
+    let mid : r.empties.mid ≡ line_along lines 0 (suc used + c.turns) = c.uses.next ∙ sym (along-more lines 0 (suc used) c.turns) in
+    let count : suc used + c.turns + b.turns ≡ used + suc (c.turns + b.turns) = omega arith in
+    b.uses.next ∙ ap (λ (n : ℕ). line_along lines n b.turns) mid ∙ sym (along-more lines 0 (suc used + c.turns) b.turns) ∙ ap (line_along lines 0) count
 
 -- one round more
-round-more : {lanes : List (List Op)} {lines : List (List ℕ)} {e f : EngineView} {told mid : List (Vec Reply Global)} {next : ℕ} (g : EngineView) (replies : List (Vec Reply Global)) → (at : IsAtTurn lanes lines e told f mid next) → RanRound lanes f mid (slice_index_or lines next []) g replies → RanRounds lanes lines e told (suc at.count) g replies
-round-more {lanes} {lines} {e} {f} {told} {mid} {next} g replies at round =
-    (f, mid, at.rounds, subst (λ (hints : List ℕ). RanRound lanes f mid hints g replies) (line-hints lines at.count next at.line) round)
+pub turns-more : {lanes : List (List Op)} {lines : List (List ℕ)} {e f : EngineView} {told mid : List (Vec Reply Global)} {next : ℕ} (g : EngineView) (replies : List (Vec Reply Global)) (behind_it : ℕ) → IsAtTurn lanes lines e told f mid next → RanRound lanes lines f mid next g replies behind_it → IsAtTurn lanes lines e told g replies behind_it
+turns-more {lanes} {lines} {e} {f} {told} {mid} {next} g replies behind_it at round =
+    let r : RanRound lanes lines f mid (line_of lines at.used) g replies behind_it = subst (λ (n : ℕ). RanRound lanes lines f mid n g replies behind_it) at.line round in
+    record {
+      count = suc at.count;
+      used = at.used + turns_of_round r;
+      rounds = (f, mid, at.used, behind_it, at.rounds, r, refl);
+      line = round-line at.used r;
+    }
 
-pub turns-more : {lanes : List (List Op)} {lines : List (List ℕ)} {e f : EngineView} {told mid : List (Vec Reply Global)} {next : ℕ} (g : EngineView) (replies : List (Vec Reply Global)) (behind_it : ℕ) → IsAtTurn lanes lines e told f mid next → behind_it ≡ line_behind lines next → RanRound lanes f mid (slice_index_or lines next []) g replies → IsAtTurn lanes lines e told g replies behind_it
-turns-more {lanes} {lines} {e} {f} {told} {mid} {next} g replies behind_it at moved round = record {
-  count = suc at.count;
-  rounds = round-more g replies at round;
-  line = line-next lines at.count next behind_it moved at.line;
-}
-
-pub turns-all : {lanes : List (List Op)} {lines : List (List ℕ)} {e f : EngineView} {told mid : List (Vec Reply Global)} {next : ℕ} (g : EngineView) (replies : List (Vec Reply Global)) → IsAtTurn lanes lines e told f mid next → LastRound lanes f mid (slice_index_or lines next []) g replies → RanAll lanes lines e told g replies
+pub turns-all : {lanes : List (List Op)} {lines : List (List ℕ)} {e f : EngineView} {told mid : List (Vec Reply Global)} {next : ℕ} (g : EngineView) (replies : List (Vec Reply Global)) → IsAtTurn lanes lines e told f mid next → LastRound lanes lines f mid next g replies → (turns : ℕ) × RanAll lanes lines e told turns g replies
 turns-all {lanes} {lines} {e} {f} {told} {mid} {next} g replies at last =
-    (at.count, f, mid, at.rounds, subst (λ (hints : List ℕ). LastRound lanes f mid hints g replies) (line-hints lines at.count next at.line) last)
+    let r : LastRound lanes lines f mid (line_of lines at.used) g replies = subst (λ (n : ℕ). LastRound lanes lines f mid n g replies) at.line last in
+    (at.used + turns_of_last r, (at.count, at.used, f, mid, at.rounds, r, refl))
 
-pub turns-cut : {lanes : List (List Op)} {lines : List (List ℕ)} {e f : EngineView} {told mid : List (Vec Reply Global)} {next : ℕ} (g : EngineView) (replies : List (Vec Reply Global)) → IsAtTurn lanes lines e told f mid next → CutRound lanes f mid (slice_index_or lines next []) g replies → RanToCut lanes lines e told g replies
+pub turns-cut : {lanes : List (List Op)} {lines : List (List ℕ)} {e f : EngineView} {told mid : List (Vec Reply Global)} {next : ℕ} (g : EngineView) (replies : List (Vec Reply Global)) → IsAtTurn lanes lines e told f mid next → CutRound lanes lines f mid next g replies → (turns : ℕ) × RanToCut lanes lines e told turns g replies
 turns-cut {lanes} {lines} {e} {f} {told} {mid} {next} g replies at cut =
-    (at.count, f, mid, at.rounds, subst (λ (hints : List ℕ). CutRound lanes f mid hints g replies) (line-hints lines at.count next at.line) cut)
+    let r : CutRound lanes lines f mid (line_of lines at.used) g replies = subst (λ (n : ℕ). CutRound lanes lines f mid n g replies) at.line cut in
+    (at.used + turns_of_cut r, (at.count, at.used, f, mid, at.rounds, r, refl))
 
-pub turns-want : {lanes : List (List Op)} {lines : List (List ℕ)} {e f : EngineView} {told mid : List (Vec Reply Global)} {next : ℕ} (g : EngineView) (replies : List (Vec Reply Global)) (kept : Vec Answer Global) → IsAtTurn lanes lines e told f mid next → g ≡ f → replies ≡ mid → HasNoRoomFor kept (length (slice_index_or lines next [])) → RanToWant lanes lines e told g replies kept
+pub turns-want : {lanes : List (List Op)} {lines : List (List ℕ)} {e f : EngineView} {told mid : List (Vec Reply Global)} {next : ℕ} (g : EngineView) (replies : List (Vec Reply Global)) (kept : Vec Answer Global) → IsAtTurn lanes lines e told f mid next → g ≡ f → replies ≡ mid → HasNoRoomFor kept (length (hints_at lines next) + 2 * longest_of lines) → RanToWant lanes lines e told g replies kept
 turns-want {lanes} {lines} {e} {f} {told} {mid} {next} g replies kept at same back wants = (
   at.count,
-  subst (λ (x : EngineView). RanRounds lanes lines e told at.count x replies) (sym same)
-      (subst (λ (vs : List (Vec Reply Global)). RanRounds lanes lines e told at.count f vs) (sym back) at.rounds),
-  subst (λ (hints : List ℕ). HasNoRoomFor kept (length hints)) (line-hints lines at.count next at.line) wants,
+  at.used,
+  subst (λ (x : EngineView). RanRounds lanes lines e told at.count at.used x replies) (sym same)
+      (subst (λ (vs : List (Vec Reply Global)). RanRounds lanes lines e told at.count at.used f vs) (sym back) at.rounds),
+  subst (λ (n : ℕ). HasNoRoomFor kept (length (hints_at lines n) + 2 * longest_of lines)) at.line wants,
 )
 
 -- the phase as the code has it: `os` and `ls` are its operations and lines as they were lent to the rounds, `us` the lists for replies, `asked`
 -- and `answers` those to notices
-pub had-lent : (e f g : EngineView) (p : PhaseLists) (asked answers : List Answer) (os : List (List Op)) (ls : List (List ℕ)) (us vs ws xs : List (Vec Reply Global)) → asked ≡ [] → IsRoomFor p.lanes vs → os ≡ p.lanes → ls ≡ p.turns → us ≡ vs → xs ≡ ws → RanAll os ls (with_answers e asked) us (with_answers f answers) ws → g ≡ with_holders f g.running.holders → HadTurns e p (with_answers g answers) (lists_of xs)
+pub had-lent : (e f g : EngineView) (p : PhaseLists) (asked answers : List Answer) (os : List (List Op)) (ls : List (List ℕ)) (us vs ws xs : List (Vec Reply Global)) → asked ≡ [] → IsRoomFor p.lanes vs → os ≡ p.lanes → ls ≡ p.turns → us ≡ vs → xs ≡ ws → (all : (turns : ℕ) × RanAll os ls (with_answers e asked) us turns (with_answers f answers) ws) → g ≡ with_holders f g.running.holders → HadTurns e p (with_answers g answers) (lists_of xs)
 had-lent e f g p asked answers os ls us vs ws xs none room lanes lines lent back all given =
     let last = with_answers f answers in
     record {
@@ -154,25 +176,27 @@ had-lent e f g p asked answers os ls us vs ws xs none room lanes lines lent back
       begun = room;
       last = last;
       told = ws;
+      turns = all.0;
       rounds =
-          subst (λ (x : List Answer). RanAll p.lanes p.turns (with_answers e x) vs last ws) none
-          (subst (λ (x : List (List Op)). RanAll x p.turns (with_answers e asked) vs last ws) lanes
-          (subst (λ (x : List (List ℕ)). RanAll os x (with_answers e asked) vs last ws) lines (subst (λ (x : List (Vec Reply Global)). RanAll os ls (with_answers e asked) x last ws) lent all)));
+          subst (λ (x : List Answer). RanAll p.lanes p.turns (with_answers e x) vs all.0 last ws) none
+          (subst (λ (x : List (List Op)). RanAll x p.turns (with_answers e asked) vs all.0 last ws) lanes
+          (subst (λ (x : List (List ℕ)). RanAll os x (with_answers e asked) vs all.0 last ws) lines (subst (λ (x : List (Vec Reply Global)). RanAll os ls (with_answers e asked) x all.0 last ws) lent all.1)));
       given = ap (λ (x : EngineView). with_answers x answers) given;
       replied = ap lists_of back;
     }
 
-pub cut-turns-lent : (e f : EngineView) (p : PhaseLists) (asked answers : List Answer) (os : List (List Op)) (ls : List (List ℕ)) (us vs ws xs : List (Vec Reply Global)) → asked ≡ [] → IsRoomFor p.lanes vs → os ≡ p.lanes → ls ≡ p.turns → us ≡ vs → xs ≡ ws → RanToCut os ls (with_answers e asked) us (with_answers f answers) ws → HadTurnsToCut e p (with_answers f answers) (lists_of xs)
+pub cut-turns-lent : (e f : EngineView) (p : PhaseLists) (asked answers : List Answer) (os : List (List Op)) (ls : List (List ℕ)) (us vs ws xs : List (Vec Reply Global)) → asked ≡ [] → IsRoomFor p.lanes vs → os ≡ p.lanes → ls ≡ p.turns → us ≡ vs → xs ≡ ws → (all : (turns : ℕ) × RanToCut os ls (with_answers e asked) us turns (with_answers f answers) ws) → HadTurnsToCut e p (with_answers f answers) (lists_of xs)
 cut-turns-lent e f p asked answers os ls us vs ws xs none room lanes lines lent back all =
     let last = with_answers f answers in
     record {
       room = vs;
       begun = room;
       told = ws;
+      turns = all.0;
       rounds =
-          subst (λ (x : List Answer). RanToCut p.lanes p.turns (with_answers e x) vs last ws) none
-          (subst (λ (x : List (List Op)). RanToCut x p.turns (with_answers e asked) vs last ws) lanes
-          (subst (λ (x : List (List ℕ)). RanToCut os x (with_answers e asked) vs last ws) lines (subst (λ (x : List (Vec Reply Global)). RanToCut os ls (with_answers e asked) x last ws) lent all)));
+          subst (λ (x : List Answer). RanToCut p.lanes p.turns (with_answers e x) vs all.0 last ws) none
+          (subst (λ (x : List (List Op)). RanToCut x p.turns (with_answers e asked) vs all.0 last ws) lanes
+          (subst (λ (x : List (List ℕ)). RanToCut os x (with_answers e asked) vs all.0 last ws) lines (subst (λ (x : List (Vec Reply Global)). RanToCut os ls (with_answers e asked) x all.0 last ws) lent all.1)));
       replied = ap lists_of back;
     }
 
@@ -201,7 +225,8 @@ had-answers {e} {x} {f} y {p} {replies} asked answers taken kept had =
       begun = had.begun;
       last = had.last;
       told = had.told;
-      rounds = subst (λ (z : EngineView). RanAll p.lanes p.turns (with_answers z []) had.room had.last had.told) taken had.rounds;
+      turns = had.turns;
+      rounds = subst (λ (z : EngineView). RanAll p.lanes p.turns (with_answers z []) had.room had.turns had.last had.told) taken had.rounds;
       given = had.given;
       replied = had.replied;
     })
@@ -212,7 +237,8 @@ cut-turns-answers {e} {x} {f} y {p} {replies} asked answers taken kept had =
       room = had.room;
       begun = had.begun;
       told = had.told;
-      rounds = subst (λ (z : EngineView). RanToCut p.lanes p.turns (with_answers z []) had.room (with_answers y answers) had.told) taken had.rounds;
+      turns = had.turns;
+      rounds = subst (λ (z : EngineView). RanToCut p.lanes p.turns (with_answers z []) had.room had.turns (with_answers y answers) had.told) taken had.rounds;
       replied = had.replied;
     })
 
@@ -229,9 +255,14 @@ want-answers {e} {x} {f} y {p} asked answers taken kept had =
       wants = had.wants;
     })
 
--- where no turn has a notice, there is always room for answers
+-- where no turn has a notice, the longest line has none
+longest-none : (lines : List (List ℕ)) → HasNoHints lines → longest_of lines ≡ 0
+longest-none [] none = refl
+longest-none (line ∷ lines) none = omega (arith, ap length (none 0), longest-none lines (λ n. none (suc n)))
+
+-- and there is always room for answers
 pub never-wants : {e f : EngineView} {p : PhaseLists} → HadTurnsToWant e p f → HasNoHints p.turns → ⊥
 never-wants {e} {f} {p} had none =
-    let n : ℕ = had.rounds.0 in
-    let long : length (hints_of p.turns n) ≡ 0 = ap length (none (n % length p.turns)) in
-    omega (arith, had.rounds.2, had.kept.ok.0, had.kept.ok.1, long)
+    let used : ℕ = had.rounds.1 in
+    let long : length (hints_of p.turns used) ≡ 0 = ap length (none (line_of p.turns used)) in
+    omega (arith, had.rounds.3, had.kept.ok.0, had.kept.ok.1, long, longest-none p.turns none)

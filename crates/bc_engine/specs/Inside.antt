@@ -5,10 +5,10 @@ use Rattle.bc_engine.specs.declared.engines.Engine.TheInside.{Inside}
 -- an engine as contracts see it, by what it has inside
 abbrev pub engine_of : Inside → EngineView
 engine_of e = record {
-  running = e.running;
-  setup = e.setup;
-  workers = e.workers;
+  running = e.player.running;
+  setup = e.player.setup;
+  workers = e.player.workers;
   ended = e.ended;
   answers = e.answers.items;
-  counters = e.counters;
+  counters = e.player.counters;
 }

@@ -1,7 +1,7 @@
 -- The turns of a phase, from its beginning to its end, to its cut or to a turn for whose answers there is no room.
-use Rattle.std.specs.Prelude.{◌≡◌, ℕ, ◌+◌, List, [], length, Some, Vec, slice_index_or}
-use Prim.Native.Nat.{zero, suc}
+use Rattle.std.specs.Prelude.{◌≡◌, ℕ, List, [], Some, Vec, slice_index_or}
 use Rattle.std.specs.declared.alloc.Global.{Global}
+use Rattle.bc_marking.specs.Lines.{hints_along}
 use Rattle.bc_model.specs.Lists.{PhaseLists}
 use Rattle.bc_model.specs.Rows.{lists_of}
 use Rattle.bc_model.specs.declared.operations.Reply.{Reply}
@@ -9,7 +9,6 @@ use Rattle.bc_pager.specs.declared.answers.Answer.{Answer}
 use Rattle.bc_engine.specs.EngineFacts.{with_answers, with_holders}
 use Rattle.bc_engine.specs.Engines.{EngineView}
 use Rattle.bc_engine.specs.Rounds.{IsRoomFor, RanAll, RanToCut, RanToWant}
-use Rattle.bc_engine.specs.Turns.{hints_of}
 use Rattle.bc_engine.specs.declared.engines.Ended.TheVariants.{NoMemory}
 
 -- room for the replies was taken, the rounds of the phase were run with its lines, and then domains changed hands. There was no answer
@@ -19,7 +18,9 @@ pub record HadTurns (e : EngineView) (p : PhaseLists) (f : EngineView) (replies 
   pub begun : IsRoomFor p.lanes room
   pub last : EngineView
   pub told : List (Vec Reply Global)
-  pub rounds : RanAll p.lanes p.turns (with_answers e []) room last told
+  -- how many turns the phase had, of lanes and of marks
+  pub turns : ℕ
+  pub rounds : RanAll p.lanes p.turns (with_answers e []) room turns last told
   pub given : f ≡ with_holders last f.running.holders
   pub replied : replies ≡ lists_of told
 
@@ -28,7 +29,8 @@ pub record HadTurnsToCut (e : EngineView) (p : PhaseLists) (f : EngineView) (rep
   pub room : List (Vec Reply Global)
   pub begun : IsRoomFor p.lanes room
   pub told : List (Vec Reply Global)
-  pub rounds : RanToCut p.lanes p.turns (with_answers e []) room f told
+  pub turns : ℕ
+  pub rounds : RanToCut p.lanes p.turns (with_answers e []) room turns f told
   pub replied : replies ≡ lists_of told
 
 -- room for the replies was taken, and the rounds were run up to a turn for whose answers there was no memory
@@ -48,5 +50,4 @@ HasNoHints lines = (n : ℕ) → slice_index_or lines n [] ≡ []
 
 -- how many notices the first n turns of a phase have
 abbrev pub hints_before : List (List ℕ) → ℕ → ℕ
-hints_before lines zero = 0
-hints_before lines (suc n) = hints_before lines n + length (hints_of lines n)
+hints_before lines n = hints_along lines 0 n

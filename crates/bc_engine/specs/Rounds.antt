@@ -1,25 +1,27 @@
 -- The rounds of a phase: the lanes go on until each is at its end or stops, and then the nurseries are emptied.
-use Rattle.std.specs.Prelude.{◌≡◌, ◌⊎◌, ℕ, ◌+◌, ◌*◌, ◌<◌, ◌≤◌, true, false, List, [], length, Some, None, Vec, vec_capacity, slice_index_or}
+use Rattle.std.specs.Prelude.{◌≡◌, ◌⊎◌, ℕ, ◌+◌, ◌*◌, ◌<◌, ◌≤◌, true, false, List, [], ◌∷◌, length, max, Some, None, Vec, vec_capacity, slice_index_or}
 use Prim.Native.Nat.{zero, suc}
 use Rattle.std.specs.declared.alloc.Global.{Global}
-use Rattle.bc_cycle.specs.Collecting.{HasKeptWhereItFits, IsCollectedHeap, IsEmptiedBy, StaysSettled}
+use Rattle.bc_cycle.specs.Collecting.{EmptiesBeside, HadMarking, IsCollectedHeap, StaysBeside}
 use Rattle.bc_cycle.specs.Emptying.{IsEmptied, KeepsMeaning, LeavesPages, StayInPlace, SurvivorsFit}
 use Rattle.bc_cycle.specs.declared.emptying.EmptyingKind.{EmptyingKind}
 use Rattle.bc_cycle.specs.declared.emptying.EmptyingKind.TheVariants.{Failsafe}
 use Rattle.bc_failsafe.specs.Packing.{NeedOfHeap}
+use Rattle.bc_marking.specs.Lines.{HasTold, hints_at, line_behind}
 use Rattle.bc_model.specs.Rows.{lists_of}
 use Rattle.bc_model.specs.declared.operations.Op.{Op}
 use Rattle.bc_model.specs.declared.operations.Reply.{Reply}
 use Rattle.bc_pager.specs.declared.answers.Answer.{Answer}
 use Rattle.bc_superpages.specs.Layout.{superpages}
 use Rattle.bc_engine.specs.Attempts.{RanByAttempts}
-use Rattle.bc_engine.specs.Counting.{CountsAlone, CountsEarly, CountsEmptying, CountsTurn}
+use Rattle.bc_engine.specs.Counting.{CountsAlone, CountsEarly, CountsEmptying, CountsTurn, left_since}
 use Rattle.bc_engine.specs.Engines.{EngineView, HasEmptyChunks}
 use Rattle.bc_engine.specs.Lanes.{of_lane, AreDone, EachFurther, HasMore, LanesWentOn, LeavesCells, IsUnderway, LanesRan}
-use Rattle.bc_engine.specs.Turns.{RanTurn, hints_of}
+use Rattle.bc_engine.specs.Turns.{RanTurn, hints_of, line_of}
 use Rattle.bc_engine.specs.declared.counters.Counters.{Counters}
 use Rattle.bc_engine.specs.declared.engines.Ended.TheVariants.{OutOfHeap}
 use Rattle.bc_running.specs.Running.{RunningView}
+use Rattle.bc_running.specs.RunningFacts.{IsSound}
 
 -- a phase is under way on the engine
 abbrev pub IsUnderwayOn : EngineView → List (List Op) → List (Vec Reply Global) → Type 0
@@ -53,92 +55,140 @@ abbrev pub SameLanes : RunningView → RunningView → Type 0
 SameLanes r q = (q.holders ≡ r.holders) × (q.serials ≡ r.serials)
 
 -- between a turn and its minor collection: nothing, or, where fewer frames were free than the nurseries have pages, a bookmark collection. That keeps
--- what the heap stands for, no page leaves, comes home or is read by it, and it is counted
-pub record MayCollect (nurseries : ℕ) (r q : RunningView) (c d : Counters) : Type 0 where
-  pub way : ((q ≡ r) × CountsEarly c false d) ⊎ ((r.heap.space.free < nurseries) × IsCollectedHeap r.heap q.heap × CountsEarly c true d)
+-- what the heap stands for, no page is read by it, and it is counted. The answers of its mark turns came after those that there were, from one
+-- line on, and the pages left that they name
+pub record MayCollect (nurseries : ℕ) (lines : List (List ℕ)) (r : RunningView) (from : ℕ) (before : List Answer) (q : RunningView) (to : ℕ) (after : List Answer) (c d : Counters) : Type 0 where
+  pub turns : ℕ
+  pub told : List Answer
+  pub uses : HasTold lines from before turns to after told
+  pub way : ((q ≡ r) × (turns ≡ 0) × CountsEarly c false 0 d)
+      ⊎ ((r.heap.space.free < nurseries) × IsCollectedHeap r.heap told q.heap × CountsEarly c true (left_since (length before) after) d
+      × (m : HadMarking lines from r.heap turns told) × (m.begun ≡ m.settled))
   pub lanes : SameLanes r q
+  pub sound : IsSound q
 
 -- the nurseries were emptied (a minor collection): nothing was freed, moved or read back where the survivors fit, and no page was
--- read back where they fit what a bookmark collection keeps. Which of these it was is counted
-pub record EmptiesNurseries (r q : RunningView) (c d : Counters) : Type 0 where
+-- read back where they fit what a bookmark collection keeps. Which of these it was is counted. The answers of its mark turns came after those
+-- that there were
+pub record EmptiesNurseries (lines : List (List ℕ)) (r : RunningView) (from : ℕ) (before : List Answer) (q : RunningView) (to : ℕ) (after : List Answer) (c d : Counters) : Type 0 where
   pub emptied : IsEmptied r.heap q.heap
   pub in_place : SurvivorsFit r.heap → StayInPlace r.heap q.heap
   pub pages : SurvivorsFit r.heap → LeavesPages r.heap.space q.heap.space
-  pub kept : (SurvivorsFit r.heap → ⊥) → HasKeptWhereItFits r.heap q.heap
-  pub lanes : SameLanes r q
   pub kind : EmptyingKind
-  pub how : IsEmptiedBy kind r.heap q.heap
-  pub counts : CountsEmptying kind c r.heap.space.reads q.heap.space.reads d
+  pub beside : EmptiesBeside kind lines r.heap from before q.heap to after
+  pub lanes : SameLanes r q
+  pub counts : CountsEmptying kind c r.heap.space.reads q.heap.space.reads (left_since (length before) after) d
 
--- the turn of a round, what may have come between it and the minor collection, and what was counted of both
-pub record TurnsAndCollects (lanes : List (List Op)) (e : EngineView) (before : List (Vec Reply Global)) (hints : List ℕ) (q : RunningView) (after : List (Vec Reply Global)) (answers : List Answer) (d : Counters) : Type 0 where
-  pub turned : RunningView
-  pub turn : RanTurn lanes e.running before e.answers hints turned after answers
-  pub counted : Counters
-  pub counts : CountsTurn e.counters e.running.heap.space.reads turned.heap.space.reads counted
-  pub collects : MayCollect (e.setup.lanes * e.setup.nursery) turned q counted d
+-- the nurseries couldn't be emptied, which left each page where it was, but for those that the answers of its mark turns name. The fail-safe found
+-- so, and that it did is counted
+pub record LeavesNurseries (lines : List (List ℕ)) (r : RunningView) (from : ℕ) (before : List Answer) (q : RunningView) (to : ℕ) (after : List Answer) (c d : Counters) : Type 0 where
+  pub meaning : KeepsMeaning r.heap q.heap
+  pub stays : StaysBeside lines r.heap from before q.heap to after
+  pub lanes : SameLanes r q
+  pub counts : CountsEmptying Failsafe c r.heap.space.reads q.heap.space.reads (left_since (length before) after) d
 
--- a round: the lanes had their turn, in which the notices with these hints were answered, a bookmark collection may have come, and the nurseries
--- were emptied. Some lane wasn't at its end, and each such lane did one operation more, and nothing else was done. The answers and the counts are
--- the engine's
-pub record RanRound (lanes : List (List Op)) (e : EngineView) (before : List (Vec Reply Global)) (hints : List ℕ) (f : EngineView) (after : List (Vec Reply Global)) : Type 0 where
+-- after a turn a bookmark collection may have come, and then this, with lines and answers behind those of its mark turns
+pub record CollectsAnd (Then : List (List ℕ) → RunningView → ℕ → List Answer → RunningView → ℕ → List Answer → Counters → Counters → Type 0) (nurseries : ℕ) (lines : List (List ℕ)) (r : RunningView) (from : ℕ) (before : List Answer) (q : RunningView) (to : ℕ) (after : List Answer) (c d : Counters) : Type 0 where
   pub collected : RunningView
-  pub told : List (Vec Reply Global)
+  pub mid : ℕ
+  pub answers : List Answer
   pub begun : Counters
-  pub first : TurnsAndCollects lanes e before hints collected told f.answers begun
-  pub emptied : RunningView
+  pub collects : MayCollect nurseries lines r from before collected mid answers c begun
+  pub next : Then lines collected mid answers q to after begun d
+
+-- the turn of a round, in which the notices with these hints were answered, and what was counted of it
+pub record HadTurn (lanes : List (List Op)) (r : RunningView) (before : List (Vec Reply Global)) (asked : List Answer) (hints : List ℕ) (q : RunningView) (after : List (Vec Reply Global)) (answers : List Answer) (c d : Counters) : Type 0 where
+  pub turn : RanTurn lanes r before asked hints q after answers
+  pub counts : CountsTurn c r.heap.space.reads q.heap.space.reads (left_since (length asked) answers) d
+
+-- each lane that wasn't at its end did one operation more, and nothing else was done. Its reads are counted
+pub record HadSteps (lanes : List (List Op)) (r : RunningView) (before : List (Vec Reply Global)) (q : RunningView) (after : List (Vec Reply Global)) (c d : Counters) : Type 0 where
+  pub steps : LanesRan lanes r before q after
+  pub attempts : RanByAttempts lanes r (lists_of before) q (lists_of after)
+  pub leaves : LeavesCells r q
+  pub each : EachFurther (length lanes) lanes (lists_of before) (lists_of after)
+  pub counts : CountsAlone c r.heap.space.reads q.heap.space.reads d
+
+-- a round: the lanes had their turn, in which the notices of this line were answered, a bookmark collection may have come, and the nurseries
+-- were emptied. Some lane wasn't at its end, and each such lane did one operation more. Each turn of the round, that of the lanes and those of
+-- marks, used one line. The answers to their notices, one to each, in the order of the turns, came after those that there were. The answers and
+-- the counts are the engine's
+pub record RanRound (lanes : List (List Op)) (lines : List (List ℕ)) (e : EngineView) (before : List (Vec Reply Global)) (line : ℕ) (f : EngineView) (after : List (Vec Reply Global)) (next : ℕ) : Type 0 where
+  pub turned : RunningView
+  pub told : List (Vec Reply Global)
+  pub answers : List Answer
   pub counted : Counters
-  pub empties : EmptiesNurseries collected emptied begun counted
+  pub turn : HadTurn lanes e.running before e.answers (hints_at lines line) turned told answers e.counters counted
+  pub emptied : RunningView
+  pub begun : Counters
+  pub empties : CollectsAnd EmptiesNurseries (e.setup.lanes * e.setup.nursery) lines turned (line_behind lines line) answers emptied next f.answers counted begun
   pub more : HasMore lanes (lists_of told)
-  pub steps : LanesRan lanes emptied told f.running after
-  pub attempts : RanByAttempts lanes emptied (lists_of told) f.running (lists_of after)
-  pub leaves : LeavesCells emptied f.running
-  pub each : EachFurther (length lanes) lanes (lists_of told) (lists_of after)
-  pub counts : CountsAlone counted emptied.heap.space.reads f.running.heap.space.reads f.counters
+  pub steps : HadSteps lanes emptied told f.running after begun f.counters
   pub rest : f ≡ record e { running = f.running; answers = f.answers; counters = f.counters }
+
+-- how many turns a round had: that of the lanes, and mark turns
+abbrev pub turns_of_round : {lanes : List (List Op)} {lines : List (List ℕ)} {e f : EngineView} {before after : List (Vec Reply Global)} {line next : ℕ} → RanRound lanes lines e before line f after next → ℕ
+turns_of_round r = suc (r.empties.collects.turns + r.empties.next.beside.turns)
 
 -- the last round: in their turn all lanes came to their ends, a bookmark collection may have come, and the nurseries were emptied
-pub record LastRound (lanes : List (List Op)) (e : EngineView) (before : List (Vec Reply Global)) (hints : List ℕ) (f : EngineView) (after : List (Vec Reply Global)) : Type 0 where
-  pub collected : RunningView
-  pub begun : Counters
-  pub first : TurnsAndCollects lanes e before hints collected after f.answers begun
+pub record LastRound (lanes : List (List Op)) (lines : List (List ℕ)) (e : EngineView) (before : List (Vec Reply Global)) (line : ℕ) (f : EngineView) (after : List (Vec Reply Global)) : Type 0 where
+  pub turned : RunningView
+  pub answers : List Answer
+  pub counted : Counters
+  pub turn : HadTurn lanes e.running before e.answers (hints_at lines line) turned after answers e.counters counted
   pub done : AreDone lanes (lists_of after)
-  pub empties : EmptiesNurseries collected f.running begun f.counters
+  pub next : ℕ
+  pub empties : CollectsAnd EmptiesNurseries (e.setup.lanes * e.setup.nursery) lines turned (line_behind lines line) answers f.running next f.answers counted f.counters
   pub rest : f ≡ record e { running = f.running; answers = f.answers; counters = f.counters }
 
--- a round that was cut: the lanes had their turn, a bookmark collection may have come, and the nurseries couldn't be emptied, which left each
--- page where it was. That was found by the fail-safe, which is counted
-pub record CutRound (lanes : List (List Op)) (e : EngineView) (before : List (Vec Reply Global)) (hints : List ℕ) (f : EngineView) (after : List (Vec Reply Global)) : Type 0 where
-  pub collected : RunningView
-  pub begun : Counters
-  pub first : TurnsAndCollects lanes e before hints collected after f.answers begun
-  pub refused : KeepsMeaning collected.heap f.running.heap × SameLanes collected f.running
-  pub settled : StaysSettled collected.heap f.running.heap
-  pub counts : CountsEmptying Failsafe begun collected.heap.space.reads f.running.heap.space.reads f.counters
+-- how many turns the last round had
+abbrev pub turns_of_last : {lanes : List (List Op)} {lines : List (List ℕ)} {e f : EngineView} {before after : List (Vec Reply Global)} {line : ℕ} → LastRound lanes lines e before line f after → ℕ
+turns_of_last r = suc (r.empties.collects.turns + r.empties.next.beside.turns)
+
+-- a round that was cut: the lanes had their turn, a bookmark collection may have come, and the nurseries couldn't be emptied
+pub record CutRound (lanes : List (List Op)) (lines : List (List ℕ)) (e : EngineView) (before : List (Vec Reply Global)) (line : ℕ) (f : EngineView) (after : List (Vec Reply Global)) : Type 0 where
+  pub turned : RunningView
+  pub answers : List Answer
+  pub counted : Counters
+  pub turn : HadTurn lanes e.running before e.answers (hints_at lines line) turned after answers e.counters counted
+  pub next : ℕ
+  pub leaves : CollectsAnd LeavesNurseries (e.setup.lanes * e.setup.nursery) lines turned (line_behind lines line) answers f.running next f.answers counted f.counters
   pub rest : f ≡ record e { running = f.running; ended = f.ended; answers = f.answers; counters = f.counters }
 
--- a number of rounds with others to come were run, one after another. The notices of the n-th one are those of the n-th turn of
--- the phase
-abbrev pub RanRounds : List (List Op) → List (List ℕ) → EngineView → List (Vec Reply Global) → ℕ → EngineView → List (Vec Reply Global) → Type 0
-RanRounds lanes lines e before zero f after = (f ≡ e) × (after ≡ before)
-RanRounds lanes lines e before (suc n) f after =
-    (mid : EngineView) × (told : List (Vec Reply Global)) × RanRounds lanes lines e before n mid told × RanRound lanes mid told (hints_of lines n) f after
+-- how many turns a round had that was cut
+abbrev pub turns_of_cut : {lanes : List (List Op)} {lines : List (List ℕ)} {e f : EngineView} {before after : List (Vec Reply Global)} {line : ℕ} → CutRound lanes lines e before line f after → ℕ
+turns_of_cut r = suc (r.leaves.collects.turns + r.leaves.next.stays.turns)
 
--- the rounds of a phase from its first turn on: so many as have others to come, and the last one
-abbrev pub RanAll : List (List Op) → List (List ℕ) → EngineView → List (Vec Reply Global) → EngineView → List (Vec Reply Global) → Type 0
-RanAll lanes lines e before f after =
-    (n : ℕ) × (mid : EngineView) × (told : List (Vec Reply Global)) × RanRounds lanes lines e before n mid told × LastRound lanes mid told (hints_of lines n) f after
+-- a number of rounds with others to come were run, one after another, in this many turns. Each turn of the phase uses its line
+abbrev pub RanRounds : List (List Op) → List (List ℕ) → EngineView → List (Vec Reply Global) → ℕ → ℕ → EngineView → List (Vec Reply Global) → Type 0
+RanRounds lanes lines e before zero turns f after = (f ≡ e) × (after ≡ before) × (turns ≡ 0)
+RanRounds lanes lines e before (suc n) turns f after =
+    (mid : EngineView) × (told : List (Vec Reply Global)) × (used : ℕ) × (next : ℕ) × RanRounds lanes lines e before n used mid told
+    × (r : RanRound lanes lines mid told (line_of lines used) f after next) × (turns ≡ used + turns_of_round r)
 
--- the rounds of a phase from its first turn on, up to one that was cut
-abbrev pub RanToCut : List (List Op) → List (List ℕ) → EngineView → List (Vec Reply Global) → EngineView → List (Vec Reply Global) → Type 0
-RanToCut lanes lines e before f after =
-    (n : ℕ) × (mid : EngineView) × (told : List (Vec Reply Global)) × RanRounds lanes lines e before n mid told × CutRound lanes mid told (hints_of lines n) f after
+-- the rounds of a phase from its first turn on, in this many turns: so many as have others to come, and the last one
+abbrev pub RanAll : List (List Op) → List (List ℕ) → EngineView → List (Vec Reply Global) → ℕ → EngineView → List (Vec Reply Global) → Type 0
+RanAll lanes lines e before turns f after =
+    (n : ℕ) × (used : ℕ) × (mid : EngineView) × (told : List (Vec Reply Global)) × RanRounds lanes lines e before n used mid told
+    × (r : LastRound lanes lines mid told (line_of lines used) f after) × (turns ≡ used + turns_of_last r)
+
+-- the rounds of a phase from its first turn on, in this many turns, up to one that was cut
+abbrev pub RanToCut : List (List Op) → List (List ℕ) → EngineView → List (Vec Reply Global) → ℕ → EngineView → List (Vec Reply Global) → Type 0
+RanToCut lanes lines e before turns f after =
+    (n : ℕ) × (used : ℕ) × (mid : EngineView) × (told : List (Vec Reply Global)) × RanRounds lanes lines e before n used mid told
+    × (r : CutRound lanes lines mid told (line_of lines used) f after) × (turns ≡ used + turns_of_cut r)
+
+-- how many notices the longest line has
+abbrev pub longest_of : List (List ℕ) → ℕ
+longest_of [] = 0
+longest_of (line ∷ lines) = max (length line) (longest_of lines)
 
 -- the list has no room for so many answers more
 abbrev pub HasNoRoomFor : Vec Answer Global → ℕ → Type 0
 HasNoRoomFor kept more = vec_capacity kept < length kept.items + more
 
--- the rounds of a phase from its first turn on, up to a turn for whose answers the list has no room
+-- the rounds of a phase from its first turn on, up to one for whose answers the list has no room: those of its lanes' line, and of as many as
+-- the longest line has, twice
 abbrev pub RanToWant : List (List Op) → List (List ℕ) → EngineView → List (Vec Reply Global) → EngineView → List (Vec Reply Global) → Vec Answer Global → Type 0
 RanToWant lanes lines e before f after kept =
-    (n : ℕ) × RanRounds lanes lines e before n f after × HasNoRoomFor kept (length (hints_of lines n))
+    (n : ℕ) × (used : ℕ) × RanRounds lanes lines e before n used f after × HasNoRoomFor kept (length (hints_of lines used) + 2 * longest_of lines)

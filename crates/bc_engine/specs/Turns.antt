@@ -1,35 +1,36 @@
 -- The turns of a phase: lanes run, and the notices of the turn's line are answered.
-use Rattle.std.specs.Prelude.{◌≡◌, ◌⊎◌, ℕ, ◌+◌, ◌%◌, List, [], length, Vec, slice_index_or, nat_lt, if◌then◌else◌}
+use Rattle.std.specs.Prelude.{◌≡◌, ◌⊎◌, ℕ, List, Vec}
 use Rattle.std.specs.declared.alloc.Global.{Global}
 use Rattle.bc_bookmarks.specs.Changes.{Settled}
+use Rattle.bc_marking.specs.Lines.{hints_at, line_along}
 use Rattle.bc_model.specs.Rows.{lists_of}
 use Rattle.bc_model.specs.declared.operations.Op.{Op}
 use Rattle.bc_model.specs.declared.operations.Reply.{Reply}
+use Rattle.bc_pager.specs.Alone.{AnsweredAlone}
 use Rattle.bc_pager.specs.declared.answers.Answer.{Answer}
 use Rattle.bc_running.specs.Running.{RunningView}
 use Rattle.bc_running.specs.RunningFacts.{with_space}
-use Rattle.bc_running.specs.Serving.{AnsweredAlone}
 use Rattle.bc_superpages.specs.Layout.{Layout}
 use Rattle.bc_turn.specs.Answered.{AnsweredBeside}
-use Rattle.bc_turn.specs.Looked.{HadInTurn, IsLookedAt}
+use Rattle.bc_turn.specs.Looked.{HadInTurn, IsLookedAtInTurn}
 use Rattle.bc_engine.specs.Attempts.{EachAlone, RanByAttempts}
 use Rattle.bc_engine.specs.Lanes.{EachStopped, LanesRan, LeavesCells, StopsInTurn}
 
--- the line after one, and the first one after the last
-abbrev pub line_behind : List (List ℕ) → ℕ → ℕ
-line_behind lines n = if nat_lt (n + 1) (length lines) then n + 1 else 0
-
--- the hints of the turn of this number, counted from 0: lines are used in order, one for each turn, and from the first one again when they
+-- the line of the turn of this number, counted from 0: lines are used in order, one for each turn, and from the first one again when they
 -- are used up
+abbrev pub line_of : List (List ℕ) → ℕ → ℕ
+line_of lines turn = line_along lines 0 turn
+
+-- the hints of the turn of this number
 abbrev pub hints_of : List (List ℕ) → ℕ → List ℕ
-hints_of lines turn = slice_index_or lines (turn % length lines) []
+hints_of lines turn = hints_at lines (line_of lines turn)
 
 -- the lanes ran side by side, and beside them a pager answered the notices with these hints. Each stop has a cause of that way. Then the
 -- heap was settled
 abbrev pub RanTogether : List (List Op) → RunningView → List (Vec Reply Global) → List Answer → List ℕ → RunningView → RunningView → List (Vec Reply Global) → List Answer → Type 0
 RanTogether lanes r before kept hints mid q after told =
     EachStopped (StopsInTurn mid.heap.space) lanes r before mid after
-    × AnsweredBeside (IsLookedAt r.holders lanes r.heap r.serials (lists_of before) (lists_of after)) (HadInTurn r.holders lanes r.heap r.serials (lists_of before) (lists_of after)) r.heap.space hints kept told mid.heap.space
+    × AnsweredBeside (IsLookedAtInTurn r.holders lanes r.heap r.serials (lists_of before) (lists_of after)) (HadInTurn r.holders lanes r.heap r.serials (lists_of before) (lists_of after)) r.heap.space hints kept told mid.heap.space
     × Settled mid.heap.space q.heap.space
 
 -- the lanes ran one after another, by attempts alone, and then the notices were answered where nobody worked beside. Then the heap was settled

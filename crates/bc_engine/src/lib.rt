@@ -14,12 +14,13 @@
 // what they do one after another (`RanBeside`), so a turn is a stretch of the phase like any other. Where tables
 // of its kind don't pay (`paces`), or where there is no memory for one, they do run one after another (`lanes`), and then the notices
 // are answered. So a turn takes memory and is never refused for lack of it. An operation that stops has at most moved pages.
-// Then the heap is settled. The lines of a phase are used in order, one for each turn, and from the first one again when they
-// are used up. So the heap gets by with the frames that the setup gives it, and no reply says which pages were away; but what
-// became of each notice is kept, in order (`Engine::answers`). Room for the answers of a turn is taken before it, and only where
+// Then the heap is settled. The lines of a phase are used in order, one for each turn of the lanes and each mark turn of a
+// collection (`bc_marking`), and from the first one again when they are used up. So the heap gets by with the frames that the setup gives it, and no reply says which pages were away; but what
+// became of each notice is kept, in order (`Engine::answers`). Room for the answers of a round is taken before it, and only where
 // there is none does a phase end in the middle, out of memory.
 //
-// Then the nurseries are emptied, and if all lanes are at their ends the rounds are through. If not, each lane that has
+// Where frames are short a bookmark collection comes next. Then the nurseries are emptied, and if all lanes are at their ends the rounds are
+// through. If not, each lane that has
 // operations left does one more on empty chunks. That one can't stop: an empty chunk has room for any object, where a
 // chunk is empty no reference to it can be stored, and no page is remembered, so every page can leave for the one that is
 // wanted. Nor does it record anything, so all buffers are empty still. So each round that isn't the last does an operation
@@ -41,7 +42,8 @@
 // and births. As long as it hasn't ended, write buffers are empty and no page is remembered. `facts` says all this.
 //
 // An engine counts what it does (`counters`): turns, collections by kind and reason, and the pages that were read back or left, by whose step it
-// was. Each round says how the counts go on, and all page reads by their causes add up to the heap's own count at any time (`IsCounted`).
+// was. Each round says how the counts go on, and all page reads by their causes add up to the heap's own count at any time (`IsCounted`). Where
+// a log is asked for (`keep_log`) each step of a round is written down too.
 //
 // The theorem is the contract of `Engine::phase`. Done, the replies are those of the heap that never frees, to every
 // operation, the engine stands for the state after the phase, and its superpages are at least that state's need
@@ -54,14 +56,18 @@ mod counters;
 mod engines;
 mod lanes;
 mod laws;
+mod logs;
+mod notices;
 mod paces;
 mod phases;
+mod players;
 mod rounds;
 mod turns;
 
 pub use bc_pager::Answer;
-pub use counters::{Counters, PageCounts};
+pub use counters::{Counters, PageCounts, Tally, tally_of};
 pub use engines::Engine;
 pub use laws::law_answers;
+pub use logs::{Standing, Step, StepKind};
 pub use paces::Pacing;
 pub use phases::PhaseError;

@@ -2,6 +2,7 @@
 
 ghost use Rattle.std.specs.Prelude.{◌≡◌, length};
 
+use bc_marking::{MarkPace, Wait};
 use bc_model::{Op, Reply, Setup};
 use bc_turn::TurnThreads;
 
@@ -14,61 +15,16 @@ const OPERATIONS_A_THREAD: u64 = 4_096;
 /// No lane is looked further ahead than so many operations.
 const OPERATIONS_AHEAD: u64 = 8_192;
 
-/// At most so many turns in a row go without a table that would have had one.
-const LONGEST_WAIT: u32 = 255;
-
-/// Turns of a kind that are to go without a table since one didn't pay: one, and after the next that doesn't three, then seven and so on,
-/// until a table pays.
-#[derive(Drop)]
-struct Wait {
-    /// So many turns are to go without.
-    waits: u32,
-    /// So many went without after the last table that didn't pay.
-    waited: u32,
-}
-
-impl Wait {
-    /// No turn is to go without.
-    fn none() -> Wait {
-        Wait {
-            waits: 0,
-            waited: 0,
-        }
-    }
-
-    /// Is this turn to go without? If so it is counted as one of those that do.
-    fn is_waiting(&mut self) -> bool {
-        if self.waits == 0 {
-            return false;
-        }
-        self.waits = self.waits.saturating_sub(1);
-        true
-    }
-
-    /// Notes whether a table paid.
-    fn note(&mut self, paid: bool) {
-        if paid {
-            self.waited = 0;
-        } else {
-            self.waited = self
-                .waited
-                .saturating_mul(2)
-                .saturating_add(1)
-                .min(LONGEST_WAIT);
-            self.waits = self.waited;
-        }
-    }
-}
-
 /// How the turns of an engine run. What they reply is the same.
 #[derive(Clone, Copy, PartialEq, Eq, Debug)]
 pub enum Pacing {
     /// Each as is likely to pay, by what earlier turns cost: at a table or on the heap itself, on threads or on the caller's alone.
     Learned,
-    /// Each at a table, with a thread for each lane that has operations left, and one for the pager if there are notices. So a test may hold
-    /// one of them up until another has come.
+    /// Each at a table, with a thread for each lane that has operations left, or for each marker, and one for the pager if there are
+    /// notices. So a test may hold one of them up until another has come.
     SideBySide,
-    /// Each without a table: one lane after another on the heap itself, and then the notices. So a bench reads the same pages at each run.
+    /// Each without a table: one lane after another on the heap itself, and then the notices; and markings on the caller's thread. So a bench
+    /// reads the same pages at each run.
     Plain,
 }
 
@@ -92,11 +48,11 @@ enum TurnKind {
     Short,
 }
 
-/// How the tables of earlier turns paid. Where a table doesn't pay a lane did little at it: its chunk or its write buffer was soon full, it
+/// How the tables of earlier turns paid. Whether a marking has one is chosen beside it (`bc_marking`, `way_of_marking`). Where a table doesn't pay a lane did little at it: its chunk or its write buffer was soon full, it
 /// came to a page in another's hands, or to one that is gone while no page could leave for it, or it had little to do.
 #[derive(Drop)]
 pub(crate) struct Pace {
-    pub(crate) pacing: Pacing,
+    pacing: Pacing,
     asked: Wait,
     long: Wait,
     short: Wait,
@@ -104,6 +60,8 @@ pub(crate) struct Pace {
     costs: u64,
     /// Of which kind the turn under way is.
     kind: TurnKind,
+    /// How the tables of earlier markings paid.
+    pub(crate) marks: MarkPace,
 }
 
 impl Pace {
@@ -116,7 +74,18 @@ impl Pace {
             short: Wait::none(),
             costs: 0,
             kind: TurnKind::Short,
+            marks: MarkPace::new(),
         }
+    }
+
+    /// Turns of lanes and of marks run so from here on.
+    pub(crate) fn set(&mut self, pacing: Pacing) {
+        self.pacing = pacing;
+        self.marks = match pacing {
+            Pacing::Learned => MarkPace::new(),
+            Pacing::SideBySide => MarkPace::side_by_side(),
+            Pacing::Plain => MarkPace::alone(),
+        };
     }
 
     /// Is the turn under way, which is of this kind, to go without a table since tables of its kind didn't pay?

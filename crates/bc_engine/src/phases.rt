@@ -31,7 +31,7 @@ pub enum PhaseError {
     /// What the engine stands for after these replies needs this many superpages, which is more than there are. On an engine that
     /// had ended so, there are no replies.
     OutOfHeap { replies: Replies, need: u64 },
-    /// There was no memory for the replies, or for the answers to the notices of a turn, in this phase or in an earlier one. The
+    /// There was no memory for the replies, or for the answers to the notices of a round, in this phase or in an earlier one. The
     /// engine may be used only to be dropped.
     NoMemory,
 }
@@ -41,13 +41,13 @@ impl Engine {
     /// operations in the phase together are fewer than 2^32.
     ///
     /// It answers `OutOfHeap` where an emptying of the nurseries finds that the heap is too small, with the replies up to there,
-    /// and `NoMemory` where there is no memory for all replies, before anything is done, or for the answers to the notices of a turn,
-    /// before that turn: nothing else is refused for lack of memory. Both end the engine. One that ended out of heap answers the same need
+    /// and `NoMemory` where there is no memory for all replies, before anything is done, or for the answers to the notices of a round,
+    /// before that round: nothing else is refused for lack of memory. Both end the engine. One that ended out of heap answers the same need
     /// again with no replies, and changes nothing; one that ended out of memory answers that alone.
     ///
-    /// In each turn of the lanes a page is given up for each hint of the turn's line: beside lanes at a table one that can be taken, on the heap
-    /// itself one that can leave; none where there is no such page. No reply says that, but the engine's answers do. The n-th turn has the
-    /// n-th line, and after the last line comes the first one again.
+    /// In each turn, of the lanes or of the marking of a collection, a page is given up for each hint of the turn's line: beside others at a table
+    /// one that can be taken, on the heap itself one that can leave; none where there is no such page. No reply says that, but the engine's answers
+    /// do. The n-th turn has the n-th line, and after the last line comes the first one again.
     pub fn phase<R, G>(
         &mut self,
         rt: &R,
@@ -70,7 +70,7 @@ impl Engine {
         ensures gone { self.old.ended ≡ Some Ended.NoMemory → IsNoMemory result }
         ensures setup { (self.new.setup ≡ self.old.setup) × (self.new.workers ≡ self.old.workers) }
         ensures no_memory { IsNoMemory result → self.new.ended ≡ Some Ended.NoMemory }
-        // Without notices memory runs out before anything is done, and else it may also before a turn.
+        // Without notices memory runs out before anything is done, and else it may also before a round.
         ensures undone { IsNoMemory result → HasNoHints phase.now.turns → self.new ≡ record self.old { ended = self.new.ended } }
         ensures want { IsNoMemory result → self.old.ended ≡ None
             → (self.new ≡ record self.old { ended = self.new.ended }) ⊎ HadTurnsToWant self.old phase.now self.new }
@@ -213,7 +213,7 @@ impl Engine {
         ensures { (s : State) → EngineStands self.now s → (n : ℕ) × IsNeed s n × (n ≤ self.now.setup.superpages) }
     {
         law_room();
-        self.running.heap().space.facts();
+        self.player.running.heap().space.facts();
     }
 }
 

@@ -43,6 +43,7 @@ where
     requires room { length answers.old.items + length hints.now ≤ vec_capacity answers.old }
     ensures runs { LanesRan (lists_of lanes.now) running.old replies.old running.new replies.new }
     ensures turn { RanTurn (lists_of lanes.now) running.old replies.old answers.old.items hints.now running.new replies.new answers.new.items }
+    ensures capacity { vec_capacity answers.old ≤ vec_capacity answers.new }
     ensures kept { IsRoomKept running.old.holders running.old.heap.roots.slots (lists_of lanes.now) (lists_of replies.new) room.new }
 {
     let threads = match way_of_turn(setup, pace, lanes, replies, hints) {
@@ -69,6 +70,7 @@ fn turn_alone(
     requires room { length answers.old.items + length hints.now ≤ vec_capacity answers.old }
     ensures runs { LanesRan (lists_of lanes.now) running.old replies.old running.new replies.new }
     ensures turn { RanTurn (lists_of lanes.now) running.old replies.old answers.old.items hints.now running.new replies.new answers.new.items }
+    ensures capacity { vec_capacity answers.old ≤ vec_capacity answers.new }
 {
     run_lanes(running, lanes, replies);
     running.answer(hints, answers);

@@ -11,7 +11,7 @@ use Rattle.bc_superpages.specs.Layout.{Layout, superpages, set_of}
 use Rattle.bc_running.specs.Running.{RunningView}
 
 -- there is such a lane, and a heap of these root slots has the slots, fields and numbers that the operation names
-pub record IsInRange (w : RunningView) (lane : ℕ) (op : Op) : Type 0 where
+pub record IsOpOfHeap (w : RunningView) (lane : ℕ) (op : Op) : Type 0 where
   pub known : lane < length w.serials
   pub fits : IsOpOf w.heap.roots op
 

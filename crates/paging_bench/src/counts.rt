@@ -1,7 +1,8 @@
-//! What is printed of a phase.
+//! What is printed of a phase, and of its steps.
 
 use anyhow::Result;
-use bc_engine::{Counters, PageCounts};
+use bc_cycle::EmptyingKind;
+use bc_engine::{Counters, PageCounts, Step, StepKind};
 use bc_model::{Phase, Replies, Reply};
 use bc_superpages::Space;
 use heap_workshop::{pages_gone, superpages_in_use};
@@ -31,6 +32,7 @@ pub(crate) fn print_counters<R: Print>(rt: &R, before: &Counters, after: &Counte
         turns,
         alone,
         collections,
+        ..
     } = reads;
     print!(rt;
         " reads={all} turn_reads={turns} alone_reads={alone} collection_reads={collections}"
@@ -41,8 +43,10 @@ pub(crate) fn print_counters<R: Print>(rt: &R, before: &Counters, after: &Counte
         turns,
         alone,
         collections,
+        notices,
     } = left;
-    print!(rt; " left={all} turn_left={turns} alone_left={alone} collection_left={collections}")?;
+    print!(rt; " left={all} turn_left={turns} alone_left={alone}")?;
+    print!(rt; " collection_left={collections} notice_left={notices}")?;
     Ok(())
 }
 
@@ -52,7 +56,42 @@ fn more_pages(before: &PageCounts, after: &PageCounts) -> PageCounts {
         turns: after.turns.wrapping_sub(before.turns),
         alone: after.alone.wrapping_sub(before.alone),
         collections: after.collections.wrapping_sub(before.collections),
+        notices: after.notices.wrapping_sub(before.notices),
     }
+}
+
+/// The word for a kind of step.
+fn name_of(kind: StepKind) -> &'static str {
+    match kind {
+        StepKind::Turn => "turn",
+        StepKind::Early => "early",
+        StepKind::Emptying(EmptyingKind::Promotion) => "promotion",
+        StepKind::Emptying(EmptyingKind::Collection) => "collection",
+        StepKind::Emptying(EmptyingKind::Failsafe) => "failsafe",
+        StepKind::TooSmall => "too-small",
+        StepKind::Alone => "alone",
+    }
+}
+
+/// Prints a line for each step.
+pub(crate) fn print_steps<R: Print>(rt: &R, steps: &[Step]) -> Result<()> {
+    for step in steps {
+        let kind = name_of(step.kind);
+        print!(rt;
+            "step={kind} operations={} reads={}",
+            step.operations, step.reads
+        )?;
+        let standing = step.standing;
+        print!(rt;
+            " left={} home={} gone={}",
+            step.departures, standing.home, standing.gone
+        )?;
+        println!(rt;
+            " cells={} superpages={}",
+            standing.cells, standing.superpages
+        )?;
+    }
+    Ok(())
 }
 
 /// Prints how things stand: how many of all frames are in use, and what of the space.

@@ -3,6 +3,7 @@
 mod devices;
 mod engines;
 mod gates;
+mod gates_marker;
 mod gates_pager;
 mod gates_reload;
 mod gates_shapes;

@@ -14,8 +14,8 @@ pub record OpenHeap : Type 0 where
   pub minor : ℕ
 
 -- the heap stands for this state of the plain heap, which never frees, moves or pages
-abbrev pub Stands : OpenHeap → State → Type 0
-Stands h state = RunningStands h.running state
+abbrev pub HeapStands : OpenHeap → State → Type 0
+HeapStands h state = RunningStands h.running state
 
 -- what is true between calls: lanes can run on the heap, and it stands for a state; and there is a mark for each root slot
 pub record IsOpen (h : OpenHeap) : Type 0 where

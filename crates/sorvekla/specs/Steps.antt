@@ -13,7 +13,7 @@ use Rattle.bc_model.specs.declared.traces.Setup.{Setup}
 use Rattle.bc_model.specs.declared.values.Value.{Value}
 use Rattle.bc_model.specs.declared.values.Value.TheVariants as value
 use Rattle.bc_running.specs.Running.{RunningView, RunningStands}
-use Rattle.sorvekla.specs.Heaps.{OpenHeap, Stands, one_more}
+use Rattle.sorvekla.specs.Heaps.{OpenHeap, HeapStands, one_more}
 use Rattle.sorvekla.specs.declared.errors.HeapError.{HeapError}
 use Rattle.sorvekla.specs.declared.errors.HeapError.TheVariants as error
 use Rattle.sorvekla.specs.declared.replies.Loaded.{Loaded}
@@ -26,22 +26,22 @@ MayEmpty before after = (after ≡ before) ⊎ (after ≡ one_more before)
 -- the lane did the operation and was answered so: whatever state the heap stood for, that is the step of it, and the heap stands for the
 -- state after the step
 pub record DidStep (h : OpenHeap) (lane : ℕ) (o : Op) (answer : Reply) (k : OpenHeap) : Type 0 where
-  pub step : (state : State) → Stands h state → ((step state lane o).1 ≡ answer) × Stands k (step state lane o).0
+  pub step : (state : State) → HeapStands h state → ((step state lane o).1 ≡ answer) × HeapStands k (step state lane o).0
   pub setup : k.setup ≡ h.setup
   pub taken : k.taken ≡ h.taken
   pub minor : MayEmpty h.minor k.minor
 
 -- the heap stands for what it stood for, and the same root slots are handed out
 pub record StaysSame (h k : OpenHeap) : Type 0 where
-  pub stands : (state : State) → Stands h state → Stands k state
+  pub stands : (state : State) → HeapStands h state → HeapStands k state
   pub setup : k.setup ≡ h.setup
   pub taken : k.taken ≡ h.taken
 
 -- a heap of this size is too small for what it stands for, which needs so many superpages
-pub record IsTooSmall (h : OpenHeap) (need supers : ℕ) : Type 0 where
+pub record IsHeapTooSmall (h : OpenHeap) (need supers : ℕ) : Type 0 where
   pub there : supers ≡ h.setup.superpages
   pub above : supers < need
-  pub needed : (state : State) → Stands h state → IsNeed state need
+  pub needed : (state : State) → HeapStands h state → IsNeed state need
 
 -- the lane has made as many objects as have numbers
 abbrev pub HasNoBirthLeft : OpenHeap → ℕ → Type 0
@@ -67,7 +67,7 @@ IsOpFault h lane o _ = ⊥
 -- why an operation isn't done, and what stands then. Where it isn't begun nothing has changed. Where the heap is too small it stands for
 -- what it stood for. Where the plain heap refuses it too, its reply says so
 abbrev pub IsCauseOf : OpenHeap → ℕ → Op → HeapError → OpenHeap → Type 0
-IsCauseOf h lane o (error.OutOfHeap need supers) k = StaysSame h k × IsTooSmall h need supers
+IsCauseOf h lane o (error.OutOfHeap need supers) k = StaysSame h k × IsHeapTooSmall h need supers
 IsCauseOf h lane o error.NotObject k = DidStep h lane o reply.NotObj k
 IsCauseOf h lane o error.NoField k = DidStep h lane o reply.Range k
 IsCauseOf h lane o error.Foreign k = DidStep h lane o reply.Foreign k
@@ -82,12 +82,12 @@ IsReplyFault r _ = ⊥
 
 -- why the nurseries aren't emptied, and what stands then
 abbrev pub IsCauseOfNone : OpenHeap → HeapError → OpenHeap → Type 0
-IsCauseOfNone h (error.OutOfHeap need supers) k = StaysSame h k × IsTooSmall h need supers
+IsCauseOfNone h (error.OutOfHeap need supers) k = StaysSame h k × IsHeapTooSmall h need supers
 IsCauseOfNone h _ k = ⊥
 
 -- the lane holds the domain, in every state that the heap stood for
 pub record GivesTo (h : OpenHeap) (domain lane : ℕ) (k : OpenHeap) : Type 0 where
-  pub stands : (state : State) → Stands h state → Stands k (given state (record { domain = domain; lane = lane }))
+  pub stands : (state : State) → HeapStands h state → HeapStands k (given state (record { domain = domain; lane = lane }))
   pub setup : k.setup ≡ h.setup
   pub taken : k.taken ≡ h.taken
   pub minor : k.minor ≡ one_more h.minor

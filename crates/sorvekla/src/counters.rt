@@ -9,6 +9,8 @@ ghost use Rattle.sorvekla.specs.Heaps.{one_more};
 
 use crate::heaps::Heap;
 use bc_bits::count;
+use bc_cycle::EmptyingKind;
+use bc_engine::{Counters as StepCounts, Tally};
 use bc_pager::Answer;
 use bc_superpages::{Header, Space};
 
@@ -25,6 +27,11 @@ pub struct Counters {
     pub reads: u64,
     /// Pages that left for a hint.
     pub hinted: u64,
+    /// What the heap did by itself, as the engine of `bc run` counts it: collections by kind, and how many pages were read back and how many left,
+    /// by whose step it was. An operation is one of a lane alone, and there are no turns. Pages of a fail-safe or a hint that a call asked for count
+    /// with those of collections; that call itself is counted above alone. A minor collection that was refused, out of heap, is one by the
+    /// fail-safe. No contract says these numbers.
+    pub steps: StepCounts,
 }
 
 impl Counters {
@@ -38,14 +45,38 @@ impl Counters {
             failsafe: 0,
             reads: 0,
             hinted: 0,
+            steps: StepCounts::none(),
         }
     }
 
+    /// A lane did an operation.
+    pub(crate) fn count_operation(&mut self, before: Tally, after: Tally)
+        ensures minor { self.new.minor ≡ self.old.minor }
+    {
+        self.steps.count_alone(before, after);
+    }
+
+    /// There was a bookmark collection since frames were short, or none.
+    pub(crate) fn count_early(&mut self, collected: bool)
+        ensures minor { self.new.minor ≡ self.old.minor }
+    {
+        self.steps.count_early(collected, 0);
+    }
+
     /// The nurseries were emptied once more.
-    pub(crate) fn count_minor(&mut self)
+    pub(crate) fn count_minor(&mut self, kind: EmptyingKind, before: Tally, after: Tally)
         ensures minor { self.new.minor ≡ one_more self.old.minor }
     {
         self.minor = self.minor.saturating_add(1);
+        self.steps.count_emptying(kind, before, after, 0);
+    }
+
+    /// The nurseries couldn't be emptied, which the fail-safe found.
+    pub(crate) fn count_refusal(&mut self, before: Tally, after: Tally)
+        ensures minor { self.new.minor ≡ self.old.minor }
+    {
+        self.steps
+            .count_emptying(EmptyingKind::Failsafe, before, after, 0);
     }
 
     /// A call asked for a bookmark collection.
@@ -56,19 +87,22 @@ impl Counters {
     }
 
     /// A call asked for a fail-safe collection.
-    pub(crate) fn count_failsafe(&mut self)
+    pub(crate) fn count_failsafe(&mut self, before: Tally, after: Tally)
         ensures minor { self.new.minor ≡ self.old.minor }
     {
         self.failsafe = self.failsafe.saturating_add(1);
+        self.steps.count_pages(before, after, 0);
     }
 
     /// A hint was answered: counts a page that left.
-    pub(crate) fn count_answer(&mut self, answer: Answer)
+    pub(crate) fn count_answer(&mut self, answer: Answer, before: Tally, after: Tally)
         ensures minor { self.new.minor ≡ self.old.minor }
     {
         if answer != Answer::Declined {
             self.hinted = self.hinted.saturating_add(1);
         }
+        let left = after.departures.wrapping_sub(before.departures);
+        self.steps.count_pages(before, after, left);
     }
 }
 

@@ -22,6 +22,8 @@ pub enum OpenError {
     Buffer,
     #[error("a heap has at least two frames more than the nursery pages of all lanes")]
     Frames,
+    #[error("a collection has from 1 to 16 workers")]
+    Workers,
     #[error("out of memory")]
     NoMemory,
 }

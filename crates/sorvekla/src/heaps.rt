@@ -3,8 +3,8 @@
 ghost use Rattle.std.specs.Prelude.{◌≡◌, IfErr, IfOk};
 ghost use Rattle.bc_model.specs.Run.{opening};
 ghost use Rattle.bc_model.specs.State.{State};
-ghost use Rattle.bc_model.specs.WellFormed.{IsSetup};
-ghost use Rattle.sorvekla.specs.Heaps.{IsOpen, Stands, none_taken};
+ghost use Rattle.bc_model.specs.WellFormed.{IsSetup, IsWithin};
+ghost use Rattle.sorvekla.specs.Heaps.{IsOpen, HeapStands, none_taken};
 ghost use Rattle.sorvekla.specs.Limits.{IsOpenFault, setup_of};
 
 use crate::emptying::Upkeep;
@@ -41,24 +41,25 @@ impl Model for Heap {
 }
 
 impl Heap {
-    /// A heap without objects, all of whose root slots hold nil and none of which is handed out. Memory for it is taken here, and by no
-    /// other call.
+    /// A heap without objects, all of whose root slots hold nil and none of which is handed out. Memory for it is taken here. Other calls ask
+    /// for some only where there are several workers, and aren't refused where there is none.
     pub fn open(alloc: Global, limits: &Limits) -> Result<Self, OpenError>
         ensures range { IfOk result (λ heap. IsSetup (setup_of limits.now)) }
-        ensures opening { IfOk result (λ heap. Stands heap (opening (setup_of limits.now))) }
+        ensures workers { IfOk result (λ heap. IsWithin 1 16 limits.now.workers) }
+        ensures opening { IfOk result (λ heap. HeapStands heap (opening (setup_of limits.now))) }
         ensures size { IfOk result (λ heap. (heap.setup ≡ setup_of limits.now) × (heap.taken ≡ none_taken (setup_of limits.now)) × (heap.minor ≡ 0)) }
         ensures refused { IfErr result (IsOpenFault limits.now) }
     {
         if let Some(error) = limit_fault(limits) {
             return Err(error);
         }
-        let heap = open_in_range(alloc, &setup_in_range(limits))?;
+        let heap = open_in_range(alloc, &setup_in_range(limits), limits.workers)?;
         Ok(heap)
     }
 
     /// What holds of every heap between calls, stated for a proof: there is a state of the plain heap that it stands for. It does nothing.
     pub fn facts(&self)
-        ensures stands { (state : State) × Stands self.now state }
+        ensures stands { (state : State) × HeapStands self.now state }
         ensures range { IsSetup self.now.setup }
         ensures kept { IsOpen self.now }
     {
@@ -67,9 +68,9 @@ impl Heap {
 }
 
 /// The same of a setup whose numbers are in their ranges. It takes the memory.
-fn open_in_range(alloc: Global, setup: &Setup) -> Result<Heap, AllocError>
+fn open_in_range(alloc: Global, setup: &Setup, workers: u32) -> Result<Heap, AllocError>
     requires range { IsSetup setup.now }
-    ensures opening { IfOk result (λ heap. Stands heap (opening setup.now)) }
+    ensures opening { IfOk result (λ heap. HeapStands heap (opening setup.now)) }
     ensures size { IfOk result (λ heap. (heap.setup ≡ setup.now) × (heap.taken ≡ none_taken setup.now) × (heap.minor ≡ 0)) }
 {
     Ok(Heap {
@@ -77,6 +78,6 @@ fn open_in_range(alloc: Global, setup: &Setup) -> Result<Heap, AllocError>
         setup: *setup,
         taken: vec![in alloc; false; setup.domains as usize * setup.slots as usize]?,
         answers: Vec::with_capacity(alloc, 1)?,
-        upkeep: Upkeep::new(alloc),
+        upkeep: Upkeep::new(alloc, workers),
     })
 }

@@ -20,12 +20,12 @@
 // needs more superpages than there are. Nothing is lost then: slots can be cleared, and the heap goes on.
 //
 // The theorem is that no caller can tell this heap from one that never frees, moves or pages (`bc_model`). A heap stands for a state of that
-// one (`Stands`), which has all objects that were ever made. Each operation's answer, and the state that the heap stands for then, are the
+// one (`HeapStands`), which has all objects that were ever made. Each operation's answer, and the state that the heap stands for then, are the
 // step of that state (`DidStep`). Collections, pages that leave and everything that is refused keep the state (`StaysSame`). It holds of every
 // call with no premise, and each cause of a refusal is true where it is returned (`IsCauseOf`).
 //
 // Beneath is `bc_running`: this crate adds what its calls ask for. What is true of a heap between calls is `IsOpen`, by `CanRunLanes` of
-// `bc_engine`, whose lemmas the proofs cite; of the engine's code nothing runs.
+// `bc_engine`, whose lemmas the proofs cite; of the engine's code its counters alone run.
 #![tactic(auto)]
 
 mod collections;
@@ -38,6 +38,7 @@ mod operations;
 mod replies;
 mod roots;
 
+pub use bc_engine::{Counters as StepCounts, PageCounts};
 pub use bc_model::{Birth, Op, Reply, Slot, Value};
 pub use bc_pager::Answer;
 pub use counters::Counters;

@@ -1,7 +1,7 @@
 //! How large a heap is.
 
 ghost use Rattle.std.specs.Prelude.{◌≡◌, IfNone, IfSome};
-ghost use Rattle.bc_model.specs.WellFormed.{IsSetup};
+ghost use Rattle.bc_model.specs.WellFormed.{IsSetup, IsWithin};
 ghost use Rattle.sorvekla.specs.Limits.{IsLimitFault, setup_of};
 
 use crate::errors::OpenError;
@@ -26,6 +26,9 @@ pub struct Limits {
     /// Page frames: how many pages may be in memory at a time, nursery pages among them. At least two more than these. More than all
     /// pages are not used. By default as many as there are pages, so that none has to leave.
     pub frames: u32,
+    /// Workers of a collection: how many threads may mark and sweep, from 1 to 16. By default 1. With more a collection may ask for memory, and
+    /// does without where there is none.
+    pub workers: u32,
 }
 
 impl Default for Limits {
@@ -42,6 +45,7 @@ impl Default for Limits {
             nursery: 4,
             buffer: 1024,
             frames: u32::MAX,
+            workers: 1,
         }
     }
 }
@@ -49,6 +53,7 @@ impl Default for Limits {
 /// The first limit that is out of its range.
 pub(crate) fn limit_fault(limits: &Limits) -> Option<OpenError>
     ensures none { IfNone result (IsSetup (setup_of limits.now)) }
+    ensures workers { IfNone result (IsWithin 1 16 limits.now.workers) }
     ensures fault { IfSome result (λ error. IsLimitFault limits.now error) }
 {
     if limits.lanes < 1 || limits.lanes > 16 {
@@ -71,6 +76,9 @@ pub(crate) fn limit_fault(limits: &Limits) -> Option<OpenError>
     }
     if limits.frames < limits.lanes * limits.nursery + 2 {
         return Some(OpenError::Frames);
+    }
+    if limits.workers < 1 || limits.workers > 16 {
+        return Some(OpenError::Workers);
     }
     None
 }

@@ -13,6 +13,7 @@ const ONE_SUPERPAGE: Limits = Limits {
     nursery: 1,
     buffer: 4,
     frames: 5,
+    workers: 1,
 };
 
 /// Two lanes, with a domain each.
@@ -24,6 +25,7 @@ const TWO_LANES: Limits = Limits {
     nursery: 1,
     buffer: 4,
     frames: 6,
+    workers: 2,
 };
 
 #[test]
@@ -58,6 +60,14 @@ fn what_is_refused_says_why(rt: HostRuntime) -> Result<(), Fail> {
     };
     let refused = Heap::open(rt.alloc(), &none).err();
     assert_eq!(&rt; refused, Some(OpenError::Frames));
+    let idle = Limits {
+        workers: 0,
+        ..TWO_LANES
+    };
+    assert_eq!(&rt;
+        Heap::open(rt.alloc(), &idle).err(),
+        Some(OpenError::Workers)
+    );
     let mut heap = Heap::open(rt.alloc(), &TWO_LANES).expect(&rt, "memory");
     let mine = heap.root(0, 0).expect(&rt, "a root slot");
     let other = heap.root(1, 1).expect(&rt, "another root slot");

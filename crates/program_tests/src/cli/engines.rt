@@ -20,12 +20,14 @@ const SETUP: Setup = Setup {
 #[test]
 fn after_a_give_the_new_holder_makes_an_object(rt: HostRuntime) -> Result<(), Fail> {
     let mut engine = Engine::open(rt.alloc(), &SETUP, 1)?;
+    engine.keep_log(4)?;
     engine.facts();
     engine.give(1, 0);
     engine.facts();
     let slot = Slot { domain: 1, slot: 0 };
     let reply = engine.serial(0, &Op::New(slot, 1));
     assert_eq!(rt; reply, Reply::Obj(Birth { lane: 0, serial: 1 }));
+    assert!(rt; engine.log().is_empty(), "only phases are written down");
     Ok(())
 }
 
@@ -58,6 +60,11 @@ fn counters_tell_turns_minor_collections_and_reads(rt: HostRuntime) -> Result<()
             counters.reads.collections
         ),
         (3, 1, 0)
+    );
+    let left = counters.departures;
+    assert_eq!(rt;
+        (left.turns, left.alone, left.collections, left.notices),
+        (2, 1, 1, 2)
     );
     Ok(())
 }

@@ -1,5 +1,7 @@
 //! Lanes run side by side, and do nearly all of their operations so: shown by gates that they pass.
 
+ghost use Rattle.std.specs.Prelude.{◌≤◌};
+
 use super::sink::Paper;
 use super::{repeated, trace};
 use bc_cli::{Gate, Outcome, Status, read_trace, run_trace};
@@ -39,7 +41,8 @@ pub fn run_past<R: Threads + Sync, G: Gate + Sync>(
     run_paced(rt, alloc, text, Pacing::SideBySide, gate)
 }
 
-/// Runs the trace with this text, past a gate, with turns that run so. Where no heap is handed back there are no answers and no counters.
+/// Runs the trace with this text, past a gate, with turns that run so, and one marker. Where no heap is handed back there are no answers and
+/// no counters.
 pub fn run_paced<R: Threads + Sync, G: Gate + Sync>(
     rt: &R,
     alloc: Global,
@@ -47,10 +50,24 @@ pub fn run_paced<R: Threads + Sync, G: Gate + Sync>(
     pacing: Pacing,
     gate: &G,
 ) -> Result<Passed, AllocError> {
+    run_marked(rt, alloc, text, 1, pacing, gate)
+}
+
+/// The same with as many markers.
+pub fn run_marked<R: Threads + Sync, G: Gate + Sync>(
+    rt: &R,
+    alloc: Global,
+    text: &str,
+    workers: u32,
+    pacing: Pacing,
+    gate: &G,
+) -> Result<Passed, AllocError>
+    requires { (1 ≤ workers) × (workers ≤ 16) }
+{
     let mut source = MemSource::new(text.as_bytes().to_vec(alloc)?, 4096, Vec::new(alloc));
     let mut sink = Paper::new(alloc);
     let outcome = match read_trace(alloc, &mut source) {
-        Ok(trace) => run_trace(rt, alloc, &trace, 1, pacing, &mut sink, gate),
+        Ok(trace) => run_trace(rt, alloc, &trace, workers, pacing, &mut sink, gate),
         Err(status) => Outcome::without_heap(status),
     };
     let answers = match &outcome.heap {

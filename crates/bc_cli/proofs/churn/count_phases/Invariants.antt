@@ -1,5 +1,5 @@
 use Rattle.std.proofs.Common.{◌≡◌}
-use Rattle.bc_trace.specs.Counts.{run_counts}
+use Rattle.bc_churn.specs.Counts.{run_counts}
 use Rattle.bc_cli.specs.BetweenPhases.{HasRun}
 use Rattle.bc_cli.specs.NeedLine.{replies_before}
 use Rattle.bc_cli.proofs.churn.count_phases.Given as goal

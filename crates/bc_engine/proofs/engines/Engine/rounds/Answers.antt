@@ -1,9 +1,10 @@
-use Rattle.std.proofs.Common.{◌≡◌, Bool, length, refl, ap, ◌∙◌, arith, slice_index_or, []}
+use Rattle.std.proofs.Common.{◌≡◌, ℕ, ◌+◌, ◌*◌, Bool, length, refl, ap, ◌∙◌, arith}
 use Rattle.std.proofs.lemmas.Result.{err_from_is_err_and}
+use Rattle.bc_marking.specs.Lines.{hints_at}
 use Rattle.bc_model.specs.Rows.{lists_of}
 use Rattle.bc_engine.specs.EngineFacts.{with_answers}
 use Rattle.bc_engine.specs.Engines.{EngineView}
-use Rattle.bc_engine.specs.Rounds.{CutRound, HasNoRoomFor, IsTooSmall, RanToCut, RanToWant}
+use Rattle.bc_engine.specs.Rounds.{CutRound, HasNoRoomFor, IsTooSmall, RanToCut, RanToWant, longest_of}
 use Rattle.bc_engine.proofs.RoundLemmas.{on-begun, on-then, room-both, small-then, small-weaker, underway-then}
 use Rattle.bc_engine.proofs.TurnLemmas.{turns-all, turns-begun, turns-cut, turns-more, turns-want}
 use Rattle.bc_engine.proofs.engines.Engine.rounds.Goals as goal
@@ -28,8 +29,11 @@ rounds-preserved g c =
       on = on-then before.on c.in_ok-round.ensures.on;
       underway = underway-then round.same.1 c.in_ok-round.ensures.on before.underway;
       kept = c.in_ok-round.ensures.kept;
-      turns = turns-more (with_answers c.round.new.self c.round.new.answers.items) c.round.new.replies c.round.new.next before.turns c.in_ok-round.ensures.next (c.in_ok-round.ensures.turn c.if-branch.false);
+      turns = turns-more (with_answers c.round.new.self c.round.new.answers.items) c.round.new.replies c.round.new.next before.turns (c.in_ok-round.ensures.turn c.if-branch.false);
     }
+
+pub round-requires-clause-longest : goal.round-requires-clause-longest
+round-requires-clause-longest g c κs within = c.longest_line-longest.ensures
 
 pub returns-then-branch-clause-births : goal.returns-then-branch-clause-births
 returns-then-branch-clause-births g c = λ j. omega (arith, c.round.ensures.births j, c.rounds.invariant.births j)
@@ -62,8 +66,8 @@ returns-in_err-round-clause-cut_turns g c =
     let f = with_answers c.round.new.self c.round.new.answers.items in
     rw p.1
     (rw p.2
-    (small-weaker Bool (Unit {0}) _ (λ need. CutRound lanes (with_answers c.rounds.self c.rounds.answers.items) c.rounds.replies (slice_index_or lines c.rounds.next []) f c.round.new.replies)
-    (λ need. RanToCut lanes lines (with_answers c.args.self.now c.args.answers.now.items) c.args.replies.now f c.round.new.replies)
+    (small-weaker Bool (Unit {0}) _ (λ need. CutRound lanes lines (with_answers c.rounds.self c.rounds.answers.items) c.rounds.replies c.rounds.next f c.round.new.replies)
+    (λ need. (turns : ℕ) × RanToCut lanes lines (with_answers c.args.self.now c.args.answers.now.items) c.args.replies.now turns f c.round.new.replies)
     (λ need cut. turns-cut f c.round.new.replies c.rounds.invariant.turns cut) c.in_err-round.ensures.cut_turn))
 
 pub returns-in_err-round-clause-want : goal.returns-in_err-round-clause-want
@@ -74,7 +78,7 @@ returns-in_err-round-clause-want g c =
     let f = with_answers c.round.new.self c.round.new.answers.items in
     rw p.1
     (rw p.2
-    (room-both Bool (Unit {0}) _ (HasNoRoomFor c.round.new.answers (length (slice_index_or lines c.rounds.next [])))
+    (room-both Bool (Unit {0}) _ (HasNoRoomFor c.round.new.answers (length (hints_at lines c.rounds.next) + 2 * longest_of lines))
     ((c.round.new.self ≡ c.rounds.self) × (c.round.new.replies ≡ c.rounds.replies) × (c.round.new.answers.items ≡ c.rounds.answers.items))
     (RanToWant lanes lines (with_answers c.args.self.now c.args.answers.now.items) c.args.replies.now f c.round.new.replies c.round.new.answers)
     (λ wants same. turns-want f c.round.new.replies c.round.new.answers c.rounds.invariant.turns (ap (λ (x : EngineView). with_answers x c.round.new.answers.items) same.0 ∙ ap (with_answers c.rounds.self) same.2) same.1 wants)

@@ -1,10 +1,10 @@
-use Rattle.std.proofs.Common.{get_or, length, ap, subst, ◌∙◌, arith}
+use Rattle.std.proofs.Common.{ℕ, get_or, length, ap, sym, subst, ◌∙◌, arith}
 use Rattle.std.proofs.lemmas.List.{take_at}
 use Rattle.bc_model.specs.Lists.{PhaseLists}
 use Rattle.bc_model.specs.Rows.{lists_of}
 use Rattle.bc_model.specs.Run.{after_gives}
 use Rattle.bc_engine.specs.EngineFacts.{with_answers}
-use Rattle.bc_engine.specs.Engines.{EngineView, EngineStands}
+use Rattle.bc_engine.specs.Engines.{EngineView, EngineStands, HasEmptyChunks}
 use Rattle.bc_engine.specs.Rounds.{IsTooSmall, RanToCut, RanToWant}
 use Rattle.bc_engine.proofs.PhaseLemmas.{births-lent, cut-lent, did-lent, underway-lent}
 use Rattle.bc_engine.proofs.RoundLemmas.{room-at, small-at}
@@ -17,6 +17,9 @@ rounds-requires-clause-underway g c κs within =
     (record { engine = c.facts.ensures.engine; going = c.requires.going; phase = c.requires.phase; room = c.requires.room })
     c.requires.births c.requires.long
     (ap lists_of c.deref.ensures.value ∙ ap (λ (p : PhaseLists). p.lanes) c.phase.view_is) c.deref_mut.ensures.value
+
+pub room_facts-requires-clause-empty : goal.room_facts-requires-clause-empty
+room_facts-requires-clause-empty g c = subst (λ (e : EngineView). HasEmptyChunks e.running.heap) (sym c.give_all.ensures.same) c.in-Ok.ensures.through.empty
 
 pub returns-in-Ok-clause-done : goal.returns-in-Ok-clause-done
 returns-in-Ok-clause-done g c =
@@ -80,7 +83,7 @@ returns-in-Err-TooSmall-clause-cut_turns g c =
     (ap lists_of c.deref.ensures.value ∙ ap (λ (p : PhaseLists). p.lanes) c.phase.view_is)
     (ap lists_of c.deref-2.ensures.value ∙ ap (λ (p : PhaseLists). p.turns) c.phase.view_is) c.deref_mut.ensures.value
     (take_at c.rounds.new.replies _ c.args.replies.len (omega arith))
-    (small-at (Unit {0}) arm.field-0 arm.need (λ need. RanToCut os ls e c.deref_mut.result.now f c.rounds.new.replies) arm.field-0-is arm.ensures.cut_turns)
+    (small-at (Unit {0}) arm.field-0 arm.need (λ need. (turns : ℕ) × RanToCut os ls e c.deref_mut.result.now turns f c.rounds.new.replies) arm.field-0-is arm.ensures.cut_turns)
 
 pub returns-in-Err-TooSmall-clause-births : goal.returns-in-Err-TooSmall-clause-births
 returns-in-Err-TooSmall-clause-births g c =

@@ -7,8 +7,8 @@ use Rattle.bc_engine.proofs.engines.Engine.serial.Goals.{After-count_alone}
 use Rattle.bc_engine.proofs.engines.Engine.serial.Goals as goal
 
 -- the reads of the operation are counted
-the-count : (c : After-count_alone) → CountsAlone c.self.inside.counters c.self.inside.running.heap.space.reads c.operate.new.self.heap.space.reads c.count_alone.new.self
-the-count c = alone-counts c.self.inside.counters c.count_alone.new.self c.self.inside.running.heap.space.reads c.operate.new.self.heap.space.reads c.tally_of-before.ensures.reads c.tally_of.ensures.reads c.count_alone.ensures.counts
+the-count : (c : After-count_alone) → CountsAlone c.self.inside.player.counters c.self.inside.player.running.heap.space.reads c.operate.new.self.heap.space.reads c.count_alone.new.self
+the-count c = alone-counts c.self.inside.player.counters c.count_alone.new.self c.self.inside.player.running.heap.space.reads c.operate.new.self.heap.space.reads c.tally_of-before.ensures.reads c.tally_of-after.ensures.reads c.count_alone.ensures.counts
 
 pub invariant_of-self : goal.invariant_of-self
 invariant_of-self c =
@@ -20,10 +20,10 @@ invariant_of-self c =
           let old = c.self.invariant.alive alive in
           record {
             workers = old.workers;
-            ready = ready-step c.self.inside.setup c.args.lane c.args.op.now c.operate.result e.stays e.sound e.step e.stopped old.ready;
+            ready = ready-step c.self.inside.player.setup c.args.lane c.args.op.now c.operate.result e.stays e.sound e.step e.stopped old.ready;
             going = λ going. unrecorded-kept (e.unrecorded empty) e.stays unrecorded;
           };
-      counted = alone-counted c.self.inside.counters c.count_alone.new.self c.self.inside.running.heap.space.reads c.operate.new.self.heap.space.reads c.tally_of-before.ensures.fits c.tally_of.ensures.fits (the-count c) c.self.invariant.counted;
+      counted = alone-counted c.self.inside.player.counters c.count_alone.new.self c.self.inside.player.running.heap.space.reads c.operate.new.self.heap.space.reads c.tally_of-before.ensures.fits c.tally_of-after.ensures.fits (the-count c) c.self.invariant.counted;
     }
 
 pub returns-clause-counts : goal.returns-clause-counts
@@ -37,7 +37,7 @@ returns-clause-does c =
     let ready = (c.self.invariant.alive alive).ready in
     let stays = c.operate.ensures.stays in
     rw (← c.self.view_is) (record {
-      does = does-step c.args.lane c.args.op.now c.in-Ok.reply ready (omega (arith, lane, ready.lanes)) (op-of_heap c.self.inside.setup c.self.inside.running.heap c.args.op.now ready.fits op) stays c.in-Ok.ensures.step;
+      does = does-step c.args.lane c.args.op.now c.in-Ok.reply ready (omega (arith, lane, ready.lanes)) (op-of_heap c.self.inside.player.setup c.self.inside.player.running.heap c.args.op.now ready.fits op) stays c.in-Ok.ensures.step;
       records = c.in-Ok.ensures.recorded;
       memory = c.in-Ok.ensures.memory;
       stays = stays;

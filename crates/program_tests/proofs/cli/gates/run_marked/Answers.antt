@@ -1,6 +1,6 @@
 use Rattle.std.proofs.Common.{rules, ◌≡◌, arith}
 use Rattle.bc_cli.proofs.Bytes.{few-read}
-use Rattle.program_tests.proofs.cli.gates.run_paced.Goals as goal
+use Rattle.program_tests.proofs.cli.gates.run_marked.Goals as goal
 
 pub run_trace-outcome-requires-clause-phases : goal.run_trace-outcome-requires-clause-phases
 run_trace-outcome-requires-clause-phases g c κs within = omega (arith, few-read _ _ _ c.in-Ok.ensures.found)

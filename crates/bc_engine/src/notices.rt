@@ -1,0 +1,75 @@
+//! The notices of a phase: room for their answers, and how many pages left for them.
+
+ghost use Rattle.std.specs.Prelude.{◌≡◌, ◌+◌, ◌*◌, ◌≤◌, length, max, vec_capacity, OnOk};
+ghost use Rattle.bc_engine.specs.Answers.{IfNoRoom, IfTooSmall};
+ghost use Rattle.bc_engine.specs.Counting.{left_since, names_left as names};
+ghost use Rattle.bc_engine.specs.Rounds.{HasNoRoomFor, longest_of};
+ghost use Rattle.bc_model.specs.Rows.{lists_of};
+
+use crate::rounds::RoundsError;
+use bc_pager::Answer;
+
+/// How many notices the longest line has.
+pub(crate) fn longest_line(lines: &[Vec<u32>]) -> usize
+    ensures { result ≡ longest_of (lists_of lines.now) }
+{
+    let mut most = 0;
+    for line in lines {
+        most = larger(most, line.len());
+    }
+    most
+}
+
+/// The larger one of two numbers.
+fn larger(a: usize, b: usize) -> usize
+    ensures { result ≡ max a b }
+{
+    if a < b { b } else { a }
+}
+
+/// Takes room for the answers of a round: to the notices of its lanes' line, and to those of two lines more, of a mark turn between the turn
+/// and the emptying and of one in the emptying. Its only error is that of the list.
+pub(crate) fn take_room(
+    answers: &mut Vec<Answer>,
+    line: usize,
+    longest: usize,
+) -> Result<(), RoundsError>
+    ensures same { answers.new.items ≡ answers.old.items }
+    ensures room { OnOk result (length answers.new.items + (line + 2 * longest) ≤ vec_capacity answers.new) }
+    ensures no_room { IfNoRoom result (HasNoRoomFor answers.new (line + 2 * longest)) }
+    ensures only { IfTooSmall result (λ need. ⊥) }
+{
+    let more = longest.saturating_mul(2).saturating_add(line);
+    answers.reserve(more)?;
+    Ok(())
+}
+
+/// How many pages with objects left for the notices whose answers come after so many.
+pub(crate) fn pages_left_since(answers: &Vec<Answer>, from: usize) -> u64
+    ensures { result ≡ left_since from answers.now.items }
+{
+    left_in(answers.as_slice(), from)
+}
+
+/// The same of a slice.
+fn left_in(answers: &[Answer], from: usize) -> u64
+    ensures { result ≡ left_since from answers.now }
+{
+    let mut left = 0;
+    for index in from..answers.len() {
+        let answer = &answers[index];
+        left += names_left(answer);
+    }
+    left
+}
+
+/// Does the answer name a page with objects that left: 1 if it does, else 0.
+fn names_left(answer: &Answer) -> u64
+    ensures names { result ≡ names answer.now }
+    ensures few { result ≤ 1 }
+{
+    match answer {
+        Answer::Evicted(_) => 1,
+        _ => 0,
+    }
+}

@@ -1,0 +1,147 @@
+//! A pager works beside the markers of a collection, and answers the notices of its turn: shown by gates that they pass.
+
+use super::gates::{Counting, Patience, run_marked, run_past};
+use super::gates_pager::{ANSWERED, PAGER, TAKEN};
+use super::trace;
+use bc_cli::{Gate, Status};
+use bc_engine::{Answer, Pacing};
+use std::sync::atomic::{AtomicU64, Ordering};
+use std::test::Fail;
+
+/// The number that the first marker of a turn passes a gate with.
+const MARKER: u32 = 100;
+
+/// A marker has a page in its hands, and hasn't scanned it.
+const IN_HAND: u32 = 3;
+
+/// It has put a page back.
+const PUT_BACK: u32 = 6;
+
+/// Two superpages with an object each, and then a third object of another class that finds none: so cells are collected, and their marking
+/// has the notice of the second line.
+const THREE_CLASSES: &str =
+    "phase\nlane 0\nnew 0 0 1\nnew 0 1 2\nend\nphase\nturn\nturn 0\nlane 0\nclear 0 1\nnew 0 1 8\nend\ndone\n";
+
+/// What they print.
+const PRINTED: &str = "phase 1\nlane 0\nobj 0.1\nobj 0.2\nphase 2\nlane 0\nok\nobj 0.3\ndone\n";
+
+/// Keeps a marker at its first page until the pager has answered, and the pager at its notice until a marker has a page in its hands.
+#[derive(Drop)]
+struct Meeting {
+    in_hand: AtomicU64,
+    answered: AtomicU64,
+    patience: Patience,
+}
+
+impl Gate for Meeting {
+    fn at(&self, who: u32, point: u32) {
+        match (who, point) {
+            (MARKER, IN_HAND) => {
+                self.in_hand.fetch_add(1, Ordering::SeqCst);
+                self.patience.keep_until(&self.answered);
+            }
+            (PAGER, TAKEN) => self.patience.keep_until(&self.in_hand),
+            (PAGER, ANSWERED) => {
+                self.answered.fetch_add(1, Ordering::SeqCst);
+            }
+            _ => {}
+        }
+    }
+}
+
+#[test]
+fn a_page_leaves_beside_a_marker_that_has_another_in_its_hands(
+    rt: HostRuntime,
+) -> Result<(), Fail> {
+    let text = trace(rt.alloc(), [1, 1, 2, 2, 1, 4, 3], THREE_CLASSES)?;
+    let gate = Meeting {
+        in_hand: AtomicU64::new(0),
+        answered: AtomicU64::new(0),
+        patience: Patience::new(),
+    };
+    let passed = run_past(&rt, rt.alloc(), &text, &gate)?;
+    assert_eq!(rt; passed.status, Status::Done);
+    assert!(rt; passed.written.as_slice() == PRINTED.as_bytes());
+    // The first object's page is in the marker's hands, so the notice with its number is answered with the other one.
+    assert!(rt; passed.answers.as_slice() == [Answer::Evicted(4)].as_slice());
+    assert_eq!(rt; gate.answered.load(Ordering::SeqCst), 1);
+    assert_eq!(rt; gate.patience.given_up.load(Ordering::SeqCst), 0);
+    let Some(counters) = passed.counters else {
+        assert!(rt; false, "no heap is handed back");
+        return Ok(());
+    };
+    assert_eq!(rt; counters.departures.notices, 1);
+    Ok(())
+}
+
+#[test]
+fn a_marker_puts_each_page_back_that_it_took(rt: HostRuntime) -> Result<(), Fail> {
+    let text = trace(rt.alloc(), [1, 1, 2, 2, 1, 4, 3], THREE_CLASSES)?;
+    let taken = Counting {
+        who: MARKER,
+        point: IN_HAND,
+        passes: AtomicU64::new(0),
+    };
+    let put = Counting {
+        who: MARKER,
+        point: PUT_BACK,
+        passes: AtomicU64::new(0),
+    };
+    assert_eq!(rt;
+        run_past(&rt, rt.alloc(), &text, &taken)?.status,
+        Status::Done
+    );
+    assert_eq!(rt;
+        run_past(&rt, rt.alloc(), &text, &put)?.status,
+        Status::Done
+    );
+    let passes = taken.passes.load(Ordering::SeqCst);
+    assert!(rt; passes > 0);
+    assert_eq!(rt; put.passes.load(Ordering::SeqCst), passes);
+    Ok(())
+}
+
+/// Three superpages with an object each, of which the second is garbage, and then one of a fourth class that finds none: so cells are
+/// collected, and each of two markers has a live object on a page of its share.
+const FOUR_CLASSES: &str =
+    "phase\nlane 0\nnew 0 0 1\nnew 0 1 2\nnew 0 2 8\nend\nphase\nlane 0\nclear 0 1\nnew 0 3 20\nend\ndone\n";
+
+/// Keeps each of two markers at its first page until the other one has a page in its hands.
+#[derive(Drop)]
+struct BothInHand {
+    first: AtomicU64,
+    second: AtomicU64,
+    patience: Patience,
+}
+
+impl Gate for BothInHand {
+    fn at(&self, who: u32, point: u32) {
+        if point != IN_HAND {
+            return;
+        }
+        if who == MARKER {
+            self.first.fetch_add(1, Ordering::SeqCst);
+            self.patience.keep_until(&self.second);
+        } else if who == MARKER + 1 {
+            self.second.fetch_add(1, Ordering::SeqCst);
+            self.patience.keep_until(&self.first);
+        }
+    }
+}
+
+#[test]
+fn two_markers_have_a_page_each_in_their_hands(rt: HostRuntime) -> Result<(), Fail> {
+    let text = trace(rt.alloc(), [1, 1, 4, 3, 1, 4, 5], FOUR_CLASSES)?;
+    let gate = BothInHand {
+        first: AtomicU64::new(0),
+        second: AtomicU64::new(0),
+        patience: Patience::new(),
+    };
+    let passed = run_marked(&rt, rt.alloc(), &text, 2, Pacing::SideBySide, &gate)?;
+    assert_eq!(rt; passed.status, Status::Done);
+    assert!(rt; passed.written.as_slice().ends_with(b"obj 0.4\ndone\n"));
+    assert!(rt; gate.first.load(Ordering::SeqCst) > 0);
+    assert!(rt; gate.second.load(Ordering::SeqCst) > 0);
+    assert_eq!(rt; gate.patience.given_up.load(Ordering::SeqCst), 0);
+    Ok(())
+}
