@@ -15,11 +15,10 @@
 //! for what operations and placing touched. With `steps` there is a line for each emptying of the nurseries as well: the operations before it,
 //! its kind (promotion, early, collection, sweep or fail-safe), the pages that it read, and how many are home, gone and absent after it.
 
-mod marking;
-mod trace;
-
 use bc_gates::OpenGate;
+use bc_marking::{MarkPace, line_after, line_at};
 use bc_model::{Op, Reply};
+use bc_pager::{Answer, answer_all};
 use bc_superpages::{PageState, Space};
 use pages::all_left;
 use shim::{Alone, Global};
@@ -56,9 +55,19 @@ struct Play {
     serials: Vec<u32>,
     nurseries: u32,
     pressure: bc_running::pressure::Pressure,
+    /// No marking has a table.
+    pace: MarkPace,
+    /// What became of the notices of the phase.
+    answers: shim::Vec<Answer>,
     counts: Counts,
     /// Operations and emptyings of all phases so far, where each emptying is to be printed.
     steps: Option<(u64, u64)>,
+}
+
+/// The lines of a phase's turns, and the number of the next one.
+struct Lines<'a> {
+    lines: &'a [shim::Vec<u32>],
+    next: usize,
 }
 
 /// A lane's place in a phase, and a number made of its replies.
@@ -117,31 +126,32 @@ impl Play {
         true
     }
 
-    fn serve(&mut self, hints: &[u32]) {
-        for hint in hints {
-            let _answer = bc_bookmarks::give_up(&mut self.heap.space, *hint);
-        }
+    /// Answers the notices of the next line.
+    fn serve(&mut self, at: &mut Lines) {
+        answer_all(&mut self.heap.space, line_at(at.lines, at.next), &mut self.answers);
+        at.next = line_after(at.lines, at.next);
         bc_bookmarks::settle(&mut self.heap.space);
     }
 
-    /// A bookmark collection before pages with objects have to leave.
-    fn collect_if_short(&mut self) {
+    /// A bookmark collection before pages with objects have to leave. Its marking answers the notices of the next line.
+    fn collect_if_short(&mut self, at: &mut Lines) {
         if self.collector != Collector::Bookmarks || !self.pressure.is_high(&self.heap.space, self.nurseries) {
             return;
         }
         let (before, reads) = (bc_running::pressure::pages_with_objects(&self.heap.space), self.reads());
-        self.heap.collect(&Alone, Global, 1, &OpenGate).unwrap();
+        let Lines { lines, next } = at;
+        self.heap.collect(&Alone, Global, 1, &mut self.pace, lines, next, &mut self.answers, 0, &OpenGate).unwrap();
         self.pressure.note(before, &self.heap.space);
         self.counts.early += 1;
         self.counts.collection_reads += self.reads() - reads;
     }
 
     /// Empties the nurseries, and collects before it where frames are short. The need, where the heap is too small.
-    fn empty_told(&mut self) -> Option<u64> {
+    fn empty_told(&mut self, at: &mut Lines) -> Option<u64> {
         let reads = self.reads();
         let Counts { early, collections, sweeps, failsafes, .. } = self.counts;
-        self.collect_if_short();
-        let need = self.empty();
+        self.collect_if_short(at);
+        let need = self.empty(at);
         let Some((operations, emptyings)) = &mut self.steps else {
             return need;
         };
@@ -157,8 +167,8 @@ impl Play {
         need
     }
 
-    /// Empties the nurseries. The need, where the heap is too small.
-    fn empty(&mut self) -> Option<u64> {
+    /// Empties the nurseries. A bookmark collection in it answers the notices of the next line. The need, where the heap is too small.
+    fn empty(&mut self, at: &mut Lines) -> Option<u64> {
         let bc_cycle::Heap { space, roots, chunks, buffers, survivors, .. } = &mut self.heap;
         let start = space.reads();
         if bc_cycle::emptying::prepare(space, roots, chunks, buffers) {
@@ -168,7 +178,13 @@ impl Play {
             return None;
         }
         let fit = match self.collector {
-            Collector::Bookmarks => bc_cycle::collecting::prepare_again(space, roots, chunks, buffers),
+            Collector::Bookmarks => {
+                let Lines { lines, next } = at;
+                let (pace, answers) = (&mut self.pace, &mut self.answers);
+                bc_cycle::collecting::prepare_again(
+                    &Alone, Global, space, roots, chunks, buffers, 1, pace, lines, next, answers, 0, &OpenGate,
+                )
+            }
             Collector::MarkSweep => marking::sweep_whole(space, roots, chunks) && bc_promotion::promise_marked(space, chunks),
             Collector::Packing => false,
         };
@@ -202,14 +218,14 @@ impl Play {
 
     /// Plays the rounds of a phase. The need, where the heap is too small.
     fn rounds(&mut self, phase: &Phase, lanes: &mut [Progress]) -> Option<u64> {
-        let mut line = 0;
+        let mut at = Lines { lines: &phase.turns, next: 0 };
+        self.answers.clear();
         loop {
             for (lane, at) in lanes.iter_mut().enumerate() {
                 while self.advance(lane, &phase.lanes[lane], at) {}
             }
-            self.serve(phase.turns.get(line).map_or(&[], |hints| hints));
-            line = if line + 1 < phase.turns.len() { line + 1 } else { 0 };
-            let need = self.empty_told();
+            self.serve(&mut at);
+            let need = self.empty_told(&mut at);
             if need.is_some() || lanes.iter().zip(&phase.lanes).all(|(at, ops)| at.done == ops.len()) {
                 return need;
             }
@@ -288,6 +304,8 @@ fn main() {
         serials: vec![0; setup.lanes as usize],
         nurseries,
         pressure: bc_running::pressure::Pressure::none(),
+        pace: MarkPace::alone(),
+        answers: shim::Vec::new(Global),
         counts: Counts::default(),
         steps: words.get(1).is_some_and(|word| word == "steps").then_some((0, 0)),
     };

@@ -15,6 +15,13 @@ pub struct Alone;
 
 impl Threads for Alone {}
 
+/// Does this for each item, one after another, however many threads there may be.
+pub fn for_each_mut<R, T, F: Fn(usize, &mut T)>(_rt: &R, items: &mut [T], _threads: usize, work: &F) {
+    for (place, item) in items.iter_mut().enumerate() {
+        work(place, item);
+    }
+}
+
 #[derive(Debug, PartialEq, Eq)]
 pub struct Vec<T>(std::vec::Vec<T>);
 
@@ -25,6 +32,15 @@ impl<T> Vec<T> {
 
     pub fn with_capacity(_alloc: Global, room: usize) -> Result<Self, AllocError> {
         Ok(Vec(std::vec::Vec::with_capacity(room)))
+    }
+
+    pub fn allocator(&self) -> &Global {
+        &Global
+    }
+
+    pub fn reserve(&mut self, more: usize) -> Result<(), AllocError> {
+        self.0.reserve(more);
+        Ok(())
     }
 
     pub fn push(&mut self, item: T) -> Result<(), AllocError> {
@@ -44,6 +60,12 @@ impl<T> Vec<T> {
 /// So many copies of an item.
 pub fn filled<T: Clone>(item: T, count: usize) -> Result<Vec<T>, AllocError> {
     Ok(Vec(vec![item; count]))
+}
+
+impl<T> FromIterator<T> for Vec<T> {
+    fn from_iter<I: IntoIterator<Item = T>>(items: I) -> Self {
+        Vec(items.into_iter().collect())
+    }
 }
 
 impl<T> Deref for Vec<T> {

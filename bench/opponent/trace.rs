@@ -1,11 +1,12 @@
 //! Reads a trace that is known to be one.
 
 use crate::bc_model::{Op, Setup, Slot};
+use crate::shim;
 use std::str::SplitWhitespace;
 
 pub struct Phase {
     pub lanes: Vec<Vec<Op>>,
-    pub turns: Vec<Vec<u32>>,
+    pub turns: Vec<shim::Vec<u32>>,
     pub gives: Vec<(usize, u32)>,
 }
 
