@@ -181,7 +181,8 @@ def random_writes(setup, count):
 
 @dataclass(frozen=True)
 class Shape:
-    """A kind of trace. `make` takes a setup and a size: bytes of a mix, else the number of what the shape repeats."""
+    """A kind of trace. `make` takes a setup and a size: bytes of a mix, else the number of what the shape repeats. The goals are how many
+    times the time of the plain program, and that over the Boehm collector, `bc` may take."""
     name: str
     models: str
     setup: Setup
@@ -190,6 +191,7 @@ class Shape:
     quick: int
     counted: int
     goal: Optional[float] = None
+    boehm_goal: Optional[float] = None
 
 
 def mix_of(mix):
@@ -200,13 +202,13 @@ MIB = 1 << 20
 FOUR = Setup(lanes=4, domains=8, slots=64, superpages=1024, nursery=4, buffer=4096)
 
 
-def mix_shape(name, models, mix, setup=FOUR, timed=LIMIT):
-    return Shape(name, models, setup, mix_of(mix), timed, min(timed, 4 * MIB), MIB, 1.0)
+def mix_shape(name, models, mix, setup=FOUR, timed=LIMIT, boehm_goal=None):
+    return Shape(name, models, setup, mix_of(mix), timed, min(timed, 4 * MIB), MIB, 1.0, boehm_goal)
 
 
 SHAPES = [
     mix_shape('even', 'a program of four lanes that does a little of everything, with many small objects, some of them dropped: the '
-              'trace of `bench/make-trace`', EVEN),
+              'trace of `bench/make-trace`', EVEN, boehm_goal=1.5),
     mix_shape('even, one lane', 'the same of one lane with one domain', EVEN, Setup(1, 1, 64, 1024, 4, 4096)),
     mix_shape('even, sixteen lanes', 'the same of sixteen lanes with four domains each', EVEN, Setup(16, 64, 64, 1024, 4, 4096)),
     mix_shape('new, small', 'a functional program: two thirds of its operations make objects of up to 7 fields', Mix(MOSTLY_NEW)),
