@@ -12,14 +12,16 @@ ghost use Rattle.std.specs.Prelude.{◌≡◌, ◌≢◌, ℕ, IfErr, IfOk, IfSo
 ghost use Rattle.std.specs.Process.{exit_status};
 ghost use Rattle.bc_cli.specs.Accounts.{KeepsAccount};
 ghost use Rattle.bc_cli.specs.Churns.{ChurnsDone};
-ghost use Rattle.bc_cli.specs.Outcomes.{Faulty, IfBadTrace, IfHeapless, IfStatusOutOfHeap, IsOrNoMemory, RanOutOfHeap, Replayed, workers_of};
+ghost use Rattle.bc_cli.specs.Outcomes.{IfBadImage, IfBadTrace, IfHeapless, IfStatusOutOfHeap, IsOrNoMemory, RanOutOfHeap, Replayed, longest_of, workers_of};
+ghost use Rattle.bc_cli.specs.Resumes.{FaultyInput, ImageFaulty, Resumed};
+ghost use Rattle.bc_cli.specs.Saves.{Saved};
 ghost use Rattle.bc_cli.specs.Statuses.{exit_code_of, fault_of};
 ghost use Rattle.bc_words.specs.Commands.{IsCommandOf};
 ghost use Rattle.bc_words.specs.declared.command.Command.{Command};
-ghost use Rattle.bc_words.specs.declared.command.Command.TheVariants.{Run, Churn};
+ghost use Rattle.bc_words.specs.declared.command.Command.TheVariants.{Run, Churn, Save, Resume};
 
 use bc_cli::top::top;
-use bc_cli::{Fault, OpenGate, Outcome, Status};
+use bc_cli::{Fault, OpenGate, Outcome, Status, longest_input};
 use bc_io::{StdSink, StdSource};
 use std::alloc::{AllocError, Global};
 use std::env;
@@ -80,8 +82,14 @@ where
         (command : Command) → ¬ IsCommandOf (map (λ w. string_bytes w) words.now) command }
     ensures refused { ((command : Command) → ¬ IsCommandOf (map (λ w. string_bytes w) words.now) command) →
         IsOrNoMemory result.status Status.BadWords }
-    ensures bad_trace { IfBadTrace result.status (λ line cause. Faulty None None line cause) }
-    ensures out_of_heap { IfStatusOutOfHeap result.status (λ need. RanOutOfHeap None None None None result.heap need) }
+    ensures save_done { (phases workers : ℕ) → IsCommandOf (map (λ w. string_bytes w) words.now) (Save phases workers) →
+        result.status ≡ Status.Done → Saved None None None None phases × (result.heap ≡ None) }
+    ensures resume_done { (workers : ℕ) → IsCommandOf (map (λ w. string_bytes w) words.now) (Resume workers) →
+        result.status ≡ Status.Done → Resumed None None None None result.heap }
+    ensures bad_trace { (command : Command) → IsCommandOf (map (λ w. string_bytes w) words.now) command →
+        IfBadTrace result.status (λ line cause. FaultyInput command None None line cause) }
+    ensures bad_image { IfBadImage result.status (λ at cause. ImageFaulty None None at cause) }
+    ensures out_of_heap { (workers : ℕ) → IsCommandOf (map (λ w. string_bytes w) words.now) (Run workers) → IfStatusOutOfHeap result.status (λ need. RanOutOfHeap None None None None result.heap need) }
     ensures none { IfHeapless result.status (result.heap ≡ None) }
     ensures workers { (command : Command) → IsCommandOf (map (λ w. string_bytes w) words.now) command →
         IfSome result.heap (λ engine. engine.workers ≡ workers_of command) }
@@ -95,28 +103,38 @@ where
     top(rt, rt.alloc(), &texts, &mut source, &mut sink, &OpenGate)
 }
 
-/// What is printed of a run that ended so: the line for standard error, which says what is wrong with it, if it wasn't done, and the exit
-/// status of the program.
-fn report(status: Status) -> (Option<Fault>, ExitCode)
-    ensures line { result.0 ≡ fault_of status }
+/// The most bytes that the input may have of the command that the words are.
+fn longest_of_words(words: &[String]) -> u64
+    ensures { (command : Command) → IsCommandOf (map (λ w. string_bytes w) words.now) command → result ≡ longest_of command }
+{
+    match words {
+        [first, ..] => longest_input(first),
+        _ => 0,
+    }
+}
+
+/// What is printed of a run that ended so, whose input may have had so many bytes: the line for standard error, which says what is
+/// wrong with it, if it wasn't done, and the exit status of the program.
+fn report(status: Status, most: u64) -> (Option<Fault>, ExitCode)
+    ensures line { result.0 ≡ fault_of most status }
     ensures status { exit_status result.1 ≡ exit_code_of status }
 {
-    (status.fault(), ExitCode::from(status.exit_code()))
+    (status.fault(most), ExitCode::from(status.exit_code()))
 }
 
 fn main(rt: HostRuntime) -> ExitCode {
     let work = move || match words_of(&rt) {
         Ok(words) => {
             let outcome = run_words(&rt, &words, rt.stdin(), rt.stdout());
-            outcome.status
+            (outcome.status, longest_of_words(&words))
         }
-        Err(status) => status,
+        Err(status) => (status, 0),
     };
-    let status = match Builder::new().stack_size(STACK).spawn(&rt, work) {
+    let (status, most) = match Builder::new().stack_size(STACK).spawn(&rt, work) {
         Ok(thread) => thread.join(&rt),
-        Err(_) => Status::NoMemory,
+        Err(_) => (Status::NoMemory, 0),
     };
-    let (line, code) = report(status);
+    let (line, code) = report(status, most);
     if let Some(line) = line {
         let _ = eprintln!(rt; "{line}");
     }

@@ -2,21 +2,25 @@
 use Rattle.std.proofs.Common.{◌≡◌, ◌≢◌, ℕ, inl, inr, List, Option, None, Some}
 use Rattle.bc_engine.specs.Engines.{EngineView}
 use Rattle.bc_engine.specs.declared.engines.Ended.TheVariants.{NoMemory}
-use Rattle.bc_model.specs.Lists.{TraceLists}
 use Rattle.bc_cli.specs.Churns.{HasChurned}
+use Rattle.bc_cli.specs.Courses.{Course}
 use Rattle.bc_cli.specs.Endings.{EndsInFault, EndsOutOfHeap}
+use Rattle.bc_cli.specs.Saves.{CutOffBelow}
 
 -- nor has one that goes on
 pub going-alive : (e : EngineView) → e.ended ≡ None → e.ended ≢ Some NoMemory
 going-alive e going = λ gone. cc
 
-pub need-alive : (t : TraceLists) (a b : Option (List ℕ)) (e : EngineView) (need : ℕ) → EndsOutOfHeap t a b (Some e) need → e.ended ≢ Some NoMemory
+pub need-alive : (t : Course) (a b : Option (List ℕ)) (e : EngineView) (need : ℕ) → EndsOutOfHeap t a b (Some e) need → e.ended ≢ Some NoMemory
 need-alive t a b e need h = λ gone. let how = h.handed.ended in cc
 
-pub fault-alive : (t : TraceLists) (a b : Option (List ℕ)) (e : EngineView) → EndsInFault t a b (Some e) → e.ended ≢ Some NoMemory
+pub fault-alive : (t : Course) (a b : Option (List ℕ)) (e : EngineView) → EndsInFault t a b (Some e) → e.ended ≢ Some NoMemory
 fault-alive t a b e (inl h) = going-alive e h.handed.ended
 fault-alive t a b e (inr (inl h)) = going-alive e h.handed.ended
 fault-alive t a b e (inr (inr h)) = λ gone. let how = h.handed.ended in cc
 
 pub churned-alive : (start ops : ℕ) (e : EngineView) → HasChurned start ops (Some e) → e.ended ≢ Some NoMemory
 churned-alive start ops e h = going-alive e h.handed.ended
+
+pub cut-alive : (c : Course) (count : ℕ) (e : EngineView) (need : ℕ) → CutOffBelow c count (Some e) need → e.ended ≢ Some NoMemory
+cut-alive c count e need off = λ gone. let told = off.ending.handed.ended in cc

@@ -1,8 +1,12 @@
 -- The command that was found, and the one that the words are.
 use Rattle.std.proofs.Common.{◌≡◌, ℕ, Option, None, Some, subst}
 use Rattle.std.specs.Prelude.{IfNone, IfSome}
+use Rattle.bc_image.specs.declared.fault.ImageCause.{ImageCause}
 use Rattle.bc_words.specs.declared.command.Command.{Command}
-use Rattle.bc_words.specs.declared.command.Command.TheVariants.{Churn}
+use Rattle.bc_words.specs.declared.command.Command.TheVariants.{Churn, Save}
+use Rattle.bc_cli.specs.Outcomes.{IfBadImage}
+use Rattle.bc_cli.specs.declared.status.Status.{Status}
+use Rattle.bc_cli.specs.declared.status.Status.TheVariants.{Done, BadWords, BadTrace, TooLong, ReadFault, WriteFault, OutOfHeap, NoMemory, BadImage, Mismatch}
 
 -- what is said of the command that was found
 pub asked : (P : Command → Type 0) (found : Option Command) (c : Command) → IfSome found P → found ≡ Some c → P c
@@ -22,3 +26,21 @@ same-churn P found start ops workers start' ops' workers' first second h =
     let starts : start ≡ start' = cc in
     let counts : ops ≡ ops' = cc in
     subst (λ n. P start' n) counts (subst (λ n. P n ops) starts h)
+
+pub same-save : (P : ℕ → Type 0) (found : Option Command) (phases workers phases' workers' : ℕ) → found ≡ Some (Save phases workers) → found ≡ Some (Save phases' workers') → P phases → P phases'
+same-save P found phases workers phases' workers' first second h =
+    let same : phases ≡ phases' = cc in
+    subst P same h
+
+-- a status 8 is one of the command that was found
+pub only-image : (s : Status) (P : ℕ → ImageCause → Type 0) (R Q : Type 0) → Q → IfBadImage s (λ at cause. P at cause × R) → IfBadImage s (λ at cause. Q × P at cause × R)
+only-image Done P R Q q h = tt
+only-image BadWords P R Q q h = tt
+only-image (BadTrace line cause) P R Q q h = tt
+only-image TooLong P R Q q h = tt
+only-image ReadFault P R Q q h = tt
+only-image WriteFault P R Q q h = tt
+only-image (OutOfHeap need) P R Q q h = tt
+only-image NoMemory P R Q q h = tt
+only-image (BadImage at cause) P R Q q h = (q, h.0, h.1)
+only-image Mismatch P R Q q h = tt

@@ -21,10 +21,10 @@ read_is None read bytes h e = cc
 read_is (Some left) read bytes h e = cc
 
 -- the bytes of a source that was read to its end are those that it may give
-pub may_give-whole : (old new : Option (List ℕ)) (bytes : List ℕ) → ReadWhole old new bytes → MayGive old bytes
-may_give-whole None new bytes h = tt
-may_give-whole (Some left) None bytes h = let falls = h.falls in cc
-may_give-whole (Some left) (Some rest) bytes h =
+pub may_give-whole : (most : ℕ) (old new : Option (List ℕ)) (bytes : List ℕ) → ReadWhole most old new bytes → MayGive old bytes
+may_give-whole most None new bytes h = tt
+may_give-whole most (Some left) None bytes h = let falls = h.falls in cc
+may_give-whole most (Some left) (Some rest) bytes h =
     let falls = h.falls in
     let none : rest ≡ [] = h.end in
     let all : left ≡ bytes ++ rest = cc in
@@ -48,9 +48,9 @@ pub not_faulty : {X : Type 0} (read bytes : List ℕ) (f : TraceFault) → read 
 not_faulty read bytes f e none fault = absurd (none f (subst (λ b. Fault b f.line f.cause) (sym e) fault))
 
 -- a source that reported few bytes didn't give too many
-pub not_longer : (told : Option (List ℕ)) (bytes : List ℕ) → IfSome told (λ left. longest_trace < length left) → told ≡ Some bytes → length bytes ≤ longest_trace → ⊥
-not_longer None bytes h e short = cc
-not_longer (Some left) bytes h e short = let same : left ≡ bytes = cc in omega (arith, ap length same)
+pub not_longer : (most : ℕ) (told : Option (List ℕ)) (bytes : List ℕ) → IfSome told (λ left. most < length left) → told ≡ Some bytes → length bytes ≤ most → ⊥
+not_longer most None bytes h e short = cc
+not_longer most (Some left) bytes h e short = let same : left ≡ bytes = cc in omega (arith, ap length same)
 
 -- a source that gave no byte too many, and had no fault, is left unread by running out of memory alone
 pub unread-short : (e : ReadAll) → (e ≡ reads.TooLong → ⊥) → (e ≡ reads.ReadFault → ⊥) → unread e ≡ NoMemory

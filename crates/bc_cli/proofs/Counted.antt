@@ -15,6 +15,7 @@ use Rattle.bc_churn.specs.Counts.{all_replies, phase_replies, counts, run_counts
 use Rattle.bc_churn.proofs.ChurnNeed.{need-cut, setup-is}
 use Rattle.bc_churn.proofs.ChurnSums.{counted-once, counted-run, trace-ops}
 use Rattle.bc_cli.specs.Churns.{HasChurned}
+use Rattle.bc_cli.specs.Courses.{whole_course}
 use Rattle.bc_cli.specs.Endings.{FitsThroughout}
 use Rattle.bc_cli.specs.BetweenPhases.{HasRun}
 use Rattle.bc_cli.specs.NeedLine.{replies_before}
@@ -46,17 +47,17 @@ few-replies t k =
 -- ---- one phase
 
 -- where all states fit no phase ends out of heap
-pub no-cut : (t : TraceLists) (k : ℕ) (e f : EngineView) (replies : List (List Reply)) (need : Option ℕ) (n : ℕ) → need ≡ Some n → Ran t k e f replies need → FitsThroughout t → ⊥
+pub no-cut : (t : TraceLists) (k : ℕ) (e f : EngineView) (replies : List (List Reply)) (need : Option ℕ) (n : ℕ) → need ≡ Some n → Ran (whole_course t) k e f replies need → FitsThroughout t → ⊥
 no-cut t k e f replies need n some h fits =
-    let at = cut t k e f replies need n some h in
+    let at = cut (whole_course t) k e f replies need n some h in
     omega (arith, fits k n at.cut at.needs.within at.needs.counted, at.needs.above)
 
-replies-next : (t : TraceLists) (k : ℕ) (e f : EngineView) (replies : List (List Reply)) (need : Option ℕ) → need ≡ None → Ran t k e f replies need → replies_before t (k + 1) ≡ replies_before t k ++ replies ∷ []
+replies-next : (t : TraceLists) (k : ℕ) (e f : EngineView) (replies : List (List Reply)) (need : Option ℕ) → need ≡ None → Ran (whole_course t) k e f replies need → replies_before t (k + 1) ≡ replies_before t k ++ replies ∷ []
 replies-next t k e f replies need none h =
     replies_before-next t k h.within
-    ∙ ap (λ rs. replies_before t k ++ rs ∷ []) (sym ((did t k e f replies need none h).stands (before t k) h.before.stands).0)
+    ∙ ap (λ rs. replies_before t k ++ rs ∷ []) (sym ((did (whole_course t) k e f replies need none h).stands (before t k) h.before.stands).0)
 
-pub counts-room : (t : TraceLists) (k : ℕ) (e f : EngineView) (replies : List (List Reply)) (need : Option ℕ) (cs : List ℕ) → need ≡ None → Ran t k e f replies need → all_ops_of t < 2 ^ 32
+pub counts-room : (t : TraceLists) (k : ℕ) (e f : EngineView) (replies : List (List Reply)) (need : Option ℕ) (cs : List ℕ) → need ≡ None → Ran (whole_course t) k e f replies need → all_ops_of t < 2 ^ 32
     → cs ≡ run_counts (replies_before t k) → sum cs + length (phase_replies replies) < 2 ^ 64
 counts-room t k e f replies need cs none h few so_far =
     let both : all_replies (replies_before t k ++ replies ∷ []) ≡ all_replies (replies_before t k) ++ phase_replies replies =
@@ -72,7 +73,7 @@ counts-room t k e f replies need cs none h few so_far =
       few-replies t (k + 1),
     )
 
-pub counts-next : (t : TraceLists) (k : ℕ) (e f : EngineView) (replies : List (List Reply)) (need : Option ℕ) (cs : List ℕ) → need ≡ None → Ran t k e f replies need
+pub counts-next : (t : TraceLists) (k : ℕ) (e f : EngineView) (replies : List (List Reply)) (need : Option ℕ) (cs : List ℕ) → need ≡ None → Ran (whole_course t) k e f replies need
     → cs ≡ run_counts (replies_before t k ++ replies ∷ []) → cs ≡ run_counts (replies_before t (k + 1))
 counts-next t k e f replies need cs none h is = is ∙ ap run_counts (sym (replies-next t k e f replies need none h))
 
@@ -84,9 +85,9 @@ churn-fits start ops k n cut within need = omega (arith, need-cut start ops k n 
 pub churn-small : (start ops : ℕ) → ops ≤ 100000 → all_ops_of (churn_trace start ops) < 2 ^ 32
 churn-small start ops h = omega (arith, h, trace-ops start ops)
 
-pub has-churned : (start ops : ℕ) (t : TraceLists) (e : EngineView) → t ≡ churn_trace start ops → HasRun t (length t.phases) e → HasChurned start ops (Some e)
+pub has-churned : (start ops : ℕ) (t : TraceLists) (e : EngineView) → t ≡ churn_trace start ops → HasRun (whole_course t) (length t.phases) e → HasChurned start ops (Some e)
 has-churned start ops t e is h =
-    subst (λ (u : TraceLists). HasRun u (length u.phases) e → HasChurned start ops (Some e)) (sym is) (λ h. record {
-      handed = record { setup = h.setup; ended = h.going; stands = subst (EngineStands e) (final-before (churn_trace start ops)) h.stands };
+    subst (λ (u : TraceLists). HasRun (whole_course u) (length u.phases) e → HasChurned start ops (Some e)) (sym is) (λ h. record {
+      handed = record { setup = h.setup; ended = h.going; stands = subst (EngineStands e) (final-before (whole_course (churn_trace start ops))) h.stands };
       empty = h.empty;
     }) h

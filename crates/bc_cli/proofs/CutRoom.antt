@@ -15,6 +15,7 @@ use Rattle.bc_model.proofs.Serials.{HasSerials-after_cut}
 use Rattle.bc_trace.specs.Lines.{op, line_text, lane_lines, phase_lines, trace_text, Spells}
 use Rattle.bc_trace.specs.Replies.{phase_text, phases_text, out_of_heap_text}
 use Rattle.bc_trace.proofs.Fitting.{AreShort, short-run, short-cut_of_run}
+use Rattle.bc_cli.specs.Courses.{whole_course}
 use Rattle.bc_cli.specs.Endings.{HasRunRoom, NeedsMore}
 use Rattle.bc_cli.specs.Outcomes.{HasRoomFor, longest_trace}
 use Rattle.bc_cli.specs.Output.{texts_from, cut_text}
@@ -81,7 +82,7 @@ phases_cut_room setup n s (p ∷ ps) (suc k) cut hs small lt ok short last =
       length-phase_lines p ps,
     )
 
-length-cut_text : (t : TraceLists) (k : ℕ) (cut : List ℕ) → IsTrace t → k < length t.phases → length t.phases < 2 ^ 32 → all_ops_of t < 2 ^ 32 → length (cut_text t k cut) ≤ 4 * length (trace_text t)
+length-cut_text : (t : TraceLists) (k : ℕ) (cut : List ℕ) → IsTrace t → k < length t.phases → length t.phases < 2 ^ 32 → all_ops_of t < 2 ^ 32 → length (cut_text (whole_course t) k cut) ≤ 4 * length (trace_text t)
 unfolding cut_from texts_from
 length-cut_text t k cut h lt few small =
     let s = opening t.setup in
@@ -89,8 +90,11 @@ length-cut_text t k cut h lt few small =
     let told = replies_to_lanes (after_phases s (take k t.phases)) 0 (cut_lanes cut (get_or t.phases k no_phase).lanes) in
     let number : k + 1 ≡ 1 + k = omega arith in
     let before = phases_text 1 (replies_of_phases s (take k t.phases)) in
+    let here : k + 0 + 1 ≡ k + 1 = omega arith in
+    let same : cut_text (whole_course t) k cut ≡ before ++ phase_text (k + 1) told = ap (λ (m : ℕ). before ++ phase_text m told) here in
     omega (
       arith,
+      ap length same,
       phases,
       ap (λ (m : ℕ). length (phase_text m told)) number,
       length-append before (phase_text (k + 1) told),
@@ -98,7 +102,7 @@ length-cut_text t k cut h lt few small =
       trace_frame t,
     )
 
-cut_need : (t : TraceLists) (k : ℕ) (cut : List ℕ) (need : ℕ) → IsTrace t → all_ops_of t < 2 ^ 32 → NeedsMore t k cut need → need < 2 ^ 64
+cut_need : (t : TraceLists) (k : ℕ) (cut : List ℕ) (need : ℕ) → IsTrace t → all_ops_of t < 2 ^ 32 → NeedsMore (whole_course t) k cut need → need < 2 ^ 64
 cut_need t k cut need h small needs =
     need_small (after_cut t k cut) need (OfSetup-after_cut t k cut h).state (HasSerials-after_cut t k cut h small) needs.counted
 
@@ -115,8 +119,8 @@ length-out_of_heap_text need h =
     )
 
 -- the same, by the bytes that were read
-pub cut_short : (bytes : List ℕ) (t : TraceLists) (k : ℕ) (cut : List ℕ) (need : ℕ) → length bytes ≤ longest_trace → Spells bytes t → NeedsMore t k cut need
-    → length (cut_text t k cut ++ out_of_heap_text need) ≤ 4 * length bytes + 40
+pub cut_short : (bytes : List ℕ) (t : TraceLists) (k : ℕ) (cut : List ℕ) (need : ℕ) → length bytes ≤ longest_trace → Spells bytes t → NeedsMore (whole_course t) k cut need
+    → length (cut_text (whole_course t) k cut ++ out_of_heap_text need) ≤ 4 * length bytes + 40
 cut_short bytes t k cut need short h needs =
     let size : length bytes ≡ length (trace_text t) = ap length h.text in
     let count = length-trace_text t h.trace in
@@ -125,11 +129,11 @@ cut_short bytes t k cut need short h needs =
       size,
       length-cut_text t k cut h.trace needs.within (omega arith) (omega arith),
       length-out_of_heap_text need (cut_need t k cut need h.trace (omega arith) needs),
-      length-append (cut_text t k cut) (out_of_heap_text need),
+      length-append (cut_text (whole_course t) k cut) (out_of_heap_text need),
     )
 
 -- a sink with four times the room of what the source may give, and forty bytes more, has room for the run
-fits_room : (bytes : List ℕ) (t : TraceLists) (room : ℕ) → length bytes ≤ longest_trace → Spells bytes t → 4 * length bytes + 40 ≤ room → HasRunRoom (Some room) t
+fits_room : (bytes : List ℕ) (t : TraceLists) (room : ℕ) → length bytes ≤ longest_trace → Spells bytes t → 4 * length bytes + 40 ≤ room → HasRunRoom (Some room) (whole_course t)
 fits_room bytes t room short h wide = record {
   whole = omega (arith, output_short bytes t short h);
   cut_short = λ k cut need needs. omega (arith, cut_short bytes t k cut need short h needs);

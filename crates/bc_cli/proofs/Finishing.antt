@@ -6,24 +6,25 @@ use Rattle.bc_io.specs.Told.{HeldGrows, IsPrefix}
 use Rattle.bc_io.specs.Pieces.{RoomFalls}
 use Rattle.bc_io.proofs.Telling.{HeldGrows-more, IsPrefix-refl, IsPrefix-trans, IsPrefix-append}
 use Rattle.bc_model.specs.Lists.{TraceLists}
-use Rattle.bc_model.specs.Run.{opening, before, after_phases, final_state}
+use Rattle.bc_model.specs.Run.{opening, after_phases}
 use Rattle.bc_model.specs.RunLengths.{all_ops_of}
 use Rattle.bc_model.specs.WellFormed.{IsSetup, IsTrace}
 use Rattle.bc_model.specs.declared.traces.Setup.{Setup}
 use Rattle.bc_trace.specs.Replies.{done_text, out_of_heap_text}
 use Rattle.bc_cli.specs.Endings.{WritesFront, FitsThroughout, HasRunRoom, EndsDone, EndsOutOfHeap, FailsAtDone}
 use Rattle.bc_cli.specs.BetweenPhases.{HasRun, HasPhaseRoom}
+use Rattle.bc_cli.specs.Courses.{Course, whole_course, before, final_state}
 use Rattle.bc_cli.specs.Outcomes.{IfStatusOutOfHeap, IsOrNoMemory}
 use Rattle.bc_cli.specs.PartEndings.{IsEnding}
 use Rattle.bc_cli.specs.Output.{texts_from, texts_before, all_texts, whole_text, text_at, need_text, cut_text}
 use Rattle.bc_cli.specs.declared.status.Status.{Status}
-use Rattle.bc_cli.specs.declared.status.Status.TheVariants.{Done, BadWords, BadTrace, TooLong, ReadFault, WriteFault, OutOfHeap, NoMemory}
+use Rattle.bc_cli.specs.declared.status.Status.TheVariants.{Done, BadWords, BadTrace, TooLong, ReadFault, WriteFault, OutOfHeap, NoMemory, BadImage, Mismatch}
 use Rattle.bc_cli.proofs.Pieces.{state-none, texts_before-front, room-for-next, front-behind}
 use Rattle.bc_cli.proofs.Running.{texts_before-next}
 
 -- ---- the engine that was opened
 
-pub HasRun-opened : (t : TraceLists) (setup : Setup) (e : EngineView) → setup ≡ t.setup → all_ops_of t < 2 ^ 32 → EngineStands e (opening setup) → (e.setup ≡ setup) × (e.ended ≡ None) × HasEmptyChunks e.running.heap → HasRun t 0 e
+pub HasRun-opened : (t : TraceLists) (setup : Setup) (e : EngineView) → setup ≡ t.setup → all_ops_of t < 2 ^ 32 → EngineStands e (opening setup) → (e.setup ≡ setup) × (e.ended ≡ None) × HasEmptyChunks e.running.heap → HasRun (whole_course t) 0 e
 HasRun-opened t setup e is small stands h = record {
   setup = h.0 ∙ is;
   going = h.1;
@@ -38,13 +39,13 @@ setup-fits t setup is h = subst IsSetup (sym is) h.setup
 
 -- ---- all phases are done
 
-pub texts_before-all : (t : TraceLists) (k : ℕ) → length t.phases ≤ k → texts_before t k ≡ all_texts t
-texts_before-all t k past = ap (texts_from (opening t.setup)) (take_all k t.phases past)
+pub texts_before-all : (t : Course) (k : ℕ) → length t.phases ≤ k → texts_before t k ≡ all_texts t
+texts_before-all t k past = ap (texts_from (t.first + 1) t.start) (take_all k t.phases past)
 
-pub final-before : (t : TraceLists) → before t (length t.phases) ≡ final_state t
-final-before t = ap (after_phases (opening t.setup)) (take_all (length t.phases) t.phases (omega arith))
+pub final-before : (t : Course) → before t (length t.phases) ≡ final_state t
+final-before t = ap (after_phases t.start) (take_all (length t.phases) t.phases (omega arith))
 
-pub ends-done : (t : TraceLists) (e : EngineView) (a b c : Option (List ℕ)) → HasRun t (length t.phases) e → HeldGrows a b (all_texts t) → HeldGrows b c done_text → EndsDone t a c (Some e)
+pub ends-done : (t : Course) (e : EngineView) (a b c : Option (List ℕ)) → HasRun t (length t.phases) e → HeldGrows a b (all_texts t) → HeldGrows b c done_text → EndsDone t a c (Some e)
 ends-done t e a b c h texts last = record {
   written = HeldGrows-more a b c (all_texts t) done_text texts last;
   handed = record { setup = h.setup; ended = h.going; stands = subst (EngineStands e) (final-before t) h.stands };
@@ -52,7 +53,7 @@ ends-done t e a b c h texts last = record {
   fits = h.fits;
 }
 
-pub fails-at_done : (t : TraceLists) (e : EngineView) (a b c : Option (List ℕ)) → HasRun t (length t.phases) e → HeldGrows a b (all_texts t) → WritesFront b c done_text → FailsAtDone t a c (Some e)
+pub fails-at_done : (t : Course) (e : EngineView) (a b c : Option (List ℕ)) → HasRun t (length t.phases) e → HeldGrows a b (all_texts t) → WritesFront b c done_text → FailsAtDone t a c (Some e)
 fails-at_done t e a b c h texts front = record {
   written = front-behind a b c (all_texts t) done_text texts front;
   handed = record { setup = h.setup; ended = h.going; stands = subst (EngineStands e) (final-before t) h.stands };
@@ -64,9 +65,9 @@ fails-at_done t e a b c h texts front = record {
 cut-whole : (xs ys zs : List ℕ) → IsPrefix (xs ++ (ys ++ zs)) (xs ++ ys ++ zs)
 cut-whole xs ys zs = subst (λ all. IsPrefix (xs ++ (ys ++ zs)) all) (sym (append_assoc xs ys zs)) (IsPrefix-refl (xs ++ (ys ++ zs)))
 
-pub phase-room : (t : TraceLists) (k : ℕ) (a b : Option ℕ) → k < length t.phases → HasRunRoom a t → RoomFalls a b (length (texts_before t k)) → HasPhaseRoom b t k
+pub phase-room : (t : Course) (k : ℕ) (a b : Option ℕ) → k < length t.phases → HasRunRoom a t → RoomFalls a b (length (texts_before t k)) → HasPhaseRoom b t k
 phase-room t k a b lt h fell =
-    let front : IsPrefix (texts_before t k ++ text_at t k) (all_texts t) = subst (λ xs. IsPrefix xs (all_texts t)) (texts_before-next t k lt) (texts_before-front (opening t.setup) t.phases (k + 1)) in
+    let front : IsPrefix (texts_before t k ++ text_at t k) (all_texts t) = subst (λ xs. IsPrefix xs (all_texts t)) (texts_before-next t k lt) (texts_before-front (t.first + 1) t.start t.phases (k + 1)) in
     record {
       whole = room-for-next a b (texts_before t k) (text_at t k) (whole_text t) h.whole fell (IsPrefix-trans _ _ _ front (IsPrefix-append (all_texts t) done_text));
       cut_short = λ cut need needs.
@@ -77,7 +78,7 @@ phase-room t k a b lt h fell =
 -- ---- what an ending says of a status
 
 -- where all states fit and no write fails the replay is done
-pub complete-ending : (s : Status) (t : TraceLists) (held held' : Option (List ℕ)) (heap : Option EngineView) → IsEnding s → IfStatusOutOfHeap s (EndsOutOfHeap t held held' heap) → FitsThroughout t → s ≢ WriteFault → IsOrNoMemory s Done
+pub complete-ending : (s : Status) (t : TraceLists) (held held' : Option (List ℕ)) (heap : Option EngineView) → IsEnding s → IfStatusOutOfHeap s (EndsOutOfHeap (whole_course t) held held' heap) → FitsThroughout t → s ≢ WriteFault → IsOrNoMemory s Done
 complete-ending Done t held held' heap h need fits firm = inl refl
 complete-ending BadWords t held held' heap h need fits firm = absurd h
 complete-ending (BadTrace line cause) t held held' heap h need fits firm = absurd h
@@ -87,3 +88,5 @@ complete-ending WriteFault t held held' heap h need fits firm = absurd (firm ref
 complete-ending (OutOfHeap n) t held held' heap h need fits firm =
     absurd (let most = fits need.phase n need.cut need.needs.within need.needs.counted in omega (arith, most, need.needs.above))
 complete-ending NoMemory t held held' heap h need fits firm = inr refl
+complete-ending (BadImage at cause) t held held' heap h need fits firm = absurd h
+complete-ending Mismatch t held held' heap h need fits firm = absurd h

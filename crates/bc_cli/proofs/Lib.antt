@@ -28,3 +28,9 @@ pub mod Alive
 pub mod Asking
 -- The output of `churn` is short.
 pub mod ChurnRoom
+-- What reading an image and the trace after it says.
+pub mod ParseLemmas
+-- An engine that goes on with an image
+pub mod Resuming
+-- The first phases of a trace that were run, and the image of the heap after them.
+pub mod Saving

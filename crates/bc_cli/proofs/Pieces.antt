@@ -25,35 +25,47 @@ length-replies s [] = refl
 length-replies s (p ∷ ps) = ap suc (length-replies (after_phase s p) ps)
 
 -- phases and then one more
-pub texts-more : (s : State) (ps : List PhaseLists) (p : PhaseLists) (n : ℕ) → n ≡ length ps + 1
-    → texts_from s (ps ++ p ∷ []) ≡ texts_from s ps ++ phase_text n (replies_to_lanes (after_phases s ps) 0 p.lanes)
+pub texts-more : (m : ℕ) (s : State) (ps : List PhaseLists) (p : PhaseLists) (n : ℕ) → n ≡ m + length ps
+    → texts_from m s (ps ++ p ∷ []) ≡ texts_from m s ps ++ phase_text n (replies_to_lanes (after_phases s ps) 0 p.lanes)
 unfolding texts_from replies_of_phases phases_text
-texts-more s ps p n e =
+texts-more m s ps p n e =
     let r = replies_to_lanes (after_phases s ps) 0 p.lanes in
-    ap (phases_text 1) (replies-append s ps (p ∷ []))
-    ∙ phases_text-append 1 (replies_of_phases s ps) (r ∷ [])
-    ∙ ap (λ t. phases_text 1 (replies_of_phases s ps) ++ t) (append-nil (phase_text (1 + length (replies_of_phases s ps)) r))
-    ∙ ap (λ m. phases_text 1 (replies_of_phases s ps) ++ phase_text m r) (omega (arith, length-replies s ps))
+    ap (phases_text m) (replies-append s ps (p ∷ []))
+    ∙ phases_text-append m (replies_of_phases s ps) (r ∷ [])
+    ∙ ap (λ t. phases_text m (replies_of_phases s ps) ++ t) (append-nil (phase_text (m + length (replies_of_phases s ps)) r))
+    ∙ ap (λ l. phases_text m (replies_of_phases s ps) ++ phase_text l r) (omega (arith, length-replies s ps, e))
 
 -- the texts of some phases are a prefix of those of these phases and more
-pub texts-front : (s : State) (ps qs : List PhaseLists) → IsPrefix (texts_from s ps) (texts_from s (ps ++ qs))
+pub texts-front : (m : ℕ) (s : State) (ps qs : List PhaseLists) → IsPrefix (texts_from m s ps) (texts_from m s (ps ++ qs))
 unfolding texts_from
-texts-front s ps qs = (
-  phases_text (1 + length (replies_of_phases s ps)) (replies_of_phases (after_phases s ps) qs),
-  ap (phases_text 1) (replies-append s ps qs) ∙ phases_text-append 1 (replies_of_phases s ps) (replies_of_phases (after_phases s ps) qs),
+texts-front m s ps qs = (
+  phases_text (m + length (replies_of_phases s ps)) (replies_of_phases (after_phases s ps) qs),
+  ap (phases_text m) (replies-append s ps qs) ∙ phases_text-append m (replies_of_phases s ps) (replies_of_phases (after_phases s ps) qs),
 )
 
-pub texts-none : (s : State) → texts_from s [] ≡ []
+-- the texts of phases are those of the first ones, and then those of the others from the state after these
+pub texts-split : (m : ℕ) (s : State) (ps : List PhaseLists) (k : ℕ) → k ≤ length ps
+    → texts_from m s ps ≡ texts_from m s (take k ps) ++ texts_from (m + k) (after_phases s (take k ps)) (drop k ps)
+unfolding texts_from
+texts-split m s ps k few =
+    let front : List PhaseLists = take k ps in
+    let rest : List PhaseLists = drop k ps in
+    subst (λ qs. texts_from m s qs ≡ texts_from m s front ++ texts_from (m + k) (after_phases s front) rest) (take-append-drop k ps)
+    (ap (phases_text m) (replies-append s front rest)
+    ∙ phases_text-append m (replies_of_phases s front) (replies_of_phases (after_phases s front) rest)
+    ∙ ap (λ n. texts_from m s front ++ phases_text n (replies_of_phases (after_phases s front) rest)) (omega (arith, length-replies s front, length-take-le k ps few)))
+
+pub texts-none : (m : ℕ) (s : State) → texts_from m s [] ≡ []
 unfolding texts_from replies_of_phases phases_text
-texts-none s = refl
+texts-none m s = refl
 
 -- the step of a loop over phases: the texts so far, and then that of the phase at i
-pub texts-step : (s : State) (ps : List PhaseLists) (i : ℕ) (d : PhaseLists) → i < length ps
-    → texts_from s (take (i + 1) ps)
-    ≡ texts_from s (take i ps) ++ phase_text (i + 1) (replies_to_lanes (after_phases s (take i ps)) 0 (get_or ps i d).lanes)
-texts-step s ps i d lt =
+pub texts-step : (first : ℕ) (s : State) (ps : List PhaseLists) (i : ℕ) (d : PhaseLists) → i < length ps
+    → texts_from (first + 1) s (take (i + 1) ps)
+    ≡ texts_from (first + 1) s (take i ps) ++ phase_text (i + first + 1) (replies_to_lanes (after_phases s (take i ps)) 0 (get_or ps i d).lanes)
+texts-step first s ps i d lt =
     let few : i ≤ length ps = omega arith in
-    ap (texts_from s) (take_more ps i d lt) ∙ texts-more s (take i ps) (get_or ps i d) (i + 1) (omega (arith, length-take-le i ps few))
+    ap (texts_from (first + 1) s) (take_more ps i d lt) ∙ texts-more (first + 1) s (take i ps) (get_or ps i d) (i + first + 1) (omega (arith, length-take-le i ps few))
 
 pub state-step : (s : State) (ps : List PhaseLists) (i : ℕ) (d : PhaseLists) → i < length ps
     → after_phases s (take (i + 1) ps) ≡ after_phase (after_phases s (take i ps)) (get_or ps i d)
@@ -62,8 +74,8 @@ state-step s ps i d lt =
     ap (after_phases s) (take_more ps i d lt) ∙ after_phases-append s (take i ps) (get_or ps i d ∷ [])
 
 -- the texts of the first phases are a prefix of those of all
-pub texts_before-front : (s : State) (ps : List PhaseLists) (i : ℕ) → IsPrefix (texts_from s (take i ps)) (texts_from s ps)
-texts_before-front s ps i = subst (λ qs. IsPrefix (texts_from s (take i ps)) (texts_from s qs)) (take-append-drop i ps) (texts-front s (take i ps) (drop i ps))
+pub texts_before-front : (m : ℕ) (s : State) (ps : List PhaseLists) (i : ℕ) → IsPrefix (texts_from m s (take i ps)) (texts_from m s ps)
+texts_before-front m s ps i = subst (λ qs. IsPrefix (texts_from m s (take i ps)) (texts_from m s qs)) (take-append-drop i ps) (texts-front m s (take i ps) (drop i ps))
 
 pub state-none : (s : State) → s ≡ after_phases s []
 unfolding after_phases

@@ -14,6 +14,7 @@ use Rattle.bc_model.specs.declared.traces.Setup.{Setup}
 use Rattle.bc_trace.specs.Lines.{line_text, lane_lines, phase_lines, trace_text, Spells}
 use Rattle.bc_trace.specs.Replies.{reply_text, lane_text, lanes_text, phase_text, phases_text, done_text}
 use Rattle.bc_trace.proofs.Fitting.{AreShort, short-run}
+use Rattle.bc_cli.specs.Courses.{whole_course}
 use Rattle.bc_cli.specs.Outcomes.{longest_trace}
 use Rattle.bc_cli.specs.Output.{texts_from, whole_text}
 use Rattle.bc_cli.proofs.Incoming.{length-ops_text, length-lane_text, length-lane_lines, phase_frame, length-phase_lines, trace_frame, length-trace_text}
@@ -85,7 +86,7 @@ phases_room setup k s (p ∷ ps) hs small ok short =
     )
 
 -- the whole output of a run is at most four times as long as the text of its trace
-pub length-whole_text : (t : TraceLists) → IsTrace t → length t.phases < 2 ^ 32 → all_ops_of t < 2 ^ 32 → length (whole_text t) ≤ 4 * length (trace_text t)
+pub length-whole_text : (t : TraceLists) → IsTrace t → length t.phases < 2 ^ 32 → all_ops_of t < 2 ^ 32 → length (whole_text (whole_course t)) ≤ 4 * length (trace_text t)
 unfolding texts_from done_text
 length-whole_text t h few small =
     let s = opening t.setup in
@@ -98,7 +99,7 @@ length-whole_text t h few small =
     )
 
 -- the same, by the bytes that were read
-pub output_short : (bytes : List ℕ) (t : TraceLists) → length bytes ≤ longest_trace → Spells bytes t → length (whole_text t) ≤ 4 * length bytes
+pub output_short : (bytes : List ℕ) (t : TraceLists) → length bytes ≤ longest_trace → Spells bytes t → length (whole_text (whole_course t)) ≤ 4 * length bytes
 output_short bytes t short h =
     let size : length bytes ≡ length (trace_text t) = ap length h.text in
     let count = length-trace_text t h.trace in

@@ -5,7 +5,8 @@ use Rattle.std.proofs.lemmas.List.{get_or-map, length-map}
 use Rattle.std.proofs.lemmas.List.Sums.{sum_by-cons, sum_by_more}
 use Rattle.bc_engine.specs.Engines.{EngineView}
 use Rattle.bc_model.specs.Lists.{PhaseLists, TraceLists}
-use Rattle.bc_model.specs.Run.{after_ops, before, cut_lanes, phase_at, replies_to, replies_to_lanes}
+use Rattle.bc_model.specs.Run.{after_ops, cut_lanes, replies_to, replies_to_lanes}
+use Rattle.bc_model.specs.Run.{phase_at as phase_of}
 use Rattle.bc_model.specs.Rows.{lists_of}
 use Rattle.bc_model.specs.RunLengths.{ops_of}
 use Rattle.bc_model.specs.State.{State}
@@ -15,9 +16,10 @@ use Rattle.bc_model.specs.declared.operations.Op.{Op}
 use Rattle.bc_model.specs.declared.operations.Reply.{Reply}
 use Rattle.bc_model.proofs.RunStates.{length-cut_lanes}
 use Rattle.bc_trace.specs.TextRooms.{phase_bytes}
+use Rattle.bc_cli.specs.Courses.{Course, course_from, before, phase_at}
 use Rattle.bc_cli.specs.BetweenPhases.{HasRun}
 use Rattle.bc_cli.proofs.PhaseEnds.{Ran}
-use Rattle.bc_cli.proofs.Running.{ops-left, phase-fits}
+use Rattle.bc_cli.proofs.Running.{ops-left, phase-fits, phase-of, within-of}
 
 -- ---- how many replies there are
 
@@ -70,15 +72,16 @@ ops-more vs i v lt is =
 -- ---- a phase of a trace
 
 -- it has few lanes, and few operations
-pub phase-few : (t : TraceLists) (k : ℕ) (e : EngineView) (p : PhaseLists) → IsTrace t → k < length t.phases → phase_at t k ≡ p → HasRun t k e → (length p.lanes < 2 ^ 32) × (ops_of p < 2 ^ 32)
-phase-few t k e p h lt at run =
-    let fits : IsPhase t.setup p = phase-fits t k p t.setup h lt at refl in (
+pub phase-few : (t : TraceLists) (s : State) (first k : ℕ) (e : EngineView) (p : PhaseLists) → IsTrace t → k + first < length t.phases → phase_of t (k + first) ≡ p → HasRun (course_from t s first) k e
+    → (length p.lanes < 2 ^ 32) × (ops_of p < 2 ^ 32)
+phase-few t s first k e p h lt at run =
+    let fits : IsPhase t.setup p = phase-fits t (k + first) p t.setup h lt at refl in (
       omega (arith, fits.lanes, h.setup.lanes.1),
-      omega (arith, run.births 0, ops-left t k p lt at),
+      omega (arith, run.births 0, ops-left (course_from t s first) k p (within-of t s first k lt) (phase-of t s first k p at)),
     )
 
 -- the replies are those to its lanes, or to those of a cut
-told-few : (t : TraceLists) (k : ℕ) (e f : EngineView) (replies : List (List Reply)) (need : Option ℕ) → Ran t k e f replies need
+told-few : (t : Course) (k : ℕ) (e f : EngineView) (replies : List (List Reply)) (need : Option ℕ) → Ran t k e f replies need
     → (length replies ≡ length (phase_at t k).lanes) × (sum_by length replies ≤ ops_of (phase_at t k))
 told-few t k e f replies None h =
     let s = before t k in
@@ -97,7 +100,7 @@ told-few t k e f replies (Some n) h =
     )
 
 -- the room that was taken is enough
-pub texts-fit : (t : TraceLists) (k : ℕ) (e f : EngineView) (p : PhaseLists) (replies : List (List Reply)) (need : Option ℕ) (room : ℕ) → phase_at t k ≡ p → Ran t k e f replies need
+pub texts-fit : (t : Course) (k : ℕ) (e f : EngineView) (p : PhaseLists) (replies : List (List Reply)) (need : Option ℕ) (room : ℕ) → phase_at t k ≡ p → Ran t k e f replies need
     → phase_bytes (length p.lanes) (ops_of p) ≤ room → phase_bytes (length replies) (sum_by length replies) ≤ room
 texts-fit t k e f p replies need room at h wide =
     let few = told-few t k e f replies need h in

@@ -5,10 +5,10 @@ use Rattle.bc_engine.specs.EngineFacts.{HasRoomForBirths}
 use Rattle.bc_engine.specs.Phases.{DidPhase, CutPhase}
 use Rattle.bc_engine.specs.declared.engines.Ended.TheVariants.{NoMemory}
 use Rattle.bc_io.specs.Told.{HasRoom}
-use Rattle.bc_model.specs.Lists.{PhaseLists, TraceLists}
-use Rattle.bc_model.specs.Run.{before}
+use Rattle.bc_model.specs.Lists.{PhaseLists}
 use Rattle.bc_model.specs.RunLengths.{ops_of}
 use Rattle.bc_model.specs.declared.operations.Reply.{Reply}
+use Rattle.bc_cli.specs.Courses.{Course, before}
 use Rattle.bc_cli.specs.Output.{text_at, need_text}
 use Rattle.bc_cli.specs.Endings.{NeedsFit, NeedsMore, StopsBefore}
 
@@ -17,22 +17,22 @@ abbrev pub PhaseEnded : EngineView → PhaseLists → EngineView → List (List 
 PhaseEnded e p f replies None = DidPhase e p f replies
 PhaseEnded e p f replies (Some need) = CutPhase e p f replies need
 
--- The engine has run the first k phases of the trace, and can run the others.
-pub record HasRun (t : TraceLists) (k : ℕ) (engine : EngineView) : Type 0 where
-  pub setup : engine.setup ≡ t.setup
+-- The engine has run the first k phases of the course, and can run the others.
+pub record HasRun (c : Course) (k : ℕ) (engine : EngineView) : Type 0 where
+  pub setup : engine.setup ≡ c.setup
   pub going : engine.ended ≡ None
   pub empty : HasEmptyChunks engine.running.heap
-  pub stands : EngineStands engine (before t k)
-  pub births : HasRoomForBirths engine (sum_by ops_of (drop k t.phases))
-  pub fits : NeedsFit t k
+  pub stands : EngineStands engine (before c k)
+  pub births : HasRoomForBirths engine (sum_by ops_of (drop k c.phases))
+  pub fits : NeedsFit c k
 
 -- What phase k may write fits the room.
-pub record HasPhaseRoom (room : Option ℕ) (t : TraceLists) (k : ℕ) : Type 0 where
-  pub whole : HasRoom room (length (text_at t k))
-  pub cut_short : (cut : List ℕ) → (need : ℕ) → NeedsMore t k cut need → HasRoom room (length (need_text t k cut need))
+pub record HasPhaseRoom (room : Option ℕ) (c : Course) (k : ℕ) : Type 0 where
+  pub whole : HasRoom room (length (text_at c k))
+  pub cut_short : (cut : List ℕ) → (need : ℕ) → NeedsMore c k cut need → HasRoom room (length (need_text c k cut need))
 
 -- Memory ran out in a phase: the texts of those before it are written. The engine has run these and nothing more, or has run out of
 -- memory itself.
-pub record RunsOut (t : TraceLists) (held held' : Option (List ℕ)) (engine : EngineView) : Type 0 where
-  pub stops : StopsBefore t held held'
-  pub left : HasRun t stops.phase engine ⊎ (engine.ended ≡ Some NoMemory)
+pub record RunsOut (c : Course) (held held' : Option (List ℕ)) (engine : EngineView) : Type 0 where
+  pub stops : StopsBefore c held held'
+  pub left : HasRun c stops.phase engine ⊎ (engine.ended ≡ Some NoMemory)

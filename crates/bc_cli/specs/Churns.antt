@@ -10,7 +10,7 @@ use Rattle.bc_cli.specs.Output.{summary}
 
 -- The whole trace was run. The heap that is handed back stands for the state at the end, and its chunks are empty.
 pub record HasChurned (start ops : ℕ) (heap : Option EngineView) : Type 0 where
-  pub handed : HandsBack heap (churn_trace start ops) None (final_state (churn_trace start ops))
+  pub handed : HandsBack heap (churn_trace start ops).setup None (final_state (churn_trace start ops))
   pub empty : IsSomeAnd heap (λ e. HasEmptyChunks e.running.heap)
 
 -- The whole summary is written.

@@ -1,5 +1,7 @@
 -- Statuses
 pub mod Statuses
+-- Phases that are run from a state
+pub mod Courses
 -- What a run writes.
 pub mod Output
 -- The line of the need
@@ -8,6 +10,10 @@ pub mod NeedLine
 pub mod Accounts
 -- How the replay of a trace ends
 pub mod Endings
+-- How `save` ends
+pub mod Saves
+-- How `resume` ends
+pub mod Resumes
 -- A replay between its phases
 pub mod BetweenPhases
 -- How the replay of a workload that was drawn ends.
@@ -16,3 +22,5 @@ pub mod Churns
 pub mod Outcomes
 -- With which statuses the parts of a run end
 pub mod PartEndings
+-- The bytes of an image and a trace after it
+pub mod Parsing

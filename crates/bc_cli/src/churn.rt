@@ -12,6 +12,7 @@ ghost use Rattle.bc_churn.specs.Counts.{run_counts};
 ghost use Rattle.bc_churn.specs.TextRooms.{churn_bytes};
 ghost use Rattle.bc_cli.specs.Accounts.{KeepsAccount};
 ghost use Rattle.bc_cli.specs.Churns.{ChurnsDone, ChurnsInFault, HasChurned};
+ghost use Rattle.bc_cli.specs.Courses.{whole_course};
 ghost use Rattle.bc_cli.specs.Endings.{FitsThroughout};
 ghost use Rattle.bc_cli.specs.BetweenPhases.{HasRun};
 ghost use Rattle.bc_cli.specs.Outcomes.{IsChurnEnding};
@@ -82,7 +83,7 @@ fn draw(alloc: Global, start: u64, ops: u32, workers: u32) -> Result<Workload, A
     requires ops { ops ≤ 100000 }
     requires workers { (1 ≤ workers) × (workers ≤ 16) }
     ensures trace { IfOk result (λ workload. workload.trace ≡ churn_trace start ops) }
-    ensures opened { IfOk result (λ workload. HasRun workload.trace 0 workload.engine) }
+    ensures opened { IfOk result (λ workload. HasRun (whole_course workload.trace) 0 workload.engine) }
     ensures empty { IfOk result (λ workload. workload.text.items ≡ []) }
     ensures room { IfOk result (λ workload. churn_bytes ≤ vec_capacity workload.text) }
     ensures workers { IfOk result (λ workload. workload.engine.workers ≡ workers) }
@@ -112,7 +113,7 @@ where
     G: Gate + Sync,
     requires ops { ops ≤ 100000 }
     requires trace { workload.old.trace ≡ churn_trace start ops }
-    requires opened { HasRun workload.old.trace 0 workload.old.engine }
+    requires opened { HasRun (whole_course workload.old.trace) 0 workload.old.engine }
     requires empty { workload.old.text.items ≡ [] }
     requires room { churn_bytes ≤ vec_capacity workload.old.text }
     ensures text { OnOk result (workload.new.text.items ≡ summary start ops) }
@@ -140,8 +141,8 @@ where
     requires trace { IsTrace trace.now }
     requires few { all_ops_of trace.now < 2 ^ 32 }
     requires fits { FitsThroughout trace.now }
-    requires opened { HasRun trace.now 0 engine.old }
-    ensures run { OnOk result (HasRun trace.now (length trace.now.phases) engine.new) }
+    requires opened { HasRun (whole_course trace.now) 0 engine.old }
+    ensures run { OnOk result (HasRun (whole_course trace.now) (length trace.now.phases) engine.new) }
     ensures counted { IfOk result (λ counts. counts ≡ run_counts (replies_of trace.now)) }
     ensures no_memory { IsErr result → engine.new.ended ≡ Some Ended.NoMemory }
     ensures workers { engine.new.workers ≡ engine.old.workers }
@@ -170,9 +171,9 @@ where
     requires few { all_ops_of trace.now < 2 ^ 32 }
     requires fits { FitsThroughout trace.now }
     requires index { index < length trace.now.phases }
-    requires opened { HasRun trace.now index engine.old }
+    requires opened { HasRun (whole_course trace.now) index engine.old }
     requires counted { counts.old ≡ run_counts (replies_before trace.now index) }
-    ensures run { OnOk result (HasRun trace.now (index + 1) engine.new) }
+    ensures run { OnOk result (HasRun (whole_course trace.now) (index + 1) engine.new) }
     ensures counted { OnOk result (counts.new ≡ run_counts (replies_before trace.now (index + 1))) }
     ensures no_memory { IsErr result → engine.new.ended ≡ Some Ended.NoMemory }
     ensures workers { engine.new.workers ≡ engine.old.workers }

@@ -7,9 +7,12 @@ ghost use Rattle.bc_model.specs.Lists.{TraceLists};
 ghost use Rattle.bc_trace.specs.Faults.{Fault};
 ghost use Rattle.bc_trace.specs.Lines.{Spells};
 ghost use Rattle.bc_trace.specs.declared.fault.TraceFault.{TraceFault};
-ghost use Rattle.bc_cli.specs.Outcomes.{ReadAsTrace, Faulty, IfBadTrace, IsOrNoMemory, longest_trace};
+ghost use Rattle.bc_words.specs.Commands.{AsksFor, Word};
+ghost use Rattle.bc_words.specs.declared.command.Command.{Command};
+ghost use Rattle.bc_cli.specs.Outcomes.{ReadAsTrace, Faulty, IfBadTrace, IsOrNoMemory, longest_of, longest_trace};
 ghost use Rattle.bc_cli.specs.PartEndings.{IsRefusedStatus};
 
+use crate::resume::LONGEST_RESUMED;
 use crate::status::Status;
 use bc_io::{Source, read_all};
 use bc_model::Trace;
@@ -18,6 +21,16 @@ use std::alloc::Global;
 
 /// The most bytes that a trace may have.
 pub const LONGEST_TRACE: usize = 16_777_216;
+
+/// The most bytes that the input of a command may have, by the command's first word.
+pub fn longest_input(first: &str) -> u64
+    ensures { (values plain : List Word) (c : Command) → AsksFor first.now values plain c → result ≡ longest_of c }
+{
+    if first == "resume" {
+        return LONGEST_RESUMED as u64;
+    }
+    LONGEST_TRACE as u64
+}
 
 /// Reads the source to its end, and its bytes as a trace. The error is the status of a run that ends here.
 pub fn read_trace<S: Source>(alloc: Global, source: &mut S) -> Result<Trace, Status>

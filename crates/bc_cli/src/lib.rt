@@ -27,14 +27,16 @@ mod input;
 mod laws;
 mod outcome;
 mod phases;
+mod resume;
 mod run;
+mod save;
 mod status;
 mod texts;
 pub mod top;
 
 pub use bc_gates::{Gate, OpenGate};
-pub use input::read_trace;
-pub use laws::law_output;
+pub use input::{longest_input, read_trace};
+pub use laws::{law_output, law_resumed, law_whole_course};
 pub use outcome::Outcome;
 pub use run::run_trace;
 pub use status::{Fault, Status};

@@ -1,6 +1,6 @@
 //! The phases of a trace: each is run, and what it prints is written.
 
-ghost use Rattle.std.specs.Prelude.{◌≡◌, ◌⊎◌, ℕ, ◌+◌, ◌^◌, ◌<◌, List, Option, Some, None, length, OnOk, IfOk, IsErr, IsErrOf};
+ghost use Rattle.std.specs.Prelude.{◌≡◌, ◌⊎◌, ℕ, ◌+◌, ◌^◌, ◌<◌, ◌≤◌, List, Option, Some, None, length, OnOk, IfOk, IsErr, IsErrOf};
 ghost use Rattle.bc_engine.specs.EngineFacts.{HasRoomForBirths};
 ghost use Rattle.bc_engine.specs.Lanes.{HasRoomForOps};
 ghost use Rattle.bc_engine.specs.declared.engines.Ended.{Ended};
@@ -8,6 +8,8 @@ ghost use Rattle.bc_io.specs.Faults.{Rose};
 ghost use Rattle.bc_io.specs.Told.{HeldGrows};
 ghost use Rattle.bc_io.specs.Pieces.{RoomFalls};
 ghost use Rattle.bc_model.specs.WellFormed.{IsPhase, IsTrace};
+ghost use Rattle.bc_model.specs.State.{State};
+ghost use Rattle.bc_cli.specs.Courses.{course_from};
 ghost use Rattle.bc_cli.specs.Output.{texts_before, all_texts};
 ghost use Rattle.bc_cli.specs.Endings.{EndsOutOfHeap, EndsInFault, HasRunRoom};
 ghost use Rattle.bc_cli.specs.BetweenPhases.{HasRun, HasPhaseRoom, PhaseEnded, RunsOut};
@@ -28,12 +30,14 @@ pub(crate) struct PhaseEnd {
     pub(crate) need: Option<u64>,
 }
 
-/// Runs the phases, and writes the text of each as soon as it has run.
+/// Runs the phases behind the first ones, and writes the text of each as soon as it has run. What it ensures holds of each state
+/// that the engine may have stood for before them.
 pub(crate) fn write_phases<R, K, G>(
     rt: &R,
     alloc: Global,
     engine: &mut Engine,
     trace: &Trace,
+    first: usize,
     sink: &mut K,
     gate: &G,
 ) -> Result<(), Ending>
@@ -43,33 +47,42 @@ where
     G: Gate + Sync,
     requires trace { IsTrace trace.now }
     requires few { length trace.now.phases < 2 ^ 32 }
-    requires opened { HasRun trace.now 0 engine.old }
-    requires room { HasRunRoom (K.room sink.old) trace.now }
-    ensures run { OnOk result (HasRun trace.now (length trace.now.phases) engine.new) }
-    ensures written { OnOk result (HeldGrows (K.held sink.old) (K.held sink.new) (all_texts trace.now)) }
-    ensures filled { OnOk result
-        (RoomFalls (K.room sink.old) (K.room sink.new) (length (all_texts trace.now))) }
-    ensures write_fault { IsErrOf result Ending.WriteFault → Rose (K.faults sink.old) (K.faults sink.new)
-        × EndsInFault trace.now (K.held sink.old) (K.held sink.new) (Some engine.new) }
-    ensures out_of_heap { (need : ℕ) → IsErrOf result (Ending.OutOfHeap need) →
-        EndsOutOfHeap trace.now (K.held sink.old) (K.held sink.new) (Some engine.new) need }
-    ensures no_memory { IsErrOf result Ending.NoMemory →
-        RunsOut trace.now (K.held sink.old) (K.held sink.new) engine.new }
+    requires first { first ≤ length trace.now.phases }
+    requires opened { (s : State) × HasRun (course_from trace.now s first) 0 engine.old
+        × HasRunRoom (K.room sink.old) (course_from trace.now s first) }
+    ensures run { (s : State) → HasRun (course_from trace.now s first) 0 engine.old →
+        OnOk result (HasRun (course_from trace.now s first) (length (course_from trace.now s first).phases) engine.new) }
+    ensures written { (s : State) → HasRun (course_from trace.now s first) 0 engine.old →
+        OnOk result (HeldGrows (K.held sink.old) (K.held sink.new) (all_texts (course_from trace.now s first))) }
+    ensures filled { (s : State) → HasRun (course_from trace.now s first) 0 engine.old → OnOk result
+        (RoomFalls (K.room sink.old) (K.room sink.new) (length (all_texts (course_from trace.now s first)))) }
+    ensures cause { IsErrOf result Ending.WriteFault → Rose (K.faults sink.old) (K.faults sink.new) }
+    ensures write_fault { (s : State) → HasRun (course_from trace.now s first) 0 engine.old →
+        IsErrOf result Ending.WriteFault →
+        EndsInFault (course_from trace.now s first) (K.held sink.old) (K.held sink.new) (Some engine.new) }
+    ensures out_of_heap { (s : State) → HasRun (course_from trace.now s first) 0 engine.old →
+        (need : ℕ) → IsErrOf result (Ending.OutOfHeap need) →
+        EndsOutOfHeap (course_from trace.now s first) (K.held sink.old) (K.held sink.new) (Some engine.new) need }
+    ensures no_memory { (s : State) → HasRun (course_from trace.now s first) 0 engine.old →
+        IsErrOf result Ending.NoMemory →
+        RunsOut (course_from trace.now s first) (K.held sink.old) (K.held sink.new) engine.new }
     ensures firm { ¬ IsErrOf result Ending.WriteFault → K.faults sink.new ≡ K.faults sink.old }
     ensures workers { engine.new.workers ≡ engine.old.workers }
 {
-    for index in 0..trace.phases.len() {
-        write_phase(rt, alloc, engine, trace, index, sink, gate)?;
+    for index in 0..trace.phases.len() - first {
+        write_phase(rt, alloc, engine, trace, first, index, sink, gate)?;
     }
     Ok(())
 }
 
-/// Runs the phase of this index and writes its texts. Room for them is taken first, and once the phase has run nothing takes memory.
+/// Runs the phase of this index, counted from the first one, and writes its texts. Room for them is taken first, and once the phase has
+/// run nothing takes memory.
 fn write_phase<R, K, G>(
     rt: &R,
     alloc: Global,
     engine: &mut Engine,
     trace: &Trace,
+    first: usize,
     index: usize,
     sink: &mut K,
     gate: &G,
@@ -80,33 +93,43 @@ where
     G: Gate + Sync,
     requires trace { IsTrace trace.now }
     requires few { length trace.now.phases < 2 ^ 32 }
-    requires index { index < length trace.now.phases }
-    requires opened { HasRun trace.now index engine.old }
-    requires room { HasPhaseRoom (K.room sink.old) trace.now index }
-    ensures run { OnOk result (HasRun trace.now (index + 1) engine.new) }
-    ensures written { OnOk result ((start : Option (List ℕ)) →
-        HeldGrows start (K.held sink.old) (texts_before trace.now index) →
-        HeldGrows start (K.held sink.new) (texts_before trace.now (index + 1))) }
-    ensures filled { OnOk result ((start : Option ℕ) →
-        RoomFalls start (K.room sink.old) (length (texts_before trace.now index)) →
-        RoomFalls start (K.room sink.new) (length (texts_before trace.now (index + 1)))) }
-    ensures write_fault { IsErrOf result Ending.WriteFault → Rose (K.faults sink.old) (K.faults sink.new)
-        × ((start : Option (List ℕ)) →
-        HeldGrows start (K.held sink.old) (texts_before trace.now index) →
-        EndsInFault trace.now start (K.held sink.new) (Some engine.new)) }
-    ensures out_of_heap { (need : ℕ) → IsErrOf result (Ending.OutOfHeap need) → (start : Option (List ℕ)) →
-        HeldGrows start (K.held sink.old) (texts_before trace.now index) →
-        EndsOutOfHeap trace.now start (K.held sink.new) (Some engine.new) need }
+    requires index { index + first < length trace.now.phases }
+    requires opened { (s : State) × HasRun (course_from trace.now s first) index engine.old
+        × HasPhaseRoom (K.room sink.old) (course_from trace.now s first) index }
+    ensures run { (s : State) → HasRun (course_from trace.now s first) index engine.old →
+        OnOk result (HasRun (course_from trace.now s first) (index + 1) engine.new) }
+    ensures written { (s : State) → HasRun (course_from trace.now s first) index engine.old →
+        OnOk result ((start : Option (List ℕ)) →
+        HeldGrows start (K.held sink.old) (texts_before (course_from trace.now s first) index) →
+        HeldGrows start (K.held sink.new) (texts_before (course_from trace.now s first) (index + 1))) }
+    ensures filled { (s : State) → HasRun (course_from trace.now s first) index engine.old →
+        OnOk result ((start : Option ℕ) →
+        RoomFalls start (K.room sink.old) (length (texts_before (course_from trace.now s first) index)) →
+        RoomFalls start (K.room sink.new) (length (texts_before (course_from trace.now s first) (index + 1)))) }
+    ensures cause { IsErrOf result Ending.WriteFault → Rose (K.faults sink.old) (K.faults sink.new) }
+    ensures write_fault { (s : State) → HasRun (course_from trace.now s first) index engine.old →
+        IsErrOf result Ending.WriteFault → (start : Option (List ℕ)) →
+        HeldGrows start (K.held sink.old) (texts_before (course_from trace.now s first) index) →
+        EndsInFault (course_from trace.now s first) start (K.held sink.new) (Some engine.new) }
+    ensures out_of_heap { (s : State) → HasRun (course_from trace.now s first) index engine.old →
+        (need : ℕ) → IsErrOf result (Ending.OutOfHeap need) → (start : Option (List ℕ)) →
+        HeldGrows start (K.held sink.old) (texts_before (course_from trace.now s first) index) →
+        EndsOutOfHeap (course_from trace.now s first) start (K.held sink.new) (Some engine.new) need }
     // Memory runs out before the phase is run, or in the engine: never in place of its replies or its need.
     ensures no_memory { IsErrOf result Ending.NoMemory → (sink.new ≡ sink.old)
         × ((engine.new ≡ engine.old) ⊎ (engine.new.ended ≡ Some Ended.NoMemory)) }
     ensures firm { ¬ IsErrOf result Ending.WriteFault → K.faults sink.new ≡ K.faults sink.old }
     ensures workers { engine.new.workers ≡ engine.old.workers }
 {
-    let phase = &trace.phases[index];
+    let phase = &trace.phases[index + first];
     let mut texts = texts_room(alloc, phase)?;
     let end = run_phase(rt, alloc, engine, phase, gate)?;
-    put_texts(&mut texts, index as u32 + 1, &end.replies, end.need);
+    put_texts(
+        &mut texts,
+        (index + first) as u32 + 1,
+        &end.replies,
+        end.need,
+    );
     write_texts(sink, &texts)?;
     match end.need {
         Some(need) => Err(Ending::OutOfHeap { need }),

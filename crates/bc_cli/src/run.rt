@@ -6,8 +6,11 @@ ghost use Rattle.bc_engine.specs.Engines.{EngineStands, HasEmptyChunks};
 ghost use Rattle.bc_io.specs.Faults.{Rose};
 ghost use Rattle.bc_model.specs.RunLengths.{all_ops_of};
 ghost use Rattle.bc_model.specs.Run.{opening};
+ghost use Rattle.bc_model.specs.State.{State};
 ghost use Rattle.bc_model.specs.WellFormed.{IsSetup, IsTrace};
 ghost use Rattle.bc_cli.specs.Accounts.{KeepsAccount};
+ghost use Rattle.bc_cli.specs.BetweenPhases.{HasRun};
+ghost use Rattle.bc_cli.specs.Courses.{course_from, whole_course};
 ghost use Rattle.bc_cli.specs.Endings.{EndsDone, EndsOutOfHeap, EndsInFault, StopsBefore, HasRunRoom};
 ghost use Rattle.bc_cli.specs.Outcomes.{IfStatusOutOfHeap, IfHeapless};
 ghost use Rattle.bc_cli.specs.PartEndings.{IsEnding};
@@ -62,25 +65,63 @@ where
     requires phases { length trace.now.phases < 2 ^ 32 }
     requires ops { all_ops_of trace.now < 2 ^ 32 }
     requires workers { (1 ≤ workers) × (workers ≤ 16) }
-    requires room { HasRunRoom (K.room sink.old) trace.now }
+    requires room { HasRunRoom (K.room sink.old) (whole_course trace.now) }
     ensures ending { IsEnding result.status }
     ensures done { result.status ≡ Status.Done →
-        EndsDone trace.now (K.held sink.old) (K.held sink.new) result.heap }
+        EndsDone (whole_course trace.now) (K.held sink.old) (K.held sink.new) result.heap }
     ensures out_of_heap { IfStatusOutOfHeap result.status (λ need.
-        EndsOutOfHeap trace.now (K.held sink.old) (K.held sink.new) result.heap need) }
+        EndsOutOfHeap (whole_course trace.now) (K.held sink.old) (K.held sink.new) result.heap need) }
     ensures write_fault { result.status ≡ Status.WriteFault → Rose (K.faults sink.old) (K.faults sink.new)
-        × EndsInFault trace.now (K.held sink.old) (K.held sink.new) result.heap }
+        × EndsInFault (whole_course trace.now) (K.held sink.old) (K.held sink.new) result.heap }
     ensures firm { result.status ≢ Status.WriteFault → K.faults sink.new ≡ K.faults sink.old }
     ensures no_memory { result.status ≡ Status.NoMemory → (sink.new ≡ sink.old)
-        ⊎ StopsBefore trace.now (K.held sink.old) (K.held sink.new) }
+        ⊎ StopsBefore (whole_course trace.now) (K.held sink.old) (K.held sink.new) }
     ensures none { IfHeapless result.status (result.heap ≡ None) }
     ensures workers { IfSome result.heap (λ engine. engine.workers ≡ workers) }
     ensures account { IfSome result.heap KeepsAccount }
 {
-    let Ok(mut engine) = open_paced(alloc, &trace.setup, workers, pacing) else {
+    let Ok(engine) = open_paced(alloc, &trace.setup, workers, pacing) else {
         return Outcome::without_heap(Status::NoMemory);
     };
-    match write_phases(rt, alloc, &mut engine, trace, sink, gate) {
+    replay_on(rt, alloc, engine, trace, 0, sink, gate)
+}
+
+/// Replays the phases of a trace after the first ones on a heap that has run these: writes the text of each phase as soon as it has
+/// run, and then the last line. What it ensures holds of each state that the heap may stand for.
+pub(crate) fn replay_on<R, K, G>(
+    rt: &R,
+    alloc: Global,
+    mut engine: Engine,
+    trace: &Trace,
+    first: usize,
+    sink: &mut K,
+    gate: &G,
+) -> Outcome
+where
+    R: Threads + Sync,
+    K: Sink,
+    G: Gate + Sync,
+    requires trace { IsTrace trace.now }
+    requires phases { length trace.now.phases < 2 ^ 32 }
+    requires first { first ≤ length trace.now.phases }
+    requires opened { (s : State) × HasRun (course_from trace.now s first) 0 engine
+        × HasRunRoom (K.room sink.old) (course_from trace.now s first) }
+    ensures ending { IsEnding result.status }
+    ensures done { (s : State) → HasRun (course_from trace.now s first) 0 engine → result.status ≡ Status.Done →
+        EndsDone (course_from trace.now s first) (K.held sink.old) (K.held sink.new) result.heap }
+    ensures out_of_heap { (s : State) → HasRun (course_from trace.now s first) 0 engine → IfStatusOutOfHeap result.status (λ need.
+        EndsOutOfHeap (course_from trace.now s first) (K.held sink.old) (K.held sink.new) result.heap need) }
+    ensures cause { result.status ≡ Status.WriteFault → Rose (K.faults sink.old) (K.faults sink.new) }
+    ensures write_fault { (s : State) → HasRun (course_from trace.now s first) 0 engine → result.status ≡ Status.WriteFault →
+        EndsInFault (course_from trace.now s first) (K.held sink.old) (K.held sink.new) result.heap }
+    ensures firm { result.status ≢ Status.WriteFault → K.faults sink.new ≡ K.faults sink.old }
+    ensures no_memory { (s : State) → HasRun (course_from trace.now s first) 0 engine → result.status ≡ Status.NoMemory →
+        StopsBefore (course_from trace.now s first) (K.held sink.old) (K.held sink.new) }
+    ensures none { IfHeapless result.status (result.heap ≡ None) }
+    ensures workers { IfSome result.heap (λ heap. heap.workers ≡ engine.workers) }
+    ensures account { IfSome result.heap KeepsAccount }
+{
+    match write_phases(rt, alloc, &mut engine, trace, first, sink, gate) {
         Ok(()) => match write_all(sink, DONE) {
             Ok(()) => Outcome::with_heap(Status::Done, engine),
             Err(_) => Outcome::with_heap(Status::WriteFault, engine),

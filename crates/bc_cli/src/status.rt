@@ -3,6 +3,7 @@
 ghost use Rattle.std.specs.Prelude.{◌≡◌};
 ghost use Rattle.bc_cli.specs.Statuses.{exit_code_of, fault_of};
 
+use bc_image::{ImageCause, ReadImage};
 use bc_io::{ReadAll, WriteFault};
 use bc_trace::{Cause, ReadTrace};
 use std::alloc::AllocError;
@@ -18,7 +19,7 @@ pub enum Status {
     BadWords,
     /// The input is no trace: its first fault. Nothing was written.
     BadTrace { line: u32, cause: Cause },
-    /// The input is longer than 16,777,216 bytes. Nothing was written.
+    /// The input is longer than the command allows. Nothing was written.
     TooLong,
     /// The source failed. Nothing was written.
     ReadFault,
@@ -29,6 +30,10 @@ pub enum Status {
     OutOfHeap { need: u64 },
     /// Memory ran out. The whole texts of the phases before some phase are written, or nothing.
     NoMemory,
+    /// The input begins with no image: where its first item begins that fails a test, and which. Nothing was written.
+    BadImage { at: u64, cause: ImageCause },
+    /// Image and trace don't go together, or the trace has fewer phases than are to be saved. Nothing was written.
+    Mismatch,
 }
 
 impl From<ReadAll> for Status {
@@ -59,6 +64,23 @@ impl From<ReadTrace> for Status {
                 cause: fault.cause,
             },
             ReadTrace::NoMemory => Status::NoMemory,
+        }
+    }
+}
+
+impl From<ReadImage> for Status {
+    ghost use Rattle.bc_cli.specs.Statuses.{unscanned};
+
+    ghost from_gives = { λ error status. status ≡ unscanned error };
+
+    /// The status of a run whose input begins with no image.
+    fn from(error: ReadImage) -> Status {
+        match error {
+            ReadImage::Fault(fault) => Status::BadImage {
+                at: fault.at,
+                cause: fault.cause,
+            },
+            ReadImage::NoMemory => Status::NoMemory,
         }
     }
 }
@@ -96,11 +118,14 @@ impl From<WriteFault> for Ending {
 pub enum Fault {
     BadWords,
     BadTrace { line: u32, cause: Cause },
-    TooLong,
+    /// The most bytes that the input may have.
+    TooLong { most: u64 },
     ReadFault,
     WriteFault,
     OutOfHeap { need: u64 },
     NoMemory,
+    BadImage { at: u64 },
+    Mismatch,
 }
 
 impl fmt::Display for Fault {
@@ -113,29 +138,33 @@ impl fmt::Display for Fault {
         match *self {
             Fault::BadWords => write!(f, "bc: bad command line"),
             Fault::BadTrace { line, cause } => write!(f, "bc: line {line}: {cause}"),
-            Fault::TooLong => write!(f, "bc: input longer than 16777216 bytes"),
+            Fault::TooLong { most } => write!(f, "bc: input longer than {most} bytes"),
             Fault::ReadFault => write!(f, "bc: read failed"),
             Fault::WriteFault => write!(f, "bc: write failed"),
             Fault::OutOfHeap { need } => write!(f, "bc: out of heap, {need} superpages needed"),
             Fault::NoMemory => write!(f, "bc: out of memory"),
+            Fault::BadImage { at } => write!(f, "bc: bad image at {at}"),
+            Fault::Mismatch => write!(f, "bc: image and trace differ"),
         }
     }
 }
 
 impl Status {
-    /// What is wrong with the run, if it wasn't done.
-    pub fn fault(self) -> Option<Fault>
-        ensures { result ≡ fault_of self }
+    /// What is wrong with the run, if it wasn't done. Its input may have had so many bytes at most.
+    pub fn fault(self, most: u64) -> Option<Fault>
+        ensures { result ≡ fault_of most self }
     {
         match self {
             Status::Done => None,
             Status::BadWords => Some(Fault::BadWords),
             Status::BadTrace { line, cause } => Some(Fault::BadTrace { line, cause }),
-            Status::TooLong => Some(Fault::TooLong),
+            Status::TooLong => Some(Fault::TooLong { most }),
             Status::ReadFault => Some(Fault::ReadFault),
             Status::WriteFault => Some(Fault::WriteFault),
             Status::OutOfHeap { need } => Some(Fault::OutOfHeap { need }),
             Status::NoMemory => Some(Fault::NoMemory),
+            Status::BadImage { at, .. } => Some(Fault::BadImage { at }),
+            Status::Mismatch => Some(Fault::Mismatch),
         }
     }
 
@@ -151,6 +180,8 @@ impl Status {
             Status::WriteFault => 5,
             Status::OutOfHeap { .. } => 6,
             Status::NoMemory => 7,
+            Status::BadImage { .. } => 8,
+            Status::Mismatch => 9,
         }
     }
 }

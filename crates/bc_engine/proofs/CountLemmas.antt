@@ -12,16 +12,16 @@ use Rattle.bc_cycle.specs.declared.emptying.EmptyingKind.TheVariants as emptying
 use Rattle.bc_engine.specs.declared.counters.Counters.{Counters}
 
 -- the count that goes on does so for the sum, whatever the others are
-on : (a b c n before after : ℕ) → before < 2 ^ 64 → after < 2 ^ 64 → (a + b + c + n) % 2 ^ 64 ≡ before → (gone_on a before after + b + c + n) % 2 ^ 64 ≡ after
-on a b c n before after lt le is = omega (arith, lt, le, is)
+on : (e a b c n before after : ℕ) → before < 2 ^ 64 → after < 2 ^ 64 → (e + (a + b + c + n) % 2 ^ 64) % 2 ^ 64 ≡ before → (e + (gone_on a before after + b + c + n) % 2 ^ 64) % 2 ^ 64 ≡ after
+on e a b c n before after lt le is = omega (arith, lt, le, is)
 
 pub turn-counted : (c d : Counters) (before after noticed : ℕ) → before < 2 ^ 64 → after < 2 ^ 64 → CountsTurn c before after noticed d → IsCounted c before → IsCounted d after
 turn-counted c d before after noticed lt le counts is =
-    subst (λ (x : Counters). IsCounted x after) (sym counts.0) (on c.reads.turns c.reads.alone c.reads.collections c.reads.notices before after lt le is)
+    subst (λ (x : Counters). IsCounted x after) (sym counts.0) (on c.earlier c.reads.turns c.reads.alone c.reads.collections c.reads.notices before after lt le is)
 
 pub alone-counted : (c d : Counters) (before after : ℕ) → before < 2 ^ 64 → after < 2 ^ 64 → CountsAlone c before after d → IsCounted c before → IsCounted d after
 alone-counted c d before after lt le counts is =
-    let sum : (gone_on c.reads.alone before after + c.reads.turns + c.reads.collections + c.reads.notices) % 2 ^ 64 ≡ after = on c.reads.alone c.reads.turns c.reads.collections c.reads.notices before after lt le (omega (arith, is)) in
+    let sum : (c.earlier + (gone_on c.reads.alone before after + c.reads.turns + c.reads.collections + c.reads.notices) % 2 ^ 64) % 2 ^ 64 ≡ after = on c.earlier c.reads.alone c.reads.turns c.reads.collections c.reads.notices before after lt le (omega (arith, is)) in
     subst (λ (x : Counters). IsCounted x after) (sym counts.0) (omega (arith, sum))
 
 early-counted : (c d : Counters) (collected : Bool) (noticed reads : ℕ) → CountsEarly c collected noticed d → IsCounted c reads → IsCounted d reads
@@ -30,7 +30,7 @@ early-counted c d false noticed reads counts is = subst (λ (x : Counters). IsCo
 
 pages-counted : (c d : Counters) (before after noticed : ℕ) → before < 2 ^ 64 → after < 2 ^ 64 → CountsPages c before after noticed d → IsCounted c before → IsCounted d after
 pages-counted c d before after noticed lt le counts is =
-    let sum : (gone_on c.reads.collections before after + c.reads.turns + c.reads.alone + c.reads.notices) % 2 ^ 64 ≡ after = on c.reads.collections c.reads.turns c.reads.alone c.reads.notices before after lt le (omega (arith, is)) in
+    let sum : (c.earlier + (gone_on c.reads.collections before after + c.reads.turns + c.reads.alone + c.reads.notices) % 2 ^ 64) % 2 ^ 64 ≡ after = on c.earlier c.reads.collections c.reads.turns c.reads.alone c.reads.notices before after lt le (omega (arith, is)) in
     subst (λ (x : Counters). IsCounted x after) (sym counts.0) (omega (arith, sum))
 
 kind-counted : (kind : EmptyingKind) (c : Counters) (reads : ℕ) → IsCounted c reads → IsCounted (one_of_kind kind c) reads

@@ -4,6 +4,12 @@ pub mod Sizes
 pub mod Attempts
 -- A domain changes hands while all chunks and buffers are empty
 pub mod Giving
+-- Parts that an engine goes on with stand for a state
+pub mod Parting
+-- The heap of an engine that goes on with parts
+pub mod Adopting
+-- The parts of an engine that is taken apart
+pub mod Splitting
 -- The heap that an engine begins with is ready, and stands for the opening state.
 pub mod OpeningLemmas
 -- Lists of steps, one after another.

@@ -34,9 +34,14 @@ no_counts = record {
   promotions = 0;
   collections = 0;
   failsafes = 0;
+  earlier = 0;
   reads = no_pages;
   departures = no_pages;
 }
+
+-- nothing was counted, of a heap that had read so many pages before
+abbrev pub counts_from : ℕ → Counters
+counts_from reads = record no_counts { earlier = reads }
 
 -- so many pages more left for notices. How many more left in the other ways isn't said
 abbrev pub LeftForNotices : PageCounts → ℕ → PageCounts → Type 0
@@ -80,6 +85,6 @@ CountsAlone c before after d =
 abbrev pub all_pages : PageCounts → ℕ
 all_pages p = (p.turns + p.alone + p.collections + p.notices) % 2 ^ 64
 
--- the reads by their causes add up to the heap's reads
+-- the reads by their causes add up to the heap's reads, together with those before the engine had the heap
 abbrev pub IsCounted : Counters → ℕ → Type 0
-IsCounted c reads = all_pages c.reads ≡ reads
+IsCounted c reads = (c.earlier + all_pages c.reads) % 2 ^ 64 ≡ reads

@@ -4,6 +4,8 @@ pub mod Engines
 pub mod Counting
 -- What is true of an engine between calls
 pub mod EngineFacts
+-- The parts of an engine
+pub mod Parts
 -- What a phase does to an engine.
 pub mod Phases
 -- Answers of a phase.

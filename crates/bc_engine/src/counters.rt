@@ -6,7 +6,7 @@
 //! left for notices. They don't see the heap's count of pages that left, and say nothing of how many left in each other way.
 
 ghost use Rattle.std.specs.Prelude.{◌≡◌, ◌^◌, ◌<◌};
-ghost use Rattle.bc_engine.specs.Counting.{CountsAlone, CountsEarly, CountsEmptying, CountsPages, CountsTurn, all_pages, gone_on, no_counts, one_of_kind};
+ghost use Rattle.bc_engine.specs.Counting.{CountsAlone, CountsEarly, CountsEmptying, CountsPages, CountsTurn, all_pages, counts_from, gone_on, no_counts, one_of_kind};
 
 use bc_cycle::EmptyingKind;
 use bc_running::Running;
@@ -37,7 +37,9 @@ pub struct Counters {
     pub collections: u64,
     /// Minor collections whose survivors found no cell even then: the fail-safe collected the whole heap, or found it too small.
     pub failsafes: u64,
-    /// Pages that were read back from the store. Each number is proved, and all together are the heap's reads.
+    /// Pages that had been read back before the engine had the heap: none, but where it was adopted.
+    pub earlier: u64,
+    /// Pages that were read back from the store. Each number is proved, and all together with the earlier ones are the heap's reads.
     pub reads: PageCounts,
     /// Pages with objects that left memory for the store. How many left for notices is proved: as many as answers say so. No contract says the
     /// other three numbers.
@@ -96,9 +98,19 @@ impl Counters {
             promotions: 0,
             collections: 0,
             failsafes: 0,
+            earlier: 0,
             reads: PageCounts::NONE,
             departures: PageCounts::NONE,
         }
+    }
+
+    /// Nothing was done yet on a heap that has read so many pages.
+    pub(crate) fn from_here(reads: u64) -> Self
+        ensures { result ≡ counts_from reads }
+    {
+        let mut counters = Counters::none();
+        counters.earlier = reads;
+        counters
     }
 
     /// There was a turn, in which so many pages left for notices.

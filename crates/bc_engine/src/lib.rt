@@ -42,8 +42,13 @@
 // and births. As long as it hasn't ended, write buffers are empty and no page is remembered. `facts` says all this.
 //
 // An engine counts what it does (`counters`): turns, collections by kind and reason, and the pages that were read back or left, by whose step it
-// was. Each round says how the counts go on, and all page reads by their causes add up to the heap's own count at any time (`IsCounted`). Where
-// a log is asked for (`keep_log`) each step of a round is written down too.
+// was. Each round says how the counts go on, and all page reads by their causes, with those before the engine had the heap, add up to the heap's
+// own count at any time (`IsCounted`). Where a log is asked for (`keep_log`) each step of a round is written down too.
+//
+// Between phases an engine that hasn't ended can be taken apart (`split`): what is left then is who holds each domain, how many objects each
+// lane has made, the root slots and the space (`Parts`). An engine goes on with such parts (`adopt`), also with ones that no engine was taken
+// apart for: each reference names an allocated cell, no two cells are of one birth, and each birth is one of its lane's (`CanAdopt`). No state is
+// among the conditions. One is made of the space in the proof (`adopted_state`): each birth's object is what its cell holds.
 //
 // The theorem is the contract of `Engine::phase`. Done, the replies are those of the heap that never frees, to every
 // operation, the engine stands for the state after the phase, and its superpages are at least that state's need
@@ -65,6 +70,7 @@ mod rounds;
 mod turns;
 
 pub use bc_pager::Answer;
+pub use bc_running::Parts;
 pub use counters::{Counters, PageCounts, Tally, tally_of};
 pub use engines::Engine;
 pub use laws::law_answers;

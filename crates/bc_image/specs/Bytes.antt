@@ -1,3 +1,4 @@
+-- In the theorem.
 -- Items as bytes: 8 of them, the most significant first.
 use Rattle.std.specs.Prelude.{ℕ, ◌+◌, ◌*◌, ◌^◌, List, slice_index}
 

@@ -1,3 +1,4 @@
+-- In the theorem.
 -- An object of a listing, as plain lists.
 use Rattle.std.specs.Prelude.{ℕ, List}
 use Rattle.bc_word.specs.declared.heads.Head.{Head}

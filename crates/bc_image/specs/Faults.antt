@@ -1,3 +1,4 @@
+-- In the theorem.
 -- The first fault of bytes that begin with no image.
 use Rattle.std.specs.Prelude.{◌≡◌, ◌⊎◌, ℕ, ◌+◌, ◌&&◌, Bool, true, false, not, if◌then◌else◌, List, Option, Some, None, Result, Ok, Err, Option}
 use Prim.Native.Nat.{zero, suc}

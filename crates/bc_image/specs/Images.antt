@@ -1,3 +1,4 @@
+-- In the theorem.
 -- The bytes of an image, and what it may list.
 use Rattle.std.specs.Prelude.{◌≡◌, ℕ, ◌+◌, ◌*◌, ◌/◌, ◌%◌, ◌^◌, ◌<◌, ◌≤◌, ◌==◌, List, [], ◌∷◌, ◌++◌, length, map, filter, slice_index, Some}
 use Rattle.std.specs.Int.{bytes_high_first}

@@ -1,3 +1,4 @@
+-- In the theorem.
 -- The items of an image: what may stand where.
 use Rattle.std.specs.Prelude.{◌≡◌, ℕ, ◌+◌, ◌-◌, ◌*◌, ◌/◌, ◌%◌, ◌^◌, ◌<◌, ◌≤◌, ◌==◌, ◌&&◌, ◌||◌, Bool, true, false, nat_lt, nat_le, if◌then◌else◌, List, slice_index}
 use Rattle.bc_classes.specs.Classes.{class_of}

@@ -1,3 +1,4 @@
+-- In the theorem.
 -- What an image says, as plain lists.
 use Rattle.std.specs.Prelude.{ℕ, List}
 use Rattle.bc_model.specs.declared.traces.Setup.{Setup}

@@ -1,3 +1,4 @@
+-- In the theorem.
 -- The memory that listed objects are.
 use Rattle.std.specs.Prelude.{ℕ, ◌+◌, ◌==◌, if◌then◌else◌, List, [], ◌∷◌, map, Option, Some, None, option_map, slice_index_or}
 use Rattle.bc_word.specs.Words.{word_of_bits}

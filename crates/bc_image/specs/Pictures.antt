@@ -1,3 +1,4 @@
+-- In the theorem.
 -- What a listing pictures: a state, as far as its slots lead.
 use Rattle.std.specs.Prelude.{◌≡◌, List, length, map}
 use Rattle.bc_word.specs.Words.{word_of_bits}

@@ -1,3 +1,4 @@
+-- In the theorem.
 -- Reading, as a function of the bytes.
 use Rattle.std.specs.Prelude.{◌≡◌, ℕ, ◌+◌, ◌*◌, ◌/◌, if◌then◌else◌, List, length, Option, Some, None, Result, Ok, Err}
 use Prim.Native.Nat.{zero, suc}

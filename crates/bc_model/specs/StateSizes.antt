@@ -1,3 +1,4 @@
+-- In the theorem.
 -- How large a state is.
 use Rattle.std.specs.Prelude.{◌≡◌, ℕ, ◌+◌, ◌^◌, ◌<◌, length}
 use Rattle.bc_model.specs.State.{State, made_by}

@@ -1,7 +1,7 @@
 -- What is true of a heap that lanes run on between calls, and what each call leaves.
 use Rattle.std.specs.Prelude.{◌≡◌, ◌≢◌, ℕ, ◌%◌, ◌<◌, ◌≤◌, List, length, map, replicate, slice_index, slice_set}
 use Rattle.bc_cycle.specs.Emptying.{BringsNoBirth}
-use Rattle.bc_cycle.specs.Openings.{new_heap}
+use Rattle.bc_cycle.specs.Openings.{new_buffers, new_chunks, new_heap}
 use Rattle.bc_whole_heap.specs.Closed.{buffer_of}
 use Rattle.bc_whole_heap.specs.LaneChunks.{chunk_of}
 use Rattle.bc_whole_heap.specs.Heaps.{HeapView}
@@ -11,6 +11,7 @@ use Rattle.bc_model.specs.State.{numbers_below}
 use Rattle.bc_model.specs.declared.traces.Setup.{Setup}
 use Rattle.bc_mutator.specs.Operations.{NoneLater}
 use Rattle.bc_superpages.specs.Layout.{Layout}
+use Rattle.bc_superpages.specs.RootWords.{RootWords}
 use Rattle.bc_running.specs.Running.{RunningView}
 
 -- a heap that lanes run on: a heap, who holds each domain, and each lane's births
@@ -33,6 +34,10 @@ pub record IsSound (r : RunningView) : Type 0 where
 -- what a run of this setup begins with: a new heap, of which lane `d % lanes` holds domain d, and no birth
 abbrev pub new_running : Setup → RunningView
 new_running setup = running_of (new_heap setup) (map (λ d. d % setup.lanes) (numbers_below setup.domains)) (replicate setup.lanes 0)
+
+-- the heap of these root slots and this space, with the setup's chunks and write buffers and nothing in them
+abbrev pub adopted_heap : Setup → RootWords → Layout → HeapView
+adopted_heap setup roots s = record { space = s; roots = roots; chunks = new_chunks setup; buffers = new_buffers setup }
 
 -- what an operation of a lane leaves as it was: holders, the births, chunks and write buffers of other lanes, all sizes, and of the
 -- space all but states and contents of pages, and what changes where a page comes back: free frames, bookmarks, counters and reads

@@ -28,4 +28,4 @@ mod touching;
 mod whole;
 
 pub use pressure::Pressure;
-pub use running::Running;
+pub use running::{Parts, Running};

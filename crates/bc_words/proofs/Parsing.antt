@@ -16,7 +16,7 @@ use Rattle.clap.specs.Faults.{built_fault, check_fault, defaults_fault, fault_of
 use Rattle.clap.proofs.FaultLemmas.{leaf_fault}
 use Rattle.bc_words.specs.Commands.{AsksFor, GivesWorkers, IsCommandOf, Parts}
 use Rattle.bc_words.specs.declared.command.Command.{Command}
-use Rattle.bc_words.specs.declared.command.Command.TheVariants.{Run, Churn}
+use Rattle.bc_words.specs.declared.command.Command.TheVariants.{Run, Churn, Save, Resume}
 use Rattle.bc_words.proofs.App.{app, app_is_free, app_is_simple, built_app, finished-is, no_checks, no_defaults, rules, shape, workers_id, values_id}
 use Rattle.bc_words.proofs.Lists.{asked_workers, texts}
 use Rattle.bc_words.proofs.Numerals.{decimal-begins}
@@ -83,6 +83,8 @@ plain_bare : (first : Text) (values plain : List Text) (c : Command) → AsksFor
 plain_bare first values plain (Run workers) a = subst (λ ps. AllByRecursion IsBare ps) (sym a.1) tt
 plain_bare first values plain (Churn start ops workers) a =
     subst (λ ps. AllByRecursion IsBare ps) (sym a.1) (decimal_bare start (omega (arith, a.2)), (decimal_bare ops (omega (arith, a.3)), tt))
+plain_bare first values plain (Save phases workers) a = subst (λ ps. AllByRecursion IsBare ps) (sym a.1) (decimal_bare phases (omega (arith, a.2)), tt)
+plain_bare first values plain (Resume workers) a = subst (λ ps. AllByRecursion IsBare ps) (sym a.1) tt
 
 given_of : (values : List Text) (n : ℕ) → GivesWorkers values n → (new : Option Text) × (values ≡ option_to_list new) × AllByRecursion IsBare values
 given_of values n (inl none) = (None, none.0, subst (λ vs. AllByRecursion IsBare vs) (sym none.0) tt)

@@ -3,7 +3,7 @@
 use Rattle.std.specs.Prelude.{◌≡◌, ℕ, ◌<◌, ◌≤◌, ◌^◌, ◌⊎◌, List, [], ◌∷◌, ◌++◌, codes}
 use Rattle.std.specs.Fmt.{decimal}
 use Rattle.bc_words.specs.declared.command.Command.{Command}
-use Rattle.bc_words.specs.declared.command.Command.TheVariants.{Run, Churn}
+use Rattle.bc_words.specs.declared.command.Command.TheVariants.{Run, Churn, Save, Resume}
 
 -- a word of the command line, as its bytes
 abbrev pub Word : Type 0
@@ -34,13 +34,17 @@ pub data Parts : List Word → List Word → List Word → Type 0 where
 abbrev pub GivesWorkers : List Word → ℕ → Type 0
 GivesWorkers values n = ((values ≡ []) × (n ≡ 1)) ⊎ ((values ≡ decimal n ∷ []) × (1 ≤ n) × (n ≤ 16))
 
--- The first word, the values of `--workers` and the plain values ask for the command: `run` takes no plain value, and `churn` takes
--- exactly two, its starting number, below 2^63, and then its operations, 100,000 at most. A number has no sign and no leading zero.
+-- The first word, the values of `--workers` and the plain values ask for the command. `run` and `resume` take no plain value. `churn` takes
+-- exactly two, its starting number, below 2^63, and then its operations, 100,000 at most. `save` takes exactly one, a number of phases
+-- below 2^63. A number has no sign and no leading zero.
 abbrev pub AsksFor : Word → List Word → List Word → Command → Type 0
 AsksFor first values plain (Run workers) = (first ≡ codes "run") × (plain ≡ []) × GivesWorkers values workers
 AsksFor first values plain (Churn start ops workers) =
     (first ≡ codes "churn") × (plain ≡ decimal start ∷ decimal ops ∷ []) × (start < 2 ^ 63) × (ops ≤ 100000)
     × GivesWorkers values workers
+AsksFor first values plain (Save phases workers) =
+    (first ≡ codes "save") × (plain ≡ decimal phases ∷ []) × (phases < 2 ^ 63) × GivesWorkers values workers
+AsksFor first values plain (Resume workers) = (first ≡ codes "resume") × (plain ≡ []) × GivesWorkers values workers
 
 -- the words are this command: the first of them and the parts of the others ask for it
 pub record IsCommandOf (words : List Word) (command : Command) : Type 0 where

@@ -1,7 +1,7 @@
 //! What the program is asked to do, and the reading of it.
 
-ghost use Rattle.std.specs.Prelude.{◌≡◌, ℕ, Some, IfOk, IfNone, IfSome, map, option_map, option_to_list};
-ghost use Rattle.bc_words.specs.Commands.{AsksFor, GivesWorkers, IsCommandOf};
+ghost use Rattle.std.specs.Prelude.{◌≡◌, ℕ, List, false, Some, IfOk, IfNone, IfSome, map, option_map, option_to_list};
+ghost use Rattle.bc_words.specs.Commands.{AsksFor, GivesWorkers, IsCommandOf, Word};
 
 use crate::numbers::number;
 use clap::error::ErrorKind;
@@ -14,8 +14,8 @@ const ONE_WORKER: u32 = 1;
 /// The most workers that the words may give.
 const MOST_WORKERS: u64 = 16;
 
-/// The greatest number that `churn` starts from.
-const GREATEST_START: u64 = (1 << 63) - 1;
+/// The greatest number that `churn` starts from, and the greatest number of phases that `save` replays.
+const GREATEST: u64 = (1 << 63) - 1;
 
 /// The most operations a lane that `churn` draws.
 const MOST_OPS: u64 = 100_000;
@@ -28,6 +28,10 @@ pub enum Command {
     /// Replay a trace that is drawn from a starting number, and print how many replies of each kind there were. `ops` is
     /// the number of drawn operations of each lane.
     Churn { start: u64, ops: u32, workers: u32 },
+    /// Replay the first phases of the trace that comes in, so many, and write an image of the heap.
+    Save { phases: u64, workers: u32 },
+    /// Read an image and the trace behind it, replay the phases that the image lacks, and print their replies.
+    Resume { workers: u32 },
 }
 
 /// The command that the words are, which come without the program's name.
@@ -37,7 +41,7 @@ pub fn command_of(alloc: Global, words: &[&str]) -> Result<Option<Command>, Allo
     ensures the_one { (c : Command) → IsCommandOf (map (λ w. w.now) words.now) c → IfOk result (λ found. found ≡ Some c) }
 {
     let first = match words {
-        [first, ..] if *first == "run" || *first == "churn" => *first,
+        [first, ..] if is_mode(first) => *first,
         _ => return Ok(None),
     };
     let workers = Arg::new(alloc, "workers").long("workers");
@@ -60,6 +64,13 @@ pub fn command_of(alloc: Global, words: &[&str]) -> Result<Option<Command>, Allo
     }
 }
 
+/// Whether a command begins with this word.
+fn is_mode(first: &str) -> bool
+    ensures mode { result ≡ false → (values plain : List Word) (c : Command) → ¬ AsksFor first.now values plain c }
+{
+    first == "run" || first == "churn" || first == "save" || first == "resume"
+}
+
 /// The command that the first word, the value of `--workers` and the plain values ask for.
 fn asked_for(first: &str, workers: Option<&str>, plain: &[&str]) -> Option<Command>
     ensures command { IfSome result (AsksFor first.now (option_to_list (option_map (λ w. w.now) workers.entry)) (map (λ w. w.now) plain.now)) }
@@ -70,7 +81,7 @@ fn asked_for(first: &str, workers: Option<&str>, plain: &[&str]) -> Option<Comma
     match plain {
         [] if first == "run" => Some(Command::Run { workers }),
         [start, ops] if first == "churn" => {
-            let start = number(start, 0, GREATEST_START)?;
+            let start = number(start, 0, GREATEST)?;
             let ops = number(ops, 0, MOST_OPS)? as u32;
             Some(Command::Churn {
                 start,
@@ -78,6 +89,11 @@ fn asked_for(first: &str, workers: Option<&str>, plain: &[&str]) -> Option<Comma
                 workers,
             })
         }
+        [phases] if first == "save" => {
+            let phases = number(phases, 0, GREATEST)?;
+            Some(Command::Save { phases, workers })
+        }
+        [] if first == "resume" => Some(Command::Resume { workers }),
         _ => None,
     }
 }

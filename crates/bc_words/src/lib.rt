@@ -1,6 +1,8 @@
 //! The words of the command line, read as a command.
 //!
-//! `bc run` replays a trace that comes in, and `bc churn N OPS` one that it makes itself; both take `--workers`.
+//! `bc run` replays a trace that comes in, and `bc churn N OPS` one that it makes itself. `bc save K` replays the
+//! first K phases of a trace and writes an image; `bc resume` reads an image and replays the phases after it. Each
+//! takes `--workers`.
 //! Five rules say which words are a command. `specs/Commands` has them: `Parts` says what the words after the
 //! first are, `AsksFor` what command they and the first word make. The theorem of this crate is the contract of
 //! `command_of`: for every list of words it finds the command that the words are, and none where they are none,

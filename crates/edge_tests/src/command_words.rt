@@ -29,6 +29,18 @@ fn is_churn(
     )
 }
 
+/// Whether the words are `save` with so many phases and workers.
+fn is_save(alloc: Global, words: &[&str], phases: u64, workers: u32) -> Result<bool, AllocError> {
+    let found = command_of(alloc, words)?;
+    Ok(found == Some(Command::Save { phases, workers }))
+}
+
+/// Whether the words are `resume` with so many workers.
+fn is_resume(alloc: Global, words: &[&str], workers: u32) -> Result<bool, AllocError> {
+    let found = command_of(alloc, words)?;
+    Ok(found == Some(Command::Resume { workers }))
+}
+
 /// Whether the words are no command.
 fn is_none(alloc: Global, words: &[&str]) -> Result<bool, AllocError> {
     Ok(command_of(alloc, words)?.is_none())
@@ -69,6 +81,34 @@ fn churn_takes_the_greatest_numbers_and_none_above(rt: HostRuntime) -> Result<()
     );
     assert!(rt; is_none(alloc, &["churn", "9223372036854775808", "0"])?);
     assert!(rt; is_none(alloc, &["churn", "7", "100001"])?);
+    Ok(())
+}
+
+#[test]
+fn save_takes_one_number_and_resume_none(rt: HostRuntime) -> Result<(), Fail> {
+    let alloc = rt.alloc();
+    let greatest = 9_223_372_036_854_775_807;
+    assert!(rt; is_save(alloc, &["save", "0"], 0, 1)?);
+    assert!(rt;
+        is_save(
+            alloc,
+            &["save", "--workers", "16", "9223372036854775807"],
+            greatest,
+            16
+        )?
+    );
+    assert!(rt; is_save(alloc, &["save", "12", "--workers=2"], 12, 2)?);
+    assert!(rt; is_save(alloc, &["save", "--", "1"], 1, 1)?);
+    assert!(rt; is_resume(alloc, &["resume"], 1)?);
+    assert!(rt; is_resume(alloc, &["resume", "--workers", "7", "--"], 7)?);
+    assert!(rt; is_none(alloc, &["save"])?);
+    assert!(rt; is_none(alloc, &["save", "1", "1"])?);
+    assert!(rt; is_none(alloc, &["save", "9223372036854775808"])?);
+    assert!(rt; is_none(alloc, &["save", "01"])?);
+    assert!(rt; is_none(alloc, &["save", "-1"])?);
+    assert!(rt; is_none(alloc, &["save", "1", "--workers", "0"])?);
+    assert!(rt; is_none(alloc, &["resume", "1"])?);
+    assert!(rt; is_none(alloc, &["resume", "--workers=17"])?);
     Ok(())
 }
 

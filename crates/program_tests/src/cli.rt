@@ -10,6 +10,9 @@ mod gates_shapes;
 mod heaps;
 mod hostile;
 mod rows;
+mod saving;
+mod saving_devices;
+mod saving_phases;
 mod sink;
 mod words;
 

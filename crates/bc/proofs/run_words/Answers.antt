@@ -1,7 +1,12 @@
-use Rattle.std.proofs.Common.{◌≡◌, ◌∙◌, ap, List, map, string_bytes, subst, sym}
+use Rattle.std.proofs.Common.{◌≡◌, ◌∙◌, ℕ, None, ap, List, map, string_bytes, subst, sym}
+use Rattle.bc_cli.specs.Outcomes.{IfBadTrace}
+use Rattle.bc_cli.specs.Resumes.{FaultyInput}
+use Rattle.bc_cli.specs.declared.status.Status.{Status}
+use Rattle.bc_cli.specs.declared.status.Status.TheVariants.{Done, BadWords, BadTrace, TooLong, ReadFault, WriteFault, OutOfHeap, NoMemory, BadImage, Mismatch}
+use Rattle.bc_trace.specs.declared.fault.Cause.{Cause}
 use Rattle.bc_words.specs.Commands.{Word, IsCommandOf}
 use Rattle.bc_words.specs.declared.command.Command.{Command}
-use Rattle.bc_words.specs.declared.command.Command.TheVariants.{Run, Churn}
+use Rattle.bc_words.specs.declared.command.Command.TheVariants.{Run, Churn, Save, Resume}
 use Rattle.bc.proofs.run_words.Given.{Over}
 use Rattle.bc.proofs.run_words.Goals as goal
 
@@ -27,3 +32,28 @@ returns-clause-bad_words g c = λ e command is. c.top.ensures.bad_words e comman
 
 pub returns-clause-refused : goal.returns-clause-refused
 returns-clause-refused g c = λ none. (c.top.ensures.refused (λ command is. none command (subst (λ (words : List Word). IsCommandOf words command) (same g c) is))).0
+
+pub returns-clause-save_done : goal.returns-clause-save_done
+returns-clause-save_done g c = λ phases workers is done. c.top.ensures.save_done phases workers (asked g c (Save phases workers) is) done
+
+pub returns-clause-resume_done : goal.returns-clause-resume_done
+returns-clause-resume_done g c = λ workers is done. c.top.ensures.resume_done workers (asked g c (Resume workers) is) done
+
+-- of two things that are said of a first fault, the first
+first-said : (s : Status) (P Q : ℕ → Cause → Type 0) → IfBadTrace s (λ line cause. P line cause × Q line cause) → IfBadTrace s P
+first-said (BadTrace line cause) P Q both = both.0
+first-said Done P Q said = said
+first-said BadWords P Q said = said
+first-said TooLong P Q said = said
+first-said ReadFault P Q said = said
+first-said WriteFault P Q said = said
+first-said (OutOfHeap need) P Q said = said
+first-said NoMemory P Q said = said
+first-said (BadImage at cause) P Q said = said
+first-said Mismatch P Q said = said
+
+pub returns-clause-bad_trace : goal.returns-clause-bad_trace
+returns-clause-bad_trace g c = λ command is. first-said c.top.result.status (λ line cause. FaultyInput command None None line cause) _ (c.top.ensures.bad_trace command (asked g c command is))
+
+pub returns-clause-out_of_heap : goal.returns-clause-out_of_heap
+returns-clause-out_of_heap g c = λ workers is. c.top.ensures.out_of_heap workers (asked g c (Run workers) is)

@@ -1,10 +1,11 @@
 //! Faults of the devices: a run reports one as what it is, and leaves a prefix of its output.
 
-ghost use Rattle.std.specs.Prelude.{◌+◌, ◌*◌, ◌<◌, ◌≤◌, length};
+ghost use Rattle.std.specs.Prelude.{◌<◌, ◌≤◌, length};
 
+use super::sink::Torn;
 use bc_cli::top::top;
 use bc_cli::{OpenGate, Status};
-use bc_io::{MemSink, MemSource};
+use bc_io::MemSource;
 use std::alloc::{AllocError, Global};
 use std::process::Abort;
 use std::test::Fail;
@@ -38,23 +39,20 @@ struct Left {
     held: Vec<u8>,
 }
 
-/// What the words do over these devices. The sink has room for all that they may write.
+/// What the words do over these devices.
 fn run_between<R: Threads + Sync>(
     rt: &R,
     alloc: Global,
     words: &[&str],
     mut source: MemSource,
-    mut sink: MemSink,
-) -> Result<Left, AllocError>
-    requires run { 4 * length source.left + 40 ≤ sink.room }
-    requires churn { 200 ≤ sink.room }
-{
+    mut sink: Torn,
+) -> Left {
     let outcome = top(rt, alloc, words, &mut source, &mut sink, &OpenGate);
-    Ok(Left {
+    Left {
         status: outcome.status,
         has_heap: outcome.heap.is_some(),
-        held: sink.held().to_vec(alloc)?,
-    })
+        held: sink.into_bytes(),
+    }
 }
 
 /// A run over devices that give and take pieces. The one read and the one write of these numbers fail.
@@ -70,9 +68,8 @@ fn run_over<R: Threads + Sync>(
     requires writes { 0 < writes.0 }
 {
     let source = MemSource::new(trace.to_vec(alloc)?, reads.0, vec![in alloc; reads.1]?);
-    let failing = vec![in alloc; writes.1]?;
-    let sink = MemSink::new(alloc, 1148, writes.0, failing)?;
-    run_between(rt, alloc, &["run"], source, sink)
+    let sink = Torn::new(alloc, writes.0, writes.1);
+    Ok(run_between(rt, alloc, &["run"], source, sink))
 }
 
 /// Shows how a run over such devices ends, with a heap that is handed back or none, and what it leaves.
@@ -198,8 +195,8 @@ fn churn_leaves<R: Threads + Sync + Abort>(
     requires write { 0 < write.0 }
 {
     let source = MemSource::new(Vec::new(alloc), 4096, vec![in alloc; 1]?);
-    let sink = MemSink::new(alloc, 1148, write.0, vec![in alloc; write.1]?)?;
-    let left = run_between(rt, alloc, &["churn", "7", "0"], source, sink)?;
+    let sink = Torn::new(alloc, write.0, write.1);
+    let left = run_between(rt, alloc, &["churn", "7", "0"], source, sink);
     shows(rt, &left, (status, true), held, (1, write.1));
     Ok(())
 }

@@ -5,12 +5,13 @@ ghost use Rattle.bc_engine.specs.Lanes.{of_lane};
 ghost use Rattle.bc_model.specs.WellFormed.{IsPhase};
 
 use super::gates::run_past;
+use super::sink::Torn;
 use super::{repeated, shows, shows_done, trace};
 use bc_bits::count;
 use bc_cli::top::top;
 use bc_cli::{OpenGate, Status};
 use bc_engine::{Answer, Engine, PhaseError};
-use bc_io::{MemSink, MemSource};
+use bc_io::MemSource;
 use bc_model::{Op, Phase, Replies, Setup, Slot};
 use bc_superpages::Space;
 use bc_trace::Cause;
@@ -84,17 +85,13 @@ fn run_between<R: Threads + Sync>(
     requires reads { 0 < reads.0 }
     requires writes { 0 < writes.0 }
 {
-    if trace.len() > 50_000 {
-        return Err(Fail::new("there is no room for what this trace may print"));
-    }
     let mut source = MemSource::new(trace.to_vec(alloc)?, reads.0, vec![in alloc; reads.1]?);
-    let failing = vec![in alloc; writes.1]?;
-    let mut sink = MemSink::new(alloc, 200_040, writes.0, failing)?;
+    let mut sink = Torn::new(alloc, writes.0, writes.1);
     let outcome = top(rt, alloc, &["run"], &mut source, &mut sink, &OpenGate);
     Ok(Left {
         status: outcome.status,
         heap: outcome.heap,
-        held: sink.held().to_vec(alloc)?,
+        held: sink.into_bytes(),
     })
 }
 

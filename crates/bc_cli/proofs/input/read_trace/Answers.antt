@@ -7,12 +7,12 @@ use Rattle.bc_cli.proofs.input.read_trace.Goals as goal
 pub returns-in_err-bytes-clause-spelled : goal.returns-in_err-bytes-clause-spelled
 returns-in_err-bytes-clause-spelled g c = λ bytes t told short spelled firm.
     let p = err_from_is_err_and c.from_residual.result c.from_residual.ensures.1 in
-    rw (p.1, p.2) (unread-short _ (λ e. not_longer _ bytes (c.in_err-bytes.ensures.too_long (ap Err e)) told short) (λ e. firm (c.in_err-bytes.ensures.read_fault (ap Err e))))
+    rw (p.1, p.2) (unread-short _ (λ e. not_longer _ _ bytes (c.in_err-bytes.ensures.too_long (ap Err e)) told short) (λ e. firm (c.in_err-bytes.ensures.read_fault (ap Err e))))
 
 pub returns-in_err-bytes-clause-faulty : goal.returns-in_err-bytes-clause-faulty
 returns-in_err-bytes-clause-faulty g c = λ bytes f told short fault firm.
     let p = err_from_is_err_and c.from_residual.result c.from_residual.ensures.1 in
-    rw (p.1, p.2) (inr (unread-short _ (λ e. not_longer _ bytes (c.in_err-bytes.ensures.too_long (ap Err e)) told short) (λ e. firm (c.in_err-bytes.ensures.read_fault (ap Err e)))))
+    rw (p.1, p.2) (inr (unread-short _ (λ e. not_longer _ _ bytes (c.in_err-bytes.ensures.too_long (ap Err e)) told short) (λ e. firm (c.in_err-bytes.ensures.read_fault (ap Err e)))))
 
 pub returns-in_err-bytes-clause-longer : goal.returns-in_err-bytes-clause-longer
 returns-in_err-bytes-clause-longer g c = λ bytes told long firm.

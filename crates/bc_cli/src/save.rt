@@ -1,0 +1,256 @@
+//! `save`: the first phases of a trace are replayed, and the image of the heap after them is written in place of their texts.
+
+ghost use Rattle.std.specs.Prelude.{◌≡◌, ◌≢◌, ◌⊎◌, ℕ, ◌+◌, ◌^◌, ◌<◌, ◌≤◌, List, Some, None, length, drop, map, sum_by, IfSome, OnErr, OnOk, IsErrOf};
+ghost use Rattle.std.specs.List.{AllByRecursion};
+ghost use Rattle.bc_engine.specs.EngineFacts.{HasRoomForBirths};
+ghost use Rattle.bc_engine.specs.Parts.{CanAdopt, PartsStand};
+ghost use Rattle.bc_engine.specs.declared.engines.Ended.{Ended};
+ghost use Rattle.bc_image.specs.Images.{image_bytes};
+ghost use Rattle.bc_image.specs.Listings.{ListingLists};
+ghost use Rattle.bc_image.specs.declared.listing.Holder.TheVariants.{Lane};
+ghost use Rattle.bc_io.specs.Faults.{Rose};
+ghost use Rattle.bc_io.specs.Told.{GivesAtMost, GivesExactly, HasRoom, HeldGrows};
+ghost use Rattle.bc_model.specs.Lists.{TraceLists};
+ghost use Rattle.bc_model.specs.RunLengths.{all_ops_of, ops_of};
+ghost use Rattle.bc_model.specs.State.{State};
+ghost use Rattle.bc_model.specs.WellFormed.{IsTrace};
+ghost use Rattle.bc_trace.specs.Faults.{Fault};
+ghost use Rattle.bc_trace.specs.Lines.{Spells};
+ghost use Rattle.bc_trace.specs.declared.fault.TraceFault.{TraceFault};
+ghost use Rattle.bc_cli.specs.Accounts.{KeepsAccount};
+ghost use Rattle.bc_cli.specs.BetweenPhases.{HasRun};
+ghost use Rattle.bc_cli.specs.Courses.{whole_course};
+ghost use Rattle.bc_cli.specs.Endings.{FirstFit, NeedsFit, WritesFront};
+ghost use Rattle.bc_cli.specs.Outcomes.{Faulty, IfBadTrace, IfHeapless, IfStatusOutOfHeap, IsOrNoMemory, longest_trace};
+ghost use Rattle.bc_cli.specs.PartEndings.{IsSaveEnding, IsSaveStatus};
+ghost use Rattle.bc_cli.specs.Saves.{CutOff, CutOffBelow, HasFewerPhases, HasRoomToSave, IsListingOf, IsSaved, Saved, SavedInPart, SaveRanOutOfHeap};
+
+use crate::input::read_trace;
+use crate::outcome::Outcome;
+use crate::phases::run_phase;
+use crate::status::{Ending, Status};
+use bc_engine::{Engine, Parts};
+use bc_gates::Gate;
+use bc_image::Holder;
+use bc_io::{Sink, Source, WriteFault};
+use bc_model::{Setup, Trace};
+use bc_picture::write;
+use bc_saving::{holders_of_lanes, law_writable};
+use std::alloc::Global;
+use std::thread::Threads;
+
+/// The version of an image that goes with a trace.
+pub(crate) const VERSION: u32 = 1;
+
+/// Reads a trace from the source, replays its first phases, so many, and writes the image of the heap after them to the sink.
+pub(crate) fn save<R, S, K, G>(
+    rt: &R,
+    alloc: Global,
+    count: u64,
+    workers: u32,
+    source: &mut S,
+    sink: &mut K,
+    gate: &G,
+) -> Outcome
+where
+    R: Threads + Sync,
+    S: Source,
+    K: Sink,
+    G: Gate + Sync,
+    requires workers { (1 ≤ workers) × (workers ≤ 16) }
+    requires room { HasRoomToSave (S.left source.old) (K.room sink.old) count }
+    ensures status { IsSaveStatus result.status }
+    ensures done { result.status ≡ Status.Done →
+        Saved (S.left source.old) (S.left source.new) (K.held sink.old) (K.held sink.new) count × (result.heap ≡ None) }
+    ensures write_fault { result.status ≡ Status.WriteFault → Rose (K.faults sink.old) (K.faults sink.new)
+        × SavedInPart (S.left source.old) (S.left source.new) (K.held sink.old) (K.held sink.new) count × (result.heap ≡ None) }
+    ensures out_of_heap { IfStatusOutOfHeap result.status (λ need.
+        SaveRanOutOfHeap (S.left source.old) (S.left source.new) count result.heap need × (sink.new ≡ sink.old)) }
+    ensures no_memory { result.status ≡ Status.NoMemory → sink.new ≡ sink.old }
+    ensures mismatch { result.status ≡ Status.Mismatch →
+        HasFewerPhases (S.left source.old) (S.left source.new) count × (sink.new ≡ sink.old) }
+    ensures bad_trace { IfBadTrace result.status (λ line cause.
+        Faulty (S.left source.old) (S.left source.new) line cause × (sink.new ≡ sink.old)) }
+    ensures too_long { result.status ≡ Status.TooLong →
+        GivesExactly (S.left source.old) (S.left source.new) (longest_trace + 1) × (sink.new ≡ sink.old) }
+    ensures short { result.status ≢ Status.TooLong → GivesAtMost (S.left source.old) (S.left source.new) longest_trace }
+    ensures read_fault { result.status ≡ Status.ReadFault →
+        Rose (S.faults source.old) (S.faults source.new) × (sink.new ≡ sink.old) }
+    ensures firm_source { result.status ≢ Status.ReadFault → S.faults source.new ≡ S.faults source.old }
+    ensures firm_sink { result.status ≢ Status.WriteFault → K.faults sink.new ≡ K.faults sink.old }
+    ensures none { IfHeapless result.status (result.heap ≡ None) }
+    ensures workers { IfSome result.heap (λ engine. engine.workers ≡ workers) }
+    ensures account { IfSome result.heap KeepsAccount }
+
+    // Where no fault is counted, the bytes alone decide, unless memory runs out.
+    ensures complete { (bytes : List ℕ) (t : TraceLists) →
+        S.left source.old ≡ Some bytes → length bytes ≤ longest_trace → Spells bytes t → count ≤ length t.phases →
+        FirstFit (whole_course t) count → ¬ Rose (S.faults source.old) (S.faults source.new) →
+        ¬ Rose (K.faults sink.old) (K.faults sink.new) → IsOrNoMemory result.status Status.Done }
+    ensures fewer { (bytes : List ℕ) (t : TraceLists) →
+        S.left source.old ≡ Some bytes → length bytes ≤ longest_trace → Spells bytes t → length t.phases < count →
+        ¬ Rose (S.faults source.old) (S.faults source.new) → IsOrNoMemory result.status Status.Mismatch }
+    ensures faulty { (bytes : List ℕ) (f : TraceFault) →
+        S.left source.old ≡ Some bytes → length bytes ≤ longest_trace → Fault bytes f.line f.cause →
+        ¬ Rose (S.faults source.old) (S.faults source.new) →
+        IsOrNoMemory result.status (Status.BadTrace f.line f.cause) }
+    ensures longer { (bytes : List ℕ) →
+        S.left source.old ≡ Some bytes → longest_trace < length bytes →
+        ¬ Rose (S.faults source.old) (S.faults source.new) → IsOrNoMemory result.status Status.TooLong }
+{
+    match read_trace(alloc, source) {
+        Ok(trace) => save_trace(rt, alloc, &trace, count, workers, sink, gate),
+        Err(status) => Outcome::without_heap(status),
+    }
+}
+
+/// Replays the first phases of a trace, so many, and writes the image of the heap after them.
+fn save_trace<R, K, G>(
+    rt: &R,
+    alloc: Global,
+    trace: &Trace,
+    count: u64,
+    workers: u32,
+    sink: &mut K,
+    gate: &G,
+) -> Outcome
+where
+    R: Threads + Sync,
+    K: Sink,
+    G: Gate + Sync,
+    requires trace { IsTrace trace.now }
+    requires few { all_ops_of trace.now + length trace.now.phases ≤ longest_trace }
+    requires workers { (1 ≤ workers) × (workers ≤ 16) }
+    requires room { (l : ListingLists) → IsSaved trace.now count l → HasRoom (K.room sink.old) (length (image_bytes l)) }
+    ensures ending { IsSaveEnding result.status }
+    ensures mismatch { result.status ≡ Status.Mismatch → (length trace.now.phases < count) × (sink.new ≡ sink.old) }
+    ensures enough { result.status ≢ Status.Mismatch → count ≤ length trace.now.phases }
+    ensures done { result.status ≡ Status.Done → (l : ListingLists) × IsSaved trace.now count l
+        × HeldGrows (K.held sink.old) (K.held sink.new) (image_bytes l) × NeedsFit (whole_course trace.now) count }
+    ensures write_fault { result.status ≡ Status.WriteFault → (l : ListingLists) × IsSaved trace.now count l
+        × WritesFront (K.held sink.old) (K.held sink.new) (image_bytes l) }
+    ensures cause { result.status ≡ Status.WriteFault → Rose (K.faults sink.old) (K.faults sink.new) }
+    ensures unhanded { (result.status ≡ Status.Done) ⊎ (result.status ≡ Status.WriteFault) → result.heap ≡ None }
+    ensures out_of_heap { IfStatusOutOfHeap result.status (λ need.
+        CutOffBelow (whole_course trace.now) count result.heap need × (sink.new ≡ sink.old)) }
+    ensures no_memory { result.status ≡ Status.NoMemory → sink.new ≡ sink.old }
+    ensures firm { result.status ≢ Status.WriteFault → K.faults sink.new ≡ K.faults sink.old }
+    ensures none { IfHeapless result.status (result.heap ≡ None) }
+    ensures workers { IfSome result.heap (λ engine. engine.workers ≡ workers) }
+    ensures account { IfSome result.heap KeepsAccount }
+{
+    if count > trace.phases.len() as u64 {
+        return Outcome::without_heap(Status::Mismatch);
+    }
+    let Ok(mut engine) = Engine::open(alloc, &trace.setup, workers) else {
+        return Outcome::without_heap(Status::NoMemory);
+    };
+    match run_first(rt, alloc, &mut engine, trace, count as usize, gate) {
+        Ok(()) => {
+            let parts = engine.split();
+            let Ok(holders) = holders_of_lanes(alloc, &parts.holders) else {
+                return Outcome::without_heap(Status::NoMemory);
+            };
+            match put_image(sink, &trace.setup, count as u32, &holders, parts) {
+                Ok(()) => Outcome::without_heap(Status::Done),
+                Err(_) => Outcome::without_heap(Status::WriteFault),
+            }
+        }
+        Err(Ending::WriteFault) => unreachable!(),
+        Err(Ending::OutOfHeap { need }) => Outcome::with_heap(Status::OutOfHeap { need }, engine),
+        Err(Ending::NoMemory) => Outcome::without_heap(Status::NoMemory),
+    }
+}
+
+/// Writes the image of the heap of an engine that has run so many phases and was taken apart. It takes no memory.
+fn put_image<K: Sink>(
+    sink: &mut K,
+    setup: &Setup,
+    done: u32,
+    holders: &[Holder],
+    parts: Parts,
+) -> Result<(), WriteFault>
+    requires parts { CanAdopt setup.now parts.holders.items parts.births.items parts.roots parts.space }
+    requires holders { holders.now ≡ map Lane parts.holders.items }
+    requires births { AllByRecursion (λ n. n ≤ 4000000000) parts.births.items }
+    requires room { (s : State) × PartsStand setup.now parts.holders.items parts.births.items parts.roots parts.space s
+        × ((l : ListingLists) → IsListingOf setup.now done s l → HasRoom (K.room sink.old) (length (image_bytes l))) }
+    ensures written { (s : State) → PartsStand setup.now parts.holders.items parts.births.items parts.roots parts.space s →
+        OnOk result ((l : ListingLists) × IsListingOf setup.now done s l × HeldGrows (K.held sink.old) (K.held sink.new) (image_bytes l)) }
+    ensures front { (s : State) → PartsStand setup.now parts.holders.items parts.births.items parts.roots parts.space s →
+        OnErr result ((l : ListingLists) × IsListingOf setup.now done s l × WritesFront (K.held sink.old) (K.held sink.new) (image_bytes l)) }
+    ensures cause { OnErr result (Rose (K.faults sink.old) (K.faults sink.new)) }
+    ensures firm { OnOk result (K.faults sink.new ≡ K.faults sink.old) }
+{
+    law_writable(VERSION, setup, done, holders, &parts);
+    let Parts {
+        births,
+        roots,
+        mut space,
+        ..
+    } = parts;
+    write(
+        sink, VERSION, setup, done, holders, &births, &roots, &mut space,
+    )
+}
+
+/// Runs so many of the first phases of a trace.
+pub(crate) fn run_first<R, G>(
+    rt: &R,
+    alloc: Global,
+    engine: &mut Engine,
+    trace: &Trace,
+    count: usize,
+    gate: &G,
+) -> Result<(), Ending>
+where
+    R: Threads + Sync,
+    G: Gate + Sync,
+    requires trace { IsTrace trace.now }
+    requires count { count ≤ length trace.now.phases }
+    requires opened { HasRun (whole_course trace.now) 0 engine.old }
+    ensures run { OnOk result (HasRun (whole_course trace.now) count engine.new) }
+    ensures out_of_heap { (need : ℕ) → IsErrOf result (Ending.OutOfHeap need) →
+        CutOffBelow (whole_course trace.now) count (Some engine.new) need }
+    ensures no_memory { IsErrOf result Ending.NoMemory → engine.new.ended ≡ Some Ended.NoMemory }
+    ensures no_fault { ¬ IsErrOf result Ending.WriteFault }
+    ensures births { (n : ℕ) → HasRoomForBirths engine.old (sum_by ops_of trace.now.phases + n) →
+        OnOk result (HasRoomForBirths engine.new (sum_by ops_of (drop count trace.now.phases) + n)) }
+    ensures workers { engine.new.workers ≡ engine.old.workers }
+{
+    for index in 0..count {
+        run_one(rt, alloc, engine, trace, index, gate)?;
+    }
+    Ok(())
+}
+
+/// Runs the phase of this index.
+fn run_one<R, G>(
+    rt: &R,
+    alloc: Global,
+    engine: &mut Engine,
+    trace: &Trace,
+    index: usize,
+    gate: &G,
+) -> Result<(), Ending>
+where
+    R: Threads + Sync,
+    G: Gate + Sync,
+    requires trace { IsTrace trace.now }
+    requires index { index < length trace.now.phases }
+    requires opened { HasRun (whole_course trace.now) index engine.old }
+    ensures run { OnOk result (HasRun (whole_course trace.now) (index + 1) engine.new) }
+    ensures out_of_heap { (need : ℕ) → IsErrOf result (Ending.OutOfHeap need) →
+        CutOff (whole_course trace.now) index (Some engine.new) need }
+    ensures no_memory { IsErrOf result Ending.NoMemory → engine.new.ended ≡ Some Ended.NoMemory }
+    ensures no_fault { ¬ IsErrOf result Ending.WriteFault }
+    ensures births { (n : ℕ) → HasRoomForBirths engine.old (sum_by ops_of (drop index trace.now.phases) + n) →
+        OnOk result (HasRoomForBirths engine.new (sum_by ops_of (drop (index + 1) trace.now.phases) + n)) }
+    ensures workers { engine.new.workers ≡ engine.old.workers }
+{
+    let end = run_phase(rt, alloc, engine, &trace.phases[index], gate)?;
+    match end.need {
+        Some(need) => Err(Ending::OutOfHeap { need }),
+        None => Ok(()),
+    }
+}
