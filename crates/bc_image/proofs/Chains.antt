@@ -142,7 +142,7 @@ module _ (cells : List CellList) (l : ListingLists) where
   flat-later zero j group rest q here lt = refl
   flat-later (suc n) j group rest q here lt = ap₂ (λ (xs ys : List ℕ). xs ++ ys) (items-later group rest q j here lt) (flat-later n (j + 1) group rest q here (omega arith))
 
-  flat-page : (n q : ℕ) (group rest : List CellList) (born : List ℕ) → IsGroup cells l q born group → Chain (2048 * (q + 1)) (born ++ map number_of group) rest → flat_map (superpage_items (group ++ rest)) (numbers_from q (suc n)) ≡ group_items group ++ flat_map (superpage_items rest) (numbers_from (q + 1) n)
+  pub flat-page : (n q : ℕ) (group rest : List CellList) (born : List ℕ) → IsGroup cells l q born group → Chain (2048 * (q + 1)) (born ++ map number_of group) rest → flat_map (superpage_items (group ++ rest)) (numbers_from q (suc n)) ≡ group_items group ++ flat_map (superpage_items rest) (numbers_from (q + 1) n)
   flat-page n q group rest born ok more =
       let here = group-page group q born ok in
       ap₂ (λ (xs ys : List ℕ). xs ++ ys) (items-page group rest q here (chain-above (2048 * (q + 1)) (born ++ map number_of group) rest more)) (flat-later n (q + 1) group rest q here (omega arith))
@@ -272,14 +272,14 @@ module _ (cells : List CellList) (l : ListingLists) where
         }
   ]
 
-  record Split (q : ℕ) (born : List ℕ) (all : List CellList) : Type 0 where
+  pub record Split (q : ℕ) (born : List ℕ) (all : List CellList) : Type 0 where
     pub group : List CellList
     pub rest : List CellList
     pub is : all ≡ group ++ rest
     pub ok : IsGroup cells l q born group
     pub more : Chain (2048 * (q + 1)) (born ++ map number_of group) rest
 
-  split : (all : List CellList) (q : ℕ) (born : List ℕ) → Chain (2048 * q) born all → Split q born all
+  pub split : (all : List CellList) (q : ℕ) (born : List ℕ) → Chain (2048 * q) born all → Split q born all
   split [] q born chain = record { group = []; rest = []; is = refl; ok = tt; more = tt }
   split (x ∷ xs) q born chain = elim (cases_eq (x.address / 2048) q) [
     | inr ne ↦

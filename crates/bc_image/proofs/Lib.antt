@@ -32,3 +32,7 @@ pub mod Pictured
 pub mod KeyLemmas
 -- Births that stand twice
 pub mod BirthLemmas
+-- The most bytes of an image
+pub mod SizeLemmas
+-- Bytes begin with one image or have one fault
+pub mod OneListing

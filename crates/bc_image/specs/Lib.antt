@@ -16,8 +16,12 @@ pub mod Drafts
 pub mod Reading
 -- The bytes of an image, and what it may list
 pub mod Images
+-- How many bytes an image may have
+pub mod ImageSizes
 -- The first fault of bytes that begin with no image
 pub mod Faults
+-- Bytes that begin with an image
+pub mod ImageOrFault
 -- Where objects lie
 pub mod Homes
 -- Births that stand twice

@@ -1,12 +1,16 @@
 //! Laws of images. Each is the contract of a function that does nothing.
 
-ghost use Rattle.std.specs.Prelude.{◌≡◌, ℕ, List, [], map};
+ghost use Rattle.std.specs.Prelude.{◌≡◌, ◌⊎◌, ℕ, ◌≤◌, List, [], length, map};
 ghost use Rattle.bc_model.specs.Consistent.{IsState};
 ghost use Rattle.bc_model.specs.Resembles.{Resembles};
 ghost use Rattle.bc_model.specs.State.{State};
+ghost use Rattle.bc_image.specs.Faults.{IsFault};
+ghost use Rattle.bc_image.specs.ImageOrFault.{AreBytes, BeginWithImage};
+ghost use Rattle.bc_image.specs.ImageSizes.{most_image_bytes};
 ghost use Rattle.bc_image.specs.Images.{IsImageListing, ImageOf, image_bytes};
 ghost use Rattle.bc_image.specs.Listings.{ListingLists};
 ghost use Rattle.bc_image.specs.Pictures.{Pictures, PicturesObjects};
+ghost use Rattle.bc_image.specs.declared.fault.ImageFault.{ImageFault};
 ghost use Rattle.bc_image.specs.declared.listing.Holder.TheVariants.{Lane};
 
 /// Law: states that one image pictures are alike as far as their slots lead. So they give the same replies from there on
@@ -26,4 +30,21 @@ pub fn law_pictured()
 /// (`scan`, clause `listed`).
 pub fn law_read_back()
     ensures { (l : ListingLists) → IsImageListing l → ImageOf (image_bytes l) l [] }
+{}
+
+/// Law: no image has more than 100,860,624 bytes. So each is below 134,217,728 bytes.
+pub fn law_largest_image()
+    ensures { (l : ListingLists) → IsImageListing l → length (image_bytes l) ≤ most_image_bytes }
+{}
+
+/// Law: bytes begin with one image at most. If they begin with the images of two listings, the listings are the same, and so is what follows.
+pub fn law_one_listing()
+    ensures { (bytes rest more : List ℕ) → (l m : ListingLists) → ImageOf bytes l rest → ImageOf bytes m more → (l ≡ m) × (rest ≡ more) }
+{}
+
+/// Law: bytes begin with an image or have exactly one fault, and not both. So of bytes `scan` has one answer to give, unless memory runs out.
+pub fn law_one_image_fault()
+    ensures either { (bytes : List ℕ) → AreBytes bytes → BeginWithImage bytes ⊎ ((f : ImageFault) × IsFault bytes f) }
+    ensures not_both { (bytes : List ℕ) → (f : ImageFault) → IsFault bytes f → ¬ BeginWithImage bytes }
+    ensures alone { (bytes : List ℕ) → (f other : ImageFault) → IsFault bytes f → IsFault bytes other → f ≡ other }
 {}

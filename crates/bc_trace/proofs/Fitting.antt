@@ -100,7 +100,7 @@ short-ops s j (o ∷ ops) hs lane fits few =
       short-ops (step s j o).0 j ops (IsState-step s j o hs lane fits.0) (omega (arith, lane, same.lanes)) (IsOps-same s (step s j o).0 ops same fits.1) (HasSerials-step (length ops) s j o hs lane fits.0 few),
     )
 
-short-lanes : (s : State) (j : ℕ) (lanes : List (List Op)) → IsState s → j + length lanes ≤ length s.made → AllByRecursion (AllByRecursion (IsOp (sizes_of s))) lanes → HasSerials (sum_by length lanes) s → AreShort (replies_to_lanes s j lanes)
+pub short-lanes : (s : State) (j : ℕ) (lanes : List (List Op)) → IsState s → j + length lanes ≤ length s.made → AllByRecursion (AllByRecursion (IsOp (sizes_of s))) lanes → HasSerials (sum_by length lanes) s → AreShort (replies_to_lanes s j lanes)
 unfolding replies_to_lanes
 short-lanes s j [] hs small fits few = tt
 short-lanes s j (ops ∷ lanes) hs small fits few =
@@ -112,7 +112,7 @@ short-lanes s j (ops ∷ lanes) hs small fits few =
           (HasSerials-after_ops (sum_by length lanes) s j ops hs lane fits.0 (HasSerials-less (sum_by length lanes + length ops) (sum_by length (ops ∷ lanes)) s (omega (arith, count)) few)),
     )
 
-short-phases : (setup : Setup) (s : State) (phases : List PhaseLists) → OfSetup setup s → AllByRecursion (IsPhase setup) phases → HasSerials (sum_by ops_of phases) s → AllByRecursion AreShort (replies_of_phases s phases)
+pub short-phases : (setup : Setup) (s : State) (phases : List PhaseLists) → OfSetup setup s → AllByRecursion (IsPhase setup) phases → HasSerials (sum_by ops_of phases) s → AllByRecursion AreShort (replies_of_phases s phases)
 unfolding replies_of_phases
 short-phases setup s [] of fits few = tt
 short-phases setup s (p ∷ phases) of fits few =
