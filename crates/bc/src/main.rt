@@ -12,7 +12,7 @@ ghost use Rattle.std.specs.Prelude.{◌≡◌, ◌≢◌, ℕ, IfErr, IfOk, IfSo
 ghost use Rattle.std.specs.Process.{exit_status};
 ghost use Rattle.bc_cli.specs.Accounts.{KeepsAccount};
 ghost use Rattle.bc_cli.specs.Churns.{ChurnsDone};
-ghost use Rattle.bc_cli.specs.Outcomes.{IfBadImage, IfBadTrace, IfHeapless, IfStatusOutOfHeap, IsOrNoMemory, RanOutOfHeap, Replayed, longest_of, workers_of};
+ghost use Rattle.bc_cli.specs.Outcomes.{IfStatusBadImage, IfBadTrace, IfHeapless, IfStatusOutOfHeap, IsOrNoMemory, RanOutOfHeap, Replayed, longest_of, workers_of};
 ghost use Rattle.bc_cli.specs.Resumes.{FaultyInput, ImageFaulty, Resumed};
 ghost use Rattle.bc_cli.specs.Saves.{Saved};
 ghost use Rattle.bc_cli.specs.Statuses.{exit_code_of, fault_of};
@@ -88,7 +88,7 @@ where
         result.status ≡ Status.Done → Resumed None None None None result.heap }
     ensures bad_trace { (command : Command) → IsCommandOf (map (λ w. string_bytes w) words.now) command →
         IfBadTrace result.status (λ line cause. FaultyInput command None None line cause) }
-    ensures bad_image { IfBadImage result.status (λ at cause. ImageFaulty None None at cause) }
+    ensures bad_image { IfStatusBadImage result.status (λ at cause. ImageFaulty None None at cause) }
     ensures out_of_heap { (workers : ℕ) → IsCommandOf (map (λ w. string_bytes w) words.now) (Run workers) → IfStatusOutOfHeap result.status (λ need. RanOutOfHeap None None None None result.heap need) }
     ensures none { IfHeapless result.status (result.heap ≡ None) }
     ensures workers { (command : Command) → IsCommandOf (map (λ w. string_bytes w) words.now) command →

@@ -4,7 +4,7 @@ use Rattle.std.specs.Prelude.{IfNone, IfSome}
 use Rattle.bc_image.specs.declared.fault.ImageCause.{ImageCause}
 use Rattle.bc_words.specs.declared.command.Command.{Command}
 use Rattle.bc_words.specs.declared.command.Command.TheVariants.{Churn, Save}
-use Rattle.bc_cli.specs.Outcomes.{IfBadImage}
+use Rattle.bc_cli.specs.Outcomes.{IfStatusBadImage}
 use Rattle.bc_cli.specs.declared.status.Status.{Status}
 use Rattle.bc_cli.specs.declared.status.Status.TheVariants.{Done, BadWords, BadTrace, TooLong, ReadFault, WriteFault, OutOfHeap, NoMemory, BadImage, Mismatch}
 
@@ -33,7 +33,7 @@ same-save P found phases workers phases' workers' first second h =
     subst P same h
 
 -- a status 8 is one of the command that was found
-pub only-image : (s : Status) (P : ℕ → ImageCause → Type 0) (R Q : Type 0) → Q → IfBadImage s (λ at cause. P at cause × R) → IfBadImage s (λ at cause. Q × P at cause × R)
+pub only-image : (s : Status) (P : ℕ → ImageCause → Type 0) (R Q : Type 0) → Q → IfStatusBadImage s (λ at cause. P at cause × R) → IfStatusBadImage s (λ at cause. Q × P at cause × R)
 only-image Done P R Q q h = tt
 only-image BadWords P R Q q h = tt
 only-image (BadTrace line cause) P R Q q h = tt

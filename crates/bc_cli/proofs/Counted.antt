@@ -17,10 +17,10 @@ use Rattle.bc_churn.proofs.ChurnSums.{counted-once, counted-run, trace-ops}
 use Rattle.bc_cli.specs.Churns.{HasChurned}
 use Rattle.bc_cli.specs.Courses.{whole_course}
 use Rattle.bc_cli.specs.Endings.{FitsThroughout}
-use Rattle.bc_cli.specs.BetweenPhases.{HasRun}
+use Rattle.bc_cli.specs.BetweenPhases.{HasRun, Ran}
 use Rattle.bc_cli.specs.NeedLine.{replies_before}
 use Rattle.bc_cli.proofs.Finishing.{final-before}
-use Rattle.bc_cli.proofs.PhaseEnds.{Ran, cut, did}
+use Rattle.bc_cli.proofs.PhaseEnds.{cut, did}
 use Rattle.bc_cli.proofs.Pieces.{replies-append}
 
 -- ---- the replies to the first phases

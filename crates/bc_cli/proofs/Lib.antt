@@ -6,6 +6,8 @@ pub mod Replies
 pub mod Incoming
 -- What a source reported, and what was read of it.
 pub mod Bytes
+-- The states of phases that are run one after another, from a state that has their setup's sizes and room for their births.
+pub mod CourseStates
 -- A run writes at most four times as many bytes as its trace has.
 pub mod Room
 -- One phase of a trace on an engine, by what the engine says of it.
@@ -32,5 +34,11 @@ pub mod ChurnRoom
 pub mod ParseLemmas
 -- An engine that goes on with an image
 pub mod Resuming
+-- The room that `resume` wants: four times the bytes that are read, and forty more.
+pub mod ResumeRoom
+-- The room that `save` wants: that of the largest image.
+pub mod SaveRoom
+-- `resume` goes on with what `save` wrote.
+pub mod GoingOn
 -- The first phases of a trace that were run, and the image of the heap after them.
 pub mod Saving

@@ -1,24 +1,20 @@
 -- What reading an image and the trace after it says.
-use Rattle.std.proofs.Common.{◌≡◌, ◌≢◌, ℕ, ◌+◌, ◌<◌, ◌≤◌, ◌∙◌, List, length, drop, Option, None, Some, sym, ap, subst, inl, inr, refl}
-use Rattle.std.specs.Prelude.{Result, Ok, Err, IfErr, IsErrAnd}
+use Rattle.std.proofs.Common.{◌≡◌, ◌≢◌, ℕ, ◌∙◌, List, length, drop, Option, sym, ap, subst, inl, inr}
+use Rattle.std.specs.Prelude.{Result, Ok, Err, IfErr}
 use Rattle.std.proofs.lemmas.List.{drop_at}
-use Rattle.bc_image.specs.Faults.{IsFault, IsImageFaultOrMemory, TellsImageFault}
+use Rattle.bc_image.specs.Faults.{IsImageFaultOrMemory, TellsImageFault}
 use Rattle.bc_image.specs.Images.{ImageOf, image_bytes}
 use Rattle.bc_image.specs.Listings.{ListingLists}
-use Rattle.bc_image.specs.declared.fault.ImageCause.{ImageCause}
 use Rattle.bc_image.specs.declared.fault.ImageFault.{ImageFault}
 use Rattle.bc_image.specs.declared.fault.ReadImage.{ReadImage}
 use Rattle.bc_image.specs.declared.fault.ReadImage.TheVariants as scans
-use Rattle.bc_model.specs.Lists.{TraceLists}
 use Rattle.bc_trace.specs.Answers.{TellsFault}
-use Rattle.bc_trace.specs.Lines.{Spells}
-use Rattle.bc_trace.specs.declared.fault.Cause.{Cause}
 use Rattle.bc_trace.specs.declared.fault.ReadTrace.{ReadTrace}
 use Rattle.bc_trace.specs.declared.fault.ReadTrace.TheVariants as answers
-use Rattle.bc_cli.specs.Outcomes.{IfBadImage, IfBadTrace, IsOrNoMemory, ReadWhole, longest_resumed}
-use Rattle.bc_cli.specs.Parsing.{ArePartsApart, IsParsed, IsUnparsed}
+use Rattle.bc_cli.specs.Outcomes.{IfStatusBadImage, IfBadTrace, IsOrNoMemory, ReadWhole, longest_resumed}
+use Rattle.bc_cli.specs.Parsing.{ArePartsApart, IsUnparsed}
 use Rattle.bc_cli.specs.PartEndings.{IsUnresumedStatus}
-use Rattle.bc_cli.specs.Resumes.{FaultyAfterImage, ImageFaulty, ReadAsResumed, ReadsApart}
+use Rattle.bc_cli.specs.Resumes.{FaultyAfterImage, ImageFaulty, ReadsApart}
 use Rattle.bc_cli.specs.Statuses.{refusal_of, unscanned}
 use Rattle.bc_cli.specs.declared.status.Status.{Status}
 use Rattle.bc_cli.specs.declared.status.Status.TheVariants.{Done, BadWords, BadTrace, TooLong, ReadFault, WriteFault, OutOfHeap, NoMemory, BadImage, Mismatch}
@@ -55,7 +51,7 @@ unresumed bytes NoMemory h = tt
 unresumed bytes (BadImage at cause) h = tt
 unresumed bytes Mismatch h = tt
 
-pub names-image_fault : (old new : Option (List ℕ)) (bytes : List ℕ) → ReadWhole longest_resumed old new bytes → (s : Status) → IsUnparsed bytes s → IfBadImage s (ImageFaulty old new)
+pub names-image_fault : (old new : Option (List ℕ)) (bytes : List ℕ) → ReadWhole longest_resumed old new bytes → (s : Status) → IsUnparsed bytes s → IfStatusBadImage s (ImageFaulty old new)
 names-image_fault old new bytes whole Done h = tt
 names-image_fault old new bytes whole BadWords h = tt
 names-image_fault old new bytes whole (BadTrace line cause) h = tt

@@ -1,5 +1,6 @@
 -- A phase of a trace that was run on the engine, done or ended at a cut, and what was written of its texts.
 use Rattle.std.proofs.Common.{◌≡◌, ℕ, ◌+◌, ◌<◌, inl, inr, List, ◌++◌, length, Option, None, Some, refl, sym, ◌∙◌, subst, append-nil}
+use Rattle.std.specs.Prelude.{Result, Ok, Err, IfOk}
 use Rattle.bc_engine.specs.Engines.{EngineView}
 use Rattle.bc_engine.specs.EngineFacts.{HasRoomForBirths}
 use Rattle.bc_engine.specs.Lanes.{HasRoomForOps}
@@ -10,20 +11,14 @@ use Rattle.bc_model.specs.Lists.{PhaseLists}
 use Rattle.bc_model.specs.declared.operations.Reply.{Reply}
 use Rattle.bc_trace.specs.Replies.{phase_text, out_of_heap_text}
 use Rattle.bc_cli.specs.Endings.{WritesFront, EndsInFault, EndsOutOfHeap}
-use Rattle.bc_cli.specs.BetweenPhases.{HasPhaseRoom, HasRun, PhaseEnded}
+use Rattle.bc_cli.specs.BetweenPhases.{HasPhaseRoom, HasRun, PhaseEnded, Ran}
 use Rattle.bc_cli.specs.Courses.{Course, phase_at}
+use Rattle.bc_cli.specs.declared.phases.PhaseEnd.{PhaseEnd}
 use Rattle.bc_cli.specs.Output.{texts_before, text_at}
 use Rattle.bc_cli.specs.NeedLine.{need_line}
 use Rattle.bc_cli.proofs.Running.{HasRun-next, did-text, did-room, held-next, room-next, fails-in_phase, CutAt, cut-at, cut-room, ends-out_of_heap, fails-at_need}
 
 -- phase k of the course was run, and ended so
-pub record Ran (t : Course) (k : ℕ) (e f : EngineView) (replies : List (List Reply)) (need : Option ℕ) : Type 0 where
-  pub within : k < length t.phases
-  pub before : HasRun t k e
-  pub ended : PhaseEnded e (phase_at t k) f replies need
-  pub setup : f.setup ≡ e.setup
-  pub births : (n : ℕ) → HasRoomForOps e (phase_at t k).lanes n → HasRoomForBirths f n
-
 pub ran-read : (t : Course) (k : ℕ) (e f : EngineView) (p : PhaseLists) (replies : List (List Reply)) (need : Option ℕ) → k < length t.phases → phase_at t k ≡ p → HasRun t k e → PhaseEnded e p f replies need → f.setup ≡ e.setup
     → ((n : ℕ) → HasRoomForOps e p.lanes n → HasRoomForBirths f n) → Ran t k e f replies need
 ran-read t k e f p replies need lt at before ended same births = record {
@@ -33,6 +28,12 @@ ran-read t k e f p replies need lt at before ended same births = record {
   setup = same;
   births = λ n. subst (λ (q : PhaseLists). HasRoomForOps e q.lanes n → HasRoomForBirths f n) (sym at) (births n);
 }
+
+-- the same of what running it answers
+pub ran-all : {X : Type 0} (t : Course) (k : ℕ) (e f : EngineView) (p : PhaseLists) (r : Result PhaseEnd X) → k < length t.phases → phase_at t k ≡ p → HasRun t k e → IfOk r (λ end. PhaseEnded e p f end.replies end.need) → f.setup ≡ e.setup
+    → ((n : ℕ) → HasRoomForOps e p.lanes n → HasRoomForBirths f n) → IfOk r (λ end. Ran t k e f end.replies end.need)
+ran-all t k e f p (Ok end) lt at before ended same births = ran-read t k e f p end.replies end.need lt at before ended same births
+ran-all t k e f p (Err x) lt at before ended same births = tt
 
 -- and these are its texts
 pub record HasTexts (n : ℕ) (replies : List (List Reply)) (need : Option ℕ) (xs ys : List ℕ) : Type 0 where

@@ -1,16 +1,15 @@
 -- An engine that goes on with an image has run the phases that the image says are done.
-use Rattle.std.proofs.Common.{◌≡◌, ◌≢◌, ℕ, ◌+◌, ◌^◌, ◌<◌, ◌≤◌, ◌∙◌, List, [], ◌∷◌, ◌++◌, length, drop, take, get_or, Option, None, Some, sym, ap, subst, inl, inr, refl, arith, take-append-drop}
+use Rattle.std.proofs.Common.{◌≡◌, ◌≢◌, ℕ, ◌+◌, ◌^◌, ◌<◌, ◌≤◌, ◌∙◌, List, [], ◌∷◌, drop, take, get_or, Option, None, sym, ap, subst, inl, inr, refl, arith, take-append-drop}
 use Rattle.std.specs.Prelude.{sum_by}
 use Rattle.std.specs.List.{AllByRecursion}
 use Rattle.std.proofs.lemmas.List.Sums.{sum_by-append}
 use Prim.Native.Nat.{zero, suc}
 use Rattle.bc_engine.specs.Engines.{EngineView, EngineStands, HasEmptyChunks}
-use Rattle.bc_engine.specs.EngineFacts.{HasRoomForBirths}
 use Rattle.bc_image.specs.Images.{IsImageListing}
 use Rattle.bc_image.specs.Listings.{ListingLists}
 use Rattle.bc_image.specs.Pictures.{Pictures}
 use Rattle.bc_model.specs.Consistent.{IsState}
-use Rattle.bc_model.specs.Lists.{PhaseLists, TraceLists}
+use Rattle.bc_model.specs.Lists.{TraceLists}
 use Rattle.bc_model.specs.RunLengths.{all_ops_of, ops_of}
 use Rattle.bc_model.specs.State.{State}
 use Rattle.bc_cli.specs.BetweenPhases.{HasRun}
@@ -18,7 +17,7 @@ use Rattle.bc_cli.specs.Courses.{Course, course_from}
 use Rattle.bc_cli.specs.Endings.{CourseFits, EndsOutOfHeap}
 use Rattle.bc_cli.specs.Outcomes.{IfStatusOutOfHeap, IsOrNoMemory}
 use Rattle.bc_cli.specs.PartEndings.{IsEnding}
-use Rattle.bc_cli.specs.Resumes.{GoesWith, OfEachCourse, Reads, ResumedOutOfHeap}
+use Rattle.bc_cli.specs.Resumes.{GoesWith, OfEachCourse, ReadTogether, ResumedOutOfHeap}
 use Rattle.bc_cli.specs.declared.status.Status.{Status}
 use Rattle.bc_cli.specs.declared.status.Status.TheVariants.{Done, BadWords, BadTrace, TooLong, ReadFault, WriteFault, OutOfHeap, NoMemory, BadImage, Mismatch}
 use Rattle.bc_cli.proofs.Pieces.{state-none}
@@ -30,7 +29,7 @@ births-room (x ∷ xs) n h few zero = omega (arith, h.0)
 births-room (x ∷ xs) n h few (suc j) = births-room xs n h.1 few j
 
 -- the phases that are left have no more operations than all
-ops-after : (t : TraceLists) (k : ℕ) → sum_by ops_of (drop k t.phases) ≤ all_ops_of t
+pub ops-after : (t : TraceLists) (k : ℕ) → sum_by ops_of (drop k t.phases) ≤ all_ops_of t
 ops-after t k = omega (arith, sum_by-append ops_of (take k t.phases) (drop k t.phases), ap (sum_by ops_of) (take-append-drop k t.phases))
 
 pub HasRun-adopted : (t : TraceLists) (l : ListingLists) (s : State) (e : EngineView) → GoesWith l t → IsImageListing l → all_ops_of t ≤ 150994944
@@ -85,7 +84,7 @@ same-resumed l k t u s first second pictured fits = (
 )
 
 -- a need that was met in a replay of them
-pub need-resumed : (st : Status) (left left' held held' : Option (List ℕ)) (heap : Option EngineView) → (found : Reads left left')
+pub need-resumed : (st : Status) (left left' held held' : Option (List ℕ)) (heap : Option EngineView) → (found : ReadTogether left left')
     → IfStatusOutOfHeap st (λ need. OfEachCourse found.listing found.trace (λ c. EndsOutOfHeap c held held' heap need)) → IfStatusOutOfHeap st (ResumedOutOfHeap left left' held held' heap)
 need-resumed Done left left' held held' heap found h = tt
 need-resumed BadWords left left' held held' heap found h = tt

@@ -1,11 +1,10 @@
 -- A run writes at most four times as many bytes as its trace has.
-use Rattle.std.proofs.Common.{◌≡◌, ℕ, ◌+◌, ◌*◌, ◌^◌, ◌<◌, ◌≤◌, List, [], ◌∷◌, ◌++◌, length, arith, suc, sym, ap, subst, length-append, codes}
+use Rattle.std.proofs.Common.{◌≡◌, ℕ, ◌+◌, ◌*◌, ◌^◌, ◌<◌, ◌≤◌, List, [], ◌∷◌, ◌++◌, length, drop, length-drop, arith, zero, suc, sym, ap, subst, length-append, codes}
 use Rattle.std.specs.List.{AllByRecursion, flat_map}
 use Rattle.std.specs.Fmt.{decimal}
 use Rattle.std.proofs.lemmas.Fmt.{length-decimal-le}
 use Rattle.bc_model.specs.Lists.{PhaseLists, TraceLists}
 use Rattle.bc_model.specs.Run.{opening, after_ops, after_phase, replies_to, replies_to_lanes, replies_of_phases}
-use Rattle.bc_model.specs.RunLengths.{all_ops_of}
 use Rattle.bc_model.specs.State.{State}
 use Rattle.bc_model.specs.WellFormed.{IsOp, IsSetup, IsPhase, IsTrace}
 use Rattle.bc_model.specs.declared.operations.Op.{Op}
@@ -13,10 +12,11 @@ use Rattle.bc_model.specs.declared.operations.Reply.{Reply}
 use Rattle.bc_model.specs.declared.traces.Setup.{Setup}
 use Rattle.bc_trace.specs.Lines.{line_text, lane_lines, phase_lines, trace_text, Spells}
 use Rattle.bc_trace.specs.Replies.{reply_text, lane_text, lanes_text, phase_text, phases_text, done_text}
-use Rattle.bc_trace.proofs.Fitting.{AreShort, short-run}
-use Rattle.bc_cli.specs.Courses.{whole_course}
+use Rattle.bc_trace.proofs.Fitting.{AreShort, short-phases}
+use Rattle.bc_cli.specs.Courses.{course_from, whole_course}
 use Rattle.bc_cli.specs.Outcomes.{longest_trace}
 use Rattle.bc_cli.specs.Output.{texts_from, whole_text}
+use Rattle.bc_cli.proofs.CourseStates.{CanRun, can-open}
 use Rattle.bc_cli.proofs.Incoming.{length-ops_text, length-lane_text, length-lane_lines, phase_frame, length-phase_lines, trace_frame, length-trace_text}
 use Rattle.bc_cli.proofs.Replies.{length-replies_text}
 
@@ -85,22 +85,30 @@ phases_room setup k s (p ∷ ps) hs small ok short =
       length-phase_lines p ps,
     )
 
--- the whole output of a run is at most four times as long as the text of its trace
-pub length-whole_text : (t : TraceLists) → IsTrace t → length t.phases < 2 ^ 32 → all_ops_of t < 2 ^ 32 → length (whole_text (whole_course t)) ≤ 4 * length (trace_text t)
+-- the phases after the first ones take no more lines than all
+pub drop-lines : (k : ℕ) (ps : List PhaseLists) → length (flat_map line_text (flat_map phase_lines (drop k ps))) ≤ length (flat_map line_text (flat_map phase_lines ps))
+drop-lines zero ps = omega arith
+drop-lines (suc k) [] = omega arith
+drop-lines (suc k) (p ∷ ps) = omega (arith, drop-lines k ps, length-phase_lines p ps)
+
+-- the whole output of a course is at most four times as long as the text of its trace
+pub length-whole_text : (t : TraceLists) (s : State) (first : ℕ) → IsTrace t → first ≤ length t.phases → length t.phases < 2 ^ 32 → CanRun t.setup s (drop first t.phases)
+    → length (whole_text (course_from t s first)) ≤ 4 * length (trace_text t)
 unfolding texts_from done_text
-length-whole_text t h few small =
-    let s = opening t.setup in
-    let phases = phases_room t.setup 1 s t.phases h.setup (omega arith) h.phases (short-run t h small) in
+length-whole_text t s first h within few can =
+    let left = drop first t.phases in
+    let phases = phases_room t.setup (first + 1) s left h.setup (omega (arith, length-drop first t.phases)) can.fits (short-phases t.setup s left can.state can.fits can.births) in
     omega (
       arith,
       phases,
-      length-append (phases_text 1 (replies_of_phases s t.phases)) done_text,
+      drop-lines first t.phases,
+      length-append (phases_text (first + 1) (replies_of_phases s left)) done_text,
       trace_frame t,
     )
 
--- the same, by the bytes that were read
+-- of a whole run, by the bytes that were read
 pub output_short : (bytes : List ℕ) (t : TraceLists) → length bytes ≤ longest_trace → Spells bytes t → length (whole_text (whole_course t)) ≤ 4 * length bytes
 output_short bytes t short h =
     let size : length bytes ≡ length (trace_text t) = ap length h.text in
     let count = length-trace_text t h.trace in
-    omega (arith, size, length-whole_text t h.trace (omega arith) (omega arith))
+    omega (arith, size, length-whole_text t (opening t.setup) 0 h.trace (omega arith) (omega arith) (can-open t h.trace (omega arith)))

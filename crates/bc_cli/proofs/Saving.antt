@@ -1,8 +1,8 @@
 -- The first phases of a trace that were run, and the image of the heap after them.
-use Rattle.std.proofs.Common.{◌≡◌, ◌≢◌, ℕ, ◌+◌, ◌^◌, ◌<◌, ◌≤◌, ◌∙◌, List, [], ◌∷◌, length, drop, get_or, Option, None, Some, sym, ap, subst, inl, inr, refl, arith}
-use Rattle.std.specs.Prelude.{sum_by, Result, Ok, Err, OnOk, OnErr}
+use Rattle.std.proofs.Common.{◌≡◌, ◌≢◌, ℕ, ◌+◌, ◌^◌, ◌<◌, ◌≤◌, List, [], ◌∷◌, length, drop, get_or, Option, None, Some, sym, subst, inl, inr, refl, arith}
+use Rattle.std.specs.Prelude.{sum_by, Result, Ok, Err, OnOk, OnErr, is_some, false}
 use Rattle.std.specs.List.{AllByRecursion}
-use Prim.Native.Nat.{zero, suc}
+use Prim.Native.Nat.{suc}
 use Rattle.bc_engine.specs.Engines.{EngineView, EngineStands}
 use Rattle.bc_engine.proofs.Births.{births-opened}
 use Rattle.bc_engine.specs.EngineFacts.{HasRoomForBirths}
@@ -36,6 +36,15 @@ births-few (x ∷ xs) h = (omega (arith, h 0), births-few xs (λ j. h (suc j)))
 pub births-more : (c : Course) (k n : ℕ) (e : EngineView) (p : PhaseLists) → k < length c.phases → phase_at c k ≡ p → HasRoomForBirths e (sum_by ops_of (drop k c.phases) + n)
     → HasRoomForOps e p.lanes (sum_by ops_of (drop (k + 1) c.phases) + n)
 births-more c k n e p lt at h = λ j. omega (arith, h j, ops-left c k p lt at, ops-below p.lanes j)
+
+-- where none was found
+pub not-some : (found : Option ℕ) → is_some found ≡ false → found ≡ None
+not-some None e = refl
+not-some (Some need) e = cc
+
+-- what a need is that was found
+pub need-told : {X : Type 0} (found wanted : Option ℕ) (r : Result (Option ℕ) X) → r ≡ Ok found → r ≡ Ok wanted → found ≡ wanted
+need-told found wanted r is e = cc
 
 -- where all states of the first phases fit and no write fails the image is written
 pub complete-save : (st : Status) (t : TraceLists) (count : ℕ) (heap : Option EngineView) → IsSaveEnding st → (st ≡ Mismatch → length t.phases < count) → IfStatusOutOfHeap st (CutOffBelow (whole_course t) count heap)

@@ -17,8 +17,7 @@ use Rattle.bc_model.specs.declared.operations.Reply.{Reply}
 use Rattle.bc_model.proofs.RunStates.{length-cut_lanes}
 use Rattle.bc_trace.specs.TextRooms.{phase_bytes}
 use Rattle.bc_cli.specs.Courses.{Course, course_from, before, phase_at}
-use Rattle.bc_cli.specs.BetweenPhases.{HasRun}
-use Rattle.bc_cli.proofs.PhaseEnds.{Ran}
+use Rattle.bc_cli.specs.BetweenPhases.{HasRun, Ran}
 use Rattle.bc_cli.proofs.Running.{ops-left, phase-fits, phase-of, within-of}
 
 -- ---- how many replies there are

@@ -80,9 +80,9 @@ IfBadTrace (BadTrace line cause) P = P line cause
 IfBadTrace _ P = Unit {0}
 
 -- of a status 8 this is said of its place and its cause, and of no other status
-abbrev pub IfBadImage : Status → (ℕ → ImageCause → Type 0) → Type 0
-IfBadImage (BadImage at cause) P = P at cause
-IfBadImage _ P = Unit {0}
+abbrev pub IfStatusBadImage : Status → (ℕ → ImageCause → Type 0) → Type 0
+IfStatusBadImage (BadImage at cause) P = P at cause
+IfStatusBadImage _ P = Unit {0}
 
 -- of a status 6 this is said of its need, and of no other status
 abbrev pub IfStatusOutOfHeap : Status → (ℕ → Type 0) → Type 0

@@ -35,7 +35,7 @@ pub record GoesWith (l : ListingLists) (t : TraceLists) : Type 0 where
   pub phases : l.phases ≤ length t.phases
 
 -- an image and a trace were read that go together
-pub record Reads (left left' : Option (List ℕ)) : Type 0 where
+pub record ReadTogether (left left' : Option (List ℕ)) : Type 0 where
   pub listing : ListingLists
   pub trace : TraceLists
   pub read : ReadAsResumed left left' listing trace
@@ -49,24 +49,24 @@ OfEachCourse l t P = (s : State) → IsState s → Pictures l s → P (course_fr
 -- an image and a trace were read that go together, and the phases after those that were done are done: their texts are written, and the
 -- last line
 pub record Resumed (left left' held held' : Option (List ℕ)) (heap : Option EngineView) : Type 0 where
-  pub found : Reads left left'
+  pub found : ReadTogether left left'
   pub ending : OfEachCourse found.listing found.trace (λ course. EndsDone course held held' heap)
 
 -- an image and a trace were read that go together, and one of the phases after those that were done ended since the heap is too small, by
 -- this need
 pub record ResumedOutOfHeap (left left' held held' : Option (List ℕ)) (heap : Option EngineView) (need : ℕ) : Type 0 where
-  pub found : Reads left left'
+  pub found : ReadTogether left left'
   pub ending : OfEachCourse found.listing found.trace (λ course. EndsOutOfHeap course held held' heap need)
 
 -- an image and a trace were read that go together, and a prefix of what the replay of the other phases writes is written
 pub record ResumedInPart (left left' held held' : Option (List ℕ)) (heap : Option EngineView) : Type 0 where
-  pub found : Reads left left'
+  pub found : ReadTogether left left'
   pub ending : OfEachCourse found.listing found.trace (λ course. EndsInFault course held held' heap)
 
 -- an image and a trace were read that go together, and the whole texts are written of the phases from the first that wasn't done to one of
 -- the trace's phases
 pub record ResumedTo (left left' held held' : Option (List ℕ)) : Type 0 where
-  pub found : Reads left left'
+  pub found : ReadTogether left left'
   pub ending : OfEachCourse found.listing found.trace (λ course. StopsBefore course held held')
 
 -- The source was read to its end, its bytes begin with no image, and this is their first fault.

@@ -178,7 +178,7 @@ where
     ensures no_memory { IsErr result → engine.new.ended ≡ Some Ended.NoMemory }
     ensures workers { engine.new.workers ≡ engine.old.workers }
 {
-    let end = run_phase(rt, alloc, engine, &trace.phases[index], gate)?;
+    let end = run_phase(rt, alloc, engine, trace, 0, index, gate)?;
     match end.need {
         Some(_) => unreachable!(),
         None => counts.add(&end.replies),

@@ -1,18 +1,26 @@
 //! What the definitions say together. The functions do nothing: their contracts are the laws.
 
-ghost use Rattle.std.specs.Prelude.{◌≡◌, ℕ, ◌+◌, ◌*◌, ◌^◌, ◌<◌, ◌≤◌, ◌++◌, List, Some, None, length};
+ghost use Rattle.std.specs.Prelude.{◌≡◌, ℕ, ◌+◌, ◌*◌, ◌^◌, ◌<◌, ◌≤◌, ◌++◌, List, Option, Some, length};
+ghost use Rattle.bc_engine.specs.Engines.{EngineView};
+ghost use Rattle.bc_image.specs.Images.{image_bytes};
+ghost use Rattle.bc_image.specs.ImageSizes.{most_image_bytes};
+ghost use Rattle.bc_image.specs.Listings.{ListingLists};
+ghost use Rattle.bc_io.specs.Told.{HeldGrows};
 ghost use Rattle.bc_model.specs.Lists.{TraceLists};
 ghost use Rattle.bc_model.specs.Run as runs;
 ghost use Rattle.bc_trace.specs.Lines.{Spells};
 ghost use Rattle.bc_trace.specs.Replies.{out_of_heap_text};
 ghost use Rattle.bc_cli.specs.Courses.{phase_at, before, after_cut, course_from, replies_of_cut, final_state, whole_course};
 ghost use Rattle.bc_cli.specs.Endings.{NeedsMore};
-ghost use Rattle.bc_cli.specs.Outcomes.{HasRoomFor, longest_trace};
+ghost use Rattle.bc_cli.specs.Outcomes.{HasRoomFor, longest_resumed, longest_trace};
 ghost use Rattle.bc_cli.specs.Output.{whole_text, cut_text, summary, texts_before};
+ghost use Rattle.bc_cli.specs.Resumes.{HasRoomToResume, Resumed};
+ghost use Rattle.bc_cli.specs.Saves.{HasRoomToSave, IsSaved};
 
 /// A run that is done writes at most four times as many bytes as its trace has, and one whose heap is too small
-/// at most 40 more. So a sink with room for as many meets the condition of `top`; where nothing is known of its
-/// bytes, one with that room for the longest trace does. What `churn` writes is at most 200 bytes long.
+/// at most 40 more. So a sink with room for as many meets the condition of `top`; whatever the source has, one with that room for the
+/// longest trace does. The same holds of `resume` and the bytes of its image and trace. What `churn` writes is at most 200 bytes long, and
+/// what `save` writes no longer than the largest image.
 pub fn law_output()
     ensures short { (bytes : List ℕ) (t : TraceLists) → length bytes ≤ longest_trace → Spells bytes t →
         length (whole_text (whole_course t)) ≤ 4 * length bytes }
@@ -21,8 +29,11 @@ pub fn law_output()
         length (cut_text (whole_course t) k cut ++ out_of_heap_text need) ≤ 4 * length bytes + 40 }
     ensures room { (bytes : List ℕ) (room : ℕ) → 4 * length bytes + 40 ≤ room →
         HasRoomFor (Some bytes) (Some room) }
-    ensures untold { (room : ℕ) → 4 * longest_trace + 40 ≤ room → HasRoomFor None (Some room) }
+    ensures ample { (left : Option (List ℕ)) (room : ℕ) → 4 * longest_trace + 40 ≤ room → HasRoomFor left (Some room) }
     ensures churn { (start ops : ℕ) → start < 2 ^ 63 → ops ≤ 100000 → length (summary start ops) ≤ 200 }
+    ensures save { (left : Option (List ℕ)) (room count : ℕ) → most_image_bytes ≤ room → HasRoomToSave left (Some room) count }
+    ensures resume { (bytes : List ℕ) (room : ℕ) → 4 * length bytes + 40 ≤ room → HasRoomToResume (Some bytes) (Some room) }
+    ensures resume_ample { (left : Option (List ℕ)) (room : ℕ) → 4 * longest_resumed + 40 ≤ room → HasRoomToResume left (Some room) }
 {}
 
 /// The course of all phases of a trace is the run of the trace: its phases, the states before and inside of them and at the end, and the
@@ -35,9 +46,12 @@ pub fn law_whole_course()
     ensures state_at_end { (t : TraceLists) → final_state (whole_course t) ≡ runs.final_state t }
 {}
 
-/// What `run` writes of a trace are the texts of its first phases, so many, and then what `resume` writes from the state after these. So
-/// where `resume` goes on with what `save` wrote after these phases, it writes what `run` does but for their texts.
+/// What `run` writes of a trace are the texts of its first phases, so many, and then what is written of the other phases from the state
+/// after these. That is what `resume` writes where it is done, of the image that `save` wrote after these phases, and the trace.
 pub fn law_resumed()
-    ensures { (t : TraceLists) (k : ℕ) → k ≤ length t.phases →
+    ensures parts { (t : TraceLists) (k : ℕ) → k ≤ length t.phases →
         whole_text (whole_course t) ≡ texts_before (whole_course t) k ++ whole_text (course_from t (before (whole_course t) k) k) }
+    ensures goes_on { (t : TraceLists) (k : ℕ) (l : ListingLists) (text : List ℕ) (left held held' : Option (List ℕ)) (heap : Option EngineView) →
+        IsSaved t k l → Spells text t → Resumed (Some (image_bytes l ++ text)) left held held' heap →
+        HeldGrows held held' (whole_text (course_from t (before (whole_course t) k) k)) }
 {}

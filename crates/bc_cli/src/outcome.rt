@@ -11,7 +11,8 @@ use bc_engine::Engine;
 #[derive(Drop)]
 pub struct Outcome {
     pub status: Status,
-    /// The heap as it stands at the end, where a trace was read or drawn, and memory didn't run out.
+    /// The heap as it stands at the end, where a trace was read or drawn and memory didn't run out. `save` hands it back only where it was
+    /// too small: else it became the image.
     pub heap: Option<Engine>,
 }
 
@@ -30,7 +31,7 @@ impl Outcome {
         }
     }
 
-    /// The outcome of a run that hands no heap back: it ended before there was one, or memory ran out in it.
+    /// The outcome of a run that hands no heap back: it ended before there was one, memory ran out in it, or it became an image.
     pub fn without_heap(status: Status) -> Self
         ensures status { result.status ≡ status }
         ensures heap { result.heap ≡ None }

@@ -12,7 +12,7 @@ ghost use Rattle.bc_model.specs.State.{State};
 ghost use Rattle.bc_cli.specs.Courses.{course_from};
 ghost use Rattle.bc_cli.specs.Output.{texts_before, all_texts};
 ghost use Rattle.bc_cli.specs.Endings.{EndsOutOfHeap, EndsInFault, HasRunRoom};
-ghost use Rattle.bc_cli.specs.BetweenPhases.{HasRun, HasPhaseRoom, PhaseEnded, RunsOut};
+ghost use Rattle.bc_cli.specs.BetweenPhases.{HasRun, HasPhaseRoom, PhaseEnded, Ran, RunsOut};
 
 use crate::status::Ending;
 use crate::texts::{put_texts, texts_room, write_texts};
@@ -30,7 +30,7 @@ pub(crate) struct PhaseEnd {
     pub(crate) need: Option<u64>,
 }
 
-/// Runs the phases behind the first ones, and writes the text of each as soon as it has run. What it ensures holds of each state
+/// Runs the phases after the first ones, and writes the text of each as soon as it has run. What it ensures holds of each state
 /// that the engine may have stood for before them.
 pub(crate) fn write_phases<R, K, G>(
     rt: &R,
@@ -121,9 +121,8 @@ where
     ensures firm { ¬ IsErrOf result Ending.WriteFault → K.faults sink.new ≡ K.faults sink.old }
     ensures workers { engine.new.workers ≡ engine.old.workers }
 {
-    let phase = &trace.phases[index + first];
-    let mut texts = texts_room(alloc, phase)?;
-    let end = run_phase(rt, alloc, engine, phase, gate)?;
+    let mut texts = texts_room(alloc, &trace.phases[index + first])?;
+    let end = run_phase(rt, alloc, engine, trace, first, index, gate)?;
     put_texts(
         &mut texts,
         (index + first) as u32 + 1,
@@ -137,8 +136,34 @@ where
     }
 }
 
-/// Runs a phase. Where it answers no end the engine has run out of memory itself.
+/// Runs the phase of this index, counted from the first one. What it ensures holds of each state that the engine may have stood for
+/// before the first one. Where it answers no end the engine has run out of memory itself.
 pub(crate) fn run_phase<R, G>(
+    rt: &R,
+    alloc: Global,
+    engine: &mut Engine,
+    trace: &Trace,
+    first: usize,
+    index: usize,
+    gate: &G,
+) -> Result<PhaseEnd, AllocError>
+where
+    R: Threads + Sync,
+    G: Gate + Sync,
+    requires trace { IsTrace trace.now }
+    requires index { index + first < length trace.now.phases }
+    requires opened { (s : State) × HasRun (course_from trace.now s first) index engine.old }
+    ensures ran { (s : State) → HasRun (course_from trace.now s first) index engine.old →
+        IfOk result (λ end. Ran (course_from trace.now s first) index engine.old engine.new end.replies end.need) }
+    ensures workers { engine.new.workers ≡ engine.old.workers }
+    ensures no_memory { IsErr result → engine.new.ended ≡ Some Ended.NoMemory }
+{
+    let phase = &trace.phases[index + first];
+    play_phase(rt, alloc, engine, phase, gate)
+}
+
+/// Runs a phase. Where it answers no end the engine has run out of memory itself.
+fn play_phase<R, G>(
     rt: &R,
     alloc: Global,
     engine: &mut Engine,

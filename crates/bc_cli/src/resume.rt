@@ -19,7 +19,7 @@ ghost use Rattle.bc_trace.specs.declared.fault.TraceFault.{TraceFault};
 ghost use Rattle.bc_cli.specs.Accounts.{KeepsAccount};
 ghost use Rattle.bc_cli.specs.Courses.{course_from};
 ghost use Rattle.bc_cli.specs.Endings.{CourseFits, EndsDone, EndsInFault, EndsOutOfHeap, HasRunRoom, StopsBefore};
-ghost use Rattle.bc_cli.specs.Outcomes.{IfBadImage, IfBadTrace, IfHeapless, IfStatusOutOfHeap, IsOrNoMemory, longest_resumed};
+ghost use Rattle.bc_cli.specs.Outcomes.{IfStatusBadImage, IfBadTrace, IfHeapless, IfStatusOutOfHeap, IsOrNoMemory, longest_resumed};
 ghost use Rattle.bc_cli.specs.Parsing.{IsParsed, IsUnparsed};
 ghost use Rattle.bc_cli.specs.PartEndings.{IsEnding, IsResumeStatus, IsUnresumedStatus};
 ghost use Rattle.bc_cli.specs.Resumes.{FaultyAfterImage, GoesWith, HasRoomToResume, ImageFaulty, OfEachCourse, ReadAsResumed, ReadsApart, Resumed, ResumedInPart, ResumedOutOfHeap, ResumedTo};
@@ -75,7 +75,7 @@ where
         ⊎ ResumedTo (S.left source.old) (S.left source.new) (K.held sink.old) (K.held sink.new) }
     ensures mismatch { result.status ≡ Status.Mismatch →
         ReadsApart (S.left source.old) (S.left source.new) × (sink.new ≡ sink.old) }
-    ensures bad_image { IfBadImage result.status (λ at cause.
+    ensures bad_image { IfStatusBadImage result.status (λ at cause.
         ImageFaulty (S.left source.old) (S.left source.new) at cause × (sink.new ≡ sink.old)) }
     ensures bad_trace { IfBadTrace result.status (λ line cause.
         FaultyAfterImage (S.left source.old) (S.left source.new) line cause × (sink.new ≡ sink.old)) }
@@ -113,7 +113,7 @@ where
     match read_resumable(alloc, source) {
         Ok(found) => {
             let Resumable { listing, trace } = found;
-            resume_trace(rt, alloc, &listing, &trace, workers, sink, gate)
+            resume_trace(rt, alloc, listing, &trace, workers, sink, gate)
         }
         Err(status) => Outcome::without_heap(status),
     }
@@ -128,7 +128,7 @@ fn read_resumable<S: Source>(alloc: Global, source: &mut S) -> Result<Resumable,
 
     // No refusal comes without its cause.
     ensures refusal { IfErr result IsUnresumedStatus }
-    ensures bad_image { IfErr result (λ status. IfBadImage status (ImageFaulty (S.left source.old) (S.left source.new))) }
+    ensures bad_image { IfErr result (λ status. IfStatusBadImage status (ImageFaulty (S.left source.old) (S.left source.new))) }
     ensures bad_trace { IfErr result (λ status. IfBadTrace status (FaultyAfterImage (S.left source.old) (S.left source.new))) }
     ensures mismatch { result ≡ Err Status.Mismatch → ReadsApart (S.left source.old) (S.left source.new) }
     ensures too_long { result ≡ Err Status.TooLong → GivesExactly (S.left source.old) (S.left source.new) (longest_resumed + 1) }
@@ -202,11 +202,12 @@ fn phases_done(listing: &Listing) -> u32
     listing.phases
 }
 
-/// Replays the phases of a trace that the image says aren't done, on the heap that the image lists.
+/// Replays the phases of a trace that the image says aren't done, on the heap that the image lists. The list of
+/// the image's objects is let go before.
 fn resume_trace<R, K, G>(
     rt: &R,
     alloc: Global,
-    listing: &Listing,
+    listing: Listing,
     trace: &Trace,
     workers: u32,
     sink: &mut K,
@@ -216,31 +217,32 @@ where
     R: Threads + Sync,
     K: Sink,
     G: Gate + Sync,
-    requires image { IsImageListing listing.now }
+    requires image { IsImageListing listing }
     requires trace { IsTrace trace.now }
-    requires goes { GoesWith listing.now trace.now }
+    requires goes { GoesWith listing trace.now }
     requires few { all_ops_of trace.now + length trace.now.phases ≤ longest_resumed }
     requires workers { (1 ≤ workers) × (workers ≤ 16) }
-    requires room { OfEachCourse listing.now trace.now (λ course. HasRunRoom (K.room sink.old) course) }
+    requires room { OfEachCourse listing trace.now (λ course. HasRunRoom (K.room sink.old) course) }
     ensures ending { IsEnding result.status }
     ensures done { result.status ≡ Status.Done →
-        OfEachCourse listing.now trace.now (λ course. EndsDone course (K.held sink.old) (K.held sink.new) result.heap) }
+        OfEachCourse listing trace.now (λ course. EndsDone course (K.held sink.old) (K.held sink.new) result.heap) }
     ensures write_fault { result.status ≡ Status.WriteFault → Rose (K.faults sink.old) (K.faults sink.new)
-        × OfEachCourse listing.now trace.now (λ course. EndsInFault course (K.held sink.old) (K.held sink.new) result.heap) }
+        × OfEachCourse listing trace.now (λ course. EndsInFault course (K.held sink.old) (K.held sink.new) result.heap) }
     ensures out_of_heap { IfStatusOutOfHeap result.status (λ need.
-        OfEachCourse listing.now trace.now (λ course. EndsOutOfHeap course (K.held sink.old) (K.held sink.new) result.heap need)) }
+        OfEachCourse listing trace.now (λ course. EndsOutOfHeap course (K.held sink.old) (K.held sink.new) result.heap need)) }
     ensures no_memory { result.status ≡ Status.NoMemory → (sink.new ≡ sink.old)
-        ⊎ OfEachCourse listing.now trace.now (λ course. StopsBefore course (K.held sink.old) (K.held sink.new)) }
+        ⊎ OfEachCourse listing trace.now (λ course. StopsBefore course (K.held sink.old) (K.held sink.new)) }
     ensures firm { result.status ≢ Status.WriteFault → K.faults sink.new ≡ K.faults sink.old }
     ensures none { IfHeapless result.status (result.heap ≡ None) }
     ensures workers { IfSome result.heap (λ engine. engine.workers ≡ workers) }
     ensures account { IfSome result.heap KeepsAccount }
 {
     law_pictured();
-    first_version_lanes(listing);
-    let Ok(engine) = adopt_listing(alloc, listing, workers) else {
+    first_version_lanes(&listing);
+    let Ok(engine) = adopt_listing(alloc, &listing, workers) else {
         return Outcome::without_heap(Status::NoMemory);
     };
-    let first = phases_done(listing) as usize;
+    let first = phases_done(&listing) as usize;
+    drop(listing);
     replay_on(rt, alloc, engine, trace, first, sink, gate)
 }

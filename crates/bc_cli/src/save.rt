@@ -1,6 +1,6 @@
 //! `save`: the first phases of a trace are replayed, and the image of the heap after them is written in place of their texts.
 
-ghost use Rattle.std.specs.Prelude.{◌≡◌, ◌≢◌, ◌⊎◌, ℕ, ◌+◌, ◌^◌, ◌<◌, ◌≤◌, List, Some, None, length, drop, map, sum_by, IfSome, OnErr, OnOk, IsErrOf};
+ghost use Rattle.std.specs.Prelude.{◌≡◌, ◌≢◌, ◌⊎◌, ℕ, ◌+◌, ◌^◌, ◌<◌, ◌≤◌, List, Some, None, Ok, length, drop, map, sum_by, IfSome, IsErr, OnErr, OnOk};
 ghost use Rattle.std.specs.List.{AllByRecursion};
 ghost use Rattle.bc_engine.specs.EngineFacts.{HasRoomForBirths};
 ghost use Rattle.bc_engine.specs.Parts.{CanAdopt, PartsStand};
@@ -28,15 +28,15 @@ ghost use Rattle.bc_cli.specs.Saves.{CutOff, CutOffBelow, HasFewerPhases, HasRoo
 use crate::input::read_trace;
 use crate::outcome::Outcome;
 use crate::phases::run_phase;
-use crate::status::{Ending, Status};
+use crate::status::Status;
 use bc_engine::{Engine, Parts};
 use bc_gates::Gate;
 use bc_image::Holder;
 use bc_io::{Sink, Source, WriteFault};
 use bc_model::{Setup, Trace};
 use bc_picture::write;
-use bc_saving::{holders_of_lanes, law_writable};
-use std::alloc::Global;
+use bc_saving::{law_writable, put_holders};
+use std::alloc::{AllocError, Global};
 use std::thread::Threads;
 
 /// The version of an image that goes with a trace.
@@ -145,20 +145,20 @@ where
     let Ok(mut engine) = Engine::open(alloc, &trace.setup, workers) else {
         return Outcome::without_heap(Status::NoMemory);
     };
+    let Ok(mut holders) = Vec::with_capacity(alloc, trace.setup.domains as usize) else {
+        return Outcome::without_heap(Status::NoMemory);
+    };
     match run_first(rt, alloc, &mut engine, trace, count as usize, gate) {
-        Ok(()) => {
+        Ok(None) => {
             let parts = engine.split();
-            let Ok(holders) = holders_of_lanes(alloc, &parts.holders) else {
-                return Outcome::without_heap(Status::NoMemory);
-            };
+            put_holders(&mut holders, &parts.holders);
             match put_image(sink, &trace.setup, count as u32, &holders, parts) {
                 Ok(()) => Outcome::without_heap(Status::Done),
                 Err(_) => Outcome::without_heap(Status::WriteFault),
             }
         }
-        Err(Ending::WriteFault) => unreachable!(),
-        Err(Ending::OutOfHeap { need }) => Outcome::with_heap(Status::OutOfHeap { need }, engine),
-        Err(Ending::NoMemory) => Outcome::without_heap(Status::NoMemory),
+        Ok(Some(need)) => Outcome::with_heap(Status::OutOfHeap { need }, engine),
+        Err(_) => Outcome::without_heap(Status::NoMemory),
     }
 }
 
@@ -194,7 +194,8 @@ fn put_image<K: Sink>(
     )
 }
 
-/// Runs so many of the first phases of a trace.
+/// Runs so many of the first phases of a trace. Where the heap is too small for one of them it answers the need. Room for all that
+/// comes after them was taken before, so where it refuses, the engine has run out of memory itself.
 pub(crate) fn run_first<R, G>(
     rt: &R,
     alloc: Global,
@@ -202,29 +203,30 @@ pub(crate) fn run_first<R, G>(
     trace: &Trace,
     count: usize,
     gate: &G,
-) -> Result<(), Ending>
+) -> Result<Option<u64>, AllocError>
 where
     R: Threads + Sync,
     G: Gate + Sync,
     requires trace { IsTrace trace.now }
     requires count { count ≤ length trace.now.phases }
     requires opened { HasRun (whole_course trace.now) 0 engine.old }
-    ensures run { OnOk result (HasRun (whole_course trace.now) count engine.new) }
-    ensures out_of_heap { (need : ℕ) → IsErrOf result (Ending.OutOfHeap need) →
-        CutOffBelow (whole_course trace.now) count (Some engine.new) need }
-    ensures no_memory { IsErrOf result Ending.NoMemory → engine.new.ended ≡ Some Ended.NoMemory }
-    ensures no_fault { ¬ IsErrOf result Ending.WriteFault }
+    ensures run { result ≡ Ok None → HasRun (whole_course trace.now) count engine.new }
+    ensures out_of_heap { (need : ℕ) → result ≡ Ok (Some need) → CutOffBelow (whole_course trace.now) count (Some engine.new) need }
+    ensures no_memory { IsErr result → engine.new.ended ≡ Some Ended.NoMemory }
     ensures births { (n : ℕ) → HasRoomForBirths engine.old (sum_by ops_of trace.now.phases + n) →
-        OnOk result (HasRoomForBirths engine.new (sum_by ops_of (drop count trace.now.phases) + n)) }
+        result ≡ Ok None → HasRoomForBirths engine.new (sum_by ops_of (drop count trace.now.phases) + n) }
     ensures workers { engine.new.workers ≡ engine.old.workers }
 {
     for index in 0..count {
-        run_one(rt, alloc, engine, trace, index, gate)?;
+        let need = run_one(rt, alloc, engine, trace, index, gate)?;
+        if need.is_some() {
+            return Ok(need);
+        }
     }
-    Ok(())
+    Ok(None)
 }
 
-/// Runs the phase of this index.
+/// Runs the phase of this index. Where the heap is too small for it, it answers the need.
 fn run_one<R, G>(
     rt: &R,
     alloc: Global,
@@ -232,25 +234,20 @@ fn run_one<R, G>(
     trace: &Trace,
     index: usize,
     gate: &G,
-) -> Result<(), Ending>
+) -> Result<Option<u64>, AllocError>
 where
     R: Threads + Sync,
     G: Gate + Sync,
     requires trace { IsTrace trace.now }
     requires index { index < length trace.now.phases }
     requires opened { HasRun (whole_course trace.now) index engine.old }
-    ensures run { OnOk result (HasRun (whole_course trace.now) (index + 1) engine.new) }
-    ensures out_of_heap { (need : ℕ) → IsErrOf result (Ending.OutOfHeap need) →
-        CutOff (whole_course trace.now) index (Some engine.new) need }
-    ensures no_memory { IsErrOf result Ending.NoMemory → engine.new.ended ≡ Some Ended.NoMemory }
-    ensures no_fault { ¬ IsErrOf result Ending.WriteFault }
+    ensures run { result ≡ Ok None → HasRun (whole_course trace.now) (index + 1) engine.new }
+    ensures out_of_heap { (need : ℕ) → result ≡ Ok (Some need) → CutOff (whole_course trace.now) index (Some engine.new) need }
+    ensures no_memory { IsErr result → engine.new.ended ≡ Some Ended.NoMemory }
     ensures births { (n : ℕ) → HasRoomForBirths engine.old (sum_by ops_of (drop index trace.now.phases) + n) →
-        OnOk result (HasRoomForBirths engine.new (sum_by ops_of (drop (index + 1) trace.now.phases) + n)) }
+        result ≡ Ok None → HasRoomForBirths engine.new (sum_by ops_of (drop (index + 1) trace.now.phases) + n) }
     ensures workers { engine.new.workers ≡ engine.old.workers }
 {
-    let end = run_phase(rt, alloc, engine, &trace.phases[index], gate)?;
-    match end.need {
-        Some(need) => Err(Ending::OutOfHeap { need }),
-        None => Ok(()),
-    }
+    let end = run_phase(rt, alloc, engine, trace, 0, index, gate)?;
+    Ok(end.need)
 }

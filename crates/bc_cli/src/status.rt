@@ -13,7 +13,7 @@ use thiserror::Error;
 /// How a run ended.
 #[derive(Clone, Copy, Debug, PartialEq, Eq)]
 pub enum Status {
-    /// All replies and the last line are written.
+    /// All replies and the last line are written, by `save` the image.
     Done,
     /// The words are no command. Nothing was read or written.
     BadWords,
@@ -26,9 +26,9 @@ pub enum Status {
     /// The sink failed. A prefix of what the run writes is written.
     WriteFault,
     /// The heap is too small: what is reached needs so many superpages. The replies before that are written, and the line of
-    /// the need.
+    /// the need; by `save` nothing.
     OutOfHeap { need: u64 },
-    /// Memory ran out. The whole texts of the phases before some phase are written, or nothing.
+    /// Memory ran out. The whole texts of the phases before some phase are written, or nothing; by `churn` and `save` nothing.
     NoMemory,
     /// The input begins with no image: where its first item begins that fails a test, and which. Nothing was written.
     BadImage { at: u64, cause: ImageCause },

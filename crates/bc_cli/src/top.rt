@@ -21,7 +21,7 @@ ghost use Rattle.bc_cli.specs.Accounts.{KeepsAccount};
 ghost use Rattle.bc_cli.specs.Churns.{ChurnsDone, ChurnsInFault};
 ghost use Rattle.bc_cli.specs.Courses.{course_from, whole_course};
 ghost use Rattle.bc_cli.specs.Endings.{CourseFits, FirstFit, FitsThroughout};
-ghost use Rattle.bc_cli.specs.Outcomes.{Replayed, RanOutOfHeap, ReplayedInPart, ReplayedTo, IfBadImage, IfBadTrace, IfStatusOutOfHeap, IfHeapless, IsChurnEnding, IsOrNoMemory, HasRoomFor, longest_of, longest_resumed, longest_trace, workers_of};
+ghost use Rattle.bc_cli.specs.Outcomes.{Replayed, RanOutOfHeap, ReplayedInPart, ReplayedTo, IfStatusBadImage, IfBadTrace, IfStatusOutOfHeap, IfHeapless, IsChurnEnding, IsOrNoMemory, HasRoomFor, longest_of, longest_resumed, longest_trace, workers_of};
 ghost use Rattle.bc_cli.specs.Output.{summary};
 ghost use Rattle.bc_cli.specs.Resumes.{FaultyInput, GoesWith, HasRoomToResume, ImageFaulty, ReadsApart, Resumed, ResumedInPart, ResumedOutOfHeap, ResumedTo};
 ghost use Rattle.bc_cli.specs.Saves.{HasFewerPhases, HasRoomToSave, Saved, SavedInPart, SaveRanOutOfHeap};
@@ -69,11 +69,13 @@ where
     requires churn { (start ops workers : ℕ) → IsCommandOf (map (λ w. w.now) words.now) (Churn start ops workers) →
         HasRoom (K.room sink.old) (length (summary start ops)) }
 
-    // `save` over a sink whose room is known: it has room for each image that may be written.
+    // `save` over a sink whose room is known: it has room for each image that may be written. 134,217,728 bytes are enough
+    // (`law_output`).
     requires save { (phases workers : ℕ) → IsCommandOf (map (λ w. w.now) words.now) (Save phases workers) →
         HasRoomToSave (S.left source.old) (K.room sink.old) phases }
 
-    // `resume` over a sink whose room is known: it has room for all that the command may write.
+    // `resume` over a sink whose room is known: it has room for all that the command may write. Four times the bytes that are
+    // read and 40 are enough, or of the most bytes where nothing is known of the source (`law_output`).
     requires resume { (workers : ℕ) → IsCommandOf (map (λ w. w.now) words.now) (Resume workers) →
         HasRoomToResume (S.left source.old) (K.room sink.old) }
 
@@ -245,7 +247,7 @@ where
 
     // Status 8 with a place and a cause comes of `resume` alone: the whole input was read, it begins with no image, this is its first
     // fault, and nothing was written.
-    ensures bad_image { IfBadImage result.status (λ at cause.
+    ensures bad_image { IfStatusBadImage result.status (λ at cause.
         ((workers : ℕ) × IsCommandOf (map (λ w. w.now) words.now) (Resume workers))
         × ImageFaulty (S.left source.old) (S.left source.new) at cause × (sink.new ≡ sink.old)) }
 

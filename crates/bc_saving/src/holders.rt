@@ -1,21 +1,21 @@
 //! Who holds each domain: for an engine a lane, for an image a lane or nobody.
 
-ghost use Rattle.std.specs.Prelude.{◌≡◌, ℕ, List, map, IfOk};
+ghost use Rattle.std.specs.Prelude.{◌≡◌, ℕ, ◌≤◌, List, [], map, length, vec_capacity, IfOk};
 ghost use Rattle.bc_image.specs.Images.{IsImageListing};
 ghost use Rattle.bc_image.specs.declared.listing.Holder.TheVariants.{Lane};
 
 use bc_image::{Holder, Listing};
 use std::alloc::{AllocError, Global};
 
-/// The lanes that hold domains, as an image says it. The error is out of memory.
-pub fn holders_of_lanes(alloc: Global, lanes: &[u32]) -> Result<Vec<Holder>, AllocError>
-    ensures { IfOk result (λ holders. holders.items ≡ map Lane lanes.now) }
+/// Puts the lanes that hold domains, as an image says it, into an empty list with room for them. It takes no memory.
+pub fn put_holders(holders: &mut Vec<Holder>, lanes: &[u32])
+    requires empty { holders.old.items ≡ [] }
+    requires room { length lanes.now ≤ vec_capacity holders.old }
+    ensures { holders.new.items ≡ map Lane lanes.now }
 {
-    let mut holders = Vec::with_capacity(alloc, lanes.len())?;
     for lane in lanes {
-        holders.push(Holder::Lane(*lane))?;
+        holders.push_reserved(Holder::Lane(*lane));
     }
-    Ok(holders)
 }
 
 /// The lanes that hold domains, where an image says that lanes hold them all. The error is out of memory.

@@ -13,6 +13,6 @@ mod holders;
 mod resuming;
 mod saving;
 
-pub use holders::{first_version_lanes, holders_of_lanes, lanes_of_holders};
+pub use holders::{first_version_lanes, lanes_of_holders, put_holders};
 pub use resuming::{adopt_listing, law_built};
 pub use saving::law_writable;

@@ -3,12 +3,14 @@
 mod devices;
 mod engines;
 mod gates;
+mod gates_images;
 mod gates_marker;
 mod gates_pager;
 mod gates_reload;
 mod gates_shapes;
 mod heaps;
 mod hostile;
+mod rooms;
 mod rows;
 mod saving;
 mod saving_devices;
@@ -17,13 +19,25 @@ mod sink;
 mod words;
 
 use bc_cli::top::top;
-use bc_cli::{OpenGate, Status};
-use bc_io::MemSource;
+use bc_cli::{Gate, OpenGate, Outcome, Status};
+use bc_io::{MemSource, Source};
 use bc_trace::Cause;
 use sink::Paper;
 use std::alloc::{AllocError, Global};
 use std::process::Abort;
 use std::thread::Threads;
+
+/// What the words do over these devices, past a gate, without what `top` promises of it: so no test carries that along.
+pub fn run_between<R: Threads + Sync, S: Source, G: Gate + Sync>(
+    rt: &R,
+    alloc: Global,
+    words: &[&str],
+    source: &mut S,
+    sink: &mut Paper,
+    gate: &G,
+) -> Outcome {
+    top(rt, alloc, words, source, sink, gate)
+}
 
 /// What a run ended with, whether it handed back a heap, and what it wrote.
 #[derive(Drop)]
@@ -37,7 +51,7 @@ pub struct Ran {
 pub fn run_over<R: Threads + Sync>(rt: &R, alloc: Global, words: &[&str], input: Vec<u8>) -> Ran {
     let mut source = MemSource::new(input, 4096, Vec::new(alloc));
     let mut sink = Paper::new(alloc);
-    let outcome = top(rt, alloc, words, &mut source, &mut sink, &OpenGate);
+    let outcome = run_between(rt, alloc, words, &mut source, &mut sink, &OpenGate);
     Ran {
         status: outcome.status,
         has_heap: outcome.heap.is_some(),

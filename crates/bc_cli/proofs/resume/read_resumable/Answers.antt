@@ -1,13 +1,6 @@
-use Rattle.std.proofs.Common.{◌≡◌, List, ℕ, sym, ap, ◌∙◌, subst, Err, inl, inr, rules}
+use Rattle.std.proofs.Common.{ap, Err, inr}
 use Rattle.std.proofs.lemmas.Result.{err_from_is_err_and}
-use Rattle.bc_image.specs.Faults.{IsFault}
-use Rattle.bc_image.specs.Images.{ImageOf}
-use Rattle.bc_cli.specs.Outcomes.{IfBadImage, IfBadTrace, ReadWhole, longest_resumed}
-use Rattle.bc_cli.specs.Parsing.{IsUnparsed}
-use Rattle.bc_cli.specs.PartEndings.{IsUnresumedStatus}
-use Rattle.bc_cli.specs.Resumes.{FaultyAfterImage, ImageFaulty}
-use Rattle.bc_cli.proofs.Bytes.{read_is, not_longer, unread-short, unread-firm}
-use Rattle.bc_cli.proofs.ParseLemmas.{err-apart, err-more, err-not_fault, err-not_long, names-image_fault, names-trace_fault, unresumed}
+use Rattle.bc_cli.proofs.Bytes.{not_longer, unread-short, unread-firm}
 use Rattle.bc_cli.proofs.resume.read_resumable.Goals as goal
 
 -- ---- the bytes weren't read

@@ -1,4 +1,4 @@
-use Rattle.std.proofs.Common.{rules, ◌≡◌, Option, ◌∙◌, ap, arith, refl, sym, subst}
+use Rattle.std.proofs.Common.{rules, Option, ◌∙◌, ap, arith, refl, sym, subst}
 use Rattle.bc_engine.specs.Engines.{EngineView}
 use Rattle.bc_engine.specs.Parts.{CanAdopt, PartsStand}
 use Rattle.bc_model.specs.Lists.{TraceLists}
@@ -17,17 +17,17 @@ run_first-requires-clause-opened g c κs within =
 
 pub put_image-requires-clause-parts : goal.put_image-requires-clause-parts
 put_image-requires-clause-parts g c =
-    let run : HasRun (whole_course c.args.trace.now) c.args.count c.run_first.new.engine = c.in-Ok-run_first.ensures.run in
+    let run : HasRun (whole_course c.args.trace.now) c.args.count c.run_first.new.engine = c.in-Ok-None.ensures.run (search rules) in
     subst (λ (z : Setup). CanAdopt z c.split-parts.result.holders.items c.split-parts.result.births.items c.split-parts.result.roots c.split-parts.result.space) (run.setup ∙ sym (ap (λ (x : TraceLists). x.setup) c.trace.view_is)) c.split-parts.ensures.parts
 
 pub put_image-requires-clause-births : goal.put_image-requires-clause-births
 put_image-requires-clause-births g c =
-    births-saved c.args.trace.now c.trace.inside.setup c.in-Ok.engine c.run_first.new.engine c.args.count c.split-parts.result.births.items (omega (arith, c.requires.few)) c.in-Ok.ensures.opening c.in-Ok-run_first.ensures.births c.split-parts.ensures.births
+    births-saved c.args.trace.now c.trace.inside.setup c.in-Ok.engine c.run_first.new.engine c.args.count c.split-parts.result.births.items (omega (arith, c.requires.few)) c.in-Ok.ensures.opening (λ n room. c.in-Ok-None.ensures.births n room (search rules)) c.split-parts.ensures.births
 
 pub put_image-requires-clause-room : goal.put_image-requires-clause-room
 put_image-requires-clause-room g c =
     let t = c.args.trace.now in
-    let run : HasRun (whole_course t) c.args.count c.run_first.new.engine = c.in-Ok-run_first.ensures.run in
+    let run : HasRun (whole_course t) c.args.count c.run_first.new.engine = c.in-Ok-None.ensures.run (search rules) in
     let s = before (whole_course t) c.args.count in
     let view = (ap (λ (x : TraceLists). x.setup) c.trace.view_is) in
     let stands : PartsStand c.trace.inside.setup c.split-parts.result.holders.items c.split-parts.result.births.items c.split-parts.result.roots c.split-parts.result.space s =
@@ -37,7 +37,7 @@ put_image-requires-clause-room g c =
 pub returns-in-Ok-put_image-clause-done : goal.returns-in-Ok-put_image-clause-done
 returns-in-Ok-put_image-clause-done g c = λ e.
     let t = c.args.trace.now in
-    let run : HasRun (whole_course t) c.args.count c.run_first.new.engine = c.in-Ok-run_first.ensures.run in
+    let run : HasRun (whole_course t) c.args.count c.run_first.new.engine = c.in-Ok-None.ensures.run (search rules) in
     let s = before (whole_course t) c.args.count in
     let view = (ap (λ (x : TraceLists). x.setup) c.trace.view_is) in
     let stands : PartsStand c.trace.inside.setup c.split-parts.result.holders.items c.split-parts.result.births.items c.split-parts.result.roots c.split-parts.result.space s =
@@ -45,13 +45,24 @@ returns-in-Ok-put_image-clause-done g c = λ e.
     let out = c.in-Ok-put_image.ensures.written s stands in
     (out.0, subst (λ (z : Setup). IsListingOf z c.args.count s out.0) view out.1, out.2, run.fits)
 
+pub returns-in-Ok-None-clause-write_fault : goal.returns-in-Ok-None-clause-write_fault
+returns-in-Ok-None-clause-write_fault g c = λ e.
+    let t = c.args.trace.now in
+    let run : HasRun (whole_course t) c.args.count c.run_first.new.engine = c.in-Ok-None.ensures.run (search rules) in
+    let s = before (whole_course t) c.args.count in
+    let view = (ap (λ (x : TraceLists). x.setup) c.trace.view_is) in
+    let stands : PartsStand c.trace.inside.setup c.split-parts.result.holders.items c.split-parts.result.births.items c.split-parts.result.roots c.split-parts.result.space s =
+    subst (λ (z : Setup). PartsStand z c.split-parts.result.holders.items c.split-parts.result.births.items c.split-parts.result.roots c.split-parts.result.space s) (run.setup ∙ sym view) (c.split-parts.ensures.stands s run.stands) in
+    let out = c.in-Err-put_image.ensures.front s stands in
+    (out.0, subst (λ (z : Setup). IsListingOf z c.args.count s out.0) view out.1, out.2)
+
 pub with_heap-requires : goal.with_heap-requires
 with_heap-requires g c = record {
-  alive = cut-alive (whole_course c.args.trace.now) c.args.count c.run_first.new.engine c.in-Err-OutOfHeap.need (c.in-Err-OutOfHeap.ensures.out_of_heap c.in-Err-OutOfHeap.need (search rules));
+  alive = cut-alive (whole_course c.args.trace.now) c.args.count c.run_first.new.engine c.in-Ok-Some.need (c.in-Ok-Some.ensures.out_of_heap c.in-Ok-Some.need (search rules));
 }
 
-pub returns-in-Err-OutOfHeap-clause-out_of_heap : goal.returns-in-Err-OutOfHeap-clause-out_of_heap
-returns-in-Err-OutOfHeap-clause-out_of_heap g c =
+pub returns-in-Ok-Some-clause-out_of_heap : goal.returns-in-Ok-Some-clause-out_of_heap
+returns-in-Ok-Some-clause-out_of_heap g c =
     let told = c.with_heap.ensures in
-    let need = c.in-Err-OutOfHeap.need in
-    rw (told.status, told.heap, c.in-Err-OutOfHeap.field-0-is) (c.in-Err-OutOfHeap.ensures.out_of_heap need (search rules), refl)
+    let need = c.in-Ok-Some.need in
+    need-of _ need _ told.status (subst (λ (h : Option EngineView). CutOffBelow (whole_course c.args.trace.now) c.args.count h need) (sym told.heap) (c.in-Ok-Some.ensures.out_of_heap need (search rules)), refl)
