@@ -13,6 +13,8 @@ TOP = Path(__file__).resolve().parent.parent
 HERE = TOP / 'bench'
 sys.path.insert(0, str(HERE))
 NAMES = ('full-superpage', 'one-object-too-many', 'long-chain', 'compaction-makes-room')
+# two phases and more, of which the first is saved
+PHASED = ('give-and-take', 'out-of-heap-in-the-third-phase')
 # no run takes a second, but the machine may be busy
 LONGEST = 120
 
@@ -99,3 +101,13 @@ def runs_of(names, operations):
         yield Run(f'churn 1 {operations}, {workers} workers', ['churn', '1', str(operations), '--workers', workers])
         drawn = subprocess.run([HERE / 'churn-trace', '1', str(operations)], capture_output=True, check=True).stdout
         yield Run(f'trace of churn 1 {operations} with notices, {workers} workers', ['run', '--workers', workers], noticed(drawn))
+
+
+def images_of(program, names):
+    """For each of these examples: its image after the first phase is written, and the trace goes on from there, with 1 and 4 workers."""
+    for name in names:
+        text = example(name)
+        image = subprocess.run([program, 'save', '1'], input=text, capture_output=True, check=True).stdout
+        for workers in ('1', '4'):
+            yield Run(f'save 1 of {name}, {workers} workers', ['save', '1', '--workers', workers], text)
+            yield Run(f'resume of {name}, {workers} workers', ['resume', '--workers', workers], image + text)
