@@ -22,7 +22,10 @@ typedef uint64_t value;
 /* The root slots lie in static memory, where the collector looks for roots. */
 static value slots[DOMAINS * SLOTS];
 static uint64_t holders[DOMAINS], serials[LANES];
-static uint64_t lanes, domains, width;
+static uint64_t version, lanes, domains, width;
+
+/* What stands among the holders for a domain that all lanes may read and none may write. */
+#define FROZEN UINT64_MAX
 
 /* What is left of the trace, and the replies. Neither is memory that the collector looks at. */
 static const char *start, *at, *end;
@@ -129,34 +132,50 @@ static inline struct slot slot(void) {
     return (struct slot){domain, &slots[width * domain + place]};
 }
 
-static inline int holds(uint64_t lane, uint64_t domain) {
-    return holders[domain] == lane;
+static inline int reads(uint64_t lane, uint64_t domain) {
+    return holders[domain] == lane || holders[domain] == FROZEN;
 }
 
-/* The object in the slot if the lane may touch its fields; else the refusal is said. */
+/* Whether the lane may write the slot; else the refusal is said. */
+static inline int writes(uint64_t lane, struct slot to) {
+    if (holders[to.domain] == lane)
+        return 1;
+    if (holders[to.domain] == FROZEN)
+        SAY("frozen\n");
+    else
+        SAY("foreign\n");
+    return 0;
+}
+
+/* The object in the slot if the lane may read its fields; else the refusal is said. */
 static inline value *touched(uint64_t lane, struct slot of) {
-    if (!holds(lane, of.domain))
+    if (!reads(lane, of.domain))
         SAY("foreign\n");
     else if (!is_object(*of.word))
         SAY("notobj\n");
-    else if (!holds(lane, domain_of(*object(*of.word))))
+    else if (!reads(lane, domain_of(*object(*of.word))))
         SAY("foreign\n");
     else
         return object(*of.word);
     return NULL;
 }
 
-static inline value *field_of(uint64_t lane, struct slot of, uint64_t field) {
-    value *found = touched(lane, of);
-    if (found && field >= fields_of(*found)) {
-        SAY("range\n");
-        return NULL;
-    }
-    return found ? &found[field + 1] : NULL;
+static inline value *field_of(value *found, uint64_t field) {
+    if (field < fields_of(*found))
+        return &found[field + 1];
+    SAY("range\n");
+    return NULL;
 }
 
 static inline void store(uint64_t lane, struct slot of, uint64_t field, value what) {
-    value *word = field_of(lane, of, field);
+    value *found = touched(lane, of);
+    if (!found)
+        return;
+    if (holders[domain_of(*found)] == FROZEN) {
+        SAY("frozen\n");
+        return;
+    }
+    value *word = field_of(found, field);
     if (word) {
         *word = what;
         SAY("ok\n");
@@ -175,10 +194,8 @@ static inline void new_object(uint64_t lane) {
     struct slot to = slot();
     uint64_t fields = operand(128);
     line_end();
-    if (!holds(lane, to.domain)) {
-        SAY("foreign\n");
+    if (!writes(lane, to))
         return;
-    }
     value *made = GC_MALLOC(8 * (fields + 1));
     if (!made)
         exit(1);
@@ -191,11 +208,11 @@ static inline void who(uint64_t lane) {
     expect("who");
     struct slot of = slot();
     line_end();
-    if (!holds(lane, of.domain))
+    if (!reads(lane, of.domain))
         SAY("foreign\n");
     else if (!is_object(*of.word))
         say_plain(*of.word);
-    else if (!holds(lane, domain_of(*object(*of.word))))
+    else if (!reads(lane, domain_of(*object(*of.word))))
         SAY("foreign\n");
     else
         say_birth(lane_of(*object(*of.word)), serial_of(*object(*of.word)));
@@ -232,7 +249,7 @@ static inline void link_field(uint64_t lane) {
     uint64_t field = operand(127);
     struct slot from = slot();
     line_end();
-    if (!holds(lane, from.domain))
+    if (!reads(lane, from.domain))
         SAY("foreign\n");
     else
         store(lane, of, field, *from.word);
@@ -244,11 +261,11 @@ static inline void load(uint64_t lane) {
     uint64_t field = operand(127);
     struct slot to = slot();
     line_end();
-    if (!holds(lane, to.domain)) {
+    if (!reads(lane, of.domain)) {
         SAY("foreign\n");
         return;
     }
-    value *word = field_of(lane, of, field);
+    value *found = writes(lane, to) ? touched(lane, of) : NULL, *word = found ? field_of(found, field) : NULL;
     if (!word)
         return;
     *to.word = *word;
@@ -262,10 +279,12 @@ static inline void copy(uint64_t lane) {
     expect("copy");
     struct slot from = slot(), to = slot();
     line_end();
-    if (!holds(lane, from.domain) || !holds(lane, to.domain)) {
+    if (!reads(lane, from.domain)) {
         SAY("foreign\n");
         return;
     }
+    if (!writes(lane, to))
+        return;
     *to.word = *from.word;
     SAY("ok\n");
 }
@@ -274,10 +293,8 @@ static inline void clear(uint64_t lane) {
     expect("clear");
     struct slot of = slot();
     line_end();
-    if (!holds(lane, of.domain)) {
-        SAY("foreign\n");
+    if (!writes(lane, of))
         return;
-    }
     *of.word = 0;
     SAY("ok\n");
 }
@@ -286,7 +303,7 @@ static inline void same(uint64_t lane) {
     expect("same");
     struct slot one = slot(), other = slot();
     line_end();
-    if (!holds(lane, one.domain) || !holds(lane, other.domain))
+    if (!reads(lane, one.domain) || !reads(lane, other.domain))
         SAY("foreign\n");
     else if (*one.word == *other.word)
         SAY("yes\n");
@@ -339,11 +356,12 @@ static void phase(uint64_t number) {
         SAY_NUMBER("lane ", lane);
         operations(lane);
     }
-    while (is("give")) {
-        expect("give");
-        uint64_t domain = operand(domains), lane = operand(lanes);
+    while (is("give") || (version == 2 && is("free"))) {
+        int gives = is("give");
+        expect(gives ? "give" : "freeze");
+        uint64_t domain = operand(domains), holder = gives ? operand(lanes) : FROZEN;
         line_end();
-        holders[domain] = lane;
+        holders[domain] = holder;
     }
     expect("end\n");
 }
@@ -356,7 +374,7 @@ static uint64_t header(const char *word, uint64_t end_of_range) {
 }
 
 static void replay(void) {
-    header("bc-trace", 2);
+    version = header("bc-trace", 3);
     lanes = header("lanes", LANES + 1);
     domains = header("domains", DOMAINS + 1);
     width = header("slots", SLOTS + 1);

@@ -15,7 +15,7 @@ const NUMBERS: u64 = 1 << 63;
 
 /// The header's words, with the least number of each and the one after the greatest; those of `frames` come from the others.
 const HEADER: [(&[u8], u64, u64); 8] = [
-    (b"bc-trace", 1, 2),
+    (b"bc-trace", 1, 3),
     (b"lanes", 1, 17),
     (b"domains", 1, 65),
     (b"slots", 1, 257),
@@ -43,6 +43,10 @@ const SAME: u32 = front(b"same");
 const PHASE: u32 = front(b"phas");
 const TURN: u32 = front(b"turn");
 const GIVE: u32 = front(b"give");
+const FREEZE: u32 = front(b"free");
+
+/// What stands in a domain's place among the holders where all lanes may read it and none may write it.
+const FROZEN: usize = usize::MAX;
 
 /// What is left of the trace. Each method takes something off its front, or answers None and leaves it within the same line.
 struct Rest<'a>(&'a [u8]);
@@ -95,6 +99,7 @@ enum Place {
 enum Refusal {
     NotObj,
     Foreign,
+    Frozen,
     Range,
 }
 
@@ -142,41 +147,54 @@ impl Heap {
     }
 
     #[inline(always)]
-    fn holds(&self, lane: usize, domain: usize) -> bool {
-        self.holders[domain & 63] == lane
+    fn reads(&self, lane: usize, domain: usize) -> bool {
+        let holder = self.holders[domain & 63];
+        holder == lane || holder == FROZEN
     }
 
-    /// The object in the slot, if the lane may touch its fields.
+    #[inline(always)]
+    fn is_frozen(&self, domain: usize) -> bool {
+        self.holders[domain & 63] == FROZEN
+    }
+
+    /// Whether the lane may write the slot, or the refusal.
+    #[inline(always)]
+    fn write(&self, lane: usize, slot: Slot) -> Result<(), Refusal> {
+        match self.holders[slot.domain & 63] {
+            holder if holder == lane => Ok(()),
+            FROZEN => Err(Refusal::Frozen),
+            _ => Err(Refusal::Foreign),
+        }
+    }
+
+    /// The object in the slot, if the lane may read its fields.
     #[inline(always)]
     fn object(&self, lane: usize, slot: Slot) -> Result<u64, Refusal> {
         let value = self.slots[slot.place];
-        if !self.holds(lane, slot.domain) {
+        if !self.reads(lane, slot.domain) {
             Err(Refusal::Foreign)
         } else if !is_object(value) {
             Err(Refusal::NotObj)
-        } else if !self.holds(lane, self.domain(value)) {
+        } else if !self.reads(lane, self.domain(value)) {
             Err(Refusal::Foreign)
         } else {
             Ok(value)
         }
     }
 
-    /// The word of the field of the object in the slot.
+    /// The place of the word of the field of the object.
     #[inline(always)]
-    fn field(&mut self, lane: usize, slot: Slot, field: u64) -> Result<&mut u64, Refusal> {
-        let object = self.object(lane, slot)?;
+    fn field(&self, object: u64, field: u64) -> Result<usize, Refusal> {
         if field >= self.head(object) & 255 {
             return Err(Refusal::Range);
         }
-        Ok(&mut self.words[object as usize / 2 + field as usize])
+        Ok(object as usize / 2 + field as usize)
     }
 
     /// Makes an object and answers its serial.
     #[inline(always)]
     fn make(&mut self, lane: usize, slot: Slot, fields: u64) -> Result<u32, Refusal> {
-        if !self.holds(lane, slot.domain) {
-            return Err(Refusal::Foreign);
-        }
+        self.write(lane, slot)?;
         self.serials[lane] += 1;
         let serial = self.serials[lane];
         self.slots[slot.place] = 2 * self.words.len() as u64 + 2;
@@ -217,6 +235,7 @@ impl Replies {
         match refusal {
             Refusal::NotObj => self.say(b"notobj\n"),
             Refusal::Foreign => self.say(b"foreign\n"),
+            Refusal::Frozen => self.say(b"frozen\n"),
             Refusal::Range => self.say(b"range\n"),
         }
     }
@@ -333,16 +352,29 @@ impl<'a> Replay<'a> {
             self.replies.number(b"lane ", lane);
             self.operations(lane as usize)?;
         }
-        while self.rest.front() == GIVE {
-            self.rest.take(b"give")?;
-            let (domain, lane) = (self.rest.operand(self.header[2])?, self.rest.operand(self.header[1])?);
-            self.rest.take(b"\n")?;
+        while self.change()? {
             self.place = Place::Gives;
-            self.heap.holders[domain as usize] = lane as usize;
         }
         self.rest.take(b"end\n")?;
         self.place = Place::Phases;
         Some(())
+    }
+
+    /// Hands a domain to a lane, or freezes it. False: the line is neither.
+    fn change(&mut self) -> Option<bool> {
+        let front = self.rest.front();
+        let (domain, holder) = if front == GIVE {
+            self.rest.take(b"give")?;
+            (self.rest.operand(self.header[2])?, self.rest.operand(self.header[1])? as usize)
+        } else if front == FREEZE && self.header[0] == 2 {
+            self.rest.take(b"freeze")?;
+            (self.rest.operand(self.header[2])?, FROZEN)
+        } else {
+            return Some(false);
+        };
+        self.rest.take(b"\n")?;
+        self.heap.holders[domain as usize] = holder;
+        Some(true)
     }
 
     fn turn(&mut self) -> Option<()> {
@@ -397,7 +429,7 @@ impl<'a> Replay<'a> {
         self.rest.take(b"who")?;
         let slot = self.slot()?;
         self.rest.take(b"\n")?;
-        if !self.heap.holds(lane, slot.domain) {
+        if !self.heap.reads(lane, slot.domain) {
             return Some(Err(Refusal::Foreign));
         }
         let value = self.heap.slots[slot.place];
@@ -405,7 +437,7 @@ impl<'a> Replay<'a> {
             self.plain(value);
             return Some(Ok(()));
         }
-        if !self.heap.holds(lane, self.heap.domain(value)) {
+        if !self.heap.reads(lane, self.heap.domain(value)) {
             return Some(Err(Refusal::Foreign));
         }
         let head = self.heap.head(value);
@@ -451,7 +483,7 @@ impl<'a> Replay<'a> {
         self.rest.take(b"link")?;
         let (slot, field, from) = (self.slot()?, self.rest.operand(127)?, self.slot()?);
         self.rest.take(b"\n")?;
-        if !self.heap.holds(lane, from.domain) {
+        if !self.heap.reads(lane, from.domain) {
             return Some(Err(Refusal::Foreign));
         }
         Some(self.store(lane, slot, field, self.heap.slots[from.place]))
@@ -459,7 +491,12 @@ impl<'a> Replay<'a> {
 
     #[inline(always)]
     fn store(&mut self, lane: usize, slot: Slot, field: u64, value: u64) -> Result<(), Refusal> {
-        *self.heap.field(lane, slot, field)? = value;
+        let object = self.heap.object(lane, slot)?;
+        if self.heap.is_frozen(self.heap.domain(object)) {
+            return Err(Refusal::Frozen);
+        }
+        let place = self.heap.field(object, field)?;
+        self.heap.words[place] = value;
         self.replies.say(b"ok\n");
         Ok(())
     }
@@ -469,33 +506,43 @@ impl<'a> Replay<'a> {
         self.rest.take(b"load")?;
         let (slot, field, to) = (self.slot()?, self.rest.operand(127)?, self.slot()?);
         self.rest.take(b"\n")?;
-        if !self.heap.holds(lane, to.domain) {
-            return Some(Err(Refusal::Foreign));
-        }
-        Some(self.heap.field(lane, slot, field).map(|word| *word).map(|value| {
-            self.heap.slots[to.place] = value;
-            if is_object(value) {
-                self.replies.say(b"ref\n")
-            } else {
-                self.plain(value)
-            }
-        }))
+        Some(self.load_field(lane, slot, field, to))
     }
 
-    /// Two slots, and whether the lane holds both.
+    #[inline(always)]
+    fn load_field(&mut self, lane: usize, slot: Slot, field: u64, to: Slot) -> Result<(), Refusal> {
+        if !self.heap.reads(lane, slot.domain) {
+            return Err(Refusal::Foreign);
+        }
+        self.heap.write(lane, to)?;
+        let place = self.heap.field(self.heap.object(lane, slot)?, field)?;
+        let value = self.heap.words[place];
+        self.heap.slots[to.place] = value;
+        if is_object(value) {
+            self.replies.say(b"ref\n")
+        } else {
+            self.plain(value)
+        }
+        Ok(())
+    }
+
+    /// Two slots, and whether the lane may read both.
     #[inline(always)]
     fn two_slots(&mut self, lane: usize) -> Option<(Slot, Slot, bool)> {
         let (one, other) = (self.slot()?, self.slot()?);
         self.rest.take(b"\n")?;
-        Some((one, other, self.heap.holds(lane, one.domain) && self.heap.holds(lane, other.domain)))
+        Some((one, other, self.heap.reads(lane, one.domain) && self.heap.reads(lane, other.domain)))
     }
 
     #[inline(always)]
     fn copy(&mut self, lane: usize) -> Option<Result<(), Refusal>> {
         self.rest.take(b"copy")?;
-        let (from, to, held) = self.two_slots(lane)?;
-        if !held {
+        let (from, to, reads) = self.two_slots(lane)?;
+        if !reads {
             return Some(Err(Refusal::Foreign));
+        }
+        if self.heap.is_frozen(to.domain) {
+            return Some(Err(Refusal::Frozen));
         }
         self.heap.slots[to.place] = self.heap.slots[from.place];
         self.replies.say(b"ok\n");
@@ -507,8 +554,8 @@ impl<'a> Replay<'a> {
         self.rest.take(b"clear")?;
         let slot = self.slot()?;
         self.rest.take(b"\n")?;
-        if !self.heap.holds(lane, slot.domain) {
-            return Some(Err(Refusal::Foreign));
+        if let Err(refusal) = self.heap.write(lane, slot) {
+            return Some(Err(refusal));
         }
         self.heap.slots[slot.place] = 0;
         self.replies.say(b"ok\n");
@@ -518,8 +565,8 @@ impl<'a> Replay<'a> {
     #[inline(always)]
     fn same(&mut self, lane: usize) -> Option<Result<(), Refusal>> {
         self.rest.take(b"same")?;
-        let (one, other, held) = self.two_slots(lane)?;
-        if !held {
+        let (one, other, reads) = self.two_slots(lane)?;
+        if !reads {
             return Some(Err(Refusal::Foreign));
         }
         match self.heap.slots[one.place] == self.heap.slots[other.place] {
@@ -594,6 +641,7 @@ impl Replay<'_> {
                 _ => vec![number],
             },
             b"give" => vec![domain, (0, lanes)],
+            b"freeze" if self.header[0] == 2 => vec![domain],
             b"new" => vec![domain, slot, (0, 128)],
             b"who" | b"len" | b"clear" => vec![domain, slot],
             b"set" => vec![domain, slot, field, number],
@@ -606,17 +654,22 @@ impl Replay<'_> {
 
     fn may_stand(&self, word: &[u8]) -> bool {
         let is_structure = HEADER.iter().any(|(name, ..)| *name == word)
-            || [&b"phase"[..], b"turn", b"lane", b"give", b"end", b"done"].contains(&word);
+            || [&b"phase"[..], b"turn", b"lane", b"give", b"freeze", b"end", b"done"].contains(&word);
         match self.place {
             Place::Header(line) => word == HEADER[line].0,
             Place::Phases => word == b"phase" || word == b"done",
             Place::Turns => word == b"turn" || word == b"lane",
             Place::Lane(lane) if lane < self.header[1] => word == b"lane" || !is_structure,
-            Place::Lane(_) => word == b"give" || word == b"end" || !is_structure,
-            Place::Gives => word == b"give" || word == b"end",
+            Place::Lane(_) => ends_lanes(word) || !is_structure,
+            Place::Gives => ends_lanes(word),
             Place::Done => false,
         }
     }
+}
+
+/// Whether a line of this word may stand after the last lane's operations.
+fn ends_lanes(word: &[u8]) -> bool {
+    [&b"give"[..], b"freeze", b"end"].contains(&word)
 }
 
 /// A number of the language: no sign, no leading zero, below the limit of numbers.

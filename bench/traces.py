@@ -17,6 +17,7 @@ class Setup:
     nursery: int = 1
     buffer: int = 1
     resident: Optional[int] = None
+    version: int = 1
 
     def pages(self):
         return 4 * self.superpages
@@ -28,7 +29,7 @@ class Setup:
         return 4096 * (self.lanes * self.nursery + self.pages())
 
     def header(self):
-        return (f'bc-trace 1\nlanes {self.lanes}\ndomains {self.domains}\nslots {self.slots}\nsuperpages {self.superpages}\n'
+        return (f'bc-trace {self.version}\nlanes {self.lanes}\ndomains {self.domains}\nslots {self.slots}\nsuperpages {self.superpages}\n'
                 f'nursery {self.nursery}\nbuffer {self.buffer}\nframes {self.frames()}\n')
 
     def phase(self, operations='', turns='', gives=''):

@@ -17,7 +17,7 @@
 
 use bc_gates::OpenGate;
 use bc_marking::{MarkPace, line_after, line_at};
-use bc_model::{Op, Reply};
+use bc_model::{Holder, Op, Reply};
 use bc_pager::{Answer, answer_all};
 use bc_superpages::{PageState, Space};
 use pages::all_left;
@@ -51,7 +51,7 @@ struct Counts {
 struct Play {
     collector: Collector,
     heap: bc_cycle::Heap,
-    holders: Vec<u32>,
+    holders: Vec<Holder>,
     serials: Vec<u32>,
     nurseries: u32,
     pressure: bc_running::pressure::Pressure,
@@ -94,6 +94,7 @@ fn numbers_of(reply: &Reply) -> (u64, u64) {
         Reply::NotObj => (9, 0),
         Reply::Range => (10, 0),
         Reply::Foreign => (11, 0),
+        Reply::Frozen => (12, 0),
     }
 }
 
@@ -242,8 +243,8 @@ impl Play {
         let start = processor_time();
         let mut lanes = vec![Progress::default(); phase.lanes.len()];
         let need = self.rounds(phase, &mut lanes);
-        for (domain, lane) in &phase.gives {
-            self.holders[*domain] = *lane;
+        for (domain, holder) in &phase.changes {
+            self.holders[*domain] = *holder;
         }
         let taken = processor_time() - start;
         let (evicted, discarded) = (all_left().0 - evicted, all_left().1 - discarded);
@@ -300,7 +301,7 @@ fn main() {
     let mut play = Play {
         collector,
         heap: bc_cycle::Heap::open(Global, &setup).unwrap(),
-        holders: (0..setup.domains).map(|domain| domain % setup.lanes).collect(),
+        holders: (0..setup.domains).map(|domain| Holder::Lane(domain % setup.lanes)).collect(),
         serials: vec![0; setup.lanes as usize],
         nurseries,
         pressure: bc_running::pressure::Pressure::none(),

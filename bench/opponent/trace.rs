@@ -1,13 +1,14 @@
 //! Reads a trace that is known to be one.
 
-use crate::bc_model::{Op, Setup, Slot};
+use crate::bc_model::{Holder, Op, Setup, Slot};
 use crate::shim;
 use std::str::SplitWhitespace;
 
 pub struct Phase {
     pub lanes: Vec<Vec<Op>>,
     pub turns: Vec<shim::Vec<u32>>,
-    pub gives: Vec<(usize, u32)>,
+    /// Who holds which domain from the end of the phase on.
+    pub changes: Vec<(usize, Holder)>,
 }
 
 pub struct Trace {
@@ -56,7 +57,7 @@ pub fn read(text: &str) -> Trace {
         let mut words = line.split_whitespace();
         let verb = words.next().expect("a word");
         match verb {
-            "phase" => phases.push(Phase { lanes: Vec::new(), turns: Vec::new(), gives: Vec::new() }),
+            "phase" => phases.push(Phase { lanes: Vec::new(), turns: Vec::new(), changes: Vec::new() }),
             "done" => break,
             "end" => {}
             _ => add(phases.last_mut().expect("a phase"), verb, &mut words),
@@ -69,7 +70,8 @@ fn add(phase: &mut Phase, verb: &str, words: &mut SplitWhitespace) {
     match verb {
         "turn" => phase.turns.push(words.map(|word| word.parse().expect("a hint")).collect()),
         "lane" => phase.lanes.push(Vec::new()),
-        "give" => phase.gives.push((number(words), number(words))),
+        "give" => phase.changes.push((number(words), Holder::Lane(number(words)))),
+        "freeze" => phase.changes.push((number(words), Holder::Frozen)),
         _ => phase.lanes.last_mut().expect("a lane").push(operation(verb, words)),
     }
 }

@@ -110,7 +110,7 @@ class Variable:
     def copied(self, domain):
         """A variable of another domain with the same object."""
         answer = Variable(domain, self.thing)
-        self.domain.write(f'copy {self.domain.number} {self.slot} {domain.number} {answer.slot}')
+        domain.write(f'copy {self.domain.number} {self.slot} {domain.number} {answer.slot}')
         return answer
 
     def is_same(self, other):
@@ -120,13 +120,16 @@ class Variable:
 
 
 class Domain:
-    """A domain with the variables of the lane that holds it. Slot 0 takes the numbers that are loaded."""
+    """A domain with the variables of the lane that holds it. Slot 0 takes the numbers that are loaded. Of a frozen domain nothing is written:
+    its variables are read by `copied`, and one that Python lets go keeps its slot."""
 
     def __init__(self, mutator, number, lane):
         self.mutator, self.number, self.lane = mutator, number, lane
         self.scratch, self.free, self.held = 0, [], [None]
 
     def write(self, line):
+        if self.lane is None:
+            raise Refused(f'domain {self.number} is frozen')
         self.mutator.write(self.lane, line)
 
     def take_slot(self, thing):
@@ -140,6 +143,8 @@ class Domain:
         return len(self.held) - 1
 
     def give_back(self, slot):
+        if self.lane is None:
+            return
         self.held[slot] = None
         self.free.append(slot)
         if not self.mutator.is_done:
@@ -164,7 +169,7 @@ class Mutator:
         self.lanes, self.notices, self.random = lanes, notices, random.Random(seed)
         self.domains = [Domain(self, number, number % lanes) for number in range(domains)]
         self.is_done, self.size, self.need = False, 0, 1
-        self.phases, self.lines, self.gives = [], [[] for _ in range(lanes)], []
+        self.phases, self.lines, self.changes, self.version = [], [[] for _ in range(lanes)], [], 1
 
     def write(self, lane, line):
         self.size += len(line) + 1
@@ -178,17 +183,22 @@ class Mutator:
 
     def give(self, domain, lane):
         """The domain changes hands at the end of this phase."""
-        self.gives.append((domain, lane))
+        self.changes.append((domain, lane))
+
+    def freeze(self, domain):
+        """From the end of this phase on all lanes may read the domain, and none may write it."""
+        self.changes.append((domain, None))
+        self.version = 2
 
     def end_phase(self):
         hints = [f'turn{"".join(f" {self.random.randrange(1 << 14)}" for _ in range(self.notices))}'] if self.notices else []
         lanes = [line for lane, lines in enumerate(self.lines) for line in [f'lane {lane}', *lines]]
-        gives = [f'give {domain.number} {lane}' for domain, lane in self.gives]
-        self.phases.append('\n'.join(['phase', *hints, *lanes, *gives, 'end\n']))
+        changes = [f'freeze {domain.number}' if lane is None else f'give {domain.number} {lane}' for domain, lane in self.changes]
+        self.phases.append('\n'.join(['phase', *hints, *lanes, *changes, 'end\n']))
         self.size += len(self.phases[-1]) - sum(len(line) + 1 for lines in self.lines for line in lines)
-        for domain, lane in self.gives:
+        for domain, lane in self.changes:
             domain.lane = lane
-        self.lines, self.gives = [[] for _ in range(self.lanes)], []
+        self.lines, self.changes = [[] for _ in range(self.lanes)], []
         self.need = max(self.need, self.needed())
 
     def needed(self):
@@ -213,6 +223,6 @@ class Mutator:
         lanes_pages = self.lanes * nursery
         frames = min(max(lanes_pages + round(share * 4 * superpages), lanes_pages + 2), lanes_pages + 4 * superpages)
         slots = max(len(domain.held) for domain in self.domains)
-        header = {'bc-trace': 1, 'lanes': self.lanes, 'domains': len(self.domains), 'slots': slots, 'superpages': superpages,
+        header = {'bc-trace': self.version, 'lanes': self.lanes, 'domains': len(self.domains), 'slots': slots, 'superpages': superpages,
                   'nursery': nursery, 'buffer': buffer, 'frames': frames}
         return ''.join(f'{word} {number}\n' for word, number in header.items()) + ''.join(self.phases) + 'done\n'

@@ -1,18 +1,20 @@
 -- No state of the churn needs more than 27 superpages: what is reached was made in this phase or in the one before it.
-use Rattle.std.proofs.Common.{◌≡◌, ℕ, ◌+◌, ◌-◌, ◌*◌, ◌/◌, ◌%◌, ◌<◌, ◌≤◌, List, [], ◌∷◌, ◌++◌, map, zero, suc, length, take, get_or, slice_index, refl, sym, ap, subst, ◌∙◌, inl, inr, arith}
+use Rattle.std.proofs.Common.{◌≡◌, ℕ, ◌+◌, ◌-◌, ◌*◌, ◌/◌, ◌%◌, ◌<◌, ◌≤◌, List, [], ◌∷◌, ◌++◌, map, zero, suc, length, take, get_or, refl, sym, ap, subst, ◌∙◌, inl, inr, arith}
 use Rattle.std.specs.List.{AllByRecursion}
 use Rattle.std.proofs.lemmas.Bool.{cases_eq, cases_lt}
 use Rattle.std.proofs.lemmas.List.{get_or_past, get_or-map, length-map, map-append, take_all, take-append-le}
 use Rattle.bc_model.specs.Lists.{PhaseLists}
 use Rattle.bc_model.specs.Need.{IsNeed, need_of, count_of}
 use Rattle.bc_model.specs.Reached.{Holds, FieldHolds, Reached}
-use Rattle.bc_model.specs.Run.{opening, after_lanes, after_gives, after_phase, after_phases, cut_lanes, no_phase, phase_at, before, after_cut, final_state}
-use Rattle.bc_model.specs.State.{State, Object, IsBorn, made_by, no_object, place_of, given, numbers_below}
+use Rattle.bc_model.specs.Run.{opening, after_lanes, after_changes, after_phase, after_phases, cut_lanes, no_phase, phase_at, before, after_cut, final_state}
+use Rattle.bc_model.specs.State.{State, Object, IsBorn, made_by, no_object, place_of, given, holder_of, numbers_below}
 use Rattle.bc_model.specs.WellFormed.{IsOp}
 use Rattle.bc_model.specs.declared.operations.Op.{Op}
 use Rattle.bc_model.specs.declared.operations.Op.TheVariants as op
 use Rattle.bc_model.specs.declared.traces.Give.{Give}
 use Rattle.bc_model.specs.declared.values.Birth.{Birth}
+use Rattle.bc_model.specs.declared.values.Holder.{Holder}
+use Rattle.bc_model.specs.declared.values.Holder.TheVariants.{Lane, Frozen}
 use Rattle.bc_model.specs.declared.values.Slot.{Slot}
 use Rattle.bc_model.specs.declared.values.Value.TheVariants.{Nil}
 use Rattle.bc_model.proofs.NeedFound.{reached-born}
@@ -23,7 +25,7 @@ use Rattle.bc_trace.specs.declared.words.Verb.{Verb}
 use Rattle.bc_trace.specs.declared.words.Verb.TheVariants as verbs
 use Rattle.bc_churn.specs.Draws.{drawn_with, drawn_op, number_after_ops}
 use Rattle.bc_churn.specs.Churn.{churn_setup, churn_lane, churn_phase, churn_trace, clears_below, domain_clears, drawn_ops, phase_give, held_below, holders_before, lane_clears, number_before, number_before_lane, ops_in, phase_from, phases_of}
-use Rattle.bc_churn.proofs.Cleared.{InRange, news, phase-clean, lanes-clean, lanes-small, lanes-make, holders-lanes}
+use Rattle.bc_churn.proofs.Cleared.{InRange, IsOfTwo, news, phase-clean, lanes-clean, lanes-small, lanes-make, holders-lanes}
 use Rattle.bc_churn.proofs.Counting.{numbers_below-at}
 use Rattle.bc_churn.proofs.Drawing.{holders-suc}
 use Rattle.bc_churn.proofs.Few.{InTwo, few-births, need-bound}
@@ -46,7 +48,7 @@ drawn-small verbs.Clear x = tt
 drawn-small verbs.Same x = tt
 
 -- what holds of every clear holds of all of a lane's
-all-clears : (P : Op → Type 0) → ((p : Slot) → P (op.Clear p)) → (holders : List ℕ) (j n : ℕ) → AllByRecursion P (clears_below holders j n)
+all-clears : (P : Op → Type 0) → ((p : Slot) → P (op.Clear p)) → (holders : List Holder) (j n : ℕ) → AllByRecursion P (clears_below holders j n)
 unfolding clears_below domain_clears
 all-clears P h holders j n =
     all-flat P domain_clears (held_below holders j n) (all-of _ (held_below holders j n) (λ d.
@@ -97,7 +99,7 @@ work-take n os h = record {
   few = omega (arith, news-take n os, h.few);
 }
 
-lane-work : (n x : ℕ) (holders : List ℕ) (j : ℕ) → n ≤ 1000 → IsWork (churn_lane n x holders j)
+lane-work : (n x : ℕ) (holders : List Holder) (j : ℕ) → n ≤ 1000 → IsWork (churn_lane n x holders j)
 lane-work n x holders j h =
     let y = number_before_lane n x j in
     record {
@@ -133,7 +135,7 @@ both_lanes start ops k = lane_of start ops k 0 ∷ lane_of start ops k 1 ∷ []
 
 -- after the lanes of a phase there is one give
 state-suc : (start ops k : ℕ) → state_before start ops (suc k) ≡ given (after_lanes (state_before start ops k) 0 (both_lanes start ops k)) (phase_give start ops k)
-unfolding state_before after_phases phase_from after_gives lane_of
+unfolding state_before after_phases phase_from after_changes lane_of
 state-suc start ops k =
     ap (after_phases (opening churn_setup)) (map-append (churn_phase start ops) (numbers_below k) (k ∷ []))
     ∙ after_phases-append (opening churn_setup) (map (churn_phase start ops) (numbers_below k)) (churn_phase start ops k ∷ [])
@@ -143,26 +145,31 @@ unfolding lane_of
 work-of start ops k j = lane-work (ops_in ops k) (number_before start ops k) (holders_before start ops k) j (omega arith)
 
 holders-of : (start ops k : ℕ) → (state_before start ops k).holders ≡ holders_before start ops k
-unfolding state_before after_phases after_gives
+unfolding state_before after_phases after_changes
 holders-of start ops zero = refl
 holders-of start ops (suc k) =
     ap (λ (s : State). s.holders) (state-suc start ops k)
-    ∙ ap (λ (hs : List ℕ). Rattle.std.proofs.Common.set hs (phase_give start ops k).domain (phase_give start ops k).lane) (holders-lanes (state_before start ops k) (lane_of start ops k 0) (lane_of start ops k 1) ∙ holders-of start ops k)
+    ∙ ap (λ (hs : List Holder). Rattle.std.proofs.Common.set hs (phase_give start ops k).domain (Lane (phase_give start ops k).lane)) (holders-lanes (state_before start ops k) (lane_of start ops k 0) (lane_of start ops k 1) ∙ holders-of start ops k)
     ∙ sym (holders-suc start ops k)
 
-first-two : (d : ℕ) → get_or (0 ∷ 1 ∷ 0 ∷ 1 ∷ []) d 0 < 2
-first-two zero = omega arith
-first-two (suc zero) = omega arith
-first-two (suc (suc zero)) = omega arith
-first-two (suc (suc (suc zero))) = omega arith
-first-two (suc (suc (suc (suc d)))) = omega arith
+first-two : (d : ℕ) → d < 4 → IsOfTwo (get_or (Lane 0 ∷ Lane 1 ∷ Lane 0 ∷ Lane 1 ∷ []) d Frozen)
+first-two zero h = inl refl
+first-two (suc zero) h = inr refl
+first-two (suc (suc zero)) h = inl refl
+first-two (suc (suc (suc zero))) h = inr refl
+first-two (suc (suc (suc (suc d)))) h = absurd (omega (arith, h))
 
-pub holders-two : (start ops k d : ℕ) → slice_index (holders_before start ops k) d < 2
-unfolding after_gives
-holders-two start ops zero d = first-two d
-holders-two start ops (suc k) d =
-    subst (λ (hs : List ℕ). slice_index hs d < 2) (sym (holders-suc start ops k))
-    (set-either (λ (l : ℕ). l < 2) (holders_before start ops k) (phase_give start ops k).domain (phase_give start ops k).lane d 0 (λ _. draw-below _ 2 (omega arith)) (holders-two start ops k d))
+one-of-two : (l : ℕ) → l < 2 → IsOfTwo (Lane l)
+one-of-two zero h = inl refl
+one-of-two (suc zero) h = inr refl
+one-of-two (suc (suc l)) h = absurd (omega (arith, h))
+
+pub holders-two : (start ops k d : ℕ) → d < 4 → IsOfTwo (holder_of (holders_before start ops k) d)
+unfolding after_changes
+holders-two start ops zero d h = first-two d h
+holders-two start ops (suc k) d h =
+    subst (λ (hs : List Holder). IsOfTwo (holder_of hs d)) (sym (holders-suc start ops k))
+    (set-either IsOfTwo (holders_before start ops k) (phase_give start ops k).domain (Lane (phase_give start ops k).lane) d Frozen (λ _. one-of-two (phase_give start ops k).lane (draw-below _ 2 (omega arith))) (holders-two start ops k d h))
 
 -- what there was at the begin of the phase before phase k
 made_before : ℕ → ℕ → ℕ → List (List Object)
@@ -288,6 +295,10 @@ phases-are start ops = refl
 pub setup-is : (start ops : ℕ) → (churn_trace start ops).setup ≡ churn_setup
 unfolding churn_trace
 setup-is start ops = refl
+
+pub version-is : (start ops : ℕ) → (churn_trace start ops).version ≡ 1
+unfolding churn_trace
+version-is start ops = refl
 
 take-below : {X : Type 0} (f : ℕ → X) (n k : ℕ) → k ≤ n → take k (map f (numbers_below n)) ≡ map f (numbers_below k)
 take-below f zero k h = let e : k ≡ 0 = omega (arith, h) in subst (λ (j : ℕ). take j [] ≡ map f (numbers_below j)) (sym e) refl

@@ -68,7 +68,7 @@ at-most-sum xs k =
       | inr past ↦ (let e = get_or_past xs k 0 past in omega (arith, e))
     ]
 
--- ---- a list of the eleven counts
+-- ---- a list of the twelve counts
 
 at-last : (n : ℕ) → get_or (n ∷ []) (n - n) 0 ≡ n
 at-last n = let e : n - n ≡ 0 = omega arith in rw e refl
@@ -83,20 +83,20 @@ numbers_below-at (suc n) i h =
           get_or-append_right (numbers_below n) (n ∷ []) n i 0 (length-numbers_below n) past ∙ ap (λ (j : ℕ). get_or (n ∷ []) (j - n) 0) last ∙ at-last n ∙ sym last
     ]
 
-pub counts-at : (rs : List Reply) (k : ℕ) → k < 11 → get_or (counts rs) k 0 ≡ count_of_kind k rs
+pub counts-at : (rs : List Reply) (k : ℕ) → k < 12 → get_or (counts rs) k 0 ≡ count_of_kind k rs
 unfolding counts
-counts-at rs k h = get_or-map (λ (k : ℕ). count_of_kind k rs) (numbers_below 11) k 0 0 h ∙ ap (λ (i : ℕ). count_of_kind i rs) (numbers_below-at 11 k h)
+counts-at rs k h = get_or-map (λ (k : ℕ). count_of_kind k rs) (numbers_below 12) k 0 0 h ∙ ap (λ (i : ℕ). count_of_kind i rs) (numbers_below-at 12 k h)
 
-pub counts-length : (rs : List Reply) → length (counts rs) ≡ 11
+pub counts-length : (rs : List Reply) → length (counts rs) ≡ 12
 unfolding counts
 counts-length rs = refl
 
-pub counts-phase : (before : List (List (List Reply))) (p : List (List Reply)) (old new : List ℕ) → length new ≡ 11 → Counted old new (phase_replies p) → old ≡ run_counts before → new ≡ run_counts (before ++ p ∷ [])
+pub counts-phase : (before : List (List (List Reply))) (p : List (List Reply)) (old new : List ℕ) → length new ≡ 12 → Counted old new (phase_replies p) → old ≡ run_counts before → new ≡ run_counts (before ++ p ∷ [])
 counts-phase before p old new long more e =
     let joined : all_replies (before ++ p ∷ []) ≡ all_replies before ++ phase_replies p =
     flat_map-append phase_replies before (p ∷ []) ∙ ap (λ rs. all_replies before ++ rs) (append-nil (phase_replies p)) in
     same_number_lists new (run_counts (before ++ p ∷ [])) (long ∙ sym (counts-length _)) (λ k inside.
-    let low : k < 11 = omega (arith, inside, long) in
+    let low : k < 12 = omega (arith, inside, long) in
     let now : get_or old k 0 ≡ count_of_kind k (all_replies before) = ap (λ (xs : List ℕ). get_or xs k 0) e ∙ counts-at (all_replies before) k low in
     let all : get_or new k 0 ≡ count_of_kind k (all_replies (before ++ p ∷ [])) = omega (arith, more k, now, ap (count_of_kind k) joined, count-append k (all_replies before) (phase_replies p)) in
     all ∙ sym (counts-at (all_replies (before ++ p ∷ [])) k low))

@@ -1,9 +1,10 @@
 -- The trace of `churn` is well formed.
-use Rattle.std.proofs.Common.{ℕ, ◌^◌, ◌<◌, ◌≤◌, ◌==◌, if◌then◌else◌, List, [], ◌∷◌, map, Bool, true, false, zero, suc, slice_index, refl, arith}
+use Rattle.std.proofs.Common.{ℕ, ◌^◌, ◌<◌, ◌≤◌, if◌then◌else◌, List, [], ◌∷◌, map, Bool, true, false, zero, suc, refl, arith}
 use Rattle.std.specs.List.{flat_map, AllByRecursion, filter}
-use Rattle.bc_model.specs.State.{numbers_below}
-use Rattle.bc_model.specs.WellFormed.{IsTrace, IsPhase, IsSetup, IsOp, IsTurn}
+use Rattle.bc_model.specs.State.{holder_of, lets_write, numbers_below}
+use Rattle.bc_model.specs.WellFormed.{IsTrace, IsKnown, IsPhase, IsSetup, IsOp, IsTurn}
 use Rattle.bc_model.specs.declared.operations.Op.TheVariants as ops
+use Rattle.bc_model.specs.declared.values.Holder.{Holder}
 use Rattle.bc_model.proofs.RunStates.{all-append}
 use Rattle.bc_trace.specs.declared.words.Verb.{Verb}
 use Rattle.bc_trace.specs.declared.words.Verb.TheVariants as verbs
@@ -56,16 +57,16 @@ drawn-formed verbs.Copy x = ((draw-below _ 4 (omega arith), draw-below _ 8 (omeg
 drawn-formed verbs.Clear x = (draw-below _ 4 (omega arith), draw-below _ 8 (omega arith))
 drawn-formed verbs.Same x = ((draw-below _ 4 (omega arith), draw-below _ 8 (omega arith)), (draw-below _ 4 (omega arith), draw-below _ 8 (omega arith)))
 
-pub clears-formed : (holders : List ℕ) (j n : ℕ) → n ≤ 4 → AllByRecursion (IsOp churn_setup) (clears_below holders j n)
+pub clears-formed : (holders : List Holder) (j n : ℕ) → n ≤ 4 → AllByRecursion (IsOp churn_setup) (clears_below holders j n)
 unfolding clears_below domain_clears
 clears-formed holders j n h =
     all-flat (IsOp churn_setup) domain_clears (held_below holders j n)
     (all-weaker (λ d. d < 4) (λ d. AllByRecursion (IsOp churn_setup) (domain_clears d)) (held_below holders j n)
     (λ d low. all-map (IsOp churn_setup) (λ s. ops.Clear (record { domain = d; slot = s })) (numbers_below 8)
     (all-weaker (λ (s : ℕ). s < 8) (λ s. IsOp churn_setup (ops.Clear (record { domain = d; slot = s }))) (numbers_below 8) (λ s below. (low, below)) (all-below 8 8 (omega arith))))
-    (all-filter (λ d. d < 4) (λ d. slice_index holders d == j) (numbers_below n) (all-below n 4 h)))
+    (all-filter (λ d. d < 4) (λ d. lets_write (holder_of holders d) j) (numbers_below n) (all-below n 4 h)))
 
-lane-formed : (n x : ℕ) (holders : List ℕ) (j : ℕ) → AllByRecursion (IsOp churn_setup) (churn_lane n x holders j)
+lane-formed : (n x : ℕ) (holders : List Holder) (j : ℕ) → AllByRecursion (IsOp churn_setup) (churn_lane n x holders j)
 lane-formed n x holders j =
     all-append (IsOp churn_setup) (lane_clears holders j) (drawn_ops n (number_before_lane n x j)) (clears-formed holders j 4 (omega arith))
     (all-map (IsOp churn_setup) (λ i. drawn_op (number_after_ops i (number_before_lane n x j))) (numbers_below n)
@@ -78,7 +79,7 @@ hints-formed x =
     let low : (y : ℕ) → draw y 128 < 2 ^ 32 = λ y. omega (arith, draw-below y 128 (omega arith)) in
     (omega arith, (low _, (low _, (low _, tt))))
 
-phase-formed : (k n x : ℕ) (holders : List ℕ) → IsPhase churn_setup (phase_from k n x holders)
+phase-formed : (k n x : ℕ) (holders : List Holder) → IsPhase churn_setup (phase_from k n x holders)
 unfolding phase_from
 phase-formed k n x holders = record {
   turns = (hints-formed _, (hints-formed _, tt));
@@ -86,6 +87,10 @@ phase-formed k n x holders = record {
   ops = (lane-formed n x holders 0, (lane-formed n x holders 1, tt));
   gives = ((omega arith, draw-below _ 2 (omega arith)), tt);
 }
+
+phase-known : (k n x : ℕ) (holders : List Holder) → IsKnown 1 (phase_from k n x holders)
+unfolding phase_from
+phase-known k n x holders = (tt, tt)
 
 setup-formed : IsSetup churn_setup
 setup-formed = record {
@@ -101,6 +106,8 @@ setup-formed = record {
 pub churn-formed : (start ops : ℕ) → IsTrace (churn_trace start ops)
 unfolding churn_trace
 churn-formed start ops = record {
+  version = (omega arith, omega arith);
+  known = all-map (IsKnown 1) (churn_phase start ops) (numbers_below (phases_of ops)) (all-of _ (numbers_below (phases_of ops)) (λ k. phase-known k _ _ _));
   setup = setup-formed;
   phases = all-map (IsPhase churn_setup) (churn_phase start ops) (numbers_below (phases_of ops)) (all-of _ (numbers_below (phases_of ops)) (λ k. phase-formed k _ _ _));
 }

@@ -167,7 +167,7 @@ drawn-alone x y o h =
 
 -- ---- the names of replies
 
-pub reply-begins : (r : Reply) → IsNamed (reply_word r) (slice_index_or kind_names (kind_of_reply r) [])
+pub reply-begins : (r : Reply) → IsNamed (reply_word r) (slice_index_or kind_names (kind_of_reply r) (codes "frozen"))
 unfolding reply_word kind_of_reply
 reply-begins (replies.Obj b) = inr (decimal b.lane ++ codes "." ++ decimal b.serial, refl)
 reply-begins replies.Done = inl refl
@@ -180,3 +180,4 @@ reply-begins replies.No = inl refl
 reply-begins replies.NotObj = inl refl
 reply-begins replies.Range = inl refl
 reply-begins replies.Foreign = inl refl
+reply-begins replies.Frozen = inl refl

@@ -12,6 +12,8 @@ pub mod Cleared
 pub mod Few
 -- No state of the churn needs more than 27 superpages
 pub mod ChurnNeed
+-- No reply of a run of version 1 is `frozen`
+pub mod Unfrozen
 -- How many operations and replies the churn has
 pub mod ChurnSums
 -- The table of kinds

@@ -4,8 +4,8 @@ use Rattle.std.proofs.Common.{◌≡◌, ◌≢◌, ℕ, ◌+◌, ◌-◌, ◌<�
 use Rattle.std.specs.List.{list_all}
 use Rattle.std.proofs.lemmas.Bool.{and_parts, cases_eq, cases_lt}
 use Rattle.std.proofs.lemmas.List.{get_or_append_left, get_or_push, get_or_past, length_push, get_or-replicate, length-replicate}
-use Rattle.bc_model.specs.State.{State, Object, made_by, object_of, no_object, next_birth, place_of, slot_of, field_of, with_slot, with_value, with_born_field, with_made, holds}
-use Rattle.bc_model.specs.Step.{step, act, domains_of, on_object, on_field}
+use Rattle.bc_model.specs.State.{State, Object, made_by, object_of, no_object, next_birth, place_of, slot_of, field_of, with_slot, with_value, with_born_field, with_made, reads, writes}
+use Rattle.bc_model.specs.Step.{step, act, domains_of, target_writes, on_object, on_field, on_own_field}
 use Rattle.bc_model.specs.WellFormed.{IsSlot, IsOp}
 use Rattle.bc_model.specs.declared.operations.Op.{Op}
 use Rattle.bc_model.specs.declared.operations.Op.TheVariants as op
@@ -118,25 +118,33 @@ if-keeps P false x s r here there = here
 object-keeps : (P : State → Type 0) (s : State) (j : ℕ) (v : Value) (f : Birth → State × Reply) → P s → ((b : Birth) → v ≡ Obj b → P (f b).0) → P (on_object s j v f).0
 object-keeps P s j Nil f here there = here
 object-keeps P s j (Num n) f here there = here
-object-keeps P s j (Obj b) f here there = if-keeps P (holds s j (object_of s.made b).domain) (f b) s reply.Foreign here (λ _. there b refl)
+object-keeps P s j (Obj b) f here there = if-keeps P (reads s j (object_of s.made b).domain) (f b) s reply.Foreign here (λ _. there b refl)
 
 field-keeps : (P : State → Type 0) (s : State) (j : ℕ) (v : Value) (i : ℕ) (f : Birth → State × Reply) → P s → ((b : Birth) → v ≡ Obj b → P (f b).0) → P (on_field s j v i f).0
 field-keeps P s j v i f here there =
     object-keeps P s j v (λ b. if nat_lt i (length (object_of s.made b).fields) then f b else (s, reply.Range)) here
     (λ b e. if-keeps P (nat_lt i (length (object_of s.made b).fields)) (f b) s reply.Range here (λ _. there b e))
 
-step-keeps : (P : State → Type 0) (s : State) (j : ℕ) (o : Op) → P s → (list_all (holds s j) (domains_of o) ≡ true → P (act s j o).0) → P (step s j o).0
-step-keeps P s j o here there = if-keeps P (list_all (holds s j) (domains_of o)) (act s j o) s reply.Foreign here there
+own_field-keeps : (P : State → Type 0) (s : State) (j : ℕ) (v : Value) (i : ℕ) (f : Birth → State × Reply) → P s → ((b : Birth) → v ≡ Obj b → P (f b).0) → P (on_own_field s j v i f).0
+own_field-keeps P s j v i f here there =
+    object-keeps P s j v (λ b. if writes s j (object_of s.made b).domain then (if nat_lt i (length (object_of s.made b).fields) then f b else (s, reply.Range)) else (s, reply.Frozen)) here
+    (λ b e. if-keeps P (writes s j (object_of s.made b).domain) (if nat_lt i (length (object_of s.made b).fields) then f b else (s, reply.Range)) s reply.Frozen here
+    (λ _. if-keeps P (nat_lt i (length (object_of s.made b).fields)) (f b) s reply.Range here (λ _. there b e)))
+
+step-keeps : (P : State → Type 0) (s : State) (j : ℕ) (o : Op) → P s → (list_all (reads s j) (domains_of o) ≡ true → P (act s j o).0) → P (step s j o).0
+step-keeps P s j o here there =
+    if-keeps P (list_all (reads s j) (domains_of o)) (if target_writes s j o then act s j o else (s, reply.Frozen)) s reply.Foreign here
+    (λ held. if-keeps P (target_writes s j o) (act s j o) s reply.Frozen here (λ _. there held))
 
 -- ---- an operation of a lane that may read every slot of its own domains
 
 young-there : (old : List (List Object)) (v : Value) (b : Birth) → v ≡ Obj b → Refers (Young old) v → Young old b
 young-there old v b e h = subst (Refers (Young old)) e h
 
-pub clean-step : (old : List (List Object)) (readable : Slot → Type 0) (setup : Setup) (s : State) (j : ℕ) (o : Op) → Clean old readable s → ((p : Slot) → holds s j p.domain ≡ true → IsSlot setup p → readable p) → IsOp setup o → Clean old readable (step s j o).0
+pub clean-step : (old : List (List Object)) (readable : Slot → Type 0) (setup : Setup) (s : State) (j : ℕ) (o : Op) → Clean old readable s → ((p : Slot) → reads s j p.domain ≡ true → IsSlot setup p → readable p) → IsOp setup o → Clean old readable (step s j o).0
 clean-step old readable setup s j o c own fits = step-keeps (Clean old readable) s j o c (λ held. go o fits held)
   where
-    go : (o : Op) → IsOp setup o → list_all (holds s j) (domains_of o) ≡ true → Clean old readable (act s j o).0
+    go : (o : Op) → IsOp setup o → list_all (reads s j) (domains_of o) ≡ true → Clean old readable (act s j o).0
     go (op.New p n) fits held =
         clean-put old readable (record s { made = with_made s.made j (record { domain = p.domain; fields = replicate n Nil }) }) p (Obj (next_birth s.made j))
         (clean-made old readable s j p.domain n c) (omega (arith, c.grown j))
@@ -144,14 +152,14 @@ clean-step old readable setup s j o c own fits = step-keeps (Clean old readable)
     go (op.Len p) fits held = object-keeps (Clean old readable) s j (slot_of s p) _ c (λ b e. c)
     go (op.Set p i v) fits held =
         let root = c.roots p (own p (and_parts _ _ held).0 fits.0) in
-        field-keeps (Clean old readable) s j (slot_of s p) i _ c (λ b e. clean-write old readable s b i (Num v) c (young-there old (slot_of s p) b e root) tt)
+        own_field-keeps (Clean old readable) s j (slot_of s p) i _ c (λ b e. clean-write old readable s b i (Num v) c (young-there old (slot_of s p) b e root) tt)
     go (op.Cut p i) fits held =
         let root = c.roots p (own p (and_parts _ _ held).0 fits.0) in
-        field-keeps (Clean old readable) s j (slot_of s p) i _ c (λ b e. clean-write old readable s b i Nil c (young-there old (slot_of s p) b e root) tt)
+        own_field-keeps (Clean old readable) s j (slot_of s p) i _ c (λ b e. clean-write old readable s b i Nil c (young-there old (slot_of s p) b e root) tt)
     go (op.Link p i q) fits held =
         let root = c.roots p (own p (and_parts _ _ held).0 fits.0) in
         let other = c.roots q (own q (and_parts _ _ (and_parts _ _ held).1).0 fits.2) in
-        field-keeps (Clean old readable) s j (slot_of s p) i _ c (λ b e. clean-write old readable s b i (slot_of s q) c (young-there old (slot_of s p) b e root) other)
+        own_field-keeps (Clean old readable) s j (slot_of s p) i _ c (λ b e. clean-write old readable s b i (slot_of s q) c (young-there old (slot_of s p) b e root) other)
     go (op.Load p i q) fits held =
         let root = c.roots p (own p (and_parts _ _ held).0 fits.0) in
         field-keeps (Clean old readable) s j (slot_of s p) i _ c (λ b e. clean-put old readable s q (field_of s b i) c (c.fields b (young-there old (slot_of s p) b e root) i))
@@ -223,9 +231,9 @@ makes-step s j o = step-keeps (Makes j (new_of o) s) s j o (makes-none j (new_of
         }
     go (op.Who p) = same (op.Who p)
     go (op.Len p) = object-keeps (Makes j 0 s) s j (slot_of s p) _ (same (op.Len p)) (λ b e. same (op.Len p))
-    go (op.Set p i v) = field-keeps (Makes j 0 s) s j (slot_of s p) i _ (same (op.Set p i v)) (λ b e. written (op.Set p i v) b i (Num v))
-    go (op.Cut p i) = field-keeps (Makes j 0 s) s j (slot_of s p) i _ (same (op.Cut p i)) (λ b e. written (op.Cut p i) b i Nil)
-    go (op.Link p i q) = field-keeps (Makes j 0 s) s j (slot_of s p) i _ (same (op.Link p i q)) (λ b e. written (op.Link p i q) b i (slot_of s q))
+    go (op.Set p i v) = own_field-keeps (Makes j 0 s) s j (slot_of s p) i _ (same (op.Set p i v)) (λ b e. written (op.Set p i v) b i (Num v))
+    go (op.Cut p i) = own_field-keeps (Makes j 0 s) s j (slot_of s p) i _ (same (op.Cut p i)) (λ b e. written (op.Cut p i) b i Nil)
+    go (op.Link p i q) = own_field-keeps (Makes j 0 s) s j (slot_of s p) i _ (same (op.Link p i q)) (λ b e. written (op.Link p i q) b i (slot_of s q))
     go (op.Load p i q) = field-keeps (Makes j 0 s) s j (slot_of s p) i _ (same (op.Load p i q)) (λ b e. makes-none j 0 s (with_slot s q (field_of s b i)) (λ l. refl))
     go (op.Copy p q) = makes-none j 0 s (with_slot s q (slot_of s p)) (λ l. refl)
     go (op.Clear p) = makes-none j 0 s (with_slot s p Nil) (λ l. refl)
@@ -253,9 +261,9 @@ small-step s j o few h = step-keeps AreSmall s j o h (λ _. go o few)
         (h d)
     go (op.Who p) few = h
     go (op.Len p) few = object-keeps AreSmall s j (slot_of s p) _ h (λ b e. h)
-    go (op.Set p i v) few = field-keeps AreSmall s j (slot_of s p) i _ h (λ b e. written-small s b i (Num v) h)
-    go (op.Cut p i) few = field-keeps AreSmall s j (slot_of s p) i _ h (λ b e. written-small s b i Nil h)
-    go (op.Link p i q) few = field-keeps AreSmall s j (slot_of s p) i _ h (λ b e. written-small s b i (slot_of s q) h)
+    go (op.Set p i v) few = own_field-keeps AreSmall s j (slot_of s p) i _ h (λ b e. written-small s b i (Num v) h)
+    go (op.Cut p i) few = own_field-keeps AreSmall s j (slot_of s p) i _ h (λ b e. written-small s b i Nil h)
+    go (op.Link p i q) few = own_field-keeps AreSmall s j (slot_of s p) i _ h (λ b e. written-small s b i (slot_of s q) h)
     go (op.Load p i q) few = field-keeps AreSmall s j (slot_of s p) i _ h (λ b e. h)
     go (op.Copy p q) few = h
     go (op.Clear p) few = h

@@ -1,14 +1,17 @@
 -- In the theorem.
--- The workload of `churn`: the trace of a starting number and of so many drawn operations for each of its two lanes.
-use Rattle.std.specs.Prelude.{ℕ, ◌+◌, ◌-◌, ◌*◌, ◌/◌, ◌%◌, ◌==◌, min, List, [], ◌∷◌, ◌++◌, map, filter, slice_index, zero, suc}
+-- The workload of `churn`: the trace, of version 1, of a starting number and of so many drawn operations for each of its two lanes.
+use Rattle.std.specs.Prelude.{ℕ, ◌+◌, ◌-◌, ◌*◌, ◌/◌, ◌%◌, min, List, [], ◌∷◌, ◌++◌, map, filter, zero, suc}
 use Rattle.std.specs.List.{flat_map}
 use Rattle.bc_model.specs.Lists.{PhaseLists, TraceLists}
-use Rattle.bc_model.specs.Run.{opening, after_gives}
-use Rattle.bc_model.specs.State.{numbers_below}
+use Rattle.bc_model.specs.Run.{opening, after_changes}
+use Rattle.bc_model.specs.State.{holder_of, lets_write, numbers_below}
 use Rattle.bc_model.specs.declared.operations.Op.{Op}
 use Rattle.bc_model.specs.declared.operations.Op.TheVariants as ops
+use Rattle.bc_model.specs.declared.traces.Change.{Change}
+use Rattle.bc_model.specs.declared.traces.Change.TheVariants as changes
 use Rattle.bc_model.specs.declared.traces.Give.{Give}
 use Rattle.bc_model.specs.declared.traces.Setup.{Setup}
+use Rattle.bc_model.specs.declared.values.Holder.{Holder}
 use Rattle.bc_churn.specs.Draws.{draw, draws, next_number, number_after, drawn_op, number_after_ops}
 
 -- two lanes, four domains of eight slots, 32 superpages
@@ -31,35 +34,35 @@ abbrev pub drawn_ops : ℕ → ℕ → List Op
 drawn_ops n x = map (λ i. drawn_op (number_after_ops i x)) (numbers_below n)
 
 -- those of the first n domains that lane j holds
-abbrev pub held_below : List ℕ → ℕ → ℕ → List ℕ
-held_below holders j n = filter (λ d. slice_index holders d == j) (numbers_below n)
+abbrev pub held_below : List Holder → ℕ → ℕ → List ℕ
+held_below holders j n = filter (λ d. lets_write (holder_of holders d) j) (numbers_below n)
 
 -- a clear of each slot of a domain
 unfoldable pub domain_clears : ℕ → List Op
 domain_clears d = map (λ s. ops.Clear (record { domain = d; slot = s })) (numbers_below 8)
 
 -- a clear of each slot of those of the first n domains that the lane holds
-unfoldable pub clears_below : List ℕ → ℕ → ℕ → List Op
+unfoldable pub clears_below : List Holder → ℕ → ℕ → List Op
 clears_below holders j n = flat_map domain_clears (held_below holders j n)
 
 -- what each lane begins a phase with: a clear of each slot of each domain that it holds
-abbrev pub lane_clears : List ℕ → ℕ → List Op
+abbrev pub lane_clears : List Holder → ℕ → List Op
 lane_clears holders j = clears_below holders j 4
 
 -- the operations of a lane: its clears, and then n drawn ones
-abbrev pub churn_lane : ℕ → ℕ → List ℕ → ℕ → List Op
+abbrev pub churn_lane : ℕ → ℕ → List Holder → ℕ → List Op
 churn_lane n x holders j = lane_clears holders j ++ drawn_ops n (number_before_lane n x j)
 
 -- the last draw of phase k, which counts from 0
 abbrev pub churn_give : ℕ → ℕ → ℕ → Give
 churn_give k n x = record { domain = (k + 1) % 4; lane = draw (number_before_lane n x 2) 2 }
 
--- phase k with n drawn operations a lane, from the number x before it and the lanes that hold the domains then
-unfoldable pub phase_from : ℕ → ℕ → ℕ → List ℕ → PhaseLists
+-- phase k with n drawn operations a lane, from the number x before it and who holds the domains then
+unfoldable pub phase_from : ℕ → ℕ → ℕ → List Holder → PhaseLists
 phase_from k n x holders = record {
   turns = drawn_hints x ∷ drawn_hints (number_after 3 x) ∷ [];
   lanes = churn_lane n x holders 0 ∷ churn_lane n x holders 1 ∷ [];
-  gives = churn_give k n x ∷ [];
+  gives = changes.Give (churn_give k n x) ∷ [];
 }
 
 -- the number after a phase's draws, of which the give is the last
@@ -85,9 +88,13 @@ number_before start ops (suc k) = number_after_phase (ops_in ops k) (number_befo
 abbrev pub phase_give : ℕ → ℕ → ℕ → Give
 phase_give start ops k = churn_give k (ops_in ops k) (number_before start ops k)
 
+-- as one of the changes that a phase ends with
+abbrev pub phase_change : ℕ → ℕ → ℕ → Change
+phase_change start ops k = changes.Give (phase_give start ops k)
+
 -- whose each domain is in phase k, by the gives of the phases before it
-abbrev pub holders_before : ℕ → ℕ → ℕ → List ℕ
-holders_before start ops k = (after_gives (opening churn_setup) (map (phase_give start ops) (numbers_below k))).holders
+abbrev pub holders_before : ℕ → ℕ → ℕ → List Holder
+holders_before start ops k = (after_changes (opening churn_setup) (map (phase_change start ops) (numbers_below k))).holders
 
 -- phase k of the trace
 abbrev pub churn_phase : ℕ → ℕ → ℕ → PhaseLists
@@ -95,4 +102,4 @@ churn_phase start ops k = phase_from k (ops_in ops k) (number_before start ops k
 
 -- the trace that `bc churn start ops` replays
 unfoldable pub churn_trace : ℕ → ℕ → TraceLists
-churn_trace start ops = record { setup = churn_setup; phases = map (churn_phase start ops) (numbers_below (phases_of ops)) }
+churn_trace start ops = record { version = 1; setup = churn_setup; phases = map (churn_phase start ops) (numbers_below (phases_of ops)) }

@@ -8,7 +8,7 @@ use Rattle.bc_model.specs.declared.operations.Reply.{Reply}
 use Rattle.bc_model.specs.declared.operations.Reply.TheVariants as replies
 use Rattle.bc_trace.specs.Replies.{done_text}
 
--- the place of a reply's kind among the eleven
+-- the place of a reply's kind among the twelve, of which eleven are printed: no trace of version 1 has a reply of the last
 unfoldable pub kind_of_reply : Reply → ℕ
 kind_of_reply (replies.Obj b) = 0
 kind_of_reply replies.Done = 1
@@ -21,8 +21,9 @@ kind_of_reply replies.No = 7
 kind_of_reply replies.NotObj = 8
 kind_of_reply replies.Range = 9
 kind_of_reply replies.Foreign = 10
+kind_of_reply replies.Frozen = 11
 
--- how the kinds are written, each at its place
+-- how the eleven kinds are written that are printed, each at its place
 abbrev pub kind_names : List (List ℕ)
 kind_names = codes "obj" ∷ codes "ok" ∷ codes "nil" ∷ codes "num" ∷ codes "ref" ∷ codes "len" ∷ codes "yes" ∷ codes "no" ∷ codes "notobj" ∷ codes "range" ∷ codes "foreign" ∷ []
 
@@ -30,9 +31,9 @@ kind_names = codes "obj" ∷ codes "ok" ∷ codes "nil" ∷ codes "num" ∷ code
 abbrev pub count_of_kind : ℕ → List Reply → ℕ
 count_of_kind k rs = count_by (λ r. kind_of_reply r == k) rs
 
--- the eleven counts, each at the place of its kind
+-- the twelve counts, each at the place of its kind
 unfoldable pub counts : List Reply → List ℕ
-counts rs = map (λ k. count_of_kind k rs) (numbers_below 11)
+counts rs = map (λ k. count_of_kind k rs) (numbers_below 12)
 
 -- the replies of a phase, lane after lane
 abbrev pub phase_replies : List (List Reply) → List Reply
@@ -52,7 +53,7 @@ run_counts phases = counts (all_replies phases)
 unfoldable pub count_line : List ℕ → ℕ → List ℕ
 count_line name n = name ++ 32 ∷ decimal n ++ 10 ∷ []
 
--- from the count at k on, each after its name
+-- from the count at k on, each after its name, as many as there are names
 abbrev pub count_lines : List (List ℕ) → List ℕ → ℕ → List ℕ
 count_lines [] cs k = []
 count_lines (name ∷ names) cs k = count_line name (slice_index cs k) ++ count_lines names cs (suc k)
@@ -61,6 +62,6 @@ count_lines (name ∷ names) cs k = count_line name (slice_index cs k) ++ count_
 unfoldable pub churn_line : ℕ → ℕ → List ℕ
 churn_line start ops = codes "churn " ++ decimal start ++ 32 ∷ decimal ops ++ 10 ∷ []
 
--- the line of the workload, the eleven counts, and the last line
+-- the line of the workload, the first eleven counts, and the last line
 unfoldable pub churn_text : ℕ → ℕ → List ℕ → List ℕ
 churn_text start ops cs = churn_line start ops ++ count_lines kind_names cs 0 ++ done_text

@@ -1,11 +1,12 @@
 //! The workload of `churn`: a trace that a starting number and a number of operations give.
 ghost use Rattle.std.specs.Prelude.{◌≡◌, ◌+◌, ◌%◌, ◌<◌, ◌≤◌, ◌^◌, ◌++◌, IfOk, OnOk, slice_set};
 ghost use Rattle.bc_model.specs.WellFormed.{IsTrace};
+ghost use Rattle.bc_model.specs.declared.values.Holder.TheVariants.{Lane};
 ghost use Rattle.bc_churn.specs.Draws.{draw, next_number, number_after_ops};
 ghost use Rattle.bc_churn.specs.Churn.{churn_give, churn_trace, domain_clears, drawn_ops, lane_clears, number_after_phase, phase_from};
 
 use crate::draws::{DOMAINS, Generator, SLOTS};
-use bc_model::{Give, Op, Phase, Setup, Slot, Trace};
+use bc_model::{Change, Give, Holder, Op, Phase, Setup, Slot, Trace};
 use std::alloc::{AllocError, Global};
 
 /// The most drawn operations of a lane in a phase.
@@ -30,10 +31,13 @@ fn clears_of(domain: u32) -> [Op; 8]
 }
 
 /// How many domains the lane holds.
-fn count_held(holders: &[u32; 4], lane: u32) -> usize
+fn count_held(holders: &[Holder; 4], lane: u32) -> usize
     ensures { result ≤ 4 }
 {
-    holders.iter().filter(|holder| **holder == lane).count()
+    holders
+        .iter()
+        .filter(|holder| holder.lets_write(lane))
+        .count()
 }
 
 /// The operations of a lane: what it begins the phase with, and `count` drawn ones.
@@ -41,7 +45,7 @@ fn count_held(holders: &[u32; 4], lane: u32) -> usize
 fn lane_ops(
     alloc: Global,
     generator: &mut Generator,
-    holders: &[u32; 4],
+    holders: &[Holder; 4],
     lane: u32,
     count: u32,
 ) -> Result<Vec<Op>, AllocError>
@@ -51,7 +55,7 @@ fn lane_ops(
     let clears = count_held(holders, lane) * SLOTS as usize;
     let mut ops = Vec::with_capacity(alloc, clears + count as usize)?;
     for domain in 0..DOMAINS {
-        if holders[domain as usize] == lane {
+        if holders[domain as usize].lets_write(lane) {
             ops.extend_from_slice(&clears_of(domain))?;
         }
     }
@@ -62,18 +66,18 @@ fn lane_ops(
 }
 
 /// The give at the end of phase `phase`, which counts from 0. The domain is the lane's from then on.
-fn draw_give(generator: &mut Generator, holders: &mut [u32; 4], phase: u32) -> Give
+fn draw_give(generator: &mut Generator, holders: &mut [Holder; 4], phase: u32) -> Give
     requires { phase + 1 < 2 ^ 32 }
     ensures domain { result.domain ≡ (phase + 1) % 4 }
     ensures lane { result.lane ≡ draw generator.old 2 }
     ensures next { generator.new ≡ next_number generator.old }
-    ensures holders { holders.new ≡ slice_set holders.old result.domain result.lane }
+    ensures holders { holders.new ≡ slice_set holders.old result.domain (Lane result.lane) }
 {
     let give = Give {
         domain: (phase + 1) % DOMAINS,
         lane: generator.draw(2),
     };
-    holders[give.domain as usize] = give.lane;
+    holders[give.domain as usize] = Holder::Lane(give.lane);
     give
 }
 
@@ -82,14 +86,14 @@ fn draw_give(generator: &mut Generator, holders: &mut [u32; 4], phase: u32) -> G
 fn draw_phase(
     alloc: Global,
     generator: &mut Generator,
-    holders: &mut [u32; 4],
+    holders: &mut [Holder; 4],
     phase: u32,
     count: u32,
 ) -> Result<Phase, AllocError>
     requires { phase + 1 < 2 ^ 32 }
     ensures phase { IfOk result (λ p. p ≡ phase_from phase count generator.old holders.old) }
     ensures next { OnOk result (generator.new ≡ number_after_phase count generator.old) }
-    ensures holders { OnOk result (holders.new ≡ slice_set holders.old (churn_give phase count generator.old).domain (churn_give phase count generator.old).lane) }
+    ensures holders { OnOk result (holders.new ≡ slice_set holders.old (churn_give phase count generator.old).domain (Lane (churn_give phase count generator.old).lane)) }
 {
     let first = Vec::from_slice(alloc, &generator.hints())?;
     let second = Vec::from_slice(alloc, &generator.hints())?;
@@ -97,7 +101,7 @@ fn draw_phase(
     let first = lane_ops(alloc, generator, holders, 0, count)?;
     let second = lane_ops(alloc, generator, holders, 1, count)?;
     let lanes = vec![in alloc; first, second]?;
-    let gives = vec![in alloc; draw_give(generator, holders, phase)]?;
+    let gives = vec![in alloc; Change::Give(draw_give(generator, holders, phase))]?;
     Ok(Phase {
         turns,
         lanes,
@@ -111,7 +115,12 @@ pub fn generate(alloc: Global, start: u64, ops: u32) -> Result<Trace, AllocError
     ensures formed { IfOk result (λ t. IsTrace t) }
 {
     let mut generator = Generator::new(start);
-    let mut holders = [0, 1, 0, 1];
+    let mut holders = [
+        Holder::Lane(0),
+        Holder::Lane(1),
+        Holder::Lane(0),
+        Holder::Lane(1),
+    ];
     let count = ops.div_ceil(OPS_A_PHASE);
     let mut phases = Vec::with_capacity(alloc, count as usize)?;
     for phase in 0..count {
@@ -128,5 +137,9 @@ pub fn generate(alloc: Global, start: u64, ops: u32) -> Result<Trace, AllocError
         buffer: 64,
         frames: 24,
     };
-    Ok(Trace { setup, phases })
+    Ok(Trace {
+        version: 1,
+        setup,
+        phases,
+    })
 }

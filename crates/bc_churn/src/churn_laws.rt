@@ -1,5 +1,5 @@
 //! What the definitions of `churn` say together: functions that do nothing, whose contracts are the laws.
-ghost use Rattle.std.specs.Prelude.{◌≡◌, ◌↔◌, ◌+◌, ◌*◌, ◌<◌, ◌≤◌, ℕ, List, [], length, slice_index_or, sum};
+ghost use Rattle.std.specs.Prelude.{◌≡◌, ◌↔◌, ◌+◌, ◌*◌, ◌<◌, ◌≤◌, ℕ, List, codes, length, slice_index, slice_index_or, sum, take};
 ghost use Rattle.bc_model.specs.Need.{IsNeed};
 ghost use Rattle.bc_model.specs.Lists.{TraceLists};
 ghost use Rattle.bc_model.specs.Run.{after_cut, before, final_state, phase_at, replies_of};
@@ -24,10 +24,11 @@ pub fn law_kinds()
     ensures below { (x m : ℕ) → 0 < m → draw x m < m }
 {}
 
-/// Law: the trace is well formed, has a phase for each thousand operations of a lane or part of it, and in each the lanes begin
+/// Law: the trace is well formed, of version 1, has a phase for each thousand operations of a lane or part of it, and in each the lanes begin
 /// with clears of what they hold then by the run of the plain heap.
 pub fn law_churn_trace()
     ensures formed { (start ops : ℕ) → IsTrace (churn_trace start ops) }
+    ensures version { (start ops : ℕ) → (churn_trace start ops).version ≡ 1 }
     ensures setup { (start ops : ℕ) → (churn_trace start ops).setup ≡ churn_setup }
     ensures phases { (start ops : ℕ) → length (churn_trace start ops).phases ≡ phases_of ops }
     ensures phase { (start ops k : ℕ) → k < phases_of ops → phase_at (churn_trace start ops) k ≡ churn_phase start ops k }
@@ -40,16 +41,18 @@ pub fn law_churn_ops()
     ensures trace { (start ops : ℕ) → all_ops_of (churn_trace start ops) ≡ 2 * ops + 32 * phases_of ops }
 {}
 
-/// Law: the line of a reply begins with the name of its kind.
+/// Law: the line of a reply begins with the name of its kind; the kind past those that are printed is `frozen`.
 pub fn law_reply_kinds()
-    ensures { (r : Reply) → IsNamed (reply_word r) (slice_index_or kind_names (kind_of_reply r) []) }
+    ensures { (r : Reply) → IsNamed (reply_word r) (slice_index_or kind_names (kind_of_reply r) (codes "frozen")) }
 {}
 
-/// Law: each reply is counted once, and each operation of a run has one.
+/// Law: each reply is counted once, and each operation of a run has one. In a run of version 1 none is `frozen`, so the counts
+/// that are printed are all of the churn's.
 pub fn law_counts()
     ensures replies { (phases : List (List (List Reply))) → sum (run_counts phases) ≡ length (all_replies phases) }
     ensures run { (t : TraceLists) → sum (run_counts (replies_of t)) ≡ all_ops_of t }
-    ensures churn { (start ops : ℕ) → sum (run_counts (replies_of (churn_trace start ops))) ≡ 2 * ops + 32 * phases_of ops }
+    ensures frozen { (t : TraceLists) → IsTrace t → t.version ≡ 1 → slice_index (run_counts (replies_of t)) (kind_of_reply Reply.Frozen) ≡ 0 }
+    ensures churn { (start ops : ℕ) → sum (take (length kind_names) (run_counts (replies_of (churn_trace start ops)))) ≡ 2 * ops + 32 * phases_of ops }
 {}
 
 /// Law: no state of the run needs more than 27 superpages, of which the setup has 32.

@@ -12,10 +12,10 @@ use std::marker::Model;
 /// The most bytes that the output of `churn` has.
 const CHURN: usize = 325;
 
-/// How many replies of each of the eleven kinds a run has had so far.
+/// How many replies of each of the twelve kinds a run has had so far. The last is `frozen`, which isn't printed: the churn has none.
 #[derive(Clone, Copy, Debug)]
 pub struct Counts {
-    kinds: [u64; 11],
+    kinds: [u64; 12],
 }
 
 impl Model for Counts {
@@ -28,11 +28,11 @@ impl Model for Counts {
     ghost inverse = { λ cs. record { kinds = cs } };
 }
 
-/// The place of the reply's kind among the eleven.
+/// The place of the reply's kind among the twelve.
 #[tactic(auto, unfolding(crate::specs::Counts::kind_of_reply))]
 fn kind_of(reply: &Reply) -> usize
     ensures kind { result ≡ kind_of_reply reply.now }
-    ensures below { result < 11 }
+    ensures below { result < 12 }
 {
     match *reply {
         Reply::Obj(_) => 0,
@@ -46,6 +46,7 @@ fn kind_of(reply: &Reply) -> usize
         Reply::NotObj => 8,
         Reply::Range => 9,
         Reply::Foreign => 10,
+        Reply::Frozen => 11,
     }
 }
 
@@ -55,7 +56,7 @@ impl Counts {
     pub fn new() -> Counts
         ensures { result ≡ counts [] }
     {
-        Counts { kinds: [0; 11] }
+        Counts { kinds: [0; 12] }
     }
 
     /// Counts the replies of a lane too.
@@ -108,7 +109,7 @@ fn put_workload(out: &mut Vec<u8>, start: u64, ops: u32)
     put(out, b"\n");
 }
 
-/// Puts the lines of the eleven counts at the end.
+/// Puts the lines of the eleven counts that are printed at the end.
 fn put_counts(out: &mut Vec<u8>, counts: &Counts)
     requires room { length out.old.items + 282 ≤ vec_capacity out.old }
     ensures text { out.new.items ≡ out.old.items ++ count_lines kind_names counts.now 0 }

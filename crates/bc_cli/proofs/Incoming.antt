@@ -12,7 +12,7 @@ use Rattle.bc_model.specs.WellFormed.{IsOp, IsSetup, IsPhase, IsTrace}
 use Rattle.bc_model.specs.declared.operations.Op.{Op}
 use Rattle.bc_model.specs.declared.operations.Op.TheVariants as ops
 use Rattle.bc_model.specs.declared.traces.Setup.{Setup}
-use Rattle.bc_trace.specs.Lines.{lane, op, phase, turn, give, end, done, version, spelling, line_text, lane_lines, phase_lines, setup_lines, trace_text}
+use Rattle.bc_trace.specs.Lines.{lane, op, phase, turn, end, done, version, spelling, line_text, change_line, lane_lines, phase_lines, setup_lines, trace_text}
 use Rattle.bc_trace.specs.Words.{name, verb_name}
 use Rattle.bc_trace.specs.declared.words.Verb.{Verb}
 use Rattle.bc_trace.specs.declared.words.Verb.TheVariants as verbs
@@ -111,7 +111,7 @@ pub phase_frame : (p : PhaseLists) → 10 + length (flat_map line_text (lane_lin
 unfolding line_text spelling name
 phase_frame p =
     let lanes = lane_lines 0 p.lanes in
-    let tail = map give p.gives ++ end ∷ [] in
+    let tail = map change_line p.gives ++ end ∷ [] in
     omega (
       arith,
       length-append (line_text phase) (flat_map line_text (map turn p.turns ++ (lanes ++ tail))),
@@ -119,8 +119,8 @@ phase_frame p =
       length-append (flat_map line_text (map turn p.turns)) (flat_map line_text (lanes ++ tail)),
       ap length (flat_map-append line_text lanes tail),
       length-append (flat_map line_text lanes) (flat_map line_text tail),
-      ap length (flat_map-append line_text (map give p.gives) (end ∷ [])),
-      length-append (flat_map line_text (map give p.gives)) (flat_map line_text (end ∷ [])),
+      ap length (flat_map-append line_text (map change_line p.gives) (end ∷ [])),
+      length-append (flat_map line_text (map change_line p.gives)) (flat_map line_text (end ∷ [])),
     )
 
 pub length-phase_lines : (p : PhaseLists) (ps : List PhaseLists) → length (flat_map line_text (flat_map phase_lines (p ∷ ps))) ≡ length (flat_map line_text (phase_lines p)) + length (flat_map line_text (flat_map phase_lines ps))
@@ -150,7 +150,7 @@ trace_frame t =
     let lines = flat_map phase_lines t.phases in
     omega (
       arith,
-      length-append (line_text (version 1)) (flat_map line_text (setup_lines t.setup ++ (lines ++ done ∷ []))),
+      length-append (line_text (version t.version)) (flat_map line_text (setup_lines t.setup ++ (lines ++ done ∷ []))),
       ap length (flat_map-append line_text (setup_lines t.setup) (lines ++ done ∷ [])),
       length-append (flat_map line_text (setup_lines t.setup)) (flat_map line_text (lines ++ done ∷ [])),
       ap length (flat_map-append line_text lines (done ∷ [])),

@@ -31,6 +31,7 @@ short_reply reply.No h = omega arith
 short_reply reply.NotObj h = omega arith
 short_reply reply.Range h = omega arith
 short_reply reply.Foreign h = omega arith
+short_reply reply.Frozen h = omega arith
 
 -- of one reply to each operation
 pub length-replies_text : (s : State) (j : ℕ) (ops : List Op) → AllByRecursion IsShort (replies_to s j ops) → length (flat_map reply_text (replies_to s j ops)) ≤ 32 * length ops

@@ -8,13 +8,14 @@ use Rattle.bc_engine.proofs.Births.{births-opened}
 use Rattle.bc_engine.specs.EngineFacts.{HasRoomForBirths}
 use Rattle.bc_engine.specs.Lanes.{HasRoomForOps}
 use Rattle.bc_image.specs.Images.{IsImageListing}
+use Rattle.bc_image.specs.Listings.{ListingLists}
 use Rattle.bc_image.specs.Pictures.{Pictures}
-use Rattle.bc_image.specs.declared.listing.Holder.{Holder}
 use Rattle.bc_model.specs.Lists.{PhaseLists, TraceLists}
 use Rattle.bc_model.specs.Run.{opening}
 use Rattle.bc_model.specs.RunLengths.{all_ops_of, ops_of}
 use Rattle.bc_model.specs.State.{State}
 use Rattle.bc_model.specs.declared.traces.Setup.{Setup}
+use Rattle.bc_model.specs.declared.values.Holder.{Holder}
 use Rattle.bc_picture.specs.SpaceListing.{heap_listing}
 use Rattle.bc_superpages.specs.Layout.{Layout}
 use Rattle.bc_superpages.specs.RootWords.{RootWords}
@@ -86,9 +87,13 @@ error-more P Q (Ok x) h more = h
 error-more P Q (Err e) h more = more h
 
 -- what can be written of a heap is such an image, of every state that it pictures
-pub listing-of : (setup : Setup) (done : ℕ) (holders : List Holder) (births : List ℕ) (r : RootWords) (s : Layout) (state : State) → IsImageListing (heap_listing 1 setup done holders births r s) → Pictures (heap_listing 1 setup done holders births r s) state
-    → IsListingOf setup done state (heap_listing 1 setup done holders births r s)
-listing-of setup done holders births r s state image pictures = record { image = image; version = refl; setup = refl; phases = refl; pictures = pictures }
+pub listing-of : (version : ℕ) (setup : Setup) (done : ℕ) (holders : List Holder) (births : List ℕ) (r : RootWords) (s : Layout) (state : State) → IsImageListing (heap_listing version setup done holders births r s) → Pictures (heap_listing version setup done holders births r s) state
+    → IsListingOf version setup done state (heap_listing version setup done holders births r s)
+listing-of version setup done holders births r s state image pictures = record { image = image; version = refl; setup = refl; phases = refl; pictures = pictures }
+
+-- such an image of a trace's version and setup is one of the trace
+pub of-trace : (t : TraceLists) (version : ℕ) (setup : Setup) (done : ℕ) (s : State) (l : ListingLists) → version ≡ t.version → setup ≡ t.setup → IsListingOf version setup done s l → IsListingOf t.version t.setup done s l
+of-trace t version setup done s l v same h = subst (λ (n : ℕ). IsListingOf n t.setup done s l) v (subst (λ (z : Setup). IsListingOf version z done s l) same h)
 
 -- of an engine that has run phases of a trace that was read
 pub births-saved : (t : TraceLists) (setup : Setup) (e f : EngineView) (count : ℕ) (xs : List ℕ) → all_ops_of t + length t.phases ≤ 16777216 → EngineStands e (opening setup)

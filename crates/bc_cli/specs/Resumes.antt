@@ -28,9 +28,9 @@ pub record ReadAsResumed (old new : Option (List ℕ)) (l : ListingLists) (t : T
   pub image : ImageOf bytes l rest
   pub spelled : Spells rest t
 
--- the image goes with the trace: its version is that of a trace, its setup is the trace's, and the trace has the phases that are done
+-- the image goes with the trace: its version and its setup are the trace's, and the trace has the phases that are done
 pub record GoesWith (l : ListingLists) (t : TraceLists) : Type 0 where
-  pub version : l.version ≡ 1
+  pub version : l.version ≡ t.version
   pub setup : l.setup ≡ t.setup
   pub phases : l.phases ≤ length t.phases
 

@@ -16,17 +16,17 @@ use Rattle.bc_cli.specs.Courses.{Course, after_cut, before, whole_course}
 use Rattle.bc_cli.specs.Endings.{HandsBack, NeedsFit, NeedsMore, WritesFront}
 use Rattle.bc_cli.specs.Outcomes.{MayGive, ReadAsTrace, longest_trace}
 
--- The listing is what an image may list. It has version 1, the setup and so many phases done, and it pictures the state.
-pub record IsListingOf (given : Setup) (done : ℕ) (s : State) (l : ListingLists) : Type 0 where
+-- The listing is what an image may list. It has this version, the setup and so many phases done, and it pictures the state.
+pub record IsListingOf (language : ℕ) (given : Setup) (done : ℕ) (s : State) (l : ListingLists) : Type 0 where
   pub image : IsImageListing l
-  pub version : l.version ≡ 1
+  pub version : l.version ≡ language
   pub setup : l.setup ≡ given
   pub phases : l.phases ≡ done
   pub pictures : Pictures l s
 
--- the listing is that of the state after the first phases of the trace, so many
+-- the listing is that of the state after the first phases of the trace, so many, and it has the trace's version
 abbrev pub IsSaved : TraceLists → ℕ → ListingLists → Type 0
-IsSaved t count l = IsListingOf t.setup count (before (whole_course t) count) l
+IsSaved t count l = IsListingOf t.version t.setup count (before (whole_course t) count) l
 
 -- A trace was read that has so many phases, and the image of the state after these is written. After each of them the need was at most
 -- the number of superpages.

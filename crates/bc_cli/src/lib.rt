@@ -27,7 +27,8 @@
 //
 // `churn` adds each phase's replies to eleven numbers and drops them. Room for its text is taken before the first phase, and the text
 // is made after the last one and written as a whole. No state of its run needs more than 27 of its 32 superpages. `save` drops the
-// replies too. What it takes to write an image is taken before the first phase, so that memory runs out there or in the engine alone.
+// replies too. Its image has the trace's version, and so no frozen domain in version 1. To write one takes no memory, so memory runs out
+// before the first phase or in the engine alone.
 #![tactic(auto)]
 
 mod churn;

@@ -26,13 +26,12 @@ ghost use Rattle.bc_cli.specs.Resumes.{FaultyAfterImage, GoesWith, HasRoomToResu
 
 use crate::outcome::Outcome;
 use crate::run::replay_on;
-use crate::save::VERSION;
 use crate::status::Status;
 use bc_gates::Gate;
 use bc_image::{Listing, law_pictured, scan};
 use bc_io::{Sink, Source, read_all};
 use bc_model::Trace;
-use bc_saving::{adopt_listing, first_version_lanes};
+use bc_saving::adopt_listing;
 use bc_trace::read;
 use std::alloc::Global;
 use std::thread::Threads;
@@ -185,12 +184,12 @@ fn parse(alloc: Global, bytes: &[u8]) -> Result<Resumable, Status>
     Ok(Resumable { listing, trace })
 }
 
-/// Whether the image goes with the trace.
+/// Whether the image goes with the trace. An image of another version doesn't, also where it has no frozen domain.
 fn goes_with(listing: &Listing, trace: &Trace) -> bool
     ensures yes { result ≡ true → GoesWith listing.now trace.now }
     ensures no { result ≡ false → ¬ GoesWith listing.now trace.now }
 {
-    listing.version == VERSION
+    listing.version == trace.version
         && listing.setup == trace.setup
         && listing.phases as usize <= trace.phases.len()
 }
@@ -238,7 +237,6 @@ where
     ensures account { IfSome result.heap KeepsAccount }
 {
     law_pictured();
-    first_version_lanes(&listing);
     let Ok(engine) = adopt_listing(alloc, &listing, workers) else {
         return Outcome::without_heap(Status::NoMemory);
     };

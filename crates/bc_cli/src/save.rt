@@ -1,18 +1,17 @@
 //! `save`: the first phases of a trace are replayed, and the image of the heap after them is written in place of their texts.
 
-ghost use Rattle.std.specs.Prelude.{◌≡◌, ◌≢◌, ◌⊎◌, ℕ, ◌+◌, ◌^◌, ◌<◌, ◌≤◌, List, Some, None, Ok, length, drop, map, sum_by, IfSome, IsErr, OnErr, OnOk};
+ghost use Rattle.std.specs.Prelude.{◌≡◌, ◌≢◌, ◌⊎◌, ℕ, ◌+◌, ◌^◌, ◌<◌, ◌≤◌, List, Some, None, Ok, length, drop, sum_by, IfSome, IsErr, OnErr, OnOk};
 ghost use Rattle.std.specs.List.{AllByRecursion};
 ghost use Rattle.bc_engine.specs.EngineFacts.{HasRoomForBirths};
 ghost use Rattle.bc_engine.specs.Parts.{CanAdopt, PartsStand};
 ghost use Rattle.bc_engine.specs.declared.engines.Ended.{Ended};
 ghost use Rattle.bc_image.specs.Images.{image_bytes};
 ghost use Rattle.bc_image.specs.Listings.{ListingLists};
-ghost use Rattle.bc_image.specs.declared.listing.Holder.TheVariants.{Lane};
 ghost use Rattle.bc_io.specs.Faults.{Rose};
 ghost use Rattle.bc_io.specs.Told.{GivesAtMost, GivesExactly, HasRoom, HeldGrows};
 ghost use Rattle.bc_model.specs.Lists.{TraceLists};
 ghost use Rattle.bc_model.specs.RunLengths.{all_ops_of, ops_of};
-ghost use Rattle.bc_model.specs.State.{State};
+ghost use Rattle.bc_model.specs.State.{NoneFrozen, State};
 ghost use Rattle.bc_model.specs.WellFormed.{IsTrace};
 ghost use Rattle.bc_trace.specs.Faults.{Fault};
 ghost use Rattle.bc_trace.specs.Lines.{Spells};
@@ -31,16 +30,13 @@ use crate::phases::run_phase;
 use crate::status::Status;
 use bc_engine::{Engine, Parts};
 use bc_gates::Gate;
-use bc_image::Holder;
 use bc_io::{Sink, Source, WriteFault};
+use bc_model::laws::law_first_version;
 use bc_model::{Setup, Trace};
 use bc_picture::write;
-use bc_saving::{law_writable, put_holders};
+use bc_saving::law_writable;
 use std::alloc::{AllocError, Global};
 use std::thread::Threads;
-
-/// The version of an image that goes with a trace.
-pub(crate) const VERSION: u32 = 1;
 
 /// Reads a trace from the source, replays its first phases, so many, and writes the image of the heap after them to the sink.
 pub(crate) fn save<R, S, K, G>(
@@ -142,17 +138,15 @@ where
     if count > trace.phases.len() as u64 {
         return Outcome::without_heap(Status::Mismatch);
     }
+    // In version 1 no domain is ever frozen, and no image of it says so of one.
+    law_first_version();
     let Ok(mut engine) = Engine::open(alloc, &trace.setup, workers) else {
-        return Outcome::without_heap(Status::NoMemory);
-    };
-    let Ok(mut holders) = Vec::with_capacity(alloc, trace.setup.domains as usize) else {
         return Outcome::without_heap(Status::NoMemory);
     };
     match run_first(rt, alloc, &mut engine, trace, count as usize, gate) {
         Ok(None) => {
             let parts = engine.split();
-            put_holders(&mut holders, &parts.holders);
-            match put_image(sink, &trace.setup, count as u32, &holders, parts) {
+            match put_image(sink, trace.version, &trace.setup, count as u32, parts) {
                 Ok(()) => Outcome::without_heap(Status::Done),
                 Err(_) => Outcome::without_heap(Status::WriteFault),
             }
@@ -162,35 +156,36 @@ where
     }
 }
 
-/// Writes the image of the heap of an engine that has run so many phases and was taken apart. It takes no memory.
+/// Writes the image of this version of the heap of an engine that has run so many phases and was taken apart. It takes no memory.
 fn put_image<K: Sink>(
     sink: &mut K,
+    version: u32,
     setup: &Setup,
     done: u32,
-    holders: &[Holder],
     parts: Parts,
 ) -> Result<(), WriteFault>
+    requires version { (1 ≤ version) × (version ≤ 3) }
     requires parts { CanAdopt setup.now parts.holders.items parts.births.items parts.roots parts.space }
-    requires holders { holders.now ≡ map Lane parts.holders.items }
+    requires holders { NoneFrozen parts.holders.items ⊎ (2 ≤ version) }
     requires births { AllByRecursion (λ n. n ≤ 4000000000) parts.births.items }
     requires room { (s : State) × PartsStand setup.now parts.holders.items parts.births.items parts.roots parts.space s
-        × ((l : ListingLists) → IsListingOf setup.now done s l → HasRoom (K.room sink.old) (length (image_bytes l))) }
+        × ((l : ListingLists) → IsListingOf version setup.now done s l → HasRoom (K.room sink.old) (length (image_bytes l))) }
     ensures written { (s : State) → PartsStand setup.now parts.holders.items parts.births.items parts.roots parts.space s →
-        OnOk result ((l : ListingLists) × IsListingOf setup.now done s l × HeldGrows (K.held sink.old) (K.held sink.new) (image_bytes l)) }
+        OnOk result ((l : ListingLists) × IsListingOf version setup.now done s l × HeldGrows (K.held sink.old) (K.held sink.new) (image_bytes l)) }
     ensures front { (s : State) → PartsStand setup.now parts.holders.items parts.births.items parts.roots parts.space s →
-        OnErr result ((l : ListingLists) × IsListingOf setup.now done s l × WritesFront (K.held sink.old) (K.held sink.new) (image_bytes l)) }
+        OnErr result ((l : ListingLists) × IsListingOf version setup.now done s l × WritesFront (K.held sink.old) (K.held sink.new) (image_bytes l)) }
     ensures cause { OnErr result (Rose (K.faults sink.old) (K.faults sink.new)) }
     ensures firm { OnOk result (K.faults sink.new ≡ K.faults sink.old) }
 {
-    law_writable(VERSION, setup, done, holders, &parts);
+    law_writable(version, setup, done, &parts);
     let Parts {
+        holders,
         births,
         roots,
         mut space,
-        ..
     } = parts;
     write(
-        sink, VERSION, setup, done, holders, &births, &roots, &mut space,
+        sink, version, setup, done, &holders, &births, &roots, &mut space,
     )
 }
 

@@ -190,7 +190,7 @@ where
         ¬ Rose (K.faults sink.old) (K.faults sink.new) → IsOrNoMemory result.status Status.Done }
 
     // `save`, status 0: the bytes that the source had are the text of a trace that has so many phases, none is left, and what was
-    // written is an image of version 1, of the trace's setup and so many phases done, which pictures the plain heap's state after
+    // written is an image of the trace's version and setup and so many phases done, which pictures the plain heap's state after
     // these. After each of them the need was at most the number of superpages. No heap is handed back.
     ensures save_done { (phases workers : ℕ) → IsCommandOf (map (λ w. w.now) words.now) (Save phases workers) →
         result.status ≡ Status.Done →
@@ -218,7 +218,7 @@ where
         result.status ≡ Status.Mismatch → HasFewerPhases (S.left source.old) (S.left source.new) phases × (sink.new ≡ sink.old) }
 
     // `resume`, status 0: the bytes that the source had are an image and after it the text of a trace, none is left, and they go
-    // together: the image has version 1, the trace's setup, and no more phases done than the trace has. For every state that the
+    // together: the image has the trace's version and setup, and no more phases done than the trace has. For every state that the
     // image pictures, what was written are exactly the replies that the plain heap gives from that state on to the phases that
     // weren't done, numbered as in the trace. The heap that is handed back stands for the plain heap's state at the end, its chunks
     // are empty, and after each of these phases the need was at most the number of superpages.

@@ -5,6 +5,7 @@ use Rattle.bc_cycle.specs.Openings.{new_buffers, new_chunks}
 use Rattle.bc_cycle.proofs.OpeningLemmas.{chunk-at, chunk-none, chunks-long, no_entries}
 use Rattle.bc_model.specs.State.{State}
 use Rattle.bc_model.specs.declared.traces.Setup.{Setup}
+use Rattle.bc_model.specs.declared.values.Holder.{Holder}
 use Rattle.bc_nursery.specs.Entries.{Entries}
 use Rattle.bc_nursery.specs.Nurseries.{Nursery}
 use Rattle.bc_superpages.specs.Kept.{IsLayout}
@@ -21,7 +22,7 @@ use Rattle.bc_engine.specs.Parts.{CanAdopt, PartsStand}
 use Rattle.bc_engine.proofs.Parting.{adopted_state, parts-stand, runs-adopted, stands-adopted}
 
 -- what is true of the engine that goes on with the parts
-pub record IsAdopted (setup : Setup) (holders serials : List ℕ) (roots : RootWords) (s : Layout) (r : RunningView) : Type 0 where
+pub record IsAdopted (setup : Setup) (holders : List Holder) (serials : List ℕ) (roots : RootWords) (s : Layout) (r : RunningView) : Type 0 where
   pub ready : CanRunLanes setup r
   pub stands : (state : State) → PartsStand setup holders serials roots s state → RunningStands r state
   pub chunks : HasEmptyChunks r.heap
@@ -31,7 +32,7 @@ pub record IsAdopted (setup : Setup) (holders serials : List ℕ) (roots : RootW
 counted-from : (n : ℕ) → n < 2 ^ 64 → (n + (0 + 0 + 0 + 0) % 2 ^ 64) % 2 ^ 64 ≡ n
 counted-from n lt = omega (arith, lt)
 
-module _ (setup : Setup) (holders serials : List ℕ) (roots : RootWords) (s : Layout) (can : CanAdopt setup holders serials roots s) (kept : IsLayout s) (packed : (k : ℕ) → IsPacked (get_or roots.words k 0)) (long : length roots.words ≡ roots.domains * roots.slots) (few : s.reads < 2 ^ 64) where
+module _ (setup : Setup) (holders : List Holder) (serials : List ℕ) (roots : RootWords) (s : Layout) (can : CanAdopt setup holders serials roots s) (kept : IsLayout s) (packed : (k : ℕ) → IsPacked (get_or roots.words k 0)) (long : length roots.words ≡ roots.domains * roots.slots) (few : s.reads < 2 ^ 64) where
   laid : AreChunks (end_of s) (512 * setup.nursery) (new_chunks setup)
   laid =
       let count = can.supers in

@@ -18,6 +18,7 @@ use Rattle.bc_model.specs.declared.operations.Op.{Op}
 use Rattle.bc_model.specs.declared.operations.Op.TheVariants.{New, Who, Len, Set, Cut, Link, Load, Copy, Clear, Same}
 use Rattle.bc_model.specs.declared.operations.Reply.{Reply}
 use Rattle.bc_model.specs.declared.traces.Setup.{Setup}
+use Rattle.bc_model.specs.declared.values.Holder.{Holder}
 use Rattle.bc_model.proofs.Steps.{made-step}
 use Rattle.bc_mutator.specs.Operations.{IsOpOf, WantsMore, NeedsEntry}
 use Rattle.bc_mutator.specs.declared.operations.Stop.{Stop}
@@ -92,7 +93,7 @@ ready-step setup {r} {q} lane op (Ok reply) stays sound is same ready = record {
 ready-step setup lane op (Err stop) stays sound is same ready = ready-moved setup same.0 same.1 ready
 
 -- an empty chunk has room for every object
-never-full : (hs : List ℕ) (lane words : ℕ) (c : Nursery) (op : Op) → c.objects ≡ [] → 512 ≤ c.words → WantsMore hs lane (left_of c) op → ⊥
+never-full : (hs : List Holder) (lane words : ℕ) (c : Nursery) (op : Op) → c.objects ≡ [] → 512 ≤ c.words → WantsMore hs lane (left_of c) op → ⊥
 never-full hs lane words c (New p n) none long wants =
     let left : words_of c.objects ≡ 0 = ap words_of none in
     let class = class_of-class n in
@@ -108,7 +109,7 @@ never-full hs lane words c (Clear p) none long wants = wants
 never-full hs lane words c (Same p q) none long wants = wants
 
 -- and nothing that is to be recorded refers to it
-never-recorded : (hs : List ℕ) (lane : ℕ) (s : Layout) (roots : RootWords) (c : Nursery) (b : Entries) (op : Op) → c.objects ≡ [] → NeedsEntry hs lane s roots c b op → ⊥
+never-recorded : (hs : List Holder) (lane : ℕ) (s : Layout) (roots : RootWords) (c : Nursery) (b : Entries) (op : Op) → c.objects ≡ [] → NeedsEntry hs lane s roots c b op → ⊥
 never-recorded hs lane s roots c b (Link p i q) none needs = none-young c needs.0.young.0 none needs.0.there
 never-recorded hs lane s roots c b (New p n) none needs = needs
 never-recorded hs lane s roots c b (Who p) none needs = needs

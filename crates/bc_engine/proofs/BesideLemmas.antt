@@ -13,6 +13,7 @@ use Rattle.bc_model.specs.Step.{step}
 use Rattle.bc_model.specs.declared.operations.Op.{Op}
 use Rattle.bc_model.specs.declared.operations.Reply.{Reply}
 use Rattle.bc_model.specs.declared.traces.Setup.{Setup}
+use Rattle.bc_model.specs.declared.values.Holder.{Holder}
 use Rattle.bc_mutator.specs.Effects.{Leaves}
 use Rattle.bc_mutator.specs.Objects.{own_chunk}
 use Rattle.bc_nursery.specs.Entries.{Entries}
@@ -73,11 +74,11 @@ replies-other state lane j (op ∷ ops) ne =
     ap (λ (t : Bool). if t then x.1 ∷ rest else rest) (differs lane j ne) ∙ replies-other x.0 lane j ops ne
 
 -- what a lane did are its steps from every state that the heap stands for
-record AreSteps (hs : List ℕ) (k : HeapView) (nexts : List ℕ) (lane : ℕ) (ops : List Op) (replies : List Reply) (state : State) : Type 0 where
+record AreSteps (hs : List Holder) (k : HeapView) (nexts : List ℕ) (lane : ℕ) (ops : List Op) (replies : List Reply) (state : State) : Type 0 where
   pub means : StandsAs k hs nexts (after_steps state (steps_of lane ops))
   pub answers : replies_by state lane (steps_of lane ops) ≡ replies
 
-steps-did : (hs : List ℕ) (lane : ℕ) (ops : List Op) (replies : List Reply) {h k : HeapView} (serials : List ℕ) (next : ℕ) (state : State) → lane < length serials → DidAll hs lane ops replies h (get_or serials lane 0) k next → StandsAs h hs serials state → AreSteps hs k (set serials lane next) lane ops replies state
+steps-did : (hs : List Holder) (lane : ℕ) (ops : List Op) (replies : List Reply) {h k : HeapView} (serials : List ℕ) (next : ℕ) (state : State) → lane < length serials → DidAll hs lane ops replies h (get_or serials lane 0) k next → StandsAs h hs serials state → AreSteps hs k (set serials lane next) lane ops replies state
 unfolding after_steps replies_by
 steps-did hs lane [] [] {h} {k} serials next state within did stands =
     let same : set serials lane next ≡ serials = ap (set serials lane) did.1 ∙ set-get_or serials lane 0 in
@@ -105,14 +106,14 @@ steps-did hs lane (op ∷ ops) (reply ∷ replies) {h} {k} serials next state wi
     }
 
 -- as many operations as replies
-did-long : (hs : List ℕ) (lane : ℕ) (ops : List Op) (replies : List Reply) (h k : HeapView) (serial next : ℕ) → DidAll hs lane ops replies h serial k next → length ops ≡ length replies
+did-long : (hs : List Holder) (lane : ℕ) (ops : List Op) (replies : List Reply) (h k : HeapView) (serial next : ℕ) → DidAll hs lane ops replies h serial k next → length ops ≡ length replies
 did-long hs lane [] [] h k serial next did = refl
 did-long hs lane [] (reply ∷ replies) h k serial next did = absurd did
 did-long hs lane (op ∷ ops) [] h k serial next did = absurd did
 did-long hs lane (op ∷ ops) (reply ∷ replies) h k serial next did = omega (arith, did-long hs lane ops replies did.0 k did.1 next did.3)
 
 -- the lanes went on by them
-goes-did : (lanes : List (List Op)) (hs : List ℕ) (lane : ℕ) (ops : List Op) (replies : List Reply) {h k : HeapView} (told : List (List Reply)) (serials : List ℕ) (next : ℕ) → lane < length lanes → lane < length told → lane < length serials
+goes-did : (lanes : List (List Op)) (hs : List Holder) (lane : ℕ) (ops : List Op) (replies : List Reply) {h k : HeapView} (told : List (List Reply)) (serials : List ℕ) (next : ℕ) → lane < length lanes → lane < length told → lane < length serials
     → DidAll hs lane ops replies h (get_or serials lane 0) k next → ops ≡ take (length replies) (drop (length (of_lane told lane)) (of_lane lanes lane))
     → LanesWentOn lanes (running_of h hs serials) told (running_of k hs (set serials lane next)) (set told lane (of_lane told lane ++ replies))
 goes-did lanes hs lane ops replies {h} {k} told serials next below there within did are =
@@ -150,7 +151,7 @@ goes-did lanes hs lane ops replies {h} {k} told serials next below there within 
     }
 
 -- and can go on from there
-ready-did : (setup : Setup) (hs : List ℕ) (lane : ℕ) (ops : List Op) (replies : List Reply) {h k : HeapView} (serials : List ℕ) (next : ℕ) → lane < length serials → DidAll hs lane ops replies h (get_or serials lane 0) k next
+ready-did : (setup : Setup) (hs : List Holder) (lane : ℕ) (ops : List Op) (replies : List Reply) {h k : HeapView} (serials : List ℕ) (next : ℕ) → lane < length serials → DidAll hs lane ops replies h (get_or serials lane 0) k next
     → CanRunLanes setup (running_of h hs serials) → CanRunLanes setup (running_of k hs (set serials lane next))
 ready-did setup hs lane ops replies {h} {k} serials next within did ready =
     let order = order-did hs lane ops replies serials next within (record { running = ready.order; meant = ready.meant }) did in
@@ -211,7 +212,7 @@ room-to {lanes} {r} {q} {before} {after} b n j v lt is =
     ]
 
 -- the lane after the first n makes at most an object by each operation
-births-to : {hs : List ℕ} {lanes : List (List Op)} {h k : HeapView} {serials nexts : List ℕ} {told answers : List (List Reply)} (ran : RanBeside hs lanes h serials told k nexts answers) (n : ℕ) → n < length lanes → length lanes ≡ length serials → length told ≡ length lanes
+births-to : {hs : List Holder} {lanes : List (List Op)} {h k : HeapView} {serials nexts : List ℕ} {told answers : List (List Reply)} (ran : RanBeside hs lanes h serials told k nexts answers) (n : ℕ) → n < length lanes → length lanes ≡ length serials → length told ≡ length lanes
     → BirthsWithin lanes (with_first n nexts serials) (with_first n answers told) (with_first (suc n) nexts serials) (with_first (suc n) answers told)
 births-to {hs} {lanes} {h} {k} {serials} {nexts} {told} {answers} ran n lt each long j = elim (cases_eq j n) [
   | inl e ↦
@@ -320,13 +321,13 @@ together-leaves {lanes} {r} {q} b = leaves-sizes r q (sizes-beside b.ran)
 abbrev SameOwn : ℕ → HeapView → HeapView → Type 0
 SameOwn lane h k = (chunk_of k.chunks lane ≡ chunk_of h.chunks lane) × (buffer_of k.buffers lane ≡ buffer_of h.buffers lane)
 
-own-left : {hs : List ℕ} {lane : ℕ} {h k : HeapView} (other : ℕ) → other ≢ lane → Leaves hs lane h k → SameOwn other h k
+own-left : {hs : List Holder} {lane : ℕ} {h k : HeapView} (other : ℕ) → other ≢ lane → Leaves hs lane h k → SameOwn other h k
 own-left {hs} {lane} {h} {k} other ne leaves = (
   ap (λ (cs : List Nursery). chunk_of cs other) leaves.chunks ∙ get_or-set_other h.chunks lane other (own_chunk k lane) no_chunk ne,
   ap (λ (bs : List Entries). buffer_of bs other) leaves.buffers ∙ get_or-set_other h.buffers lane other (buffer_of k.buffers lane) no_buffer ne,
 )
 
-own-did : (hs : List ℕ) (lane : ℕ) (ops : List Op) (replies : List Reply) (h k : HeapView) (serial next other : ℕ) → other ≢ lane → DidAll hs lane ops replies h serial k next → SameOwn other h k
+own-did : (hs : List Holder) (lane : ℕ) (ops : List Op) (replies : List Reply) (h k : HeapView) (serial next other : ℕ) → other ≢ lane → DidAll hs lane ops replies h serial k next → SameOwn other h k
 own-did hs lane [] [] h k serial next other ne did = (ap (λ (x : HeapView). chunk_of x.chunks other) did.0, ap (λ (x : HeapView). buffer_of x.buffers other) did.0)
 own-did hs lane [] (reply ∷ replies) h k serial next other ne did = absurd did
 own-did hs lane (op ∷ ops) [] h k serial next other ne did = absurd did
@@ -336,7 +337,7 @@ own-did hs lane (op ∷ ops) (reply ∷ replies) h k serial next other ne did =
     (rest.0 ∙ first.0, rest.1 ∙ first.1)
 
 -- so do all lanes after it, and none frees or moves a cell
-own-from : {hs : List ℕ} {lanes : List (List Op)} {h k : HeapView} {serials nexts : List ℕ} {told answers : List (List Reply)} (ran : RanBeside hs lanes h serials told k nexts answers) (m n lane : ℕ) → n + m ≡ length lanes → lane < n → SameOwn lane (ran.at n) k
+own-from : {hs : List Holder} {lanes : List (List Op)} {h k : HeapView} {serials nexts : List ℕ} {told answers : List (List Reply)} (ran : RanBeside hs lanes h serials told k nexts answers) (m n lane : ℕ) → n + m ≡ length lanes → lane < n → SameOwn lane (ran.at n) k
 own-from {hs} {lanes} {h} {k} ran zero n lane all below =
     let back = subst (λ (i : ℕ). IsLaidBack (ran.at i) k) (let end : length lanes ≡ n = omega arith in end) ran.back in
     (ap (λ (cs : List Nursery). chunk_of cs lane) back.chunks, ap (λ (bs : List Entries). buffer_of bs lane) back.buffers)
@@ -345,7 +346,7 @@ own-from {hs} {lanes} {h} {k} {serials} {nexts} {told} ran (suc m) n lane all be
     let rest = own-from ran m (suc n) lane (omega arith) (omega arith) in
     (rest.0 ∙ first.0, rest.1 ∙ first.1)
 
-sizes-from : {hs : List ℕ} {lanes : List (List Op)} {h k : HeapView} {serials nexts : List ℕ} {told answers : List (List Reply)} (ran : RanBeside hs lanes h serials told k nexts answers) (m n : ℕ) → n + m ≡ length lanes → KeepsSizesOf (ran.at n) k
+sizes-from : {hs : List Holder} {lanes : List (List Op)} {h k : HeapView} {serials nexts : List ℕ} {told answers : List (List Reply)} (ran : RanBeside hs lanes h serials told k nexts answers) (m n : ℕ) → n + m ≡ length lanes → KeepsSizesOf (ran.at n) k
 sizes-from {hs} {lanes} {h} {k} ran zero n all =
     sizes-laid (ran.at n) k (subst (λ (i : ℕ). IsLaidBack (ran.at i) k) (let end : length lanes ≡ n = omega arith in end) ran.back)
 sizes-from {hs} {lanes} {h} {k} {serials} {nexts} {told} ran (suc m) n all =

@@ -22,6 +22,7 @@ use Rattle.bc_promotion.specs.Promises.{HasDomainsBelow}
 use Rattle.bc_superpages.specs.RootWords.{RootWords}
 use Rattle.bc_model.specs.declared.operations.Op.{Op}
 use Rattle.bc_model.specs.declared.operations.Reply.{Reply}
+use Rattle.bc_model.specs.declared.values.Holder.{Holder}
 use Rattle.bc_running.proofs.StartLemmas.{stands-emptied}
 use Rattle.bc_running.specs.Running.{RunningView, RunningStands}
 use Rattle.bc_running.specs.RunningFacts.{running_of, IsSound}
@@ -38,7 +39,7 @@ use Rattle.bc_engine.specs.declared.counters.Counters.{Counters}
 -- what is true of a heap with the holders and births that there were is true with those that there are, which are the same
 through : (r q : RunningView) (P : RunningView → Type 0) → q.holders ≡ r.holders → q.serials ≡ r.serials → P (running_of q.heap r.holders r.serials) → P q
 through r q P held same p =
-    subst (λ (ns : List ℕ). P (running_of q.heap q.holders ns)) (sym same) (subst (λ (hs : List ℕ). P (running_of q.heap hs r.serials)) (sym held) p)
+    subst (λ (ns : List ℕ). P (running_of q.heap q.holders ns)) (sym same) (subst (λ (hs : List Holder). P (running_of q.heap hs r.serials)) (sym held) p)
 
 buffer-emptied : (bs : List Entries) (l : ℕ) → buffer_of (map without_entries bs) l ≡ without_entries (buffer_of bs l)
 buffer-emptied bs l = get_or-map without_entries bs l no_buffer
@@ -78,7 +79,7 @@ fits-emptied setup {h} {k} is fits = record {
   used = used-kept setup h k fits.domains is.domains fits.used;
 }
 
-ready-emptied : {hs serials : List ℕ} {h k : HeapView} (setup : Setup) → IsEmptied h k → CanRunLanes setup (running_of h hs serials) → CanRunLanes setup (running_of k hs serials)
+ready-emptied : {hs : List Holder} {serials : List ℕ} {h k : HeapView} (setup : Setup) → IsEmptied h k → CanRunLanes setup (running_of h hs serials) → CanRunLanes setup (running_of k hs serials)
 ready-emptied {hs} {serials} {h} setup is ready = record {
   range = ready.range;
   order = is.order hs (running-survivors h hs ready.order);
@@ -94,7 +95,7 @@ runs-emptied lanes {r} {q} told held same is =
     (λ setup ready. through r q (CanRunLanes setup) held same (ready-emptied setup is ready))
 
 -- a heap whose nurseries couldn't be emptied stands for what it stood for
-stands-refused : {hs serials : List ℕ} {h k : HeapView} (state : State) → KeepsMeaning h k → StandsAs h hs serials state → StandsAs k hs serials state
+stands-refused : {hs : List Holder} {serials : List ℕ} {h k : HeapView} (state : State) → KeepsMeaning h k → StandsAs h hs serials state → StandsAs k hs serials state
 stands-refused {hs} {serials} {h} {k} state is st = record {
   consistent = st.consistent;
   stands = is.keeps state.slots state.made st.stands;
@@ -106,7 +107,7 @@ stands-refused {hs} {serials} {h} {k} state is st = record {
   lanes = length-alike outline_nursery h.chunks k.chunks is.chunks ∙ st.lanes;
 }
 
-ready-kept : {hs serials : List ℕ} {h k : HeapView} (setup : Setup) → KeepsMeaning h k → IsRunning k hs → CanRunLanes setup (running_of h hs serials) → CanRunLanes setup (running_of k hs serials)
+ready-kept : {hs : List Holder} {serials : List ℕ} {h k : HeapView} (setup : Setup) → KeepsMeaning h k → IsRunning k hs → CanRunLanes setup (running_of h hs serials) → CanRunLanes setup (running_of k hs serials)
 ready-kept {hs} {serials} {h} {k} setup is order ready = record {
   range = ready.range;
   order = order;

@@ -2,8 +2,8 @@
 pub mod Sizes
 -- What an operation that is done or stops means to the lanes.
 pub mod Attempts
--- A domain changes hands while all chunks and buffers are empty
-pub mod Giving
+-- A domain changes hands or is frozen while all chunks and buffers are empty
+pub mod Handing
 -- Parts that an engine goes on with stand for a state
 pub mod Parting
 -- The heap of an engine that goes on with parts

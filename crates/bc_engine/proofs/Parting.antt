@@ -7,9 +7,10 @@ use Rattle.std.proofs.lemmas.Bool.{cases_lt, cases_Bool}
 use Rattle.std.proofs.lemmas.List.{get_or_past, length-map}
 use Rattle.bc_image.proofs.HasState.{AreInRange, IsClosedWord, IsNumberWord, IsWhole, birth_on, found_below, made-state, made_in, mapped-at, numbers-length, stands-for, value_of}
 use Rattle.bc_memory.specs.Memory.{Cell, Memory}
-use Rattle.bc_model.specs.State.{Object, State, made_by, numbers_below}
+use Rattle.bc_model.specs.State.{Object, State, holder_of, made_by, numbers_below}
 use Rattle.bc_model.specs.declared.traces.Setup.{Setup}
 use Rattle.bc_model.specs.declared.values.Birth.{Birth}
+use Rattle.bc_model.specs.declared.values.Holder.{Holder}
 use Rattle.bc_standing.specs.Standing.{AllBorn, StandsFor, birth_of, births}
 use Rattle.bc_standing.proofs.Homes.{births-cell}
 use Rattle.bc_superpages.specs.Kept.{IsLayout}
@@ -41,6 +42,7 @@ use Rattle.bc_word.specs.declared.addresses.Address.{Address}
 use Rattle.bc_word.specs.declared.words.Word.{Word}
 use Rattle.bc_word.specs.declared.words.Word.TheVariants.{Nil, Num, Ref}
 use Rattle.bc_word.proofs.WordsLemmas.{get_or-words_from, length-words_from}
+use Rattle.bc_model.proofs.Holders.{IsHolder-as_many}
 use Rattle.bc_engine.specs.Parts.{CanAdopt, PartsStand}
 
 -- ---- what lies in a space, and nothing in chunks
@@ -144,7 +146,7 @@ same-counts (n ∷ counts) (ms ∷ mss) long at =
     let rest = same-counts counts mss (omega arith) (λ j lt. at (suc j) (omega arith)) in
     ap (λ (x : ℕ). x ∷ map (λ (made : List Object). length made) mss) first ∙ ap (λ (xs : List ℕ). n ∷ xs) rest
 
-module _ (setup : Setup) (holders serials : List ℕ) (r : RootWords) (s : Layout) (can : CanAdopt setup holders serials r s) (kept : IsLayout s) where
+module _ (setup : Setup) (holders : List Holder) (serials : List ℕ) (r : RootWords) (s : Layout) (can : CanAdopt setup holders serials r s) (kept : IsLayout s) where
   whole : IsWhole (memory s) (root_words r) setup.lanes (2048 * superpages s) serials
   whole = record {
     roots_closed = λ i. word-closed s (get_or (root_words r) i Nil) (λ a e. elim (cases_lt i (length r.words)) [
@@ -249,7 +251,7 @@ module _ (setup : Setup) (holders serials : List ℕ) (r : RootWords) (s : Layou
       closed = record {
         lanes = buffered ∙ sym count;
         domains = can.domains ∙ sym can.rooted;
-        holder = λ d lt. (let h = can.holder d lt in omega (arith, h, count));
+        holder = λ d lt. IsHolder-as_many _ _ (holder_of holders d) count (can.holder d lt);
         root = λ d t a in_domains in_slots is. inl (root-allocated (root_place r d t) a is);
         noted = λ k a lt is. inl (can.root k a lt is);
         young_domain = λ l a lt on. absurd (true-false (sym on ∙ none-in (chunk_of chunks l) a (empty l)));

@@ -1,4 +1,4 @@
--- A phase: what its rounds and gives do to the states that the engine stands for.
+-- A phase: what its rounds and changes of holders do to the states that the engine stands for.
 use Rattle.std.proofs.Common.{Vec, Global, vec_capacity, ◌≡◌, ℕ, ◌+◌, ◌<◌, ◌≤◌, List, [], ◌∷◌, ◌++◌, length, take, map, get_or, None, Result, Ok, Err, refl, sym, ap, subst, ◌∙◌, inl, inr, arith}
 use Prim.Native.Nat.{zero, suc}
 use Rattle.std.proofs.lemmas.Bool.{cases_lt}
@@ -13,11 +13,12 @@ use Rattle.bc_model.specs.Interleaving.{replies_by, ops_by}
 use Rattle.bc_model.specs.Lists.{PhaseLists}
 use Rattle.bc_model.specs.Rows.{lists_of}
 use Rattle.bc_model.specs.Need.{IsNeed}
-use Rattle.bc_model.specs.Run.{after_gives, after_lanes, cut_lanes, replies_to_lanes}
+use Rattle.bc_model.specs.Run.{after_changes, after_lanes, cut_lanes, replies_to_lanes}
 use Rattle.bc_model.specs.State.{State}
 use Rattle.bc_model.specs.WellFormed.{IsOp, IsPhase}
 use Rattle.bc_model.specs.declared.operations.Op.{Op}
 use Rattle.bc_model.specs.declared.operations.Reply.{Reply}
+use Rattle.bc_model.specs.declared.values.Holder.{Holder}
 use Rattle.bc_nursery.specs.Nurseries.{Nursery}
 use Rattle.bc_standing.specs.Standing.{StandsFor}
 use Rattle.bc_superpages.specs.Kept.{IsLayout}
@@ -134,8 +135,8 @@ cut-by e f p vs ws need begun engine long small =
       above = omega (arith, small.above, engine.ready.fits.supers);
     }
 
--- rounds that end with all lanes at their ends, and then the gives, do it
-pub did-by : (e f g : EngineView) (p : PhaseLists) (vs ws : List (Vec Reply Global)) → HasBegun e p vs → length ws ≡ length p.lanes → RoundsWentOn p.lanes e vs f ws → IsThrough p.lanes f ws → ((s : State) → EngineStands f s → EngineStands g (after_gives s p.gives)) → g ≡ with_holders f g.running.holders → ((s : State) → EngineStands g s → (n : ℕ) × IsNeed s n × (n ≤ g.setup.superpages)) → DidPhase e p g (lists_of ws)
+-- rounds that end with all lanes at their ends, and then the changes of holders, do it
+pub did-by : (e f g : EngineView) (p : PhaseLists) (vs ws : List (Vec Reply Global)) → HasBegun e p vs → length ws ≡ length p.lanes → RoundsWentOn p.lanes e vs f ws → IsThrough p.lanes f ws → ((s : State) → EngineStands f s → EngineStands g (after_changes s p.gives)) → g ≡ with_holders f g.running.holders → ((s : State) → EngineStands g s → (n : ℕ) × IsNeed s n × (n ≤ g.setup.superpages)) → DidPhase e p g (lists_of ws)
 did-by e f g p vs ws begun long on through gave same room =
     let run : (s : State) → EngineStands e s → IsWhole p.lanes f.running (lists_of ws) s = λ s st.
     whole-run e begun.engine.ready begun.phase (none-yet p.lanes vs begun.room) (length-map ws (λ (v : Vec Reply Global). v.items) ∙ long) through.done on.runs.goes s st in
@@ -159,8 +160,8 @@ room-push lanes vs w i long room none wide j v lt is = elim (cases_lt j (length 
       (ap (λ (x : Vec Reply Global). x.items) at ∙ none, omega (arith, wide, ap vec_capacity at, ap (λ (n : ℕ). length (of_lane lanes n)) same))
 ]
 
--- one give after another changes the holders alone
-pub holders-then : (e f g : EngineView) (hs : List ℕ) → f ≡ with_holders e f.running.holders → g ≡ with_holders f hs → g ≡ with_holders e g.running.holders
+-- one change after another changes the holders alone
+pub holders-then : (e f g : EngineView) (hs : List Holder) → f ≡ with_holders e f.running.holders → g ≡ with_holders f hs → g ≡ with_holders e g.running.holders
 holders-then e f g hs first second =
     second ∙ ap (λ (x : EngineView). with_holders x hs) first ∙ ap (with_holders e) (sym (ap (λ (x : EngineView). x.running.holders) second))
 
@@ -172,7 +173,7 @@ has-room e law layout engine none s st =
     (need.0, need.1, omega (arith, within, engine.ready.fits.supers))
 
 -- the phase as the code has it: `os` are its operations as they were lent to the rounds, `us` the lists for replies
-pub did-lent : (e f g : EngineView) (p : PhaseLists) (os : List (List Op)) (us vs ws xs : List (Vec Reply Global)) → HasBegun e p vs → os ≡ p.lanes → us ≡ vs → xs ≡ ws → length ws ≡ length p.lanes → RoundsWentOn os e us f ws → IsThrough os f ws → ((s : State) → EngineStands f s → EngineStands g (after_gives s p.gives)) → g ≡ with_holders f g.running.holders → ((s : State) → EngineStands g s → (n : ℕ) × IsNeed s n × (n ≤ g.setup.superpages)) → DidPhase e p g (lists_of xs)
+pub did-lent : (e f g : EngineView) (p : PhaseLists) (os : List (List Op)) (us vs ws xs : List (Vec Reply Global)) → HasBegun e p vs → os ≡ p.lanes → us ≡ vs → xs ≡ ws → length ws ≡ length p.lanes → RoundsWentOn os e us f ws → IsThrough os f ws → ((s : State) → EngineStands f s → EngineStands g (after_changes s p.gives)) → g ≡ with_holders f g.running.holders → ((s : State) → EngineStands g s → (n : ℕ) × IsNeed s n × (n ≤ g.setup.superpages)) → DidPhase e p g (lists_of xs)
 did-lent e f g p os us vs ws xs begun lanes lent back long on through gave same room =
     subst (λ (ys : List (Vec Reply Global)). DidPhase e p g (lists_of ys)) (sym back)
     (did-by e f g p vs ws begun long

@@ -14,6 +14,7 @@ use Rattle.bc_model.specs.Lists.{PhaseLists}
 use Rattle.bc_model.specs.Rows.{lists_of}
 use Rattle.bc_model.specs.declared.operations.Op.{Op}
 use Rattle.bc_model.specs.declared.operations.Reply.{Reply}
+use Rattle.bc_model.specs.declared.values.Holder.{Holder}
 use Rattle.bc_marking.proofs.LineLemmas.{along-more}
 use Rattle.bc_marking.specs.Lines.{hints_at, line_along, line_behind}
 use Rattle.bc_pager.specs.Alone.{AnsweredAlone}
@@ -81,9 +82,9 @@ pub slots-turned : {lanes : List (List Op)} {r q : RunningView} {told replies : 
 slots-turned turn = ap (λ (x : RunningView). x.heap.roots.slots) turn.rest ∙ slots-left turn.leaves
 
 -- room that is kept serves later on
-pub kept-later : {hs ks : List ℕ} {m n : ℕ} (lanes : List (List Op)) (told answers : List (List Reply)) (room : TurnRoom) → ks ≡ hs → n ≡ m → ((j : ℕ) → length (of_lane told j) ≤ length (of_lane answers j)) → IsRoomKept hs m lanes told room → IsRoomKept ks n lanes answers room
+pub kept-later : {hs ks : List Holder} {m n : ℕ} (lanes : List (List Op)) (told answers : List (List Reply)) (room : TurnRoom) → ks ≡ hs → n ≡ m → ((j : ℕ) → length (of_lane told j) ≤ length (of_lane answers j)) → IsRoomKept hs m lanes told room → IsRoomKept ks n lanes answers room
 kept-later {hs} {ks} {m} {n} lanes told answers room held slots more kept =
-    subst (λ (xs : List ℕ). IsRoomKept xs n lanes answers room) (sym held)
+    subst (λ (xs : List Holder). IsRoomKept xs n lanes answers room) (sym held)
     (subst (λ (x : ℕ). IsRoomKept hs x lanes answers room) (sym slots) (room-kept hs m lanes told answers room more kept))
 
 -- each of them stopped, counted as the code counts them

@@ -8,6 +8,7 @@ use Rattle.bc_whole_heap.specs.Running.{IsRunning}
 use Rattle.bc_model.specs.State.{State}
 use Rattle.bc_model.specs.WellFormed.{IsSetup}
 use Rattle.bc_model.specs.declared.traces.Setup.{Setup}
+use Rattle.bc_model.specs.declared.values.Holder.{Holder}
 use Rattle.bc_pager.specs.declared.answers.Answer.{Answer}
 use Rattle.bc_promotion.specs.Promises.{HasDomainsBelow}
 use Rattle.bc_superpages.specs.Layout.{superpages}
@@ -23,7 +24,7 @@ new_engine setup workers =
     record { running = new_running setup; setup = setup; workers = workers; ended = None; answers = []; counters = no_counts }
 
 -- the engine with these holders of the domains
-abbrev pub with_holders : EngineView → List ℕ → EngineView
+abbrev pub with_holders : EngineView → List Holder → EngineView
 with_holders e holders = record e { running = record (e.running) { holders = holders } }
 
 -- the engine with these answers to notices

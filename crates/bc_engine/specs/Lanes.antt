@@ -90,7 +90,7 @@ Stops lane op r =
 
 -- an operation of a lane can't be done yet where the lanes run side by side, in a turn that leaves the space t: the object takes more
 -- words than are left of the chunk, or an entry is needed and the write buffer is at capacity, or it looks at an object in a cell on a
--- page that is Gone in t
+-- page that is Gone in t, or on a page of a frozen domain, which another lane may have had in hand or reloaded
 abbrev pub StopsInTurn : Layout → ℕ → Op → RunningView → Type 0
 StopsInTurn t lane op r = StopsBeside r.holders lane op r.heap t
 

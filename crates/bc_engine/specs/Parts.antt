@@ -1,12 +1,13 @@
 -- The parts of an engine between phases: who holds each domain, the births of each lane, the root slots and the space.
 use Rattle.std.specs.Prelude.{◌≡◌, ℕ, ◌*◌, ◌<◌, ◌≤◌, List, [], length, map, slice_index, slice_index_or, Some, None}
 use Rattle.bc_bookmarks.specs.Summarised.{IsSummarised}
-use Rattle.bc_model.specs.Consistent.{IsState}
-use Rattle.bc_model.specs.State.{State, Object}
+use Rattle.bc_model.specs.Consistent.{IsHolder, IsState}
+use Rattle.bc_model.specs.State.{State, Object, holder_of}
 use Rattle.bc_model.specs.StateSizes.{HasSizes}
 use Rattle.bc_model.specs.WellFormed.{IsSetup}
 use Rattle.bc_model.specs.declared.traces.Setup.{Setup}
 use Rattle.bc_model.specs.declared.values.Birth.{Birth}
+use Rattle.bc_model.specs.declared.values.Holder.{Holder}
 use Rattle.bc_promotion.specs.Promises.{HasDomainsBelow}
 use Rattle.bc_standing.specs.Standing.{StandsFor, births}
 use Rattle.bc_superpages.specs.Layout.{Layout, superpages}
@@ -29,13 +30,13 @@ pub record IsLaneBirth (serials : List ℕ) (b : Birth) : Type 0 where
   pub serial : b.serial ≤ slice_index serials b.lane
 
 -- what an engine can go on with
-pub record CanAdopt (setup : Setup) (holders serials : List ℕ) (roots : RootWords) (s : Layout) : Type 0 where
+pub record CanAdopt (setup : Setup) (holders : List Holder) (serials : List ℕ) (roots : RootWords) (s : Layout) : Type 0 where
   -- each number of the setup is in its range
   pub range : IsSetup setup
   -- each of the setup's domains has a holder
   pub domains : length holders ≡ setup.domains
-  -- it is one of the lanes
-  pub holder : (d : ℕ) → d < length holders → slice_index holders d < setup.lanes
+  -- it is one of the lanes, or the domain is frozen
+  pub holder : (d : ℕ) → d < length holders → IsHolder setup.lanes (holder_of holders d)
   -- the births of each lane are counted
   pub lanes : length serials ≡ setup.lanes
   -- the root slots are those of the setup's domains
@@ -66,7 +67,7 @@ pub record CanAdopt (setup : Setup) (holders serials : List ℕ) (roots : RootWo
   pub born : (a : ℕ) → (b : Birth) → births (memory s) a ≡ Some b → IsLaneBirth serials b
 
 -- the parts stand for the state: the space and the root slots do, and sizes, holders and births are the state's
-pub record PartsStand (setup : Setup) (holders serials : List ℕ) (roots : RootWords) (s : Layout) (state : State) : Type 0 where
+pub record PartsStand (setup : Setup) (holders : List Holder) (serials : List ℕ) (roots : RootWords) (s : Layout) (state : State) : Type 0 where
   pub consistent : IsState state
   pub stands : StandsFor (memory s) (root_words roots) state
   pub sizes : HasSizes setup state
@@ -74,7 +75,7 @@ pub record PartsStand (setup : Setup) (holders serials : List ℕ) (roots : Root
   pub made : map (λ (objects : List Object). length objects) state.made ≡ serials
 
 -- the engine that goes on with the parts: chunks and write buffers are empty, it has no answers, and counts from here on
-abbrev pub adopted_engine : Setup → ℕ → List ℕ → List ℕ → RootWords → Layout → EngineView
+abbrev pub adopted_engine : Setup → ℕ → List Holder → List ℕ → RootWords → Layout → EngineView
 adopted_engine setup workers holders serials roots s = record {
   running = running_of (adopted_heap setup roots s) holders serials;
   setup = setup;

@@ -11,7 +11,7 @@ use Rattle.bc_engine.specs.Engines.{EngineView}
 use Rattle.bc_engine.specs.Rounds.{IsRoomFor, RanAll, RanToCut, RanToWant}
 use Rattle.bc_engine.specs.declared.engines.Ended.TheVariants.{NoMemory}
 
--- room for the replies was taken, the rounds of the phase were run with its lines, and then domains changed hands. There was no answer
+-- room for the replies was taken, the rounds of the phase were run with its lines, and then domains changed hands or were frozen. There was no answer
 -- before the first round, and those after the last are the engine's
 pub record HadTurns (e : EngineView) (p : PhaseLists) (f : EngineView) (replies : List (List Reply)) : Type 0 where
   pub room : List (Vec Reply Global)

@@ -1,7 +1,8 @@
 // The engine: it replays the phases of a trace on the collector's heap.
 //
-// An `Engine` keeps one heap (a space of cells, root slots, and for each lane a chunk and a write buffer), the lane that
-// holds each domain, and how many objects each lane has made, by which it numbers the next one. It knows the setup and the
+// An `Engine` keeps one heap (a space of cells, root slots, and for each lane a chunk and a write buffer), who holds each
+// domain, and how many objects each lane has made, by which it numbers the next one. A domain is held by a lane, which alone
+// reads and writes it, or it is frozen: then all lanes read it and none writes it. It knows the setup and the
 // number of workers that it was opened with and, once it has ended, how: what it stands for needs more superpages than there
 // are, or memory ran out. An engine that has ended replays no other phase.
 //
@@ -10,10 +11,11 @@
 // side, each on a thread of its own where these pay, over a table of the heap's pages (`bc_turn`), and beside them a pager answers the
 // notices of the turn's line, for each of which it gives up a page if it gets one (`bc_pager`). A lane stops where its chunk or its write
 // buffer is full, and where it looks at an object in a cell whose page is in another's hands. One whose page is gone reloads it, and
-// stops only where no frame is free and no other page can leave. What the lanes do so is
-// what they do one after another (`RanBeside`), so a turn is a stretch of the phase like any other. Where tables
-// of its kind don't pay (`paces`), or where there is no memory for one, they do run one after another (`lanes`), and then the notices
-// are answered. So a turn takes memory and is never refused for lack of it. An operation that stops has at most moved pages.
+// stops only where no frame is free and no other page can leave. A page of a frozen domain any lane takes and reloads, and puts back as it
+// was. Where one is gone for which no frame is free, or which another lane reloads first, the lane stops too. What the lanes do so is
+// what they do one after another (`RanBeside`), so a turn is a stretch of the phase like any other. Where tables of its kind don't pay
+// (`paces`), or where there is no memory for one, they do run one after another (`lanes`), and then the notices are answered. So a turn
+// takes memory and is never refused for lack of it. An operation that stops has at most moved pages.
 // Then the heap is settled. The lines of a phase are used in order, one for each turn of the lanes and each mark turn of a
 // collection (`bc_marking`), and from the first one again when they are used up. So the heap gets by with the frames that the setup gives it, and no reply says which pages were away; but what
 // became of each notice is kept, in order (`Engine::answers`). Room for the answers of a round is taken before it, and only where
@@ -24,14 +26,14 @@
 // operations left does one more on empty chunks. That one can't stop: an empty chunk has room for any object, where a
 // chunk is empty no reference to it can be stored, and no page is remembered, so every page can leave for the one that is
 // wanted. Nor does it record anything, so all buffers are empty still. So each round that isn't the last does an operation
-// of every lane that had any left, and the operations that are left get fewer. When the rounds are through, the domains
-// change hands: all chunks are empty then, so nothing refers to the chunk of the lane that loses one. `Engine::serial` does
-// such an operation by itself.
+// of every lane that had any left, and the operations that are left get fewer. When the rounds are through, domains change
+// hands or are frozen: all chunks are empty then, so nothing refers to the chunk of the lane that loses one, and no word of a
+// frozen domain to any chunk. `Engine::serial` does such an operation by itself.
 //
 // An emptying may find that the heap is too small. Then it stands for what it stood for, that needs more superpages than
 // there are, and the phase ends there with the replies so far. Whatever the lanes have done is a cut of
 // the phase: so many of the first operations of each lane. They were done in the order of the rounds and not lane after
-// lane, but a lane looks at no more than its own domains lead to, so each order gives the same replies and the same state.
+// lane, but a lane looks at no domain of another lane, and nobody writes a frozen one, so each order gives the same replies and the same state.
 // The proofs keep the list of the steps that were done, in their order (`Goes`), and turn to lane after lane at
 // the phase's end alone (proofs/CutLemmas.antt).
 //
@@ -53,8 +55,8 @@
 // The theorem is the contract of `Engine::phase`. Done, the replies are those of the heap that never frees, to every
 // operation, the engine stands for the state after the phase, and its superpages are at least that state's need
 // (`DidPhase`). Refused, out of heap, the replies and the state are those of a cut, and the need that is answered
-// is the need of that state and above the number of superpages (`CutPhase`). `Engine::open`, `give` and `serial`
-// say the same of the opening state, of one give and of one operation.
+// is the need of that state and above the number of superpages (`CutPhase`). `Engine::open`, `give`, `freeze` and `serial`
+// say the same of the opening state, of one give, of one freeze and of one operation.
 #![tactic(auto)]
 
 mod counters;

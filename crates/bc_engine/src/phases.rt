@@ -1,4 +1,4 @@
-//! A phase: room for the replies is taken, the rounds are run, and domains change hands.
+//! A phase: room for the replies is taken, the rounds are run, and domains change hands or are frozen.
 
 ghost use Rattle.std.specs.Prelude.{◌≡◌, ◌≢◌, ◌⊎◌, ℕ, ◌+◌, ◌<◌, ◌≤◌, [], length, Some, None, Result, Ok, Err, IfOk, slice_index};
 ghost use Rattle.std.specs.List.{AllByRecursion};
@@ -11,15 +11,15 @@ ghost use Rattle.bc_engine.specs.Phases.{DidPhase, CutPhase};
 ghost use Rattle.bc_engine.specs.Rounds.{IsRoomFor};
 ghost use Rattle.bc_model.specs.Rows.{lists_of};
 ghost use Rattle.bc_model.specs.Need.{IsNeed};
-ghost use Rattle.bc_model.specs.Run.{after_gives};
-ghost use Rattle.bc_model.specs.State.{State};
-ghost use Rattle.bc_model.specs.WellFormed.{IsGive, IsPhase};
+ghost use Rattle.bc_model.specs.Run.{after_changes};
+ghost use Rattle.bc_model.specs.State.{State, changed};
+ghost use Rattle.bc_model.specs.WellFormed.{FitsChange, IsPhase};
 
 use crate::engines::{Ended, Engine};
 use crate::rounds::RoundsError;
 use bc_failsafe::law_room;
 use bc_gates::Gate;
-use bc_model::{Give, Op, Phase, Replies, Reply};
+use bc_model::{Change, Op, Phase, Replies, Reply};
 use bc_pager::Answer;
 use bc_turn::TurnRoom;
 use std::alloc::{AllocError, Global};
@@ -37,8 +37,8 @@ pub enum PhaseError {
 }
 
 impl Engine {
-    /// Does a phase, which fits the setup: the operations of all lanes, and then the gives. Each lane's births so far and its
-    /// operations in the phase together are fewer than 2^32.
+    /// Does a phase, which fits the setup: the operations of all lanes, and then the gives and freezes in their order. Each lane's births so
+    /// far and its operations in the phase together are fewer than 2^32.
     ///
     /// It answers `OutOfHeap` where an emptying of the nurseries finds that the heap is too small, with the replies up to there,
     /// and `NoMemory` where there is no memory for all replies, before anything is done, or for the answers to the notices of a round,
@@ -175,7 +175,7 @@ impl Engine {
         ) {
             Ok(()) => {
                 self.facts();
-                self.give_all(&phase.gives);
+                self.change_all(&phase.gives);
                 self.room_facts();
                 Ok(Replies { lanes: replies })
             }
@@ -191,17 +191,32 @@ impl Engine {
         }
     }
 
-    /// Has the domains change hands, one after the other. All chunks and write buffers are empty, and no page is remembered.
-    fn give_all(&mut self, gives: &[Give])
+    /// Has domains change hands or be frozen, one after the other. All chunks and write buffers are empty, and no page is remembered.
+    fn change_all(&mut self, changes: &[Change])
         requires alive { self.old.ended ≢ Some Ended.NoMemory }
         requires empty { HasEmptyChunks self.old.running.heap }
         requires unrecorded { IsUnrecorded self.old.running.heap }
-        requires gives { AllByRecursion (IsGive self.old.setup) gives.now }
-        ensures given { (s : State) → EngineStands self.old s → EngineStands self.new (after_gives s gives.now) }
+        requires changes { AllByRecursion (FitsChange self.old.setup) changes.now }
+        ensures changed { (s : State) → EngineStands self.old s → EngineStands self.new (after_changes s changes.now) }
         ensures same { self.new ≡ with_holders self.old self.new.running.holders }
     {
-        for give in gives {
-            self.give(give.domain, give.lane);
+        for change in changes {
+            self.change(change);
+        }
+    }
+
+    /// Has one domain change hands or be frozen.
+    fn change(&mut self, change: &Change)
+        requires alive { self.old.ended ≢ Some Ended.NoMemory }
+        requires empty { HasEmptyChunks self.old.running.heap }
+        requires unrecorded { IsUnrecorded self.old.running.heap }
+        requires fits { FitsChange self.old.setup change.now }
+        ensures changed { (s : State) → EngineStands self.old s → EngineStands self.new (changed s change.now) }
+        ensures same { self.new ≡ with_holders self.old self.new.running.holders }
+    {
+        match *change {
+            Change::Give(give) => self.give(give.domain, give.lane),
+            Change::Freeze(domain) => self.freeze(domain),
         }
     }
 

@@ -1,4 +1,4 @@
--- A page that its lane takes from Gone, and what its view says then.
+-- A page that a lane takes from Gone, and what its view says then.
 use Rattle.std.specs.Prelude.{◌≡◌, ℕ, ◌<◌, ◌≤◌, false, List, [], ◌∷◌, ◌++◌, Some}
 use Rattle.bc_pins.specs.declared.views.View.{View}
 use Rattle.bc_pins.specs.declared.views.Hand.{Hand}

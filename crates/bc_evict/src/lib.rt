@@ -17,7 +17,7 @@
 // Who made a page Gone or Absent has the right to its frame (`FrameRight`), and each right is one: it can't be copied, only the
 // calls here make one, and giving it up is handing it over. A table is closed with no right in anybody's hands.
 //
-// A lane brings an own page that is Gone back in the turn, into a frame of its own:
+// A lane brings a page that is Gone back in the turn, an own one or one of a frozen domain, into a frame of its own:
 //
 //     claim_frame   a frame that is free, word by word; where each frame word was full, none
 //     free_frame    or else a page that can be taken is given up, and the right to its frame kept

@@ -8,11 +8,11 @@ use Rattle.std.proofs.lemmas.List.{append_assoc}
 use Rattle.std.proofs.Math.Nat.{mul-le-mul_left}
 use Rattle.bc_model.specs.WellFormed.{IsWithin, IsSetup}
 use Rattle.bc_model.specs.declared.traces.Setup.{Setup}
+use Rattle.bc_model.specs.declared.values.Holder.{Holder}
 use Rattle.bc_image.specs.Cells.{CellList}
-use Rattle.bc_image.specs.Drafts.{ImageDraft, empty_draft, judged, put, holder_of, with_progress}
+use Rattle.bc_image.specs.Drafts.{ImageDraft, empty_draft, judged, put, numbered_holder, with_progress}
 use Rattle.bc_image.specs.Items.{is_finished, is_within, magic, passes, advanced, is_root}
 use Rattle.bc_image.specs.Memories.{no_head}
-use Rattle.bc_image.specs.declared.listing.Holder.{Holder}
 use Rattle.bc_image.specs.declared.progress.Progress.{Progress}
 use Rattle.bc_image.specs.declared.progress.Stage.{Stage}
 use Rattle.bc_image.specs.declared.progress.Stage.TheVariants as stages
@@ -98,9 +98,9 @@ module _ (cells : List CellList) (v : ℕ) (s : Setup) (ph : ℕ) where
   abbrev pub HolderTest : ℕ → Type 0
   HolderTest n = (nat_lt n s.lanes || ((n == s.lanes) && nat_le 2 v)) ≡ true
 
-  holder-step : (k : ℕ) (hs : List Holder) (n : ℕ) → put (head_draft v s ph stages.Holder k hs [] []) n ≡ (if k + 1 == s.domains then head_draft v s ph stages.Birth 0 (hs ++ holder_of s.lanes n ∷ []) [] [] else head_draft v s ph stages.Holder (k + 1) (hs ++ holder_of s.lanes n ∷ []) [] [])
+  holder-step : (k : ℕ) (hs : List Holder) (n : ℕ) → put (head_draft v s ph stages.Holder k hs [] []) n ≡ (if k + 1 == s.domains then head_draft v s ph stages.Birth 0 (hs ++ numbered_holder s.lanes n ∷ []) [] [] else head_draft v s ph stages.Holder (k + 1) (hs ++ numbered_holder s.lanes n ∷ []) [] [])
   unfolding put advanced
-  holder-step k hs n = progress-if (k + 1 == s.domains) (head_draft v s ph stages.Holder k (hs ++ holder_of s.lanes n ∷ []) [] []) (head_progress v s ph stages.Birth 0) (head_progress v s ph stages.Holder (k + 1))
+  holder-step k hs n = progress-if (k + 1 == s.domains) (head_draft v s ph stages.Holder k (hs ++ numbered_holder s.lanes n ∷ []) [] []) (head_progress v s ph stages.Birth 0) (head_progress v s ph stages.Holder (k + 1))
 
   holder-test : (k : ℕ) (hs : List Holder) (n : ℕ) → judged (head_draft v s ph stages.Holder k hs [] []) n ≡ None → HolderTest n
   holder-test k hs n h = judged-passed (head_draft v s ph stages.Holder k hs [] []) n h
@@ -109,11 +109,11 @@ module _ (cells : List CellList) (v : ℕ) (s : Setup) (ph : ℕ) where
   unfolding passes
   holder-back k hs n h = judged-ok (head_draft v s ph stages.Holder k hs [] []) n h refl
 
-  pub holders-in : (left : ℕ) (items : List ℕ) (e : ImageDraft) → is_finished e.progress.stage ≡ true → 0 + suc left ≡ s.domains → Runs cells (head_draft v s ph stages.Holder 0 [] [] []) items e → Many cells stages.Holder HolderTest (λ ns. head_draft v s ph stages.Birth 0 (map (holder_of s.lanes) ns) [] []) (suc left) items e
-  holders-in left items e is total run = many-in cells Holder stages.Holder s.domains (holder_of s.lanes) HolderTest (λ k hs. head_draft v s ph stages.Holder k hs [] []) (λ hs. head_draft v s ph stages.Birth 0 hs [] []) (λ k xs. refl) refl holder-step holder-test holder-back left 0 [] items e is total run
+  pub holders-in : (left : ℕ) (items : List ℕ) (e : ImageDraft) → is_finished e.progress.stage ≡ true → 0 + suc left ≡ s.domains → Runs cells (head_draft v s ph stages.Holder 0 [] [] []) items e → Many cells stages.Holder HolderTest (λ ns. head_draft v s ph stages.Birth 0 (map (numbered_holder s.lanes) ns) [] []) (suc left) items e
+  holders-in left items e is total run = many-in cells Holder stages.Holder s.domains (numbered_holder s.lanes) HolderTest (λ k hs. head_draft v s ph stages.Holder k hs [] []) (λ hs. head_draft v s ph stages.Birth 0 hs [] []) (λ k xs. refl) refl holder-step holder-test holder-back left 0 [] items e is total run
 
-  pub holders-out : (ns : List ℕ) (left : ℕ) → length ns ≡ suc left → 0 + suc left ≡ s.domains → AllByRecursion HolderTest ns → AllByRecursion (FitsLinked cells stages.Holder) ns → Runs cells (head_draft v s ph stages.Holder 0 [] [] []) ns (head_draft v s ph stages.Birth 0 (map (holder_of s.lanes) ns) [] [])
-  holders-out ns left len total ts fs = many-out cells Holder stages.Holder s.domains (holder_of s.lanes) HolderTest (λ k hs. head_draft v s ph stages.Holder k hs [] []) (λ hs. head_draft v s ph stages.Birth 0 hs [] []) (λ k xs. refl) refl holder-step holder-test holder-back ns left 0 [] len total ts fs
+  pub holders-out : (ns : List ℕ) (left : ℕ) → length ns ≡ suc left → 0 + suc left ≡ s.domains → AllByRecursion HolderTest ns → AllByRecursion (FitsLinked cells stages.Holder) ns → Runs cells (head_draft v s ph stages.Holder 0 [] [] []) ns (head_draft v s ph stages.Birth 0 (map (numbered_holder s.lanes) ns) [] [])
+  holders-out ns left len total ts fs = many-out cells Holder stages.Holder s.domains (numbered_holder s.lanes) HolderTest (λ k hs. head_draft v s ph stages.Holder k hs [] []) (λ hs. head_draft v s ph stages.Birth 0 hs [] []) (λ k xs. refl) refl holder-step holder-test holder-back ns left 0 [] len total ts fs
 
   module _ (hs : List Holder) where
     abbrev pub BirthTest : ℕ → Type 0

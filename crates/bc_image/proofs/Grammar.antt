@@ -7,20 +7,20 @@ use Rattle.std.proofs.lemmas.Bool.{eq-eqb, ne_eqb, eqb-true, cases_eq, or_cases,
 use Rattle.std.proofs.lemmas.Bool.Decides.{nat_tests}
 use Rattle.std.proofs.lemmas.List.Folds.{list_any-append}
 use Rattle.bc_model.specs.declared.values.Birth.{Birth}
+use Rattle.bc_model.specs.declared.values.Holder.{Holder}
+use Rattle.bc_model.specs.declared.values.Holder.TheVariants.{Lane, Frozen}
 use Rattle.bc_standing.specs.Standing.{birth_of}
 use Rattle.bc_word.specs.HeadBits.{FitsHead}
 use Rattle.bc_word.specs.Words.{word_of_bits}
 use Rattle.bc_word.specs.declared.words.Word.{Word}
 use Rattle.bc_word.specs.declared.words.Word.TheVariants.{Nil, Num, Ref}
 use Rattle.bc_image.specs.Cells.{CellList}
-use Rattle.bc_image.specs.Drafts.{holder_of}
+use Rattle.bc_image.specs.Drafts.{numbered_holder}
 use Rattle.bc_image.specs.Faults.{leads_nowhere}
-use Rattle.bc_image.specs.Images.{holder_number, IsHolder, IsLinked, AreLinked, IsListed, IsImageListing}
+use Rattle.bc_image.specs.Images.{holder_number, IsImageHolder, IsLinked, AreLinked, IsListed, IsImageListing}
 use Rattle.bc_image.specs.Items.{is_root}
 use Rattle.bc_image.specs.Listings.{ListingLists}
 use Rattle.bc_image.specs.Memories.{cell_at, number_at}
-use Rattle.bc_image.specs.declared.listing.Holder.{Holder}
-use Rattle.bc_image.specs.declared.listing.Holder.TheVariants.{Lane, Frozen}
 use Rattle.bc_image.specs.declared.progress.Stage.{Stage}
 use Rattle.bc_image.specs.declared.progress.Stage.TheVariants as stages
 use Rattle.bc_image.proofs.ItemLemmas.{le_true, lt_true}
@@ -53,35 +53,35 @@ map-same (n ∷ ns) = ap (λ (ms : List ℕ). n ∷ ms) (map-same ns)
 
 -- ---- holders
 
-number-holder : (lanes n : ℕ) → holder_number lanes (holder_of lanes n) ≡ n
+number-holder : (lanes n : ℕ) → holder_number lanes (numbered_holder lanes n) ≡ n
 number-holder lanes n = elim (cases_eq n lanes) [
   | inl e ↦ rw (eq-eqb n lanes e) (sym e)
   | inr ne ↦ rw (ne_eqb n lanes ne) refl
 ]
 
-pub numbers-holders : (lanes : ℕ) (ns : List ℕ) → map (holder_number lanes) (map (holder_of lanes) ns) ≡ ns
+pub numbers-holders : (lanes : ℕ) (ns : List ℕ) → map (holder_number lanes) (map (numbered_holder lanes) ns) ≡ ns
 numbers-holders lanes [] = refl
 numbers-holders lanes (n ∷ ns) = ap₂ (λ (m : ℕ) (ms : List ℕ). m ∷ ms) (number-holder lanes n) (numbers-holders lanes ns)
 
-holder-number : (version lanes : ℕ) (h : Holder) → IsHolder version lanes h → holder_of lanes (holder_number lanes h) ≡ h
+holder-number : (version lanes : ℕ) (h : Holder) → IsImageHolder version lanes h → numbered_holder lanes (holder_number lanes h) ≡ h
 holder-number version lanes (Lane j) is = rw (ne_eqb j lanes (λ e. absurd (omega arith))) refl
 holder-number version lanes Frozen is = rw (eq-eqb lanes lanes refl) refl
 
-pub holders-numbers : (version lanes : ℕ) (hs : List Holder) → AllByRecursion (IsHolder version lanes) hs → map (holder_of lanes) (map (holder_number lanes) hs) ≡ hs
+pub holders-numbers : (version lanes : ℕ) (hs : List Holder) → AllByRecursion (IsImageHolder version lanes) hs → map (numbered_holder lanes) (map (holder_number lanes) hs) ≡ hs
 holders-numbers version lanes [] a = refl
 holders-numbers version lanes (h ∷ hs) a = ap₂ (λ (m : Holder) (ms : List Holder). m ∷ ms) (holder-number version lanes h a.0) (holders-numbers version lanes hs a.1)
 
-pub holder-good : (version lanes n : ℕ) → (nat_lt n lanes || ((n == lanes) && nat_le 2 version)) ≡ true → IsHolder version lanes (holder_of lanes n)
+pub holder-good : (version lanes n : ℕ) → (nat_lt n lanes || ((n == lanes) && nat_le 2 version)) ≡ true → IsImageHolder version lanes (numbered_holder lanes n)
 holder-good version lanes n h = elim (cases_eq n lanes) [
   | inl e ↦ rw (eq-eqb n lanes e) (elim (or_cases (nat_lt n lanes) ((n == lanes) && nat_le 2 version) h) [ inl l ↦ absurd (let m = lt_true n lanes l in omega arith) | inr r ↦ le_true 2 version (and_parts (n == lanes) (nat_le 2 version) r).1 ])
   | inr ne ↦ rw (ne_eqb n lanes ne) (elim (or_cases (nat_lt n lanes) ((n == lanes) && nat_le 2 version) h) [ inl l ↦ lt_true n lanes l | inr r ↦ absurd (ne (eqb-true n lanes (and_parts (n == lanes) (nat_le 2 version) r).0)) ])
 ]
 
-pub holder-tests : (version lanes : ℕ) (h : Holder) → IsHolder version lanes h → (let n : ℕ = holder_number lanes h in (nat_lt n lanes || ((n == lanes) && nat_le 2 version)) ≡ true)
+pub holder-tests : (version lanes : ℕ) (h : Holder) → IsImageHolder version lanes h → (let n : ℕ = holder_number lanes h in (nat_lt n lanes || ((n == lanes) && nat_le 2 version)) ≡ true)
 holder-tests version lanes (Lane j) is = grind (arith, nat_tests)
 holder-tests version lanes Frozen is = rw (eq-eqb lanes lanes refl) (let k : 2 ≤ version = is in grind (arith, nat_tests))
 
-pub holder-small : (version lanes : ℕ) (h : Holder) → lanes ≤ 16 → IsHolder version lanes h → holder_number lanes h < 2 ^ 64
+pub holder-small : (version lanes : ℕ) (h : Holder) → lanes ≤ 16 → IsImageHolder version lanes h → holder_number lanes h < 2 ^ 64
 holder-small version lanes (Lane j) le is = omega arith
 holder-small version lanes Frozen le is = omega arith
 

@@ -8,11 +8,12 @@ use Rattle.bc_word.specs.declared.words.Word.{Word}
 use Rattle.bc_word.specs.declared.words.Word.TheVariants as word
 use Rattle.bc_memory.specs.Memory.{Cell, Memory}
 use Rattle.bc_reach.proofs.Reaching.{Reach-least}
-use Rattle.bc_model.specs.Consistent.{IsState, IsMadeObject, IsValue, AreValues}
+use Rattle.bc_model.specs.Consistent.{IsHolder, IsState, IsMadeObject, IsValue, AreValues}
 use Rattle.bc_model.specs.WellFormed.{IsNumber}
 use Rattle.bc_model.specs.Reached.{Reached, Holds, FieldHolds}
-use Rattle.bc_model.specs.State.{Object, IsBorn, object_of, made_by, no_object, numbers_below}
+use Rattle.bc_model.specs.State.{Object, IsBorn, holder_of, object_of, made_by, no_object, numbers_below}
 use Rattle.bc_model.specs.declared.values.Birth.{Birth}
+use Rattle.bc_model.specs.declared.values.Holder.{Holder}
 use Rattle.bc_model.specs.declared.values.Value.{Value}
 use Rattle.bc_model.specs.declared.values.Value.TheVariants.{Nil, Num, Obj}
 use Rattle.bc_standing.specs.Standing.{births, read, ReadAs, IsHome, Stands, AllBorn}
@@ -244,8 +245,8 @@ module _ (m : Memory) (roots : List Word) (lanes end : ℕ) (counts : List ℕ) 
       let is : object_of (made_in m end lanes counts) b ≡ found_below m (birth_on b.lane (b.serial - 1)) end = ap (λ (xs : List Object). get_or xs (b.serial - 1) no_object) row ∙ at in
       subst IsFound (sym is) (found-is (birth_on b.lane (b.serial - 1)) end)
 
-  pub made-state : (width : ℕ) (holders : List ℕ) → lanes ≤ 16 → length holders ≤ 64 → 0 < length holders → width ≤ 256 → length roots ≡ width * length holders → AreInRange m roots (length holders)
-      → ((d : ℕ) → d < length holders → get_or holders d 0 < lanes)
+  pub made-state : (width : ℕ) (holders : List Holder) → lanes ≤ 16 → length holders ≤ 64 → 0 < length holders → width ≤ 256 → length roots ≡ width * length holders → AreInRange m roots (length holders)
+      → ((d : ℕ) → d < length holders → IsHolder lanes (holder_of holders d))
       → IsState (record { width = width; made = made_in m end lanes counts; slots = map (value_of m) roots; holders = holders })
   made-state width holders few domains some narrow slots range held =
       let count : length (made_in m end lanes counts) ≡ lanes = length-map (numbers_below lanes) (λ j. map (λ s. found_below m (birth_on j s) end) (numbers_below (get_or counts j 0))) ∙ numbers-length lanes in
@@ -265,5 +266,5 @@ module _ (m : Memory) (roots : List Word) (lanes end : ℕ) (counts : List ℕ) 
                 values = words-values (length holders) c.fields (whole.fields_closed found.0 c found.2) (range.numbers found.0 c found.2);
               })
         ];
-        holders = λ d lt. (let h = held d lt in omega (arith, count));
+        holders = λ d lt. subst (λ (n : ℕ). IsHolder n (holder_of holders d)) (sym count) (held d lt);
       }

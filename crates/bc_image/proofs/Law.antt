@@ -8,17 +8,17 @@ use Rattle.std.proofs.Math.Nat.{mul-le-mul_left}
 use Rattle.bc_model.specs.State.{numbers_below}
 use Rattle.bc_model.specs.WellFormed.{IsWithin, IsSetup}
 use Rattle.bc_model.specs.declared.traces.Setup.{Setup}
+use Rattle.bc_model.specs.declared.values.Holder.{Holder}
 use Rattle.bc_word.specs.HeadBits.{FitsHead}
 use Rattle.bc_word.specs.Words.{word_of_bits}
 use Rattle.bc_image.specs.Cells.{CellList}
-use Rattle.bc_image.specs.Drafts.{ImageDraft, empty_draft, holder_of}
+use Rattle.bc_image.specs.Drafts.{ImageDraft, empty_draft, numbered_holder}
 use Rattle.bc_image.specs.Faults.{linking, listing_of}
-use Rattle.bc_image.specs.Images.{holder_number, image_items, image_bytes, superpage_items, IsHolder, IsLinked, IsListed, IsImageListing, ImageOf}
+use Rattle.bc_image.specs.Images.{holder_number, image_items, image_bytes, superpage_items, IsImageHolder, IsLinked, IsListed, IsImageListing, ImageOf}
 use Rattle.bc_image.specs.Items.{magic, is_finished, first_progress}
 use Rattle.bc_image.specs.Listings.{ListingLists}
 use Rattle.bc_image.specs.Memories.{no_head, cell_at}
 use Rattle.bc_image.specs.Reading.{items_of_all}
-use Rattle.bc_image.specs.declared.listing.Holder.{Holder}
 use Rattle.bc_image.specs.declared.progress.Stage.TheVariants as stages
 use Rattle.bc_image.proofs.ItemLemmas.{le_true}
 use Rattle.bc_image.proofs.Running.{FitsLinked, Runs, runs-then, reading-runs, runs-reading, items_from, bytes_of, bytes-spelled, bytes_of-length, item-small, items-spelled}
@@ -44,7 +44,7 @@ pub record Taken (items : List ℕ) (e : ImageDraft) : Type 0 where
   pub listing : IsImageListing (listing_of e)
   pub is : items ≡ image_items (listing_of e)
 
-listing-from : (l : ListingLists) → IsWithin 1 3 l.version → IsSetup l.setup → l.phases < 2 ^ 32 → length l.holders ≡ l.setup.domains → AllByRecursion (IsHolder l.version l.setup.lanes) l.holders → length l.births ≡ l.setup.lanes → AllByRecursion (λ n. n ≤ 4000000000) l.births
+listing-from : (l : ListingLists) → IsWithin 1 3 l.version → IsSetup l.setup → l.phases < 2 ^ 32 → length l.holders ≡ l.setup.domains → AllByRecursion (IsImageHolder l.version l.setup.lanes) l.holders → length l.births ≡ l.setup.lanes → AllByRecursion (λ n. n ≤ 4000000000) l.births
     → length l.roots ≡ l.setup.domains * l.setup.slots → AllByRecursion (FitsLinked l.cells stages.Root) l.roots → Chain l.cells l 0 [] l.cells → IsImageListing l
 listing-from l version setup phases domains holders lanes births slots roots chain =
     let good = chain-good l.cells l 0 [] l.cells chain in
@@ -83,7 +83,7 @@ taken items e is run =
     let ph : ℕ = nb.phases in
     let md = at-least s.domains nb.setup_is.domains.0 in
     let ho = holders-in cells v s ph md.0 nb.rest e is (let q = md.1 in omega arith) nb.runs in
-    let hs : List Holder = map (holder_of s.lanes) ho.front in
+    let hs : List Holder = map (numbered_holder s.lanes) ho.front in
     let ml = at-least s.lanes nb.setup_is.lanes.0 in
     let bi = births-in cells v s ph hs ml.0 ho.rest e is (let q = ml.1 in omega arith) ho.runs in
     let bs : List ℕ = map (λ n. n) bi.front in
@@ -99,8 +99,8 @@ taken items e is run =
     let cells_are : cells ≡ pg.all = ap (λ (d : ImageDraft). d.cells) w.is in
     let whole : listing_of e ≡ l = ap listing_of w.is ∙ ap (λ (ys : List CellList). let x : ListingLists = record { version = v; setup = s; phases = ph; holders = hs; births = bs; roots = rs; cells = ys } in x) (sym cells_are) in
     let chain : Chain cells l 0 [] cells = subst (λ (ys : List CellList). Chain cells l 0 [] ys) (sym cells_are) pg.chain in
-    let listing : IsImageListing l = listing-from l nb.version_within nb.setup_is nb.phases_below (length-map ho.front (holder_of s.lanes) ∙ ho.counted ∙ sym md.1)
-    (all-map (holder_of s.lanes) (HolderTest cells v s ph) (IsHolder v s.lanes) ho.front (λ n h. holder-good v s.lanes n h) ho.tests)
+    let listing : IsImageListing l = listing-from l nb.version_within nb.setup_is nb.phases_below (length-map ho.front (numbered_holder s.lanes) ∙ ho.counted ∙ sym md.1)
+    (all-map (numbered_holder s.lanes) (HolderTest cells v s ph) (IsImageHolder v s.lanes) ho.front (λ n h. holder-good v s.lanes n h) ho.tests)
     (length-map bi.front (λ n. n) ∙ bi.counted ∙ sym ml.1)
     (all-map (λ n. n) (BirthTest cells v s ph hs) (λ n. n ≤ 4000000000) bi.front (λ n h. le_true n 4000000000 h) bi.tests)
     (length-map ro.front (λ n. n) ∙ ro.counted ∙ sym mr.1)
@@ -131,9 +131,9 @@ takes l is =
     let r0 = numbers-out cells v s ph is.version is.setup is.phases in
     let md = at-least s.domains is.setup.domains.0 in
     let r1 = holders-out cells v s ph hn md.0 (length-map hs (holder_number s.lanes) ∙ is.domains ∙ md.1) (let q = md.1 in omega arith)
-    (all-map (holder_number s.lanes) (IsHolder v s.lanes) (HolderTest cells v s ph) hs (holder-tests v s.lanes) is.holders)
-    (all-map (holder_number s.lanes) (IsHolder v s.lanes) (FitsLinked cells stages.Holder) hs (λ h k. record { small = holder-small v s.lanes h is.setup.lanes.1 k; leads = refl }) is.holders) in
-    let hs' : List Holder = map (holder_of s.lanes) hn in
+    (all-map (holder_number s.lanes) (IsImageHolder v s.lanes) (HolderTest cells v s ph) hs (holder-tests v s.lanes) is.holders)
+    (all-map (holder_number s.lanes) (IsImageHolder v s.lanes) (FitsLinked cells stages.Holder) hs (λ h k. record { small = holder-small v s.lanes h is.setup.lanes.1 k; leads = refl }) is.holders) in
+    let hs' : List Holder = map (numbered_holder s.lanes) hn in
     let back : hs' ≡ hs = holders-numbers v s.lanes hs is.holders in
     let ml = at-least s.lanes is.setup.lanes.0 in
     let r2 = births-out cells v s ph hs' l.births ml.0 (is.lanes ∙ ml.1) (let q = ml.1 in omega arith)

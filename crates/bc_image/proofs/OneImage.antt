@@ -8,17 +8,6 @@ use Rattle.bc_word.specs.Words.{word_of_bits}
 use Rattle.bc_image.specs.Listings.{ListingLists}
 use Rattle.bc_image.specs.Memories.{memory_of}
 use Rattle.bc_image.specs.Pictures.{Pictures}
-use Rattle.bc_image.specs.declared.listing.Holder.{Holder}
-use Rattle.bc_image.specs.declared.listing.Holder.TheVariants.{Lane}
-
-lane_of : Holder → ℕ
-lane_of (Lane j) = j
-lane_of _ = 0
-
-lanes-back : (js : List ℕ) → map lane_of (map Lane js) ≡ js
-unfolding lane_of
-lanes-back [] = refl
-lanes-back (j ∷ js) = ap (λ (ks : List ℕ). j ∷ ks) (lanes-back js)
 
 -- how many a lane has made, read off the list of all counts
 counted : (mss : List (List Object)) (j : ℕ) → length (made_by mss j) ≡ get_or (map (λ (made : List Object). length made) mss) j 0
@@ -33,7 +22,7 @@ one-image l s t p q =
     record {
       width = q.sizes.slots ∙ sym p.sizes.slots;
       slots = sym part.same;
-      holders = sym (lanes-back t.holders) ∙ ap (map lane_of) (sym q.holders ∙ p.holders) ∙ lanes-back s.holders;
+      holders = sym q.holders ∙ p.holders;
       objects = record {
         lanes = q.sizes.lanes ∙ sym p.sizes.lanes;
         next = λ j. counted t.made j ∙ ap (λ (ns : List ℕ). get_or ns j 0) counts ∙ sym (counted s.made j);

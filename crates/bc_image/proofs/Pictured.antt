@@ -9,16 +9,17 @@ use Rattle.bc_word.specs.Words.{word_of_bits}
 use Rattle.bc_word.specs.declared.words.Word.{Word}
 use Rattle.bc_word.specs.declared.words.Word.TheVariants as word
 use Rattle.bc_memory.specs.Memory.{Cell, Memory}
-use Rattle.bc_model.specs.Consistent.{IsState}
-use Rattle.bc_model.specs.State.{State, Object, made_by, numbers_below}
+use Rattle.bc_model.specs.Consistent.{IsHolder, IsState}
+use Rattle.bc_model.specs.State.{State, Object, holder_of, made_by, numbers_below}
 use Rattle.bc_model.specs.declared.values.Birth.{Birth}
+use Rattle.bc_model.specs.declared.values.Holder.{Holder}
+use Rattle.bc_model.specs.declared.values.Holder.TheVariants.{Lane, Frozen}
 use Rattle.bc_standing.specs.Standing.{births, birth_of}
 use Rattle.bc_image.specs.Cells.{CellList}
-use Rattle.bc_image.specs.Images.{IsHolder, IsLinked, AreLinked, IsListed, IsImageListing}
+use Rattle.bc_image.specs.Images.{IsImageHolder, IsLinked, AreLinked, IsListed, IsImageListing}
 use Rattle.bc_image.specs.Listings.{ListingLists}
 use Rattle.bc_image.specs.Memories.{number_at, cell_at, cell_of, memory_of}
 use Rattle.bc_image.specs.Pictures.{PicturesObjects, Pictures}
-use Rattle.bc_image.specs.declared.listing.Holder.TheVariants.{Lane}
 use Rattle.bc_image.proofs.Grammar.{all-at}
 use Rattle.bc_image.proofs.HasState.{IsWhole, IsClosedWord, AreClosed, IsNumberWord, AreNumberWords, AreInRange, made_in, value_of, birth_on, found_below, stands-for, made-state, numbers-length, mapped-at}
 
@@ -151,7 +152,7 @@ module _ (l : ListingLists) (is : IsImageListing l) where
     fields = λ a c e. (let x = cell-listed l.cells a c e in let f = (listed x.number x.within).head.fields in let n = (listed x.number x.within).count in let long = ap (λ (y : Cell). length y.fields) x.is ∙ length-map (cell_at l.cells x.number).fields word_of_bits in omega arith);
   }
 
-  abbrev pub state_with : List ℕ → State
+  abbrev pub state_with : List Holder → State
   state_with holders = record {
     width = l.setup.slots;
     made = made_in (memory_of l.cells) (2048 * l.setup.superpages) l.setup.lanes l.births;
@@ -159,7 +160,7 @@ module _ (l : ListingLists) (is : IsImageListing l) where
     holders = holders;
   }
 
-  pub pictured-state : (holders : List ℕ) → length holders ≡ l.setup.domains → ((d : ℕ) → d < length holders → get_or holders d 0 < l.setup.lanes) → IsState (state_with holders)
+  pub pictured-state : (holders : List Holder) → length holders ≡ l.setup.domains → ((d : ℕ) → d < length holders → IsHolder l.setup.lanes (holder_of holders d)) → IsState (state_with holders)
   pictured-state holders long held =
       let lanes = is.setup.lanes.1 in
       let domains = is.setup.domains in
@@ -172,7 +173,7 @@ module _ (l : ListingLists) (is : IsImageListing l) where
       turned : (x y : ℕ) → x * y ≡ y * x
       turned x y = omega arith
 
-  pub pictured-objects : (holders : List ℕ) → length holders ≡ l.setup.domains → PicturesObjects l (state_with holders)
+  pub pictured-objects : (holders : List Holder) → length holders ≡ l.setup.domains → PicturesObjects l (state_with holders)
   pictured-objects holders long = record {
     stands = stands-for (memory_of l.cells) (map word_of_bits l.roots) l.setup.lanes (2048 * l.setup.superpages) l.births whole;
     sizes = record {
@@ -196,43 +197,30 @@ module _ (l : ListingLists) (is : IsImageListing l) where
       let rest = same-counts counts mss (omega arith) (λ j lt. at (suc j) (omega arith)) in
       ap (λ (x : ℕ). x ∷ counts) (sym first) ∙ ap (λ (xs : List ℕ). length ms ∷ xs) rest
 
-  pub pictured : (holders : List ℕ) → l.holders ≡ map Lane holders → Pictures l (state_with holders)
-  pictured holders held =
-      let long : length holders ≡ l.setup.domains = sym (length-map holders Lane) ∙ ap length (sym held) ∙ is.domains in
-      let objects = pictured-objects holders long in
+  pub pictured : Pictures l (state_with l.holders)
+  pictured =
+      let objects = pictured-objects l.holders is.domains in
       record {
         stands = objects.stands;
         sizes = objects.sizes;
-        holders = held;
+        holders = refl;
         births = same-counts l.births (made_in (memory_of l.cells) (2048 * l.setup.superpages) l.setup.lanes l.births) (is.lanes ∙ sym objects.sizes.lanes) (λ j lt. counts-at l.births l.setup.lanes j (let n = is.lanes in omega arith));
       }
 
-lanes-held : (version lanes : ℕ) (holders : List ℕ) → AllByRecursion (IsHolder version lanes) (map Lane holders) → (d : ℕ) → d < length holders → get_or holders d 0 < lanes
-lanes-held version lanes [] a d lt = absurd (omega arith)
-lanes-held version lanes (h ∷ hs) a zero lt = a.0
-lanes-held version lanes (h ∷ hs) a (suc d) lt = lanes-held version lanes hs a.1 d (omega arith)
+-- each holder of a listing is one of a state
+listed-holder : (version lanes : ℕ) (h : Holder) → IsImageHolder version lanes h → IsHolder lanes h
+listed-holder version lanes (Lane j) is = is
+listed-holder version lanes Frozen is = tt
 
-zeros : ℕ → List ℕ
-zeros zero = []
-zeros (suc n) = 0 ∷ zeros n
+pub listed-holders : (version lanes : ℕ) (holders : List Holder) → AllByRecursion (IsImageHolder version lanes) holders → (d : ℕ) → d < length holders → IsHolder lanes (holder_of holders d)
+listed-holders version lanes [] a d lt = absurd (omega arith)
+listed-holders version lanes (h ∷ hs) a zero lt = listed-holder version lanes h a.0
+listed-holders version lanes (h ∷ hs) a (suc d) lt = listed-holders version lanes hs a.1 d (omega arith)
 
-zeros-long : (n : ℕ) → length (zeros n) ≡ n
-unfolding zeros
-zeros-long zero = refl
-zeros-long (suc n) = (let h = zeros-long n in let e : suc (length (zeros n)) ≡ suc n = omega arith in e)
-
-zeros-small : (n d lanes : ℕ) → 1 ≤ lanes → get_or (zeros n) d 0 < lanes
-unfolding zeros
-zeros-small zero d lanes le = omega arith
-zeros-small (suc n) zero lanes le = omega arith
-zeros-small (suc n) (suc d) lanes le = zeros-small n d lanes le
+pub some-state : (l : ListingLists) → IsImageListing l → (s : State) × IsState s × Pictures l s
+some-state l is = (state_with l is l.holders, pictured-state l is l.holders is.domains (listed-holders l.version l.setup.lanes l.holders is.holders), pictured l is)
 
 pub some-objects : (l : ListingLists) → IsImageListing l → (s : State) × IsState s × PicturesObjects l s
 some-objects l is =
-    let some = is.setup.lanes.0 in
-    (state_with l is (zeros l.setup.domains), pictured-state l is (zeros l.setup.domains) (zeros-long l.setup.domains) (λ d lt. zeros-small l.setup.domains d l.setup.lanes some), pictured-objects l is (zeros l.setup.domains) (zeros-long l.setup.domains))
-
-pub some-state : (l : ListingLists) → IsImageListing l → (holders : List ℕ) → l.holders ≡ map Lane holders → (s : State) × IsState s × Pictures l s
-some-state l is holders held =
-    let long : length holders ≡ l.setup.domains = sym (length-map holders Lane) ∙ ap length (sym held) ∙ is.domains in
-    (state_with l is holders, pictured-state l is holders long (lanes-held l.version l.setup.lanes holders (subst (AllByRecursion (IsHolder l.version l.setup.lanes)) held is.holders)), pictured l is holders held)
+    let whole = some-state l is in
+    (whole.0, whole.1, record { stands = whole.2.stands; sizes = whole.2.sizes })

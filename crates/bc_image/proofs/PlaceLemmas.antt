@@ -7,7 +7,7 @@ use Rattle.bc_word.specs.Words.{word_of_bits}
 use Rattle.bc_word.specs.Heads.{head_of_bits}
 use Rattle.bc_image.specs.Bytes.{item_at}
 use Rattle.bc_image.specs.Cells.{CellList}
-use Rattle.bc_image.specs.Drafts.{ImageDraft, empty_draft, birth_bits, holder_of, put, put_at, finished_object}
+use Rattle.bc_image.specs.Drafts.{ImageDraft, empty_draft, birth_bits, numbered_holder, put, put_at, finished_object}
 use Rattle.bc_image.specs.Faults.{is_word, leads_nowhere, linking}
 use Rattle.bc_image.specs.Items.{advanced, advanced_at, superpage_ended, object_ended, HasObjectLeft}
 use Rattle.bc_image.specs.Memories.{cell_at}
@@ -305,8 +305,8 @@ module _ (p : Progress) (number : ℕ) (heads : List ℕ) (d : ImageDraft) (n : 
 
   step-holder : p.stage ≡ stages.Holder → IsPlaced stages.Holder number heads d → Step stages.Holder p number heads d n
   step-holder e h =
-      let e2 : ImageDraft = record d { holders = d.holders ++ holder_of d.progress.setup.lanes n ∷ [] } in
-      let more = pushed d.holders (holder_of d.progress.setup.lanes n) in
+      let e2 : ImageDraft = record d { holders = d.holders ++ numbered_holder d.progress.setup.lanes n ∷ [] } in
+      let more = pushed d.holders (numbered_holder d.progress.setup.lanes n) in
       let at = h.root.0 in
       record {
         placed = placed-if (p.stood + 1 == p.setup.domains) (record p { stood = 0; stage = stages.Birth }) (record p { stood = p.stood + 1 }) (number + 1) heads e2

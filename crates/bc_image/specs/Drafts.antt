@@ -10,8 +10,8 @@ use Rattle.bc_image.specs.Items.{passes, cause_of, advanced, first_progress, IsP
 use Rattle.bc_image.specs.declared.draft.Draft.{Draft}
 use Rattle.bc_image.specs.declared.fault.ImageCause.{ImageCause}
 use Rattle.bc_image.specs.declared.fault.ImageCause.TheVariants as causes
-use Rattle.bc_image.specs.declared.listing.Holder.{Holder}
-use Rattle.bc_image.specs.declared.listing.Holder.TheVariants.{Lane, Frozen}
+use Rattle.bc_model.specs.declared.values.Holder.{Holder}
+use Rattle.bc_model.specs.declared.values.Holder.TheVariants.{Lane, Frozen}
 use Rattle.bc_image.specs.declared.progress.Progress.{Progress}
 use Rattle.bc_image.specs.declared.progress.Stage.{Stage}
 use Rattle.bc_image.specs.declared.progress.Stage.TheVariants as stages
@@ -37,8 +37,8 @@ abbrev pub birth_bits : ℕ → ℕ
 birth_bits bits = bits / 8192
 
 -- the holder that a number stands for: a lane, or Frozen where it is the number of lanes
-abbrev pub holder_of : ℕ → ℕ → Holder
-holder_of lanes n = if n == lanes then Frozen else Lane n
+abbrev pub numbered_holder : ℕ → ℕ → Holder
+numbered_holder lanes n = if n == lanes then Frozen else Lane n
 
 -- the draft after the last item of an object
 abbrev pub finished_object : ImageDraft → ImageDraft
@@ -46,7 +46,7 @@ finished_object d = record d { cells = d.cells ++ record { address = d.progress.
 
 -- the draft with what an item of this stage adds, its progress as before
 abbrev pub put_at : Stage → ImageDraft → ℕ → ImageDraft
-put_at stages.Holder d n = record d { holders = d.holders ++ holder_of d.progress.setup.lanes n ∷ [] }
+put_at stages.Holder d n = record d { holders = d.holders ++ numbered_holder d.progress.setup.lanes n ∷ [] }
 put_at stages.Birth d n = record d { births = d.births ++ n ∷ [] }
 put_at stages.Root d n = record d { roots = d.roots ++ n ∷ [] }
 put_at stages.Head d n =

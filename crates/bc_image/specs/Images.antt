@@ -10,13 +10,13 @@ use Rattle.bc_word.specs.declared.words.Word.{Word}
 use Rattle.bc_word.specs.declared.words.Word.TheVariants.{Nil, Num, Ref}
 use Rattle.bc_model.specs.State.{numbers_below}
 use Rattle.bc_model.specs.WellFormed.{IsWithin, IsSetup}
+use Rattle.bc_model.specs.declared.values.Holder.{Holder}
+use Rattle.bc_model.specs.declared.values.Holder.TheVariants.{Lane, Frozen}
 use Rattle.bc_standing.specs.Standing.{birth_of}
 use Rattle.bc_image.specs.Cells.{CellList}
 use Rattle.bc_image.specs.Items.{magic}
 use Rattle.bc_image.specs.Listings.{ListingLists}
 use Rattle.bc_image.specs.Memories.{cell_at, number_at}
-use Rattle.bc_image.specs.declared.listing.Holder.{Holder}
-use Rattle.bc_image.specs.declared.listing.Holder.TheVariants.{Lane, Frozen}
 
 -- ---- the items of a listing
 
@@ -51,10 +51,10 @@ image_bytes l = flat_map (bytes_high_first 8) (image_items l)
 
 -- ---- what may be listed
 
--- a holder is one of the lanes, or from version 2 on Frozen
-abbrev pub IsHolder : ℕ → ℕ → Holder → Type 0
-IsHolder version lanes (Lane j) = j < lanes
-IsHolder version lanes Frozen = 2 ≤ version
+-- a holder that an image may list is one of the lanes, or from version 2 on Frozen
+abbrev pub IsImageHolder : ℕ → ℕ → Holder → Type 0
+IsImageHolder version lanes (Lane j) = j < lanes
+IsImageHolder version lanes Frozen = 2 ≤ version
 
 -- a word names no address, or that of a listed object
 abbrev pub IsLinked : List CellList → Word → Type 0
@@ -84,7 +84,7 @@ pub record IsImageListing (l : ListingLists) : Type 0 where
   pub setup : IsSetup l.setup
   pub phases : l.phases < 2 ^ 32
   pub domains : length l.holders ≡ l.setup.domains
-  pub holders : AllByRecursion (IsHolder l.version l.setup.lanes) l.holders
+  pub holders : AllByRecursion (IsImageHolder l.version l.setup.lanes) l.holders
   pub lanes : length l.births ≡ l.setup.lanes
   pub births : AllByRecursion (λ n. n ≤ 4000000000) l.births
   pub slots : length l.roots ≡ l.setup.domains * l.setup.slots

@@ -2,8 +2,8 @@
 -- What an image says, as plain lists.
 use Rattle.std.specs.Prelude.{ℕ, List}
 use Rattle.bc_model.specs.declared.traces.Setup.{Setup}
+use Rattle.bc_model.specs.declared.values.Holder.{Holder}
 use Rattle.bc_image.specs.Cells.{CellList}
-use Rattle.bc_image.specs.declared.listing.Holder.{Holder}
 
 -- what an image lists: its setup, and the phases, holders, births, root words and objects
 pub record ListingLists : Type 0 where

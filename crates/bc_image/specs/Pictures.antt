@@ -7,10 +7,8 @@ use Rattle.bc_model.specs.StateSizes.{HasSizes}
 use Rattle.bc_standing.specs.Standing.{StandsFor}
 use Rattle.bc_image.specs.Listings.{ListingLists}
 use Rattle.bc_image.specs.Memories.{memory_of}
-use Rattle.bc_image.specs.declared.listing.Holder.TheVariants.{Lane}
 
--- Each reached object has its one cell, and the slots and the sizes agree. That is all that an answer about objects asks; a listing with
--- a frozen domain pictures objects too, though no state has a holder that is frozen.
+-- each reached object has its one cell, and the slots and the sizes agree. That is all that an answer about objects asks
 pub record PicturesObjects (l : ListingLists) (s : State) : Type 0 where
   pub stands : StandsFor (memory_of l.cells) (map word_of_bits l.roots) s
   pub sizes : HasSizes l.setup s
@@ -19,5 +17,5 @@ pub record PicturesObjects (l : ListingLists) (s : State) : Type 0 where
 pub record Pictures (l : ListingLists) (s : State) : Type 0 where
   pub stands : StandsFor (memory_of l.cells) (map word_of_bits l.roots) s
   pub sizes : HasSizes l.setup s
-  pub holders : l.holders ≡ map Lane s.holders
+  pub holders : l.holders ≡ s.holders
   pub births : l.births ≡ map (λ (made : List Object). length made) s.made

@@ -8,8 +8,9 @@ ghost use Rattle.bc_image.specs.declared.fault.ImageCause.{ImageCause as Cause};
 
 use crate::births::PLACES;
 use crate::fault::ImageCause;
-use crate::listing::{Cell, Holder};
+use crate::listing::Cell;
 use crate::progress::{Progress, Stage};
+use bc_model::Holder;
 use bc_word::{Address, Head, unpack_head};
 use std::alloc::{AllocError, Global};
 use std::mem;

@@ -1,6 +1,6 @@
 //! Laws of images. Each is the contract of a function that does nothing.
 
-ghost use Rattle.std.specs.Prelude.{◌≡◌, ◌⊎◌, ℕ, ◌≤◌, List, [], length, map};
+ghost use Rattle.std.specs.Prelude.{◌≡◌, ◌⊎◌, ℕ, ◌≤◌, List, [], length};
 ghost use Rattle.bc_model.specs.Consistent.{IsState};
 ghost use Rattle.bc_model.specs.Resembles.{Resembles};
 ghost use Rattle.bc_model.specs.State.{State};
@@ -11,7 +11,6 @@ ghost use Rattle.bc_image.specs.Images.{IsImageListing, ImageOf, image_bytes};
 ghost use Rattle.bc_image.specs.Listings.{ListingLists};
 ghost use Rattle.bc_image.specs.Pictures.{Pictures, PicturesObjects};
 ghost use Rattle.bc_image.specs.declared.fault.ImageFault.{ImageFault};
-ghost use Rattle.bc_image.specs.declared.listing.Holder.TheVariants.{Lane};
 
 /// Law: states that one image pictures are alike as far as their slots lead. So they give the same replies from there on
 /// (`law_resembling` of bc_model).
@@ -19,11 +18,11 @@ pub fn law_one_image()
     ensures { (l : ListingLists) → (s t : State) → Pictures l s → Pictures l t → Resembles s t }
 {}
 
-/// Law: each listing that an image may have pictures the objects of a state, and it pictures a state whole where lanes hold its domains.
-/// So what is proved of every state that an image pictures is proved of one at least.
+/// Law: each listing that an image may have pictures a state, and so the objects of one. So what is proved of every state that an image
+/// pictures is proved of one at least.
 pub fn law_pictured()
     ensures objects { (l : ListingLists) → IsImageListing l → (s : State) × IsState s × PicturesObjects l s }
-    ensures whole { (l : ListingLists) → IsImageListing l → (holders : List ℕ) → l.holders ≡ map Lane holders → (s : State) × IsState s × Pictures l s }
+    ensures whole { (l : ListingLists) → IsImageListing l → (s : State) × IsState s × Pictures l s }
 {}
 
 /// Law: the bytes of a listing that an image may have are its image and nothing more. So what is written of it is read as it

@@ -41,5 +41,5 @@ pub use laws::{
     law_largest_image, law_one_image, law_one_image_fault, law_one_listing, law_pictured,
     law_read_back,
 };
-pub use listing::{Cell, Holder, Listing};
+pub use listing::{Cell, Listing};
 pub use scanning::scan;

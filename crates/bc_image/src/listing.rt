@@ -1,15 +1,8 @@
 //! What an image says, as plain lists.
 
-use bc_model::Setup;
+use bc_model::{Holder, Setup};
 use bc_word::{Address, Head};
 use std::marker::Model;
-
-/// Who holds a domain.
-#[derive(Clone, Copy, Debug, PartialEq, Eq)]
-pub enum Holder {
-    Lane(u32),
-    Frozen,
-}
 
 /// An object, where it lies, with the bits of its words.
 #[derive(Debug, Drop)]

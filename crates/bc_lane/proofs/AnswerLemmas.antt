@@ -1,21 +1,24 @@
 -- An operation of a lane, once its page is in hand.
-use Rattle.std.proofs.Common.{◌≡◌, ◌≢◌, ◌⊎◌, ℕ, ◌/◌, ◌<◌, List, length, map, get_or, Option, Result, Ok, Err, inl, inr, ap, sym, subst, ◌∙◌}
+use Rattle.std.proofs.Common.{◌≡◌, ◌≢◌, ◌⊎◌, ℕ, ◌/◌, ◌<◌, Bool, true, false, List, length, get_or, Option, Some, None, Result, Ok, Err, inl, inr, refl, ap, sym, subst, ◌∙◌}
 use Rattle.std.proofs.lemmas.Bool.{cases_eq}
-use Rattle.std.proofs.lemmas.List.{get_or-map}
 use Rattle.std.proofs.lemmas.Result.{IfOk-weaker, on_err_weaker}
 use Rattle.std.specs.Result.{IfErr, IfOk, OnErr}
 use Rattle.bc_lane.specs.declared.parts.LanePart.{LanePart}
 use Rattle.bc_lane.specs.declared.stops.Stop.{Stop}
 use Rattle.bc_lane.specs.declared.stops.Stop.TheVariants as stop
 use Rattle.bc_lane.specs.Shown.{HasPage, IsOwnPage, ShowsPages}
-use Rattle.bc_lane.specs.Turns.{DoesOne, HasInHand, LaneHoldsAll, IsLaneSeat, IsLaneTable, IsRefusedPage, IsWhole, LeadsToPageWhere, LooksForeign, LooksOn, LooksOnIn, LooksOwn, PassesBy, ReadsOn, SlotsOf, StaysWhole, StopsOp}
-use Rattle.bc_lane.proofs.ForeignLemmas.{foreign-looked}
-use Rattle.bc_lane.proofs.FrameLemmas.{held-since, no-frame-since}
+use Rattle.bc_lane.specs.Turns.{DoesOne, HasInHand, InEachWhole, IsLaneSeat, IsLaneTable, IsPageOf, IsRefusedFrozen, IsRefusedOwn, IsRefusedPage, IsWhole, LaneMayName, LeadsToPageWhere, LooksForeign, LooksOn, LooksOnIn, LooksReadable, LooksSealed, PassesBy, ReadsFrozenHeld, ReadsHeld, ReadsOn, SlotsOf, StaysWhole, StopsOp, holder_if}
+use Rattle.bc_lane.proofs.ForeignLemmas.{foreign-looked, sealed-looked}
+use Rattle.bc_lane.proofs.FrameLemmas.{frozen-since, gone-since, held-since, moved-since, no-frame-since}
 use Rattle.bc_lane.proofs.HandLemmas.{hand-after}
 use Rattle.bc_lane.proofs.LookLemmas.{looking-wants, touches-more}
+use Rattle.bc_lane.proofs.RoleLemmas.{own-role, role-of}
 use Rattle.bc_model.specs.declared.operations.Op.{Op}
 use Rattle.bc_model.specs.declared.operations.Reply.{Reply}
-use Rattle.bc_model.specs.declared.operations.Reply.TheVariants.{Foreign}
+use Rattle.bc_model.specs.declared.operations.Reply.TheVariants.{Foreign, Frozen}
+use Rattle.bc_model.specs.State.{holder_of}
+use Rattle.bc_model.specs.declared.values.Holder.{Holder}
+use Rattle.bc_model.specs.declared.values.Holder.TheVariants as holder
 use Rattle.bc_mutator.specs.Operations.{IsOpOf, WantsMore}
 use Rattle.bc_mutator.specs.Parts.{TouchesHand, touched_slot}
 use Rattle.bc_pins.specs.declared.holding.Held.{Held}
@@ -24,24 +27,33 @@ use Rattle.bc_pins.specs.declared.pins.Pins.{Pins}
 use Rattle.bc_pins.specs.declared.pins.Seat.{Seat}
 use Rattle.bc_pins.specs.declared.views.View.{View}
 use Rattle.bc_pins.specs.Calls.{key_of, view_of}
-use Rattle.bc_pins.specs.Key.{Key, lane_role, owner, pages_of, role_number}
+use Rattle.bc_pins.specs.Key.{Key, owner, pages_of, role_number}
+use Rattle.bc_pins.specs.Totals.{times}
 use Rattle.bc_pins.specs.Views.{has_role}
 use Rattle.bc_superpages.specs.Layout.{Layout}
 use Rattle.bc_whole_heap.specs.Heaps.{HeapView}
 
 -- a page of a domain that the lane holds is its seat's own
-own-role : (k : Key) (hs : List ℕ) (lane page : ℕ) → k.owners ≡ map lane_role hs → get_or k.opening.domains (page / 4) 0 < length hs → get_or hs (get_or k.opening.domains (page / 4) 0) 0 ≡ lane → owner k page ≡ lane_role lane
-own-role k hs lane page owners within owned =
-    let d : ℕ = get_or k.opening.domains (page / 4) 0 in
-    ap (λ (l : List ℕ). get_or l d 0) owners ∙ get_or-map lane_role hs d 0 0 within ∙ ap lane_role owned
-
-pub own-page : (pins : Pins) (hs : List ℕ) (lane page : ℕ) (seat : Seat) (hand : Option Held) → IsLaneTable (key_of pins) hs → IsLaneSeat pins lane seat hand
-    → get_or (key_of pins).opening.domains (page / 4) 0 < length hs → get_or hs (get_or (key_of pins).opening.domains (page / 4) 0) 0 ≡ lane → IsOwnPage (view_of seat) page
+pub own-page : (pins : Pins) (hs : List Holder) (lane page : ℕ) (seat : Seat) (hand : Option Held) → IsLaneTable (key_of pins) hs → IsLaneSeat pins lane seat hand
+    → get_or (key_of pins).opening.domains (page / 4) 0 < length hs → holder_of hs (get_or (key_of pins).opening.domains (page / 4) 0) ≡ holder.Lane lane → IsOwnPage (view_of seat) page
 own-page pins hs lane page seat hand table seated within owned =
     let v : View = view_of seat in
     subst (λ (a : Key). 0 < has_role v (owner a page)) (sym seated.at.about)
     (subst (λ (r : ℕ). 0 < has_role v r) (sym (own-role (key_of pins) hs lane page table.owners within owned))
     (subst (λ (r : Role). 0 < has_role v (role_number r)) seated.role seated.at.role))
+
+-- a page of a frozen domain is nobody's
+frozen-page : (pins : Pins) (hs : List Holder) (lane page : ℕ) (seat : Seat) (hand : Option Held) → IsLaneTable (key_of pins) hs → IsLaneSeat pins lane seat hand
+    → get_or (key_of pins).opening.domains (page / 4) 0 < length hs → holder_of hs (get_or (key_of pins).opening.domains (page / 4) 0) ≡ holder.Frozen → IsPageOf (view_of seat) page true
+frozen-page pins hs lane page seat hand table seated within owned =
+    let is : owner (key_of pins) page ≡ 0 = role-of (key_of pins) hs holder.Frozen page table.owners within owned in
+    subst (λ (a : Key). (owner a page ≡ 0) × (times (owner a page) a.roles ≡ 0)) (sym seated.at.about)
+    (is, ap (λ (r : ℕ). times r (key_of pins).roles) is ∙ table.nobody)
+
+pub page-of : (pins : Pins) (hs : List Holder) (lane page : ℕ) (frozen : Bool) (seat : Seat) (hand : Option Held) → IsLaneTable (key_of pins) hs → IsLaneSeat pins lane seat hand
+    → get_or (key_of pins).opening.domains (page / 4) 0 < length hs → holder_of hs (get_or (key_of pins).opening.domains (page / 4) 0) ≡ holder_if frozen lane → IsPageOf (view_of seat) page frozen
+page-of pins hs lane page true seat hand table seated within owned = frozen-page pins hs lane page seat hand table seated within owned
+page-of pins hs lane page false seat hand table seated within owned = own-page pins hs lane page seat hand table seated within owned
 
 -- the same whole heaps, with another page in hand
 pub whole-moved : (part : LanePart) (v w : View) (hand after : Option Held) (end : ℕ) (h : HeapView) → ((e : ℕ) → (s : Layout) → ShowsPages v hand e s → ShowsPages w after e s) → IsWhole part v hand end h → IsWhole part w after end h
@@ -70,27 +82,50 @@ touches-none part end op v hand leads =
     (λ s shown. shown) (λ r shown. shown) (λ q never. absurd never) (leads v hand)
 
 -- a page couldn't be brought
-pub refused-stops : (part : LanePart) (k : Key) (v w : View) (after : Option Held) (end page : ℕ) (op : Op) (why : Stop) → w.about ≡ k → LooksOwn part k end op page → IsRefusedPage v w page why → StopsOp v part w after end op why
-refused-stops part k v w after end page op why about looks refused = elim refused [
-  | inl busy ↦ subst (StopsOp v part w after end op) (sym busy.0) (busy.1, λ h whole fits. looks.looks w after h about whole fits)
-  | inr none ↦ subst (StopsOp v part w after end op) (sym none.0) (page, none.1, λ h whole fits. looks.looks w after h about whole fits)
+own-stops : (part : LanePart) (v w : View) (after : Option Held) (end page : ℕ) (op : Op) (why : Stop) → LooksOnIn part w after end op page → IsRefusedOwn v w page why → StopsOp v part w after end op why
+own-stops part v w after end page op why looks refused = elim refused [
+  | inl busy ↦ subst (StopsOp v part w after end op) (sym busy.0) (inl busy.1, looks)
+  | inr none ↦ subst (StopsOp v part w after end op) (sym none.0) (page, none.1, looks)
 ]
 
+frozen-stops : (part : LanePart) (v w : View) (after : Option Held) (end page : ℕ) (op : Op) (why : Stop) → LooksOnIn part w after end op page → IsRefusedFrozen v w page why → StopsOp v part w after end op why
+frozen-stops part v w after end page op why looks refused = elim refused [
+  | inl busy ↦ subst (StopsOp v part w after end op) (sym busy.0) (inr busy.1, looks)
+  | inr away ↦ elim away [
+    | inl gone ↦ subst (StopsOp v part w after end op) (sym gone.0) (gone.1, looks)
+    | inr moved ↦ subst (StopsOp v part w after end op) (sym moved.0) (moved.1, looks)
+  ]
+]
+
+pub refused-stops : (part : LanePart) (k : Key) (v w : View) (after : Option Held) (end page : ℕ) (op : Op) (who : Holder) (why : Stop) → w.about ≡ k → LooksReadable part k end op who page → IsRefusedPage v w page why → StopsOp v part w after end op why
+refused-stops part k v w after end page op who why about looks refused =
+    let here : LooksOnIn part w after end op page = λ h whole fits. looks.looks w after h about whole fits in
+    elim refused [
+      | inl own ↦ own-stops part v w after end page op why here own
+      | inr frozen ↦ frozen-stops part v w after end page op why here frozen
+    ]
+
 -- the page that was brought is the one on which the operation looks
-pub brought-looked : (part : LanePart) (k : Key) (v w : View) (hand : Option Held) (end page : ℕ) (op : Op) → v.about ≡ k → LooksOwn part k end op page → ((q : ℕ) → q < pages_of v.about → q ≢ page → PassesBy v w q)
+pub brought-looked : (part : LanePart) (k : Key) (v w : View) (hand : Option Held) (end page : ℕ) (op : Op) (who : Holder) → v.about ≡ k → LooksReadable part k end op who page → ((q : ℕ) → q < pages_of v.about → q ≢ page → PassesBy v w q)
     → (q : ℕ) → q < pages_of v.about → PassesBy v w q ⊎ LooksOnIn part v hand end op q
-brought-looked part k v w hand end page op about looks passes q near = elim (cases_eq q page) [
+brought-looked part k v w hand end page op who about looks passes q near = elim (cases_eq q page) [
   | inl is ↦ inr (λ h whole fits. subst (LooksOn h op) (sym is) (looks.looks v hand h about whole fits))
   | inr ne ↦ inl (passes q near ne)
 ]
 
 -- why an operation isn't done, said since an earlier view
+busy-since : (u v w : View) (page : ℕ) → ReadsOn u v → ReadsHeld v w page ⊎ ReadsFrozenHeld v w page → ReadsHeld u w page ⊎ ReadsFrozenHeld u w page
+busy-since u v w page reads (inl held) = inl (held-since u v w page reads held)
+busy-since u v w page reads (inr held) = inr (frozen-since u v w page reads held)
+
 pub stops-since : (u v : View) (part : LanePart) (w : View) (hand : Option Held) (end : ℕ) (op : Op) (why : Stop) → ReadsOn u v → StopsOp v part w hand end op why → StopsOp u part w hand end op why
 stops-since u v part w hand end op stop.End reads stops = stops
 stops-since u v part w hand end op stop.NurseryFull reads stops = stops
 stops-since u v part w hand end op stop.BufferFull reads stops = stops
-stops-since u v part w hand end op (stop.Busy page) reads stops = (held-since u v w page reads stops.0, stops.1)
+stops-since u v part w hand end op (stop.Busy page) reads stops = (busy-since u v w page reads stops.0, stops.1)
 stops-since u v part w hand end op stop.NoFrame reads stops = (stops.0, no-frame-since u v w stops.0 reads stops.1, stops.2)
+stops-since u v part w hand end op (stop.Gone page) reads stops = (gone-since u v w page reads stops.0, stops.1)
+stops-since u v part w hand end op (stop.Moved page) reads stops = (moved-since u v w page reads stops.0, stops.1)
 
 -- an operation that looks at an object wants no room in the chunk
 pub own-wants : (part : LanePart) (h : HeapView) (words page : ℕ) (op : Op) → LooksOn h op page → WantsMore part.holders.items part.lane words op → ⊥
@@ -100,11 +135,19 @@ pub foreign-wants : (part : LanePart) (h : HeapView) (words : ℕ) (op : Op) →
 foreign-wants part h words op looks wants = looking-wants h.roots part.holders.items part.lane words op looks.at looks.looks wants
 
 -- a cell of another lane's is looked at
-pub foreign-does : (part : LanePart) (k : Key) (v : View) (hand : Option Held) (end : ℕ) (op : Op) → v.about ≡ k → LaneHoldsAll part op
-    → ((u : View) → (g : Option Held) → (h : HeapView) → u.about ≡ k → IsWhole part u g end h → IsOpOf h.roots op → LooksForeign h part.holders.items part.lane op)
+pub foreign-does : (part : LanePart) (k : Key) (v : View) (hand : Option Held) (end : ℕ) (op : Op) → v.about ≡ k → LaneMayName part op → InEachWhole part k end op (λ h. LooksForeign h part.holders.items part.lane op)
     → DoesOne part v hand part v hand end op Foreign
-foreign-does part k v hand end op about held looks = λ h whole fits.
-    (h, whole, foreign-looked h part.holders.items part.lane part.serial op whole.ready held (looks v hand h about whole fits))
+foreign-does part k v hand end op about named looks = λ h whole fits.
+    (h, whole, foreign-looked h part.holders.items part.lane part.serial op whole.ready named (looks v hand h about whole fits))
+
+-- or one of a frozen domain would be written
+pub sealed-does : (part : LanePart) (k : Key) (v : View) (hand : Option Held) (end : ℕ) (op : Op) → v.about ≡ k → LaneMayName part op → InEachWhole part k end op (λ h. LooksSealed h part.holders.items op)
+    → DoesOne part v hand part v hand end op Frozen
+sealed-does part k v hand end op about named looks = λ h whole fits.
+    (h, whole, sealed-looked h part.holders.items part.lane part.serial op whole.ready named (looks v hand h about whole fits))
+
+pub sealed-wants : (part : LanePart) (h : HeapView) (words : ℕ) (op : Op) → LooksSealed h part.holders.items op → WantsMore part.holders.items part.lane words op → ⊥
+sealed-wants part h words op looks wants = looking-wants h.roots part.holders.items part.lane words op looks.at looks.looks wants
 
 -- what an operation over the page in hand makes of it
 module _ (part new : LanePart) (seat : Seat) (hand after : Option Held) (end : ℕ) (op : Op) (result : Result Reply Stop)
@@ -141,3 +184,20 @@ module _ (part new : LanePart) (seat : Seat) (hand after : Option Held) (end : �
           stops-since v (view_of seat) new (view_of seat) after end op w reads
           (subst (λ (p : LanePart). StopsOp (view_of seat) p (view_of seat) after end op w) (sym same.0)
           (subst (λ (x : Option Held). StopsOp (view_of seat) part (view_of seat) x end op w) (sym same.1) stops))
+
+-- what the lane has belongs to some whole heap after an operation, done or not
+pub either-whole : (part new : LanePart) (v w : View) (hand after : Option Held) (end : ℕ) (op : Op) (r : Result Reply Stop) → IfOk r (λ reply. DoesOne part v hand new w after end op reply) → OnErr r (StaysWhole part v hand new w after end)
+    → (h : HeapView) → IsWhole part v hand end h → IsOpOf h.roots op → (k : HeapView) × IsWhole new w after end k
+either-whole part new v w hand after end op (Ok reply) done still h whole fits = let k = done h whole fits in (k.0, k.1)
+either-whole part new v w hand after end op (Err why) done still h whole fits =
+    (h, subst (λ (p : LanePart). IsWhole p w after end h) (sym still.0) (still.1 h whole))
+
+-- a page of a frozen domain is put back: nothing of it is recorded
+pub frozen-unchanged : (pins : Pins) (hs : List Holder) (lane page : ℕ) (a b : Seat) (hand : Option Held) → IsLaneTable (key_of pins) hs → IsLaneSeat pins lane a hand
+    → get_or (key_of pins).opening.domains (page / 4) 0 < length hs → holder_of hs (get_or (key_of pins).opening.domains (page / 4) 0) ≡ holder.Frozen → ((q : ℕ) → HasPage hand q → q ≡ page)
+    → ((held : Held) → hand ≡ Some held → has_role (view_of a) (owner (view_of a).about held.page) ≡ 0 → (view_of b).changed ≡ (view_of a).changed) → ((view_of a).hand ≡ None → b ≡ a) → (view_of b).changed ≡ (view_of a).changed
+frozen-unchanged pins hs lane page a b None table seated within owned only foreign idle = ap (λ (x : Seat). (view_of x).changed) (idle seated.hands.hand)
+frozen-unchanged pins hs lane page a b (Some held) table seated within owned only foreign idle =
+    let is = (frozen-page pins hs lane page a (Some held) table seated within owned).0 in
+    let none : owner (view_of a).about held.page ≡ 0 = ap (owner (view_of a).about) (only held.page refl) ∙ is in
+    foreign held refl (ap (has_role (view_of a)) none ∙ seated.somebody)

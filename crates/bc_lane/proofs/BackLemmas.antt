@@ -18,6 +18,7 @@ use Rattle.bc_bookmarks.specs.Summarised.{IsSummarised, gone_in}
 use Rattle.bc_bookmarks.specs.Moves.{MovesPages}
 use Rattle.bc_lane.specs.Back.{back_state, no_count, all_back, heap_back}
 use Rattle.bc_model.specs.State.{State}
+use Rattle.bc_model.specs.declared.values.Holder.{Holder}
 use Rattle.bc_mutator.specs.Objects.{MayOperate}
 use Rattle.bc_whole_heap.specs.Heaps.{HeapView}
 use Rattle.bc_whole_heap.specs.LaneStates.{StandsAs}
@@ -148,15 +149,15 @@ pub back-account : (s : Layout) → s.free + (s.nursery + resident_count s) ≡ 
 back-account s is = let more = count-back s (4 * superpages s) in omega arith
 
 -- lanes can run on a heap with every page back
-pub back-running : (h : HeapView) (hs : List ℕ) → IsRunning h hs → IsRunning (heap_back h) hs
+pub back-running : (h : HeapView) (hs : List Holder) → IsRunning h hs → IsRunning (heap_back h) hs
 back-running h hs run = running-moved h (all_back h.space) hs (back-moves h.space run.summarised) run
 
 -- it stands for the same
-pub back-stands : (h : HeapView) (hs serials : List ℕ) (state : State) → IsRunning h hs → StandsAs h hs serials state → StandsAs (heap_back h) hs serials state
+pub back-stands : (h : HeapView) (hs : List Holder) (serials : List ℕ) (state : State) → IsRunning h hs → StandsAs h hs serials state → StandsAs (heap_back h) hs serials state
 back-stands h hs serials state run stands = stands-moved h (all_back h.space) hs serials state (back-moves h.space run.summarised) stands
 
 -- and a lane may operate on it
-pub back-operate : (h : HeapView) (hs : List ℕ) (lane : ℕ) → MayOperate h hs lane → MayOperate (heap_back h) hs lane
+pub back-operate : (h : HeapView) (hs : List Holder) (lane : ℕ) → MayOperate h hs lane → MayOperate (heap_back h) hs lane
 back-operate h hs lane ready = record {
   running = back-running h hs ready.running;
   layout = back-layout h.space ready.layout;

@@ -1,16 +1,17 @@
--- A frame for an own page that is gone: it is claimed, or another page leaves for it; and the page comes back into it.
-use Rattle.std.proofs.Common.{◌≡◌, ◌≢◌, ℕ, ◌+◌, ◌-◌, ◌*◌, ◌^◌, ◌<◌, ◌≤◌, ◌==◌, true, false, List, [], ◌∷◌, ◌++◌, length, length-append, min, Some, None, ◌⊎◌, inl, inr, refl, ap, sym, subst, ◌∙◌, arith, append_assoc}
+-- A frame for a page that is gone: it is claimed, or another page leaves for it; and the page comes back into it.
+use Rattle.std.proofs.Common.{◌≡◌, ◌≢◌, ℕ, ◌+◌, ◌-◌, ◌*◌, ◌^◌, ◌<◌, ◌≤◌, ◌==◌, true, false, List, [], ◌∷◌, ◌++◌, length, length-append, min, Some, None, inl, inr, refl, ap, sym, subst, ◌∙◌, arith, append_assoc}
+use Rattle.std.proofs.lemmas.Bool.{cases_lt}
 use Rattle.bc_bits.specs.Counting.{one_if}
 use Rattle.bc_evict.specs.Claiming.{FindsNoFrame, HasClaimed, all_bits}
 use Rattle.bc_evict.specs.Looking.{MayStay}
 use Rattle.bc_evict.specs.Reloading.{HasReloaded}
 use Rattle.bc_evict.specs.Victims.{FindsNoVictim, HasFreed, IsPassed}
 use Rattle.bc_frames.specs.Places.{one_more}
-use Rattle.bc_lane.specs.Shown.{IsOwnPage, ShowsPages}
-use Rattle.bc_lane.specs.Turns.{FindsNoFrameAtAll, FindsNoFrameFor, HasFrame, IsRefusedPage, IsSameLane, ReadsHeld, ReadsOn, ShowsNoFrame}
+use Rattle.bc_lane.specs.Shown.{IsFrozenPage, IsOwnPage, MayReadPage, ShowsPages}
+use Rattle.bc_lane.specs.Turns.{FindsNoFrameAtAll, FindsNoFrameFor, HasFrame, IsRefusedFrozen, IsRefusedOwn, IsRefusedPage, IsSameLane, ReadsFrozenGone, ReadsFrozenHeld, ReadsFrozenMoved, ReadsHeld, ReadsOn, ShowsNoFrame}
 use Rattle.bc_lane.specs.declared.stops.Stop.{Stop}
 use Rattle.bc_lane.proofs.HandLemmas.{off-page, refused-looks, same-worker, then-worker}
-use Rattle.bc_lane.proofs.ReloadLemmas.{HasFetched, besides, shows-besides, shows-fetched}
+use Rattle.bc_lane.proofs.ReloadLemmas.{HasFetched, HasFetchedFrozen, besides, shows-besides, shows-fetched, shows-fetched_frozen}
 use Rattle.bc_pins.specs.declared.holding.Held.{Held}
 use Rattle.bc_pins.specs.declared.pins.Seat.{Seat}
 use Rattle.bc_pins.specs.declared.taking.TakeError.TheVariants as refusal
@@ -20,10 +21,10 @@ use Rattle.bc_pins.specs.declared.views.Lodged.TheVariants.{Nothing}
 use Rattle.bc_pins.specs.declared.views.View.{View}
 use Rattle.bc_pins.specs.Calls.{HoldsPage, IsSameSeat, IsSameWorker, IsTakeRefused, view_of}
 use Rattle.bc_pins.specs.Contents.{IsContent, RefersYoung}
-use Rattle.bc_pins.specs.Key.{Key, frame_at, frame_words, page_at, pages_of}
+use Rattle.bc_pins.specs.Key.{Key, frame_at, frame_words, owner, page_at, pages_of}
 use Rattle.bc_pins.specs.Steps.{both_slots}
 use Rattle.bc_pins.specs.Totals.{times}
-use Rattle.bc_pins.specs.Views.{entries, opened_word, reads_at, reads_of, record_of, state_word}
+use Rattle.bc_pins.specs.Views.{entries, has_role, opened_content, opened_word, reads_at, reads_of, record_of, state_word}
 use Rattle.bc_pins.proofs.LogLemmas.{reads-append, times-reads}
 use Rattle.bc_pins.proofs.TotalLemmas.{one_other}
 use Rattle.bc_superpages.specs.declared.headers.PageState.{PageState}
@@ -170,17 +171,18 @@ none-home k looks q none near =
 pub none-found-reads : (v w : View) → FindsNoFrameAtAll v w → ReadsOn v w
 none-found-reads v w a = record {
   same = a.view
-      ∙ sym (ap (λ (x : View). record v { hand = x.hand; changed = x.changed; recorded = x.recorded; seen = x.seen; gone = x.gone; busy = x.busy; read = x.read; left = x.left; emptied = x.emptied; fetched = x.fetched; bookmarked = x.bookmarked }) a.view);
+      ∙ sym (ap (λ (x : View). record v { hand = x.hand; changed = x.changed; recorded = x.recorded; returned = x.returned; seen = x.seen; gone = x.gone; busy = x.busy; read = x.read; left = x.left; emptied = x.emptied; fetched = x.fetched; bookmarked = x.bookmarked }) a.view);
   more = a.looks;
   read = ap (λ (x : View). x.read) a.view;
   behind = λ q far. (ap (λ (x : View). entries q x.changed) a.view, ap (λ (x : View). times q x.recorded) a.view);
   others = λ q none. (ap (λ (x : View). entries q x.changed) a.view, ap (λ (x : View). times q x.recorded) a.view);
-  foreign = λ q near none.
+  foreign = λ q near none held.
       let zero_reads = none-home v.about a.looks q a.none near in
       let left = ap (λ (x : View). times q x.left) a.view in
       let emptied = ap (λ (x : View). times q x.emptied) a.view in
       omega arith;
-  fetches = λ q none. ap (λ (x : View). times q x.fetched) a.view;
+  fetches = λ q none held. ap (λ (x : View). times q x.fetched) a.view;
+  returned = λ q more. let same = ap (λ (x : View). times q x.returned) a.view in absurd (omega arith);
   far = λ q past. (ap (λ (x : View). times q x.left) a.view, ap (λ (x : View). times q x.emptied) a.view, ap (λ (x : View). times q x.fetched) a.view);
   few = (
       let left = ap (λ (x : View). length x.left) a.view in
@@ -221,10 +223,52 @@ no-frame-since u v w page reads f = record {
   noted = f.noted;
 }
 
-pub refused-since-then : (u v w : View) (page : ℕ) (why : Stop) → ReadsOn u v → IsRefusedPage v w page why → IsRefusedPage u w page why
-refused-since-then u v w page why reads refused = elim refused [
+pub frozen-since : (u v w : View) (page : ℕ) → ReadsOn u v → ReadsFrozenHeld v w page → ReadsFrozenHeld u w page
+frozen-since u v w page reads held = record {
+  frozen = held.frozen;
+  last = held.last;
+  since = (let long = ap (λ (l : List (ℕ × ℕ)). length l) reads.read in let both = length-append reads.more u.read in let since = held.since in omega arith);
+}
+
+pub gone-since : (u v w : View) (page : ℕ) → ReadsOn u v → ReadsFrozenGone v w page → ReadsFrozenGone u w page
+gone-since u v w page reads gone = record {
+  frozen = gone.frozen;
+  before = gone.before ++ reads.more;
+  later = gone.later;
+  gone = gone.gone ∙ ap (λ (l : List (ℕ × ℕ)). gone.later ++ (page_at page, 4) ∷ (gone.before ++ l)) reads.read
+      ∙ ap (λ (l : List (ℕ × ℕ)). gone.later ++ (page_at page, 4) ∷ l) (sym (append_assoc gone.before reads.more u.read));
+}
+
+pub moved-since : (u v w : View) (page : ℕ) → ReadsOn u v → ReadsFrozenMoved v w page → ReadsFrozenMoved u w page
+moved-since u v w page reads moved = record {
+  frozen = moved.frozen;
+  before = moved.before ++ reads.more;
+  between = moved.between;
+  later = moved.later;
+  reads = moved.reads ∙ ap (λ (l : List (ℕ × ℕ)). moved.later ++ (page_at page, 1) ∷ (moved.between ++ (page_at page, 4) ∷ (moved.before ++ l))) reads.read
+      ∙ ap (λ (l : List (ℕ × ℕ)). moved.later ++ (page_at page, 1) ∷ (moved.between ++ (page_at page, 4) ∷ l)) (sym (append_assoc moved.before reads.more u.read));
+  once = moved.once;
+}
+
+own-since-then : (u v w : View) (page : ℕ) (why : Stop) → ReadsOn u v → IsRefusedOwn v w page why → IsRefusedOwn u w page why
+own-since-then u v w page why reads refused = elim refused [
   | inl busy ↦ inl (busy.0, held-since u v w page reads busy.1)
   | inr none ↦ inr (none.0, no-frame-since u v w page reads none.1)
+]
+
+pub frozen-since-then : (u v w : View) (page : ℕ) (why : Stop) → ReadsOn u v → IsRefusedFrozen v w page why → IsRefusedFrozen u w page why
+frozen-since-then u v w page why reads refused = elim refused [
+  | inl busy ↦ inl (busy.0, frozen-since u v w page reads busy.1)
+  | inr away ↦ elim away [
+    | inl gone ↦ inr (inl (gone.0, gone-since u v w page reads gone.1))
+    | inr moved ↦ inr (inr (moved.0, moved-since u v w page reads moved.1))
+  ]
+]
+
+pub refused-since-then : (u v w : View) (page : ℕ) (why : Stop) → ReadsOn u v → IsRefusedPage v w page why → IsRefusedPage u w page why
+refused-since-then u v w page why reads refused = elim refused [
+  | inl own ↦ inl (own-since-then u v w page why reads own)
+  | inr frozen ↦ inr (frozen-since-then u v w page why reads frozen)
 ]
 
 -- the page came back into the frame that was found
@@ -281,6 +325,32 @@ module _ (v u : View) (seat : Seat) (page frame : ℕ) (held : Held) (f : HasFra
   pub reloaded-shows : (end : ℕ) (s : Layout) → IsOwnPage v page → ShowsPages v None end s → ShowsPages w (Some held) end s
   reloaded-shows end s own shown = shows-fetched v w held end s (has-fetched own) shown
 
+  has-fetched_frozen : IsFrozenPage v page → has_role v (owner v.about page) ≡ 0 → HasFetchedFrozen v w held
+  has-fetched_frozen is none =
+      let opened : held.homed.page ≡ opened_content v.about page =
+      r.fetches.unowned (ap (λ (k : Key). owner k page) about-u ∙ is) ∙ ap (λ (k : Key). opened_content k page) about-u in
+      record {
+        hand = hand;
+        view = is-now ∙ sym (ap (λ (x : View). record (besides v x) { hand = Some hand }) is-now);
+        page_is = sym r.is;
+        frame = sym r.frame_is;
+        counted = refl;
+        marked = refl;
+        taken = refl;
+        flag = r.quiet;
+        frozen = ap (owner v.about) r.is ∙ is;
+        unowned = ap (λ (p : ℕ). has_role v (owner v.about p)) r.is ∙ none;
+        opened = opened ∙ sym (ap (opened_content v.about) r.is);
+        fixed = subst (λ (p : ℕ). IsContent v.about.opening p held.homed.page) (sym r.is) fixed;
+        old = subst (λ (p : ℕ). RefersYoung v.about.opening p held.homed.page → ⊥) (sym r.is) old;
+      }
+
+  pub reloaded-shows_frozen : (end : ℕ) (s : Layout) → IsFrozenPage v page → ShowsPages v None end s → ShowsPages w (Some held) end s
+  reloaded-shows_frozen end s is shown = elim (cases_lt 0 (has_role v (owner v.about page))) [
+    | inl own ↦ reloaded-shows end s own shown
+    | inr none ↦ shows-fetched_frozen v w held end s (has-fetched_frozen is (omega arith)) shown
+  ]
+
   pub reloaded-holds : page < pages_of v.about → HoldsPage seat held
   reloaded-holds near =
       let about_w : w.about ≡ v.about = ap (λ (x : View). x.about) is-now in
@@ -298,27 +368,28 @@ module _ (v u : View) (seat : Seat) (page frame : ℕ) (held : Held) (f : HasFra
           ap (λ (k : Key). both_slots k page Nothing Nothing) (about-u ∙ sym (ap (λ (x : View). x.about) is-now))
           ∙ ap (λ (p : ℕ). both_slots w.about p Nothing Nothing) (sym r.is)
 
-  pub reloaded-reads : v.rights ≡ [] → IsOwnPage v page → page < pages_of v.about → ReadsOn v w
-  reloaded-reads none own near = record {
+  pub reloaded-reads : v.rights ≡ [] → MayReadPage v page → page < pages_of v.about → ReadsOn v w
+  reloaded-reads none may near = record {
     same =
         let first = is-now ∙ ap (λ (l : List ℕ). record now { rights = l }) (sym none) in
         first
-        ∙ sym (ap (λ (x : View). record v { hand = x.hand; changed = x.changed; recorded = x.recorded; seen = x.seen; gone = x.gone; busy = x.busy; read = x.read; left = x.left; emptied = x.emptied; fetched = x.fetched; bookmarked = x.bookmarked }) first);
+        ∙ sym (ap (λ (x : View). record v { hand = x.hand; changed = x.changed; recorded = x.recorded; returned = x.returned; seen = x.seen; gone = x.gone; busy = x.busy; read = x.read; left = x.left; emptied = x.emptied; fetched = x.fetched; bookmarked = x.bookmarked }) first);
     more = r.looks ++ f.looks;
     read = ap (λ (x : View). x.read) is-now;
     behind = λ q far. (ap (λ (x : View). entries q x.changed) is-now, ap (λ (x : View). times q x.recorded) is-now);
     others = λ q off. (ap (λ (x : View). entries q x.changed) is-now, ap (λ (x : View). times q x.recorded) is-now);
-    foreign = λ q inside off.
+    foreign = λ q inside off some.
         let given = f.given q inside in
         let left = ap (λ (x : View). times q x.left) is-now in
         let emptied = ap (λ (x : View). times q x.emptied) is-now in
         let both = times-reads 1 (page_at q) r.looks f.looks in
-        let none_read = ap (times 1) (r.others q (subst (λ (k : Key). q < pages_of k) (sym about-u) inside) (off-page v page q own off)) in
+        let none_read = ap (times 1) (r.others q (subst (λ (k : Key). q < pages_of k) (sym about-u) inside) (off-page v page q may off some)) in
         omega arith;
-    fetches = λ q off.
+    fetches = λ q off some.
         let fetched = ap (λ (x : View). times q x.fetched) is-now in
-        let other = one_other page q (λ e. off-page v page q own off (sym e)) in
+        let other = one_other page q (λ e. off-page v page q may off some (sym e)) in
         omega arith;
+    returned = λ q more. let same = ap (λ (x : View). times q x.returned) is-now in absurd (omega arith);
     far = λ q past.
         let past_here = f.far q past in
         let other = one_other page q (λ e. absurd (omega arith)) in

@@ -1,9 +1,9 @@
--- A seat that takes an own page, and puts it back.
-use Rattle.std.proofs.Common.{◌≡◌, ◌≢◌, ℕ, ◌-◌, ◌^◌, ◌<◌, ◌≤◌, Bool, true, false, min, if◌then◌else◌, ◌+◌, List, [], ◌∷◌, ◌++◌, length, Option, Some, None, inl, inr, refl, ap, sym, subst, ◌∙◌, append_assoc, arith}
-use Rattle.std.proofs.lemmas.Bool.{lt-ltb}
-use Rattle.bc_lane.specs.Shown.{HasPage, IsOwnPage, ShowsPages}
-use Rattle.bc_lane.specs.Turns.{HasInHand, IsLaidDown, IsSameLane, ReadLast, ReadsHeld, ReadsOn}
-use Rattle.bc_lane.proofs.PageLemmas.{owns-page, recorded-else, shows-back, shows-given, shows-read, shows-taken}
+-- A seat that takes a page that its lane may read, and puts it back.
+use Rattle.std.proofs.Common.{◌≡◌, ◌≢◌, ◌⊎◌, ℕ, ◌-◌, ◌^◌, ◌<◌, ◌≤◌, ◌&&◌, nat_lt, Bool, true, false, min, if◌then◌else◌, List, [], ◌∷◌, ◌++◌, length, Option, Some, None, inl, inr, refl, ap, sym, subst, ◌∙◌, append_assoc, arith}
+use Rattle.std.proofs.lemmas.Bool.{cases_eq, cases_lt, lt-ltb}
+use Rattle.bc_lane.specs.Shown.{HasPage, IsFrozenPage, IsOwnPage, MayReadPage, ShowsFrozen, ShowsHeld, ShowsPages}
+use Rattle.bc_lane.specs.Turns.{HasInHand, IsLaidDown, IsNobodysPage, IsPageOf, IsSameLane, ReadLast, ReadsFrozenHeld, ReadsHeld, ReadsOn}
+use Rattle.bc_lane.proofs.PageLemmas.{held-in, owns-page, recorded-else, shows-back, shows-given, shows-read, shows-taken, shows-taken_frozen}
 use Rattle.bc_pins.specs.declared.holding.Held.{Held}
 use Rattle.bc_pins.specs.declared.key.Role.{Role}
 use Rattle.bc_pins.specs.declared.pins.Pins.{Pins}
@@ -21,7 +21,7 @@ use Rattle.bc_pins.specs.Steps.{Takes, both_slots, gripping, having_read, owns}
 use Rattle.bc_pins.specs.Totals.{times}
 use Rattle.bc_pins.specs.Views.{entries, has_role, reads_at}
 use Rattle.bc_pins.specs.declared.views.Lodged.TheVariants.{Nothing}
-use Rattle.bc_pins.proofs.LogLemmas.{pages-else, reads-here, times-reads}
+use Rattle.bc_pins.proofs.LogLemmas.{pages-else, times-reads}
 use Rattle.bc_pins.proofs.TakeLemmas.{some_hand}
 use Rattle.bc_pins.proofs.TotalLemmas.{one_other, one_same}
 use Rattle.bc_pins.proofs.VisitLemmas.{holds_taken}
@@ -29,15 +29,28 @@ use Rattle.bc_superpages.specs.Layout.{Layout}
 use Rattle.bc_superpages.specs.declared.spaces.Homed.{Homed}
 
 -- the page in hand may be put back
+-- just as it was taken, where it isn't the lane's own
+put-others : (seat : Seat) (held : Held) (s : Layout) (hand : Hand) → (view_of seat).hand ≡ Some hand → has_role (view_of seat) (owner (view_of seat).about held.page) ≡ 0 → ShowsHeld (view_of seat) held s ⊎ ShowsFrozen (view_of seat) held s
+    → (held.homed.page ≡ hand.content) × (held.remembered ≡ hand.remembered)
+put-others seat held s hand has none (inl x) = absurd (let own = x.own in omega arith)
+put-others seat held s hand has none (inr x) =
+    let same : x.hand ≡ hand = some_hand x.hand hand (sym x.has ∙ has) in
+    (x.taken ∙ ap (λ (h : Hand). h.content) same, x.flag ∙ ap (λ (h : Hand). h.remembered) same)
+
+-- the page in hand may be read
+pub hand-may : (v : View) (held : Held) (s : Layout) → ShowsHeld v held s ⊎ ShowsFrozen v held s → MayReadPage v held.page
+hand-may v held s (inl x) = inl x.own
+hand-may v held s (inr x) = inr x.frozen
+
 pub may-put : (seat : Seat) (held : Held) (end : ℕ) (s : Layout) → ShowsPages (view_of seat) (Some held) end s → MayPut seat held
 may-put seat held end s shown =
-    let x = shown.in_hand in
+    let x = held-in (view_of seat) held s shown.in_hand in
     let same : (hand : Hand) → (view_of seat).hand ≡ Some hand → x.hand ≡ hand = λ hand has. some_hand x.hand hand (sym x.has ∙ has) in
     record {
       fixed = x.fixed;
       young = x.young;
       remembered = λ hand has on. x.flag (ap (λ (h : Hand). h.remembered) (same hand has) ∙ on);
-      others = λ hand has none. absurd (let own = x.own in omega arith);
+      others = λ hand has none. put-others seat held s hand has none shown.in_hand;
       counted = λ hand has. sym (ap (λ (h : Hand). h.counted) (same hand has)) ∙ x.counted;
       marked = λ hand has. sym (ap (λ (h : Hand). h.marked) (same hand has)) ∙ x.marked;
     }
@@ -75,15 +88,16 @@ none-reads v = record {
   read = refl;
   behind = λ q far. (refl, refl);
   others = λ q none. (refl, refl);
-  foreign = λ q near none. let zero_reads : times 1 (reads_at q []) ≡ 0 = refl in omega arith;
-  fetches = λ q none. refl;
+  foreign = λ q near none held. let zero_reads : times 1 (reads_at q []) ≡ 0 = refl in omega arith;
+  fetches = λ q none held. refl;
+  returned = λ q more. absurd (omega arith);
   far = λ q past. (refl, refl, refl);
   few = omega arith;
 }
 
 pub then-reads : (u v w : View) → ReadsOn u v → ReadsOn v w → ReadsOn u w
 then-reads u v w x y = record {
-  same = y.same ∙ ap (λ (z : View). record z { hand = w.hand; changed = w.changed; recorded = w.recorded; seen = w.seen; gone = w.gone; busy = w.busy; read = w.read; left = w.left; emptied = w.emptied; fetched = w.fetched; bookmarked = w.bookmarked }) x.same;
+  same = y.same ∙ ap (λ (z : View). record z { hand = w.hand; changed = w.changed; recorded = w.recorded; returned = w.returned; seen = w.seen; gone = w.gone; busy = w.busy; read = w.read; left = w.left; emptied = w.emptied; fetched = w.fetched; bookmarked = w.bookmarked }) x.same;
   more = y.more ++ x.more;
   read = y.read ∙ ap (λ (l : List (ℕ × ℕ)). y.more ++ l) x.read ∙ sym (append_assoc y.more x.more u.read);
   behind = λ q far.
@@ -94,12 +108,16 @@ then-reads u v w x y = record {
       let one = x.others q none in
       let two = y.others q (off q none) in
       (two.0 ∙ one.0, two.1 ∙ one.1);
-  foreign = λ q near none.
-      let one = x.foreign q near none in
-      let two = y.foreign q (subst (λ (k : Key). q < pages_of k) (sym about) near) (off q none) in
+  foreign = λ q near none held.
+      let one = x.foreign q near none held in
+      let two = y.foreign q (subst (λ (k : Key). q < pages_of k) (sym about) near) (off q none) (some q held) in
       let all = times-reads 1 (page_at q) y.more x.more in
       omega arith;
-  fetches = λ q none. y.fetches q (off q none) ∙ x.fetches q none;
+  fetches = λ q none held. y.fetches q (off q none) (some q held) ∙ x.fetches q none held;
+  returned = λ q more. elim (cases_lt (times q u.returned) (times q v.returned)) [
+    | inl lt ↦ x.returned q lt
+    | inr le ↦ subst (λ (k : Key). owner k q ≡ 0) about (y.returned q (omega arith))
+  ];
   far = λ q past.
       let one = x.far q past in
       let two = y.far q (subst (λ (k : Key). pages_of k ≤ q) (sym about) past) in
@@ -113,19 +131,24 @@ then-reads u v w x y = record {
     off : (q : ℕ) → has_role u (owner u.about q) ≡ 0 → has_role v (owner v.about q) ≡ 0
     off q none = subst (λ (z : View). has_role z (owner z.about q) ≡ 0) (sym x.same) none
 
--- a page that isn't the seat's own is another one than this
-pub off-page : (v : View) (page q : ℕ) → IsOwnPage v page → has_role v (owner v.about q) ≡ 0 → q ≢ page
-off-page v page q own none e = let same = ap (λ (p : ℕ). has_role v (owner v.about p)) e in absurd (omega arith)
+    some : (q : ℕ) → owner u.about q ≢ 0 → owner v.about q ≢ 0
+    some q held e = held (subst (λ (k : Key). owner k q ≡ 0) about e)
 
-reads-word : (v : View) (page found : ℕ) → IsOwnPage v page → ReadsOn v (having_read v page found)
-reads-word v page found own = record {
+-- another lane's page is another one than this, which may be read
+pub off-page : (v : View) (page q : ℕ) → MayReadPage v page → has_role v (owner v.about q) ≡ 0 → owner v.about q ≢ 0 → q ≢ page
+off-page v page q (inl own) none held e = let same = ap (λ (p : ℕ). has_role v (owner v.about p)) e in absurd (omega arith)
+off-page v page q (inr frozen) none held e = held (ap (λ (p : ℕ). owner v.about p) e ∙ frozen)
+
+pub reads-word : (v : View) (page found : ℕ) → MayReadPage v page → ReadsOn v (having_read v page found)
+reads-word v page found may = record {
   same = refl;
   more = (page_at page, found) ∷ [];
   read = refl;
   behind = λ q far. (refl, refl);
   others = λ q none. (refl, refl);
-  foreign = λ q near none. let other = pages-else page q found 1 [] (off-page v page q own none) in let zero_reads : times 1 (reads_at q []) ≡ 0 = refl in omega arith;
-  fetches = λ q none. refl;
+  foreign = λ q near none held. let other = pages-else page q found 1 [] (off-page v page q may none held) in let zero_reads : times 1 (reads_at q []) ≡ 0 = refl in omega arith;
+  fetches = λ q none held. refl;
+  returned = λ q more. absurd (omega arith);
   far = λ q past. (refl, refl, refl);
   few = omega arith;
 }
@@ -145,35 +168,43 @@ shown-taken v seat page held end s g takes own shown =
     (subst (λ (p : ℕ). ShowsPages (gripping (tried v page Work held.remembered) page held.remembered held.homed) (Some (record { page = p; remembered = held.remembered; homed = held.homed })) end s) (sym g.is)
     (shows-taken v page end held.remembered held.homed s own takes shown))
 
-tried-reads : (v : View) (page : ℕ) (b : Bool) → IsOwnPage v page → ReadsOn v (tried v page Work b)
-tried-reads v page true own = reads-word v page 2 own
-tried-reads v page false own = none-reads v
+-- one of a frozen domain
+pub shown-taken_frozen : (v : View) (seat : Seat) (page : ℕ) (held : Held) (end : ℕ) (s : Layout) → Grasps (tried v page Work held.remembered) seat page held → Takes v page held.remembered held.homed → IsNobodysPage v page → ShowsPages v None end s → ShowsPages (view_of seat) (Some held) end s
+shown-taken_frozen v seat page held end s g takes is shown =
+    subst (λ (w : View). ShowsPages w (Some held) end s) (sym g.view)
+    (subst (λ (p : ℕ). ShowsPages (gripping (tried v page Work held.remembered) page held.remembered held.homed) (Some (record { page = p; remembered = held.remembered; homed = held.homed })) end s) (sym g.is)
+    (shows-taken_frozen v page end held.remembered held.homed s is.0 is.1 takes shown))
 
-tried-own : (v : View) (page : ℕ) (b : Bool) → IsOwnPage v page → IsOwnPage (tried v page Work b) page
-tried-own v page true own = own
-tried-own v page false own = own
+tried-reads : (v : View) (page : ℕ) (b : Bool) → MayReadPage v page → ReadsOn v (tried v page Work b)
+tried-reads v page true may = reads-word v page 2 may
+tried-reads v page false may = none-reads v
 
-gripping-reads : (v : View) (page : ℕ) (remembered : Bool) (homed : Homed) → IsOwnPage v page → ReadsOn v (gripping v page remembered homed)
-gripping-reads v page remembered homed own = record {
+tried-may : (v : View) (page : ℕ) (b : Bool) → MayReadPage v page → MayReadPage (tried v page Work b) page
+tried-may v page true may = may
+tried-may v page false may = may
+
+gripping-reads : (v : View) (page : ℕ) (remembered : Bool) (homed : Homed) → MayReadPage v page → ReadsOn v (gripping v page remembered homed)
+gripping-reads v page remembered homed may = record {
   same = refl;
   more = (page_at page, if remembered then 2 else 1) ∷ [];
   read = refl;
   behind = λ q far. (refl, refl);
   others = λ q none. (refl, refl);
-  foreign = λ q near none.
-      let other = pages-else page q (if remembered then 2 else 1) 1 [] (off-page v page q own none) in
+  foreign = λ q near none held.
+      let other = pages-else page q (if remembered then 2 else 1) 1 [] (off-page v page q may none held) in
       let zero_reads : times 1 (reads_at q []) ≡ 0 = refl in
       omega arith;
-  fetches = λ q none. refl;
+  fetches = λ q none held. refl;
+  returned = λ q more. absurd (omega arith);
   far = λ q past. (refl, refl, refl);
   few = omega arith;
 }
 
-pub taken-reads : (v : View) (seat : Seat) (page : ℕ) (held : Held) → Grasps (tried v page Work held.remembered) seat page held → IsOwnPage v page → ReadsOn v (view_of seat)
-taken-reads v seat page held g own =
+pub taken-reads : (v : View) (seat : Seat) (page : ℕ) (held : Held) → Grasps (tried v page Work held.remembered) seat page held → MayReadPage v page → ReadsOn v (view_of seat)
+taken-reads v seat page held g may =
     let u : View = tried v page Work held.remembered in
     subst (λ (w : View). ReadsOn v w) (sym g.view)
-    (then-reads v u (gripping u page held.remembered held.homed) (tried-reads v page held.remembered own) (gripping-reads u page held.remembered held.homed (tried-own v page held.remembered own)))
+    (then-reads v u (gripping u page held.remembered held.homed) (tried-reads v page held.remembered may) (gripping-reads u page held.remembered held.homed (tried-may v page held.remembered may)))
 
 -- or refused
 pub refused-read : (v w : View) (page : ℕ) (want : Want) (refusal : TakeError) → IsTakeRefused v page want refusal w → ReadLast w page (refusal_word refusal)
@@ -182,11 +213,11 @@ refused-read v w page want refusal r = elim r.read [
   | inr e ↦ ((page_at page, 2) ∷ v.read, ap (λ (x : View). x.read) e.1)
 ]
 
-pub refused-reads : (v w : View) (page : ℕ) (want : Want) (refusal : TakeError) → IsTakeRefused v page want refusal w → IsOwnPage v page → ReadsOn v w
-refused-reads v w page want refusal r own = elim r.read [
-  | inl e ↦ subst (λ (x : View). ReadsOn v x) (sym e) (reads-word v page (refusal_word refusal) own)
+pub refused-reads : (v w : View) (page : ℕ) (want : Want) (refusal : TakeError) → IsTakeRefused v page want refusal w → MayReadPage v page → ReadsOn v w
+refused-reads v w page want refusal r may = elim r.read [
+  | inl e ↦ subst (λ (x : View). ReadsOn v x) (sym e) (reads-word v page (refusal_word refusal) may)
   | inr e ↦ subst (λ (x : View). ReadsOn v x) (sym e.1)
-      (then-reads v (having_read v page 2) (having_read (having_read v page 2) page (refusal_word refusal)) (reads-word v page 2 own) (reads-word (having_read v page 2) page (refusal_word refusal) own))
+      (then-reads v (having_read v page 2) (having_read (having_read v page 2) page (refusal_word refusal)) (reads-word v page 2 may) (reads-word (having_read v page 2) page (refusal_word refusal) may))
 ]
 
 -- nothing was fetched by it
@@ -225,6 +256,21 @@ refused-since v w page want refusal r = elim r.read [
 pub refused-held : (v w : View) (page : ℕ) → IsOwnPage v page → IsTakeRefused v page Work Busy w → ReadsHeld v w page
 refused-held v w page own r = record { last = refused-read v w page Work Busy r; since = refused-since v w page Work Busy r; noted = r.busy refl own }
 
+-- what the table is about stays
+pub refused-about : (v w : View) (page : ℕ) (want : Want) (refusal : TakeError) → IsTakeRefused v page want refusal w → w.about ≡ v.about
+refused-about v w page want refusal r = elim r.read [
+  | inl e ↦ ap (λ (x : View). x.about) e
+  | inr e ↦ ap (λ (x : View). x.about) e.1
+]
+
+-- one of a frozen domain is read so
+pub refused-frozen : (v w : View) (page : ℕ) → IsFrozenPage v page → IsTakeRefused v page Work Busy w → ReadsFrozenHeld v w page
+refused-frozen v w page is r = record {
+  frozen = ap (λ (k : Key). owner k page) (refused-about v w page Work Busy r) ∙ is;
+  last = refused-read v w page Work Busy r;
+  since = refused-since v w page Work Busy r;
+}
+
 -- and an own page that is gone is noted so
 noted-gone : (v w : View) (page : ℕ) → IsOwnPage v page → w ≡ having_read v page 4 → 0 < times page w.gone
 noted-gone v w page own e =
@@ -254,27 +300,62 @@ put-else : (v : View) (held : Held) (q : ℕ) → held.page ≢ q → (entries q
 put-else v held q other =
     (entries-else (owns v held.page) q held.page held.homed.page v.changed other, recorded-else v held q other)
 
-pub put-reads : (seat : Seat) (w : View) (held : Held) → HoldsPage seat held → IsOwnPage (view_of seat) held.page → w ≡ put_back (view_of seat) held → ReadsOn (view_of seat) w
-put-reads seat w held has own e =
+-- the page in hand isn't the lane's own: nothing of it is recorded
+owns-none : (v : View) (p : ℕ) → has_role v (owner v.about p) ≡ 0 → owns v p ≡ false
+owns-none v p none = ap (nat_lt 0) none
+
+unrecorded : (b c : Bool) (q p : ℕ) (l : List ℕ) → c ≡ false → times q (if b && c then p ∷ l else l) ≡ times q l
+unrecorded true c q p l off = ap (λ (t : Bool). times q (if t then p ∷ l else l)) off
+unrecorded false c q p l off = refl
+
+put-foreign : (v : View) (held : Held) (q : ℕ) → has_role v (owner v.about q) ≡ 0 → (entries q (put_back v held).changed ≡ entries q v.changed) × (times q (put_back v held).recorded ≡ times q v.recorded)
+put-foreign v held q none = elim (cases_eq held.page q) [
+  | inl e ↦
+      let off = owns-none v held.page (ap (λ (p : ℕ). has_role v (owner v.about p)) e ∙ none) in (
+        ap (λ (b : Bool). entries q (if b then (held.page, held.homed.page) ∷ v.changed else v.changed)) off,
+        unrecorded held.remembered (owns v held.page) q held.page v.recorded off,
+      )
+  | inr ne ↦ put-else v held q ne
+]
+
+-- it was returned only where it is of a frozen domain
+returned-else : (b : Bool) (q p : ℕ) (l : List ℕ) → p ≢ q → times q (if b then l else p ∷ l) ≡ times q l
+returned-else true q p l ne = refl
+returned-else false q p l ne = let none = one_other p q ne in omega arith
+
+put-returned : (v : View) (held : Held) (q : ℕ) → MayReadPage v held.page → times q v.returned < times q (put_back v held).returned → IsFrozenPage v q
+put-returned v held q (inl own) more =
+    let same = ap (λ (b : Bool). times q (if b then v.returned else held.page ∷ v.returned)) (owns-page v held.page own) in
+    absurd (omega arith)
+put-returned v held q (inr is) more = elim (cases_eq held.page q) [
+  | inl e ↦ subst (IsFrozenPage v) e is
+  | inr ne ↦ let same = returned-else (owns v held.page) q held.page v.returned ne in absurd (omega arith)
+]
+
+pub put-reads : (seat : Seat) (w : View) (held : Held) → HoldsPage seat held → MayReadPage (view_of seat) held.page → w ≡ put_back (view_of seat) held → ReadsOn (view_of seat) w
+put-reads seat w held has may e =
     let v = view_of seat in
     subst (λ (x : View). ReadsOn v x) (sym e)
     (record {
-      same = ap (λ (b : Bool). record (put_back v held) { returned = if b then v.returned else held.page ∷ v.returned }) (owns-page v held.page own);
+      same = refl;
       more = [];
       read = refl;
       behind = λ q far. put-else v held q (λ is. absurd (let inside = has.inside in omega arith));
-      others = λ q none. put-else v held q (λ is. absurd (let mine = subst (λ (p : ℕ). IsOwnPage v p) is own in omega arith));
-      foreign = λ q near none. let zero_reads : times 1 (reads_at q []) ≡ 0 = refl in omega arith;
-      fetches = λ q none. refl;
+      others = λ q none. put-foreign v held q none;
+      foreign = λ q near none some. let zero_reads : times 1 (reads_at q []) ≡ 0 = refl in omega arith;
+      fetches = λ q none some. refl;
+      returned = λ q more. put-returned v held q may more;
       far = λ q past. (refl, refl, refl);
       few = omega arith;
     })
 
-pub put-laid : (v w : View) (held : Held) → IsOwnPage v held.page → w ≡ put_back v held → IsLaidDown v w
-put-laid v w held own e =
-    let same : put_back v held ≡ record v { hand = None; changed = (put_back v held).changed; recorded = (put_back v held).recorded } =
-    ap (λ (b : Bool). record (put_back v held) { returned = if b then v.returned else held.page ∷ v.returned }) (owns-page v held.page own) in
-    subst (λ (x : View). IsLaidDown v x) (sym e) same
+pub put-laid : (v w : View) (held : Held) → w ≡ put_back v held → IsLaidDown v w
+put-laid v w held e = subst (λ (x : View). IsLaidDown v x) (sym e) refl
+
+-- one that isn't the lane's own was not recorded
+pub put-unchanged : (v w : View) (held : Held) → w ≡ put_back v held → has_role v (owner v.about held.page) ≡ 0 → w.changed ≡ v.changed
+put-unchanged v w held e none =
+    ap (λ (x : View). x.changed) e ∙ ap (λ (b : Bool). if b then (held.page, held.homed.page) ∷ v.changed else v.changed) (owns-none v held.page none)
 
 pub none-laid : (v : View) → v.hand ≡ None → IsLaidDown v v
 none-laid v none = ap (λ (h : Option Hand). record v { hand = h }) none
@@ -298,14 +379,14 @@ never-absent v w page cell r = cell (r.bare refl)
 -- what is in hand after an operation is what was
 pub hand-after : (seat : Seat) (old new : Option Held) (end : ℕ) (s : Layout) → HasInHand seat old → ((p : ℕ) → HasPage old p → HasPage new p) → ShowsPages (view_of seat) new end s → HasInHand seat new
 hand-after seat None None end s has pages shown = has
-hand-after seat None (Some h) end s has pages shown = absurd (clash-hand shown.in_hand.hand (sym has.hand ∙ shown.in_hand.has))
+hand-after seat None (Some h) end s has pages shown = let x = held-in (view_of seat) h s shown.in_hand in absurd (clash-hand x.hand (sym has.hand ∙ x.has))
   where
     clash-hand : (x : Hand) → None ≡ Some x → ⊥
     clash-hand x e = cc
 hand-after seat (Some g) None end s has pages shown = absurd (pages g.page refl)
 hand-after seat (Some g) (Some h) end s has pages shown =
     let same : g.page ≡ h.page = pages g.page refl in
-    let x = shown.in_hand in
+    let x = held-in (view_of seat) h s shown.in_hand in
     record {
       hand = x.hand;
       has = x.has;
@@ -342,15 +423,16 @@ seat-lane a b x fetched = record {
   opens = λ counts. x.opens ∙ subst (λ (l : List ℕ). a.opens ≡ min (length l) (2 ^ 64 - 1)) (sym fetched) counts;
 }
 
+pub at-worker : (pins : Pins) (a b : Seat) → IsAt pins a → IsSameWorker a b → IsAt pins b
+at-worker pins a b at same = record {
+  table = same.table ∙ at.table;
+  about = same.about ∙ at.about;
+  alive = same.alive ∙ at.alive;
+  role = subst (λ (l : List ℕ). 0 < times (role_number b.role) l) (sym same.roles) (subst (λ (r : Role). 0 < has_role (view_of a) (role_number r)) (sym same.role) at.role);
+}
+
 pub at-lane : (pins : Pins) (a b : Seat) → IsAt pins a → IsSameLane a b → IsAt pins b
-at-lane pins a b at x =
-    let same = x.worker in
-    record {
-      table = same.table ∙ at.table;
-      about = same.about ∙ at.about;
-      alive = same.alive ∙ at.alive;
-      role = subst (λ (l : List ℕ). 0 < times (role_number b.role) l) (sym same.roles) (subst (λ (r : Role). 0 < has_role (view_of a) (role_number r)) (sym same.role) at.role);
-    }
+at-lane pins a b at x = at-worker pins a b at x.worker
 
 -- an own page is so after it
 pub own-lane : (a b : Seat) (page : ℕ) → IsSameLane a b → IsOwnPage (view_of a) page → IsOwnPage (view_of b) page
@@ -358,6 +440,22 @@ own-lane a b page x own =
     subst (λ (l : List ℕ). 0 < times (owner (view_of b).about page) l) (sym x.worker.roles)
     (subst (λ (k : Key). 0 < times (owner k page) (view_of a).roles) (sym x.worker.about) own)
 
+-- and one of a frozen domain
+pub nobodys-about : (v w : View) (page : ℕ) → w.about ≡ v.about → IsNobodysPage v page → IsNobodysPage w page
+nobodys-about v w page e is = subst (λ (k : Key). (owner k page ≡ 0) × (times (owner k page) k.roles ≡ 0)) (sym e) is
+
+pub somebody-lane : (a b : Seat) → IsSameLane a b → has_role (view_of a) 0 ≡ 0 → has_role (view_of b) 0 ≡ 0
+somebody-lane a b x none = ap (times 0) x.worker.roles ∙ none
+
+pub page-of_lane : (a b : Seat) (page : ℕ) (frozen : Bool) → IsSameLane a b → IsPageOf (view_of a) page frozen → IsPageOf (view_of b) page frozen
+page-of_lane a b page true x is = nobodys-about (view_of a) (view_of b) page x.worker.about is
+page-of_lane a b page false x is = own-lane a b page x is
+
 -- and rights are as they were
 pub rights-on : (v w : View) → ReadsOn v w → v.rights ≡ [] → w.rights ≡ []
 rights-on v w on none = ap (λ (x : View). x.rights) on.same ∙ none
+
+-- one page at most is in hand
+pub one-page : (hand : Option Held) (p q : ℕ) → HasPage hand p → HasPage hand q → p ≡ q
+one-page None p q a b = absurd a
+one-page (Some held) p q a b = a ∙ sym b

@@ -1,5 +1,5 @@
 -- What a lane has at the opening of a turn belongs to the whole heap with every page back.
-use Rattle.std.proofs.Common.{◌≡◌, ℕ, ◌<◌, ◌==◌, true, List, get_or, None, refl, ap, sym, subst, ◌∙◌, arith}
+use Rattle.std.proofs.Common.{◌≡◌, ℕ, ◌<◌, ◌==◌, List, get_or, None, refl, ap, sym, subst, ◌∙◌, arith}
 use Rattle.bc_bits.specs.Counting.{one_if}
 use Rattle.bc_lane.specs.Back.{all_back, back_state, heap_back}
 use Rattle.bc_lane.specs.Shown.{ShowsPage}
@@ -13,7 +13,7 @@ use Rattle.bc_pins.specs.Views.{opened_state, opened_word, state_word}
 use Rattle.bc_superpages.specs.declared.headers.PageState.{PageState}
 use Rattle.bc_superpages.specs.declared.headers.PageState.TheVariants.{Absent, Gone, Held, Home, Remembered}
 use Rattle.bc_superpages.specs.Kept.{IsLayout}
-use Rattle.bc_superpages.specs.Layout.{Layout}
+use Rattle.bc_superpages.specs.Layout.{Layout, content_at}
 use Rattle.bc_whole_heap.specs.Closed.{buffer_of}
 use Rattle.bc_whole_heap.specs.Heaps.{HeapView, end_of}
 use Rattle.bc_whole_heap.specs.LaneStates.{StandsAs}
@@ -52,6 +52,7 @@ opened-whole k roles part h e ready stands roots chunk buffer = record {
       end_is = refl;
       opening = subst IsLayout (sym e) ready.layout;
       others = λ page own none. subst (λ (s : Layout). ShowsPage (fresh k roles) (all_back s) page) e (opened-page k roles page);
+      frozen = λ page is none. ap (λ (o : Layout). content_at o.pages page) (sym e);
       in_hand = tt;
     };
     roots = roots;

@@ -1,9 +1,8 @@
 -- A page that a seat left as it was: it read it as Home only where it made it Gone or Absent, and didn't reload it.
-use Rattle.std.proofs.Common.{◌≡◌, ◌≢◌, ℕ, ◌+◌, ◌<◌, Bool, true, false, List, [], ◌∷◌, ◌++◌, if◌then◌else◌, Option, Some, ◌⊎◌, inl, inr, refl, ap, sym, subst, ◌∙◌, arith}
+use Rattle.std.proofs.Common.{◌≡◌, ◌≢◌, ℕ, ◌<◌, Bool, true, false, List, ◌∷◌, if◌then◌else◌, Option, Some, ◌⊎◌, inl, inr, refl, ap, sym, subst, ◌∙◌, arith}
 use Rattle.bc_evict.specs.Reloading.{HasReloaded}
-use Rattle.bc_lane.specs.Shown.{IsOwnPage}
 use Rattle.bc_lane.proofs.FrameLemmas.{none-home}
-use Rattle.bc_lane.specs.Turns.{FindsNoFrameAtAll, HasFrame, IsInHandAs, IsPutBack, LooksOnIn, PassesBy, PutsBack, ReadsOn}
+use Rattle.bc_lane.specs.Turns.{FindsNoFrameAtAll, HasFrame, IsInHandAs, IsPutBack, PassesBy, PutsBack}
 use Rattle.bc_pins.specs.declared.holding.Held.{Held}
 use Rattle.bc_pins.specs.declared.pins.Seat.{Seat}
 use Rattle.bc_pins.specs.declared.taking.TakeError.{TakeError}
@@ -26,7 +25,7 @@ pub passes-on : (u v w : View) (q : ℕ) → PassesBy u v q → PassesBy v w q �
 passes-on u v w q x y = record { home = (let one = x.home in let two = y.home in omega arith); fetched = y.fetched ∙ x.fetched }
 
 -- the word of another page was read
-other-read : (v : View) (page found q : ℕ) → q ≢ page → PassesBy v (having_read v page found) q
+pub other-read : (v : View) (page found q : ℕ) → q ≢ page → PassesBy v (having_read v page found) q
 other-read v page found q ne = record { home = (let other = pages-else page q found 1 v.read ne in omega arith); fetched = refl }
 
 -- another page was taken
@@ -104,3 +103,8 @@ pub fetched-passes : (v u : View) (seat : Seat) (page frame q : ℕ) (held : Hel
 fetched-passes v u seat page frame q held near f r ne =
     passes-on v u (view_of seat) q (frame-passes v u frame q near f)
     (reloaded-passes u seat page frame q held (subst (λ (k : Key). q < pages_of k) (sym (ap (λ (x : View). x.about) f.view)) near) r ne)
+
+-- a page that was passed by, or looked at, and passed by since
+pub looked-then : (u v w : View) (q : ℕ) (A : Type 0) → PassesBy u v q ⊎ A → PassesBy v w q → PassesBy u w q ⊎ A
+looked-then u v w q A (inl passes) after = inl (passes-on u v w q passes after)
+looked-then u v w q A (inr looks) after = inr looks

@@ -9,6 +9,7 @@ use Rattle.bc_lane.specs.Turns.{ComesInRun, DoesOne, HadInRun, IsInHandAs, IsPut
 use Rattle.bc_lane.specs.declared.parts.LanePart.{LanePart}
 use Rattle.bc_lane.specs.declared.turns.LaneTurn.{LaneTurn}
 use Rattle.bc_lane.proofs.HandLemmas.{none-reads, then-reads}
+use Rattle.bc_lane.proofs.PageLemmas.{held-in}
 use Rattle.bc_lane.proofs.PassLemmas.{none-passes, passes-on}
 use Rattle.bc_lane.proofs.WholeLemmas.{births-step}
 use Rattle.bc_model.proofs.Runs.{at-index}
@@ -16,6 +17,7 @@ use Rattle.bc_model.specs.WellFormed.{IsOp}
 use Rattle.bc_model.specs.declared.operations.Op.{Op}
 use Rattle.bc_model.specs.declared.operations.Reply.{Reply}
 use Rattle.bc_model.specs.declared.traces.Setup.{Setup}
+use Rattle.bc_model.specs.declared.values.Holder.{Holder}
 use Rattle.bc_mutator.specs.Effects.{DidOperation}
 use Rattle.bc_mutator.specs.Operations.{IsOpOf}
 use Rattle.bc_pins.specs.declared.holding.Held.{Held}
@@ -26,7 +28,7 @@ use Rattle.bc_superpages.specs.RootWords.{RootWords}
 use Rattle.bc_whole_heap.specs.Heaps.{HeapView}
 
 -- one operation more
-pub did-more : (hs : List ℕ) (lane : ℕ) (ops : List Op) (replies : List Reply) (op : Op) (reply : Reply) (h m k : HeapView) (s n t : ℕ) → DidAll hs lane ops replies h s m n → DidOperation m k hs lane n t op reply → DidAll hs lane (ops ++ op ∷ []) (replies ++ reply ∷ []) h s k t
+pub did-more : (hs : List Holder) (lane : ℕ) (ops : List Op) (replies : List Reply) (op : Op) (reply : Reply) (h m k : HeapView) (s n t : ℕ) → DidAll hs lane ops replies h s m n → DidOperation m k hs lane n t op reply → DidAll hs lane (ops ++ op ∷ []) (replies ++ reply ∷ []) h s k t
 did-more hs lane [] [] op reply h m k s n t all did =
     (k, t, subst (λ (x : HeapView). DidOperation x k hs lane s t op reply) all.0 (subst (λ (x : ℕ). DidOperation m k hs lane x t op reply) all.1 did), (refl, refl))
 did-more hs lane [] (r ∷ rs) op reply h m k s n t all did = absurd all
@@ -48,7 +50,7 @@ fits-same : (h k : HeapView) (op : Op) → SameSizes h k → IsOpOf h.roots op �
 fits-same h k op same fits =
     subst (λ (n : ℕ). IsOp (sized n k.roots.slots) op) (sym same.domains) (subst (λ (n : ℕ). IsOp (sized h.roots.domains n) op) (sym same.slots) fits)
 
-sizes-more : (h m k : HeapView) (hs : List ℕ) (lane s t : ℕ) (op : Op) (reply : Reply) → SameSizes h m → DidOperation m k hs lane s t op reply → SameSizes h k
+sizes-more : (h m k : HeapView) (hs : List Holder) (lane s t : ℕ) (op : Op) (reply : Reply) → SameSizes h m → DidOperation m k hs lane s t op reply → SameSizes h k
 sizes-more h m k hs lane s t op reply same did = record {
   domains = ap (λ (r : RootWords). r.domains) did.leaves.roots ∙ same.domains;
   slots = ap (λ (r : RootWords). r.slots) did.leaves.roots ∙ same.slots;
@@ -61,6 +63,7 @@ same-part a b c x y = record {
   domains = y.domains ∙ x.domains;
   slots = y.slots ∙ x.slots;
   starts = y.starts ∙ x.starts;
+  shared = y.shared ∙ x.shared;
 }
 
 -- a heap that comes in a run comes in a longer one
@@ -119,7 +122,7 @@ looks-next ops end old cur v w hand after ran page next =
 -- the page in hand has its content in the heap behind them
 had-in-hand : (v : View) (hand : Option Held) (end page : ℕ) (content : List ℕ) (s : Layout) → IsInHandAs hand page content → ShowsPages v hand end s → content_at s.pages page ≡ content
 had-in-hand v None end page content s in_hand shown = absurd in_hand
-had-in-hand v (Some held) end page content s in_hand shown = subst (λ (p : ℕ). content_at s.pages p ≡ held.homed.page) in_hand.0 shown.in_hand.content ∙ in_hand.1
+had-in-hand v (Some held) end page content s in_hand shown = subst (λ (p : ℕ). content_at s.pages p ≡ held.homed.page) in_hand.0 (held-in v held s shown.in_hand).content ∙ in_hand.1
 
 had-next : (ops : List Op) (end : ℕ) (old cur : LaneTurn) (v w : View) (hand after : Option Held) (ran : LaneRan ops end old v hand cur w after) (page : ℕ) (content : List ℕ) → IsInHandAs after page content → HadInRun ops end old v hand ran.replies page content
 had-next ops end old cur v w hand after ran page content in_hand = record {
@@ -155,7 +158,7 @@ ran-none ops end turn v hand = record {
   room = refl;
   next = omega arith;
   count = refl;
-  same = record { lane = refl; holders = refl; domains = refl; slots = refl; starts = refl };
+  same = record { lane = refl; holders = refl; domains = refl; slots = refl; starts = refl; shared = refl };
   serial = omega arith;
   reads = none-reads v;
   looked = λ q near. inl (none-passes v q);
@@ -173,7 +176,7 @@ module _ (ops : List Op) (end : ℕ) (old cur new : LaneTurn) (v w x : View) (ha
     (less : cur.next < length ops) (is : op ≡ get_or ops cur.next op) (does : DoesOne cur.part w after new.part x last end op reply) (same : SamePart cur.part new.part)
     (next : new.next ≡ cur.next + 1) (count : new.count ≡ cur.count) (kept : new.replies.items ≡ cur.replies.items ++ reply ∷ []) (room : vec_capacity new.replies ≡ vec_capacity cur.replies) (reads : ReadsOn w x)
     (looked : (q : ℕ) → q < pages_of w.about → PassesBy w x q ⊎ LooksNext ops end cur w after q) (puts : PutsBack w after x) where
-  abbrev hs : List ℕ
+  abbrev hs : List Holder
   hs = old.part.holders.items
 
   op-fits : (h : HeapView) → AllByRecursion (IsOpOf h.roots) ops → IsOpOf h.roots op
@@ -203,7 +206,7 @@ module _ (ops : List Op) (end : ℕ) (old cur new : LaneTurn) (v w x : View) (ha
       )
     where
       ap-holders : (m k : HeapView) → DidOperation m k cur.part.holders.items cur.part.lane cur.part.serial new.part.serial op reply → DidOperation m k hs cur.part.lane cur.part.serial new.part.serial op reply
-      ap-holders m k did = subst (λ (ls : List ℕ). DidOperation m k ls cur.part.lane cur.part.serial new.part.serial op reply) (ap (λ (xs : _). xs.items) ran.same.holders) did
+      ap-holders m k did = subst (λ (ls : List Holder). DidOperation m k ls cur.part.lane cur.part.serial new.part.serial op reply) (ap (λ (xs : _). xs.items) ran.same.holders) did
 
   pub one-birth : new.part.serial ≤ cur.part.serial + 1
   one-birth =
@@ -263,7 +266,7 @@ ran-stopped ops end old cur new v w x hand after last ran part next count kept r
     }
 
 -- operations after operations
-did-then : (hs : List ℕ) (lane : ℕ) (ops more : List Op) (replies rest : List Reply) (h m k : HeapView) (s n t : ℕ) → DidAll hs lane ops replies h s m n → DidAll hs lane more rest m n k t → DidAll hs lane (ops ++ more) (replies ++ rest) h s k t
+did-then : (hs : List Holder) (lane : ℕ) (ops more : List Op) (replies rest : List Reply) (h m k : HeapView) (s n t : ℕ) → DidAll hs lane ops replies h s m n → DidAll hs lane more rest m n k t → DidAll hs lane (ops ++ more) (replies ++ rest) h s k t
 did-then holders lane [] more [] rest h m k s n t first second =
     subst (λ (x : HeapView). DidAll holders lane more rest x s k t) first.0 (subst (λ (x : ℕ). DidAll holders lane more rest m x k t) first.1 second)
 did-then holders lane [] more (r ∷ rs) rest h m k s n t first second = absurd first
@@ -293,7 +296,7 @@ comes-then ops end old cur v w hand after one more b P l =
     let long = length-append one.replies more in
     let place = one.next in
     let a : ℕ = length one.replies in
-    let hs : List ℕ = old.part.holders.items in
+    let hs : List Holder = old.part.holders.items in
     record {
       within = (let within = l.within in omega arith);
       comes = λ h wh fits.
@@ -302,7 +305,7 @@ comes-then ops end old cur v w hand after one more b P l =
           let second : DidAll hs old.part.lane (take b (drop (old.next + a) ops)) (take b more) m.0 cur.part.serial k.0 k.1 =
           subst (λ (n : ℕ). DidAll hs old.part.lane (take b (drop n ops)) (take b more) m.0 cur.part.serial k.0 k.1) place
           (subst (λ (i : ℕ). DidAll hs i (take b (drop cur.next ops)) (take b more) m.0 cur.part.serial k.0 k.1) one.same.lane
-          (subst (λ (xs : List ℕ). DidAll xs cur.part.lane (take b (drop cur.next ops)) (take b more) m.0 cur.part.serial k.0 k.1) (ap (λ (xs : _). xs.items) one.same.holders) k.2)) in
+          (subst (λ (xs : List Holder). DidAll xs cur.part.lane (take b (drop cur.next ops)) (take b more) m.0 cur.part.serial k.0 k.1) (ap (λ (xs : _). xs.items) one.same.holders) k.2)) in
           let all : DidAll hs old.part.lane (take a (drop old.next ops) ++ take b (drop (old.next + a) ops)) (one.replies ++ take b more) h old.part.serial k.0 k.1 =
           did-then hs old.part.lane (take a (drop old.next ops)) (take b (drop (old.next + a) ops)) one.replies (take b more) h m.0 k.0 old.part.serial cur.part.serial k.1 m.3 second in (
             k.0,
@@ -373,11 +376,11 @@ ran-then ops end old cur new v w x hand after last one two =
           let k = two.done m.0 m.1 (fits-all h m.0 ops m.2 fits) in
           let a : ℕ = length one.replies in
           let b : ℕ = length two.replies in
-          let hs : List ℕ = old.part.holders.items in
+          let hs : List Holder = old.part.holders.items in
           let second : DidAll hs old.part.lane (take b (drop (old.next + a) ops)) two.replies m.0 cur.part.serial k.0 new.part.serial =
           subst (λ (n : ℕ). DidAll hs old.part.lane (take b (drop n ops)) two.replies m.0 cur.part.serial k.0 new.part.serial) place
           (subst (λ (l : ℕ). DidAll hs l (take b (drop cur.next ops)) two.replies m.0 cur.part.serial k.0 new.part.serial) one.same.lane
-          (subst (λ (xs : List ℕ). DidAll xs cur.part.lane (take b (drop cur.next ops)) two.replies m.0 cur.part.serial k.0 new.part.serial) (ap (λ (xs : _). xs.items) one.same.holders) k.3)) in (
+          (subst (λ (xs : List Holder). DidAll xs cur.part.lane (take b (drop cur.next ops)) two.replies m.0 cur.part.serial k.0 new.part.serial) (ap (λ (xs : _). xs.items) one.same.holders) k.3)) in (
             k.0,
             k.1,
             same-sizes h m.0 k.0 m.2 k.2,

@@ -3,7 +3,7 @@ use Rattle.std.proofs.Common.{◌≡◌, ◌⊎◌, ℕ, ◌+◌, ◌-◌, ◌*�
 use Rattle.std.proofs.lemmas.List.{get_or_default}
 use Rattle.std.specs.List.{AllByRecursion}
 use Rattle.bc_lane.specs.Shown.{ShowsPages}
-use Rattle.bc_lane.specs.Turns.{DoesOne, FindsNoFrameFor, IsGoing, IsLaidDown, IsLaneSeat, IsLaneTable, IsNextOp, IsWhole, LaneRan, LooksNext, LooksOnIn, PassesBy, PutsBack, ReadsHeld, ReadsOn, SamePart, StaysWhole, StopsOp, WhyStopped}
+use Rattle.bc_lane.specs.Turns.{DoesOne, FindsNoFrameFor, IsGoing, IsLaidDown, IsLaneSeat, IsLaneTable, IsNextOp, IsWhole, LaneRan, LooksNext, LooksOnIn, PassesBy, PutsBack, ReadsFrozenGone, ReadsFrozenHeld, ReadsFrozenMoved, ReadsHeld, ReadsOn, SamePart, StaysWhole, StopsOp, WhyStopped}
 use Rattle.bc_lane.specs.declared.parts.LanePart.{LanePart}
 use Rattle.bc_lane.specs.declared.stops.Stop.{Stop}
 use Rattle.bc_lane.specs.declared.stops.Stop.TheVariants as stop
@@ -12,6 +12,7 @@ use Rattle.bc_lane.proofs.AnswerLemmas.{stops-since, whole-moved}
 use Rattle.bc_lane.proofs.RunLemmas.{one-birth, ran-more, ran-none, ran-stopped}
 use Rattle.bc_model.specs.declared.operations.Op.{Op}
 use Rattle.bc_model.specs.declared.operations.Reply.{Reply}
+use Rattle.bc_model.specs.declared.values.Holder.{Holder}
 use Rattle.bc_mutator.specs.Operations.{IsOpOf, WantsMore}
 use Rattle.bc_nursery.specs.Objects.{left_of}
 use Rattle.bc_pins.specs.declared.holding.Held.{Held}
@@ -19,7 +20,7 @@ use Rattle.bc_pins.specs.declared.pins.Pins.{Pins}
 use Rattle.bc_pins.specs.declared.pins.Seat.{Seat}
 use Rattle.bc_pins.specs.declared.views.View.{View}
 use Rattle.bc_pins.specs.Calls.{key_of, view_of}
-use Rattle.bc_pins.specs.Key.{Key, frame_at, frame_words, page_at, pages_of}
+use Rattle.bc_pins.specs.Key.{Key, owner, pages_of}
 use Rattle.bc_pins.specs.Totals.{times}
 use Rattle.bc_superpages.specs.Layout.{Layout, superpages}
 use Rattle.bc_whole_heap.specs.Heaps.{HeapView, end_of}
@@ -28,7 +29,7 @@ use Rattle.bc_whole_heap.specs.Heaps.{HeapView, end_of}
 pub going-on : (pins : Pins) (ops : List Op) (old new : LaneTurn) (seat after : Seat) (hand last : Option Held) → IsGoing pins ops old seat hand → SamePart old.part new.part → IsLaneSeat pins old.part.lane after last → new.count ≡ old.count
     → new.part.serial + (length ops - new.next) < 2 ^ 32 → IsGoing pins ops new after last
 going-on pins ops old new seat after hand last going same seated count births = record {
-  table = subst (λ (hs : Vec ℕ Global). IsLaneTable (key_of pins) hs.items) (sym same.holders) going.table;
+  table = subst (λ (hs : Vec Holder Global). IsLaneTable (key_of pins) hs.items) (sym same.holders) going.table;
   seated = subst (λ (l : ℕ). IsLaneSeat pins l after last) (sym same.lane) seated;
   few = subst (λ (l : ℕ). l < 16) (sym same.lane) going.few;
   count = going.count ∙ sym count;
@@ -59,16 +60,47 @@ held-laid u v w page laid held = record {
   noted = subst (λ (l : List ℕ). 0 < times page l) (sym (ap (λ (x : View). x.busy) laid)) held.noted;
 }
 
+frozen-laid : (u v w : View) (page : ℕ) → IsLaidDown v w → ReadsFrozenHeld u v page → ReadsFrozenHeld u w page
+frozen-laid u v w page laid held = record {
+  frozen = ap (λ (x : View). owner x.about page) laid ∙ held.frozen;
+  last = (held.last.0, ap (λ (x : View). x.read) laid ∙ held.last.1);
+  since = subst (λ (l : List (ℕ × ℕ)). length u.read < length l) (sym (ap (λ (x : View). x.read) laid)) held.since;
+}
+
+gone-laid : (u v w : View) (page : ℕ) → IsLaidDown v w → ReadsFrozenGone u v page → ReadsFrozenGone u w page
+gone-laid u v w page laid gone = record {
+  frozen = ap (λ (x : View). owner x.about page) laid ∙ gone.frozen;
+  before = gone.before;
+  later = gone.later;
+  gone = ap (λ (x : View). x.read) laid ∙ gone.gone;
+}
+
+moved-laid : (u v w : View) (page : ℕ) → IsLaidDown v w → ReadsFrozenMoved u v page → ReadsFrozenMoved u w page
+moved-laid u v w page laid moved = record {
+  frozen = ap (λ (x : View). owner x.about page) laid ∙ moved.frozen;
+  before = moved.before;
+  between = moved.between;
+  later = moved.later;
+  reads = ap (λ (x : View). x.read) laid ∙ moved.reads;
+  once = moved.once;
+}
+
+busy-laid : (u v w : View) (page : ℕ) → IsLaidDown v w → ReadsHeld u v page ⊎ ReadsFrozenHeld u v page → ReadsHeld u w page ⊎ ReadsFrozenHeld u w page
+busy-laid u v w page laid (inl held) = inl (held-laid u v w page laid held)
+busy-laid u v w page laid (inr held) = inr (frozen-laid u v w page laid held)
+
 -- where no frame was found none is in hand, so nothing changed
 no-frame-laid : (u v w : View) (page : ℕ) → (v.hand ≡ None → w ≡ v) → FindsNoFrameFor u v page → FindsNoFrameFor u w page
 no-frame-laid u v w page idle f = subst (λ (x : View). FindsNoFrameFor u x page) (sym (idle (ap (λ (x : View). x.hand) f.none.view ∙ f.hands))) f
 
-stops-laid : (u : View) (part : LanePart) (v w : View) (hand : Option Held) (end : ℕ) (op : Op) (why : Stop) → IsLaidDown v w → (v.hand ≡ None → w ≡ v) → ((e : ℕ) → (s : Layout) → ShowsPages w None e s → ShowsPages v hand e s) → StopsOp u part v hand end op why → StopsOp u part w None end op why
+pub stops-laid : (u : View) (part : LanePart) (v w : View) (hand : Option Held) (end : ℕ) (op : Op) (why : Stop) → IsLaidDown v w → (v.hand ≡ None → w ≡ v) → ((e : ℕ) → (s : Layout) → ShowsPages w None e s → ShowsPages v hand e s) → StopsOp u part v hand end op why → StopsOp u part w None end op why
 stops-laid u part v w hand end op stop.End laid idle back stops = absurd stops
 stops-laid u part v w hand end op stop.NurseryFull laid idle back stops = stops
 stops-laid u part v w hand end op stop.BufferFull laid idle back stops = λ h whole fits. stops h (whole-moved part w v None hand end h back whole) fits
-stops-laid u part v w hand end op (stop.Busy page) laid idle back stops = (held-laid u v w page laid stops.0, λ h whole fits. stops.1 h (whole-moved part w v None hand end h back whole) fits)
+stops-laid u part v w hand end op (stop.Busy page) laid idle back stops = (busy-laid u v w page laid stops.0, λ h whole fits. stops.1 h (whole-moved part w v None hand end h back whole) fits)
 stops-laid u part v w hand end op stop.NoFrame laid idle back stops = (stops.0, no-frame-laid u v w stops.0 idle stops.1, λ h whole fits. stops.2 h (whole-moved part w v None hand end h back whole) fits)
+stops-laid u part v w hand end op (stop.Gone page) laid idle back stops = (gone-laid u v w page laid stops.0, λ h whole fits. stops.1 h (whole-moved part w v None hand end h back whole) fits)
+stops-laid u part v w hand end op (stop.Moved page) laid idle back stops = (moved-laid u v w page laid stops.0, λ h whole fits. stops.1 h (whole-moved part w v None hand end h back whole) fits)
 
 pub why-laid : (u : View) (ops : List Op) (turn : LaneTurn) (v w : View) (hand : Option Held) (end : ℕ) (why : Stop) → IsLaidDown v w → (v.hand ≡ None → w ≡ v) → ((e : ℕ) → (s : Layout) → ShowsPages w None e s → ShowsPages v hand e s) → WhyStopped u ops end turn v hand why → WhyStopped u ops end turn w None why
 why-laid u ops turn v w hand end why laid idle back is = elim is [

@@ -2,12 +2,13 @@
 use Rattle.std.specs.Prelude.{◌≡◌, ℕ, List, [], ◌∷◌}
 use Rattle.bc_model.specs.declared.operations.Op.{Op}
 use Rattle.bc_model.specs.declared.operations.Reply.{Reply}
+use Rattle.bc_model.specs.declared.values.Holder.{Holder}
 use Rattle.bc_mutator.specs.Effects.{DidOperation}
 use Rattle.bc_whole_heap.specs.Heaps.{HeapView}
 
 -- from the first heap to the last each operation was done, in order, and answered its reply. The lane had `serial` births before
 -- and has `next` after
-abbrev pub DidAll : List ℕ → ℕ → List Op → List Reply → HeapView → ℕ → HeapView → ℕ → Type 0
+abbrev pub DidAll : List Holder → ℕ → List Op → List Reply → HeapView → ℕ → HeapView → ℕ → Type 0
 DidAll holders lane [] [] h serial k next = (k ≡ h) × (next ≡ serial)
 DidAll holders lane [] (reply ∷ replies) h serial k next = ⊥
 DidAll holders lane (op ∷ ops) [] h serial k next = ⊥

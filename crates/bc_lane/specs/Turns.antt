@@ -1,9 +1,9 @@
 -- A lane's turn: which whole heaps what the lane has may belong to, what its seat and the table are, and what is done.
-use Rattle.std.specs.Prelude.{◌≡◌, ◌≢◌, ◌⊎◌, ℕ, ◌+◌, ◌-◌, ◌*◌, ◌/◌, ◌^◌, ◌<◌, ◌≤◌, ◌==◌, true, List, ◌∷◌, [], ◌++◌, length, map, take, drop, Option, Some, None, Vec, slice_index, slice_index_or, vec_capacity}
+use Rattle.std.specs.Prelude.{◌≡◌, ◌≢◌, ◌⊎◌, ℕ, ◌+◌, ◌-◌, ◌*◌, ◌/◌, ◌^◌, ◌<◌, ◌≤◌, Bool, true, false, List, ◌∷◌, [], ◌++◌, length, map, take, drop, Option, Some, None, Vec, slice_index, slice_index_or, vec_capacity}
 use Rattle.std.specs.Global.{Global}
-use Rattle.std.specs.List.{AllByRecursion, list_all}
+use Rattle.std.specs.List.{AllByRecursion}
 use Rattle.bc_lane.specs.declared.looking.Looking.{Looking}
-use Rattle.bc_lane.specs.declared.looking.Looking.TheVariants.{Nowhere, Own, Foreign}
+use Rattle.bc_lane.specs.declared.looking.Looking.TheVariants as looking
 use Rattle.bc_lane.specs.declared.parts.LanePart.{LanePart}
 use Rattle.bc_lane.specs.declared.stops.Stop.{Stop}
 use Rattle.bc_lane.specs.declared.stops.Stop.TheVariants as stop
@@ -14,16 +14,17 @@ use Rattle.bc_lane.specs.declared.turns.LaneTurn.{LaneTurn}
 use Rattle.bc_nursery.specs.Entries.{Entries}
 use Rattle.bc_nursery.specs.Nurseries.{Nursery}
 use Rattle.bc_lane.specs.Doing.{DidAll}
-use Rattle.bc_lane.specs.Shown.{ShowsPages, ShowsSlots}
-use Rattle.bc_model.specs.State.{State}
-use Rattle.bc_model.specs.Step.{domains_of}
+use Rattle.bc_lane.specs.Shown.{IsFrozenPage, IsOwnPage, ShowsPages, ShowsSlots}
+use Rattle.bc_model.specs.State.{State, holder_of, lets_read}
 use Rattle.bc_model.specs.declared.operations.Op.{Op}
 use Rattle.bc_model.specs.declared.operations.Reply.{Reply}
+use Rattle.bc_model.specs.declared.values.Holder.{Holder}
+use Rattle.bc_model.specs.declared.values.Holder.TheVariants as holder
 use Rattle.bc_model.specs.declared.values.Slot.{Slot}
 use Rattle.bc_mutator.specs.Effects.{DidOperation}
 use Rattle.bc_mutator.specs.Objects.{MayOperate, slot_word}
-use Rattle.bc_mutator.specs.Operations.{IsOpOf, NeedsEntry, WantsMore}
-use Rattle.bc_mutator.specs.Parts.{IsPartOf, TouchesHand, touched_slot}
+use Rattle.bc_mutator.specs.Operations.{IsOpOf, MayName, NeedsEntry, WantsMore}
+use Rattle.bc_mutator.specs.Parts.{IsPartOf, TouchesHand, touched_slot, writes_field}
 use Rattle.bc_nursery.specs.Objects.{left_of}
 use Rattle.bc_pins.specs.declared.holding.Held.{Held}
 use Rattle.bc_pins.specs.declared.key.Role.TheVariants.{Lane}
@@ -34,7 +35,7 @@ use Rattle.bc_evict.specs.Claiming.{all_bits}
 use Rattle.bc_evict.specs.Victims.{IsPassed}
 use Rattle.bc_pins.specs.Calls.{CountsFetches, HoldsPage, IsAt, IsFree, IsSameWorker, key_of, view_of}
 use Rattle.bc_pins.specs.Contents.{IsBarePage}
-use Rattle.bc_pins.specs.Key.{Key, frame_at, frame_words, lane_role, owner, page_at, pages_of}
+use Rattle.bc_pins.specs.Key.{Key, frame_at, frame_words, owner, owner_role, page_at, pages_of}
 use Rattle.bc_pins.specs.Totals.{times}
 use Rattle.bc_pins.specs.Views.{entries, has_role, opened_state, reads_at, reads_of}
 use Rattle.bc_superpages.specs.declared.headers.PageState.TheVariants.{Absent}
@@ -47,9 +48,9 @@ use Rattle.bc_word.specs.Addresses.{page_of, superpage_of}
 use Rattle.bc_word.specs.declared.addresses.Address.{Address}
 use Rattle.bc_word.specs.declared.words.Word.TheVariants.{Ref}
 
--- the root words that the lane's slots may belong to
+-- the root words that the lane's slots and those of frozen domains may belong to
 abbrev pub SlotsOf : LanePart → RootWords → Type 0
-SlotsOf part r = ShowsSlots part.holders.items part.lane part.slots part.starts.items part.words.items r
+SlotsOf part r = ShowsSlots part.holders.items part.lane part.slots part.shared.value part.starts.items part.words.items r
 
 -- a whole heap to which belongs what the lane has, with this page in hand and a seat of this view. The lane may operate on it,
 -- and it stands for a state in which the lane has its number of births
@@ -65,6 +66,7 @@ pub record SamePart (old new : LanePart) : Type 0 where
   pub domains : new.domains ≡ old.domains
   pub slots : new.slots ≡ old.slots
   pub starts : new.starts ≡ old.starts
+  pub shared : new.shared ≡ old.shared
 
 -- where the words of each domain's slots begin. The list names no domain twice
 abbrev pub AreStarts : List ℕ → ℕ → ℕ → List ℕ → Type 0
@@ -73,19 +75,20 @@ AreStarts domains slots count starts =
     → (i : ℕ) → i < length domains → slice_index starts (slice_index domains i) ≡ i * slots)
 
 -- room for what a lane takes into a turn, where it holds these domains, and each domain has so many slots
-pub record IsRoomOf (holders domains : List ℕ) (slots : ℕ) (room : LaneRoom) : Type 0 where
+pub record IsRoomOf (holders : List Holder) (domains : List ℕ) (slots : ℕ) (room : LaneRoom) : Type 0 where
   pub holders_are : room.holders.items ≡ holders
   pub slots_are : room.slots ≡ slots
   pub starts : AreStarts domains slots (length holders) room.starts.items
 
--- what a lane takes into a turn, in which it is to do so many operations and has done those that have replies
-pub record IsPreparedTurn (lane : ℕ) (holders : List ℕ) (slots : ℕ) (roots : LaneRoots) (chunk : Nursery) (buffer : Entries) (serial : ℕ) (replies : Vec Reply Global) (count : ℕ) (turn : LaneTurn) : Type 0 where
+-- what a lane takes into a turn, in which it is to do so many operations and has done those that have replies. It shares these root words
+pub record IsPreparedTurn (lane : ℕ) (holders : List Holder) (slots : ℕ) (shared : RootWords) (roots : LaneRoots) (chunk : Nursery) (buffer : Entries) (serial : ℕ) (replies : Vec Reply Global) (count : ℕ) (turn : LaneTurn) : Type 0 where
   pub lane_is : turn.part.lane ≡ lane
   pub holders_are : turn.part.holders.items ≡ holders
   pub domains : turn.part.domains ≡ roots.domains
   pub slots_are : turn.part.slots ≡ slots
   pub words : turn.part.words ≡ roots.words
   pub starts : AreStarts roots.domains.items slots (length holders) turn.part.starts.items
+  pub shared_is : turn.part.shared.value ≡ shared
   pub chunk_is : turn.part.chunk ≡ chunk
   pub buffer_is : turn.part.buffer ≡ buffer
   pub serial_is : turn.part.serial ≡ serial
@@ -104,10 +107,11 @@ pub record IsFinished (turn : LaneTurn) (done : LaneDone) : Type 0 where
   pub replies : done.replies ≡ turn.replies
   pub room : done.room ≡ record { holders = turn.part.holders; starts = turn.part.starts; slots = turn.part.slots }
 
--- the table is one for lanes, who hold the domains so. Pages past its end are Absent
-pub record IsLaneTable (k : Key) (holders : List ℕ) : Type 0 where
+-- the table is one for lanes, who hold the domains so, and no seat's role is that of nobody. Pages past its end are Absent
+pub record IsLaneTable (k : Key) (holders : List Holder) : Type 0 where
   pub lanes : k.lanes ≡ true
-  pub owners : k.owners ≡ map lane_role holders
+  pub owners : k.owners ≡ map owner_role holders
+  pub nobody : times 0 k.roles ≡ 0
   pub behind : (page : ℕ) → pages_of k ≤ page → opened_state k page ≡ Absent
 
 -- what a lane has in hand its seat has: this page, or none
@@ -115,10 +119,11 @@ abbrev pub HasInHand : Seat → Option Held → Type 0
 HasInHand seat None = IsFree seat
 HasInHand seat (Some held) = HoldsPage seat held
 
--- the seat is this lane's, at this table, with this page in hand, and has no right to a frame
+-- the seat is this lane's, and not nobody's, at this table, with this page in hand, and has no right to a frame
 pub record IsLaneSeat (pins : Pins) (lane : ℕ) (seat : Seat) (hand : Option Held) : Type 0 where
   pub at : IsAt pins seat
   pub role : seat.role ≡ Lane lane
+  pub somebody : has_role (view_of seat) 0 ≡ 0
   pub hands : HasInHand seat hand
   pub rights : (view_of seat).rights ≡ []
 
@@ -141,9 +146,39 @@ pub record ReadsHeld (v w : View) (page : ℕ) : Type 0 where
   pub since : length v.read < length w.read
   pub noted : 0 < times page w.busy
 
--- the page in hand was put back, if there was one: nothing else changed but what the seat records of its page
+-- the word of a page of a frozen domain was read since, and said last that the page is in another's hands
+pub record ReadsFrozenHeld (v w : View) (page : ℕ) : Type 0 where
+  pub frozen : IsFrozenPage w page
+  pub last : ReadLast w page 3
+  pub since : length v.read < length w.read
+
+-- the word of a page of a frozen domain was read since, and said that the page is Gone
+pub record ReadsFrozenGone (v w : View) (page : ℕ) : Type 0 where
+  pub frozen : IsFrozenPage w page
+  pub before : List (ℕ × ℕ)
+  pub later : List (ℕ × ℕ)
+  pub gone : w.read ≡ later ++ (page_at page, 4) ∷ (before ++ v.read)
+
+-- a page's word was read since, and said last that the page is Home
+pub record ReadsHome (v w : View) (page : ℕ) : Type 0 where
+  pub between : List (ℕ × ℕ)
+  pub later : List (ℕ × ℕ)
+  pub reads : w.read ≡ later ++ (page_at page, 1) ∷ (between ++ v.read)
+  pub once : (reads_at page between ≡ []) × (reads_at page later ≡ [])
+
+-- the word of a page of a frozen domain was read since, and said that the page is Gone, and at the next step on it, which was the last one,
+-- that it is Home: another lane brought it back
+pub record ReadsFrozenMoved (v w : View) (page : ℕ) : Type 0 where
+  pub frozen : IsFrozenPage w page
+  pub before : List (ℕ × ℕ)
+  pub between : List (ℕ × ℕ)
+  pub later : List (ℕ × ℕ)
+  pub reads : w.read ≡ later ++ (page_at page, 1) ∷ (between ++ (page_at page, 4) ∷ (before ++ v.read))
+  pub once : (reads_at page between ≡ []) × (reads_at page later ≡ [])
+
+-- the page in hand was put back, if there was one: nothing else changed but what the seat records of its page, or that it returned it
 abbrev pub IsLaidDown : View → View → Type 0
-IsLaidDown v w = w ≡ record v { hand = None; changed = w.changed; recorded = w.recorded }
+IsLaidDown v w = w ≡ record v { hand = None; changed = w.changed; recorded = w.recorded; returned = w.returned }
 
 -- by these looks no frame is free and no page can leave: each frame word was read once and had no clear bit, and the word of each page of
 -- the table was read once, and it was a state in which no page can be taken
@@ -169,18 +204,20 @@ pub record FindsNoFrameFor (v w : View) (page : ℕ) : Type 0 where
   pub none : FindsNoFrameAtAll ready w
   pub noted : 0 < times page w.gone
 
--- a seat read on, took and put back pages of the table, reloaded own pages that were Gone, and made pages Gone or Absent for their
--- frames, no more than it reloaded. A page that isn't its own it made Gone or Absent as often as it read it as Home; none such it
--- reloaded, put back as Remembered or recorded. It has the rights to frames that it had, counted no superpage, and returned no page
+-- a seat read on, took and put back pages of the table, reloaded pages that were Gone, own ones and those of frozen domains, and made
+-- pages Gone or Absent for their frames, no more than it reloaded. A page of another lane's it made Gone or Absent as often as it read it
+-- as Home, and none such it reloaded; and none that isn't its own it put back as Remembered or recorded. It has the rights to frames that
+-- it had, counted no superpage, and returned no page but those of frozen domains
 pub record ReadsOn (v w : View) : Type 0 where
-  pub same : w ≡ record v { hand = w.hand; changed = w.changed; recorded = w.recorded; seen = w.seen; gone = w.gone; busy = w.busy; read = w.read; left = w.left; emptied = w.emptied; fetched = w.fetched; bookmarked = w.bookmarked }
+  pub same : w ≡ record v { hand = w.hand; changed = w.changed; recorded = w.recorded; returned = w.returned; seen = w.seen; gone = w.gone; busy = w.busy; read = w.read; left = w.left; emptied = w.emptied; fetched = w.fetched; bookmarked = w.bookmarked }
   pub more : List (ℕ × ℕ)
   pub read : w.read ≡ more ++ v.read
   pub behind : (page : ℕ) → pages_of v.about ≤ page → (entries page w.changed ≡ entries page v.changed) × (times page w.recorded ≡ times page v.recorded)
   pub others : (page : ℕ) → has_role v (owner v.about page) ≡ 0 → (entries page w.changed ≡ entries page v.changed) × (times page w.recorded ≡ times page v.recorded)
-  pub foreign : (page : ℕ) → page < pages_of v.about → has_role v (owner v.about page) ≡ 0
+  pub foreign : (page : ℕ) → page < pages_of v.about → has_role v (owner v.about page) ≡ 0 → owner v.about page ≢ 0
       → times page w.left + times page w.emptied ≡ times 1 (reads_at page more) + (times page v.left + times page v.emptied)
-  pub fetches : (page : ℕ) → has_role v (owner v.about page) ≡ 0 → times page w.fetched ≡ times page v.fetched
+  pub fetches : (page : ℕ) → has_role v (owner v.about page) ≡ 0 → owner v.about page ≢ 0 → times page w.fetched ≡ times page v.fetched
+  pub returned : (page : ℕ) → times page v.returned < times page w.returned → IsFrozenPage v page
   pub far : (page : ℕ) → pages_of v.about ≤ page → (times page w.left ≡ times page v.left) × (times page w.emptied ≡ times page v.emptied) × (times page w.fetched ≡ times page v.fetched)
   pub few : (length w.left + length w.emptied) + length v.fetched ≤ length w.fetched + (length v.left + length v.emptied)
 
@@ -222,41 +259,78 @@ pub record IsSameLane (old new : Seat) : Type 0 where
 abbrev pub IsNextOp : List Op → ℕ → (Op → Type 0) → Type 0
 IsNextOp ops next P = (op : Op) × (next < length ops) × (op ≡ slice_index_or ops next op) × P op
 
--- the lane holds all domains that the operation names
-abbrev pub LaneHoldsAll : LanePart → Op → Type 0
-LaneHoldsAll part op = list_all (λ d. slice_index part.holders.items d == part.lane) (domains_of op) ≡ true
+-- the lane may read all slots that the operation names, and write the one that it writes
+abbrev pub LaneMayName : LanePart → Op → Type 0
+LaneMayName part op = MayName part.holders.items part.lane op
 
 -- what the operation looks at, if at a cell, lies on pages of which this is true
 abbrev pub LeadsToPageWhere : LanePart → ℕ → Op → (ℕ → Type 0) → Type 0
 LeadsToPageWhere part end op P = (v : View) → (hand : Option Held) → TouchesHand (ShowsPages v hand end) (SlotsOf part) P (touched_slot op)
 
--- the operation looks at a cell of a domain that the lane holds, on this page of the table
-pub record LooksOwn (part : LanePart) (k : Key) (end : ℕ) (op : Op) (page : ℕ) : Type 0 where
-  pub held : LaneHoldsAll part op
+-- the operation looks at a cell on this page of the table, of a domain that has this holder
+pub record LooksReadable (part : LanePart) (k : Key) (end : ℕ) (op : Op) (who : Holder) (page : ℕ) : Type 0 where
+  pub named : LaneMayName part op
   pub leads : LeadsToPageWhere part end op (λ q. q ≡ page)
   pub inside : page < pages_of k
   pub domain : slice_index k.opening.domains (page / 4) < length part.holders.items
-  pub owned : slice_index part.holders.items (slice_index k.opening.domains (page / 4)) ≡ part.lane
+  pub owned : holder_of part.holders.items (slice_index k.opening.domains (page / 4)) ≡ who
   pub cell : IsBarePage k.opening page → ⊥
   pub looks : (v : View) → (hand : Option Held) → (h : HeapView) → v.about ≡ k → IsWhole part v hand end h → IsOpOf h.roots op → LooksOn h op page
 
--- the operation looks at a cell of a domain that another lane holds, on this page of the table
-pub record LooksForeign (h : HeapView) (holders : List ℕ) (lane : ℕ) (op : Op) : Type 0 where
+-- the operation looks at a cell of a domain that another lane holds, which this lane may not read
+pub record LooksForeign (h : HeapView) (holders : List Holder) (lane : ℕ) (op : Op) : Type 0 where
   pub at : Address
   pub looks : LooksAtObject h.roots (touched_slot op) at
   pub there : IsAllocated h.space at.0
-  pub foreign : slice_index holders (slice_index h.space.domains (superpage_of at.0)) ≢ lane
+  pub foreign : lets_read (holder_of holders (slice_index h.space.domains (superpage_of at.0))) lane ≡ false
+
+-- the operation would write a field of a cell of a frozen domain
+pub record LooksSealed (h : HeapView) (holders : List Holder) (op : Op) : Type 0 where
+  pub at : Address
+  pub looks : LooksAtObject h.roots (touched_slot op) at
+  pub there : IsAllocated h.space at.0
+  pub frozen : holder_of holders (slice_index h.space.domains (superpage_of at.0)) ≡ holder.Frozen
+  pub writes : writes_field op ≡ true
+
+-- this is true of every whole heap to which what the lane has belongs
+abbrev pub InEachWhole : LanePart → Key → ℕ → Op → (HeapView → Type 0) → Type 0
+InEachWhole part k end op P = (v : View) → (hand : Option Held) → (h : HeapView) → v.about ≡ k → IsWhole part v hand end h → IsOpOf h.roots op → P h
 
 -- what is known of where an operation looks
 abbrev pub LooksTold : LanePart → Key → ℕ → Op → Looking → Type 0
-LooksTold part k end op Nowhere = LaneHoldsAll part op → LeadsToPageWhere part end op (λ _. ⊥)
-LooksTold part k end op (Own page) = LooksOwn part k end op page
-LooksTold part k end op Foreign = LaneHoldsAll part op × ((v : View) → (hand : Option Held) → (h : HeapView) → v.about ≡ k → IsWhole part v hand end h → IsOpOf h.roots op
-    → LooksForeign h part.holders.items part.lane op)
+LooksTold part k end op looking.Nowhere = LaneMayName part op → LeadsToPageWhere part end op (λ _. ⊥)
+LooksTold part k end op (looking.Own page) = LooksReadable part k end op (holder.Lane part.lane) page
+LooksTold part k end op (looking.Frozen page) = LooksReadable part k end op holder.Frozen page
+LooksTold part k end op looking.Foreign = LaneMayName part op × InEachWhole part k end op (λ h. LooksForeign h part.holders.items part.lane op)
+LooksTold part k end op looking.Sealed = LaneMayName part op × InEachWhole part k end op (λ h. LooksSealed h part.holders.items op)
 
--- a page couldn't be brought: the stop is what was read since
+-- an own page couldn't be brought: the stop is what was read since
+abbrev pub IsRefusedOwn : View → View → ℕ → Stop → Type 0
+IsRefusedOwn v w page why = ((why ≡ stop.Busy page) × ReadsHeld v w page) ⊎ ((why ≡ stop.NoFrame) × FindsNoFrameFor v w page)
+
+-- one of a frozen domain couldn't be brought
+abbrev pub IsRefusedFrozen : View → View → ℕ → Stop → Type 0
+IsRefusedFrozen v w page why =
+    ((why ≡ stop.Busy page) × ReadsFrozenHeld v w page)
+    ⊎ (((why ≡ stop.Gone page) × ReadsFrozenGone v w page) ⊎ ((why ≡ stop.Moved page) × ReadsFrozenMoved v w page))
+
+-- the page couldn't be brought, which is of a frozen domain or the lane's own
 abbrev pub IsRefusedPage : View → View → ℕ → Stop → Type 0
-IsRefusedPage v w page why = ((why ≡ stop.Busy page) × ReadsHeld v w page) ⊎ ((why ≡ stop.NoFrame) × FindsNoFrameFor v w page)
+IsRefusedPage v w page why = IsRefusedOwn v w page why ⊎ IsRefusedFrozen v w page why
+
+-- the page is one of a frozen domain, so no seat has the role of who holds it
+abbrev pub IsNobodysPage : View → ℕ → Type 0
+IsNobodysPage v page = IsFrozenPage v page × (times (owner v.about page) v.about.roles ≡ 0)
+
+-- the page is one of a frozen domain, or else the lane's own
+abbrev pub IsPageOf : View → ℕ → Bool → Type 0
+IsPageOf v page true = IsNobodysPage v page
+IsPageOf v page false = IsOwnPage v page
+
+-- who holds the page's domain then
+abbrev pub holder_if : Bool → ℕ → Holder
+holder_if true lane = holder.Frozen
+holder_if false lane = holder.Lane lane
 
 -- an operation of the lane was done and answered, in every whole heap
 abbrev pub DoesOne : LanePart → View → Option Held → LanePart → View → Option Held → ℕ → Op → Reply → Type 0
@@ -276,8 +350,10 @@ abbrev pub StopsOp : View → LanePart → View → Option Held → ℕ → Op �
 StopsOp v part w hand end op stop.End = ⊥
 StopsOp v part w hand end op stop.NurseryFull = WantsMore part.holders.items part.lane (left_of part.chunk) op
 StopsOp v part w hand end op stop.BufferFull = (h : HeapView) → IsWhole part w hand end h → IsOpOf h.roots op → NeedsEntry part.holders.items part.lane h.space h.roots part.chunk part.buffer op
-StopsOp v part w hand end op (stop.Busy page) = ReadsHeld v w page × LooksOnIn part w hand end op page
+StopsOp v part w hand end op (stop.Busy page) = (ReadsHeld v w page ⊎ ReadsFrozenHeld v w page) × LooksOnIn part w hand end op page
 StopsOp v part w hand end op stop.NoFrame = (page : ℕ) × FindsNoFrameFor v w page × LooksOnIn part w hand end op page
+StopsOp v part w hand end op (stop.Gone page) = ReadsFrozenGone v w page × LooksOnIn part w hand end op page
+StopsOp v part w hand end op (stop.Moved page) = ReadsFrozenMoved v w page × LooksOnIn part w hand end op page
 
 -- why a lane stops before the operation of this number: at its end, or since that operation isn't done
 abbrev pub WhyStopped : View → List Op → ℕ → LaneTurn → View → Option Held → Stop → Type 0

@@ -1,6 +1,6 @@
 //! The mature cells that a lane has in hand in a turn: those of the page that it took.
 
-ghost use Rattle.bc_lane.specs.Shown.{HasPage, ShowsPages};
+ghost use Rattle.bc_lane.specs.Shown.{HasPage, IsOwnPage, ShowsPages};
 
 use crate::stations::Station;
 use bc_mutator::Cells;
@@ -8,8 +8,8 @@ use bc_pins::Held;
 use bc_word::{Address, Head, Word, pack, unpack, unpack_head};
 use std::marker::PhantomData;
 
-/// The cells of the page in hand, if there is one. They may belong to each space that has of every own page what is at the
-/// table or in hand.
+/// The cells of the page in hand, if there is one. They may belong to each space that has of every page that the lane may read what is
+/// at the table or in hand.
 pub(crate) struct PinnedCells<S> {
     pub(crate) hand: Option<Held>,
     /// Where the superpages end, as an address in words.
@@ -22,8 +22,17 @@ impl<S: Station> Cells for PinnedCells<S> {
 
     ghost at_hand = { λ cells page. HasPage cells.hand page };
 
+    // A page of a frozen domain is read alone.
+    ghost is_own = { λ cells page. HasPage cells.hand page × IsOwnPage S.view page };
+
+    ghost knows = { λ cells page. HasPage cells.hand page };
+
     fn end(&self) -> u32 {
         self.end
+    }
+
+    fn domain(&self, cell: Address) -> u32 {
+        self.head(cell).domain
     }
 
     fn head(&self, cell: Address) -> Head {

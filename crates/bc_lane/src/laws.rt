@@ -8,6 +8,7 @@ ghost use Rattle.bc_lane.specs.declared.turns.LaneTurn.{LaneTurn};
 ghost use Rattle.bc_lane.specs.Back.{all_back, heap_back};
 ghost use Rattle.bc_lane.specs.Turns.{IsWhole, SlotsOf};
 ghost use Rattle.bc_model.specs.State.{State};
+ghost use Rattle.bc_model.specs.declared.values.Holder.{Holder};
 ghost use Rattle.bc_mutator.specs.Objects.{MayOperate, own_chunk};
 ghost use Rattle.bc_pins.specs.Key.{Key};
 ghost use Rattle.bc_pins.specs.Steps.{fresh};
@@ -41,8 +42,8 @@ pub fn law_all_back()
     ensures moves { (s : Layout) → IsSummarised s → MovesPages s (all_back s) }
     ensures account { (s : Layout) → s.free + (s.nursery + resident_count s) ≡ s.frames
         → s.free + (s.nursery + resident_count (all_back s)) ≡ s.frames + count_below (gone_in s) (4 * superpages s) }
-    ensures running { (h : HeapView) → (holders : List ℕ) → IsRunning h holders → IsRunning (heap_back h) holders }
-    ensures operates { (h : HeapView) → (holders : List ℕ) → (lane : ℕ) → MayOperate h holders lane → MayOperate (heap_back h) holders lane }
-    ensures stands { (h : HeapView) → (holders serials : List ℕ) → (state : State) → IsRunning h holders → StandsAs h holders serials state
+    ensures running { (h : HeapView) → (holders : List Holder) → IsRunning h holders → IsRunning (heap_back h) holders }
+    ensures operates { (h : HeapView) → (holders : List Holder) → (lane : ℕ) → MayOperate h holders lane → MayOperate (heap_back h) holders lane }
+    ensures stands { (h : HeapView) → (holders : List Holder) → (serials : List ℕ) → (state : State) → IsRunning h holders → StandsAs h holders serials state
         → StandsAs (heap_back h) holders serials state }
 {}

@@ -5,16 +5,18 @@ ghost use Rattle.bc_lane.specs.Turns.{AreStarts, IsFinished, IsPreparedTurn, IsR
 
 use crate::parts::LanePart;
 use crate::turns::{LaneDone, LaneRoom, LaneRoots, LaneTurn};
-use bc_model::{Op, Reply};
+use bc_model::{Holder, Op, Reply};
 use bc_nursery::{Chunk, WriteBuffer};
+use bc_superpages::Roots;
 use std::alloc::{AllocError, Global};
+use std::snapshot::Snapshot;
 
 impl LaneRoom {
-    /// Room for what a lane takes into a turn. `holders` has the lane of each domain, and `domains` those that this lane holds,
+    /// Room for what a lane takes into a turn. `holders` names who holds each domain, and `domains` those that this lane holds,
     /// in ascending order; each has `slots` root slots.
     pub fn take(
         alloc: Global,
-        holders: &[u32],
+        holders: &[Holder],
         domains: &[u32],
         slots: u32,
     ) -> Result<LaneRoom, AllocError>
@@ -36,7 +38,7 @@ impl LaneRoom {
 impl LaneTurn {
     /// What the lane takes into a turn. `room` was taken for the domains of `roots`, which has a word for each of their slots;
     /// `serial` is the number of the lane's births. `replies` are those to the first operations of `ops`, which are done, and has
-    /// room for those to the others. It takes no memory.
+    /// room for those to the others. `shared` has the root slots of frozen domains, which the lane reads in the turn. It takes no memory.
     pub fn prepare(
         room: LaneRoom,
         lane: u32,
@@ -46,12 +48,13 @@ impl LaneTurn {
         serial: u32,
         replies: Vec<Reply>,
         ops: &[Op],
+        shared: &Roots,
     ) -> LaneTurn
         requires room { IsRoomOf room.holders.items roots.domains.items room.slots room }
         requires words { length roots.words.items ≡ length roots.domains.items * room.slots }
         requires done { length replies.items ≤ length ops.now }
         requires capacity { length ops.now ≤ vec_capacity replies }
-        ensures prepared { IsPreparedTurn lane room.holders.items room.slots roots chunk buffer serial replies (length ops.now) result }
+        ensures prepared { IsPreparedTurn lane room.holders.items room.slots shared.now roots chunk buffer serial replies (length ops.now) result }
     {
         let LaneRoom {
             holders,
@@ -67,6 +70,7 @@ impl LaneTurn {
                 slots,
                 starts,
                 words,
+                shared: Snapshot::of(shared),
                 chunk,
                 buffer,
                 serial,
@@ -108,6 +112,7 @@ impl LaneTurn {
             slots,
             starts,
             words,
+            shared: _,
             chunk,
             buffer,
             serial,

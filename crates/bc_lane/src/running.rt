@@ -16,11 +16,22 @@ use crate::turns::LaneTurn;
 use bc_gates::Gate;
 use bc_model::{Op, Reply};
 use bc_pins::{Held, Pins, Seat};
+use bc_superpages::Roots;
 
 impl LaneTurn {
     /// Does the lane's operations, from the first that isn't done, until all are done or one can't be yet. `ops` are those that
-    /// `prepare` was given. It takes no memory and doesn't wait, and has no page in hand afterwards.
-    pub fn run<G: Gate>(&mut self, pins: &Pins, seat: &mut Seat, ops: &[Op], gate: &G) -> Stop
+    /// `prepare` was given, and `shared` the root slots: of those it reads the ones of frozen domains. It takes no memory and doesn't wait,
+    /// but for a page of a frozen domain that another lane reads, which it tries to take a bounded number of times; and it has no page in
+    /// hand afterwards.
+    pub fn run<G: Gate>(
+        &mut self,
+        pins: &Pins,
+        seat: &mut Seat,
+        ops: &[Op],
+        shared: &Roots,
+        gate: &G,
+    ) -> Stop
+        requires shared { self.old.part.shared.value ≡ shared.now }
         requires going { IsGoing pins.now ops.now self.old seat.old None }
         requires whole { (h : HeapView) × IsWhole self.old.part (view_of seat.old) None (end_of h.space) h × AllByRecursion (IsOpOf h.roots) ops.now }
         ensures ran { (h : HeapView) → IsWhole self.old.part (view_of seat.old) None (end_of h.space) h
@@ -34,7 +45,7 @@ impl LaneTurn {
     {
         let end = pins.end();
         let mut hand = None;
-        let why = run_to_stop(self, pins, seat, &mut hand, end, ops, gate);
+        let why = run_to_stop(self, pins, seat, &mut hand, end, ops, shared, gate);
         put_hand_back(pins, seat, &mut hand);
         why
     }
@@ -48,8 +59,10 @@ fn run_to_stop<G: Gate>(
     hand: &mut Option<Held>,
     end: u32,
     ops: &[Op],
+    shared: &Roots,
     gate: &G,
 ) -> Stop
+    requires shared { turn.old.part.shared.value ≡ shared.now }
     requires going { IsGoing pins.now ops.now turn.old seat.old hand.old }
     requires whole { (h : HeapView) × IsWhole turn.old.part (view_of seat.old) hand.old end h × AllByRecursion (IsOpOf h.roots) ops.now }
     ensures ran { LaneRan ops.now end turn.old (view_of seat.old) hand.old turn.new (view_of seat.new) hand.new }
@@ -60,7 +73,7 @@ fn run_to_stop<G: Gate>(
     ensures seat { IsSameLane seat.old seat.new }
 {
     'operations: while turn.next < ops.len() {
-        if let Err(why) = operate_next(turn, pins, seat, hand, end, ops, gate) {
+        if let Err(why) = operate_next(turn, pins, seat, hand, end, ops, shared, gate) {
             return why;
         }
     }
@@ -75,8 +88,10 @@ fn operate_next<G: Gate>(
     hand: &mut Option<Held>,
     end: u32,
     ops: &[Op],
+    shared: &Roots,
     gate: &G,
 ) -> Result<(), Stop>
+    requires shared { turn.old.part.shared.value ≡ shared.now }
     requires going { IsGoing pins.now ops.now turn.old seat.old hand.old }
     requires whole { (h : HeapView) × IsWhole turn.old.part (view_of seat.old) hand.old end h × AllByRecursion (IsOpOf h.roots) ops.now }
     requires more { turn.old.next < length ops.now }
@@ -89,7 +104,8 @@ fn operate_next<G: Gate>(
     ensures seat { IsSameLane seat.old seat.new }
 {
     gate.at(turn.part.lane, 1);
-    let reply = operate_or_stop(&mut turn.part, pins, seat, hand, end, &ops[turn.next], gate)?;
+    let op = &ops[turn.next];
+    let reply = operate_or_stop(&mut turn.part, pins, seat, hand, end, op, shared, gate)?;
     keep(turn, reply);
     gate.at(turn.part.lane, 2);
     Ok(())

@@ -11,6 +11,12 @@ pub enum Stop {
     BufferFull,
     /// The next operation looks at an object on this page, which somebody else has in hand.
     Busy(u32),
-    /// The next operation looks at an object on a page that is gone, and there was no frame for it: none was free, and no page could leave.
+    /// The next operation looks at an object on an own page that is gone, and there was no frame for it: none was free, and no page could
+    /// leave.
     NoFrame,
+    /// The next operation looks at an object on this page of a frozen domain, which was gone, and couldn't be brought back: no frame was
+    /// free for it, or another lane has it.
+    Gone(u32),
+    /// The next operation looks at an object on this page of a frozen domain, which was gone, and another lane brought it back first.
+    Moved(u32),
 }

@@ -3,7 +3,7 @@
 ghost use Rattle.std.specs.Prelude.{◌+◌, ◌≤◌, length, vec_capacity};
 
 use crate::parts::LanePart;
-use bc_model::Reply;
+use bc_model::{Holder, Reply};
 use bc_nursery::{Chunk, WriteBuffer};
 
 /// The root slots of a lane's domains.
@@ -19,8 +19,8 @@ pub struct LaneRoots {
 /// memory.
 #[derive(Drop)]
 pub struct LaneRoom {
-    /// By domain, the lane that holds it.
-    pub(crate) holders: Vec<u32>,
+    /// By domain, who holds it.
+    pub(crate) holders: Vec<Holder>,
     /// By domain, where the words of its slots begin, if it is the lane's.
     pub(crate) starts: Vec<u32>,
     /// How many slots a domain has.

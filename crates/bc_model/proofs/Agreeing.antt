@@ -1,24 +1,30 @@
 -- Lane k's part stays the same when other lanes work, and changes alike where lane k does the same in both states.
-use Rattle.std.proofs.Common.{◌≡◌, ◌≢◌, ℕ, ◌+◌, ◌*◌, ◌<◌, true, ◌==◌, List, length, get_or, set, replicate, slice_index_or, refl, sym, ap, ap₂, subst, ◌∙◌, inl, inr, arith, get_or-set_same, get_or-set_other, eqb-true, mul_comm}
+use Rattle.std.proofs.Common.{◌≡◌, ◌≢◌, ℕ, ◌+◌, ◌*◌, ◌<◌, true, List, length, get_or, set, replicate, refl, sym, ap, ap₂, subst, ◌∙◌, inl, inr, arith, get_or-set_same, get_or-set_other, mul_comm}
 use Rattle.std.proofs.lemmas.Bool.{cases_eq}
 use Rattle.std.proofs.lemmas.List.{length_push}
 use Rattle.std.proofs.lemmas.Nat.{mul-add-lt, same_from_place}
 use Rattle.bc_model.specs.Consistent.{IsState}
 use Rattle.bc_model.specs.StateSizes.{sizes_of}
-use Rattle.bc_model.specs.State.{State, Object, IsBorn, made_by, object_of, next_birth, with_born, with_made, with_value, with_slot, with_born_field, place_of, holds}
+use Rattle.bc_model.specs.State.{State, Object, IsBorn, made_by, object_of, next_birth, with_born, with_made, with_value, with_slot, with_born_field, place_of, holder_of, lets_read, reads, writes}
 use Rattle.bc_model.specs.WellFormed.{IsSlot}
+use Rattle.bc_model.specs.declared.values.Holder.{Holder}
 use Rattle.bc_model.specs.declared.values.Birth.{Birth}
 use Rattle.bc_model.specs.declared.values.Slot.{Slot}
 use Rattle.bc_model.specs.declared.values.Value.{Value}
 use Rattle.bc_model.specs.declared.values.Value.TheVariants.{Nil, Obj}
+use Rattle.bc_model.proofs.Holders.{alone_reads, writer-reads}
 use Rattle.bc_model.proofs.Objects.{cases_birth, length-made_by-with_object, IsBorn-from_with_object, object_of-with_object_same, object_of-with_object_other, made_by-with_made_same, made_by-with_made_other, length-with_made, IsBorn-with_made, IsBorn-next_birth, IsBorn-from_with_made, object_of-with_made_same, object_of-with_made_other}
 use Rattle.bc_model.proofs.Steps.{Grows-after_write}
 use Rattle.bc_model.proofs.Effects.{Effect, Keep, Put, Write, Make, after_effect, IsOwn, Agrees, Agrees-itself}
 
--- a domain has one holder
-one_holder : (s : State) (j k d e : ℕ) → holds s j d ≡ true → holds s k e ≡ true → d ≡ e → j ≡ k
+-- who may write a domain alone may read it
+one_holder : (s : State) (j k d e : ℕ) → writes s j d ≡ true → reads s k e ≡ true → d ≡ e → j ≡ k
 one_holder s j k d e h i same =
-    sym (eqb-true _ _ h) ∙ ap (λ (x : ℕ). slice_index_or s.holders x 0) same ∙ eqb-true _ _ i
+    alone_reads (holder_of s.holders e) j k (subst (λ (x : ℕ). writes s j x ≡ true) same h) i
+
+-- who may write a domain may read it
+pub writer_reads : (s : State) (j d : ℕ) → writes s j d ≡ true → reads s j d ≡ true
+writer_reads s j d w = writer-reads (holder_of s.holders d) j w
 
 -- a place is one slot's
 pub same-place : (width : ℕ) (p q : Slot) → p.slot < width → q.slot < width → place_of width p ≡ place_of width q → p ≡ q
@@ -31,8 +37,8 @@ apart : (width : ℕ) (p q : Slot) → p.slot < width → q.slot < width → (p.
 apart width p q hp hq ne e = ne (ap (λ (x : Slot). x.domain) (same-place width p q hp hq e))
 
 -- the same holders hold the same
-holds-same : (s t : State) (k d : ℕ) → t.holders ≡ s.holders → holds s k d ≡ true → holds t k d ≡ true
-holds-same s t k d e h = subst (λ (hs : List ℕ). (slice_index_or hs d 0 == k) ≡ true) (sym e) h
+reads-same : (s t : State) (k d : ℕ) → t.holders ≡ s.holders → reads s k d ≡ true → reads t k d ≡ true
+reads-same s t k d e h = subst (λ (hs : List Holder). lets_read (holder_of hs d) k ≡ true) (sym e) h
 
 -- where a slot of the sizes stands
 pub place-within : (s : State) (p : Slot) → length s.slots ≡ s.width * length s.holders → IsSlot (sizes_of s) p → place_of s.width p < length s.slots
@@ -49,16 +55,16 @@ Agrees-then k a b c g h = record {
   born = λ x m. h.born x (g.born x m);
   domain = λ x m. h.domain x (g.born x m) ∙ g.domain x m;
   object = λ x m held.
-      h.object x (g.born x m) (holds-same a b k _ g.holders (subst (λ (d : ℕ). holds a k d ≡ true) (sym (g.domain x m)) held)) ∙ g.object x m held;
+      h.object x (g.born x m) (reads-same a b k _ g.holders (subst (λ (d : ℕ). reads a k d ≡ true) (sym (g.domain x m)) held)) ∙ g.object x m held;
   mine = λ x m held.
-      let before : IsBorn b.made x = h.mine x m (holds-same a b k _ g.holders held) in
-      g.mine x before (subst (λ (d : ℕ). holds a k d ≡ true) (h.domain x before) held);
+      let before : IsBorn b.made x = h.mine x m (reads-same a b k _ g.holders held) in
+      g.mine x before (subst (λ (d : ℕ). reads a k d ≡ true) (h.domain x before) held);
   slot = λ p fits held.
-      h.slot p (omega (arith, fits.0, ap length g.holders), omega (arith, fits.1, g.width)) (holds-same a b k _ g.holders held) ∙ g.slot p fits held;
+      h.slot p (omega (arith, fits.0, ap length g.holders), omega (arith, fits.1, g.width)) (reads-same a b k _ g.holders held) ∙ g.slot p fits held;
 }
 
 -- another lane writes a slot
-other-put : (k j : ℕ) (s : State) (p : Slot) (v : Value) → j ≢ k → p.slot < s.width → holds s j p.domain ≡ true → Agrees k s (with_slot s p v)
+other-put : (k j : ℕ) (s : State) (p : Slot) (v : Value) → j ≢ k → p.slot < s.width → writes s j p.domain ≡ true → Agrees k s (with_slot s p v)
 other-put k j s p v ne fits own = record {
   width = refl;
   holders = refl;
@@ -74,7 +80,7 @@ other-put k j s p v ne fits own = record {
 }
 
 -- it writes a field
-other-write : (k j : ℕ) (s : State) (c : Birth) (i : ℕ) (v : Value) → j ≢ k → IsBorn s.made c → holds s j (object_of s.made c).domain ≡ true → Agrees k s (with_born_field s c i v)
+other-write : (k j : ℕ) (s : State) (c : Birth) (i : ℕ) (v : Value) → j ≢ k → IsBorn s.made c → writes s j (object_of s.made c).domain ≡ true → Agrees k s (with_born_field s c i v)
 other-write k j s c i v ne born own =
     let o : Object = with_value (object_of s.made c) i v in
     let grows = Grows-after_write s c i v born in
@@ -93,7 +99,7 @@ other-write k j s c i v ne born own =
     }
 
 -- it makes an object
-other-made : (k j : ℕ) (s : State) (o : Object) → j ≢ k → j < length s.made → holds s j o.domain ≡ true → Agrees k s (record s { made = with_made s.made j o })
+other-made : (k j : ℕ) (s : State) (o : Object) → j ≢ k → j < length s.made → writes s j o.domain ≡ true → Agrees k s (record s { made = with_made s.made j o })
 other-made k j s o ne lane own = record {
   width = refl;
   holders = refl;
@@ -149,7 +155,7 @@ own-put k s t p v a hs ht fits =
     }
 
 -- a field
-own-write : (k : ℕ) (s t : State) (c : Birth) (i : ℕ) (v : Value) → Agrees k s t → IsBorn s.made c → holds s k (object_of s.made c).domain ≡ true → Agrees k (with_born_field s c i v) (with_born_field t c i v)
+own-write : (k : ℕ) (s t : State) (c : Birth) (i : ℕ) (v : Value) → Agrees k s t → IsBorn s.made c → writes s k (object_of s.made c).domain ≡ true → Agrees k (with_born_field s c i v) (with_born_field t c i v)
 own-write k s t c i v a born own =
     let os : Object = with_value (object_of s.made c) i v in
     let ot : Object = with_value (object_of t.made c) i v in
@@ -170,16 +176,16 @@ own-write k s t c i v a born own =
           elim (cases_birth x c) [
             | inl e ↦
                 ap (λ (y : Birth). object_of (with_born t.made c ot) y) e ∙ object_of-with_object_same t.made c ot born'
-                ∙ ap (λ (y : Object). with_value y i v) (a.object c born own)
+                ∙ ap (λ (y : Object). with_value y i v) (a.object c born (writer_reads s k _ own))
                 ∙ sym (ap (λ (y : Birth). object_of (with_born s.made c os) y) e ∙ object_of-with_object_same s.made c os born)
             | inr ne ↦
                 object_of-with_object_other t.made c ot x born' (a.born x before) ne
-                ∙ a.object x before (subst (λ (d : ℕ). holds s k d ≡ true) (gs.domain x before) held)
+                ∙ a.object x before (subst (λ (d : ℕ). reads s k d ≡ true) (gs.domain x before) held)
                 ∙ sym (object_of-with_object_other s.made c os x born before ne)
           ];
       mine = λ x m held.
           let before = IsBorn-from_with_object t.made c ot x born' m in
-          gs.born x (a.mine x before (subst (λ (d : ℕ). holds s k d ≡ true) (gt.domain x before) held));
+          gs.born x (a.mine x before (subst (λ (d : ℕ). reads s k d ≡ true) (gt.domain x before) held));
       slot = a.slot;
     }
 
@@ -207,13 +213,13 @@ own-made k s t o a lane =
           elim (IsBorn-from_with_made s.made k o x lane m) [
             | inl before ↦
                 object_of-with_made_other t.made k o x lane' (a.born x before)
-                ∙ a.object x before (subst (λ (y : Object). holds s k y.domain ≡ true) (object_of-with_made_other s.made k o x lane before) held)
+                ∙ a.object x before (subst (λ (y : Object). reads s k y.domain ≡ true) (object_of-with_made_other s.made k o x lane before) held)
                 ∙ sym (object_of-with_made_other s.made k o x lane before)
             | inr e ↦ new_in s t o a lane x e
           ];
       mine = λ x m held.
           elim (IsBorn-from_with_made t.made k o x lane' m) [
-            | inl before ↦ IsBorn-with_made s.made k o x lane (a.mine x before (subst (λ (y : Object). holds s k y.domain ≡ true) (object_of-with_made_other t.made k o x lane' before) held))
+            | inl before ↦ IsBorn-with_made s.made k o x lane (a.mine x before (subst (λ (y : Object). reads s k y.domain ≡ true) (object_of-with_made_other t.made k o x lane' before) held))
             | inr e ↦ subst (λ (y : Birth). IsBorn (with_made s.made k o) y) (sym (e ∙ next)) (IsBorn-next_birth s.made k o lane)
           ];
       slot = a.slot;

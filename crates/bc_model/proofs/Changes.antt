@@ -8,8 +8,8 @@ use Rattle.bc_model.specs.Consistent.{IsState, IsValue}
 use Rattle.bc_model.specs.StateSizes.{sizes_of}
 use Rattle.bc_model.specs.Making.{IsNew}
 use Rattle.bc_model.specs.Refused.{IsRefused}
-use Rattle.bc_model.specs.State.{State, Object, IsBorn, made_by, object_of, next_birth, with_value, with_slot, with_born_field, field_of, slot_of, place_of, holds}
-use Rattle.bc_model.specs.Step.{step, act, domains_of, on_object, on_field, with_new}
+use Rattle.bc_model.specs.State.{State, Object, IsBorn, made_by, object_of, next_birth, with_value, with_slot, with_born_field, field_of, slot_of, place_of, reads, writes}
+use Rattle.bc_model.specs.Step.{step, act, domains_of, on_object, on_field, on_own_field, target_writes, with_new}
 use Rattle.bc_model.specs.Refusals.{IsRefusal}
 use Rattle.bc_model.specs.WellFormed.{IsSlot, IsOp}
 use Rattle.bc_model.specs.declared.operations.Op.{Op}
@@ -22,7 +22,7 @@ use Rattle.bc_model.specs.declared.values.Value.{Value}
 use Rattle.bc_model.specs.declared.values.Value.TheVariants.{Nil, Num, Obj}
 use Rattle.bc_model.proofs.Agreeing.{place-within, same-place}
 use Rattle.bc_model.proofs.Objects.{cases_birth, length-made_by-with_object, object_of-with_object_same, object_of-with_object_other, made_by-with_made_same, object_of-with_made_same, object_of-with_made_other}
-use Rattle.bc_model.proofs.Outcomes.{foreign-where, no_object-where, no_field-where}
+use Rattle.bc_model.proofs.Outcomes.{foreign-where, frozen-where, no_object-where, no_field-where}
 
 -- t is s with a value in a field of the object that the slot refers to
 record HasWritten (s : State) (p : Slot) (i : ℕ) (v : Value) (t : State) : Type 0 where
@@ -62,7 +62,7 @@ Result-on_object : (s : State) (j : ℕ) (o : Op) (v : Value) (f : Birth → Sta
 Result-on_object s j o Nil f h = stays (inl refl) refl
 Result-on_object s j o (Num n) f h = stays (inl refl) refl
 Result-on_object s j o (Obj b) f h =
-    Result-if s j o (holds s j (object_of s.made b).domain) (f b) reply.Foreign (inr (inr refl)) (λ _. h b refl)
+    Result-if s j o (reads s j (object_of s.made b).domain) (f b) reply.Foreign (inr (inr (inl refl))) (λ _. h b refl)
 
 Result-on_field : (s : State) (j : ℕ) (o : Op) (v : Value) (i : ℕ) (f : Birth → State × Reply) → ((b : Birth) → v ≡ Obj b → i < length (object_of s.made b).fields → Result s j o (f b)) → Result s j o (on_field s j v i f)
 Result-on_field s j o v i f h =
@@ -70,16 +70,23 @@ Result-on_field s j o v i f h =
     Result-if s j o (nat_lt i (length (object_of s.made b).fields)) (f b) reply.Range (inr (inl refl)) (λ lt.
     h b e (ltb-true i (length (object_of s.made b).fields) lt)))
 
+Result-on_own_field : (s : State) (j : ℕ) (o : Op) (v : Value) (i : ℕ) (f : Birth → State × Reply) → ((b : Birth) → v ≡ Obj b → i < length (object_of s.made b).fields → Result s j o (f b)) → Result s j o (on_own_field s j v i f)
+Result-on_own_field s j o v i f h =
+    Result-on_object s j o v _ (λ b e.
+    Result-if s j o (writes s j (object_of s.made b).domain) _ reply.Frozen (inr (inr (inr refl))) (λ _.
+    Result-if s j o (nat_lt i (length (object_of s.made b).fields)) (f b) reply.Range (inr (inl refl)) (λ lt.
+    h b e (ltb-true i (length (object_of s.made b).fields) lt))))
+
 Result-act : (s : State) (j : ℕ) (o : Op) → Result s j o (act s j o)
 Result-act s j (op.New p n) = goes refl
 Result-act s j (op.Who p) = goes refl
 Result-act s j (op.Len p) = Result-on_object s j (op.Len p) (slot_of s p) _ (λ b e. goes refl)
 Result-act s j (op.Set p i v) =
-    Result-on_field s j (op.Set p i v) (slot_of s p) i _ (λ b e lt. goes (record { birth = b; object = e; field = lt; state = refl }))
+    Result-on_own_field s j (op.Set p i v) (slot_of s p) i _ (λ b e lt. goes (record { birth = b; object = e; field = lt; state = refl }))
 Result-act s j (op.Cut p i) =
-    Result-on_field s j (op.Cut p i) (slot_of s p) i _ (λ b e lt. goes (record { birth = b; object = e; field = lt; state = refl }))
+    Result-on_own_field s j (op.Cut p i) (slot_of s p) i _ (λ b e lt. goes (record { birth = b; object = e; field = lt; state = refl }))
 Result-act s j (op.Link p i q) =
-    Result-on_field s j (op.Link p i q) (slot_of s p) i _ (λ b e lt. goes (record { birth = b; object = e; field = lt; state = refl }))
+    Result-on_own_field s j (op.Link p i q) (slot_of s p) i _ (λ b e lt. goes (record { birth = b; object = e; field = lt; state = refl }))
 Result-act s j (op.Load p i q) =
     Result-on_field s j (op.Load p i q) (slot_of s p) i _ (λ b e lt. goes (record { birth = b; object = e; state = refl }))
 Result-act s j (op.Copy p q) = goes refl
@@ -88,14 +95,16 @@ Result-act s j (op.Same p q) = goes refl
 
 result : (s : State) (j : ℕ) (o : Op) → Result s j o (step s j o)
 result s j o =
-    Result-if s j o (list_all (holds s j) (domains_of o)) (act s j o) reply.Foreign (inr (inr refl)) (λ _. Result-act s j o)
+    Result-if s j o (list_all (reads s j) (domains_of o)) _ reply.Foreign (inr (inr (inl refl))) (λ _.
+    Result-if s j o (target_writes s j o) (act s j o) reply.Frozen (inr (inr (inr refl))) (λ _. Result-act s j o))
 
 -- where nothing stands against it, it is done
 done : (s : State) (j : ℕ) (o : Op) → ¬ IsRefused s j o → HasDone s j o (step s j o).0
 done s j o free = elim (result s j o) [
-  | stays (inl e) _ ↦ absurd (free (inr (inl ((no_object-where s j o).0 e))))
-  | stays (inr (inl e)) _ ↦ absurd (free (inr (inr ((no_field-where s j o).0 e))))
-  | stays (inr (inr e)) _ ↦ absurd (free (inl ((foreign-where s j o).0 e)))
+  | stays (inl e) _ ↦ absurd (free (inr (inr (inl ((no_object-where s j o).0 e)))))
+  | stays (inr (inl e)) _ ↦ absurd (free (inr (inr (inr ((no_field-where s j o).0 e)))))
+  | stays (inr (inr (inl e))) _ ↦ absurd (free (inl ((foreign-where s j o).0 e)))
+  | stays (inr (inr (inr e))) _ ↦ absurd (free (inr (inl ((frozen-where s j o).0 e))))
   | goes h ↦ h
 ]
 

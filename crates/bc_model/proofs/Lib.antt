@@ -1,6 +1,8 @@
+-- Who may read and write a domain, by its holder
+pub mod Holders
 -- What an object is after a write to it, to another, or after a new one.
 pub mod Objects
--- Writes, new objects and gives keep what is true of every state.
+-- Writes, new objects, gives and freezes keep what is true of every state.
 pub mod States
 -- Lists of lists behind a view
 pub mod Views
@@ -10,7 +12,7 @@ pub mod Effects
 pub mod Steps
 -- The state that a run begins with.
 pub mod Openings
--- Runs of a lane's operations and of gives, one at a time.
+-- Runs of a lane's operations and of gives and freezes, one at a time.
 pub mod Runs
 -- For callers that replay a trace phase by phase
 pub mod Callers
@@ -32,6 +34,8 @@ pub mod Needs
 pub mod NeedFound
 -- Every state of a run of a well-formed trace is one
 pub mod RunStates
+-- In a run of a trace of version 1 no domain is ever frozen.
+pub mod FirstVersion
 -- A cut of a phase answers each lane a prefix of what the whole phase answers it.
 pub mod CutFronts
 -- An operation that is refused changes nothing.
@@ -40,7 +44,7 @@ pub mod Refusals
 pub mod Outcomes
 -- What a step changes, and that all else stays.
 pub mod Changes
--- Each operation takes at most one serial, and a give none.
+-- Each operation takes at most one serial, and a give or a freeze none.
 pub mod Serials
 -- A step from two states that are alike as far as slots lead
 mod Resembling

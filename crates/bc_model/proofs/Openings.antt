@@ -1,13 +1,14 @@
 -- The state that a run begins with.
-use Rattle.std.proofs.Common.{◌≡◌, ℕ, ◌*◌, ◌%◌, ◌^◌, ◌<◌, List, [], length, get_or, replicate, zero, suc, refl, sym, ap, ◌∙◌, inl, inr, arith}
+use Rattle.std.proofs.Common.{◌≡◌, ℕ, ◌*◌, ◌%◌, ◌^◌, ◌<◌, List, [], length, get_or, replicate, zero, suc, refl, sym, ap, subst, ◌∙◌, inl, inr, arith}
 use Rattle.std.proofs.lemmas.Bool.{cases_lt}
 use Rattle.std.proofs.lemmas.List.{get_or-replicate, get_or_past, length-replicate, length-map, get_or-map, length_push}
-use Rattle.bc_model.specs.Consistent.{IsState}
+use Rattle.bc_model.specs.Consistent.{IsState, IsHolder}
 use Rattle.bc_model.specs.StateSizes.{HasSizes, HasSerials}
 use Rattle.bc_model.specs.Run.{opening}
 use Rattle.bc_model.specs.State.{Object, made_by, numbers_below}
 use Rattle.bc_model.specs.WellFormed.{IsSetup}
 use Rattle.bc_model.specs.declared.traces.Setup.{Setup}
+use Rattle.bc_model.specs.declared.values.Holder.TheVariants.{Lane, Frozen}
 use Rattle.bc_model.specs.declared.values.Value.TheVariants.{Nil}
 use Rattle.bc_model.proofs.States.{AreValues-nil}
 
@@ -25,7 +26,7 @@ made_by-opening n j =
 
 -- each domain has a holder at the opening
 pub length-holders : (s : Setup) → length (opening s).holders ≡ s.domains
-length-holders s = length-map (numbers_below s.domains) (λ d. d % s.lanes) ∙ length-numbers_below s.domains
+length-holders s = length-map (numbers_below s.domains) (λ d. Lane (d % s.lanes)) ∙ length-numbers_below s.domains
 
 length-lanes : (s : Setup) → length (opening s).made ≡ s.lanes
 length-lanes s = length-replicate s.lanes []
@@ -46,8 +47,8 @@ IsState-opening s h = record {
   objects = λ b born. absurd (omega (arith, born.serial, born.positive, ap length (made_by-opening s.lanes b.lane)));
   holders = λ d within.
       let positive : 0 < s.lanes = omega (arith, h.lanes.0) in
-      let at : d < length (numbers_below s.domains) = omega (arith, within, length-map (numbers_below s.domains) (λ d. d % s.lanes)) in
-      let value = get_or-map (λ d. d % s.lanes) (numbers_below s.domains) d 0 0 at in
+      let at : d < length (numbers_below s.domains) = omega (arith, within, length-map (numbers_below s.domains) (λ d. Lane (d % s.lanes))) in
+      let value = get_or-map (λ d. Lane (d % s.lanes)) (numbers_below s.domains) d 0 Frozen at in
       let low : get_or (numbers_below s.domains) d 0 % s.lanes < s.lanes = omega (arith, positive) in
-      omega (arith, value, low, length-lanes s);
+      subst (IsHolder (length (opening s).made)) (sym value) (omega (arith, low, length-lanes s));
 }

@@ -2,9 +2,10 @@
 use Rattle.std.proofs.Common.{◌≡◌, ◌≢◌, ◌⊎◌, ◌↔◌, ℕ, ◌<◌, Bool, true, false, ◌&&◌, nat_lt, if◌then◌else◌, length, refl, sym, ap, ap₂, subst, ◌∙◌, inl, inr, eqb-true, ltb-true, ltb-false, arith}
 use Rattle.std.specs.List.{list_all}
 use Rattle.std.proofs.lemmas.Bool.{and_parts}
-use Rattle.bc_model.specs.Refused.{NamesSlot, NeedsField, NeedsObject, LooksAt, HoldsAll, LacksDomain, LacksObject, LacksField, IsRefused, IsChange, Tells, TellsKind}
-use Rattle.bc_model.specs.State.{State, object_of, next_birth, slot_of, field_of, holds}
-use Rattle.bc_model.specs.Step.{step, act, domains_of, on_object, on_field, told, loaded, is_same}
+use Rattle.bc_model.specs.Changes.{WritesSlot}
+use Rattle.bc_model.specs.Refused.{NamesSlot, NeedsField, NeedsObject, LooksAt, WritesObject, ReadsNamed, WritesTarget, FreeSlots, ReadsObject, WritesNeeded, LacksDomain, LacksRight, LacksObject, LacksField, IsRefused, IsChange, Tells, TellsKind}
+use Rattle.bc_model.specs.State.{State, object_of, next_birth, slot_of, field_of, reads, writes}
+use Rattle.bc_model.specs.Step.{step, act, domains_of, on_object, on_field, on_own_field, target_writes, told, loaded, is_same}
 use Rattle.bc_model.specs.declared.operations.Op.{Op}
 use Rattle.bc_model.specs.declared.operations.Op.TheVariants as op
 use Rattle.bc_model.specs.declared.operations.Reply.{Reply}
@@ -17,7 +18,9 @@ use Rattle.bc_model.proofs.StepLaws.{is_same-itself}
 
 -- nothing stands against the operation
 record IsAllowed (s : State) (j : ℕ) (o : Op) : Type 0 where
-  held : HoldsAll s j o
+  free : FreeSlots s j o
+  read : ReadsObject s j o
+  written : WritesNeeded s j o
   object : (p : Slot) → NeedsObject o p → (b : Birth) × (slot_of s p ≡ Obj b)
   field : (p : Slot) (i : ℕ) (b : Birth) → NeedsField o p i → slot_of s p ≡ Obj b → i < length (object_of s.made b).fields
 
@@ -26,6 +29,7 @@ abbrev IsAnswer : Reply → Type 0
 IsAnswer reply.NotObj = ⊥
 IsAnswer reply.Range = ⊥
 IsAnswer reply.Foreign = ⊥
+IsAnswer reply.Frozen = ⊥
 IsAnswer _ = Unit {0}
 
 -- the answer to each operation
@@ -44,6 +48,7 @@ Answers s j (op.Clear p) r = r ≡ reply.Done
 
 data Outcome (s : State) (j : ℕ) (o : Op) (r : Reply) : Type 0 where
   no_domain : LacksDomain s j o → r ≡ reply.Foreign → Outcome s j o r
+  no_right : LacksRight s j o → r ≡ reply.Frozen → Outcome s j o r
   no_object : LacksObject s j o → r ≡ reply.NotObj → Outcome s j o r
   no_field : LacksField s j o → r ≡ reply.Range → Outcome s j o r
   answered : IsAllowed s j o → IsAnswer r → Answers s j o r → Outcome s j o r
@@ -108,9 +113,40 @@ same-birth s o p q b c lp lq eb ec = go (sym ec ∙ ap (slot_of s) (looks-one o 
 pub true-false : (b : Bool) → b ≡ true → b ≡ false → ⊥
 true-false b t f = cc
 
+-- an operation that writes an object looks at it
+written-looks : (o : Op) (p : Slot) → WritesObject o p → LooksAt o p
+written-looks (op.Set p i v) a h = h
+written-looks (op.Cut p i) a h = h
+written-looks (op.Link p i q) a h = h
+written-looks (op.Load p i q) a h = absurd h
+written-looks (op.Len p) a h = absurd h
+written-looks (op.Who p) a h = absurd h
+written-looks (op.New p n) a h = absurd h
+written-looks (op.Copy p q) a h = absurd h
+written-looks (op.Clear p) a h = absurd h
+written-looks (op.Same p q) a h = absurd h
+
 -- the reasons exclude one another
-held-lacks : (s : State) (j : ℕ) (o : Op) → HoldsAll s j o → LacksDomain s j o → ⊥
-held-lacks s j o h (d, need, e) = true-false (holds s j d) (h d need) e
+free-domain : (s : State) (j : ℕ) (o : Op) → ReadsNamed s j o → ReadsObject s j o → LacksDomain s j o → ⊥
+free-domain s j o named read (inl (p, n, e)) = true-false (reads s j p.domain) (named p n) e
+free-domain s j o named read (inr (f, (p, b, l, is, e))) = true-false (reads s j (object_of s.made b).domain) (read p b l is) e
+
+free-right : (s : State) (j : ℕ) (o : Op) → FreeSlots s j o → WritesNeeded s j o → LacksRight s j o → ⊥
+free-right s j o free written (inl (n, (p, w, e))) = true-false (writes s j p.domain) (free.target p w) e
+free-right s j o free written (inr (f, r, (p, b, w, is, e))) = true-false (writes s j (object_of s.made b).domain) (written p b w is) e
+
+domain-right : (s : State) (j : ℕ) (o : Op) → LacksDomain s j o → LacksRight s j o → ⊥
+domain-right s j o (inl (p, n, e)) (inl (named, x)) = true-false (reads s j p.domain) (named p n) e
+domain-right s j o (inl (p, n, e)) (inr (free, read, x)) = true-false (reads s j p.domain) (free.named p n) e
+domain-right s j o (inr (free, x)) (inl (named, (p, w, e))) = true-false (writes s j p.domain) (free.target p w) e
+domain-right s j o (inr (free, (p, b, l, is, e))) (inr (f, read, x)) = true-false (reads s j (object_of s.made b).domain) (read p b l is) e
+
+-- where there is no object none is read and none written
+none-read : (s : State) (j : ℕ) (o : Op) → LacksObject s j o → ReadsObject s j o
+none-read s j o l p b k e = absurd (l.none b (ap (slot_of s) (looks-one o p l.place k (object-looks o l.place l.needed)) ∙ e))
+
+none-written : (s : State) (j : ℕ) (o : Op) → LacksObject s j o → WritesNeeded s j o
+none-written s j o l p b k e = absurd (l.none b (ap (slot_of s) (looks-one o p l.place (written-looks o p k) (object-looks o l.place l.needed)) ∙ e))
 
 object-lacks : (s : State) (j : ℕ) (o : Op) (p : Slot) (b : Birth) → NeedsObject o p → slot_of s p ≡ Obj b → LacksObject s j o → ⊥
 object-lacks s j o p b need e l =
@@ -126,7 +162,7 @@ allowed-object : (s : State) (j : ℕ) (o : Op) → IsAllowed s j o → LacksObj
 allowed-object s j o a l = l.none (a.object l.place l.needed).0 (a.object l.place l.needed).1
 
 -- the test of the domains that are named
-named-held : (s : State) (j : ℕ) (o : Op) → list_all (holds s j) (domains_of o) ≡ true → (p : Slot) → NamesSlot o p → holds s j p.domain ≡ true
+named-held : (s : State) (j : ℕ) (o : Op) → list_all (reads s j) (domains_of o) ≡ true → (p : Slot) → NamesSlot o p → reads s j p.domain ≡ true
 named-held s j (op.New p n) h r e = rw e (and_parts _ _ h).0
 named-held s j (op.Who p) h r e = rw e (and_parts _ _ h).0
 named-held s j (op.Len p) h r e = rw e (and_parts _ _ h).0
@@ -144,7 +180,7 @@ named-held s j (op.Same p q) h r (inr e) = rw e (and_parts _ _ (and_parts _ _ h)
 
 -- a slot that is named, of a domain that isn't held
 abbrev NamesForeign : State → ℕ → Op → Type 0
-NamesForeign s j o = (p : Slot) × NamesSlot o p × (holds s j p.domain ≡ false)
+NamesForeign s j o = (p : Slot) × NamesSlot o p × (reads s j p.domain ≡ false)
 
 one-foreign : (b : Bool) → (b && true) ≡ false → b ≡ false
 one-foreign true h = absurd (cc)
@@ -155,16 +191,16 @@ two-foreign false b h = inl refl
 two-foreign true false h = inr refl
 two-foreign true true h = absurd (cc)
 
-one-named : (s : State) (j : ℕ) (o : Op) (p : Slot) → NamesSlot o p → (holds s j p.domain && true) ≡ false → NamesForeign s j o
+one-named : (s : State) (j : ℕ) (o : Op) (p : Slot) → NamesSlot o p → (reads s j p.domain && true) ≡ false → NamesForeign s j o
 one-named s j o p n h = (p, n, one-foreign _ h)
 
-two-named : (s : State) (j : ℕ) (o : Op) (p q : Slot) → NamesSlot o p → NamesSlot o q → (holds s j p.domain && (holds s j q.domain && true)) ≡ false → NamesForeign s j o
+two-named : (s : State) (j : ℕ) (o : Op) (p q : Slot) → NamesSlot o p → NamesSlot o q → (reads s j p.domain && (reads s j q.domain && true)) ≡ false → NamesForeign s j o
 two-named s j o p q n m h = elim (two-foreign _ _ h) [
   | inl e ↦ (p, n, e)
   | inr e ↦ (q, m, e)
 ]
 
-named-foreign : (s : State) (j : ℕ) (o : Op) → list_all (holds s j) (domains_of o) ≡ false → NamesForeign s j o
+named-foreign : (s : State) (j : ℕ) (o : Op) → list_all (reads s j) (domains_of o) ≡ false → NamesForeign s j o
 named-foreign s j (op.New p n) h = one-named s j (op.New p n) p refl h
 named-foreign s j (op.Who p) h = one-named s j (op.Who p) p refl h
 named-foreign s j (op.Len p) h = one-named s j (op.Len p) p refl h
@@ -176,93 +212,132 @@ named-foreign s j (op.Load p i q) h = two-named s j (op.Load p i q) p q (inl ref
 named-foreign s j (op.Copy p q) h = two-named s j (op.Copy p q) p q (inl refl) (inr refl) h
 named-foreign s j (op.Same p q) h = two-named s j (op.Same p q) p q (inl refl) (inr refl) h
 
--- the lane holds the domains that are named
-abbrev HoldsNamed : State → ℕ → Op → Type 0
-HoldsNamed s j o = (p : Slot) → NamesSlot o p → holds s j p.domain ≡ true
+-- the test of the slot that is written
+target-held : (s : State) (j : ℕ) (o : Op) → target_writes s j o ≡ true → WritesTarget s j o
+target-held s j (op.New p n) h r e = rw e h
+target-held s j (op.Load p i q) h r e = rw e h
+target-held s j (op.Copy p q) h r e = rw e h
+target-held s j (op.Clear p) h r e = rw e h
+target-held s j (op.Who p) h r e = absurd e
+target-held s j (op.Len p) h r e = absurd e
+target-held s j (op.Set p i v) h r e = absurd e
+target-held s j (op.Cut p i) h r e = absurd e
+target-held s j (op.Link p i q) h r e = absurd e
+target-held s j (op.Same p q) h r e = absurd e
 
--- and no other is needed
-held-named : (s : State) (j : ℕ) (o : Op) → HoldsNamed s j o → ((p : Slot) → (b : Birth) → LooksAt o p → slot_of s p ≡ Obj b → holds s j (object_of s.made b).domain ≡ true) → HoldsAll s j o
-held-named s j o h k d (inl (p, n, e)) = rw e (h p n)
-held-named s j o h k d (inr (p, b, l, f, e)) = rw e (k p b l f)
+abbrev LacksTarget : State → ℕ → Op → Type 0
+LacksTarget s j o = (p : Slot) × WritesSlot o p × (writes s j p.domain ≡ false)
 
-no-object : (s : State) (j : ℕ) (o : Op) (p : Slot) → HoldsNamed s j o → LooksAt o p → ((b : Birth) → slot_of s p ≢ Obj b) → HoldsAll s j o
-no-object s j o p h l none =
-    held-named s j o h (λ q b k e. absurd (none b (ap (slot_of s) (sym (looks-one o p q l k)) ∙ e)))
+target-lacks : (s : State) (j : ℕ) (o : Op) → target_writes s j o ≡ false → LacksTarget s j o
+target-lacks s j (op.New p n) h = (p, refl, h)
+target-lacks s j (op.Load p i q) h = (q, refl, h)
+target-lacks s j (op.Copy p q) h = (q, refl, h)
+target-lacks s j (op.Clear p) h = (p, refl, h)
+target-lacks s j (op.Who p) h = absurd (cc)
+target-lacks s j (op.Len p) h = absurd (cc)
+target-lacks s j (op.Set p i v) h = absurd (cc)
+target-lacks s j (op.Cut p i) h = absurd (cc)
+target-lacks s j (op.Link p i q) h = absurd (cc)
+target-lacks s j (op.Same p q) h = absurd (cc)
 
-one-object : (s : State) (j : ℕ) (o : Op) (p : Slot) (b : Birth) → HoldsNamed s j o → LooksAt o p → slot_of s p ≡ Obj b → holds s j (object_of s.made b).domain ≡ true → HoldsAll s j o
-one-object s j o p b h l e held =
-    held-named s j o h (λ q c k f. rw (same-birth s o p q b c l k e f) held)
+-- the object that the operation looks at may be read, and the one that it writes written
+no-object : (s : State) (j : ℕ) (o : Op) (p : Slot) → LooksAt o p → ((b : Birth) → slot_of s p ≢ Obj b) → ReadsObject s j o
+no-object s j o p l none q b k e = absurd (none b (ap (slot_of s) (sym (looks-one o p q l k)) ∙ e))
+
+one-object : (s : State) (j : ℕ) (o : Op) (p : Slot) (b : Birth) → LooksAt o p → slot_of s p ≡ Obj b → reads s j (object_of s.made b).domain ≡ true → ReadsObject s j o
+one-object s j o p b l e held q c k f = rw (same-birth s o p q b c l k e f) held
+
+one-written : (s : State) (j : ℕ) (o : Op) (p : Slot) (b : Birth) → LooksAt o p → slot_of s p ≡ Obj b → writes s j (object_of s.made b).domain ≡ true → WritesNeeded s j o
+one-written s j o p b l e own q c k f = rw (same-birth s o p q b c l (written-looks o q k) e f) own
 
 -- the object that an operation needs
-on_object-outcome : (s : State) (j : ℕ) (o : Op) (p : Slot) (f : Birth → State × Reply) → HoldsNamed s j o → NeedsObject o p → ((b : Birth) → slot_of s p ≡ Obj b → HoldsAll s j o → Outcome s j o (f b).1) → Outcome s j o (on_object s j (slot_of s p) f).1
+on_object-outcome : (s : State) (j : ℕ) (o : Op) (p : Slot) (f : Birth → State × Reply) → FreeSlots s j o → NeedsObject o p → ((b : Birth) → slot_of s p ≡ Obj b → ReadsObject s j o → Outcome s j o (f b).1) → Outcome s j o (on_object s j (slot_of s p) f).1
 on_object-outcome s j o p f h need rest = go (slot_of s p) refl
   where
     none : (v : Value) → slot_of s p ≡ v → ((b : Birth) → v ≢ Obj b) → Outcome s j o reply.NotObj
     none v e ne =
         let empty : (b : Birth) → slot_of s p ≢ Obj b = λ b k. ne b (sym e ∙ k) in
-        no_object (record { held = no-object s j o p h (object-looks o p need) empty; place = p; needed = need; none = empty }) refl
+        no_object (record { free = h; place = p; needed = need; none = empty }) refl
 
-    mine : (b : Birth) → slot_of s p ≡ Obj b → (t : Bool) → holds s j (object_of s.made b).domain ≡ t → Outcome s j o (if t then f b else (s, reply.Foreign)).1
-    mine b e true held = rest b e (one-object s j o p b h (object-looks o p need) e held)
-    mine b e false held = no_domain ((object_of s.made b).domain, inr (p, b, object-looks o p need, e, refl), held) refl
+    mine : (b : Birth) → slot_of s p ≡ Obj b → (t : Bool) → reads s j (object_of s.made b).domain ≡ t → Outcome s j o (if t then f b else (s, reply.Foreign)).1
+    mine b e true held = rest b e (one-object s j o p b (object-looks o p need) e held)
+    mine b e false held = no_domain (inr (h, (p, b, object-looks o p need, e, held))) refl
 
     go : (v : Value) → slot_of s p ≡ v → Outcome s j o (on_object s j v f).1
     go Nil e = none Nil e (λ b k. absurd (cc))
     go (Num n) e = none (Num n) e (λ b k. absurd (cc))
-    go (Obj b) e = mine b e (holds s j (object_of s.made b).domain) refl
+    go (Obj b) e = mine b e (reads s j (object_of s.made b).domain) refl
 
 -- and the field
-on_field-outcome : (s : State) (j : ℕ) (o : Op) (p : Slot) (i : ℕ) (f : Birth → State × Reply) → HoldsNamed s j o → NeedsField o p i → ((b : Birth) → slot_of s p ≡ Obj b → IsAnswer (f b).1 × Answers s j o (f b).1) → Outcome s j o (on_field s j (slot_of s p) i f).1
-on_field-outcome s j o p i f h need rest =
-    on_object-outcome s j o p _ h (field-object o p i need) (λ b e held. go b e held (nat_lt i (length (object_of s.made b).fields)) refl)
+field-outcome : (s : State) (j : ℕ) (o : Op) (p : Slot) (i : ℕ) (f : Birth → State × Reply) (b : Birth) → FreeSlots s j o → NeedsField o p i → slot_of s p ≡ Obj b → ReadsObject s j o → WritesNeeded s j o → IsAnswer (f b).1 × Answers s j o (f b).1 → (t : Bool) → nat_lt i (length (object_of s.made b).fields) ≡ t → Outcome s j o (if t then f b else (s, reply.Range)).1
+field-outcome s j o p i f b h need e read written rest true lt = answered (record {
+  free = h;
+  read = read;
+  written = written;
+  object = λ q n. (b, ap (slot_of s) (looks-one o p q (object-looks o p (field-object o p i need)) (object-looks o q n)) ∙ e);
+  field = λ q k c n g.
+      rw (field-one o p q i k need n, same-birth s o p q b c (object-looks o p (field-object o p i need)) (object-looks o q (field-object o q k n)) e g) (ltb-true i (length (object_of s.made b).fields) lt);
+}) rest.0 rest.1
+field-outcome s j o p i f b h need e read written rest false lt = no_field (record {
+  free = h;
+  read = read;
+  written = written;
+  place = p;
+  index = i;
+  birth = b;
+  needed = need;
+  object = e;
+  none = ltb-false i (length (object_of s.made b).fields) lt;
+}) refl
+
+on_field-outcome : (s : State) (j : ℕ) (o : Op) (p : Slot) (i : ℕ) (f : Birth → State × Reply) → FreeSlots s j o → NeedsField o p i → ((q : Slot) → WritesObject o q → ⊥) → ((b : Birth) → slot_of s p ≡ Obj b → IsAnswer (f b).1 × Answers s j o (f b).1) → Outcome s j o (on_field s j (slot_of s p) i f).1
+on_field-outcome s j o p i f h need unwritten rest =
+    on_object-outcome s j o p _ h (field-object o p i need) (λ b e read.
+    field-outcome s j o p i f b h need e read (λ q c w g. absurd (unwritten q w)) (rest b e) (nat_lt i (length (object_of s.made b).fields)) refl)
+
+on_own_field-outcome : (s : State) (j : ℕ) (o : Op) (p : Slot) (i : ℕ) (f : Birth → State × Reply) → FreeSlots s j o → NeedsField o p i → WritesObject o p → ((b : Birth) → slot_of s p ≡ Obj b → IsAnswer (f b).1 × Answers s j o (f b).1) → Outcome s j o (on_own_field s j (slot_of s p) i f).1
+on_own_field-outcome s j o p i f h need writes-it rest =
+    on_object-outcome s j o p _ h (field-object o p i need) (λ b e read. go b e read (writes s j (object_of s.made b).domain) refl)
   where
-    go : (b : Birth) → slot_of s p ≡ Obj b → HoldsAll s j o → (t : Bool) → nat_lt i (length (object_of s.made b).fields) ≡ t → Outcome s j o (if t then f b else (s, reply.Range)).1
-    go b e held true lt = answered (record {
-      held = held;
-      object = λ q n. (b, ap (slot_of s) (looks-one o p q (object-looks o p (field-object o p i need)) (object-looks o q n)) ∙ e);
-      field = λ q k c n g.
-          rw (field-one o p q i k need n, same-birth s o p q b c (object-looks o p (field-object o p i need)) (object-looks o q (field-object o q k n)) e g) (ltb-true i (length (object_of s.made b).fields) lt);
-    }) (rest b e).0 (rest b e).1
-    go b e held false lt = no_field (record {
-      held = held;
-      place = p;
-      index = i;
-      birth = b;
-      needed = need;
-      object = e;
-      none = ltb-false i (length (object_of s.made b).fields) lt;
-    }) refl
+    go : (b : Birth) → slot_of s p ≡ Obj b → ReadsObject s j o → (t : Bool) → writes s j (object_of s.made b).domain ≡ t → Outcome s j o (if t then (if nat_lt i (length (object_of s.made b).fields) then f b else (s, reply.Range)) else (s, reply.Frozen)).1
+    go b e read true own =
+        field-outcome s j o p i f b h need e read (one-written s j o p b (written-looks o p writes-it) e own) (rest b e) (nat_lt i (length (object_of s.made b).fields)) refl
+    go b e read false own = no_right (inr (h, read, (p, b, writes-it, e, own))) refl
 
 -- an operation that needs no object
-plain-outcome : (s : State) (j : ℕ) (o : Op) (r : Reply) → HoldsNamed s j o → ((p : Slot) → LooksAt o p → ⊥) → IsAnswer r → Answers s j o r → Outcome s j o r
+plain-outcome : (s : State) (j : ℕ) (o : Op) (r : Reply) → FreeSlots s j o → ((p : Slot) → LooksAt o p → ⊥) → IsAnswer r → Answers s j o r → Outcome s j o r
 plain-outcome s j o r h none ok answers = answered (record {
-  held = held-named s j o h (λ p b l e. absurd (none p l));
+  free = h;
+  read = λ p b l e. absurd (none p l);
+  written = λ p b w e. absurd (none p (written-looks o p w));
   object = λ p n. absurd (none p (object-looks o p n));
   field = λ p i b n e. absurd (none p (object-looks o p (field-object o p i n)));
 }) ok answers
 
 -- what a slot holds, as a reply to a lane
-who-outcome : (s : State) (j : ℕ) (p : Slot) → HoldsNamed s j (op.Who p) → Outcome s j (op.Who p) (told s j (slot_of s p))
+who-outcome : (s : State) (j : ℕ) (p : Slot) → FreeSlots s j (op.Who p) → Outcome s j (op.Who p) (told s j (slot_of s p))
 who-outcome s j p h = go (slot_of s p) refl
   where
-    tells : (r : Reply) → HoldsAll s j (op.Who p) → IsAnswer r → Tells (slot_of s p) r → Outcome s j (op.Who p) r
-    tells r held ok t = answered (record { held = held; object = λ q n. absurd n; field = λ q i b n e. absurd n }) ok t
+    tells : (r : Reply) → ReadsObject s j (op.Who p) → IsAnswer r → Tells (slot_of s p) r → Outcome s j (op.Who p) r
+    tells r read ok t = answered (record { free = h; read = read; written = λ q b w e. absurd w; object = λ q n. absurd n; field = λ q i b n e. absurd n }) ok t
 
-    none : (v : Value) → slot_of s p ≡ v → ((b : Birth) → v ≢ Obj b) → HoldsAll s j (op.Who p)
-    none v e ne = no-object s j (op.Who p) p h refl (λ b k. ne b (sym e ∙ k))
+    none : (v : Value) → slot_of s p ≡ v → ((b : Birth) → v ≢ Obj b) → ReadsObject s j (op.Who p)
+    none v e ne = no-object s j (op.Who p) p refl (λ b k. ne b (sym e ∙ k))
 
-    mine : (b : Birth) → slot_of s p ≡ Obj b → (t : Bool) → holds s j (object_of s.made b).domain ≡ t → Outcome s j (op.Who p) (if t then reply.Obj b else reply.Foreign)
-    mine b e true held = tells (reply.Obj b) (one-object s j (op.Who p) p b h refl e held) tt (rw e refl)
-    mine b e false held = no_domain ((object_of s.made b).domain, inr (p, b, refl, e, refl), held) refl
+    mine : (b : Birth) → slot_of s p ≡ Obj b → (t : Bool) → reads s j (object_of s.made b).domain ≡ t → Outcome s j (op.Who p) (if t then reply.Obj b else reply.Foreign)
+    mine b e true held = tells (reply.Obj b) (one-object s j (op.Who p) p b refl e held) tt (rw e refl)
+    mine b e false held = no_domain (inr (h, (p, b, refl, e, held))) refl
 
     go : (v : Value) → slot_of s p ≡ v → Outcome s j (op.Who p) (told s j v)
     go Nil e = tells reply.Nil (none Nil e (λ b k. absurd (cc))) tt (rw e refl)
     go (Num n) e = tells (reply.Num n) (none (Num n) e (λ b k. absurd (cc))) tt (rw e refl)
-    go (Obj b) e = mine b e (holds s j (object_of s.made b).domain) refl
+    go (Obj b) e = mine b e (reads s j (object_of s.made b).domain) refl
 
-len-outcome : (s : State) (j : ℕ) (p : Slot) → HoldsNamed s j (op.Len p) → Outcome s j (op.Len p) (act s j (op.Len p)).1
-len-outcome s j p h = on_object-outcome s j (op.Len p) p _ h refl (λ b e held. answered (record {
-  held = held;
+len-outcome : (s : State) (j : ℕ) (p : Slot) → FreeSlots s j (op.Len p) → Outcome s j (op.Len p) (act s j (op.Len p)).1
+len-outcome s j p h = on_object-outcome s j (op.Len p) p _ h refl (λ b e read. answered (record {
+  free = h;
+  read = read;
+  written = λ q c w f. absurd w;
   object = λ q n. (b, ap (slot_of s) n ∙ e);
   field = λ q i c n f. absurd n;
 }) tt (λ c f. ap (λ (x : Birth). reply.Len (length (object_of s.made x).fields)) (sym (same-birth s (op.Len p) p p b c refl refl e f))))
@@ -277,8 +352,8 @@ loaded-tells Nil = refl
 loaded-tells (Num n) = refl
 loaded-tells (Obj b) = refl
 
-load-outcome : (s : State) (j : ℕ) (p : Slot) (i : ℕ) (q : Slot) → HoldsNamed s j (op.Load p i q) → Outcome s j (op.Load p i q) (act s j (op.Load p i q)).1
-load-outcome s j p i q h = on_field-outcome s j (op.Load p i q) p i _ h (refl, refl) (λ b e. (
+load-outcome : (s : State) (j : ℕ) (p : Slot) (i : ℕ) (q : Slot) → FreeSlots s j (op.Load p i q) → Outcome s j (op.Load p i q) (act s j (op.Load p i q)).1
+load-outcome s j p i q h = on_field-outcome s j (op.Load p i q) p i _ h (refl, refl) (λ r w. w) (λ b e. (
   loaded-answer (field_of s b i),
   λ c f.
       subst (λ (x : Birth). TellsKind (field_of s x i) (loaded (field_of s b i))) (sym (same-birth s (op.Load p i q) p p b c refl refl e f)) (loaded-tells (field_of s b i)),
@@ -302,33 +377,37 @@ same-held (Obj b) (Num w) h = absurd (cc)
 other-held : (v w : Value) → is_same v w ≡ false → v ≢ w
 other-held v w h e = true-false (is_same v w) (subst (λ (x : Value). is_same v x ≡ true) e (is_same-itself v)) h
 
-same-outcome : (s : State) (j : ℕ) (p q : Slot) → HoldsNamed s j (op.Same p q) → Outcome s j (op.Same p q) (act s j (op.Same p q)).1
+same-outcome : (s : State) (j : ℕ) (p q : Slot) → FreeSlots s j (op.Same p q) → Outcome s j (op.Same p q) (act s j (op.Same p q)).1
 same-outcome s j p q h = go (is_same (slot_of s p) (slot_of s q)) refl
   where
     go : (t : Bool) → is_same (slot_of s p) (slot_of s q) ≡ t → Outcome s j (op.Same p q) (if t then reply.Yes else reply.No)
     go true e = plain-outcome s j (op.Same p q) reply.Yes h (λ r l. l) tt (inl (refl, same-held (slot_of s p) (slot_of s q) e))
     go false e = plain-outcome s j (op.Same p q) reply.No h (λ r l. l) tt (inr (refl, other-held (slot_of s p) (slot_of s q) e))
 
-act-outcome : (s : State) (j : ℕ) (o : Op) → HoldsNamed s j o → Outcome s j o (act s j o).1
+act-outcome : (s : State) (j : ℕ) (o : Op) → FreeSlots s j o → Outcome s j o (act s j o).1
 act-outcome s j (op.New p n) h = plain-outcome s j (op.New p n) _ h (λ r l. l) tt refl
 act-outcome s j (op.Who p) h = who-outcome s j p h
 act-outcome s j (op.Len p) h = len-outcome s j p h
-act-outcome s j (op.Set p i v) h = on_field-outcome s j (op.Set p i v) p i _ h (refl, refl) (λ b e. (tt, refl))
-act-outcome s j (op.Cut p i) h = on_field-outcome s j (op.Cut p i) p i _ h (refl, refl) (λ b e. (tt, refl))
-act-outcome s j (op.Link p i q) h = on_field-outcome s j (op.Link p i q) p i _ h (refl, refl) (λ b e. (tt, refl))
+act-outcome s j (op.Set p i v) h = on_own_field-outcome s j (op.Set p i v) p i _ h (refl, refl) refl (λ b e. (tt, refl))
+act-outcome s j (op.Cut p i) h = on_own_field-outcome s j (op.Cut p i) p i _ h (refl, refl) refl (λ b e. (tt, refl))
+act-outcome s j (op.Link p i q) h = on_own_field-outcome s j (op.Link p i q) p i _ h (refl, refl) refl (λ b e. (tt, refl))
 act-outcome s j (op.Load p i q) h = load-outcome s j p i q h
 act-outcome s j (op.Copy p q) h = plain-outcome s j (op.Copy p q) _ h (λ r l. l) tt refl
 act-outcome s j (op.Clear p) h = plain-outcome s j (op.Clear p) _ h (λ r l. l) tt refl
 act-outcome s j (op.Same p q) h = same-outcome s j p q h
 
 outcome : (s : State) (j : ℕ) (o : Op) → Outcome s j o (step s j o).1
-outcome s j o = go (list_all (holds s j) (domains_of o)) refl
+outcome s j o = go (list_all (reads s j) (domains_of o)) refl
   where
     foreign : NamesForeign s j o → Outcome s j o reply.Foreign
-    foreign (p, n, e) = no_domain (p.domain, inl (p, n, refl), e) refl
+    foreign named = no_domain (inl named) refl
 
-    go : (t : Bool) → list_all (holds s j) (domains_of o) ≡ t → Outcome s j o (if t then act s j o else (s, reply.Foreign)).1
-    go true e = act-outcome s j o (named-held s j o e)
+    right : ReadsNamed s j o → (t : Bool) → target_writes s j o ≡ t → Outcome s j o (if t then act s j o else (s, reply.Frozen)).1
+    right named true e = act-outcome s j o (record { named = named; target = target-held s j o e })
+    right named false e = no_right (inl (named, target-lacks s j o e)) refl
+
+    go : (t : Bool) → list_all (reads s j) (domains_of o) ≡ t → Outcome s j o (if t then (if target_writes s j o then act s j o else (s, reply.Frozen)) else (s, reply.Foreign)).1
+    go true e = right (named-held s j o e) (target_writes s j o) refl
     go false e = foreign (named-foreign s j o e)
 
 -- each refusal exactly where its reason is
@@ -337,28 +416,49 @@ foreign-where s j o = (there (step s j o).1 (outcome s j o), back (step s j o).1
   where
     there : (r : Reply) → Outcome s j o r → r ≡ reply.Foreign → LacksDomain s j o
     there r (no_domain l e) f = l
+    there r (no_right l e) f = absurd (cc)
     there r (no_object l e) f = absurd (cc)
     there r (no_field l e) f = absurd (cc)
     there r (answered a ok x) f = absurd (subst IsAnswer f ok)
 
     back : (r : Reply) → Outcome s j o r → LacksDomain s j o → r ≡ reply.Foreign
     back r (no_domain l e) h = e
-    back r (no_object l e) h = absurd (held-lacks s j o l.held h)
-    back r (no_field l e) h = absurd (held-lacks s j o l.held h)
-    back r (answered a ok x) h = absurd (held-lacks s j o a.held h)
+    back r (no_right l e) h = absurd (domain-right s j o h l)
+    back r (no_object l e) h = absurd (free-domain s j o l.free.named (none-read s j o l) h)
+    back r (no_field l e) h = absurd (free-domain s j o l.free.named l.read h)
+    back r (answered a ok x) h = absurd (free-domain s j o a.free.named a.read h)
+
+pub frozen-where : (s : State) (j : ℕ) (o : Op) → ((step s j o).1 ≡ reply.Frozen) ↔ LacksRight s j o
+frozen-where s j o = (there (step s j o).1 (outcome s j o), back (step s j o).1 (outcome s j o))
+  where
+    there : (r : Reply) → Outcome s j o r → r ≡ reply.Frozen → LacksRight s j o
+    there r (no_domain l e) f = absurd (cc)
+    there r (no_right l e) f = l
+    there r (no_object l e) f = absurd (cc)
+    there r (no_field l e) f = absurd (cc)
+    there r (answered a ok x) f = absurd (subst IsAnswer f ok)
+
+    back : (r : Reply) → Outcome s j o r → LacksRight s j o → r ≡ reply.Frozen
+    back r (no_domain l e) h = absurd (domain-right s j o l h)
+    back r (no_right l e) h = e
+    back r (no_object l e) h = absurd (free-right s j o l.free (none-written s j o l) h)
+    back r (no_field l e) h = absurd (free-right s j o l.free l.written h)
+    back r (answered a ok x) h = absurd (free-right s j o a.free a.written h)
 
 pub no_object-where : (s : State) (j : ℕ) (o : Op) → ((step s j o).1 ≡ reply.NotObj) ↔ LacksObject s j o
 no_object-where s j o = (there (step s j o).1 (outcome s j o), back (step s j o).1 (outcome s j o))
   where
     there : (r : Reply) → Outcome s j o r → r ≡ reply.NotObj → LacksObject s j o
-    there r (no_object l e) f = l
     there r (no_domain l e) f = absurd (cc)
+    there r (no_right l e) f = absurd (cc)
+    there r (no_object l e) f = l
     there r (no_field l e) f = absurd (cc)
     there r (answered a ok x) f = absurd (subst IsAnswer f ok)
 
     back : (r : Reply) → Outcome s j o r → LacksObject s j o → r ≡ reply.NotObj
+    back r (no_domain l e) h = absurd (free-domain s j o h.free.named (none-read s j o h) l)
+    back r (no_right l e) h = absurd (free-right s j o h.free (none-written s j o h) l)
     back r (no_object l e) h = e
-    back r (no_domain l e) h = absurd (held-lacks s j o h.held l)
     back r (no_field l e) h = absurd (both-lack s j o h l)
     back r (answered a ok x) h = absurd (allowed-object s j o a h)
 
@@ -366,15 +466,17 @@ pub no_field-where : (s : State) (j : ℕ) (o : Op) → ((step s j o).1 ≡ repl
 no_field-where s j o = (there (step s j o).1 (outcome s j o), back (step s j o).1 (outcome s j o))
   where
     there : (r : Reply) → Outcome s j o r → r ≡ reply.Range → LacksField s j o
-    there r (no_field l e) f = l
     there r (no_domain l e) f = absurd (cc)
+    there r (no_right l e) f = absurd (cc)
     there r (no_object l e) f = absurd (cc)
+    there r (no_field l e) f = l
     there r (answered a ok x) f = absurd (subst IsAnswer f ok)
 
     back : (r : Reply) → Outcome s j o r → LacksField s j o → r ≡ reply.Range
-    back r (no_field l e) h = e
-    back r (no_domain l e) h = absurd (held-lacks s j o h.held l)
+    back r (no_domain l e) h = absurd (free-domain s j o h.free.named h.read l)
+    back r (no_right l e) h = absurd (free-right s j o h.free h.written l)
     back r (no_object l e) h = absurd (both-lack s j o l h)
+    back r (no_field l e) h = e
     back r (answered a ok x) h = absurd (field-lacks s j o a h)
 
 -- and the answer where there is none
@@ -383,8 +485,9 @@ answer s j o free = go (step s j o).1 (outcome s j o)
   where
     go : (r : Reply) → Outcome s j o r → Answers s j o r
     go r (no_domain l e) = absurd (free (inl l))
-    go r (no_object l e) = absurd (free (inr (inl l)))
-    go r (no_field l e) = absurd (free (inr (inr l)))
+    go r (no_right l e) = absurd (free (inr (inl l)))
+    go r (no_object l e) = absurd (free (inr (inr (inl l))))
+    go r (no_field l e) = absurd (free (inr (inr (inr l))))
     go r (answered a ok x) = x
 
 pub change-done : (s : State) (j : ℕ) (o : Op) → IsChange o → ¬ IsRefused s j o → (step s j o).1 ≡ reply.Done
@@ -413,35 +516,38 @@ load-answer s j p q i b e free = answer s j (op.Load p i q) free b e
 
 -- a comparison of two slots
 abbrev BothHeld : State → ℕ → Slot → Slot → Type 0
-BothHeld s j p q = (holds s j p.domain ≡ true) × (holds s j q.domain ≡ true)
+BothHeld s j p q = (reads s j p.domain ≡ true) × (reads s j q.domain ≡ true)
 
-same-named : (s : State) (j : ℕ) (p q : Slot) → HoldsAll s j (op.Same p q) → BothHeld s j p q
-same-named s j p q h = (h p.domain (inl (p, inl refl, refl)), h q.domain (inl (q, inr refl, refl)))
+same-named : (s : State) (j : ℕ) (p q : Slot) → FreeSlots s j (op.Same p q) → BothHeld s j p q
+same-named s j p q h = (h.named p (inl refl), h.named q (inr refl))
 
 same-free : (s : State) (j : ℕ) (p q : Slot) → BothHeld s j p q → ¬ IsRefused s j (op.Same p q)
-same-free s j p q h (inl l) = held-lacks s j (op.Same p q) (held-named s j (op.Same p q) (λ r n. elim n [
+same-free s j p q h (inl l) = free-domain s j (op.Same p q) (λ r n. elim n [
   | inl e ↦ rw e h.0
   | inr e ↦ rw e h.1
-]) (λ r b k e. absurd k)) l
-same-free s j p q h (inr (inl l)) = l.needed
-same-free s j p q h (inr (inr l)) = l.needed
+]) (λ r b k e. absurd k) l
+same-free s j p q h (inr (inl (inl (n, (r, w, e))))) = w
+same-free s j p q h (inr (inl (inr (f, k, (r, b, w, is, e))))) = w
+same-free s j p q h (inr (inr (inl l))) = l.needed
+same-free s j p q h (inr (inr (inr l))) = l.needed
 
-same-answered : (s : State) (j : ℕ) (p q : Slot) → IsAnswer (step s j (op.Same p q)).1 → HoldsAll s j (op.Same p q)
+same-answered : (s : State) (j : ℕ) (p q : Slot) → IsAnswer (step s j (op.Same p q)).1 → FreeSlots s j (op.Same p q)
 same-answered s j p q ok = go (step s j (op.Same p q)).1 (outcome s j (op.Same p q)) ok
   where
-    go : (r : Reply) → Outcome s j (op.Same p q) r → IsAnswer r → HoldsAll s j (op.Same p q)
-    go r (answered a ok x) k = a.held
+    go : (r : Reply) → Outcome s j (op.Same p q) r → IsAnswer r → FreeSlots s j (op.Same p q)
+    go r (answered a ok x) k = a.free
     go r (no_domain l e) k = absurd (subst IsAnswer e k)
+    go r (no_right l e) k = absurd (subst IsAnswer e k)
     go r (no_object l e) k = absurd (subst IsAnswer e k)
     go r (no_field l e) k = absurd (subst IsAnswer e k)
 
-pub same-yes : (s : State) (j : ℕ) (p q : Slot) → ((step s j (op.Same p q)).1 ≡ reply.Yes) ↔ (holds s j p.domain ≡ true) × (holds s j q.domain ≡ true) × (slot_of s p ≡ slot_of s q)
+pub same-yes : (s : State) (j : ℕ) (p q : Slot) → ((step s j (op.Same p q)).1 ≡ reply.Yes) ↔ (reads s j p.domain ≡ true) × (reads s j q.domain ≡ true) × (slot_of s p ≡ slot_of s q)
 same-yes s j p q = (there, back)
   where
     yes-no : reply.Yes ≡ reply.No → ⊥
     yes-no e = cc
 
-    there : (step s j (op.Same p q)).1 ≡ reply.Yes → (holds s j p.domain ≡ true) × (holds s j q.domain ≡ true) × (slot_of s p ≡ slot_of s q)
+    there : (step s j (op.Same p q)).1 ≡ reply.Yes → (reads s j p.domain ≡ true) × (reads s j q.domain ≡ true) × (slot_of s p ≡ slot_of s q)
     there e =
         let held = same-named s j p q (same-answered s j p q (subst IsAnswer (sym e) tt)) in
         elim (answer s j (op.Same p q) (same-free s j p q held)) [
@@ -449,19 +555,19 @@ same-yes s j p q = (there, back)
           | inr x ↦ absurd (yes-no (sym e ∙ x.0))
         ]
 
-    back : (holds s j p.domain ≡ true) × (holds s j q.domain ≡ true) × (slot_of s p ≡ slot_of s q) → (step s j (op.Same p q)).1 ≡ reply.Yes
+    back : (reads s j p.domain ≡ true) × (reads s j q.domain ≡ true) × (slot_of s p ≡ slot_of s q) → (step s j (op.Same p q)).1 ≡ reply.Yes
     back h = elim (answer s j (op.Same p q) (same-free s j p q (h.0, h.1))) [
       | inl x ↦ x.0
       | inr x ↦ absurd (x.1 h.2)
     ]
 
-pub same-no : (s : State) (j : ℕ) (p q : Slot) → ((step s j (op.Same p q)).1 ≡ reply.No) ↔ (holds s j p.domain ≡ true) × (holds s j q.domain ≡ true) × (slot_of s p ≢ slot_of s q)
+pub same-no : (s : State) (j : ℕ) (p q : Slot) → ((step s j (op.Same p q)).1 ≡ reply.No) ↔ (reads s j p.domain ≡ true) × (reads s j q.domain ≡ true) × (slot_of s p ≢ slot_of s q)
 same-no s j p q = (there, back)
   where
     no-yes : reply.No ≡ reply.Yes → ⊥
     no-yes e = cc
 
-    there : (step s j (op.Same p q)).1 ≡ reply.No → (holds s j p.domain ≡ true) × (holds s j q.domain ≡ true) × (slot_of s p ≢ slot_of s q)
+    there : (step s j (op.Same p q)).1 ≡ reply.No → (reads s j p.domain ≡ true) × (reads s j q.domain ≡ true) × (slot_of s p ≢ slot_of s q)
     there e =
         let held = same-named s j p q (same-answered s j p q (subst IsAnswer (sym e) tt)) in
         elim (answer s j (op.Same p q) (same-free s j p q held)) [
@@ -469,7 +575,7 @@ same-no s j p q = (there, back)
           | inr x ↦ (held.0, held.1, x.1)
         ]
 
-    back : (holds s j p.domain ≡ true) × (holds s j q.domain ≡ true) × (slot_of s p ≢ slot_of s q) → (step s j (op.Same p q)).1 ≡ reply.No
+    back : (reads s j p.domain ≡ true) × (reads s j q.domain ≡ true) × (slot_of s p ≢ slot_of s q) → (step s j (op.Same p q)).1 ≡ reply.No
     back h = elim (answer s j (op.Same p q) (same-free s j p q (h.0, h.1))) [
       | inl x ↦ absurd (h.2 x.1)
       | inr x ↦ x.0

@@ -1,21 +1,22 @@
 -- A step from two states that are alike as far as slots lead has one reply, and they are alike again.
-use Rattle.std.proofs.Common.{◌≡◌, ◌≢◌, ◌⊎◌, ℕ, ◌+◌, ◌-◌, ◌<◌, ◌==◌, nat_lt, Bool, true, false, if◌then◌else◌, List, [], ◌∷◌, ◌++◌, length, get_or, set, replicate, slice_index_or, refl, sym, ap, ap₂, subst, ◌∙◌, inl, inr, arith}
+use Rattle.std.proofs.Common.{◌≡◌, ◌⊎◌, ℕ, ◌+◌, ◌<◌, nat_lt, Bool, true, false, if◌then◌else◌, List, [], ◌∷◌, length, get_or, set, replicate, slice_index_or, refl, sym, ap, subst, ◌∙◌, inl, inr, arith}
 use Prim.Native.Nat.{zero, suc}
 use Rattle.std.specs.List.{list_all}
 use Rattle.std.proofs.lemmas.List.{length-set, length_push}
 use Rattle.std.proofs.lemmas.Bool.{cases_eq}
-use Rattle.bc_reach.specs.Reach.{Reach, begin, onward}
+use Rattle.bc_reach.specs.Reach.{begin, onward}
 use Rattle.bc_reach.proofs.Reaching.{Reach-least}
 use Rattle.bc_model.specs.Consistent.{IsState}
 use Rattle.bc_model.specs.Reached.{Reached, Holds, FieldHolds}
 use Rattle.bc_model.specs.Resembles.{AreLike, Resembles}
-use Rattle.bc_model.specs.State.{State, Object, IsBorn, made_by, object_of, next_birth, slot_of, field_of, with_born, with_made, with_value, with_slot, with_born_field, place_of, holds}
-use Rattle.bc_model.specs.Step.{step, act, domains_of, on_object, on_field, told, loaded, is_same, with_new}
+use Rattle.bc_model.specs.State.{State, Object, IsBorn, made_by, object_of, next_birth, slot_of, field_of, with_born, with_made, with_value, with_slot, with_born_field, place_of, reads, writes}
+use Rattle.bc_model.specs.Step.{step, act, domains_of, target_writes, on_object, on_field, on_own_field, told, loaded, is_same, with_new}
 use Rattle.bc_model.specs.declared.operations.Op.{Op}
 use Rattle.bc_model.specs.declared.operations.Op.TheVariants as op
 use Rattle.bc_model.specs.declared.operations.Reply.{Reply}
 use Rattle.bc_model.specs.declared.operations.Reply.TheVariants as reply
 use Rattle.bc_model.specs.declared.values.Birth.{Birth}
+use Rattle.bc_model.specs.declared.values.Holder.{Holder}
 use Rattle.bc_model.specs.declared.values.Slot.{Slot}
 use Rattle.bc_model.specs.declared.values.Value.{Value}
 use Rattle.bc_model.specs.declared.values.Value.TheVariants.{Nil, Num, Obj}
@@ -174,8 +175,8 @@ module _ (s : State) (more : List (List Object)) (k : ℕ) (lane : k < length s.
   object-both (Num n) f g known h = keep-both reply.NotObj reply.NotObj refl
   object-both (Obj b) f g known h =
       let rb = known b refl in
-      subst (λ (o : Object). Both (on_object s k (Obj b) f) (if holds s k o.domain then g b else (record s { made = more }, reply.Foreign))) (sym (like.object b rb))
-      (if-both (holds s k (object_of s.made b).domain) reply.Foreign (f b) (g b) (h b rb))
+      subst (λ (o : Object). Both (on_object s k (Obj b) f) (if reads s k o.domain then g b else (record s { made = more }, reply.Foreign))) (sym (like.object b rb))
+      (if-both (reads s k (object_of s.made b).domain) reply.Foreign (f b) (g b) (h b rb))
 
   field-both : (v : Value) (i : ℕ) (f g : Birth → State × Reply) → IsKnown s v → ((b : Birth) → Reached s.slots s.made b → Both (f b) (g b)) → Both (on_field s k v i f) (on_field (record s { made = more }) k v i g)
   field-both v i f g known h =
@@ -184,18 +185,29 @@ module _ (s : State) (more : List (List Object)) (k : ℕ) (lane : k < length s.
       subst (λ (o : Object). Both (if nat_lt i (length (object_of s.made b).fields) then f b else (s, reply.Range)) (if nat_lt i (length o.fields) then g b else (record s { made = more }, reply.Range))) (sym (like.object b rb))
       (if-both (nat_lt i (length (object_of s.made b).fields)) reply.Range (f b) (g b) (h b rb)))
 
+  own-both : (v : Value) (i : ℕ) (f g : Birth → State × Reply) → IsKnown s v → ((b : Birth) → Reached s.slots s.made b → Both (f b) (g b)) → Both (on_own_field s k v i f) (on_own_field (record s { made = more }) k v i g)
+  own-both v i f g known h =
+      object-both v
+      (λ b. if writes s k (object_of s.made b).domain then (if nat_lt i (length (object_of s.made b).fields) then f b else (s, reply.Range)) else (s, reply.Frozen))
+      (λ b. if writes s k (object_of more b).domain then (if nat_lt i (length (object_of more b).fields) then g b else (record s { made = more }, reply.Range)) else (record s { made = more }, reply.Frozen))
+      known
+      (λ b rb.
+      subst (λ (o : Object). Both (if writes s k (object_of s.made b).domain then (if nat_lt i (length (object_of s.made b).fields) then f b else (s, reply.Range)) else (s, reply.Frozen)) (if writes s k o.domain then (if nat_lt i (length o.fields) then g b else (record s { made = more }, reply.Range)) else (record s { made = more }, reply.Frozen))) (sym (like.object b rb))
+      (if-both (writes s k (object_of s.made b).domain) reply.Frozen (if nat_lt i (length (object_of s.made b).fields) then f b else (s, reply.Range)) (if nat_lt i (length (object_of s.made b).fields) then g b else (record s { made = more }, reply.Range))
+      (if-both (nat_lt i (length (object_of s.made b).fields)) reply.Range (f b) (g b) (h b rb))))
+
   told-both : (v : Value) → IsKnown s v → told (record s { made = more }) k v ≡ told s k v
   told-both Nil known = refl
   told-both (Num n) known = refl
-  told-both (Obj b) known = ap (λ (o : Object). if holds s k o.domain then reply.Obj b else reply.Foreign) (like.object b (known b refl))
+  told-both (Obj b) known = ap (λ (o : Object). if reads s k o.domain then reply.Obj b else reply.Foreign) (like.object b (known b refl))
 
   act-both : (o : Op) → Both (act s k o) (act (record s { made = more }) k o)
   act-both (op.New p n) = make-both p n
   act-both (op.Who p) = keep-both (told s k (slot_of s p)) (told (record s { made = more }) k (slot_of s p)) (told-both (slot_of s p) (slot-known p))
   act-both (op.Len p) = object-both (slot_of s p) (λ b. (s, reply.Len (length (object_of s.made b).fields))) (λ b. (record s { made = more }, reply.Len (length (object_of more b).fields))) (slot-known p) (λ b rb. keep-both (reply.Len (length (object_of s.made b).fields)) (reply.Len (length (object_of more b).fields)) (ap (λ (o : Object). reply.Len (length o.fields)) (like.object b rb)))
-  act-both (op.Set p i v) = field-both (slot_of s p) i (λ b. (with_born_field s b i (Num v), reply.Done)) (λ b. (with_born_field (record s { made = more }) b i (Num v), reply.Done)) (slot-known p) (λ b rb. write-both b i (Num v) reply.Done rb (λ c e. absurd (let h : Num v ≡ Obj c = e in cc)))
-  act-both (op.Cut p i) = field-both (slot_of s p) i (λ b. (with_born_field s b i Nil, reply.Done)) (λ b. (with_born_field (record s { made = more }) b i Nil, reply.Done)) (slot-known p) (λ b rb. write-both b i Nil reply.Done rb (λ c e. absurd (let h : Nil ≡ Obj c = e in cc)))
-  act-both (op.Link p i q) = field-both (slot_of s p) i (λ b. (with_born_field s b i (slot_of s q), reply.Done)) (λ b. (with_born_field (record s { made = more }) b i (slot_of s q), reply.Done)) (slot-known p) (λ b rb. write-both b i (slot_of s q) reply.Done rb (slot-known q))
+  act-both (op.Set p i v) = own-both (slot_of s p) i (λ b. (with_born_field s b i (Num v), reply.Done)) (λ b. (with_born_field (record s { made = more }) b i (Num v), reply.Done)) (slot-known p) (λ b rb. write-both b i (Num v) reply.Done rb (λ c e. absurd (let h : Num v ≡ Obj c = e in cc)))
+  act-both (op.Cut p i) = own-both (slot_of s p) i (λ b. (with_born_field s b i Nil, reply.Done)) (λ b. (with_born_field (record s { made = more }) b i Nil, reply.Done)) (slot-known p) (λ b rb. write-both b i Nil reply.Done rb (λ c e. absurd (let h : Nil ≡ Obj c = e in cc)))
+  act-both (op.Link p i q) = own-both (slot_of s p) i (λ b. (with_born_field s b i (slot_of s q), reply.Done)) (λ b. (with_born_field (record s { made = more }) b i (slot_of s q), reply.Done)) (slot-known p) (λ b rb. write-both b i (slot_of s q) reply.Done rb (slot-known q))
   act-both (op.Load p i q) = field-both (slot_of s p) i (λ b. (with_slot s q (field_of s b i), loaded (field_of s b i))) (λ b. (with_slot (record s { made = more }) q (field_of (record s { made = more }) b i), loaded (field_of (record s { made = more }) b i))) (slot-known p)
       (λ b rb.
       subst (λ (o : Object). Both (with_slot s q (field_of s b i), loaded (field_of s b i)) (with_slot (record s { made = more }) q (slice_index_or o.fields i Nil), loaded (slice_index_or o.fields i Nil))) (sym (like.object b rb))
@@ -205,7 +217,9 @@ module _ (s : State) (more : List (List Object)) (k : ℕ) (lane : k < length s.
   act-both (op.Same p q) = keep-both (if is_same (slot_of s p) (slot_of s q) then reply.Yes else reply.No) (if is_same (slot_of s p) (slot_of s q) then reply.Yes else reply.No) refl
 
   step-both : (o : Op) → Both (step s k o) (step (record s { made = more }) k o)
-  step-both o = if-both (list_all (holds s k) (domains_of o)) reply.Foreign (act s k o) (act (record s { made = more }) k o) (act-both o)
+  step-both o =
+      if-both (list_all (reads s k) (domains_of o)) reply.Foreign (if target_writes s k o then act s k o else (s, reply.Frozen)) (if target_writes s k o then act (record s { made = more }) k o else (record s { made = more }, reply.Frozen))
+      (if-both (target_writes s k o) reply.Frozen (act s k o) (act (record s { made = more }) k o) (act-both o))
 
 -- the law: one reply, and states that are alike again
 pub law-resembling : (s t : State) (k : ℕ) (o : Op) → k < length s.made → IsState s → Resembles s t → Resembles (step s k o).0 (step t k o).0 × ((step t k o).1 ≡ (step s k o).1)
@@ -222,5 +236,5 @@ law-resembling s t k o lane is r =
       b.answer,
     )
   where
-    rebuilt : (t : State) (w : ℕ) (vs : List Value) (hs : List ℕ) → t.width ≡ w → t.slots ≡ vs → t.holders ≡ hs → t ≡ record { width = w; made = t.made; slots = vs; holders = hs }
+    rebuilt : (t : State) (w : ℕ) (vs : List Value) (hs : List Holder) → t.width ≡ w → t.slots ≡ vs → t.holders ≡ hs → t ≡ record { width = w; made = t.made; slots = vs; holders = hs }
     rebuilt t w vs hs e f g = rw (sym e, sym f, sym g) refl

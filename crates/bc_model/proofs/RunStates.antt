@@ -1,22 +1,22 @@
 -- Every state of a run of a well-formed trace is one: before each phase, and after any part of a phase.
-use Rattle.std.proofs.Common.{length-set, ◌≡◌, ℕ, ◌+◌, ◌<◌, ◌≤◌, zero, suc, List, [], ◌∷◌, length, take, refl, sym, ap, subst, ◌∙◌, inl, inr, arith, ◌++◌}
+use Rattle.std.proofs.Common.{◌≡◌, ℕ, ◌+◌, ◌<◌, ◌≤◌, zero, suc, List, [], ◌∷◌, length, take, refl, sym, ap, subst, ◌∙◌, inl, inr, arith, ◌++◌}
 use Rattle.std.specs.List.{AllByRecursion}
 use Rattle.std.proofs.lemmas.Bool.{cases_lt}
 use Rattle.std.proofs.lemmas.List.{get_or_past}
 use Rattle.bc_model.specs.Consistent.{IsState}
 use Rattle.bc_model.specs.StateSizes.{HasSizes, sizes_of}
 use Rattle.bc_model.specs.Lists.{PhaseLists, TraceLists}
-use Rattle.bc_model.specs.Run.{opening, after_ops, after_lanes, after_gives, after_phase, after_phases, cut_lanes, no_phase, phase_at, before, after_cut}
-use Rattle.bc_model.specs.State.{State, given}
-use Rattle.bc_model.specs.WellFormed.{IsOp, IsGive, IsPhase, IsTrace}
+use Rattle.bc_model.specs.Run.{opening, after_ops, after_lanes, after_changes, after_phase, after_phases, cut_lanes, no_phase, phase_at, before, after_cut}
+use Rattle.bc_model.specs.State.{State, changed}
+use Rattle.bc_model.specs.WellFormed.{IsOp, FitsChange, IsPhase, IsTrace}
 use Rattle.bc_model.specs.declared.operations.Op.{Op}
-use Rattle.bc_model.specs.declared.traces.Give.{Give}
+use Rattle.bc_model.specs.declared.traces.Change.{Change}
 use Rattle.bc_model.specs.declared.traces.Setup.{Setup}
 use Rattle.bc_model.proofs.Callers.{IsPhase-from_setup}
 use Rattle.bc_model.proofs.InOrder.{IsState-after_ops, SameSizes-after_ops, IsState-after_lanes, FitLanes-same}
 use Rattle.bc_model.proofs.Openings.{IsState-opening, HasSizes-opening}
 use Rattle.bc_model.proofs.Runs.{at-index}
-use Rattle.bc_model.proofs.States.{IsState-given}
+use Rattle.bc_model.proofs.States.{IsState-changed, length-changed, only-changed}
 use Rattle.bc_model.proofs.Steps.{SameSizes, SameSizes-itself, SameSizes-then}
 
 SameSizes-after_lanes : (s : State) (j : ℕ) (lanes : List (List Op)) → IsState s → j + length lanes ≤ length s.made → AllByRecursion (AllByRecursion (IsOp (sizes_of s))) lanes → SameSizes s (after_lanes s j lanes)
@@ -39,14 +39,18 @@ OfSetup-same setup s t h same ht = record {
   sizes = record { lanes = same.lanes ∙ h.lanes; domains = ap length same.holders ∙ h.domains; slots = same.width ∙ h.slots };
 }
 
-OfSetup-after_gives : (setup : Setup) (s : State) (gives : List Give) → OfSetup setup s → AllByRecursion (IsGive setup) gives → OfSetup setup (after_gives s gives)
-unfolding after_gives
-OfSetup-after_gives setup s [] h fits = h
-OfSetup-after_gives setup s (g ∷ gives) h fits =
-    OfSetup-after_gives setup (given s g) gives
+OfSetup-after_changes : (setup : Setup) (s : State) (gives : List Change) → OfSetup setup s → AllByRecursion (FitsChange setup) gives → OfSetup setup (after_changes s gives)
+unfolding after_changes
+OfSetup-after_changes setup s [] h fits = h
+OfSetup-after_changes setup s (g ∷ gives) h fits =
+    OfSetup-after_changes setup (changed s g) gives
     (record {
-      state = IsState-given s g h.state (omega (arith, fits.0.1, h.sizes.lanes));
-      sizes = record { lanes = h.sizes.lanes; domains = length-set s.holders g.domain g.lane ∙ h.sizes.domains; slots = h.sizes.slots };
+      state = IsState-changed setup s g h.state (sym h.sizes.lanes) fits.0;
+      sizes = record {
+        lanes = ap (λ (x : State). length x.made) (only-changed s g) ∙ h.sizes.lanes;
+        domains = length-changed s g ∙ h.sizes.domains;
+        slots = ap (λ (x : State). x.width) (only-changed s g) ∙ h.sizes.slots;
+      };
     })
     fits.1
 
@@ -59,7 +63,7 @@ OfSetup-after_lanes setup s lanes h few fits =
 pub OfSetup-after_phase : (setup : Setup) (s : State) (p : PhaseLists) → OfSetup setup s → IsPhase setup p → OfSetup setup (after_phase s p)
 OfSetup-after_phase setup s p h fits =
     let here = IsPhase-from_setup setup s p h.sizes fits in
-    OfSetup-after_gives setup (after_lanes s 0 p.lanes) p.gives
+    OfSetup-after_changes setup (after_lanes s 0 p.lanes) p.gives
     (OfSetup-after_lanes setup s p.lanes h (omega (arith, here.lanes)) here.ops) fits.gives
 
 OfSetup-after_phases : (setup : Setup) (s : State) (k : ℕ) (phases : List PhaseLists) → OfSetup setup s → AllByRecursion (IsPhase setup) phases → OfSetup setup (after_phases s (take k phases))

@@ -1,15 +1,15 @@
--- Runs of a lane's operations and of gives, one at a time.
+-- Runs of a lane's operations and of gives and freezes, one at a time.
 use Rattle.std.proofs.Common.{append_assoc, Vec, Global, ◌≡◌, ℕ, ◌+◌, ◌<◌, ◌≤◌, List, [], ◌∷◌, ◌++◌, length, get_or, drop, sym, ap, ◌∙◌}
 use Rattle.std.specs.List.{AllByRecursion}
 use Rattle.std.proofs.lemmas.List.{drop_more, drop_all, get_or-map}
 use Rattle.std.proofs.lemmas.List.Elements.{All-from_recursion, All-get_or}
 use Rattle.bc_model.specs.Rows.{lists_of}
-use Rattle.bc_model.specs.Run.{after_ops, replies_to, after_lanes, replies_to_lanes, after_gives}
-use Rattle.bc_model.specs.State.{State, given}
+use Rattle.bc_model.specs.Run.{after_ops, replies_to, after_lanes, replies_to_lanes, after_changes}
+use Rattle.bc_model.specs.State.{State, changed}
 use Rattle.bc_model.specs.Step.{step}
 use Rattle.bc_model.specs.declared.operations.Op.{Op}
 use Rattle.bc_model.specs.declared.operations.Reply.{Reply}
-use Rattle.bc_model.specs.declared.traces.Give.{Give}
+use Rattle.bc_model.specs.declared.traces.Change.{Change}
 
 pub at-index : {X : Type 0} (P : X → Type 0) (xs : List X) (i : ℕ) (d : X) → AllByRecursion P xs → i < length xs → P (get_or xs i d)
 at-index P xs i d h within = All-get_or P xs i d within (All-from_recursion P xs h)
@@ -32,14 +32,14 @@ pub replies_to-end : (s : State) (j : ℕ) (ops : List Op) (i : ℕ) → length 
 unfolding replies_to
 replies_to-end s j ops i past = ap (replies_to s j) (drop_all i ops past)
 
-pub after_gives-more : (s : State) (gives : List Give) (i : ℕ) (g : Give) → i < length gives → g ≡ get_or gives i g → after_gives s (drop i gives) ≡ after_gives (given s g) (drop (i + 1) gives)
-unfolding after_gives
-after_gives-more s gives i g within is =
-    ap (after_gives s) (drop_more gives i g within) ∙ ap (λ (x : Give). after_gives (given s x) (drop (i + 1) gives)) (sym is)
+pub after_changes-more : (s : State) (gives : List Change) (i : ℕ) (g : Change) → i < length gives → g ≡ get_or gives i g → after_changes s (drop i gives) ≡ after_changes (changed s g) (drop (i + 1) gives)
+unfolding after_changes
+after_changes-more s gives i g within is =
+    ap (after_changes s) (drop_more gives i g within) ∙ ap (λ (x : Change). after_changes (changed s x) (drop (i + 1) gives)) (sym is)
 
-pub after_gives-end : (s : State) (gives : List Give) (i : ℕ) → length gives ≤ i → after_gives s (drop i gives) ≡ s
-unfolding after_gives
-after_gives-end s gives i past = ap (after_gives s) (drop_all i gives past)
+pub after_changes-end : (s : State) (gives : List Change) (i : ℕ) → length gives ≤ i → after_changes s (drop i gives) ≡ s
+unfolding after_changes
+after_changes-end s gives i past = ap (after_changes s) (drop_all i gives past)
 
 pub after_lanes-more : (s : State) (j : ℕ) (lanes : List (List Op)) (i : ℕ) (ops : List Op) → i < length lanes → ops ≡ get_or lanes i ops → after_lanes s j (drop i lanes) ≡ after_lanes (after_ops s j ops) (j + 1) (drop (i + 1) lanes)
 unfolding after_lanes

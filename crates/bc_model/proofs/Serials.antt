@@ -1,5 +1,5 @@
--- Each operation takes at most one serial, and a give none.
-use Rattle.std.proofs.Common.{ℕ, zero, suc, ◌+◌, ◌^◌, ◌<◌, ◌≤◌, List, [], ◌∷◌, length, get_or, take, arith}
+-- Each operation takes at most one serial, and a give or a freeze none.
+use Rattle.std.proofs.Common.{ℕ, zero, suc, ◌+◌, ◌^◌, ◌<◌, ◌≤◌, List, [], ◌∷◌, length, get_or, take, ap, arith}
 use Rattle.std.specs.Prelude.{sum_by}
 use Rattle.std.specs.List.{AllByRecursion}
 use Rattle.std.proofs.lemmas.List.{length-take}
@@ -7,18 +7,19 @@ use Rattle.std.proofs.lemmas.List.Sums.{sum_by-cons}
 use Rattle.bc_model.specs.Consistent.{IsState}
 use Rattle.bc_model.specs.StateSizes.{HasSerials, sizes_of}
 use Rattle.bc_model.specs.Lists.{PhaseLists, TraceLists}
-use Rattle.bc_model.specs.Run.{opening, after_ops, after_lanes, after_gives, after_phase, after_phases, cut_lanes, no_phase, phase_at, before, after_cut}
+use Rattle.bc_model.specs.Run.{opening, after_ops, after_lanes, after_changes, after_phase, after_phases, cut_lanes, no_phase, phase_at, before, after_cut}
 use Rattle.bc_model.specs.RunLengths.{ops_of, all_ops_of}
-use Rattle.bc_model.specs.State.{State, given}
+use Rattle.bc_model.specs.State.{State, made_by, changed}
 use Rattle.bc_model.specs.Step.{step}
 use Rattle.bc_model.specs.WellFormed.{IsOp, IsPhase, IsTrace}
 use Rattle.bc_model.specs.declared.operations.Op.{Op}
-use Rattle.bc_model.specs.declared.traces.Give.{Give}
+use Rattle.bc_model.specs.declared.traces.Change.{Change}
 use Rattle.bc_model.specs.declared.traces.Setup.{Setup}
 use Rattle.bc_model.proofs.Callers.{IsPhase-from_setup}
 use Rattle.bc_model.proofs.InOrder.{IsState-after_ops, SameSizes-after_ops, FitLanes-same}
 use Rattle.bc_model.proofs.Openings.{IsState-opening, HasSizes-opening, HasSerials-opening}
 use Rattle.bc_model.proofs.RunStates.{OfSetup, OfSetup-after_phase, OfSetup-before, fits-cut, length-cut_lanes, lanes-fit}
+use Rattle.bc_model.proofs.States.{only-changed}
 use Rattle.bc_model.proofs.Steps.{made-step, SameSizes-step, IsState-step, IsOps-same}
 
 pub HasSerials-less : (m n : ℕ) (s : State) → m ≤ n → HasSerials n s → HasSerials m s
@@ -45,14 +46,15 @@ HasSerials-after_lanes n s j (ops ∷ lanes) hs few fits h =
     (HasSerials-after_ops (n + sum_by length lanes) s j ops hs lane fits.0
     (HasSerials-less (n + sum_by length lanes + length ops) (n + sum_by length (ops ∷ lanes)) s (omega (arith, sum_by-cons length ops lanes)) h))
 
-pub HasSerials-after_gives : (n : ℕ) (s : State) (gives : List Give) → HasSerials n s → HasSerials n (after_gives s gives)
-unfolding after_gives
-HasSerials-after_gives n s [] h = h
-HasSerials-after_gives n s (g ∷ gives) h = HasSerials-after_gives n (given s g) gives (record { below = λ j. h.below j })
+pub HasSerials-after_changes : (n : ℕ) (s : State) (gives : List Change) → HasSerials n s → HasSerials n (after_changes s gives)
+unfolding after_changes
+HasSerials-after_changes n s [] h = h
+HasSerials-after_changes n s (g ∷ gives) h = HasSerials-after_changes n (changed s g) gives
+    (record { below = λ j. omega (arith, h.below j, ap (λ (x : State). length (made_by x.made j)) (only-changed s g)) })
 
 pub HasSerials-after_phase : (n : ℕ) (s : State) (p : PhaseLists) → IsState s → IsPhase (sizes_of s) p → HasSerials (n + ops_of p) s → HasSerials n (after_phase s p)
 HasSerials-after_phase n s p hs fits h =
-    HasSerials-after_gives n (after_lanes s 0 p.lanes) p.gives (HasSerials-after_lanes n s 0 p.lanes hs (omega (arith, fits.lanes)) fits.ops h)
+    HasSerials-after_changes n (after_lanes s 0 p.lanes) p.gives (HasSerials-after_lanes n s 0 p.lanes hs (omega (arith, fits.lanes)) fits.ops h)
 
 -- what the first k phases leave is enough for phase k
 HasSerials-after_phases : (setup : Setup) (s : State) (k : ℕ) (phases : List PhaseLists) → OfSetup setup s → AllByRecursion (IsPhase setup) phases → HasSerials (sum_by ops_of phases) s

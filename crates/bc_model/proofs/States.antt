@@ -1,11 +1,16 @@
--- Writes, new objects and gives keep what is true of every state.
-use Rattle.std.proofs.Common.{◌≡◌, ℕ, ◌-◌, ◌*◌, ◌<◌, ◌≤◌, List, length, get_or, set, replicate, sym, ap, subst, ◌∙◌, inl, inr, arith, get_or-set_same, get_or-set_other, length-set}
+-- Writes, new objects, gives and freezes keep what is true of every state.
+use Rattle.std.proofs.Common.{◌≡◌, ℕ, ◌-◌, ◌*◌, ◌<◌, ◌≤◌, List, length, get_or, set, replicate, refl, sym, ap, subst, ◌∙◌, inl, inr, arith, get_or-set_same, get_or-set_other, length-set}
 use Rattle.std.proofs.lemmas.Bool.{cases_eq, cases_lt}
 use Rattle.std.proofs.lemmas.List.{set_past, get_or_past, get_or-replicate, length-replicate}
-use Rattle.bc_model.specs.Consistent.{IsValue, AreValues, IsMadeObject, IsState}
-use Rattle.bc_model.specs.State.{State, Object, IsBorn, made_by, object_of, with_born, with_value, with_made, next_birth, with_slot, with_born_field, given, place_of}
+use Rattle.bc_model.specs.Consistent.{IsValue, AreValues, IsHolder, IsMadeObject, IsState}
+use Rattle.bc_model.specs.State.{State, Object, IsBorn, made_by, object_of, with_born, with_value, with_made, next_birth, with_slot, with_born_field, changed, handed, holder_of, place_of}
 use Rattle.bc_model.specs.Step.{with_new}
-use Rattle.bc_model.specs.declared.traces.Give.{Give}
+use Rattle.bc_model.specs.WellFormed.{FitsChange}
+use Rattle.bc_model.specs.declared.traces.Change.{Change}
+use Rattle.bc_model.specs.declared.traces.Change.TheVariants as change
+use Rattle.bc_model.specs.declared.values.Holder.{Holder}
+use Rattle.bc_model.specs.declared.values.Holder.TheVariants.{Lane, Frozen}
+use Rattle.bc_model.specs.declared.traces.Setup.{Setup}
 use Rattle.bc_model.specs.declared.values.Birth.{Birth}
 use Rattle.bc_model.specs.declared.values.Slot.{Slot}
 use Rattle.bc_model.specs.declared.values.Value.{Value}
@@ -78,7 +83,7 @@ IsState-with_field s b i v h born hv =
                 subst (λ (x : Object). IsMadeObject new (length s.holders) x) (sym (object_of-with_object_other s.made b o c born before ne))
                 (IsObject-kept s.made new kept (length s.holders) (object_of s.made c) (h.objects c before))
           ];
-      holders = λ d k. omega (arith, h.holders d k, length-set s.made b.lane (set (made_by s.made b.lane) (b.serial - 1) o));
+      holders = λ d k. subst (λ (n : ℕ). IsHolder n (holder_of s.holders d)) (sym (length-set s.made b.lane (set (made_by s.made b.lane) (b.serial - 1) o))) (h.holders d k);
     }
 
 pub IsState-with_new : (s : State) (j : ℕ) (p : Slot) (n : ℕ) → IsState s → j < length s.made → p.domain < length s.holders → n ≤ 127 → IsState (with_new s j p n)
@@ -105,28 +110,42 @@ IsState-with_new s j p n h lane domain few =
             | inr e ↦ subst (λ (x : Object). IsMadeObject new (length s.holders) x)
                 (sym (ap (λ (x : Birth). object_of new x) e ∙ object_of-with_made_same s.made j o lane)) whole
           ];
-      holders = λ d k. omega (arith, h.holders d k, length-with_made s.made j o);
+      holders = λ d k. subst (λ (n : ℕ). IsHolder n (holder_of s.holders d)) (sym (length-with_made s.made j o)) (h.holders d k);
     } in
     IsState-with_slot more p (Obj (next_birth s.made j)) grown (IsBorn-next_birth s.made j o lane)
 
-pub IsState-given : (s : State) (g : Give) → IsState s → g.lane < length s.made → IsState (given s g)
-IsState-given s g h lane = record {
+pub IsState-handed : (s : State) (e : ℕ) (x : Holder) → IsState s → IsHolder (length s.made) x → IsState (handed s e x)
+IsState-handed s e x h fits = record {
   lanes = h.lanes;
-  domains = omega (arith, h.domains, length-set s.holders g.domain g.lane);
+  domains = omega (arith, h.domains, length-set s.holders e x);
   width = h.width;
-  slots = h.slots ∙ ap (λ (n : ℕ). s.width * n) (sym (length-set s.holders g.domain g.lane));
+  slots = h.slots ∙ ap (λ (n : ℕ). s.width * n) (sym (length-set s.holders e x));
   values = h.values;
   objects = λ b k.
       let o = h.objects b k in
-      record { domain = omega (arith, o.domain, length-set s.holders g.domain g.lane); fields = o.fields; values = o.values };
+      record { domain = omega (arith, o.domain, length-set s.holders e x); fields = o.fields; values = o.values };
   holders = λ d k.
-      elim (cases_eq d g.domain) [
-        | inl e ↦ subst (λ (n : ℕ). get_or (set s.holders g.domain g.lane) n 0 < length s.made) (sym e)
-            (let within : g.domain < length s.holders = omega (arith, k, e, length-set s.holders g.domain g.lane) in
-            omega (arith, lane, get_or-set_same s.holders g.domain g.lane 0 within))
-        | inr ne ↦ omega (arith, get_or-set_other s.holders g.domain d g.lane 0 ne, h.holders d (omega (arith, k, length-set s.holders g.domain g.lane)))
+      elim (cases_eq d e) [
+        | inl is ↦
+            let within : e < length s.holders = omega (arith, k, is, length-set s.holders e x) in
+            subst (IsHolder (length s.made)) (sym (ap (λ (n : ℕ). get_or (set s.holders e x) n Frozen) is ∙ get_or-set_same s.holders e x Frozen within)) fits
+        | inr ne ↦
+            subst (IsHolder (length s.made)) (sym (get_or-set_other s.holders e d x Frozen ne)) (h.holders d (omega (arith, k, length-set s.holders e x)))
       ];
 }
+
+-- a give or a freeze keeps what is true of every state, and the sizes
+pub IsState-changed : (setup : Setup) (s : State) (c : Change) → IsState s → setup.lanes ≡ length s.made → FitsChange setup c → IsState (changed s c)
+IsState-changed setup s (change.Give g) h lanes fits = IsState-handed s g.domain (Lane g.lane) h (omega (arith, fits.1, lanes))
+IsState-changed setup s (change.Freeze d) h lanes fits = IsState-handed s d Frozen h tt
+
+pub length-changed : (s : State) (c : Change) → length (changed s c).holders ≡ length s.holders
+length-changed s (change.Give g) = length-set s.holders g.domain (Lane g.lane)
+length-changed s (change.Freeze d) = length-set s.holders d Frozen
+
+pub only-changed : (s : State) (c : Change) → changed s c ≡ record s { holders = (changed s c).holders }
+only-changed s (change.Give g) = refl
+only-changed s (change.Freeze d) = refl
 
 -- the same state, its objects and slots written otherwise
 pub IsState-written : (s : State) (made : List (List Object)) (slots : List Value) → made ≡ s.made → slots ≡ s.slots → IsState s → IsState (record { width = s.width; made = made; slots = slots; holders = s.holders })
@@ -137,8 +156,8 @@ IsState-written s made slots e f h =
 -- a state is its four parts
 pub same_state : (s t : State) → s.width ≡ t.width → s.made ≡ t.made → s.slots ≡ t.slots → s.holders ≡ t.holders → s ≡ t
 same_state s t w m x h =
-    let of = λ (w' : ℕ) (m' : List (List Object)) (x' : List Value) (h' : List ℕ). (let r : State = record { width = w'; made = m'; slots = x'; holders = h' } in r) in
+    let of = λ (w' : ℕ) (m' : List (List Object)) (x' : List Value) (h' : List Holder). (let r : State = record { width = w'; made = m'; slots = x'; holders = h' } in r) in
     ap (λ (w' : ℕ). of w' s.made s.slots s.holders) w
     ∙ ap (λ (m' : List (List Object)). of t.width m' s.slots s.holders) m
     ∙ ap (λ (x' : List Value). of t.width t.made x' s.holders) x
-    ∙ ap (λ (h' : List ℕ). of t.width t.made t.slots h') h
+    ∙ ap (λ (h' : List Holder). of t.width t.made t.slots h') h

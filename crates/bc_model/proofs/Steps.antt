@@ -6,8 +6,8 @@ use Rattle.std.proofs.lemmas.List.{length_push}
 use Rattle.bc_model.specs.Consistent.{IsState}
 use Rattle.bc_model.specs.StateSizes.{sizes_of}
 use Rattle.bc_model.specs.Grows.{Grows}
-use Rattle.bc_model.specs.State.{IsBorn, with_born_field, State, Object, made_by, object_of, with_born, with_made, with_value, holds}
-use Rattle.bc_model.specs.Step.{step, act, domains_of}
+use Rattle.bc_model.specs.State.{IsBorn, with_born_field, State, Object, made_by, object_of, with_born, with_made, with_value, reads}
+use Rattle.bc_model.specs.Step.{step, act, domains_of, target_writes}
 use Rattle.bc_model.specs.WellFormed.{IsOp}
 use Rattle.bc_model.specs.declared.operations.Op.{Op}
 use Rattle.bc_model.specs.declared.operations.Reply.{Reply}
@@ -144,8 +144,15 @@ pub SameSizes-then : (s t u : State) → SameSizes s t → SameSizes t u → Sam
 SameSizes-then s t u h k = record { width = k.width ∙ h.width; holders = k.holders ∙ h.holders; lanes = k.lanes ∙ h.lanes }
 
 -- of what the code answers: at most one object more, also where there was no memory
-pub made-result : {E : Type 0} (s : State) (k : ℕ) (o : Op) (t : State) (r : Result Reply E) (j : ℕ) → IsState s → k < length s.made → IsOp (sizes_of s) o → list_all (holds s k) (domains_of o) ≡ true → IfOk r (λ q. (t, q) ≡ act s k o) → OnErr r (t ≡ s) → length (made_by t.made j) ≤ length (made_by s.made j) + 1
-made-result s k o t (Ok q) j hs lane ho held ok err =
-    let does = Does-act s k o hs ho held in
+pub made-result : {E : Type 0} (s : State) (k : ℕ) (o : Op) (t : State) (r : Result Reply E) (j : ℕ) → IsState s → k < length s.made → IsOp (sizes_of s) o → list_all (reads s k) (domains_of o) ≡ true → target_writes s k o ≡ true → IfOk r (λ q. (t, q) ≡ act s k o) → OnErr r (t ≡ s) → length (made_by t.made j) ≤ length (made_by s.made j) + 1
+made-result s k o t (Ok q) j hs lane ho held own ok err =
+    let does = Does-act s k o hs ho held own in
     subst (λ (u : State). length (made_by u.made j) ≤ length (made_by s.made j) + 1) (sym (ap (λ (x : State × Reply). x.0) ok ∙ does.state)) (made-after_effect s k does.effect j lane does.own)
-made-result s k o t (Err e) j hs lane ho held ok err = omega (arith, ap (λ (u : State). length (made_by u.made j)) err)
+made-result s k o t (Err e) j hs lane ho held own ok err = omega (arith, ap (λ (u : State). length (made_by u.made j)) err)
+
+-- and the sizes are the same
+pub sizes-result : {E : Type 0} (s : State) (k : ℕ) (o : Op) (t : State) (r : Result Reply E) → IsState s → IsOp (sizes_of s) o → list_all (reads s k) (domains_of o) ≡ true → target_writes s k o ≡ true → IfOk r (λ q. (t, q) ≡ act s k o) → OnErr r (t ≡ s) → sizes_of t ≡ sizes_of s
+sizes-result s k o t (Ok q) hs ho held own ok err =
+    let does = Does-act s k o hs ho held own in
+    ap sizes_of (ap (λ (x : State × Reply). x.0) ok ∙ does.state) ∙ sizes_of-same s (after_effect s k does.effect) (SameSizes-after_effect s k does.effect)
+sizes-result s k o t (Err e) hs ho held own ok err = ap sizes_of err

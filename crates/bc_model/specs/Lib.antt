@@ -36,7 +36,7 @@ pub mod Need
 pub mod Interleaving
 -- Which operations make an object, so that they ask for memory.
 pub mod Making
--- The root slots that an operation names.
+-- The root slots that an operation names, and the one that it writes.
 pub mod Slots
 -- States that are alike as far as slots lead
 pub mod Resembles

@@ -3,6 +3,6 @@ use Rattle.std.specs.Prelude.{◌≡◌, ◌⊎◌}
 use Rattle.bc_model.specs.declared.operations.Reply.{Reply}
 use Rattle.bc_model.specs.declared.operations.Reply.TheVariants as reply
 
--- the reply says that the operation isn't done: no object, no such field, or a domain that isn't the lane's
+-- the reply says that the operation isn't done: no object, no such field, or a domain that the lane may not read or not write
 abbrev pub IsRefusal : Reply → Type 0
-IsRefusal r = (r ≡ reply.NotObj) ⊎ (r ≡ reply.Range) ⊎ (r ≡ reply.Foreign)
+IsRefusal r = (r ≡ reply.NotObj) ⊎ (r ≡ reply.Range) ⊎ (r ≡ reply.Foreign) ⊎ (r ≡ reply.Frozen)

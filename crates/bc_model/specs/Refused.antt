@@ -1,7 +1,8 @@
--- When a lane can't do an operation, by the state before it: it lacks a domain, or there is no object where the
--- operation needs one, or the object has no such field. Then: what the others are answered.
+-- When a lane can't do an operation, by the state before it: it may not read a domain, or not write one, or there is no object
+-- where the operation needs one, or the object has no such field. Then: what the others are answered.
 use Rattle.std.specs.Prelude.{◌≡◌, ◌≢◌, ◌⊎◌, ℕ, ◌≤◌, true, false, length}
-use Rattle.bc_model.specs.State.{State, object_of, slot_of, holds}
+use Rattle.bc_model.specs.State.{State, object_of, slot_of, reads, writes}
+use Rattle.bc_model.specs.Changes.{WritesSlot}
 use Rattle.bc_model.specs.declared.operations.Op.{Op}
 use Rattle.bc_model.specs.declared.operations.Op.TheVariants.{New, Who, Len, Set, Cut, Link, Load, Copy, Clear, Same}
 use Rattle.bc_model.specs.declared.operations.Reply.{Reply}
@@ -46,31 +47,59 @@ abbrev pub LooksAt : Op → Slot → Type 0
 LooksAt (Who p) r = r ≡ p
 LooksAt o r = NeedsObject o r
 
--- the domain of a slot that it names, or of an object that it looks at
-abbrev pub NeedsDomain : State → Op → ℕ → Type 0
-NeedsDomain s o d =
-    ((p : Slot) × NamesSlot o p × (d ≡ p.domain))
-    ⊎ ((p : Slot) × (b : Birth) × LooksAt o p × (slot_of s p ≡ Obj b) × (d ≡ (object_of s.made b).domain))
+-- the operation writes the object that the slot refers to
+abbrev pub WritesObject : Op → Slot → Type 0
+WritesObject (Set p i v) r = r ≡ p
+WritesObject (Cut p i) r = r ≡ p
+WritesObject (Link p i q) r = r ≡ p
+WritesObject _ r = ⊥
 
--- the lane holds all domains that the operation needs
-abbrev pub HoldsAll : State → ℕ → Op → Type 0
-HoldsAll s j o = (d : ℕ) → NeedsDomain s o d → holds s j d ≡ true
+-- the lane may read the slots that the operation names
+abbrev pub ReadsNamed : State → ℕ → Op → Type 0
+ReadsNamed s j o = (p : Slot) → NamesSlot o p → reads s j p.domain ≡ true
 
--- there is one that it doesn't hold
+-- the lane may write the slot that the operation writes, if it writes one
+abbrev pub WritesTarget : State → ℕ → Op → Type 0
+WritesTarget s j o = (p : Slot) → WritesSlot o p → writes s j p.domain ≡ true
+
+-- the lane may read the slots that the operation names, and write the one that it writes
+pub record FreeSlots (s : State) (j : ℕ) (o : Op) : Type 0 where
+  pub named : ReadsNamed s j o
+  pub target : WritesTarget s j o
+
+-- the lane may read the object that the operation looks at, if there is one
+abbrev pub ReadsObject : State → ℕ → Op → Type 0
+ReadsObject s j o = (p : Slot) → (b : Birth) → LooksAt o p → slot_of s p ≡ Obj b → reads s j (object_of s.made b).domain ≡ true
+
+-- the lane may write the object that the operation writes, if there is one
+abbrev pub WritesNeeded : State → ℕ → Op → Type 0
+WritesNeeded s j o = (p : Slot) → (b : Birth) → WritesObject o p → slot_of s p ≡ Obj b → writes s j (object_of s.made b).domain ≡ true
+
+-- the lane may not read the domain of a slot that the operation names; or it has a right to all slots, and may not read the
+-- domain of an object that the operation looks at
 abbrev pub LacksDomain : State → ℕ → Op → Type 0
-LacksDomain s j o = (d : ℕ) × NeedsDomain s o d × (holds s j d ≡ false)
+LacksDomain s j o =
+    ((p : Slot) × NamesSlot o p × (reads s j p.domain ≡ false))
+    ⊎ (FreeSlots s j o × ((p : Slot) × (b : Birth) × LooksAt o p × (slot_of s p ≡ Obj b) × (reads s j (object_of s.made b).domain ≡ false)))
 
--- the lane holds all domains that the operation names, but a slot that has to refer to an object refers to none: it is nil or a
--- number
+-- the lane may read what the operation needs, but not write the slot that it writes, or the object
+abbrev pub LacksRight : State → ℕ → Op → Type 0
+LacksRight s j o =
+    (ReadsNamed s j o × ((p : Slot) × WritesSlot o p × (writes s j p.domain ≡ false)))
+    ⊎ (FreeSlots s j o × ReadsObject s j o × ((p : Slot) × (b : Birth) × WritesObject o p × (slot_of s p ≡ Obj b) × (writes s j (object_of s.made b).domain ≡ false)))
+
+-- the lane has a right to all slots, but one that has to refer to an object refers to none: it is nil or a number
 pub record LacksObject (s : State) (j : ℕ) (o : Op) : Type 0 where
-  pub held : HoldsAll s j o
+  pub free : FreeSlots s j o
   pub place : Slot
   pub needed : NeedsObject o place
   pub none : (b : Birth) → slot_of s place ≢ Obj b
 
--- the lane holds all domains that the operation names, but the object has no field of that number
+-- the lane has a right to all slots and to the object, but the object has no field of that number
 pub record LacksField (s : State) (j : ℕ) (o : Op) : Type 0 where
-  pub held : HoldsAll s j o
+  pub free : FreeSlots s j o
+  pub read : ReadsObject s j o
+  pub written : WritesNeeded s j o
   pub place : Slot
   pub index : ℕ
   pub birth : Birth
@@ -80,7 +109,7 @@ pub record LacksField (s : State) (j : ℕ) (o : Op) : Type 0 where
 
 -- the operation is refused for one of these reasons
 abbrev pub IsRefused : State → ℕ → Op → Type 0
-IsRefused s j o = LacksDomain s j o ⊎ LacksObject s j o ⊎ LacksField s j o
+IsRefused s j o = LacksDomain s j o ⊎ LacksRight s j o ⊎ LacksObject s j o ⊎ LacksField s j o
 
 -- the operation changes a field or a slot, and its reply has no value
 abbrev pub IsChange : Op → Type 0

@@ -1,14 +1,15 @@
 -- In the theorem.
 -- A run of the one-thread heap: phase after phase, in each the operations of lane 0, then those of lane 1, and so on, and
--- then the gives.
+-- then the gives and freezes in their order.
 use Rattle.std.specs.Prelude.{ℕ, ◌+◌, ◌*◌, ◌%◌, List, [], ◌∷◌, map, replicate, take, slice_index_or}
 use Rattle.bc_model.specs.Lists.{PhaseLists, TraceLists}
-use Rattle.bc_model.specs.State.{State, given, numbers_below}
+use Rattle.bc_model.specs.State.{State, changed, numbers_below}
 use Rattle.bc_model.specs.Step.{step}
 use Rattle.bc_model.specs.declared.operations.Op.{Op}
 use Rattle.bc_model.specs.declared.operations.Reply.{Reply}
-use Rattle.bc_model.specs.declared.traces.Give.{Give}
+use Rattle.bc_model.specs.declared.traces.Change.{Change}
 use Rattle.bc_model.specs.declared.traces.Setup.{Setup}
+use Rattle.bc_model.specs.declared.values.Holder.TheVariants.{Lane}
 use Rattle.bc_model.specs.declared.values.Value.TheVariants.{Nil}
 
 -- no object, every slot nil, and domain d held by lane d mod lanes
@@ -17,7 +18,7 @@ opening s = record {
   width = s.slots;
   made = replicate s.lanes [];
   slots = replicate (s.slots * s.domains) Nil;
-  holders = map (λ d. d % s.lanes) (numbers_below s.domains);
+  holders = map (λ d. Lane (d % s.lanes)) (numbers_below s.domains);
 }
 
 -- the state after a lane's operations
@@ -40,14 +41,14 @@ unfoldable pub replies_to_lanes : State → ℕ → List (List Op) → List (Lis
 replies_to_lanes s j [] = []
 replies_to_lanes s j (ops ∷ lanes) = replies_to s j ops ∷ replies_to_lanes (after_ops s j ops) (j + 1) lanes
 
--- the state after some gives, one after another
-unfoldable pub after_gives : State → List Give → State
-after_gives s [] = s
-after_gives s (g ∷ gives) = after_gives (given s g) gives
+-- the state after some changes of holders, one after another
+unfoldable pub after_changes : State → List Change → State
+after_changes s [] = s
+after_changes s (c ∷ changes) = after_changes (changed s c) changes
 
--- the state after a phase: after the operations of all lanes, and then its gives
+-- the state after a phase: after the operations of all lanes, and then its gives and freezes
 abbrev pub after_phase : State → PhaseLists → State
-after_phase s p = after_gives (after_lanes s 0 p.lanes) p.gives
+after_phase s p = after_changes (after_lanes s 0 p.lanes) p.gives
 
 -- the state after some phases
 unfoldable pub after_phases : State → List PhaseLists → State

@@ -1,4 +1,4 @@
--- The root slots that an operation names.
+-- The root slots that an operation names, and the one that it writes.
 use Rattle.std.specs.Prelude.{ℕ, List, [], ◌∷◌, Option, Some, None}
 use Rattle.bc_model.specs.WellFormed.{IsSlot}
 use Rattle.bc_model.specs.declared.operations.Op.{Op}
@@ -28,3 +28,8 @@ domains_in p (Some q) = p.domain ∷ q.domain ∷ []
 abbrev pub AreSlots : Setup → Slot → Option Slot → Type 0
 AreSlots s p None = IsSlot s p
 AreSlots s p (Some q) = IsSlot s p × IsSlot s q
+
+-- the setup has this slot, if there is one
+abbrev pub IsTarget : Setup → Option Slot → Type 0
+IsTarget s None = Unit {0}
+IsTarget s (Some p) = IsSlot s p

@@ -1,7 +1,11 @@
 -- In the theorem.
 -- The abstract state of a run: objects that are never forgotten, root slots, and holders.
-use Rattle.std.specs.Prelude.{ℕ, ◌+◌, ◌-◌, ◌*◌, ◌<◌, ◌==◌, Bool, List, [], ◌∷◌, ◌++◌, length, slice_index_or, slice_index, slice_set, zero, suc}
+use Rattle.std.specs.Prelude.{ℕ, ◌+◌, ◌-◌, ◌*◌, ◌<◌, ◌==◌, ◌≢◌, Bool, true, false, List, [], ◌∷◌, ◌++◌, length, slice_index_or, slice_set, zero, suc}
+use Rattle.bc_model.specs.declared.traces.Change.{Change}
+use Rattle.bc_model.specs.declared.traces.Change.TheVariants as change
 use Rattle.bc_model.specs.declared.traces.Give.{Give}
+use Rattle.bc_model.specs.declared.values.Holder.{Holder}
+use Rattle.bc_model.specs.declared.values.Holder.TheVariants.{Lane, Frozen}
 use Rattle.bc_model.specs.declared.values.Birth.{Birth}
 use Rattle.bc_model.specs.declared.values.Slot.{Slot}
 use Rattle.bc_model.specs.declared.values.Value.{Value}
@@ -14,12 +18,12 @@ pub record Object : Type 0 where
 
 -- `made` has all objects that each lane ever made, in the order of their making, so that the object of
 -- birth l.s stands at s - 1 in the list at l. `slots` has what the root slots hold, domain after domain, `width`
--- slots each. `holders` has the lane that holds each domain.
+-- slots each. `holders` says of each domain who holds it: a lane, or nobody, where it is frozen.
 pub record State : Type 0 where
   pub width : ℕ
   pub made : List (List Object)
   pub slots : List Value
-  pub holders : List ℕ
+  pub holders : List Holder
 
 -- what stands for an object that was never born
 abbrev pub no_object : Object
@@ -75,13 +79,48 @@ with_value o i v = record o { fields = slice_set o.fields i v }
 abbrev pub with_born_field : State → Birth → ℕ → Value → State
 with_born_field s b i v = record s { made = with_born s.made b (with_value (object_of s.made b) i v) }
 
--- the lane holds the domain
-abbrev pub holds : State → ℕ → ℕ → Bool
-holds s j d = slice_index s.holders d == j
+-- who holds the domain: past the last domain nobody
+abbrev pub holder_of : List Holder → ℕ → Holder
+holder_of holders d = slice_index_or holders d Frozen
+
+-- the lane may read what is in a domain of this holder: its own, and all that is frozen
+abbrev pub lets_read : Holder → ℕ → Bool
+lets_read (Lane l) j = l == j
+lets_read Frozen j = true
+
+-- the lane may write what is in a domain of this holder: its own alone
+abbrev pub lets_write : Holder → ℕ → Bool
+lets_write (Lane l) j = l == j
+lets_write Frozen j = false
+
+-- no domain is frozen
+abbrev pub NoneFrozen : List Holder → Type 0
+NoneFrozen holders = (d : ℕ) → d < length holders → holder_of holders d ≢ Frozen
+
+-- the lane may read the domain
+abbrev pub reads : State → ℕ → ℕ → Bool
+reads s j d = lets_read (holder_of s.holders d) j
+
+-- the lane may write the domain
+abbrev pub writes : State → ℕ → ℕ → Bool
+writes s j d = lets_write (holder_of s.holders d) j
+
+-- the domain has another holder
+abbrev pub handed : State → ℕ → Holder → State
+handed s d h = record s { holders = slice_set s.holders d h }
 
 -- the domain changes hands
 abbrev pub given : State → Give → State
-given s g = record s { holders = slice_set s.holders g.domain g.lane }
+given s g = handed s g.domain (Lane g.lane)
+
+-- the domain is frozen
+abbrev pub frozen : State → ℕ → State
+frozen s d = handed s d Frozen
+
+-- the state after a change of holders at the end of a phase
+abbrev pub changed : State → Change → State
+changed s (change.Give g) = given s g
+changed s (change.Freeze d) = frozen s d
 
 -- the first n numbers
 abbrev pub numbers_below : ℕ → List ℕ

@@ -5,6 +5,8 @@ use Rattle.std.specs.List.{AllByRecursion}
 use Rattle.bc_model.specs.Lists.{PhaseLists, TraceLists}
 use Rattle.bc_model.specs.declared.operations.Op.{Op}
 use Rattle.bc_model.specs.declared.operations.Op.TheVariants.{New, Who, Len, Set, Cut, Link, Load, Copy, Clear, Same}
+use Rattle.bc_model.specs.declared.traces.Change.{Change}
+use Rattle.bc_model.specs.declared.traces.Change.TheVariants as change
 use Rattle.bc_model.specs.declared.traces.Give.{Give}
 use Rattle.bc_model.specs.declared.traces.Setup.{Setup}
 use Rattle.bc_model.specs.declared.values.Slot.{Slot}
@@ -52,6 +54,11 @@ IsOp s (Same p q) = IsSlot s p × IsSlot s q
 abbrev pub IsGive : Setup → Give → Type 0
 IsGive s g = (g.domain < s.domains) × (g.lane < s.lanes)
 
+-- a change names a domain of the setup, and a give a lane of it besides
+abbrev pub FitsChange : Setup → Change → Type 0
+FitsChange s (change.Give g) = IsGive s g
+FitsChange s (change.Freeze d) = d < s.domains
+
 -- a turn's line has at most 64 hints
 abbrev pub IsTurn : List ℕ → Type 0
 IsTurn hints = (length hints ≤ 64) × AllByRecursion (λ h. h < 2 ^ 32) hints
@@ -61,9 +68,21 @@ pub record IsPhase (s : Setup) (p : PhaseLists) : Type 0 where
   pub turns : AllByRecursion IsTurn p.turns
   pub lanes : length p.lanes ≡ s.lanes
   pub ops : AllByRecursion (AllByRecursion (IsOp s)) p.lanes
-  pub gives : AllByRecursion (IsGive s) p.gives
+  pub gives : AllByRecursion (FitsChange s) p.gives
 
--- a trace is well formed: its setup is in its ranges, and each phase fits the setup
+-- the version of the language has such a change: there is no freeze in version 1
+abbrev pub KnowsChange : ℕ → Change → Type 0
+KnowsChange version (change.Give g) = Unit {0}
+KnowsChange version (change.Freeze d) = 2 ≤ version
+
+-- the phase has no change that its version doesn't have
+abbrev pub IsKnown : ℕ → PhaseLists → Type 0
+IsKnown version p = AllByRecursion (KnowsChange version) p.gives
+
+-- a trace is well formed: its version is 1 or 2 and has all changes of the phases, its setup is in its ranges, and each phase fits
+-- the setup
 pub record IsTrace (t : TraceLists) : Type 0 where
+  pub version : IsWithin 1 2 t.version
+  pub known : AllByRecursion (IsKnown t.version) t.phases
   pub setup : IsSetup t.setup
   pub phases : AllByRecursion (IsPhase t.setup) t.phases

@@ -14,15 +14,16 @@ ghost use Rattle.bc_model.specs.Making.{IsNew};
 ghost use Rattle.bc_model.specs.Need.{IsNeed, superpages_for};
 ghost use Rattle.bc_model.specs.Reached.{Reached};
 ghost use Rattle.bc_model.specs.Paths.{HasPath};
-ghost use Rattle.bc_model.specs.Refused.{IsChange, IsRefused, LacksDomain, LacksField, LacksObject, Tells, TellsKind};
+ghost use Rattle.bc_model.specs.Refused.{IsChange, IsRefused, LacksDomain, LacksField, LacksObject, LacksRight, Tells, TellsKind};
 ghost use Rattle.bc_model.specs.Resembles.{Resembles};
 ghost use Rattle.bc_model.specs.Run.{after_cut, after_phases, before, cut_lanes, replies_of, replies_of_cut, replies_of_phases, replies_to_lanes};
-ghost use Rattle.bc_model.specs.State.{field_of, given, holds, IsBorn, made_by, next_birth, Object, object_of, slot_of, State};
+ghost use Rattle.bc_model.specs.State.{changed, field_of, frozen, given, holder_of, reads, writes, IsBorn, made_by, next_birth, NoneFrozen, Object, object_of, slot_of, State};
 ghost use Rattle.bc_model.specs.Step.{loaded, step};
 ghost use Rattle.bc_model.specs.Refusals.{IsRefusal};
 ghost use Rattle.bc_model.specs.WellFormed.{IsOp, IsPhase, IsSlot, IsTrace};
 ghost use Rattle.bc_model.specs.declared.operations.Op.{Op};
 ghost use Rattle.bc_model.specs.declared.operations.Reply.{Reply};
+ghost use Rattle.bc_model.specs.declared.traces.Change.{Change};
 ghost use Rattle.bc_model.specs.declared.traces.Give.{Give};
 ghost use Rattle.bc_model.specs.declared.traces.Setup.{Setup};
 ghost use Rattle.bc_model.specs.declared.values.Birth.{Birth};
@@ -45,48 +46,54 @@ pub fn law_any_order()
         → IsInterleaving s lanes steps → IsAsInOrder s lanes steps }
 {}
 
-/// Law: no object is ever forgotten, none changes its domain or its number of fields, and a give
-/// changes none.
+/// Law: no object is ever forgotten, none changes its domain or its number of fields, and gives and
+/// freezes change none.
 pub fn law_objects_stay()
     ensures steps { (s : State) → (steps : List LaneOp) → IsState s → FitSteps s steps → Grows s.made (after_steps s steps).made }
-    ensures give { (s : State) → (g : Give) → (given s g).made ≡ s.made }
+    ensures changes { (s : State) → (c : Change) → (changed s c).made ≡ s.made }
 {}
 
-/// Law: a lane touches no slot and no object of a domain that it doesn't hold.
+/// Law: a lane changes no slot and no object of a domain that it may not write, be it another lane's or frozen.
 pub fn law_others_untouched()
     ensures slots { (s : State) → (j : ℕ) → (o : Op) → (p : Slot) → IsState s → j < length s.made → IsOp (sizes_of s) o
-        → IsSlot (sizes_of s) p → holds s j p.domain ≡ false → slot_of (step s j o).0 p ≡ slot_of s p }
+        → IsSlot (sizes_of s) p → writes s j p.domain ≡ false → slot_of (step s j o).0 p ≡ slot_of s p }
     ensures objects { (s : State) → (j : ℕ) → (o : Op) → (b : Birth) → IsState s → j < length s.made → IsOp (sizes_of s) o
-        → IsBorn s.made b → holds s j (object_of s.made b).domain ≡ false → object_of (step s j o).0.made b ≡ object_of s.made b }
+        → IsBorn s.made b → writes s j (object_of s.made b).domain ≡ false → object_of (step s j o).0.made b ≡ object_of s.made b }
 {}
 
 /// Law: who a slot is after a `new` into it is the new object, which has the lane's next serial.
 pub fn law_who_after_new()
     ensures { (s : State) → (j : ℕ) → (p : Slot) → (n : ℕ) → IsState s → j < length s.made → IsSlot (sizes_of s) p
-        → holds s j p.domain ≡ true
+        → writes s j p.domain ≡ true
         → (step (step s j (Op.New p n)).0 j (Op.Who p)).1 ≡ Reply.Obj (next_birth s.made j) }
 {}
 
 /// Law: the length of a slot's object after a `new` into it is the number of fields that it asked for.
 pub fn law_len_after_new()
     ensures { (s : State) → (j : ℕ) → (p : Slot) → (n : ℕ) → IsState s → j < length s.made → IsSlot (sizes_of s) p
-        → holds s j p.domain ≡ true → (step (step s j (Op.New p n)).0 j (Op.Len p)).1 ≡ Reply.Len n }
+        → writes s j p.domain ≡ true → (step (step s j (Op.New p n)).0 j (Op.Len p)).1 ≡ Reply.Len n }
 {}
 
-/// Law: the reply is `Foreign` exactly where the lane doesn't hold the domain of a slot that the operation names, or of
-/// an object that it looks at.
+/// Law: the reply is `Foreign` exactly where the lane may not read the domain of a slot that the operation names, or, having a
+/// right to all slots, of an object that the operation looks at.
 pub fn law_foreign()
     ensures { (s : State) → (j : ℕ) → (o : Op) → ((step s j o).1 ≡ Reply.Foreign) ↔ LacksDomain s j o }
 {}
 
-/// Law: the reply is `NotObj` exactly where the lane holds all domains that the operation needs, and the slot that has to
-/// refer to an object is nil or a number.
+/// Law: the reply is `Frozen` exactly where the lane may read the slots that the operation names but not write the one that it
+/// writes, or, having a right to all slots, may read the object but not write it where the operation writes it.
+pub fn law_frozen()
+    ensures { (s : State) → (j : ℕ) → (o : Op) → ((step s j o).1 ≡ Reply.Frozen) ↔ LacksRight s j o }
+{}
+
+/// Law: the reply is `NotObj` exactly where the lane has a right to all slots of the operation, and the slot that has to refer
+/// to an object is nil or a number.
 pub fn law_not_object()
     ensures { (s : State) → (j : ℕ) → (o : Op) → ((step s j o).1 ≡ Reply.NotObj) ↔ LacksObject s j o }
 {}
 
-/// Law: the reply is `Range` exactly where the lane holds all domains that the operation needs, and the slot's object has
-/// no field of the number that it names.
+/// Law: the reply is `Range` exactly where the lane has a right to all slots of the operation and to the object, and the object
+/// has no field of the number that the operation names.
 pub fn law_range()
     ensures { (s : State) → (j : ℕ) → (o : Op) → ((step s j o).1 ≡ Reply.Range) ↔ LacksField s j o }
 {}
@@ -105,13 +112,13 @@ pub fn law_done()
         → ¬ IsRefused s j (Op.Load p i q) → TellsKind (field_of s b i) (step s j (Op.Load p i q)).1 }
 {}
 
-/// Law: two slots of domains that the lane holds are answered `Yes` exactly where they hold the same value, and `No`
+/// Law: two slots of domains that the lane may read are answered `Yes` exactly where they hold the same value, and `No`
 /// exactly where they don't.
 pub fn law_same()
     ensures yes { (s : State) → (j : ℕ) → (p q : Slot) → ((step s j (Op.Same p q)).1 ≡ Reply.Yes)
-        ↔ (holds s j p.domain ≡ true) × (holds s j q.domain ≡ true) × (slot_of s p ≡ slot_of s q) }
+        ↔ (reads s j p.domain ≡ true) × (reads s j q.domain ≡ true) × (slot_of s p ≡ slot_of s q) }
     ensures no { (s : State) → (j : ℕ) → (p q : Slot) → ((step s j (Op.Same p q)).1 ≡ Reply.No)
-        ↔ (holds s j p.domain ≡ true) × (holds s j q.domain ≡ true) × (slot_of s p ≢ slot_of s q) }
+        ↔ (reads s j p.domain ≡ true) × (reads s j q.domain ≡ true) × (slot_of s p ≢ slot_of s q) }
 {}
 
 /// Law: an operation that is refused changes nothing, whatever the state.
@@ -178,47 +185,59 @@ pub fn law_rest_stays()
 /// Law: what is loaded from a field after a `set` of it is the number.
 pub fn law_load_after_set()
     ensures { (s : State) → (j : ℕ) → (p q : Slot) → (i v : ℕ) → IsState s → (step s j (Op.Set p i v)).1 ≡ Reply.Done
-        → holds s j q.domain ≡ true
+        → writes s j q.domain ≡ true
         → (step (step s j (Op.Set p i v)).0 j (Op.Load p i q)).1 ≡ Reply.Num v }
 {}
 
 /// Law: what is loaded from a field after a `cut` of it is nil.
 pub fn law_load_after_cut()
     ensures { (s : State) → (j : ℕ) → (p q : Slot) → (i : ℕ) → IsState s → (step s j (Op.Cut p i)).1 ≡ Reply.Done
-        → holds s j q.domain ≡ true
+        → writes s j q.domain ≡ true
         → (step (step s j (Op.Cut p i)).0 j (Op.Load p i q)).1 ≡ Reply.Nil }
 {}
 
 /// Law: after a `link` that was done, what is loaded from the field is what the second slot held.
 pub fn law_load_after_link()
     ensures reply { (s : State) → (j : ℕ) → (p q r : Slot) → (i : ℕ) → IsState s → (step s j (Op.Link p i q)).1 ≡ Reply.Done
-        → holds s j r.domain ≡ true
+        → writes s j r.domain ≡ true
         → (step (step s j (Op.Link p i q)).0 j (Op.Load p i r)).1 ≡ loaded (slot_of s q) }
     ensures slot { (s : State) → (j : ℕ) → (p q r : Slot) → (i : ℕ) → IsState s → IsSlot (sizes_of s) r
-        → (step s j (Op.Link p i q)).1 ≡ Reply.Done → holds s j r.domain ≡ true
+        → (step s j (Op.Link p i q)).1 ≡ Reply.Done → writes s j r.domain ≡ true
         → slot_of (step (step s j (Op.Link p i q)).0 j (Op.Load p i r)).0 r ≡ slot_of s q }
 {}
 
 /// Law: who a slot is after a `clear` of it is nil.
 pub fn law_who_after_clear()
-    ensures { (s : State) → (j : ℕ) → (p : Slot) → IsState s → IsSlot (sizes_of s) p → holds s j p.domain ≡ true
+    ensures { (s : State) → (j : ℕ) → (p : Slot) → IsState s → IsSlot (sizes_of s) p → writes s j p.domain ≡ true
         → (step (step s j (Op.Clear p)).0 j (Op.Who p)).1 ≡ Reply.Nil }
 {}
 
 /// Law: after a `copy` both slots hold the same.
 pub fn law_same_after_copy()
-    ensures { (s : State) → (j : ℕ) → (p q : Slot) → IsState s → IsSlot (sizes_of s) q → holds s j p.domain ≡ true
-        → holds s j q.domain ≡ true
+    ensures { (s : State) → (j : ℕ) → (p q : Slot) → IsState s → IsSlot (sizes_of s) q → reads s j p.domain ≡ true
+        → writes s j q.domain ≡ true
         → (step (step s j (Op.Copy p q)).0 j (Op.Same p q)).1 ≡ Reply.Yes }
 {}
 
-/// Law: after a give the domain is the lane's and no other's, every other domain is whose it was, and nothing else
-/// has changed.
+/// Law: after a give the domain is read and written by the lane and no other, every other domain is whose it was, and
+/// nothing else has changed.
 pub fn law_holder_after_give()
-    ensures domain { (s : State) → (g : Give) → (j : ℕ) → g.domain < length s.holders
-        → holds (given s g) j g.domain ≡ (g.lane == j) }
-    ensures others { (s : State) → (g : Give) → (j d : ℕ) → d ≢ g.domain → holds (given s g) j d ≡ holds s j d }
+    ensures reads { (s : State) → (g : Give) → (j : ℕ) → g.domain < length s.holders
+        → reads (given s g) j g.domain ≡ (g.lane == j) }
+    ensures writes { (s : State) → (g : Give) → (j : ℕ) → g.domain < length s.holders
+        → writes (given s g) j g.domain ≡ (g.lane == j) }
+    ensures others { (s : State) → (g : Give) → (d : ℕ) → d ≢ g.domain
+        → holder_of (given s g).holders d ≡ holder_of s.holders d }
     ensures rest { (s : State) → (g : Give) → given s g ≡ record s { holders = (given s g).holders } }
+{}
+
+/// Law: after a freeze every lane may read the domain and none may write it, every other domain is whose it was, and
+/// nothing else has changed.
+pub fn law_holder_after_freeze()
+    ensures reads { (s : State) → (d j : ℕ) → d < length s.holders → reads (frozen s d) j d ≡ true }
+    ensures writes { (s : State) → (d j : ℕ) → d < length s.holders → writes (frozen s d) j d ≡ false }
+    ensures others { (s : State) → (d e : ℕ) → e ≢ d → holder_of (frozen s d).holders e ≡ holder_of s.holders e }
+    ensures rest { (s : State) → (d : ℕ) → frozen s d ≡ record s { holders = (frozen s d).holders } }
 {}
 
 /// Law: what is true of every state is true in each part of a run of a well-formed trace, and the sizes are
@@ -227,6 +246,12 @@ pub fn law_states_of_a_run()
     ensures before { (t : TraceLists) → (k : ℕ) → IsTrace t → IsState (before t k) × HasSizes t.setup (before t k) }
     ensures cut { (t : TraceLists) → (k : ℕ) → (cut : List ℕ) → IsTrace t
         → IsState (after_cut t k cut) × HasSizes t.setup (after_cut t k cut) }
+{}
+
+/// Law: in a run of a well-formed trace of version 1 no domain is ever frozen.
+pub fn law_first_version()
+    ensures before { (t : TraceLists) → (k : ℕ) → IsTrace t → t.version ≡ 1 → NoneFrozen (before t k).holders }
+    ensures cut { (t : TraceLists) → (k : ℕ) → (cut : List ℕ) → IsTrace t → t.version ≡ 1 → NoneFrozen (after_cut t k cut).holders }
 {}
 
 /// Law: each lane is answered in a cut of a phase the first of the replies that it is answered in the whole phase, as

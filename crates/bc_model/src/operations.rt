@@ -1,8 +1,8 @@
 //! The operations of a lane, the slots that they name, and the replies to them.
 
 ghost use Rattle.std.specs.Prelude.{◌≡◌};
-ghost use Rattle.bc_model.specs.Slots.{slots_of, domains_in, AreSlots};
-ghost use Rattle.bc_model.specs.Step.{domains_of};
+ghost use Rattle.bc_model.specs.Slots.{slots_of, domains_in, AreSlots, IsTarget};
+ghost use Rattle.bc_model.specs.Step.{domains_of, target_of};
 ghost use Rattle.bc_model.specs.WellFormed.{IsOp};
 ghost use Rattle.bc_model.specs.declared.traces.Setup.{Setup};
 
@@ -34,6 +34,18 @@ pub enum Op {
 }
 
 impl Op {
+    /// The root slot that the operation writes, if it writes one.
+    pub fn target(&self) -> Option<Slot>
+        ensures target { result ≡ target_of self.now }
+        ensures within { (s : Setup) → IsOp s self.now → IsTarget s result }
+    {
+        match *self {
+            Op::New(slot, _) | Op::Clear(slot) => Some(slot),
+            Op::Load(_, _, slot) | Op::Copy(_, slot) => Some(slot),
+            _ => None,
+        }
+    }
+
     /// The root slots that the operation names: the first, and the second where it names two.
     pub fn slots(&self) -> (Slot, Option<Slot>)
         ensures slots { result ≡ slots_of self.now }
@@ -71,6 +83,8 @@ pub enum Reply {
     NotObj,
     /// The object has no such field.
     Range,
-    /// A domain that the lane doesn't hold.
+    /// A domain that the lane may not read: it is another lane's.
     Foreign,
+    /// A domain that nobody may write: it is frozen.
+    Frozen,
 }

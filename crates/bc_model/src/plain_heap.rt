@@ -4,9 +4,9 @@ ghost use Rattle.std.specs.Prelude.{◌≡◌, ℕ, ◌+◌, ◌*◌, ◌^◌, �
 ghost use Rattle.std.specs.List.{list_all};
 ghost use Rattle.bc_model.specs.Consistent.{IsState, IsValue};
 ghost use Rattle.bc_model.specs.StateSizes.{sizes_of, HasSizes, HasSerials};
-ghost use Rattle.bc_model.specs.State.{State, IsBorn, made_by, given, holds, field_of, object_of, slot_of, with_born_field, with_slot};
+ghost use Rattle.bc_model.specs.State.{State, IsBorn, made_by, frozen, given, reads, writes, field_of, object_of, slot_of, with_born_field, with_slot};
 ghost use Rattle.bc_model.specs.Making.{IsNew};
-ghost use Rattle.bc_model.specs.Step.{act, domains_of, is_same, loaded, on_field, on_object, step};
+ghost use Rattle.bc_model.specs.Step.{act, domains_of, is_same, loaded, on_field, on_object, on_own_field, step, target_writes};
 ghost use Rattle.bc_model.specs.Run.{opening};
 ghost use Rattle.bc_model.specs.WellFormed.{IsOp, IsSetup, IsSlot};
 ghost use Rattle.bc_model.specs.declared.operations.Op.{Op};
@@ -17,7 +17,7 @@ use crate::made::Made;
 use crate::opening::first_holders;
 use crate::operations::{Op, Reply};
 use crate::traces::Setup;
-use crate::values::{Birth, Slot, Value};
+use crate::values::{Birth, Holder, Slot, Value};
 use std::alloc::{AllocError, Global};
 use std::marker::Model;
 
@@ -29,8 +29,8 @@ pub struct Flat {
     made: Made,
     /// What the root slots hold, domain after domain.
     slots: Vec<Value>,
-    /// The lane that holds each domain.
-    holders: Vec<u32>,
+    /// Who holds each domain.
+    holders: Vec<Holder>,
 }
 
 impl Model for Flat {
@@ -86,13 +86,16 @@ impl Flat {
         ensures sizes { sizes_of self.new ≡ sizes_of self.old }
         ensures more { (j : ℕ) → length (made_by self.new.made j) ≤ length (made_by self.old.made j) + 1 }
     {
-        if !self.holds_all(lane, op) {
+        if !self.reads_all(lane, op) {
             return Ok(Reply::Foreign);
+        }
+        if !self.writes_target(lane, op) {
+            return Ok(Reply::Frozen);
         }
         self.act(alloc, lane, op)
     }
 
-    /// An operation of a lane that holds all domains that it names.
+    /// An operation of a lane that may read all domains that it names, and write the slot that it writes.
     fn act(&mut self, alloc: Global, lane: u32, op: &Op) -> Result<Reply, AllocError>
         requires lane { lane < length self.old.made }
         requires op { IsOp (sizes_of self.old) op.now }
@@ -115,37 +118,65 @@ impl Flat {
         }
     }
 
-    /// From now on the lane holds the domain. Takes no memory.
+    /// From now on the lane holds the domain, also where it was frozen. Takes no memory.
     pub fn give(&mut self, domain: u32, lane: u32)
         requires domain { domain < length self.old.holders }
         requires lane { lane < length self.old.made }
         ensures given { self.new ≡ given self.old (record { domain = domain; lane = lane }) }
         ensures sizes { sizes_of self.new ≡ sizes_of self.old }
     {
-        self.holders[domain as usize] = lane;
+        self.holders[domain as usize] = Holder::Lane(lane);
     }
 
-    /// Whether the lane holds the domain.
-    fn holds(&self, lane: u32, domain: u32) -> bool
+    /// From now on all lanes may read the domain, and none may write it. Takes no memory.
+    pub fn freeze(&mut self, domain: u32)
+        requires { domain < length self.old.holders }
+        ensures frozen { self.new ≡ frozen self.old domain }
+        ensures sizes { sizes_of self.new ≡ sizes_of self.old }
+    {
+        self.holders[domain as usize] = Holder::Frozen;
+    }
+
+    /// Whether the lane may read the domain.
+    fn reads(&self, lane: u32, domain: u32) -> bool
         requires { domain < length self.now.holders }
-        ensures held { result ≡ holds self.now lane domain }
+        ensures held { result ≡ reads self.now lane domain }
         ensures state { IsState self.now }
     {
-        self.holders[domain as usize] == lane
+        self.holders[domain as usize].lets_read(lane)
     }
 
-    /// Whether the lane holds all domains that the operation names.
-    fn holds_all(&self, lane: u32, op: &Op) -> bool
+    /// Whether the lane may write the domain.
+    fn writes(&self, lane: u32, domain: u32) -> bool
+        requires { domain < length self.now.holders }
+        ensures held { result ≡ writes self.now lane domain }
+    {
+        self.holders[domain as usize].lets_write(lane)
+    }
+
+    /// Whether the lane may read all domains that the operation names.
+    fn reads_all(&self, lane: u32, op: &Op) -> bool
         requires { IsOp (sizes_of self.now) op.now }
-        ensures held { result ≡ list_all (holds self.now lane) (domains_of op.now) }
+        ensures held { result ≡ list_all (reads self.now lane) (domains_of op.now) }
         ensures state { IsState self.now }
     {
         let (first, second) = op.slots();
-        self.holds(lane, first.domain)
+        self.reads(lane, first.domain)
             && match second {
-                Some(slot) => self.holds(lane, slot.domain),
+                Some(slot) => self.reads(lane, slot.domain),
                 None => true,
             }
+    }
+
+    /// Whether the lane may write the slot that the operation writes, if it writes one.
+    fn writes_target(&self, lane: u32, op: &Op) -> bool
+        requires { IsOp (sizes_of self.now) op.now }
+        ensures { result ≡ target_writes self.now lane op.now }
+    {
+        match op.target() {
+            Some(slot) => self.writes(lane, slot.domain),
+            None => true,
+        }
     }
 
     /// Where the slot stands.
@@ -207,7 +238,7 @@ impl Flat {
         self.made.set_field(birth, index, value);
     }
 
-    /// The object that a value refers to, if its domain is the lane's, or the reply that says what
+    /// The object that a value refers to, if the lane may read its domain, or the reply that says what
     /// is wrong.
     fn object(&self, lane: u32, value: Value) -> Result<Birth, Reply>
         requires { IsValue self.now.made value }
@@ -220,7 +251,7 @@ impl Flat {
             return Err(Reply::NotObj);
         };
         let (domain, _) = self.shape(birth);
-        if self.holds(lane, domain) {
+        if self.reads(lane, domain) {
             Ok(birth)
         } else {
             Err(Reply::Foreign)
@@ -238,6 +269,28 @@ impl Flat {
     {
         let birth = self.object(lane, value)?;
         let (_, fields) = self.shape(birth);
+        if index < fields {
+            Ok(birth)
+        } else {
+            Err(Reply::Range)
+        }
+    }
+
+    /// The object that a value refers to, if the lane may write its domain and it has the field, or the reply that says what is
+    /// wrong. The domain is tested before the field.
+    fn own_object_with_field(&self, lane: u32, value: Value, index: u32) -> Result<Birth, Reply>
+        requires { IsValue self.now.made value }
+        ensures found { IfOk result (IsBorn self.now.made) }
+        ensures index { IfOk result (λ b. index < length (object_of self.now.made b).fields) }
+        ensures outcome { MatchResult result
+            (λ b. (next : Birth → State × Reply) → on_own_field self.now lane value index next ≡ next b)
+            (λ r. (next : Birth → State × Reply) → on_own_field self.now lane value index next ≡ (self.now, r)) }
+    {
+        let birth = self.object(lane, value)?;
+        let (domain, fields) = self.shape(birth);
+        if !self.writes(lane, domain) {
+            return Err(Reply::Frozen);
+        }
         if index < fields {
             Ok(birth)
         } else {
@@ -273,7 +326,7 @@ impl Flat {
             Value::Num(number) => Reply::Num(number),
             Value::Obj(birth) => {
                 let (domain, _) = self.shape(birth);
-                if self.holds(lane, domain) {
+                if self.reads(lane, domain) {
                     Reply::Obj(birth)
                 } else {
                     Reply::Foreign
@@ -299,7 +352,7 @@ impl Flat {
         requires { IsOp (sizes_of self.old) (Op.Set slot index number) }
         ensures { (self.new, result) ≡ act self.old lane (Op.Set slot index number) }
     {
-        match self.object_with_field(lane, self.slot(slot), index) {
+        match self.own_object_with_field(lane, self.slot(slot), index) {
             Ok(birth) => {
                 self.set_field(birth, index, Value::Num(number));
                 Reply::Done
@@ -312,7 +365,7 @@ impl Flat {
         requires { IsOp (sizes_of self.old) (Op.Cut slot index) }
         ensures { (self.new, result) ≡ act self.old lane (Op.Cut slot index) }
     {
-        match self.object_with_field(lane, self.slot(slot), index) {
+        match self.own_object_with_field(lane, self.slot(slot), index) {
             Ok(birth) => {
                 self.set_field(birth, index, Value::Nil);
                 Reply::Done
@@ -326,7 +379,7 @@ impl Flat {
         ensures { (self.new, result) ≡ act self.old lane (Op.Link slot index from) }
     {
         let value = self.slot(from);
-        match self.object_with_field(lane, self.slot(slot), index) {
+        match self.own_object_with_field(lane, self.slot(slot), index) {
             Ok(birth) => {
                 self.set_field(birth, index, value);
                 Reply::Done

@@ -4,19 +4,19 @@ ghost use Rattle.std.specs.Prelude.{◌≡◌, ℕ, ◌+◌, ◌^◌, ◌<◌, �
 ghost use Rattle.std.specs.List.{AllByRecursion};
 ghost use Rattle.bc_model.specs.StateSizes.{HasSerials, HasSizes, sizes_of};
 ghost use Rattle.bc_model.specs.Rows.{lists_of};
-ghost use Rattle.bc_model.specs.Run.{after_gives, after_lanes, after_ops, after_phase, replies_to, replies_to_lanes};
+ghost use Rattle.bc_model.specs.Run.{after_changes, after_lanes, after_ops, after_phase, replies_to, replies_to_lanes};
 ghost use Rattle.bc_model.specs.RunLengths.{ops_of};
-ghost use Rattle.bc_model.specs.State.{made_by};
-ghost use Rattle.bc_model.specs.WellFormed.{IsGive, IsOp, IsPhase};
+ghost use Rattle.bc_model.specs.State.{changed, made_by};
+ghost use Rattle.bc_model.specs.WellFormed.{FitsChange, IsOp, IsPhase};
 ghost use Rattle.bc_model.specs.declared.traces.Setup.{Setup};
 
 use crate::operations::{Op, Reply};
 use crate::plain_heap::Flat;
-use crate::traces::{Give, Phase, Replies};
+use crate::traces::{Change, Phase, Replies};
 use std::alloc::{AllocError, Global};
 
 impl Flat {
-    /// Does the operations of lane 0, then those of lane 1, and so on, and then the gives. Takes the
+    /// Does the operations of lane 0, then those of lane 1, and so on, and then the gives and freezes in their order. Takes the
     /// memory of the new objects and of the replies. Where there is none it stops at that operation,
     /// and of the heap nothing is promised then but that it can be dropped.
     pub fn phase(&mut self, alloc: Global, phase: &Phase) -> Result<Replies, AllocError>
@@ -30,7 +30,7 @@ impl Flat {
         ensures more { OnOk result ((n : ℕ) → HasSerials (n + ops_of phase.now) self.old → HasSerials n self.new) }
     {
         let lanes = self.replay_lanes(alloc, &phase.lanes)?;
-        self.give_all(&phase.gives);
+        self.change_all(&phase.gives);
         Ok(Replies { lanes })
     }
 
@@ -74,14 +74,27 @@ impl Flat {
         Ok(replies)
     }
 
-    fn give_all(&mut self, gives: &[Give])
-        requires { AllByRecursion (IsGive (sizes_of self.old)) gives.now }
-        ensures state { self.new ≡ after_gives self.old gives.now }
+    /// Does the gives and freezes, one after another.
+    fn change_all(&mut self, changes: &[Change])
+        requires { AllByRecursion (FitsChange (sizes_of self.old)) changes.now }
+        ensures state { self.new ≡ after_changes self.old changes.now }
         ensures sizes { sizes_of self.new ≡ sizes_of self.old }
         ensures same { self.new.made ≡ self.old.made }
     {
-        for give in gives {
-            self.give(give.domain, give.lane);
+        for change in changes {
+            self.change(change);
+        }
+    }
+
+    /// Does a give or a freeze. Takes no memory.
+    fn change(&mut self, change: &Change)
+        requires { FitsChange (sizes_of self.old) change.now }
+        ensures changed { self.new ≡ changed self.old change.now }
+        ensures sizes { sizes_of self.new ≡ sizes_of self.old }
+    {
+        match *change {
+            Change::Give(give) => self.give(give.domain, give.lane),
+            Change::Freeze(domain) => self.freeze(domain),
         }
     }
 }

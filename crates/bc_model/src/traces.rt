@@ -1,4 +1,4 @@
-//! A trace as data: its setup, phases, gives, and the replies to a phase.
+//! A trace as data: its setup, its phases, the changes of holders at their ends, and the replies to a phase.
 
 use crate::operations::{Op, Reply};
 use std::marker::Model;
@@ -26,15 +26,23 @@ pub struct Give {
     pub lane: u32,
 }
 
-/// A stretch of a run in which no domain changes hands.
+/// A change of holders at the end of a phase: a domain changes hands, or is frozen.
+#[derive(Clone, Copy, Debug, PartialEq, Eq)]
+pub enum Change {
+    Give(Give),
+    /// From the end of the phase on, all lanes may read this domain, and none may write it.
+    Freeze(u32),
+}
+
+/// A stretch of a run in which no domain changes hands and none is frozen.
 #[derive(Debug, Drop)]
 pub struct Phase {
     /// The hints of each `turn` line, in the order of the lines.
     pub turns: Vec<Vec<u32>>,
     /// The operations of each lane.
     pub lanes: Vec<Vec<Op>>,
-    /// The domains that change hands at the end, in order.
-    pub gives: Vec<Give>,
+    /// The domains that change hands or are frozen at the end, in order.
+    pub gives: Vec<Change>,
 }
 
 impl Model for Phase {
@@ -49,6 +57,8 @@ impl Model for Phase {
 /// What a program of several lanes asks of its heap.
 #[derive(Debug, Drop)]
 pub struct Trace {
+    /// The version of the language that the trace is written in: 1, or 2, which has frozen domains.
+    pub version: u32,
     pub setup: Setup,
     pub phases: Vec<Phase>,
 }
@@ -58,7 +68,7 @@ impl Model for Trace {
 
     ghost Value = { TraceLists };
 
-    ghost view = { λ t. record { setup = t.setup; phases = t.phases.items } };
+    ghost view = { λ t. record { version = t.version; setup = t.setup; phases = t.phases.items } };
 }
 
 /// The replies of a phase.

@@ -1,3 +1,8 @@
+//! Births of objects, what fields and root slots hold, the slots themselves, and who holds domains.
+
+ghost use Rattle.std.specs.Prelude.{◌≡◌};
+ghost use Rattle.bc_model.specs.State.{lets_read, lets_write};
+
 /// The name of an object for its whole life: the lane that made it, and how many objects that
 /// lane had made by then, itself counted (so the first serial is 1).
 #[derive(Clone, Copy, Debug, PartialEq, Eq)]
@@ -21,4 +26,34 @@ pub enum Value {
 pub struct Slot {
     pub domain: u32,
     pub slot: u32,
+}
+
+/// Who holds a domain: a lane, which alone reads and writes it, or nobody, where it is frozen: then every lane may read it, and
+/// none may write it.
+#[derive(Clone, Copy, Debug, PartialEq, Eq)]
+pub enum Holder {
+    Lane(u32),
+    Frozen,
+}
+
+impl Holder {
+    /// Whether the lane may read what is in a domain of this holder.
+    pub fn lets_read(self, lane: u32) -> bool
+        ensures { result ≡ lets_read self lane }
+    {
+        match self {
+            Holder::Lane(holder) => holder == lane,
+            Holder::Frozen => true,
+        }
+    }
+
+    /// Whether the lane may write what is in a domain of this holder.
+    pub fn lets_write(self, lane: u32) -> bool
+        ensures { result ≡ lets_write self lane }
+    {
+        match self {
+            Holder::Lane(holder) => holder == lane,
+            Holder::Frozen => false,
+        }
+    }
 }

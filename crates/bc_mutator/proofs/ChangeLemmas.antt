@@ -6,7 +6,8 @@ use Rattle.bc_model.specs.Refusals.{IsRefusal}
 use Rattle.bc_model.specs.declared.operations.Op.{Op}
 use Rattle.bc_model.specs.declared.operations.Op.TheVariants.{New, Who, Len, Set, Cut, Link, Load, Copy, Clear, Same}
 use Rattle.bc_model.specs.declared.operations.Reply.{Reply}
-use Rattle.bc_model.specs.declared.operations.Reply.TheVariants.{Done, Foreign}
+use Rattle.bc_model.specs.declared.operations.Reply.TheVariants.{Done, Foreign, Frozen}
+use Rattle.bc_model.specs.declared.values.Holder.{Holder}
 use Rattle.bc_model.specs.declared.values.Slot.{Slot}
 use Rattle.bc_nursery.specs.Objects.{IsChunk, has_object, the_object}
 use Rattle.bc_nursery.specs.Nurseries.{ChunkObject, Nursery}
@@ -31,7 +32,7 @@ young-filled c a whole on =
     let n = has-number c a on in
     subst (λ (o : ChunkObject). length o.fields ≡ o.head.fields) (sym (the_object-number c a n.0 whole n.1)) (whole.whole n.0).filled
 
-filled : (h : HeapView) (hs : List ℕ) (lane a : ℕ) → MayOperate h hs lane → IsCellOrYoung h.space (own_chunk h lane) a → length (cell_of h.space (own_chunk h lane) a).fields ≡ (cell_of h.space (own_chunk h lane) a).head.fields
+filled : (h : HeapView) (hs : List Holder) (lane a : ℕ) → MayOperate h hs lane → IsCellOrYoung h.space (own_chunk h lane) a → length (cell_of h.space (own_chunk h lane) a).fields ≡ (cell_of h.space (own_chunk h lane) a).head.fields
 filled h hs lane a ready there = elim (cases_lt a (end_of h.space)) [
   | inl below ↦
       subst (λ (c : Cell). length c.fields ≡ c.head.fields) (sym (cell_of-below h.space (own_chunk h lane) a below))
@@ -42,17 +43,17 @@ filled h hs lane a ready there = elim (cases_lt a (end_of h.space)) [
 ]
 
 -- a field that is written
-pub written-changes : (h k : HeapView) (hs : List ℕ) (lane : ℕ) (p : Slot) (target : Word) (at : Address) (index : ℕ) (word : Word) → CanWrite h hs lane target at index word → target ≡ slot_word h.roots p → Wrote h k lane at index word → ChangesField hs lane (whole_memory h) (whole_memory k) h.roots p index word Done
+pub written-changes : (h k : HeapView) (hs : List Holder) (lane : ℕ) (p : Slot) (target : Word) (at : Address) (index : ℕ) (word : Word) → CanWrite h hs lane target at index word → target ≡ slot_word h.roots p → Wrote h k lane at index word → ChangesField hs lane (whole_memory h) (whole_memory k) h.roots p index word Done
 written-changes h k hs lane p target at index word can e wrote =
-    let long = filled h hs lane at.0 can.ready can.of.there in
+    let long = filled h hs lane at.0 can.ready can.mine.of.there in
     let few = can.less in
     inl (
       record {
         at = at;
-        to = sym e ∙ can.of.refers;
+        to = sym e ∙ can.mine.of.refers;
         content = cell_of h.space (own_chunk h lane) at.0;
-        is = memory-there h.space h.chunks lane at.0 can.ready.layout can.ready.apart can.ready.lane_within can.of.there;
-        held = can.of.held;
+        is = memory-there h.space h.chunks lane at.0 can.ready.layout can.ready.apart can.ready.lane_within can.mine.of.there;
+        held = can.mine.own;
         less = omega arith;
       },
       refl,
@@ -63,16 +64,17 @@ written-changes h k hs lane p target at index word can e wrote =
 not-done : (reply : Reply) → IsRefusal reply → reply ≢ Done
 not-done reply (inl e) f = cc
 not-done reply (inr (inl e)) f = cc
-not-done reply (inr (inr e)) f = cc
+not-done reply (inr (inr (inl e))) f = cc
+not-done reply (inr (inr (inr e))) f = cc
 
-pub refused-changes : (h : HeapView) (hs : List ℕ) (lane : ℕ) (p : Slot) (index : ℕ) (word : Word) (reply : Reply) → IsRefusal reply → ChangesField hs lane (whole_memory h) (whole_memory h) h.roots p index word reply
+pub refused-changes : (h : HeapView) (hs : List Holder) (lane : ℕ) (p : Slot) (index : ℕ) (word : Word) (reply : Reply) → IsRefusal reply → ChangesField hs lane (whole_memory h) (whole_memory h) h.roots p index word reply
 refused-changes h hs lane p index word reply refusal = inr (not-done reply refusal, refl)
 
 foreign-done : Foreign ≢ Done
 foreign-done e = cc
 
-pub foreign-changes : (h : HeapView) (hs : List ℕ) (lane serial : ℕ) (op : Op) → HasChanged h h hs lane serial op Foreign
-foreign-changes h hs lane serial (New p n) = inr (refl, refl)
+pub foreign-changes : (h : HeapView) (hs : List Holder) (lane serial : ℕ) (op : Op) → HasChanged h h hs lane serial op Foreign
+foreign-changes h hs lane serial (New p n) = inr (inl refl, refl)
 foreign-changes h hs lane serial (Who p) = refl
 foreign-changes h hs lane serial (Len p) = refl
 foreign-changes h hs lane serial (Set p i v) = inr (foreign-done, refl)
@@ -82,3 +84,18 @@ foreign-changes h hs lane serial (Load p i q) = refl
 foreign-changes h hs lane serial (Copy p q) = refl
 foreign-changes h hs lane serial (Clear p) = refl
 foreign-changes h hs lane serial (Same p q) = refl
+
+frozen-done : Frozen ≢ Done
+frozen-done e = cc
+
+pub frozen-changes : (h : HeapView) (hs : List Holder) (lane serial : ℕ) (op : Op) → HasChanged h h hs lane serial op Frozen
+frozen-changes h hs lane serial (New p n) = inr (inr refl, refl)
+frozen-changes h hs lane serial (Who p) = refl
+frozen-changes h hs lane serial (Len p) = refl
+frozen-changes h hs lane serial (Set p i v) = inr (frozen-done, refl)
+frozen-changes h hs lane serial (Cut p i) = inr (frozen-done, refl)
+frozen-changes h hs lane serial (Link p i q) = inr (frozen-done, refl)
+frozen-changes h hs lane serial (Load p i q) = refl
+frozen-changes h hs lane serial (Copy p q) = refl
+frozen-changes h hs lane serial (Clear p) = refl
+frozen-changes h hs lane serial (Same p q) = refl

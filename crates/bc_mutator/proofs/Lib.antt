@@ -30,3 +30,5 @@ pub mod NewLemmas
 pub mod StepLemmas
 -- Each operation in the whole heap that the lane's parts belong to.
 pub mod ActLemmas
+-- Who may read and write a domain
+pub mod HolderLemmas

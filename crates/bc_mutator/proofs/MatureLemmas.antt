@@ -1,4 +1,9 @@
 -- A field of a cell is written: the heap stays closed, since a reference to the lane's chunk is recorded.
+use Rattle.bc_model.specs.declared.values.Holder.{Holder}
+use Rattle.bc_model.specs.State.{holder_of}
+use Rattle.bc_whole_heap.specs.LaneChunks.{chunk_for}
+use Rattle.bc_whole_heap.specs.Closed.{buffer_for}
+use Rattle.bc_model.specs.declared.values.Holder.TheVariants as holder
 use Rattle.std.proofs.Common.{◌≡◌, ◌≢◌, ◌⊎◌, ℕ, ◌<◌, true, false, List, [], ◌∷◌, length, get_or, set, Option, Some, refl, sym, ap, subst, ◌∙◌, inl, inr, arith, get_or-set_same, get_or-set_other, length-set}
 use Rattle.std.proofs.lemmas.Bool.{cases_eq, cases_lt, false≢true}
 use Rattle.std.proofs.lemmas.List.{get_or_append_left, get_or_push, length_push}
@@ -39,16 +44,17 @@ use Rattle.bc_word.specs.declared.words.Word.{Word}
 use Rattle.bc_word.specs.declared.words.Word.TheVariants.{Nil, Ref}
 use Rattle.bc_mutator.specs.Effects.{Records, WroteCell, with_entry}
 use Rattle.bc_mutator.specs.Objects.{LieBehind, IsOwn, cell_of}
+use Rattle.bc_mutator.proofs.HolderLemmas.{named-for}
 use Rattle.bc_mutator.proofs.ObjectLemmas.{cell_of-below, memory-there}
 use Rattle.bc_mutator.proofs.StateLemmas.{state-after}
 
 -- a write to a field of a cell that the lane may do
-pub record MatureWrite (s t : Layout) (r : RootWords) (cs : List Nursery) (bs es : List Entries) (hs : List ℕ) (lane : ℕ) (at : Address) (index : ℕ) (word : Word) : Type 0 where
+pub record MatureWrite (s t : Layout) (r : RootWords) (cs : List Nursery) (bs es : List Entries) (hs : List Holder) (lane : ℕ) (at : Address) (index : ℕ) (word : Word) : Type 0 where
   pub run : IsRunning (view_of s r cs bs) hs
   pub lane_within : lane < length cs
   pub lies_behind : LieBehind s (chunk_of cs lane)
   pub on : IsAllocated s at.0
-  pub held : get_or hs (space.cell_at s.pages at.0).head.domain 0 ≡ lane
+  pub held : holder_of hs (space.cell_at s.pages at.0).head.domain ≡ holder.Lane lane
   pub less : index < length (space.cell_at s.pages at.0).fields
   pub own : IsOwn s (chunk_of cs lane) word
   pub wrote : WroteCell s t (buffer_of bs lane) (buffer_of es lane) at index word
@@ -96,7 +102,7 @@ last-recorded b at index = (
   get_or_push b.entries (at, index) no_entry (length b.entries) refl,
 )
 
-module _ (s t : Layout) (r : RootWords) (cs : List Nursery) (bs es : List Entries) (hs : List ℕ) (lane : ℕ) (at : Address) (index : ℕ) (word : Word) (w : MatureWrite s t r cs bs es hs lane at index word) where
+module _ (s t : Layout) (r : RootWords) (cs : List Nursery) (bs es : List Entries) (hs : List Holder) (lane : ℕ) (at : Address) (index : ℕ) (word : Word) (w : MatureWrite s t r cs bs es hs lane at index word) where
   -- the cell as it was, and as it is
   old_cell : Cell
   old_cell = space.cell_at s.pages at.0
@@ -159,7 +165,7 @@ module _ (s t : Layout) (r : RootWords) (cs : List Nursery) (bs es : List Entrie
         object = h.cell;
         there = h.there;
         field = omega arith;
-        held = sym (ap (λ (x : Head). get_or hs x.domain 0) h.same_head) ∙ e.held;
+        held = sym (ap (λ (x : Head). holder_of hs x.domain) h.same_head) ∙ e.held;
         remembered = still-remembered s t (page_of cell) (after-write (page_of cell)) e.remembered;
       }
 
@@ -190,6 +196,9 @@ module _ (s t : Layout) (r : RootWords) (cs : List Nursery) (bs es : List Entrie
   named-old l a k b (inl on) = inl (allocated-same s t b.0 w.wrote.space ∙ on)
   named-old l a k b (inr young) = inr (young.0, recorded-kept l a k young.1)
 
+  named-any : (x : Holder) (a k : ℕ) (b : Address) → IsAllocated s b.0 ⊎ ((has_object (chunk_for cs x) b.0 ≡ true) × IsRecorded (buffer_for bs x) a k) → IsAllocated t b.0 ⊎ ((has_object (chunk_for cs x) b.0 ≡ true) × IsRecorded (buffer_for es x) a k)
+  named-any x a k b = named-for s t cs cs bs es a k b.0 (λ on. allocated-same s t b.0 w.wrote.space ∙ on) (λ l. named-old l a k b) x
+
   named-here : (k : ℕ) (b : Address) → get_or (set old_cell.fields index word) k Nil ≡ Ref b → IsAllocated t b.0 ⊎ ((has_object (chunk_of cs lane) b.0 ≡ true) × IsRecorded (buffer_of es lane) at.0 k)
   unfolding old_cell
   named-here k b e = elim (cases_eq k index) [
@@ -199,20 +208,20 @@ module _ (s t : Layout) (r : RootWords) (cs : List Nursery) (bs es : List Entrie
         (named-new b is (w.own b is))
     | inr ne ↦
         let is : get_or old_cell.fields k Nil ≡ Ref b = sym (get_or-set_other old_cell.fields index k word Nil ne) ∙ e in
-        subst (λ (l : ℕ). IsAllocated t b.0 ⊎ ((has_object (chunk_of cs l) b.0 ≡ true) × IsRecorded (buffer_of es l) at.0 k)) w.held
-        (named-old (get_or hs old_cell.head.domain 0) at.0 k b (w.run.closed.mature at.0 k old_cell b before is))
+        subst (λ (x : Holder). IsAllocated t b.0 ⊎ ((has_object (chunk_for cs x) b.0 ≡ true) × IsRecorded (buffer_for es x) at.0 k)) w.held
+        (named-any (holder_of hs old_cell.head.domain) at.0 k b (w.run.closed.mature at.0 k old_cell b before is))
   ]
 
-  mature-kept : (a k : ℕ) (c : Cell) (b : Address) → space.memory t a ≡ Some c → get_or c.fields k Nil ≡ Ref b → IsAllocated t b.0 ⊎ ((has_object (chunk_of cs (get_or hs c.head.domain 0)) b.0 ≡ true) × IsRecorded (buffer_of es (get_or hs c.head.domain 0)) a k)
+  mature-kept : (a k : ℕ) (c : Cell) (b : Address) → space.memory t a ≡ Some c → get_or c.fields k Nil ≡ Ref b → IsAllocated t b.0 ⊎ ((has_object (chunk_for cs (holder_of hs c.head.domain)) b.0 ≡ true) × IsRecorded (buffer_for es (holder_of hs c.head.domain)) a k)
   unfolding old_cell
   mature-kept a k c b e f = elim (cases_eq a at.0) [
     | inl here ↦
         let is : with_field old_cell index word ≡ c = same_Some (with_field old_cell index word) c (sym after ∙ ap (space.memory t) (sym here) ∙ e) in
-        let held : lane ≡ get_or hs c.head.domain 0 = sym w.held ∙ ap (λ (x : Cell). get_or hs x.head.domain 0) is in
-        subst (λ (x : ℕ). IsAllocated t b.0 ⊎ ((has_object (chunk_of cs (get_or hs c.head.domain 0)) b.0 ≡ true) × IsRecorded (buffer_of es (get_or hs c.head.domain 0)) x k)) (sym here)
-        (subst (λ (l : ℕ). IsAllocated t b.0 ⊎ ((has_object (chunk_of cs l) b.0 ≡ true) × IsRecorded (buffer_of es l) at.0 k)) held
+        let held : holder.Lane lane ≡ holder_of hs c.head.domain = sym w.held ∙ ap (λ (x : Cell). holder_of hs x.head.domain) is in
+        subst (λ (x : ℕ). IsAllocated t b.0 ⊎ ((has_object (chunk_for cs (holder_of hs c.head.domain)) b.0 ≡ true) × IsRecorded (buffer_for es (holder_of hs c.head.domain)) x k)) (sym here)
+        (subst (λ (x : Holder). IsAllocated t b.0 ⊎ ((has_object (chunk_for cs x) b.0 ≡ true) × IsRecorded (buffer_for es x) at.0 k)) held
         (named-here k b (ap (λ (x : Cell). get_or x.fields k Nil) is ∙ f)))
-    | inr ne ↦ named-old (get_or hs c.head.domain 0) a k b (w.run.closed.mature a k c b (sym (elsewhere a ne) ∙ e) f)
+    | inr ne ↦ named-any (holder_of hs c.head.domain) a k b (w.run.closed.mature a k c b (sym (elsewhere a ne) ∙ e) f)
   ]
 
   -- the entries of the lane's buffer
@@ -268,7 +277,7 @@ module _ (s t : Layout) (r : RootWords) (cs : List Nursery) (bs es : List Entrie
     lanes = length-buffers ∙ w.run.closed.lanes;
     domains = w.run.closed.domains;
     holder = w.run.closed.holder;
-    root = λ d p a lt less e. there-same s t (chunk_of cs (get_or hs d 0)) a.0 w.wrote.space (w.run.closed.root d p a lt less e);
+    root = λ d p a lt less e. there-same s t (chunk_for cs (holder_of hs d)) a.0 w.wrote.space (w.run.closed.root d p a lt less e);
     noted = λ k a lt e. elim (w.run.closed.noted k a lt e) [
       | inl on ↦ inl (subst (λ (x : Layout). IsAllocated x a.0) (sym w.wrote.space) on)
       | inr noted ↦ inr noted

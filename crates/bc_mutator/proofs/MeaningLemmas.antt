@@ -1,7 +1,8 @@
 -- What the words of a heap are read as in the state that it stands for.
-use Rattle.std.proofs.Common.{◌≡◌, ◌≢◌, ℕ, ◌+◌, ◌*◌, ◌<◌, ◌≤◌, nat_lt, Bool, true, false, if◌then◌else◌, List, length, get_or, Some, option_map, refl, sym, ap, ap₂, subst, ◌∙◌, arith, eq-eqb, mul_comm}
+use Rattle.bc_model.specs.declared.values.Holder.{Holder}
+use Rattle.std.proofs.Common.{◌≡◌, ℕ, ◌+◌, ◌*◌, ◌<◌, ◌≤◌, nat_lt, Bool, true, false, if◌then◌else◌, List, length, get_or, Some, option_map, refl, sym, ap, ap₂, ◌∙◌, arith, mul_comm}
 use Rattle.std.proofs.Math.ListN.{get_or-map}
-use Rattle.std.proofs.lemmas.Bool.{ne_eqb, lt-ltb, le-ltb, cond-true}
+use Rattle.std.proofs.lemmas.Bool.{lt-ltb, le-ltb, cond-true}
 use Rattle.bc_reach.specs.Reach.{begin, onward}
 use Rattle.bc_whole_heap.specs.Heaps.{HeapView}
 use Rattle.bc_whole_heap.specs.HeapFacts.{view_of}
@@ -11,7 +12,7 @@ use Rattle.bc_whole_heap.specs.Running.{IsRunning}
 use Rattle.bc_whole_heap.specs.LaneStates.{StandsAs}
 use Rattle.bc_memory.specs.Memory.{Cell, Memory}
 use Rattle.bc_model.specs.Reached.{Reached}
-use Rattle.bc_model.specs.State.{State, object_of, place_of, slot_of, field_of, holds}
+use Rattle.bc_model.specs.State.{State, object_of, place_of, slot_of, field_of, holder_of, lets_read, lets_write, reads, writes}
 use Rattle.bc_model.specs.Step.{on_object}
 use Rattle.bc_model.specs.declared.operations.Reply.{Reply}
 use Rattle.bc_model.specs.declared.operations.Reply.TheVariants as reply
@@ -32,7 +33,9 @@ use Rattle.bc_word.specs.Words.{word_of_bits}
 use Rattle.bc_word.specs.declared.addresses.Address.{Address}
 use Rattle.bc_word.specs.declared.words.Word.{Word}
 use Rattle.bc_word.specs.declared.words.Word.TheVariants as word
-use Rattle.bc_mutator.specs.Objects.{IsOwn, MayOperate, IsRead, IsOfLane, ActsOn, Refuses, ActsOnField, RefusesField, whole_memory, own_chunk, cell_of, slot_word}
+use Rattle.bc_mutator.specs.Objects.{IsOwn, MayOperate, IsRead, IsOfLane, IsOwnOfLane, ActsOn, Refuses, ActsOnField, RefusesField, ActsOnOwnField, RefusesOwnField, whole_memory, own_chunk, cell_of, slot_word}
+use Rattle.bc_model.proofs.Holders.{writes-held}
+use Rattle.bc_mutator.proofs.HolderLemmas.{read-own}
 use Rattle.bc_mutator.proofs.ObjectLemmas.{memory-there}
 
 -- a root slot stands where the state's slot does
@@ -44,7 +47,7 @@ root_word r i =
     ap (λ (d : Word). get_or (root_words r) i d) (sym word_of_bits-nil) ∙ get_or-map word_of_bits r.words i 0
 
 -- its word is read as the value there
-pub read-slot : {bs : List Entries} (s : Layout) (r : RootWords) (cs : List Nursery) (hs serials : List ℕ) (state : State) (p : Slot) → StandsAs (view_of s r cs bs) hs serials state → IsRead (heap_memory s cs) state (slot_word r p) (slot_of state p)
+pub read-slot : {bs : List Entries} (s : Layout) (r : RootWords) (cs : List Nursery) (hs : List Holder) (serials : List ℕ) (state : State) (p : Slot) → StandsAs (view_of s r cs bs) hs serials state → IsRead (heap_memory s cs) state (slot_word r p) (slot_of state p)
 read-slot s r cs hs serials state p h =
     let i = place_of state.width p in
     let here : get_or (root_words r) i word.Nil ≡ slot_word r p =
@@ -89,42 +92,42 @@ other_if : {X : Type 0} (t : Bool) (x y : X) → t ≡ false → (if t then x el
 other_if true x y e = cc
 other_if false x y e = refl
 
-pub on_object-held : (state : State) (lane : ℕ) (v : Value) (b : Birth) (next : Birth → State × Reply) → v ≡ value.Obj b → holds state lane (object_of state.made b).domain ≡ true → on_object state lane v next ≡ next b
+pub on_object-held : (state : State) (lane : ℕ) (v : Value) (b : Birth) (next : Birth → State × Reply) → v ≡ value.Obj b → reads state lane (object_of state.made b).domain ≡ true → on_object state lane v next ≡ next b
 on_object-held state lane v b next e held =
-    ap (λ (x : Value). on_object state lane x next) e ∙ cond-true (holds state lane (object_of state.made b).domain) (next b) (state, reply.Foreign) held
+    ap (λ (x : Value). on_object state lane x next) e ∙ cond-true (reads state lane (object_of state.made b).domain) (next b) (state, reply.Foreign) held
 
-pub on_object-foreign : (state : State) (lane : ℕ) (v : Value) (b : Birth) (next : Birth → State × Reply) → v ≡ value.Obj b → holds state lane (object_of state.made b).domain ≡ false → on_object state lane v next ≡ (state, reply.Foreign)
+pub on_object-foreign : (state : State) (lane : ℕ) (v : Value) (b : Birth) (next : Birth → State × Reply) → v ≡ value.Obj b → reads state lane (object_of state.made b).domain ≡ false → on_object state lane v next ≡ (state, reply.Foreign)
 on_object-foreign state lane v b next e off =
-    ap (λ (x : Value). on_object state lane x next) e ∙ other_if (holds state lane (object_of state.made b).domain) (next b) (state, reply.Foreign) off
+    ap (λ (x : Value). on_object state lane x next) e ∙ other_if (reads state lane (object_of state.made b).domain) (next b) (state, reply.Foreign) off
 
--- who holds a domain
-pub holds-is : (state : State) (hs : List ℕ) (lane d e : ℕ) → state.holders ≡ hs → d ≡ e → get_or hs d 0 ≡ lane → holds state lane e ≡ true
-holds-is state hs lane d e same domain held =
-    eq-eqb (get_or state.holders e 0) lane (ap₂ (λ (xs : List ℕ) (x : ℕ). get_or xs x 0) same (sym domain) ∙ held)
+-- who may read and write a domain
+pub reads-is : (state : State) (hs : List Holder) (lane d e : ℕ) (t : Bool) → state.holders ≡ hs → d ≡ e → lets_read (holder_of hs d) lane ≡ t → reads state lane e ≡ t
+reads-is state hs lane d e t same domain held =
+    ap₂ (λ (xs : List Holder) (x : ℕ). lets_read (holder_of xs x) lane) same (sym domain) ∙ held
 
-pub holds-not : (state : State) (hs : List ℕ) (lane d e : ℕ) → state.holders ≡ hs → d ≡ e → get_or hs d 0 ≢ lane → holds state lane e ≡ false
-holds-not state hs lane d e same domain off =
-    ne_eqb (get_or state.holders e 0) lane (λ f. off (sym (ap₂ (λ (xs : List ℕ) (x : ℕ). get_or xs x 0) same (sym domain)) ∙ f))
+pub writes-is : (state : State) (hs : List Holder) (lane d e : ℕ) (t : Bool) → state.holders ≡ hs → d ≡ e → lets_write (holder_of hs d) lane ≡ t → writes state lane e ≡ t
+writes-is state hs lane d e t same domain held =
+    ap₂ (λ (xs : List Holder) (x : ℕ). lets_write (holder_of xs x) lane) same (sym domain) ∙ held
 
 -- what an operation on an object does, determined by where the object lies
-pub acts-on : (h : HeapView) (hs : List ℕ) (lane : ℕ) (w : Word) (a : Address) → MayOperate h hs lane → w ≡ word.Ref a → IsCellOrYoung h.space (own_chunk h lane) a.0 → get_or hs (cell_of h.space (own_chunk h lane) a.0).head.domain 0 ≡ lane → ActsOn h hs lane w a
+pub acts-on : (h : HeapView) (hs : List Holder) (lane : ℕ) (w : Word) (a : Address) → MayOperate h hs lane → w ≡ word.Ref a → IsCellOrYoung h.space (own_chunk h lane) a.0 → lets_read (holder_of hs (cell_of h.space (own_chunk h lane) a.0).head.domain) lane ≡ true → ActsOn h hs lane w a
 acts-on h hs lane w a ready e there held = λ serials state v means read next.
     let c = cell_of h.space (own_chunk h lane) a.0 in
     let at = memory-there h.space h.chunks lane a.0 ready.layout ready.apart ready.lane_within there in
     let home = home-ref (whole_memory h) (root_words h.roots) state w v a c means.stands e at read in
     on_object-held state lane v (birth_of c.head) next (read-ref (whole_memory h) state w v a c e at read)
-    (holds-is state hs lane c.head.domain (object_of state.made (birth_of c.head)).domain means.held home.domain held)
+    (reads-is state hs lane c.head.domain (object_of state.made (birth_of c.head)).domain true means.held home.domain held)
 
-pub refuses-foreign : (h : HeapView) (hs : List ℕ) (lane : ℕ) (w : Word) (a : Address) → MayOperate h hs lane → w ≡ word.Ref a → IsCellOrYoung h.space (own_chunk h lane) a.0 → get_or hs (cell_of h.space (own_chunk h lane) a.0).head.domain 0 ≢ lane → Refuses h hs lane w reply.Foreign
+pub refuses-foreign : (h : HeapView) (hs : List Holder) (lane : ℕ) (w : Word) (a : Address) → MayOperate h hs lane → w ≡ word.Ref a → IsCellOrYoung h.space (own_chunk h lane) a.0 → lets_read (holder_of hs (cell_of h.space (own_chunk h lane) a.0).head.domain) lane ≡ false → Refuses h hs lane w reply.Foreign
 refuses-foreign h hs lane w a ready e there off = λ serials state v means read next.
     let c = cell_of h.space (own_chunk h lane) a.0 in
     let at = memory-there h.space h.chunks lane a.0 ready.layout ready.apart ready.lane_within there in
     let home = home-ref (whole_memory h) (root_words h.roots) state w v a c means.stands e at read in
     on_object-foreign state lane v (birth_of c.head) next (read-ref (whole_memory h) state w v a c e at read)
-    (holds-not state hs lane c.head.domain (object_of state.made (birth_of c.head)).domain means.held home.domain off)
+    (reads-is state hs lane c.head.domain (object_of state.made (birth_of c.head)).domain false means.held home.domain off)
 
 -- the same of an operation on a field
-pub acts-on_field : (h : HeapView) (hs : List ℕ) (lane i : ℕ) (w : Word) (a : Address) → MayOperate h hs lane → IsOfLane h hs lane w a → ActsOn h hs lane w a → i < (cell_of h.space (own_chunk h lane) a.0).head.fields → ActsOnField h hs lane w i a
+pub acts-on_field : (h : HeapView) (hs : List Holder) (lane i : ℕ) (w : Word) (a : Address) → MayOperate h hs lane → IsOfLane h hs lane w a → ActsOn h hs lane w a → i < (cell_of h.space (own_chunk h lane) a.0).head.fields → ActsOnField h hs lane w i a
 acts-on_field h hs lane i w a ready of acts lt = λ serials state v means read next.
     let c = cell_of h.space (own_chunk h lane) a.0 in
     let at = memory-there h.space h.chunks lane a.0 ready.layout ready.apart ready.lane_within of.there in
@@ -133,7 +136,7 @@ acts-on_field h hs lane i w a ready of acts lt = λ serials state v means read n
     ∙ cond-true (nat_lt i (length (object_of state.made (birth_of c.head)).fields)) (next (birth_of c.head)) (state, reply.Range)
     (lt-ltb i (length (object_of state.made (birth_of c.head)).fields) (let n = home.count in omega arith))
 
-pub refuses-range : (h : HeapView) (hs : List ℕ) (lane i : ℕ) (w : Word) (a : Address) → MayOperate h hs lane → IsOfLane h hs lane w a → ActsOn h hs lane w a → (cell_of h.space (own_chunk h lane) a.0).head.fields ≤ i → RefusesField h hs lane w i reply.Range
+pub refuses-range : (h : HeapView) (hs : List Holder) (lane i : ℕ) (w : Word) (a : Address) → MayOperate h hs lane → IsOfLane h hs lane w a → ActsOn h hs lane w a → (cell_of h.space (own_chunk h lane) a.0).head.fields ≤ i → RefusesField h hs lane w i reply.Range
 refuses-range h hs lane i w a ready of acts le = λ serials state v means read next.
     let c = cell_of h.space (own_chunk h lane) a.0 in
     let at = memory-there h.space h.chunks lane a.0 ready.layout ready.apart ready.lane_within of.there in
@@ -142,11 +145,55 @@ refuses-range h hs lane i w a ready of acts le = λ serials state v means read n
     ∙ other_if (nat_lt i (length (object_of state.made (birth_of c.head)).fields)) (next (birth_of c.head)) (state, reply.Range)
     (le-ltb i (length (object_of state.made (birth_of c.head)).fields) (let n = home.count in omega arith))
 
-pub refuses-before : (h : HeapView) (hs : List ℕ) (lane i : ℕ) (w : Word) (r : Reply) → Refuses h hs lane w r → RefusesField h hs lane w i r
+pub refuses-before : (h : HeapView) (hs : List Holder) (lane i : ℕ) (w : Word) (r : Reply) → Refuses h hs lane w r → RefusesField h hs lane w i r
 refuses-before h hs lane i w r refuses = λ serials state v means read next.
     refuses serials state v means read (λ b. if nat_lt i (length (object_of state.made b).fields) then next b else (state, reply.Range))
 
--- a root slot of a domain that the lane holds has a word of the lane's
-pub own-slot : (h : HeapView) (hs : List ℕ) (lane : ℕ) (p : Slot) → IsRunning h hs → p.domain < h.roots.domains → p.slot < h.roots.slots → get_or hs p.domain 0 ≡ lane → IsOwn h.space (own_chunk h lane) (slot_word h.roots p)
+-- the same of an operation that writes a field
+abbrev owned : State → ℕ → ℕ → (Birth → State × Reply) → Birth → State × Reply
+owned state lane i next b =
+    if writes state lane (object_of state.made b).domain
+    then (if nat_lt i (length (object_of state.made b).fields) then next b else (state, reply.Range))
+    else (state, reply.Frozen)
+
+pub acts-on_own : (h : HeapView) (hs : List Holder) (lane i : ℕ) (w : Word) (a : Address) → MayOperate h hs lane → IsOwnOfLane h hs lane w a → ActsOn h hs lane w a → i < (cell_of h.space (own_chunk h lane) a.0).head.fields → ActsOnOwnField h hs lane w i a
+acts-on_own h hs lane i w a ready own acts lt = λ serials state v means read next.
+    let of = own.of in
+    let c = cell_of h.space (own_chunk h lane) a.0 in
+    let at = memory-there h.space h.chunks lane a.0 ready.layout ready.apart ready.lane_within of.there in
+    let home = home-ref (whole_memory h) (root_words h.roots) state w v a c means.stands of.refers at read in
+    acts serials state v means read (owned state lane i next)
+    ∙ cond-true (writes state lane (object_of state.made (birth_of c.head)).domain) _ (state, reply.Frozen)
+    (writes-is state hs lane c.head.domain (object_of state.made (birth_of c.head)).domain true means.held home.domain (writes-held (holder_of hs c.head.domain) lane own.own))
+    ∙ cond-true (nat_lt i (length (object_of state.made (birth_of c.head)).fields)) (next (birth_of c.head)) (state, reply.Range)
+    (lt-ltb i (length (object_of state.made (birth_of c.head)).fields) (let n = home.count in omega arith))
+
+pub refuses-own_range : (h : HeapView) (hs : List Holder) (lane i : ℕ) (w : Word) (a : Address) → MayOperate h hs lane → IsOwnOfLane h hs lane w a → ActsOn h hs lane w a → (cell_of h.space (own_chunk h lane) a.0).head.fields ≤ i → RefusesOwnField h hs lane w i reply.Range
+refuses-own_range h hs lane i w a ready own acts le = λ serials state v means read next.
+    let of = own.of in
+    let c = cell_of h.space (own_chunk h lane) a.0 in
+    let at = memory-there h.space h.chunks lane a.0 ready.layout ready.apart ready.lane_within of.there in
+    let home = home-ref (whole_memory h) (root_words h.roots) state w v a c means.stands of.refers at read in
+    acts serials state v means read (owned state lane i next)
+    ∙ cond-true (writes state lane (object_of state.made (birth_of c.head)).domain) _ (state, reply.Frozen)
+    (writes-is state hs lane c.head.domain (object_of state.made (birth_of c.head)).domain true means.held home.domain (writes-held (holder_of hs c.head.domain) lane own.own))
+    ∙ other_if (nat_lt i (length (object_of state.made (birth_of c.head)).fields)) (next (birth_of c.head)) (state, reply.Range)
+    (le-ltb i (length (object_of state.made (birth_of c.head)).fields) (let n = home.count in omega arith))
+
+pub refuses-frozen : (h : HeapView) (hs : List Holder) (lane i : ℕ) (w : Word) (a : Address) → MayOperate h hs lane → IsOfLane h hs lane w a → ActsOn h hs lane w a → lets_write (holder_of hs (cell_of h.space (own_chunk h lane) a.0).head.domain) lane ≡ false → RefusesOwnField h hs lane w i reply.Frozen
+refuses-frozen h hs lane i w a ready of acts off = λ serials state v means read next.
+    let c = cell_of h.space (own_chunk h lane) a.0 in
+    let at = memory-there h.space h.chunks lane a.0 ready.layout ready.apart ready.lane_within of.there in
+    let home = home-ref (whole_memory h) (root_words h.roots) state w v a c means.stands of.refers at read in
+    acts serials state v means read (owned state lane i next)
+    ∙ other_if (writes state lane (object_of state.made (birth_of c.head)).domain) _ (state, reply.Frozen)
+    (writes-is state hs lane c.head.domain (object_of state.made (birth_of c.head)).domain false means.held home.domain off)
+
+pub refuses-own_before : (h : HeapView) (hs : List Holder) (lane i : ℕ) (w : Word) (r : Reply) → Refuses h hs lane w r → RefusesOwnField h hs lane w i r
+refuses-own_before h hs lane i w r refuses = λ serials state v means read next.
+    refuses serials state v means read (owned state lane i next)
+
+-- a root slot of a domain that the lane may read has a word of the lane's
+pub own-slot : (h : HeapView) (hs : List Holder) (lane : ℕ) (p : Slot) → IsRunning h hs → p.domain < h.roots.domains → p.slot < h.roots.slots → lets_read (holder_of hs p.domain) lane ≡ true → IsOwn h.space (own_chunk h lane) (slot_word h.roots p)
 own-slot h hs lane p runs domain slot held = λ a e.
-    subst (λ (l : ℕ). IsCellOrYoung h.space (own_chunk h l) a.0) held (runs.closed.root p.domain p.slot a domain slot e)
+    read-own h.space h.chunks (holder_of hs p.domain) lane a.0 held (runs.closed.root p.domain p.slot a domain slot e)

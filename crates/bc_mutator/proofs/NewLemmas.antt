@@ -1,4 +1,8 @@
 -- A new object at the end of the lane's chunk, and a root slot that refers to it.
+use Rattle.bc_model.specs.declared.values.Holder.{Holder}
+use Rattle.bc_model.specs.State.{holder_of}
+use Rattle.bc_whole_heap.specs.LaneChunks.{chunk_for}
+use Rattle.bc_model.specs.declared.values.Holder.TheVariants as holder
 use Rattle.std.proofs.Common.{◌≡◌, ◌≢◌, ◌⊎◌, ℕ, ◌+◌, ◌^◌, ◌<◌, ◌≤◌, true, false, List, [], ◌∷◌, ◌++◌, length, get_or, set, replicate, Option, Some, None, is_some, option_map, refl, sym, ap, ap₂, subst, ◌∙◌, inl, inr, arith}
 use Prim.Native.Nat.{zero, suc}
 use Rattle.std.proofs.Math.ListN.{get_or-map}
@@ -47,19 +51,21 @@ use Rattle.bc_word.specs.declared.words.Word.TheVariants.{Nil, Ref}
 use Rattle.bc_mutator.specs.Effects.{with_root, DidAct}
 use Rattle.bc_mutator.specs.Objects.{MayOperate, AreWhole, IsOwn, own_chunk}
 use Rattle.bc_mutator.specs.Operations.{NoneLater}
+use Rattle.bc_model.proofs.Holders.{IsHolder-as_many}
+use Rattle.bc_mutator.proofs.HolderLemmas.{for-holder, named-for}
 use Rattle.bc_mutator.proofs.MeaningLemmas.{same_place}
 use Rattle.bc_mutator.proofs.RootLemmas.{buffers-same, running-root, root_words-set, slots-other}
 use Rattle.bc_mutator.proofs.YoungLemmas.{chunk-other, chunks-whole, length-chunks, laid-kept}
 
 -- a new object of the lane's chunk, which has room for it
-pub record MakesYoung (s : Layout) (r : RootWords) (cs ds : List Nursery) (bs : List Entries) (hs : List ℕ) (lane : ℕ) (head : Head) : Type 0 where
+pub record MakesYoung (s : Layout) (r : RootWords) (cs ds : List Nursery) (bs : List Entries) (hs : List Holder) (lane : ℕ) (head : Head) : Type 0 where
   pub run : IsRunning (view_of s r cs bs) hs
   pub lane_within : lane < length cs
   pub whole : AreWhole cs
   pub apart : AreApart (end_of s) cs
   pub room : class_of head.fields ≤ left_of (chunk_of cs lane)
   pub within : head.domain < length hs
-  pub held : get_or hs head.domain 0 ≡ lane
+  pub held : holder_of hs head.domain ≡ holder.Lane lane
   pub chunks : ds ≡ set cs lane (with_young_object (chunk_of cs lane) head)
 
 -- at another address the chunks hold what they held
@@ -68,7 +74,7 @@ object_in-replaced [] n a d e = refl
 object_in-replaced (c ∷ cs) zero a d e = ap (λ (p : Option ChunkObject). option_or p (object_in cs a)) e
 object_in-replaced (c ∷ cs) (suc n) a d e = ap (option_or (object_at c a)) (object_in-replaced cs n a d e)
 
-module _ (s : Layout) (r : RootWords) (cs ds : List Nursery) (bs : List Entries) (hs : List ℕ) (lane : ℕ) (head : Head) (w : MakesYoung s r cs ds bs hs lane head) where
+module _ (s : Layout) (r : RootWords) (cs ds : List Nursery) (bs : List Entries) (hs : List Holder) (lane : ℕ) (head : Head) (w : MakesYoung s r cs ds bs hs lane head) where
   -- where the object lies
   abbrev pub made_at : ℕ
   made_at = nursery.chunk_end (chunk_of cs lane)
@@ -124,10 +130,10 @@ module _ (s : Layout) (r : RootWords) (cs ds : List Nursery) (bs : List Entries)
       no : {Y : Type 0} (x : Address) → Nil ≡ Ref x → Y
       no x f = cc
 
-  made-young_domain : (l a : ℕ) → l < length cs → has_object (chunk_of ds l) a ≡ true → ((the_object (chunk_of ds l) a).head.domain < length hs) × (get_or hs (the_object (chunk_of ds l) a).head.domain 0 ≡ l)
+  made-young_domain : (l a : ℕ) → l < length cs → has_object (chunk_of ds l) a ≡ true → ((the_object (chunk_of ds l) a).head.domain < length hs) × (holder_of hs (the_object (chunk_of ds l) a).head.domain ≡ holder.Lane l)
   made-young_domain l a lt on =
       object_cases
-      (λ (x y : ℕ) (p : Option ChunkObject). x < length cs → is_some p ≡ true → ((object_or p).head.domain < length hs) × (get_or hs (object_or p).head.domain 0 ≡ x))
+      (λ (x y : ℕ) (p : Option ChunkObject). x < length cs → is_some p ≡ true → ((object_or p).head.domain < length hs) × (holder_of hs (object_or p).head.domain ≡ holder.Lane x))
       (λ _ _. (w.within, w.held))
       (λ x y less has. w.run.closed.young_domain x y less has)
       l a lt on
@@ -151,13 +157,13 @@ module _ (s : Layout) (r : RootWords) (cs ds : List Nursery) (bs : List Entries)
       record {
         lanes = closed.lanes ∙ sym long;
         domains = closed.domains;
-        holder = λ d lt. (let h = closed.holder d lt in omega arith);
-        root = λ d p a lt less e. there-kept (get_or hs d 0) a.0 (closed.root d p a lt less e);
+        holder = λ d lt. IsHolder-as_many _ _ (holder_of hs d) long (closed.holder d lt);
+        root = λ d p a lt less e. for-holder s cs ds there-kept (holder_of hs d) a.0 (closed.root d p a lt less e);
         noted = closed.noted;
         young_domain = λ l a lt on. made-young_domain l a (omega arith) on;
         young = λ l a k b lt on e. there-kept l b.0 (made-young l a k b (omega arith) on e);
         mature_domain = closed.mature_domain;
-        mature = λ a k c b e f. named-kept (get_or hs c.head.domain 0) a k b (closed.mature a k c b e f);
+        mature = λ a k c b e f. named-for s s cs ds bs bs a k b.0 (λ on. on) (λ l. named-kept l a k b) (holder_of hs c.head.domain) (closed.mature a k c b e f);
         entries = closed.entries;
       }
 
@@ -295,11 +301,11 @@ module _ (s : Layout) (r : RootWords) (cs ds : List Nursery) (bs : List Entries)
       }
 
 -- how many births a lane has had
-pub births-count : {h : HeapView} (hs serials : List ℕ) (lane : ℕ) (state : State) → StandsAs h hs serials state → get_or serials lane 0 ≡ length (made_by state.made lane)
+pub births-count : {h : HeapView} (hs : List Holder) (serials : List ℕ) (lane : ℕ) (state : State) → StandsAs h hs serials state → get_or serials lane 0 ≡ length (made_by state.made lane)
 births-count hs serials lane state st = sym (ap (λ (xs : List ℕ). get_or xs lane 0) st.births) ∙ get_or-map length state.made lane []
 
 -- and none is later
-pub none-later : (h : HeapView) (hs serials : List ℕ) (state : State) → StandsAs h hs serials state → (lane : ℕ) → NoneLater h.space h.chunks lane (get_or serials lane 0)
+pub none-later : (h : HeapView) (hs : List Holder) (serials : List ℕ) (state : State) → StandsAs h hs serials state → (lane : ℕ) → NoneLater h.space h.chunks lane (get_or serials lane 0)
 none-later h hs serials state st lane a b e same =
     let born = (st.born a b e).serial in
     let here : length (made_by state.made b.lane) ≡ length (made_by state.made lane) = ap (λ (l : ℕ). length (made_by state.made l)) same in
@@ -307,7 +313,7 @@ none-later h hs serials state st lane a b e same =
     omega arith
 
 -- so a new object is done
-pub done-new : (h : HeapView) (chunks : List Nursery) (roots : RootWords) (hs : List ℕ) (lane serial n : ℕ) (p : Slot) (object : Address) → MayOperate h hs lane → p.domain < h.roots.domains → p.slot < h.roots.slots → n ≤ 127 → lane < 16 → serial + 1 < 2 ^ 32 → get_or hs p.domain 0 ≡ lane → class_of n ≤ left_of (own_chunk h lane) → chunks ≡ set h.chunks lane (with_young_object (own_chunk h lane) (record { lane = lane; serial = serial + 1; domain = p.domain; fields = n })) → object.0 ≡ nursery.chunk_end (own_chunk h lane) → roots ≡ with_root h.roots p (Ref object) → DidAct h (record h { roots = roots; chunks = chunks }) hs lane serial (serial + 1) (New p n) (reply.Obj (record { lane = lane; serial = serial + 1 }))
+pub done-new : (h : HeapView) (chunks : List Nursery) (roots : RootWords) (hs : List Holder) (lane serial n : ℕ) (p : Slot) (object : Address) → MayOperate h hs lane → p.domain < h.roots.domains → p.slot < h.roots.slots → n ≤ 127 → lane < 16 → serial + 1 < 2 ^ 32 → holder_of hs p.domain ≡ holder.Lane lane → class_of n ≤ left_of (own_chunk h lane) → chunks ≡ set h.chunks lane (with_young_object (own_chunk h lane) (record { lane = lane; serial = serial + 1; domain = p.domain; fields = n })) → object.0 ≡ nursery.chunk_end (own_chunk h lane) → roots ≡ with_root h.roots p (Ref object) → DidAct h (record h { roots = roots; chunks = chunks }) hs lane serial (serial + 1) (New p n) (reply.Obj (record { lane = lane; serial = serial + 1 }))
 done-new h chunks roots hs lane serial n p object ready domain slot few lanes serials held room is at written =
     subst (λ (r : RootWords). DidAct h (record h { roots = r; chunks = chunks }) hs lane serial (serial + 1) (New p n) (reply.Obj (record { lane = lane; serial = serial + 1 }))) (sym root_is) (record {
       step = λ serials state means e. (
@@ -373,9 +379,9 @@ done-new h chunks roots hs lane serial n p object ready domain slot few lanes se
       chunks = is;
     }
 
-    own : IsOwn h.space (chunk_of chunks (get_or hs p.domain 0)) (Ref to)
-    own = λ a e. inr (subst (λ (x : Address). has_object (chunk_of chunks (get_or hs p.domain 0)) x.0 ≡ true) (one_address to a e)
-        (subst (λ (l : ℕ). has_object (chunk_of chunks l) to.0 ≡ true) (sym held)
+    own : IsOwn h.space (chunk_for chunks (holder_of hs p.domain)) (Ref to)
+    own = λ a e. inr (subst (λ (x : Address). has_object (chunk_for chunks (holder_of hs p.domain)) x.0 ≡ true) (one_address to a e)
+        (subst (λ (x : Holder). has_object (chunk_for chunks x) to.0 ≡ true) (sym held)
         (has-new h.space h.roots h.chunks chunks h.buffers hs lane head makes)))
       where
         one_address : (x y : Address) → Ref x ≡ Ref y → x ≡ y

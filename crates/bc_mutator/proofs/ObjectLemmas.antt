@@ -1,4 +1,5 @@
 -- The objects that a lane may look at, in the heap as one memory.
+use Rattle.bc_model.specs.declared.values.Holder.{Holder}
 use Rattle.std.proofs.Common.{◌≡◌, ℕ, ◌+◌, ◌<◌, ◌≤◌, true, false, inl, inr, List, length, get_or, Some, option_map, refl, sym, ap, subst, ◌∙◌, arith}
 use Rattle.std.proofs.lemmas.Bool.{cases_lt, lt-ltb, le-ltb}
 use Rattle.std.proofs.lemmas.List.{get_or_read}
@@ -80,7 +81,7 @@ field-below s c a i w lt less read =
     get_or_read (space.cell_at s.pages a).fields i w (omega arith) read Nil ∙ sym (ap (λ (x : Cell). get_or x.fields i Nil) is)
 
 -- its domain is one of the domains
-pub domain-there : (s : Layout) (r : RootWords) (cs : List Nursery) (bs : List Entries) (hs : List ℕ) (l a : ℕ) → IsClosedHeap (view_of s r cs bs) hs → IsLayout s → LieBehind s (chunk_of cs l) → l < length cs → IsCellOrYoung s (chunk_of cs l) a → (cell_of s (chunk_of cs l) a).head.domain < length hs
+pub domain-there : (s : Layout) (r : RootWords) (cs : List Nursery) (bs : List Entries) (hs : List Holder) (l a : ℕ) → IsClosedHeap (view_of s r cs bs) hs → IsLayout s → LieBehind s (chunk_of cs l) → l < length cs → IsCellOrYoung s (chunk_of cs l) a → (cell_of s (chunk_of cs l) a).head.domain < length hs
 domain-there s r cs bs hs l a closed k behind lt there = elim (cases_lt a (end_of s)) [
   | inl below ↦
       let on = there-below s (chunk_of cs l) a behind there below in

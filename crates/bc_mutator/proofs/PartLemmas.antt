@@ -1,5 +1,9 @@
 -- From what a lane has in hand to the whole heap that it belongs to.
-use Rattle.std.proofs.Common.{◌≡◌, ℕ, ◌+◌, ◌<◌, ◌≤◌, false, List, length, get_or, set, refl, sym, ap, subst, ◌∙◌, inl, inr, arith, get_or-set_same}
+use Rattle.bc_model.proofs.Holders.{read-default, write-default}
+use Rattle.bc_model.specs.declared.values.Holder.{Holder}
+use Rattle.bc_model.specs.declared.values.Holder.TheVariants.{Lane}
+use Rattle.bc_model.specs.State.{holder_of, lets_read, lets_write}
+use Rattle.std.proofs.Common.{◌≡◌, ◌⊎◌, ℕ, ◌+◌, ◌<◌, ◌≤◌, Bool, Option, Some, None, false, List, length, get_or, set, refl, sym, ap, subst, ◌∙◌, inl, inr, arith, get_or-set_same, true}
 use Rattle.bc_model.specs.WellFormed.{IsSlot}
 use Rattle.bc_model.specs.declared.operations.Op.{Op}
 use Rattle.bc_model.specs.declared.values.Slot.{Slot}
@@ -10,27 +14,29 @@ use Rattle.bc_nursery.specs.Objects as nursery
 use Rattle.bc_superpages.specs.declared.headers.PageState.TheVariants.{Remembered}
 use Rattle.bc_superpages.specs.Headers.{is_gone}
 use Rattle.bc_superpages.specs.Layout.{Layout}
-use Rattle.bc_superpages.specs.LayoutAt.{state_at, with_state, with_word, word_at}
+use Rattle.bc_superpages.specs.Kept.{IsLayout}
+use Rattle.bc_superpages.specs.LayoutAt.{IsAllocated, state_at, with_state, with_word, word_at}
+use Rattle.bc_superpages.specs.Memory as space
 use Rattle.bc_superpages.specs.RootWords.{RootWords}
 use Rattle.bc_superpages.proofs.FieldLemmas.{field-memory}
-use Rattle.bc_superpages.proofs.HandLemmas.{allocated-page}
+use Rattle.bc_superpages.proofs.HandLemmas.{allocated-object, allocated-page}
 use Rattle.bc_whole_heap.specs.Closed.{buffer_of, no_buffer, IsCellOrYoung}
 use Rattle.bc_whole_heap.specs.Heaps.{HeapView, end_of, no_chunk}
 use Rattle.bc_memory.specs.Memory.{Cell}
-use Rattle.bc_word.specs.Addresses.{page_of}
+use Rattle.bc_word.specs.Addresses.{page_of, superpage_of}
 use Rattle.bc_word.specs.Heads.{head_of_bits}
 use Rattle.bc_word.specs.WordBits.{word_bits}
 use Rattle.bc_word.specs.declared.addresses.Address.{Address}
 use Rattle.bc_word.specs.declared.heads.Head.{Head}
 use Rattle.bc_word.specs.declared.words.Word.{Word}
-use Rattle.bc_word.specs.declared.words.Word.TheVariants.{Nil}
+use Rattle.bc_word.specs.declared.words.Word.TheVariants.{Nil, Ref}
 use Rattle.bc_mutator.specs.Effects.{RefersBehind, RefersBelow, StoresWord, WroteCell, Wrote, with_entry}
-use Rattle.bc_mutator.specs.Objects.{LieBehind, IsOfLane, IsOwn, cell_of, own_chunk, slot_word}
+use Rattle.bc_mutator.specs.Objects.{LieBehind, IsOwnOfLane, IsOwn, cell_of, own_chunk, slot_word}
 use Rattle.bc_mutator.specs.Operations.{NeedsEntry, setup_of}
-use Rattle.bc_mutator.specs.Parts.{CanStore, HasAllocated, HasField, HasWord, IsCellOrBehind, IsPartOf, IsSpaceOf, MayHold, Sees, Serves, ServesField}
+use Rattle.bc_mutator.specs.Parts.{CanStore, HasAllocated, HasField, HasWord, IsCellOrBehind, IsInHand, IsPartOf, IsSpaceOf, LeadsToHandIn, LooksInHand, MayHold, Sees, Serves, ServesField, TouchesHand}
 use Rattle.bc_mutator.proofs.LayoutLemmas.{IsLayout-remembered}
 use Rattle.bc_mutator.proofs.MeaningLemmas.{own-slot}
-use Rattle.bc_mutator.proofs.ObjectLemmas.{cell_of-above, cell_of-below, one_address, there-below}
+use Rattle.bc_mutator.proofs.ObjectLemmas.{cell_of-above, cell_of-below, domain-there, one_address, there-below}
 use Rattle.bc_mutator.proofs.StateLemmas.{remembers-home}
 use Rattle.bc_mutator.proofs.WritingLemmas.{CanWrite}
 
@@ -99,25 +105,25 @@ cell-or-behind word is own = λ to e. elim (own to e) [
 ]
 
 -- what a lane knows of a word that it has
-pub space-of : {cells : Layout → Type 0} {chunk : Nursery} {hs : List ℕ} {lane : ℕ} {word : Word} {h : HeapView} → HasWord cells chunk hs lane word h → IsSpaceOf cells chunk h.space
+pub space-of : {cells : Layout → Type 0} {chunk : Nursery} {hs : List Holder} {lane : ℕ} {word : Word} {h : HeapView} → HasWord cells chunk hs lane word h → IsSpaceOf cells chunk h.space
 space-of {h = h} w = record { shown = w.space; layout = w.ready.layout; behind = subst (λ (c : Nursery). LieBehind h.space c) w.chunk_is w.ready.behind }
 
-pub there-of : {cells : Layout → Type 0} {chunk : Nursery} {hs : List ℕ} {lane : ℕ} {word : Word} {h : HeapView} (a : ℕ) → HasWord cells chunk hs lane word h → IsCellOrYoung h.space (own_chunk h lane) a → IsCellOrYoung h.space chunk a
+pub there-of : {cells : Layout → Type 0} {chunk : Nursery} {hs : List Holder} {lane : ℕ} {word : Word} {h : HeapView} (a : ℕ) → HasWord cells chunk hs lane word h → IsCellOrYoung h.space (own_chunk h lane) a → IsCellOrYoung h.space chunk a
 there-of {h = h} a w there = subst (λ (c : Nursery). IsCellOrYoung h.space c a) w.chunk_is there
 
-pub own-of : {cells : Layout → Type 0} {chunk : Nursery} {hs : List ℕ} {lane : ℕ} {word : Word} {h : HeapView} → HasWord cells chunk hs lane word h → IsOwn h.space (own_chunk h lane) word
+pub own-of : {cells : Layout → Type 0} {chunk : Nursery} {hs : List Holder} {lane : ℕ} {word : Word} {h : HeapView} → HasWord cells chunk hs lane word h → IsOwn h.space (own_chunk h lane) word
 own-of {word = word} {h = h} w = subst (λ (c : Nursery). IsOwn h.space c word) (sym w.chunk_is) w.own
 
-pub head-of : {cells : Layout → Type 0} {chunk : Nursery} {hs : List ℕ} {lane : ℕ} {word : Word} {h : HeapView} (a : ℕ) (head : Head) → HasWord cells chunk hs lane word h → ((s : Layout) → IsSpaceOf cells chunk s → IsCellOrYoung s chunk a → head ≡ (cell_of s chunk a).head) → IsCellOrYoung h.space (own_chunk h lane) a → head ≡ (cell_of h.space (own_chunk h lane) a).head
+pub head-of : {cells : Layout → Type 0} {chunk : Nursery} {hs : List Holder} {lane : ℕ} {word : Word} {h : HeapView} (a : ℕ) (head : Head) → HasWord cells chunk hs lane word h → ((s : Layout) → IsSpaceOf cells chunk s → IsCellOrYoung s chunk a → head ≡ (cell_of s chunk a).head) → IsCellOrYoung h.space (own_chunk h lane) a → head ≡ (cell_of h.space (own_chunk h lane) a).head
 head-of {h = h} a head w read there =
     read h.space (space-of w) (there-of a w there) ∙ sym (ap (λ (c : Nursery). (cell_of h.space c a).head) w.chunk_is)
 
-pub field-of : {cells : Layout → Type 0} {chunk : Nursery} {hs : List ℕ} {lane : ℕ} {word : Word} {h : HeapView} (a index : ℕ) (held : Word) → HasWord cells chunk hs lane word h → ((s : Layout) → IsSpaceOf cells chunk s → IsCellOrYoung s chunk a → index < (cell_of s chunk a).head.fields → held ≡ get_or (cell_of s chunk a).fields index Nil) → IsCellOrYoung h.space (own_chunk h lane) a → index < (cell_of h.space chunk a).head.fields → held ≡ get_or (cell_of h.space (own_chunk h lane) a).fields index Nil
+pub field-of : {cells : Layout → Type 0} {chunk : Nursery} {hs : List Holder} {lane : ℕ} {word : Word} {h : HeapView} (a index : ℕ) (held : Word) → HasWord cells chunk hs lane word h → ((s : Layout) → IsSpaceOf cells chunk s → IsCellOrYoung s chunk a → index < (cell_of s chunk a).head.fields → held ≡ get_or (cell_of s chunk a).fields index Nil) → IsCellOrYoung h.space (own_chunk h lane) a → index < (cell_of h.space chunk a).head.fields → held ≡ get_or (cell_of h.space (own_chunk h lane) a).fields index Nil
 field-of {h = h} a index held w read there less =
     read h.space (space-of w) (there-of a w there) less ∙ sym (ap (λ (c : Nursery). get_or (cell_of h.space c a).fields index Nil) w.chunk_is)
 
 -- the word of a slot of a domain that the lane holds
-pub slot-sees : {cells : Layout → Type 0} {slots : RootWords → Type 0} {chunk : Nursery} {hs : List ℕ} {lane : ℕ} {op : Op} {h : HeapView} (p : Slot) (word : Word) → Sees cells slots chunk hs lane op h → IsSlot (setup_of h.roots) p → get_or hs p.domain 0 ≡ lane → word ≡ slot_word h.roots p → HasWord cells chunk hs lane word h
+pub slot-sees : {cells : Layout → Type 0} {slots : RootWords → Type 0} {chunk : Nursery} {hs : List Holder} {lane : ℕ} {op : Op} {h : HeapView} (p : Slot) (word : Word) → Sees cells slots chunk hs lane op h → IsSlot (setup_of h.roots) p → lets_read (holder_of hs p.domain) lane ≡ true → word ≡ slot_word h.roots p → HasWord cells chunk hs lane word h
 slot-sees {chunk = chunk} {hs = hs} {lane = lane} {h = h} p word sees slot held e = record {
   ready = sees.ready;
   space = sees.space;
@@ -157,7 +163,7 @@ part-wrote old new slots c d b e lane h t at index word part chunk_in buffer_in 
 )
 
 -- a lane that may write a word to a field of a slot's object
-pub field-serves : {cells : Layout → Type 0} {slots : RootWords → Type 0} {chunk : Nursery} {buffer : Entries} {hs : List ℕ} {lane : ℕ} {p : Slot} {word : Word} {h : HeapView} (target : Word) → ServesField cells slots chunk buffer hs lane p word h → get_or hs p.domain 0 ≡ lane → target ≡ slot_word h.roots p → HasWord cells chunk hs lane target h
+pub field-serves : {cells : Layout → Type 0} {slots : RootWords → Type 0} {chunk : Nursery} {buffer : Entries} {hs : List Holder} {lane : ℕ} {p : Slot} {word : Word} {h : HeapView} (target : Word) → ServesField cells slots chunk buffer hs lane p word h → lets_read (holder_of hs p.domain) lane ≡ true → target ≡ slot_word h.roots p → HasWord cells chunk hs lane target h
 field-serves {hs = hs} {lane = lane} {p = p} {h = h} target s held e = record {
   ready = s.ready;
   space = s.part.space;
@@ -166,25 +172,25 @@ field-serves {hs = hs} {lane = lane} {p = p} {h = h} target s held e = record {
       (subst (λ (w : Word). IsOwn h.space (own_chunk h lane) w) (sym e) (own-slot h hs lane p s.ready.running s.slot.0 s.slot.1 held));
 }
 
-pub can-store : {cells : Layout → Type 0} {slots : RootWords → Type 0} {chunk : Nursery} {buffer : Entries} {hs : List ℕ} {lane : ℕ} {p : Slot} {word : Word} {h : HeapView} (target : Word) (at : Address) (index : ℕ) → ServesField cells slots chunk buffer hs lane p word h → HasWord cells chunk hs lane target h → IsOfLane h hs lane target at → index < (cell_of h.space chunk at.0).head.fields → CanStore h.space chunk at index word
-can-store target at index s w of less = record { there = there-of at.0 w of.there; less = less; own = s.own }
+pub can-store : {cells : Layout → Type 0} {slots : RootWords → Type 0} {chunk : Nursery} {buffer : Entries} {hs : List Holder} {lane : ℕ} {p : Slot} {word : Word} {h : HeapView} (target : Word) (at : Address) (index : ℕ) → ServesField cells slots chunk buffer hs lane p word h → HasWord cells chunk hs lane target h → IsOwnOfLane h hs lane target at → index < (cell_of h.space chunk at.0).head.fields → CanStore h.space chunk at index word
+can-store target at index s w of less = record { there = there-of at.0 w of.of.there; less = less; own = s.own }
 
-pub can-write : {cells : Layout → Type 0} {slots : RootWords → Type 0} {chunk : Nursery} {buffer : Entries} {hs : List ℕ} {lane : ℕ} {p : Slot} {word : Word} {h : HeapView} (target : Word) (at : Address) (index : ℕ) → ServesField cells slots chunk buffer hs lane p word h → IsOfLane h hs lane target at → index < (cell_of h.space chunk at.0).head.fields → CanWrite h hs lane target at index word
+pub can-write : {cells : Layout → Type 0} {slots : RootWords → Type 0} {chunk : Nursery} {buffer : Entries} {hs : List Holder} {lane : ℕ} {p : Slot} {word : Word} {h : HeapView} (target : Word) (at : Address) (index : ℕ) → ServesField cells slots chunk buffer hs lane p word h → IsOwnOfLane h hs lane target at → index < (cell_of h.space chunk at.0).head.fields → CanWrite h hs lane target at index word
 can-write {word = word} {h = h} target at index s of less = record {
   ready = s.ready;
-  of = of;
+  mine = of;
   less = subst (λ (c : Nursery). index < (cell_of h.space c at.0).head.fields) (sym s.part.chunk_is) less;
   own = subst (λ (c : Nursery). IsOwn h.space c word) (sym s.part.chunk_is) s.own;
 }
 
 -- what stops an operation, of the lane's own chunk and buffer
-pub needs-part : {cells : Layout → Type 0} {slots : RootWords → Type 0} {chunk : Nursery} {buffer : Entries} {lane : ℕ} {h : HeapView} (hs : List ℕ) (op : Op) → IsPartOf cells slots chunk buffer lane h → NeedsEntry hs lane h.space h.roots (own_chunk h lane) (buffer_of h.buffers lane) op → NeedsEntry hs lane h.space h.roots chunk buffer op
+pub needs-part : {cells : Layout → Type 0} {slots : RootWords → Type 0} {chunk : Nursery} {buffer : Entries} {lane : ℕ} {h : HeapView} (hs : List Holder) (op : Op) → IsPartOf cells slots chunk buffer lane h → NeedsEntry hs lane h.space h.roots (own_chunk h lane) (buffer_of h.buffers lane) op → NeedsEntry hs lane h.space h.roots chunk buffer op
 needs-part {chunk = chunk} {lane = lane} {h = h} hs op part needs =
     subst (λ (b : Entries). NeedsEntry hs lane h.space h.roots chunk b op) part.buffer_is
     (subst (λ (c : Nursery). NeedsEntry hs lane h.space h.roots c (buffer_of h.buffers lane) op) part.chunk_is needs)
 
 -- the word of another slot of the lane's
-pub link-serves : {cells : Layout → Type 0} {slots : RootWords → Type 0} {chunk : Nursery} {buffer : Entries} {hs : List ℕ} {lane : ℕ} {op : Op} {h : HeapView} (p q : Slot) (word : Word) → Serves cells slots chunk buffer hs lane op h → IsSlot (setup_of h.roots) p → IsSlot (setup_of h.roots) q → get_or hs q.domain 0 ≡ lane → word ≡ slot_word h.roots q → ServesField cells slots chunk buffer hs lane p word h
+pub link-serves : {cells : Layout → Type 0} {slots : RootWords → Type 0} {chunk : Nursery} {buffer : Entries} {hs : List Holder} {lane : ℕ} {op : Op} {h : HeapView} (p q : Slot) (word : Word) → Serves cells slots chunk buffer hs lane op h → IsSlot (setup_of h.roots) p → IsSlot (setup_of h.roots) q → lets_read (holder_of hs q.domain) lane ≡ true → word ≡ slot_word h.roots q → ServesField cells slots chunk buffer hs lane p word h
 link-serves {hs = hs} {lane = lane} {h = h} p q word s slot from held e = record {
   ready = s.ready;
   slot = slot;
@@ -193,5 +199,49 @@ link-serves {hs = hs} {lane = lane} {h = h} p q word s slot from held e = record
   part = s.part;
 }
 
-pub own-part : {cells : Layout → Type 0} {slots : RootWords → Type 0} {chunk : Nursery} {buffer : Entries} {hs : List ℕ} {lane : ℕ} {p : Slot} {word : Word} {h : HeapView} → ServesField cells slots chunk buffer hs lane p word h → IsOwn h.space (own_chunk h lane) word
+pub own-part : {cells : Layout → Type 0} {slots : RootWords → Type 0} {chunk : Nursery} {buffer : Entries} {hs : List Holder} {lane : ℕ} {p : Slot} {word : Word} {h : HeapView} → ServesField cells slots chunk buffer hs lane p word h → IsOwn h.space (own_chunk h lane) word
 own-part {word = word} {h = h} s = subst (λ (c : Nursery). IsOwn h.space c word) (sym s.part.chunk_is) s.own
+
+-- what an operation looks at is in hand where what its slot refers to is, whoever has the right to it
+pub looks-touching : (cells : Layout → Type 0) (slots : RootWords → Type 0) (hand : ℕ → Type 0) (right : ℕ → Bool) (o : Option Slot) → TouchesHand cells slots hand o → LooksInHand cells slots hand right o
+looks-touching cells slots hand right None touches = tt
+looks-touching cells slots hand right (Some p) touches = λ r shown at e s there lt may. touches r shown at e s there lt
+
+-- where it is true of all pages it is true of those that an operation touches
+pub touches-all : (cells : Layout → Type 0) (slots : RootWords → Type 0) (hand : ℕ → Type 0) (o : Option Slot) → ((page : ℕ) → hand page) → TouchesHand cells slots hand o
+touches-all cells slots hand None all = tt
+touches-all cells slots hand (Some p) all = λ r shown at e s there lt. all (page_of at.0)
+
+-- a cell is of its superpage's domain
+pub cell-domain : (s : Layout) (a : ℕ) → IsLayout s → IsAllocated s a → (space.cell_at s.pages a).head.domain ≡ get_or s.domains (superpage_of a) 0
+cell-domain s a k on = (allocated-object s a k on).of_domain
+
+-- the domain of an object that the lane comes to, and who may read and write it
+pub domain-of : {cells : Layout → Type 0} {chunk : Nursery} {hs : List Holder} {lane : ℕ} {word : Word} {h : HeapView} (a domain : ℕ) → HasWord cells chunk hs lane word h → ((s : Layout) → IsSpaceOf cells chunk s → IsCellOrYoung s chunk a → domain ≡ (cell_of s chunk a).head.domain) → IsCellOrYoung h.space (own_chunk h lane) a → domain ≡ (cell_of h.space (own_chunk h lane) a).head.domain
+domain-of {h = h} a domain w is there =
+    is h.space (space-of w) (there-of a w there) ∙ sym (ap (λ (c : Nursery). (cell_of h.space c a).head.domain) w.chunk_is)
+
+pub domain-within : {cells : Layout → Type 0} {chunk : Nursery} {hs : List Holder} {lane : ℕ} {word : Word} {h : HeapView} (a domain : ℕ) → HasWord cells chunk hs lane word h → ((s : Layout) → IsSpaceOf cells chunk s → IsCellOrYoung s chunk a → domain ≡ (cell_of s chunk a).head.domain) → IsCellOrYoung h.space (own_chunk h lane) a → domain < length hs
+domain-within {hs = hs} {lane = lane} {h = h} a domain w is there =
+    subst (λ (d : ℕ). d < length hs) (sym (domain-of a domain w is there))
+    (domain-there h.space h.roots h.chunks h.buffers hs lane a w.ready.running.closed w.ready.layout w.ready.behind w.ready.lane_within there)
+
+pub reads-of : {cells : Layout → Type 0} {chunk : Nursery} {hs : List Holder} {lane : ℕ} {word : Word} {h : HeapView} (a domain : ℕ) → HasWord cells chunk hs lane word h → ((s : Layout) → IsSpaceOf cells chunk s → IsCellOrYoung s chunk a → domain ≡ (cell_of s chunk a).head.domain) → IsCellOrYoung h.space (own_chunk h lane) a → lets_read (holder_of hs (cell_of h.space (own_chunk h lane) a).head.domain) lane ≡ lets_read (get_or hs domain (Lane 0)) lane
+reads-of {hs = hs} {lane = lane} a domain w is there =
+    sym (read-default hs domain lane (domain-within a domain w is there) ∙ ap (λ (d : ℕ). lets_read (holder_of hs d) lane) (domain-of a domain w is there))
+
+pub writes-of : {cells : Layout → Type 0} {chunk : Nursery} {hs : List Holder} {lane : ℕ} {word : Word} {h : HeapView} (a domain : ℕ) → HasWord cells chunk hs lane word h → ((s : Layout) → IsSpaceOf cells chunk s → IsCellOrYoung s chunk a → domain ≡ (cell_of s chunk a).head.domain) → IsCellOrYoung h.space (own_chunk h lane) a → lets_write (holder_of hs (cell_of h.space (own_chunk h lane) a).head.domain) lane ≡ lets_write (get_or hs domain (Lane 0)) lane
+writes-of {hs = hs} {lane = lane} a domain w is there =
+    sym (write-default hs domain lane (domain-within a domain w is there) ∙ ap (λ (d : ℕ). lets_write (holder_of hs d) lane) (domain-of a domain w is there))
+
+-- the object's page is in hand, where the lane has the right to its domain
+pub in-hand : {cells : Layout → Type 0} {chunk : Nursery} {hs : List Holder} {lane : ℕ} {word : Word} {h : HeapView} (hand : ℕ → Type 0) (right : ℕ → Bool) (at : Address) (domain : ℕ) → HasWord cells chunk hs lane word h → word ≡ Ref at → LeadsToHandIn cells hand right word
+    → ((s : Layout) → cells s → at.0 < end_of s) ⊎ ((s : Layout) → cells s → end_of s ≤ at.0) → ((s : Layout) → IsSpaceOf cells chunk s → IsCellOrYoung s chunk at.0 → domain ≡ (cell_of s chunk at.0).head.domain) → right domain ≡ true → IsInHand cells hand at
+in-hand {chunk = chunk} {h = h} hand right at domain w e leads (inl below) is may = λ s shown lt.
+    let there = w.own at e in
+    let here = below h.space w.space in
+    let on = there-below h.space chunk at.0 (space-of w).behind there here in
+    let same : domain ≡ get_or h.space.domains (superpage_of at.0) 0 =
+    is h.space (space-of w) there ∙ ap (λ (c : Cell). c.head.domain) (cell_of-below h.space chunk at.0 here) ∙ cell-domain h.space at.0 w.ready.layout on in
+    leads at e h.space w.space here (subst (λ (d : ℕ). right d ≡ true) same may)
+in-hand hand right at domain w e leads (inr above) is may = λ s shown lt. absurd (let le = above s shown in omega arith)

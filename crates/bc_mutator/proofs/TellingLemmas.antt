@@ -1,4 +1,5 @@
 -- What is returned to a lane that asks about its slots.
+use Rattle.bc_model.specs.declared.values.Holder.{Holder}
 use Rattle.std.proofs.Common.{◌≡◌, ◌≢◌, ℕ, Bool, true, false, if◌then◌else◌, List, length, Some, refl, sym, ap, subst, ◌∙◌, inl, inr, eq-eqb}
 use Rattle.std.proofs.lemmas.Bool.{cases_Bool}
 use Rattle.bc_whole_heap.specs.Heaps.{HeapView}
@@ -6,7 +7,7 @@ use Rattle.bc_whole_heap.specs.Running.{IsRunning}
 use Rattle.bc_whole_heap.specs.LaneStates.{StandsAs}
 use Rattle.bc_whole_heap.specs.Heaps.{root_words}
 use Rattle.bc_memory.specs.Memory.{Memory}
-use Rattle.bc_model.specs.State.{State, object_of, slot_of, holds}
+use Rattle.bc_model.specs.State.{State, object_of, slot_of, reads}
 use Rattle.bc_model.specs.Step.{on_object, told, is_same}
 use Rattle.bc_model.specs.declared.operations.Op.TheVariants.{Who, Len, Same}
 use Rattle.bc_model.specs.declared.operations.Reply.{Reply}
@@ -28,16 +29,16 @@ use Rattle.bc_mutator.proofs.MeaningLemmas.{read-slot, read-nil, read-num, home-
 use Rattle.bc_mutator.proofs.ObjectLemmas.{memory-there}
 
 -- a word that a slot has is read as its value
-pub word-read : (h : HeapView) (hs serials : List ℕ) (state : State) (p : Slot) (w : Word) → w ≡ slot_word h.roots p → StandsAs h hs serials state → IsRead (whole_memory h) state w (slot_of state p)
+pub word-read : (h : HeapView) (hs : List Holder) (serials : List ℕ) (state : State) (p : Slot) (w : Word) → w ≡ slot_word h.roots p → StandsAs h hs serials state → IsRead (whole_memory h) state w (slot_of state p)
 word-read h hs serials state p w e means =
     subst (λ (x : Word). IsRead (whole_memory h) state x (slot_of state p)) (sym e) (read-slot h.space h.roots h.chunks hs serials state p means)
 
 -- nil and numbers
-pub who-nil : (h : HeapView) (hs : List ℕ) (lane : ℕ) (p : Slot) (w : Word) → w ≡ slot_word h.roots p → w ≡ word.Nil → Answers h hs lane (Who p) reply.Nil
+pub who-nil : (h : HeapView) (hs : List Holder) (lane : ℕ) (p : Slot) (w : Word) → w ≡ slot_word h.roots p → w ≡ word.Nil → Answers h hs lane (Who p) reply.Nil
 who-nil h hs lane p w e is = λ serials state means.
     ap (λ (v : Value). (state, told state lane v)) (read-nil (whole_memory h) state w (slot_of state p) is (word-read h hs serials state p w e means))
 
-pub who-num : (h : HeapView) (hs : List ℕ) (lane n : ℕ) (p : Slot) (w : Word) → w ≡ slot_word h.roots p → w ≡ word.Num n → Answers h hs lane (Who p) (reply.Num n)
+pub who-num : (h : HeapView) (hs : List Holder) (lane n : ℕ) (p : Slot) (w : Word) → w ≡ slot_word h.roots p → w ≡ word.Num n → Answers h hs lane (Who p) (reply.Num n)
 who-num h hs lane n p w e is = λ serials state means.
     ap (λ (v : Value). (state, told state lane v)) (read-num (whole_memory h) state w (slot_of state p) n is (word-read h hs serials state p w e means))
 
@@ -49,7 +50,7 @@ told-if state false x y = refl
 told-object : (state : State) (lane : ℕ) (v : Value) (b : Birth) → v ≡ value.Obj b → let pair : State × Reply = (state, told state lane v) in pair ≡ on_object state lane v (λ c. (state, reply.Obj c))
 told-object state lane v b e =
     ap (λ (x : Value). let pair : State × Reply = (state, told state lane x) in pair) e
-    ∙ told-if state (holds state lane (object_of state.made b).domain) (reply.Obj b) reply.Foreign
+    ∙ told-if state (reads state lane (object_of state.made b).domain) (reply.Obj b) reply.Foreign
     ∙ sym (ap (λ (x : Value). on_object state lane x (λ c. (state, reply.Obj c))) e)
 
 -- a reference is read as an object
@@ -58,7 +59,7 @@ is-object m state w v a e h =
     let found = read_birth (births m a.0) v (sym (ap (read (births m)) e) ∙ h.value) in
     (found.0, found.2)
 
-pub who-acts : (h : HeapView) (hs : List ℕ) (lane : ℕ) (p : Slot) (w : Word) (a : Address) (head : Head) → w ≡ slot_word h.roots p → w ≡ word.Ref a → ActsOn h hs lane w a → head ≡ (cell_of h.space (own_chunk h lane) a.0).head → Answers h hs lane (Who p) (reply.Obj (birth_of head))
+pub who-acts : (h : HeapView) (hs : List Holder) (lane : ℕ) (p : Slot) (w : Word) (a : Address) (head : Head) → w ≡ slot_word h.roots p → w ≡ word.Ref a → ActsOn h hs lane w a → head ≡ (cell_of h.space (own_chunk h lane) a.0).head → Answers h hs lane (Who p) (reply.Obj (birth_of head))
 who-acts h hs lane p w a head e is acts same = λ serials state means.
     let v = slot_of state p in
     let read = word-read h hs serials state p w e means in
@@ -67,7 +68,7 @@ who-acts h hs lane p w a head e is acts same = λ serials state means.
     ∙ acts serials state v means read (λ c. (state, reply.Obj c))
     ∙ ap (λ (x : Head). (state, reply.Obj (birth_of x))) (sym same)
 
-pub who-refuses : (h : HeapView) (hs : List ℕ) (lane : ℕ) (p : Slot) (w : Word) (a : Address) (r : Reply) → w ≡ slot_word h.roots p → w ≡ word.Ref a → Refuses h hs lane w r → Answers h hs lane (Who p) r
+pub who-refuses : (h : HeapView) (hs : List Holder) (lane : ℕ) (p : Slot) (w : Word) (a : Address) (r : Reply) → w ≡ slot_word h.roots p → w ≡ word.Ref a → Refuses h hs lane w r → Answers h hs lane (Who p) r
 who-refuses h hs lane p w a r e is refuses = λ serials state means.
     let v = slot_of state p in
     let read = word-read h hs serials state p w e means in
@@ -75,7 +76,7 @@ who-refuses h hs lane p w a r e is refuses = λ serials state means.
     told-object state lane v b.0 b.1 ∙ refuses serials state v means read (λ c. (state, reply.Obj c))
 
 -- the number of fields
-pub len-acts : (h : HeapView) (hs : List ℕ) (lane n : ℕ) (p : Slot) (w : Word) (a : Address) → MayOperate h hs lane → w ≡ slot_word h.roots p → IsOfLane h hs lane w a → ActsOn h hs lane w a → n ≡ (cell_of h.space (own_chunk h lane) a.0).head.fields → Answers h hs lane (Len p) (reply.Len n)
+pub len-acts : (h : HeapView) (hs : List Holder) (lane n : ℕ) (p : Slot) (w : Word) (a : Address) → MayOperate h hs lane → w ≡ slot_word h.roots p → IsOfLane h hs lane w a → ActsOn h hs lane w a → n ≡ (cell_of h.space (own_chunk h lane) a.0).head.fields → Answers h hs lane (Len p) (reply.Len n)
 len-acts h hs lane n p w a ready e of acts same = λ serials state means.
     let v = slot_of state p in
     let c = cell_of h.space (own_chunk h lane) a.0 in
@@ -85,7 +86,7 @@ len-acts h hs lane n p w a ready e of acts same = λ serials state means.
     acts serials state v means read (λ b. (state, reply.Len (length (object_of state.made b).fields)))
     ∙ ap (λ (k : ℕ). (state, reply.Len k)) (sym (same ∙ home.count))
 
-pub len-refuses : (h : HeapView) (hs : List ℕ) (lane : ℕ) (p : Slot) (w : Word) (r : Reply) → w ≡ slot_word h.roots p → Refuses h hs lane w r → Answers h hs lane (Len p) r
+pub len-refuses : (h : HeapView) (hs : List Holder) (lane : ℕ) (p : Slot) (w : Word) (r : Reply) → w ≡ slot_word h.roots p → Refuses h hs lane w r → Answers h hs lane (Len p) r
 len-refuses h hs lane p w r e refuses = λ serials state means.
     refuses serials state (slot_of state p) means (word-read h hs serials state p w e means) (λ b. (state, reply.Len (length (object_of state.made b).fields)))
 
@@ -95,7 +96,7 @@ same-itself value.Nil = refl
 same-itself (value.Num n) = eq-eqb n n refl
 same-itself (value.Obj b) = rw (eq-eqb b.lane b.lane refl) (eq-eqb b.serial b.serial refl)
 
-pub same-yes : (h : HeapView) (hs : List ℕ) (lane : ℕ) (p q : Slot) → slot_word h.roots p ≡ slot_word h.roots q → Answers h hs lane (Same p q) reply.Yes
+pub same-yes : (h : HeapView) (hs : List Holder) (lane : ℕ) (p q : Slot) → slot_word h.roots p ≡ slot_word h.roots q → Answers h hs lane (Same p q) reply.Yes
 same-yes h hs lane p q e = λ serials state means.
     let first = word-read h hs serials state p (slot_word h.roots p) refl means in
     let second = word-read h hs serials state q (slot_word h.roots p) e means in
@@ -146,7 +147,7 @@ one-word m state (word.Ref a) (word.Ref b) x once h k =
     one : (c d : Birth) → value.Obj c ≡ value.Obj d → c ≡ d
     one c d e = cc
 
-pub same-no : (h : HeapView) (hs : List ℕ) (lane : ℕ) (p q : Slot) → IsRunning h hs → slot_word h.roots p ≢ slot_word h.roots q → Answers h hs lane (Same p q) reply.No
+pub same-no : (h : HeapView) (hs : List Holder) (lane : ℕ) (p q : Slot) → IsRunning h hs → slot_word h.roots p ≢ slot_word h.roots q → Answers h hs lane (Same p q) reply.No
 same-no h hs lane p q runs ne = λ serials state means.
     let first = word-read h hs serials state p (slot_word h.roots p) refl means in
     let second = word-read h hs serials state q (slot_word h.roots q) refl means in

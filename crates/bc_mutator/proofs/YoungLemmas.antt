@@ -1,4 +1,7 @@
 -- A field of an object of the lane's chunk is written: the heap stays closed.
+use Rattle.bc_model.specs.declared.values.Holder.{Holder}
+use Rattle.bc_model.specs.State.{holder_of}
+use Rattle.bc_model.specs.declared.values.Holder.TheVariants as holder
 use Rattle.std.proofs.Common.{◌≡◌, ◌≢◌, ◌⊎◌, ℕ, ◌<◌, ◌≤◌, true, List, length, get_or, set, Option, Some, None, is_some, option_map, refl, sym, ap, subst, ◌∙◌, inl, inr, arith, get_or-set_same, get_or-set_other, length-set}
 use Rattle.std.proofs.lemmas.Bool.{cases_eq, cases_lt}
 use Rattle.std.proofs.lemmas.List.{set_past}
@@ -30,6 +33,8 @@ use Rattle.bc_word.specs.declared.heads.Head.{Head}
 use Rattle.bc_word.specs.declared.words.Word.{Word}
 use Rattle.bc_word.specs.declared.words.Word.TheVariants.{Nil, Ref}
 use Rattle.bc_mutator.specs.Objects.{AreWhole, IsOwn, cell_of}
+use Rattle.bc_model.proofs.Holders.{IsHolder-as_many}
+use Rattle.bc_mutator.proofs.HolderLemmas.{for-holder, named-for}
 use Rattle.bc_mutator.proofs.ObjectLemmas.{cell_of-above, memory-there}
 
 -- a chunk is replaced by one of its own base and size
@@ -62,7 +67,7 @@ laid-kept end words cs ds lane d lt is base long laid = record {
 }
 
 -- a write to a field of an object of the chunk
-pub record YoungWrite (s : Layout) (r : RootWords) (cs ds : List Nursery) (bs : List Entries) (hs : List ℕ) (lane at index : ℕ) (word : Word) : Type 0 where
+pub record YoungWrite (s : Layout) (r : RootWords) (cs ds : List Nursery) (bs : List Entries) (hs : List Holder) (lane at index : ℕ) (word : Word) : Type 0 where
   pub run : IsRunning (view_of s r cs bs) hs
   pub lane_within : lane < length cs
   pub layout : IsLayout s
@@ -80,7 +85,7 @@ some_or : (f : ChunkObject → ChunkObject) (p : Option ChunkObject) → is_some
 some_or f None e = cc
 some_or f (Some o) e = refl
 
-module _ (s : Layout) (r : RootWords) (cs ds : List Nursery) (bs : List Entries) (hs : List ℕ) (lane at index : ℕ) (word : Word) (w : YoungWrite s r cs ds bs hs lane at index word) where
+module _ (s : Layout) (r : RootWords) (cs ds : List Nursery) (bs : List Entries) (hs : List Holder) (lane at index : ℕ) (word : Word) (w : YoungWrite s r cs ds bs hs lane at index word) where
   -- the chunk as it was, and as it is
   chunk-is : chunk_of ds lane ≡ changed (chunk_of cs lane) at (with_young_field index word)
   chunk-is = chunk_of-set cs ds lane (changed (chunk_of cs lane) at (with_young_field index word)) w.lane_within w.chunks
@@ -164,15 +169,15 @@ module _ (s : Layout) (r : RootWords) (cs ds : List Nursery) (bs : List Entries)
       record {
         lanes = closed.lanes ∙ sym long;
         domains = closed.domains;
-        holder = λ d lt. (let h = closed.holder d lt in omega arith);
-        root = λ d p a lt less e. there-kept (get_or hs d 0) a.0 (closed.root d p a lt less e);
+        holder = λ d lt. IsHolder-as_many _ _ (holder_of hs d) long (closed.holder d lt);
+        root = λ d p a lt less e. for-holder s cs ds there-kept (holder_of hs d) a.0 (closed.root d p a lt less e);
         noted = closed.noted;
         young_domain = λ l a lt on.
             let k = closed.young_domain l a (omega arith) (sym (has-same l a) ∙ on) in
-            subst (λ (h : Head). (h.domain < length hs) × (get_or hs h.domain 0 ≡ l)) (sym (head-same l a)) k;
+            subst (λ (h : Head). (h.domain < length hs) × (holder_of hs h.domain ≡ holder.Lane l)) (sym (head-same l a)) k;
         young = λ l a k b lt on e. there-kept l b.0 (young-kept l a k b (omega arith) (sym (has-same l a) ∙ on) e);
         mature_domain = closed.mature_domain;
-        mature = λ a k c b e f. named-kept (get_or hs c.head.domain 0) a k b (closed.mature a k c b e f);
+        mature = λ a k c b e f. named-for s s cs ds bs bs a k b.0 (λ on. on) (λ l. named-kept l a k b) (holder_of hs c.head.domain) (closed.mature a k c b e f);
         entries = closed.entries;
       }
 

@@ -6,13 +6,15 @@ use Rattle.bc_whole_heap.specs.Running.{IsRunning}
 use Rattle.bc_whole_heap.specs.LaneStates.{StandsAs}
 use Rattle.bc_memory.specs.Memory.{Cell, Memory}
 use Rattle.bc_memory.specs.MemoryChanges.{with_cell, with_field}
-use Rattle.bc_model.specs.State.{State, slot_of}
+use Rattle.bc_model.specs.State.{State, holder_of, slot_of}
 use Rattle.bc_model.specs.State.{with_born_field as value_in_field}
-use Rattle.bc_model.specs.Step.{act, step, on_field}
+use Rattle.bc_model.specs.Step.{act, step, on_own_field}
 use Rattle.bc_model.specs.declared.operations.Op.{Op}
 use Rattle.bc_model.specs.declared.operations.Op.TheVariants.{New, Who, Len, Set, Cut, Link, Load, Copy, Clear, Same}
 use Rattle.bc_model.specs.declared.operations.Reply.{Reply}
-use Rattle.bc_model.specs.declared.operations.Reply.TheVariants.{Done, Foreign, Obj}
+use Rattle.bc_model.specs.declared.operations.Reply.TheVariants.{Done, Foreign, Frozen, Obj}
+use Rattle.bc_model.specs.declared.values.Holder.{Holder}
+use Rattle.bc_model.specs.declared.values.Holder.TheVariants as holder
 use Rattle.bc_model.specs.declared.values.Slot.{Slot}
 use Rattle.bc_model.specs.declared.values.Value.{Value}
 use Rattle.bc_nursery.specs.Entries.{Entries}
@@ -42,19 +44,19 @@ with_root r p word =
     record r { words = slice_set r.words (root_place r p.domain p.slot) (word_bits word); noted = with_note r.noted (root_place r p.domain p.slot) }
 
 -- an operation that changes nothing is answered this
-abbrev pub Answers : HeapView → List ℕ → ℕ → Op → Reply → Type 0
+abbrev pub Answers : HeapView → List Holder → ℕ → Op → Reply → Type 0
 Answers h holders lane op reply =
     (serials : List ℕ) → (state : State) → StandsAs h holders serials state → act state lane op ≡ (state, reply)
 
 -- what a lane's operation leaves as it was: what isn't the lane's, be it chunks, buffers, pages or root slots, and all sizes
-pub record Leaves (holders : List ℕ) (lane : ℕ) (old new : HeapView) : Type 0 where
+pub record Leaves (holders : List Holder) (lane : ℕ) (old new : HeapView) : Type 0 where
   pub chunks : new.chunks ≡ slice_set old.chunks lane (own_chunk new lane)
   pub buffers : new.buffers ≡ slice_set old.buffers lane (buffer_of new.buffers lane)
   pub space : new.space ≡ record old.space { states = new.space.states; pages = new.space.pages }
-  pub pages : (page : ℕ) → (slice_index old.space.domains (page / 4) < length holders → slice_index holders (slice_index old.space.domains (page / 4)) ≢ lane)
+  pub pages : (page : ℕ) → (slice_index old.space.domains (page / 4) < length holders → holder_of holders (slice_index old.space.domains (page / 4)) ≢ holder.Lane lane)
       → (content_at new.space.pages page ≡ content_at old.space.pages page) × (state_at new.space.states page ≡ state_at old.space.states page)
   pub roots : new.roots ≡ record old.roots { words = new.roots.words; noted = new.roots.noted }
-  pub slots : (p : Slot) → slice_index holders p.domain ≢ lane → p.slot < old.roots.slots → root_at new.roots p.domain p.slot ≡ root_at old.roots p.domain p.slot
+  pub slots : (p : Slot) → holder_of holders p.domain ≢ holder.Lane lane → p.slot < old.roots.slots → root_at new.roots p.domain p.slot ≡ root_at old.roots p.domain p.slot
   pub chunk : own_chunk new lane ≡ record (own_chunk old lane) { objects = (own_chunk new lane).objects }
   pub capacity : (buffer_of new.buffers lane).capacity ≡ (buffer_of old.buffers lane).capacity
   pub unrecorded : (own_chunk old lane).objects ≡ [] → (new.buffers ≡ old.buffers) × (new.space.states ≡ old.space.states)
@@ -80,7 +82,7 @@ RecordsNothing b e old new = (e ≡ b) × (new ≡ old)
 -- what an operation that is answered the reply records, where the lane's buffer was b and is e, and the states are now
 -- these. A link records the field where it stores a reference to an object of the lane's chunk in a cell, and then it is
 -- done. Any other link records nothing, and no other operation does.
-abbrev pub IsRecordedBy : List ℕ → ℕ → Layout → RootWords → Nursery → Op → Reply → Entries → Entries → List (List PageState) → Type 0
+abbrev pub IsRecordedBy : List Holder → ℕ → Layout → RootWords → Nursery → Op → Reply → Entries → Entries → List (List PageState) → Type 0
 IsRecordedBy holders lane s roots chunk (Link p i q) reply b e states =
     ((stores : StoresYoung holders lane s roots chunk p i q) × (reply ≡ Done) × RecordsField stores.target.cell i b e s.states states)
     ⊎ ((StoresYoung holders lane s roots chunk p i q → ⊥) × RecordsNothing b e s.states states)
@@ -95,21 +97,21 @@ IsRecordedBy holders lane s roots chunk (Clear p) reply b e states = RecordsNoth
 IsRecordedBy holders lane s roots chunk (Same p q) reply b e states = RecordsNothing b e s.states states
 
 -- what an operation that is answered the reply records, of a heap before and after it
-abbrev pub HasRecorded : HeapView → HeapView → List ℕ → ℕ → Op → Reply → Type 0
+abbrev pub HasRecorded : HeapView → HeapView → List Holder → ℕ → Op → Reply → Type 0
 HasRecorded old new holders lane op reply =
     IsRecordedBy holders lane old.space old.roots (own_chunk old lane) op reply (buffer_of old.buffers lane) (buffer_of new.buffers lane) new.space.states
 
 -- the slot refers to an object of a domain that the lane holds, and the object has the field
-pub record NamesField (holders : List ℕ) (lane : ℕ) (m : Memory) (roots : RootWords) (p : Slot) (index : ℕ) : Type 0 where
+pub record NamesField (holders : List Holder) (lane : ℕ) (m : Memory) (roots : RootWords) (p : Slot) (index : ℕ) : Type 0 where
   pub at : Address
   pub to : slot_word roots p ≡ Ref at
   pub content : Cell
   pub is : m at.0 ≡ Some content
-  pub held : slice_index holders content.head.domain ≡ lane
+  pub held : holder_of holders content.head.domain ≡ holder.Lane lane
   pub less : index < length content.fields
 
 -- where the operation is done the field of the slot's object becomes the word, and else no object changes
-abbrev pub ChangesField : List ℕ → ℕ → Memory → Memory → RootWords → Slot → ℕ → Word → Reply → Type 0
+abbrev pub ChangesField : List Holder → ℕ → Memory → Memory → RootWords → Slot → ℕ → Word → Reply → Type 0
 ChangesField holders lane m n roots p index word reply =
     ((f : NamesField holders lane m roots p index) × (reply ≡ Done) × (n ≡ with_cell m f.at.0 (Some (with_field f.content index word))))
     ⊎ ((reply ≢ Done) × (n ≡ m))
@@ -118,16 +120,17 @@ ChangesField holders lane m n roots p index word reply =
 abbrev pub new_cell : Head → Cell
 new_cell head = record { head = head; fields = replicate head.fields Nil }
 
--- there is an object more, where none lay, of the lane's next birth, unless the lane doesn't hold the domain
+-- there is an object more, where none lay, of the lane's next birth, unless the lane may not read the domain, or may
+-- not write it
 abbrev pub MakesObject : ℕ → ℕ → Memory → Memory → Slot → ℕ → Reply → Type 0
 MakesObject lane serial m n p fields reply =
     ((a : ℕ) × (m a ≡ None) × (reply ≡ Obj (record { lane = lane; serial = serial + 1 }))
     × (n ≡ with_cell m a (Some (new_cell (record { lane = lane; serial = serial + 1; domain = p.domain; fields = fields })))))
-    ⊎ ((reply ≡ Foreign) × (n ≡ m))
+    ⊎ (((reply ≡ Foreign) ⊎ (reply ≡ Frozen)) × (n ≡ m))
 
 -- what a lane's operation that is answered the reply does to the heap as one memory, which was m and is n: a new object
 -- lies in it, or one field holds another word, or nothing changes. `serial` is the number of the lane's births before
-abbrev pub IsChangedBy : List ℕ → ℕ → ℕ → Memory → Memory → RootWords → Op → Reply → Type 0
+abbrev pub IsChangedBy : List Holder → ℕ → ℕ → Memory → Memory → RootWords → Op → Reply → Type 0
 IsChangedBy holders lane serial m n roots (New p fields) reply = MakesObject lane serial m n p fields reply
 IsChangedBy holders lane serial m n roots (Set p i v) reply = ChangesField holders lane m n roots p i (Num v) reply
 IsChangedBy holders lane serial m n roots (Cut p i) reply = ChangesField holders lane m n roots p i Nil reply
@@ -140,12 +143,12 @@ IsChangedBy holders lane serial m n roots (Clear p) reply = n ≡ m
 IsChangedBy holders lane serial m n roots (Same p q) reply = n ≡ m
 
 -- what an operation that is answered the reply does to the heap as one memory, of a heap before and after it
-abbrev pub HasChanged : HeapView → HeapView → List ℕ → ℕ → ℕ → Op → Reply → Type 0
+abbrev pub HasChanged : HeapView → HeapView → List Holder → ℕ → ℕ → Op → Reply → Type 0
 HasChanged old new holders lane serial op reply = IsChangedBy holders lane serial (whole_memory old) (whole_memory new) old.roots op reply
 
 -- what an operation of a lane does to the heap and is answered, where it does this to the state: `serial` is the number of
 -- the lane's births before, and `next` after
-pub record DoesAs (does : State → State × Reply) (old new : HeapView) (holders : List ℕ) (lane serial next : ℕ) (op : Op) (reply : Reply) : Type 0 where
+pub record DoesAs (does : State → State × Reply) (old new : HeapView) (holders : List Holder) (lane serial next : ℕ) (op : Op) (reply : Reply) : Type 0 where
   pub step : (serials : List ℕ) → (state : State) → StandsAs old holders serials state → slice_index serials lane ≡ serial
       → ((does state).1 ≡ reply) × StandsAs new holders (slice_set serials lane next) (does state).0
   pub running : NoneLater old.space old.chunks lane serial → IsRunning new holders
@@ -157,12 +160,13 @@ pub record DoesAs (does : State → State × Reply) (old new : HeapView) (holder
   pub recorded : HasRecorded old new holders lane op reply
   pub changed : HasChanged old new holders lane serial op reply
 
--- what an operation of a lane that holds all domains that it names does to the heap and is answered
-abbrev pub DidAct : HeapView → HeapView → List ℕ → ℕ → ℕ → ℕ → Op → Reply → Type 0
+-- what an operation of a lane that may read all slots that it names, and write the one that it writes, does to the heap and is
+-- answered
+abbrev pub DidAct : HeapView → HeapView → List Holder → ℕ → ℕ → ℕ → Op → Reply → Type 0
 DidAct old new holders lane serial next op reply = DoesAs (λ state. act state lane op) old new holders lane serial next op reply
 
 -- what an operation of a lane does to the heap and is answered
-abbrev pub DidOperation : HeapView → HeapView → List ℕ → ℕ → ℕ → ℕ → Op → Reply → Type 0
+abbrev pub DidOperation : HeapView → HeapView → List Holder → ℕ → ℕ → ℕ → Op → Reply → Type 0
 DidOperation old new holders lane serial next op reply = DoesAs (λ state. step state lane op) old new holders lane serial next op reply
 
 -- this page becomes Remembered, and nothing else of the space changes
@@ -236,23 +240,23 @@ pub record FindsFull (s : Layout) (buffer : Entries) (at : Address) (word : Word
   pub full : length buffer.entries ≡ buffer.capacity
 
 -- the operation, done to an object with that field, writes what the word is read as
-abbrev pub Writes : HeapView → List ℕ → ℕ → Slot → ℕ → Word → Op → Type 0
+abbrev pub Writes : HeapView → List Holder → ℕ → Slot → ℕ → Word → Op → Type 0
 Writes h holders lane p index word op =
     (serials : List ℕ) → (state : State) → StandsAs h holders serials state
     → (v : Value) × IsRead (whole_memory h) state word v
-    × (act state lane op ≡ on_field state lane (slot_of state p) index (λ b. (value_in_field state b index v, Done)))
+    × (act state lane op ≡ on_own_field state lane (slot_of state p) index (λ b. (value_in_field state b index v, Done)))
 
 -- the slot refers to a field of a cell, and the word refers past the superpages
-abbrev pub StoresAt : HeapView → List ℕ → ℕ → Slot → ℕ → Word → Type 0
+abbrev pub StoresAt : HeapView → List Holder → ℕ → Slot → ℕ → Word → Type 0
 StoresAt h holders lane p index word = RefersToField holders lane h.space h.roots p index × RefersBehind h.space word
 
 -- the slot refers to a field of a cell, the word refers past the superpages, and the lane's buffer is at capacity
-abbrev pub StopsAt : HeapView → List ℕ → ℕ → Slot → ℕ → Word → Type 0
+abbrev pub StopsAt : HeapView → List Holder → ℕ → Slot → ℕ → Word → Type 0
 StopsAt h holders lane p index word =
     StoresAt h holders lane p index word × (length (buffer_of h.buffers lane).entries ≡ (buffer_of h.buffers lane).capacity)
 
 -- what the write of the word to a field of the slot's object records
-abbrev pub RecordsWrite : HeapView → HeapView → List ℕ → ℕ → Slot → ℕ → Word → Reply → Type 0
+abbrev pub RecordsWrite : HeapView → HeapView → List Holder → ℕ → Slot → ℕ → Word → Reply → Type 0
 RecordsWrite old new holders lane p index word reply =
     ((stores : StoresAt old holders lane p index word) × (reply ≡ Done)
     × RecordsField stores.0.cell index (buffer_of old.buffers lane) (buffer_of new.buffers lane) old.space.states new.space.states)
@@ -260,7 +264,7 @@ RecordsWrite old new holders lane p index word reply =
     × RecordsNothing (buffer_of old.buffers lane) (buffer_of new.buffers lane) old.space.states new.space.states)
 
 -- the operation writes the word to a field of the slot's object
-pub record IsWrite (old new : HeapView) (holders : List ℕ) (lane serial : ℕ) (p : Slot) (index : ℕ) (word : Word) (op : Op) (reply : Reply) : Type 0 where
+pub record IsWrite (old new : HeapView) (holders : List Holder) (lane serial : ℕ) (p : Slot) (index : ℕ) (word : Word) (op : Op) (reply : Reply) : Type 0 where
   pub writes : Writes old holders lane p index word op
   pub records : RecordsWrite old new holders lane p index word reply → HasRecorded old new holders lane op reply
   pub changes : ChangesField holders lane (whole_memory old) (whole_memory new) old.roots p index word reply → HasChanged old new holders lane serial op reply

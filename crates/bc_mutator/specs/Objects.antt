@@ -1,5 +1,5 @@
 -- The objects that an operation of a lane may look at: allocated cells, and objects of the lane's own chunk.
-use Rattle.std.specs.Prelude.{◌≡◌, ℕ, ◌<◌, ◌≤◌, nat_lt, if◌then◌else◌, true, List, length, slice_index, Some}
+use Rattle.std.specs.Prelude.{◌≡◌, ℕ, ◌<◌, ◌≤◌, nat_lt, if◌then◌else◌, true, List, length, Some}
 use Rattle.bc_whole_heap.specs.Closed.{IsCellOrYoung}
 use Rattle.bc_whole_heap.specs.LaneChunks.{chunk_of}
 use Rattle.bc_whole_heap.specs.Heaps.{HeapView, end_of, heap_memory, young}
@@ -8,10 +8,12 @@ use Rattle.bc_whole_heap.specs.Running.{IsRunning}
 use Rattle.bc_whole_heap.specs.LaneStates.{StandsAs}
 use Rattle.bc_memory.specs.Memory.{Cell, Memory}
 use Rattle.bc_model.specs.Reached.{Reached}
-use Rattle.bc_model.specs.State.{State}
-use Rattle.bc_model.specs.Step.{on_object, on_field}
+use Rattle.bc_model.specs.State.{State, holder_of, lets_read}
+use Rattle.bc_model.specs.Step.{on_object, on_field, on_own_field}
 use Rattle.bc_model.specs.declared.operations.Reply.{Reply}
 use Rattle.bc_model.specs.declared.operations.Reply.TheVariants as reply
+use Rattle.bc_model.specs.declared.values.Holder.{Holder}
+use Rattle.bc_model.specs.declared.values.Holder.TheVariants as holder
 use Rattle.bc_model.specs.declared.values.Birth.{Birth}
 use Rattle.bc_model.specs.declared.values.Slot.{Slot}
 use Rattle.bc_model.specs.declared.values.Value.{Value}
@@ -64,7 +66,7 @@ loaded_as (Num n) = reply.Num n
 loaded_as (Ref a) = reply.Ref
 
 -- a lane may do an operation
-pub record MayOperate (h : HeapView) (holders : List ℕ) (lane : ℕ) : Type 0 where
+pub record MayOperate (h : HeapView) (holders : List Holder) (lane : ℕ) : Type 0 where
   pub running : IsRunning h holders
   pub layout : IsLayout h.space
   pub few_domains : h.roots.domains ≤ 64
@@ -78,32 +80,49 @@ pub record IsRead (m : Memory) (state : State) (word : Word) (v : Value) : Type 
   pub value : read (births m) word ≡ Some v
   pub reached : (b : Birth) → v ≡ Obj b → Reached state.slots state.made b
 
--- the word refers to an object of a domain that the lane holds
-pub record IsOfLane (h : HeapView) (holders : List ℕ) (lane : ℕ) (word : Word) (a : Address) : Type 0 where
+-- the word refers to an object of a domain that the lane may read
+pub record IsOfLane (h : HeapView) (holders : List Holder) (lane : ℕ) (word : Word) (a : Address) : Type 0 where
   pub refers : word ≡ Ref a
   pub there : IsCellOrYoung h.space (own_chunk h lane) a.0
-  pub held : slice_index holders (cell_of h.space (own_chunk h lane) a.0).head.domain ≡ lane
+  pub held : lets_read (holder_of holders (cell_of h.space (own_chunk h lane) a.0).head.domain) lane ≡ true
+
+-- the word refers to an object of a domain that the lane holds, so it may write it
+pub record IsOwnOfLane (h : HeapView) (holders : List Holder) (lane : ℕ) (word : Word) (a : Address) : Type 0 where
+  pub of : IsOfLane h holders lane word a
+  pub own : holder_of holders (cell_of h.space (own_chunk h lane) a.0).head.domain ≡ holder.Lane lane
 
 -- an operation on the object that the word is read as is done to the object at this address
-abbrev pub ActsOn : HeapView → List ℕ → ℕ → Word → Address → Type 0
+abbrev pub ActsOn : HeapView → List Holder → ℕ → Word → Address → Type 0
 ActsOn h holders lane word a =
     (serials : List ℕ) → (state : State) → (v : Value) → StandsAs h holders serials state → IsRead (whole_memory h) state word v
     → (next : Birth → State × Reply) → on_object state lane v next ≡ next (birth_of (cell_of h.space (own_chunk h lane) a.0).head)
 
 -- an operation on what the word is read as changes nothing, and is answered this
-abbrev pub Refuses : HeapView → List ℕ → ℕ → Word → Reply → Type 0
+abbrev pub Refuses : HeapView → List Holder → ℕ → Word → Reply → Type 0
 Refuses h holders lane word reply =
     (serials : List ℕ) → (state : State) → (v : Value) → StandsAs h holders serials state → IsRead (whole_memory h) state word v
     → (next : Birth → State × Reply) → on_object state lane v next ≡ (state, reply)
 
 -- an operation on this field of what the word is read as is done to the object at this address
-abbrev pub ActsOnField : HeapView → List ℕ → ℕ → Word → ℕ → Address → Type 0
+abbrev pub ActsOnField : HeapView → List Holder → ℕ → Word → ℕ → Address → Type 0
 ActsOnField h holders lane word index a =
     (serials : List ℕ) → (state : State) → (v : Value) → StandsAs h holders serials state → IsRead (whole_memory h) state word v
     → (next : Birth → State × Reply) → on_field state lane v index next ≡ next (birth_of (cell_of h.space (own_chunk h lane) a.0).head)
 
--- the reply refuses the field: no object, another lane's, or no such field
-abbrev pub RefusesField : HeapView → List ℕ → ℕ → Word → ℕ → Reply → Type 0
+-- the reply refuses to read the field: no object, one that the lane may not read, or no such field
+abbrev pub RefusesField : HeapView → List Holder → ℕ → Word → ℕ → Reply → Type 0
 RefusesField h holders lane word index reply =
     (serials : List ℕ) → (state : State) → (v : Value) → StandsAs h holders serials state → IsRead (whole_memory h) state word v
     → (next : Birth → State × Reply) → on_field state lane v index next ≡ (state, reply)
+
+-- an operation that writes this field of what the word is read as is done to the object at this address
+abbrev pub ActsOnOwnField : HeapView → List Holder → ℕ → Word → ℕ → Address → Type 0
+ActsOnOwnField h holders lane word index a =
+    (serials : List ℕ) → (state : State) → (v : Value) → StandsAs h holders serials state → IsRead (whole_memory h) state word v
+    → (next : Birth → State × Reply) → on_own_field state lane v index next ≡ next (birth_of (cell_of h.space (own_chunk h lane) a.0).head)
+
+-- the reply refuses to write the field: no object, one that the lane may not read or not write, or no such field
+abbrev pub RefusesOwnField : HeapView → List Holder → ℕ → Word → ℕ → Reply → Type 0
+RefusesOwnField h holders lane word index reply =
+    (serials : List ℕ) → (state : State) → (v : Value) → StandsAs h holders serials state → IsRead (whole_memory h) state word v
+    → (next : Birth → State × Reply) → on_own_field state lane v index next ≡ (state, reply)

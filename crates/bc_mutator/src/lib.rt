@@ -13,26 +13,34 @@
 //
 // There are four things that an operation may do, and each is done in one place: nothing, with a reply read off the heap
 // (`telling`); a root slot becomes another word (`slots`); a field of an object does (`fields`, `writing`); and a new
-// object is made at the end of the lane's chunk, of the lane's next birth, and a root slot refers to it (`making`). An
-// operation looks first at the domains that it names, then whether the slot refers to an object, then at the object's
-// domain, and last at the number of its fields (`objects`), so the replies come in the order of the step's. It looks at the
-// object of one slot at most (`touched_slot`), and that the page of this object is in hand is all that it asks of pages.
+// object is made at the end of the lane's chunk, of the lane's next birth, and a root slot refers to it (`making`).
+//
+// A lane may read the domains that it holds and those that are frozen, and may write those alone that it holds. So both
+// traits say apart what is in hand, which may be read (`at_hand`), and what of it may be written (`is_own`). An operation
+// looks first at the domains that it names, then at the one of the slot that it writes, then whether the slot refers to an
+// object, then at the object's domain, and last at the number of its fields (`objects`), so the replies come in the order of
+// the step's. It looks at the object of one slot at most (`touched_slot`). The object's domain is known from its superpage,
+// and where the lane may not read it, or not write it for `set`, `cut` and `link`, that is all that it looks at
+// (`has_right`). So the one page that it may want in hand is that of an object that it reads or writes, and an operation
+// that is answered `frozen` wants none.
 //
 // Between operations the heap is closed (`IsRunning`, `IsClosedHeap`). Words of a domain, be they root words or fields,
-// refer to cells, and to the chunk of the one lane that holds the domain. So whatever a lane comes to, from its slots on,
-// is a cell or an object of its own chunk (`IsCellOrYoung`), and one comparison of the address with the end of the
-// superpages says which (`place_of_object`). A reference from a cell to the chunk is recorded: before it is written the field goes
-// into the lane's write buffer, and the cell's page is Remembered from then on. So what the root slots of the lane's
-// domains, the write buffer and the chunk itself hold are all the references to the chunk. Where a recorded field is
-// written again its entry stays, so an entry may name a field that refers to no chunk.
+// refer to cells, and to the chunk of the lane that holds the domain; those of a frozen domain refer to cells alone. So
+// whatever a lane comes to, from the slots that it may read on, is a cell or an object of its own chunk (`IsCellOrYoung`),
+// and one comparison of the address with the end of the superpages says which (`place_of_object`). A reference from a cell
+// to the chunk is recorded: before it is written the field goes into the lane's write buffer, and the cell's page is
+// Remembered from then on. So what the root slots of the lane's domains, the write buffer and the chunk itself hold are all
+// the references to the chunk. Where a recorded field is written again its entry stays, so an entry may name a field that
+// refers to no chunk.
 //
 // An operation stops, and has changed nothing, exactly where a new object's words are more than what is left of the
 // chunk, and only where a field would have to be recorded and the buffer is at capacity. It is done again once the nurseries were emptied.
 //
 // No operation takes memory or walks over the heap. In the heap as one memory it makes one object, or writes one field of
-// an object that the lane holds the domain of, or changes nothing (`IsChangedBy`). That births stay different needs one fact
-// of the caller's: no object has a later birth of the lane than its last (`NoneLater`), which an operation keeps and
-// `law_births` gives. Then the lane may operate again (`next-ready` in `proofs/StepLemmas`).
+// an object that the lane holds the domain of, or changes nothing (`IsChangedBy`). Pages and root slots of frozen domains
+// stay as they are, whoever operates (`law_frozen_stays`). That births stay different needs one fact of the caller's: no
+// object has a later birth of the lane than its last (`NoneLater`), which an operation keeps and `law_births` gives. Then
+// the lane may operate again (`next-ready` in `proofs/StepLemmas`).
 //
 // In `proofs/` there is a file for each thing that is done: what it does to the heap as one memory, that the heap stays
 // closed, and that it stands for the next state then (`RootLemmas`; `MatureLemmas`, `YoungLemmas` and `WritingLemmas`;
@@ -52,5 +60,7 @@ mod telling;
 mod writing;
 
 pub use cells::Cells;
-pub use operations::{Stop, holds_all, law_births, operate_parts, touched};
+pub use operations::{
+    Stop, has_right, law_births, law_frozen_stays, operate_parts, reads_all, touched, writes_target,
+};
 pub use root_slots::RootSlots;

@@ -1,6 +1,6 @@
 //! Reading an object that lies in a cell or in the lane's chunk.
 
-ghost use Rattle.std.specs.Prelude.{◌≡◌, ◌<◌, ◌≤◌, slice_index_or};
+ghost use Rattle.std.specs.Prelude.{◌≡◌, ◌⊎◌, ◌<◌, ◌≤◌, slice_index_or};
 ghost use Rattle.bc_superpages.specs.Layout.{Layout};
 ghost use Rattle.bc_whole_heap.specs.Closed.{IsCellOrYoung};
 ghost use Rattle.bc_whole_heap.specs.Heaps.{end_of};
@@ -31,6 +31,20 @@ pub(crate) fn place_of_object<C: Cells>(cells: &C, at: Address) -> ObjectPlace
         ObjectPlace::Cell
     } else {
         ObjectPlace::Chunk
+    }
+}
+
+/// The domain of an object. Where it lies in a cell, the cell's page isn't looked at.
+pub(crate) fn domain_at<C: Cells>(cells: &C, chunk: &Chunk, at: Address) -> u32
+    requires there { (s : Layout) × IsSpaceOf (C.shows cells.now) chunk.now s × IsCellOrYoung s chunk.now at.0 }
+    requires known { IsInHand (C.shows cells.now) (C.knows cells.now) at }
+    ensures domain { (s : Layout) → IsSpaceOf (C.shows cells.now) chunk.now s → IsCellOrYoung s chunk.now at.0
+        → result ≡ (cell_of s chunk.now at.0).head.domain }
+    ensures side { ((s : Layout) → C.shows cells.now s → at.0 < end_of s) ⊎ ((s : Layout) → C.shows cells.now s → end_of s ≤ at.0) }
+{
+    match place_of_object(cells, at) {
+        ObjectPlace::Cell => cells.domain(at),
+        ObjectPlace::Chunk => chunk.head(at).domain,
     }
 }
 

@@ -1,6 +1,7 @@
 //! A root slot becomes another word.
 
-ghost use Rattle.std.specs.Prelude.{◌≡◌, ℕ, slice_index};
+ghost use Rattle.std.specs.Prelude.{◌≡◌, ℕ, true};
+ghost use Rattle.bc_model.specs.State.{holder_of, lets_read, lets_write};
 ghost use Rattle.bc_model.specs.WellFormed.{IsSlot};
 ghost use Rattle.bc_model.specs.declared.operations.Op.TheVariants.{Load};
 ghost use Rattle.bc_superpages.specs.RootWords.{RootWords};
@@ -10,25 +11,27 @@ ghost use Rattle.bc_word.specs.declared.words.Word.TheVariants.{Nil};
 ghost use Rattle.bc_mutator.specs.Effects.{DidAct, with_root};
 ghost use Rattle.bc_mutator.specs.Objects.{loaded_as, slot_word};
 ghost use Rattle.bc_mutator.specs.Operations.{setup_of};
-ghost use Rattle.bc_mutator.specs.Parts.{Sees, SlotLeadsToHand};
+ghost use Rattle.bc_mutator.specs.Parts.{Sees, SlotLeadsToHand, SlotLeadsToHandIn};
 
 use crate::cells::Cells;
 use crate::objects::object_with_field;
 use crate::reading::field_at;
 use crate::root_slots::RootSlots;
-use bc_model::{Reply, Slot};
+use bc_model::{Holder, Reply, Slot};
 use bc_nursery::Chunk;
 use bc_word::Word;
 
 /// The second slot becomes what the first one holds.
 pub(crate) fn copy<R: RootSlots>(roots: &mut R, from: Slot, to: Slot) -> Reply
     requires slots { (r : RootWords) × R.shows roots.old r × IsSlot (setup_of r) from × IsSlot (setup_of r) to }
-    requires hand { R.at_hand roots.old from.domain × R.at_hand roots.old to.domain }
+    requires hand { R.at_hand roots.old from.domain }
+    requires own { R.is_own roots.old to.domain }
     ensures written { (r : RootWords) → R.shows roots.old r → IsSlot (setup_of r) from → IsSlot (setup_of r) to
         → R.shows roots.new (with_root r to (slot_word r from)) }
     ensures fits { (r : RootWords) → R.shows roots.old r → IsSlot (setup_of r) from → FitsWord (slot_word r from) }
     ensures done { result ≡ Reply.Done }
     ensures hand { (domain : ℕ) → R.at_hand roots.old domain → R.at_hand roots.new domain }
+    ensures own { (domain : ℕ) → R.is_own roots.old domain → R.is_own roots.new domain }
 {
     let word = roots.word(from);
     roots.set_word(to, word);
@@ -38,10 +41,11 @@ pub(crate) fn copy<R: RootSlots>(roots: &mut R, from: Slot, to: Slot) -> Reply
 /// The slot becomes nil.
 pub(crate) fn clear<R: RootSlots>(roots: &mut R, slot: Slot) -> Reply
     requires slot { (r : RootWords) × R.shows roots.old r × IsSlot (setup_of r) slot }
-    requires hand { R.at_hand roots.old slot.domain }
+    requires own { R.is_own roots.old slot.domain }
     ensures written { (r : RootWords) → R.shows roots.old r → IsSlot (setup_of r) slot → R.shows roots.new (with_root r slot Nil) }
     ensures done { result ≡ Reply.Done }
     ensures hand { (domain : ℕ) → R.at_hand roots.old domain → R.at_hand roots.new domain }
+    ensures own { (domain : ℕ) → R.is_own roots.old domain → R.is_own roots.new domain }
 {
     roots.set_word(slot, Word::Nil);
     Reply::Done
@@ -52,20 +56,23 @@ pub(crate) fn load<C: Cells, R: RootSlots>(
     cells: &C,
     roots: &mut R,
     chunk: &Chunk,
-    holders: &[u32],
+    holders: &[Holder],
     lane: u32,
     slot: Slot,
     index: u32,
     to: Slot,
 ) -> Reply
     requires sees { (h : HeapView) × Sees (C.shows cells.now) (R.shows roots.old) chunk.now holders.now lane (Load slot index to) h }
-    requires held { (slice_index holders.now slot.domain ≡ lane) × (slice_index holders.now to.domain ≡ lane) }
-    requires slots { R.at_hand roots.old slot.domain × R.at_hand roots.old to.domain }
-    requires hand { SlotLeadsToHand (C.shows cells.now) (R.shows roots.old) (C.at_hand cells.now) slot }
+    requires held { lets_read (holder_of holders.now slot.domain) lane ≡ true }
+    requires mine { lets_write (holder_of holders.now to.domain) lane ≡ true }
+    requires slots { R.at_hand roots.old slot.domain × R.is_own roots.old to.domain }
+    requires known { SlotLeadsToHand (C.shows cells.now) (R.shows roots.old) (C.knows cells.now) slot }
+    requires hand { SlotLeadsToHandIn (C.shows cells.now) (R.shows roots.old) (C.at_hand cells.now) (λ d. lets_read (holder_of holders.now d) lane) slot }
     ensures done { (h : HeapView) → Sees (C.shows cells.now) (R.shows roots.old) chunk.now holders.now lane (Load slot index to) h
         → (r : RootWords) × R.shows roots.new r
         × ((serial : ℕ) → DidAct h (record h { roots = r }) holders.now lane serial serial (Load slot index to) result) }
     ensures hand { (domain : ℕ) → R.at_hand roots.old domain → R.at_hand roots.new domain }
+    ensures own { (domain : ℕ) → R.is_own roots.old domain → R.is_own roots.new domain }
 {
     let word = roots.word(slot);
     match object_with_field(cells, chunk, holders, lane, word, index) {

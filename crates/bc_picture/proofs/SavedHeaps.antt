@@ -3,6 +3,7 @@ use Rattle.std.proofs.Common.{◌≡◌, ◌↔◌, ℕ, List, map, refl, sym, a
 use Rattle.bc_memory.specs.Memory.{Memory}
 use Rattle.bc_model.specs.State.{State}
 use Rattle.bc_model.specs.declared.traces.Setup.{Setup}
+use Rattle.bc_model.specs.declared.values.Holder.{Holder}
 use Rattle.bc_standing.specs.Standing.{StandsFor}
 use Rattle.bc_superpages.specs.Kept.{IsLayout}
 use Rattle.bc_superpages.specs.Layout.{Layout}
@@ -12,7 +13,6 @@ use Rattle.bc_word.specs.Words.{word_of_bits}
 use Rattle.bc_image.specs.Listings.{ListingLists}
 use Rattle.bc_image.specs.Memories.{memory_of}
 use Rattle.bc_image.specs.Pictures.{Pictures}
-use Rattle.bc_image.specs.declared.listing.Holder.{Holder}
 use Rattle.bc_picture.specs.PicturedHeaps.{StandsWith}
 use Rattle.bc_picture.specs.SpaceListing.{heap_listing}
 use Rattle.bc_picture.proofs.ListedBack.{listed-memory}

@@ -5,13 +5,13 @@ use Rattle.std.specs.Int.{bytes_high_first}
 use Rattle.std.specs.List.{flat_map}
 use Rattle.bc_memory.specs.Memory.{Cell, Memory}
 use Rattle.bc_model.specs.declared.traces.Setup.{Setup}
+use Rattle.bc_model.specs.declared.values.Holder.{Holder}
 use Rattle.bc_word.specs.WordBits.{word_bits}
 use Rattle.bc_superpages.specs.Layout.{Layout, superpages}
 use Rattle.bc_superpages.specs.Memory.{memory}
 use Rattle.bc_superpages.specs.RootWords.{RootWords}
 use Rattle.bc_image.specs.Cells.{CellList}
 use Rattle.bc_image.specs.Listings.{ListingLists}
-use Rattle.bc_image.specs.declared.listing.Holder.{Holder}
 
 -- items as bytes
 unfoldable pub item_bytes : List ℕ → List ℕ

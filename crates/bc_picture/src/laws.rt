@@ -3,9 +3,9 @@
 ghost use Rattle.std.specs.Prelude.{◌≡◌, ◌↔◌, ℕ, List};
 ghost use Rattle.bc_image.specs.Memories.{memory_of};
 ghost use Rattle.bc_image.specs.Pictures.{Pictures};
-ghost use Rattle.bc_image.specs.declared.listing.Holder.{Holder};
 ghost use Rattle.bc_model.specs.State.{State};
 ghost use Rattle.bc_model.specs.declared.traces.Setup.{Setup};
+ghost use Rattle.bc_model.specs.declared.values.Holder.{Holder};
 ghost use Rattle.bc_picture.specs.PicturedHeaps.{StandsWith};
 ghost use Rattle.bc_picture.specs.SpaceListing.{heap_listing, listed_cells};
 ghost use Rattle.bc_superpages.specs.Kept.{IsLayout};

@@ -18,9 +18,8 @@ ghost use Rattle.bc_superpages.specs.Layout.{superpages};
 use crate::putting::{flush, put, put_all};
 use crate::superpages::put_superpage;
 use crate::waiting::Waiting;
-use bc_image::Holder;
 use bc_io::{Sink, WriteFault};
-use bc_model::Setup;
+use bc_model::{Holder, Setup};
 use bc_superpages::{Roots, Space};
 
 /// Writes the image of a heap: of what the engine knows, its root slots, and all objects of the space. Pages that are Gone are

@@ -230,7 +230,7 @@ module _ (k : Key) (s : Table) (r : Rule k s) (id : ℕ) (v : View) (at : get_el
       each = λ p w b few on. let was = (r.seats id v at).targets.each p w b few on in (was.0, λ z. subst (λ (c : List ℕ). IsBitOfTarget k p c w b) (record_is p) (was.1 (let a = only_fetched p in omega arith)));
       had = λ p w b few on. let was = (r.seats id v at).targets.had p w b few on in let a = only_put p w b in omega arith;
     };
-    unfetched = λ turn p. let all = all_roles (owner k p) in let none = r.unheld turn p in (r.seats id v at).records.unfetched p (omega arith);
+    unfetched = λ turn p. let all = all_roles (owner k p) in let none = r.unheld turn p in (r.seats id v at).records.unfetched p (omega arith) (λ frozen. absurd (let e = sym turn ∙ frozen.0 in cc));
     gone = λ p lt. let saw = (r.seats id v at).saw.gone p lt in (saw.0, saw.2);
   }
 

@@ -6,13 +6,14 @@ use Rattle.bc_superpages.specs.declared.parts.SpaceParts.{SpaceParts}
 use Rattle.bc_superpages.specs.Layout.{Layout, superpages}
 use Rattle.bc_superpages.specs.Kept.{IsLayout}
 use Rattle.bc_superpages.proofs.KeptLemmas.{IsLayout-kept}
+use Rattle.bc_model.specs.declared.values.Holder.{Holder}
 use Rattle.bc_pins.specs.declared.key.Turn.{Turn}
 use Rattle.bc_pins.specs.declared.key.Role.{Role}
 use Rattle.bc_pins.specs.declared.key.Role.TheVariants.{Lane, Marker, Pager}
 use Rattle.bc_pins.specs.declared.pins.Pins.{Pins}
 use Rattle.bc_pins.specs.declared.pins.Seat.{Seat}
 use Rattle.bc_pins.specs.declared.views.Lodged.{Lodged}
-use Rattle.bc_pins.specs.Key.{Key, pages_of, lane_role, role_number}
+use Rattle.bc_pins.specs.Key.{Key, pages_of, owner_role, role_number}
 use Rattle.bc_pins.specs.Totals.{times}
 use Rattle.bc_pins.specs.Rule.{Rule}
 use Rattle.bc_pins.specs.Filling.{IsSized, IsFilled}
@@ -38,7 +39,7 @@ nobody_has (r ∷ rs) =
     let c = one_other (role_number r) 0 (λ e. omega arith) in
     omega arith
 
-module _ (k : Key) (parts : SpaceParts) (supers : ℕ) (turn : Turn) (holders : List ℕ) (roles : List Role) (drawn : IsKeyOf parts supers turn holders roles k) where
+module _ (k : Key) (parts : SpaceParts) (supers : ℕ) (turn : Turn) (holders : List Holder) (roles : List Role) (drawn : IsKeyOf parts supers turn holders roles k) where
   supers_is : k.supers ≡ supers
   supers_is = ap (λ (a : Key). a.supers) drawn.key
 
@@ -56,7 +57,7 @@ module _ (k : Key) (parts : SpaceParts) (supers : ℕ) (turn : Turn) (holders : 
 
   pub drawn_unheld : IsUnheld k
   drawn_unheld mark page =
-      let none_holds : k.owners ≡ [] = ap (λ (a : Key). a.owners) drawn.key ∙ ap (map lane_role) (drawn.unheld (sym (ap (λ (a : Key). a.lanes) drawn.key) ∙ mark)) in
+      let none_holds : k.owners ≡ [] = ap (λ (a : Key). a.owners) drawn.key ∙ ap (map owner_role) (drawn.unheld (sym (ap (λ (a : Key). a.lanes) drawn.key) ∙ mark)) in
       ap (λ (l : List ℕ). times (slice_index l (slice_index k.opening.domains (page / 4))) k.roles) none_holds ∙ ap (times 0) roles_are ∙ nobody_has roles
 
   pub drawn_rule : (words : List ℕ) (slots : List Lodged) → IsFilled k parts.headers.items words → AreLodged parts (4 * supers) slots → Rule k (opened k words slots)

@@ -1,5 +1,5 @@
--- Taking a page from Gone, by the lane that holds its domain.
-use Rattle.std.proofs.Common.{◌≡◌, ℕ, ◌+◌, ◌<◌, ◌≤◌, ◌≢◌, ◌==◌, Bool, List, [], ◌∷◌, length, set, None, if◌then◌else◌, inl, inr, refl, ap, sym, subst, ◌∙◌, arith, get_or-set_other}
+-- Taking a page from Gone, by the lane that holds its domain or by any where that is frozen.
+use Rattle.std.proofs.Common.{◌≡◌, ℕ, ◌+◌, ◌<◌, ◌≤◌, ◌≢◌, ◌==◌, ◌⊎◌, Bool, List, [], ◌∷◌, length, set, None, if◌then◌else◌, inl, inr, refl, ap, sym, subst, ◌∙◌, arith, get_or-set_other}
 use Prim.Native.Nat.{zero, suc}
 use mathlib.Core.Option.{some}
 use mathlib.Core.Option as maybe
@@ -15,10 +15,10 @@ use Rattle.bc_pins.specs.declared.views.Lodged.{Lodged}
 use Rattle.bc_pins.specs.declared.views.Lodged.TheVariants.{Nothing, Away}
 use Rattle.bc_pins.specs.declared.views.Hand.{Hand}
 use Rattle.bc_pins.specs.declared.views.View.{View}
-use Rattle.bc_pins.specs.Key.{Key, pages_of, owner, page_at, frame_slot, store_slot}
+use Rattle.bc_pins.specs.Key.{Key, pages_of, owner, IsFrozenIn, page_at, frame_slot, store_slot}
 use Rattle.bc_pins.specs.Totals.{total, times}
 use Rattle.bc_pins.specs.Contents.{IsContent, RefersYoung, objects_in}
-use Rattle.bc_pins.specs.Views.{grips, grips_remembered, frame_in_hand, counted_for, marked_for, has_role, opened_word}
+use Rattle.bc_pins.specs.Views.{grips, grips_remembered, frame_in_hand, counted_for, grips_foreign, withholds, marked_for, has_role, opened_content, opened_word, record_of}
 use Rattle.bc_pins.specs.Facts.{Table, slot, IsAway, Lies, remembered_now, RecordsContent, Saw, Marking, frame_lodged, points, page_word}
 use Rattle.bc_pins.specs.Rule.{Rule}
 use Rattle.bc_pins.specs.Steps.{Mine, both_slots, fetching, without, named_below, having_read, ReadsWord, Fetches, Fetched}
@@ -26,6 +26,8 @@ use Rattle.bc_pins.proofs.TotalLemmas.{total_set, total_at, one_same, one_other,
 use Rattle.bc_pins.proofs.LogLemmas.{reads-else, reads-here, reads-more, pages-else}
 use Rattle.bc_pins.proofs.MarkedLemmas.{targets_kept}
 use Rattle.bc_pins.proofs.PageSteps.{after, PageStep, page_step}
+use Rattle.bc_pins.proofs.JoinLemmas.{look_none}
+use Rattle.bc_pins.proofs.WithholdLemmas.{foreign_all, foreign_none}
 use Rattle.bc_pins.proofs.ReadLemmas.{same_page, now_grows, remembered_word, reads, look_step}
 use Rattle.bc_pins.proofs.TakeLemmas.{Slots, some_hand}
 
@@ -85,8 +87,8 @@ named_once k page c n q = elim (cases_lt q n) [
   | inr le ↦ let a = named_past k page c n q le in omega arith
 ]
 
-module _ (k : Key) (s : Table) (r : Rule k s) (p id frame : ℕ) (v : View) (at : get_elem? s.views id ≡ some v) (near : p < pages_of k) (is : page_word s p ≡ 4)
-    (about : v.about ≡ k) (nothing : v.hand ≡ None) (mine : 0 < has_role v (owner k p)) (right : v.rights ≡ frame ∷ []) where
+module _ (k : Key) (s : Table) (r : Rule k s) (p id frame role : ℕ) (v : View) (at : get_elem? s.views id ≡ some v) (near : p < pages_of k) (is : page_word s p ≡ 4)
+    (about : v.about ≡ k) (nothing : v.hand ≡ None) (some_role : 0 < has_role v role) (may : (0 < has_role v (owner k p)) ⊎ IsFrozenIn k p) (right : v.rights ≡ frame ∷ []) where
   abbrev c : List ℕ
   c = r.rec p
 
@@ -139,9 +141,12 @@ module _ (k : Key) (s : Table) (r : Rule k s) (p id frame : ℕ) (v : View) (at 
         mine = old.mine;
         others = old.others;
         unrecorded = old.unrecorded;
-        unfetched = λ q z.
-            let was = old.unfetched q z in
-            let ne : p ≢ q = λ e. absurd (let same : has_role v (owner k p) ≡ has_role v (owner k q) = ap (λ (n : ℕ). has_role v (owner k n)) e in omega arith) in
+        unfetched = λ q z held.
+            let was = old.unfetched q z held in
+            let ne : p ≢ q = λ e. elim may [
+              | inl mine ↦ absurd (let same : has_role v (owner k p) ≡ has_role v (owner k q) = ap (λ (n : ℕ). has_role v (owner k n)) e in omega arith)
+              | inr frozen ↦ absurd (held (subst (IsFrozenIn k) e frozen))
+            ] in
             let other = one_other p q ne in
             omega arith;
         in_hand = λ g e. subst (λ (x : Hand). (x.page < pages_of k) × (x.content ≡ r.rec x.page)) (some_hand _ g e) (near, refl);
@@ -191,6 +196,23 @@ module _ (k : Key) (s : Table) (r : Rule k s) (p id frame : ℕ) (v : View) (at 
         taken = λ q lt. let e = one_is p q lt in let one : one_if (p == q) ≡ 1 = ap one_if (eq-eqb p q e) in omega arith;
       }
 
+  allowed : (0 < has_role v (owner k p)) ⊎ (owner k p ≡ 0)
+  allowed = elim may [ inl mine ↦ inl mine | inr frozen ↦ inr frozen.1 ]
+
+  -- a page that isn't the seat's own is in a stranger's hands now
+  withheld_now : ((times p w.busy ≡ 0) × (0 < has_role v (owner k p)))
+      ⊎ (withholds k p v + one_if (page_word s p == 4) + one_if (page_word s p == 0) ≤ withholds k p w + one_if (3 == 4) + one_if (3 == 0))
+  withheld_now = elim (cases_eq (has_role v (owner k p)) 0) [
+    | inl none_has ↦ inr (
+        let a : grips_foreign k p v ≡ 0 = foreign_none k p v nothing in
+        let b : grips_foreign k p w ≡ one_if (p == p) = foreign_all k p w none_has in
+        let one = one_same p in
+        let four = four_is in
+        let none_zero = word_is 0 (λ e. omega arith) in
+        omega arith)
+    | inr has ↦ inl (times_without p v.busy, omega arith)
+  ]
+
   fetch_step : PageStep k s r.rec r.rec p 3 homes id v w
   fetch_step =
       let slots = r.slots in
@@ -232,11 +254,11 @@ module _ (k : Key) (s : Table) (r : Rule k s) (p id frame : ℕ) (v : View) (at 
         else_fetched = λ q ne. let z = one_other p q (λ x. ne (sym x)) in omega arith;
         else_left = λ q ne. refl;
         else_emptied = λ q ne. refl;
-        withheld = inl (times_without p v.busy, mine);
+        withheld = withheld_now;
         noted_busy = λ lt. absurd (let z = times_without p v.busy in omega arith);
         else_returned = λ q ne. refl;
         else_busy = λ q ne. times_left q p v.busy ne;
-        stays = λ _. inr (mine, omega arith);
+        stays = λ _. inr (allowed, omega arith);
         fetched_more = omega arith;
         stays_absent = λ x. absurd (omega arith);
         read_more = λ n. reads-more (page_at p) (page_at p) 4 n v.read;
@@ -256,13 +278,27 @@ module _ (k : Key) (s : Table) (r : Rule k s) (p id frame : ℕ) (v : View) (at 
         marking = marking_kept;
         targets = targets_kept k s r.rec (set s.words (page_at p) 3) homes id v w at (λ q. omega arith) refl refl (r.seats id v at).targets;
         roles = refl;
-        seated = record { about = (r.seats id v at).seated.about; idle = λ e. let z : has_role v (owner k p) ≡ 0 = ap (times (owner k p)) e in absurd (omega arith) };
+        seated = record { about = (r.seats id v at).seated.about; idle = λ e. let z : has_role v role ≡ 0 = ap (times role) e in absurd (omega arith) };
         records = records_kept;
         saw = saw_now;
       }
 
   pub fetch_rule : Rule k t
   fetch_rule = page_step k s r r.rec p 3 homes id v w at fetch_step
+
+  -- what a seat records of a page whose domain nobody holds is the opening's
+  record_kept : c ≡ record_of v p
+  record_kept =
+      let facts = r.seats id v at in
+      elim may [
+        | inl mine ↦ facts.records.mine p mine
+        | inr frozen ↦
+            let none_given : times (owner k p) k.roles ≡ 0 = ap (λ (n : ℕ). times n k.roles) frozen.1 ∙ r.roles.nobody in
+            let own = total_at (λ (u : View). times (owner k p) u.roles) s.views id v at in
+            let each = r.roles.each (owner k p) in
+            r.unowned p none_given ∙ ap (λ (a : Key). opened_content a p) (sym about)
+            ∙ sym (look_none p v.changed (opened_content v.about p) (facts.records.others p (omega arith)))
+      ]
 
   pub fetch_told : Fetches v p c
   fetch_told =
@@ -271,7 +307,8 @@ module _ (k : Key) (s : Table) (r : Rule k s) (p id frame : ℕ) (v : View) (at 
       let standing = r.standing p near in
       let none_now = not_now in
       record {
-        mine = facts.records.mine p mine;
+        mine = record_kept;
+        unowned = λ nobody. r.unowned p (subst (λ (a : Key). times (owner a p) k.roles ≡ 0) about (ap (λ (n : ℕ). times n k.roles) nobody ∙ r.roles.nobody)) ∙ ap (λ (a : Key). opened_content a p) (sym about);
         fixed = subst (λ (a : Key). IsContent a.opening p c) (sym about) place.fixed;
         there = subst (λ (a : Key). HasCell a.opening p) (sym about) (place.gone is).there;
         old = λ y. absurd (let now = place.young (subst (λ (a : Key). RefersYoung a.opening p c) about y) in omega arith);
@@ -284,21 +321,21 @@ module _ (k : Key) (s : Table) (r : Rule k s) (p id frame : ℕ) (v : View) (at 
       }
 
 -- whatever the table is, a try to take a page from Gone keeps the rule and says what it found
-pub fetched : (k : Key) (slots p id frame : ℕ) (v : View) → p < pages_of k → v.about ≡ k → v.hand ≡ None → 0 < has_role v (owner k p) → v.rights ≡ frame ∷ []
+pub fetched : (k : Key) (slots p id frame role : ℕ) (v : View) → p < pages_of k → v.about ≡ k → v.hand ≡ None → 0 < has_role v role → (0 < has_role v (owner k p)) ⊎ IsFrozenIn k p → v.rights ≡ frame ∷ []
     → Allows (Rule k) slots id (v, []) (page_at p) (λ n. either (n == 4) 3 n) (Fetched (step slots (page_at p) 4 3 maybe.none) (v, []))
-fetched k slots p id frame v near about nothing mine right s r size at fits =
+fetched k slots p id frame role v near about nothing some_role may right s r size at fits =
     exchanged (page_word s p) 4 3
     (λ n. (w : View) × (a : Act Lodged) × Valid s.homes [] a × Rule k (stepped s (page_at p) n id [] w a) × Fetched (step slots (page_at p) 4 3 maybe.none) (v, []) (page_word s p) (w, carried_after [] a))
     (λ e.
-    let away = lies k s r p id frame v at near e about nothing mine right in (
+    let away = lies k s r p id frame role v at near e about nothing some_role may right in (
       fetching v p (r.rec p) frame,
       chain (takes (store_slot k p) (Away (r.rec p))) (takes (frame_slot k p) Nothing),
       (away.1, set_else s.homes (store_slot k p) (frame_slot k p) maybe.none (λ x. omega arith) ∙ away.0),
-      fetch_rule k s r p id frame v at near e about nothing mine right,
+      fetch_rule k s r p id frame role v at near e about nothing some_role may right,
       record {
         hit = λ q f is one _. subst
             (λ (n : ℕ). (x : List ℕ) × ◌≡◌ {A = Mine} (fetching v p (r.rec p) frame, both_slots k p Nothing (Away (r.rec p))) (fetching v n x f, both_slots v.about n Nothing (Away x)) × Fetches v n x) (same_page p q is)
-            (r.rec p, ap (λ (j : ℕ). (fetching v p (r.rec p) j, both_slots k p Nothing (Away (r.rec p)))) (same_frame frame f (sym right ∙ one)) ∙ ap (λ (a : Key). (fetching v p (r.rec p) f, both_slots a p Nothing (Away (r.rec p)))) (sym about), fetch_told k s r p id frame v at near e about nothing mine right);
+            (r.rec p, ap (λ (j : ℕ). (fetching v p (r.rec p) j, both_slots k p Nothing (Away (r.rec p)))) (same_frame frame f (sym right ∙ one)) ∙ ap (λ (a : Key). (fetching v p (r.rec p) f, both_slots a p Nothing (Away (r.rec p)))) (sym about), fetch_told k s r p id frame role v at near e about nothing some_role may right);
         miss = λ q is ne. absurd (ne e);
       },
     ))
@@ -306,7 +343,7 @@ fetched k slots p id frame v near about nothing mine right s r size at fits =
       having_read v p (page_word s p),
       keeps,
       tt,
-      look_step k s r p id (owner k p) v at near about mine,
+      look_step k s r p id role v at near about some_role,
       record {
         hit = λ q f is one e. absurd (ne e);
         miss = λ q is _. (
@@ -319,9 +356,9 @@ fetched k slots p id frame v near about nothing mine right s r size at fits =
     same_frame : (a b : ℕ) → a ∷ [] ≡ b ∷ [] → a ≡ b
     same_frame a b e = cc
 
-pub fetches_from : (k : Key) (slots p i id frame : ℕ) (me : Mine) → i ≡ page_at p → p < pages_of k → me.0.about ≡ k → me.0.hand ≡ None → 0 < has_role me.0 (owner k p) → me.0.rights ≡ frame ∷ [] → me.1 ≡ []
+pub fetches_from : (k : Key) (slots p i id frame role : ℕ) (me : Mine) → i ≡ page_at p → p < pages_of k → me.0.about ≡ k → me.0.hand ≡ None → 0 < has_role me.0 role → (0 < has_role me.0 (owner k p)) ⊎ IsFrozenIn k p → me.0.rights ≡ frame ∷ [] → me.1 ≡ []
     → Allows (Rule k) slots id me i (λ n. either (n == 4) 3 n) (Fetched (step slots i 4 3 maybe.none) me)
-fetches_from k slots p i id frame me is near about nothing mine right free =
+fetches_from k slots p i id frame role me is near about nothing some_role may right free =
     subst (λ (j : ℕ). Allows (Rule k) slots id me j (λ n. either (n == 4) 3 n) (Fetched (step slots j 4 3 maybe.none) me)) (sym is)
     (subst (λ (l : List (ℕ × Lodged)). Allows (Rule k) slots id (me.0, l) (page_at p) (λ n. either (n == 4) 3 n) (Fetched (step slots (page_at p) 4 3 maybe.none) (me.0, l))) (sym free)
-    (fetched k slots p id frame me.0 near about nothing mine right))
+    (fetched k slots p id frame role me.0 near about nothing some_role may right))

@@ -205,10 +205,10 @@ module _ (k : Key) (s : Table) (r : Rule k s) (id other : ℕ) (v w : View) (at 
           let b = theirs.records.unrecorded p (omega arith) in
           let c = times_append p v.recorded w.recorded in
           omega arith;
-      unfetched = λ p z.
+      unfetched = λ p z held.
           let both = times_append (owner k p) v.roles w.roles in
-          let a = mine.records.unfetched p (omega arith) in
-          let b = theirs.records.unfetched p (omega arith) in
+          let a = mine.records.unfetched p (omega arith) held in
+          let b = theirs.records.unfetched p (omega arith) held in
           let c = times_append p v.fetched w.fetched in
           omega arith;
       in_hand = mine.records.in_hand;
@@ -280,7 +280,7 @@ module _ (k : Key) (s : Table) (r : Rule k s) (id other : ℕ) (v w : View) (at 
   spent : SeatFacts k (with_views s views) r.rec nobody
   spent = record {
     seated = record { about = λ e. absurd (not_alive e); idle = λ _. record { hand = refl; rights = refl; recorded = refl; left = refl; emptied = refl; returned = refl; fetched = refl; bookmarked = refl; won = refl; known = refl; finished = refl; read = refl } };
-    records = record { mine = λ p lt. absurd (omega arith); others = λ p _. refl; unrecorded = λ p _. refl; unfetched = λ p _. refl; in_hand = λ h e. absurd (no_hand h e) };
+    records = record { mine = λ p lt. absurd (omega arith); others = λ p _. refl; unrecorded = λ p _. refl; unfetched = λ p _ _. refl; in_hand = λ h e. absurd (no_hand h e) };
     saw = record { seen = λ p lt. absurd (omega arith); gone = λ p lt. absurd (omega arith); busy = λ p lt. absurd (omega arith); taken = λ p lt. absurd (omega arith) };
     marking = no_marking nobody refl refl;
     targets = no_targets k (with_views s views) r.rec nobody refl;

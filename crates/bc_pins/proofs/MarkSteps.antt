@@ -115,7 +115,7 @@ module _ (k : Key) (s : Table) (r : Rule k s) (id role : ℕ) (v : View) (h : Ha
             ∙ ap (λ (x : Key). look_up p v.changed (opened_content x p)) (sym a) ∙ ap (λ (l : List (ℕ × List ℕ)). look_up p l (opened_content u.about p)) (sym changed);
         others = λ p z. ap (entries p) changed ∙ old.others p (subst (λ (l : List ℕ). times (owner k p) l ≡ 0) b z);
         unrecorded = λ p z. ap (times p) noted ∙ old.unrecorded p (subst (λ (l : List ℕ). times (owner k p) l ≡ 0) b z);
-        unfetched = λ p z. ap (times p) got ∙ old.unfetched p (subst (λ (l : List ℕ). times (owner k p) l ≡ 0) b z);
+        unfetched = λ p z held. ap (times p) got ∙ old.unfetched p (subst (λ (l : List ℕ). times (owner k p) l ≡ 0) b z) held;
         in_hand = λ x e.
             let is = some_hand g x (sym hand ∙ e) in
             subst (λ (y : Hand). (y.page < pages_of k) × (y.content ≡ r.rec y.page)) is

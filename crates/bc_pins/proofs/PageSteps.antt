@@ -68,8 +68,8 @@ pub record PageStep (k : Key) (s : Table) (rec rec' : ℕ → List ℕ) (p x : �
   pub noted_busy : times p v.busy < times p w.busy → 0 < total (withholds k p) s.views
   pub else_returned : (q : ℕ) → q ≢ p → times q w.returned ≡ times q v.returned
   pub else_busy : (q : ℕ) → q ≢ p → times q w.busy ≡ times q v.busy
-  -- none is taken from Absent, and from Gone by its lane alone
-  pub stays : page_word s p ≡ 4 → (x ≡ 4) ⊎ ((0 < has_role v (owner k p)) × (times p v.fetched < times p w.fetched))
+  -- none is taken from Absent, and from Gone by its lane alone, or where no lane holds it
+  pub stays : page_word s p ≡ 4 → (x ≡ 4) ⊎ (((0 < has_role v (owner k p)) ⊎ (owner k p ≡ 0)) × (times p v.fetched < times p w.fetched))
   pub fetched_more : times p v.fetched ≤ times p w.fetched
   pub stays_absent : page_word s p ≡ 0 → x ≡ 0
   -- what its word was read as
@@ -421,9 +421,13 @@ module _ (k : Key) (s : Table) (r : Rule k s) (rec' : ℕ → List ℕ) (p x : �
           let two = total_two (λ (z : View). times (owner k p) z.roles) s.views j id u v ne is at in
           let each = r.roles.each (owner k p) in
           let apart = r.roles.apart (owner k p) in
-          let has_it = taken.0 in
           let same : 0 < has_role u (owner k p) = subst (λ (n : ℕ). 0 < has_role u (owner k n)) e mine in
-          omega arith)
+          elim taken.0 [
+            | inl has_it ↦ omega arith
+            | inr nobody ↦ absurd (
+                let none_has : times (owner k p) k.roles ≡ 0 = ap (λ (n : ℕ). times n k.roles) nobody ∙ r.roles.nobody in
+                omega arith)
+          ])
     ]
     | inr other ↦ there q other ∙ four
   ]

@@ -213,7 +213,7 @@ module _ (k : Key) (s : Table) (r : Rule k s) (id : ℕ) (v : View) (at : get_el
       mine = λ p lt. let c = cut_times (owner k p) v.roles in facts.records.mine p (omega arith);
       others = λ p _. ap (entries p) no_change;
       unrecorded = λ p _. ap (times p) unused.recorded;
-      unfetched = λ p _. ap (times p) unused.fetched;
+      unfetched = λ p _ _. ap (times p) unused.fetched;
       in_hand = λ h e. absurd (no_hand h (sym unused.hand ∙ e));
     };
     saw = record {
@@ -234,7 +234,7 @@ module _ (k : Key) (s : Table) (r : Rule k s) (id : ℕ) (v : View) (at : get_el
       mine = λ p lt. let c = cut_times (owner k p) v.roles in facts.records.mine p (omega arith) ∙ ap (λ (l : List (ℕ × List ℕ)). look_up p l (opened_content v.about p)) no_change;
       others = λ p _. refl;
       unrecorded = λ p _. refl;
-      unfetched = λ p _. refl;
+      unfetched = λ p _ _. refl;
       in_hand = λ h e. absurd (no_hand h e);
     };
     saw = record { seen = λ p lt. absurd (omega arith); gone = λ p lt. absurd (omega arith); busy = λ p lt. absurd (omega arith); taken = λ p lt. absurd (omega arith) };

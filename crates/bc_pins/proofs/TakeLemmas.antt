@@ -21,7 +21,7 @@ use Rattle.bc_pins.specs.Views.{grips, grips_remembered, frame_in_hand, counted_
 use Rattle.bc_pins.specs.Facts.{Table, slot, IsHomed, Lies, remembered_now, RecordsContent, Seated, Marking, frame_lodged, points, page_word}
 use Rattle.bc_pins.specs.Rule.{Rule}
 use Rattle.bc_pins.specs.Steps.{Mine, both_slots, gripping, having_read, ReadsWord, Takes, Took}
-use Rattle.bc_pins.proofs.TotalLemmas.{total_set, total_at, total_only, total_two, one_same, one_other, one_is}
+use Rattle.bc_pins.proofs.TotalLemmas.{total_set, total_at, total_none, total_only, total_two, one_same, one_other, one_is}
 use Rattle.bc_pins.proofs.WithholdLemmas.{foreign_none}
 use Rattle.bc_pins.proofs.MarkedLemmas.{targets_kept}
 use Rattle.bc_pins.proofs.LogLemmas.{reads-else, reads-more, pages-else, gripped_read, gripped_two, gripped_not}
@@ -238,12 +238,27 @@ module _ (k : Key) (s : Table) (r : Rule k s) (p id old role : ℕ) (v : View) (
       let apart = r.roles.apart (owner k p) in
       omega arith))
 
+  -- nobody has the role of nobody
+  nobody_has : (j : ℕ) (u : View) → get_elem? s.views j ≡ some u → has_role u 0 ≡ 0
+  nobody_has j u is =
+      let one = total_at (λ (w : View). times 0 w.roles) s.views j u is in
+      let each = r.roles.each 0 in
+      let none = r.roles.nobody in
+      omega arith
+
   fetched_alone : 0 < has_role v (owner k p) → total (λ (u : View). times p u.fetched) s.views ≡ times p v.fetched
   fetched_alone mine = total_only (λ (u : View). times p u.fetched) s.views id v at (λ j u ne is. (r.seats j u is).records.unfetched p (
       let two = total_two (λ (z : View). has_role z (owner k p)) s.views j id u v ne is at in
       let each = r.roles.each (owner k p) in
       let apart = r.roles.apart (owner k p) in
-      omega arith))
+      omega arith)
+      (λ frozen. absurd (let z : has_role v (owner k p) ≡ 0 = ap (has_role v) frozen.1 ∙ nobody_has id v at in omega arith)))
+
+  is_two : (n : ℕ) → 0 < one_if (n == 2) → n ≡ 2
+  is_two n lt = elim (cases_eq n 2) [
+    | inl e ↦ e
+    | inr ne ↦ absurd (let no = ap one_if (ne_eqb n 2 ne) in omega arith)
+  ]
 
   told : Takes v p flag h
   told =
@@ -254,6 +269,13 @@ module _ (k : Key) (s : Table) (r : Rule k s) (p id old role : ℕ) (v : View) (
       record {
         mine = λ lt. content ∙ facts.records.mine p (subst (λ (a : Key). 0 < has_role v (owner a p)) about lt);
         unowned = λ z. content ∙ r.unowned p (subst (λ (a : Key). times (owner a p) a.roles ≡ 0) about z) ∙ ap (λ (a : Key). opened_content a p) (sym about);
+        plain = λ nobody on.
+            let none : total (λ (u : View). times p u.recorded) s.views ≡ 0 =
+            total_none (λ (u : View). times p u.recorded) s.views (λ j u is. (r.seats j u is).records.unrecorded p
+            (ap (has_role u) (subst (λ (a : Key). owner a p ≡ 0) about nobody) ∙ nobody_has j u is)) in
+            let now : one_if (page_word s p == 2) ≡ 1 = ap (λ (n : ℕ). one_if (n == 2)) is ∙ ap one_if on in
+            let ever = standing.recorded (omega arith) in
+            subst (λ (a : Key). opened_word a p ≡ 2) (sym about) (is_two (opened_word k p) (omega arith));
         fixed = subst (λ (a : Key). IsContent a.opening p h.page) (sym about) (subst (IsContent k.opening p) (sym content) place.fixed);
         young = λ y. flagged (place.young (subst (RefersYoung k.opening p) content (subst (λ (a : Key). RefersYoung a.opening p h.page) about y)));
         recorded = λ lt.

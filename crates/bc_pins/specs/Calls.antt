@@ -14,7 +14,7 @@ use Rattle.bc_pins.specs.declared.taking.Want.{Want}
 use Rattle.bc_pins.specs.declared.taking.Want.TheVariants.{Work, Victim}
 use Rattle.bc_pins.specs.declared.taking.TakeError.{TakeError}
 use Rattle.bc_pins.specs.declared.taking.TakeError.TheVariants.{Busy, Gone, Remembered, Absent}
-use Rattle.bc_pins.specs.Key.{Key, pages_of, owner, role_number}
+use Rattle.bc_pins.specs.Key.{Key, pages_of, owner, IsFrozenIn, role_number}
 use Rattle.bc_pins.specs.Totals.{times}
 use Rattle.bc_pins.specs.Contents.{IsBarePage, IsContent, RefersYoung}
 use Rattle.bc_pins.specs.Views.{has_role}
@@ -87,11 +87,15 @@ pub record Grasps (v : View) (seat : Seat) (page : ℕ) (held : Held) : Type 0 w
 abbrev pub IsMarker : Role → Type 0
 IsMarker role = (m : ℕ) × (role ≡ Marker m)
 
--- who may take a page: to work on it a marker in a mark turn, and in a turn of lanes the lane that holds its domain; to evict it
--- anybody
+-- who may take a page: to work on it a marker in a mark turn, and in a turn of lanes the lane that holds its domain, or anybody where
+-- nobody does, since it is frozen; to evict it anybody
 abbrev pub MayWork : Seat → ℕ → Want → Type 0
-MayWork seat page Work = let v : View = view_of seat in (v.about.lanes ≡ false → IsMarker seat.role) × (v.about.lanes ≡ true → 0 < has_role v (owner v.about page))
+MayWork seat page Work = let v : View = view_of seat in (v.about.lanes ≡ false → IsMarker seat.role) × (v.about.lanes ≡ true → (0 < has_role v (owner v.about page)) ⊎ (owner v.about page ≡ 0))
 MayWork seat page Victim = Unit {0}
+
+-- who may take a page from Gone, in a turn of lanes: the lane that holds its domain, or anybody where it is frozen
+abbrev pub MayFetch : View → ℕ → Type 0
+MayFetch v page = (0 < has_role v (owner v.about page)) ⊎ IsFrozenIn v.about page
 
 -- what a seat had read before it took a page: to work on one that is remembered takes a second try
 abbrev pub tried : View → ℕ → Want → Bool → View

@@ -128,8 +128,8 @@ pub record HeadersSet (k : Key) (old new : List Header) (words : List ℕ) : Typ
 -- where a page is once the table is closed: Remembered exactly where it was so at the opening or its lane's seat put it back so; Gone and
 -- Absent by the opening and by what the seats made of it. In a mark turn no page became Remembered. A page that its lane read as
 -- Held with nothing in hand, and didn't take from Gone since, is Gone or Absent, or a seat that isn't that lane's put it back. One that
--- any seat read as Held some seat read as Home or Remembered, or its lane took it from Gone; and one that any seat read as Absent,
--- Remembered or Gone isn't Home, unless its lane took it from Gone
+-- any seat read as Held some seat read as Home or Remembered, or some seat took it from Gone; and one that any seat read as Absent,
+-- Remembered or Gone isn't Home, unless some seat took it from Gone
 pub record ClosedState (k : Key) (seats : List Seat) (st : PageState) (p : ℕ) : Type 0 where
   pub remembered : 0 < one_if (opened_word k p == 2) + total (λ (seat : Seat). times p (view_of seat).recorded) seats → st ≡ state.Remembered
   pub as_opened : k.lanes ≡ false → st ≡ state.Remembered → opened_word k p ≡ 2

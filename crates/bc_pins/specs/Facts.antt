@@ -17,7 +17,7 @@ use Rattle.bc_pins.specs.declared.views.Lodged.{Lodged}
 use Rattle.bc_pins.specs.declared.views.Lodged.TheVariants.{Nothing, Home, Away}
 use Rattle.bc_pins.specs.declared.views.Hand.{Hand}
 use Rattle.bc_pins.specs.declared.views.View.{View}
-use Rattle.bc_pins.specs.Key.{Key, pages_of, owner, page_at, counter_at, bookmark_at, frame_at, frame_words, frame_slot, store_slot}
+use Rattle.bc_pins.specs.Key.{Key, pages_of, owner, IsFrozenIn, page_at, counter_at, bookmark_at, frame_at, frame_words, frame_slot, store_slot}
 use Rattle.bc_pins.specs.Totals.{total, times, sum_to}
 use Rattle.bc_pins.specs.Contents.{IsContent, RefersYoung, IsBarePage, has_target_with, objects_in}
 use Rattle.bc_pins.specs.Views.{grips, grips_remembered, frame_in_hand, counted_for, sets_bit, sets_for, marked_for, has_role, withholds, reads_as, entries, opened_content, opened_word, record_of}
@@ -132,7 +132,7 @@ fetched_ever s page = total (λ (v : View). times page v.fetched) s.views
 -- Absent, by the opening and by what the views made of it. In a mark turn no page becomes Remembered. A page that its lane read as
 -- Held with nothing in hand, and didn't take from Gone since, is in another's hands, was put back by another, or is Gone or Absent. One that any
 -- view read as Held was taken, so somebody read it as Home or Remembered. One that any view read as Absent, Remembered or Gone is one
--- of these, or in hand to be put back as Remembered, or was taken from Gone by its lane, since none is taken from Absent. Whoever
+-- of these, or in hand to be put back as Remembered, or was taken from Gone, since none is taken from Absent. Whoever
 -- took one from Gone read it as Gone, and not as Home or Remembered
 pub record Standing (k : Key) (s : Table) (page : ℕ) : Type 0 where
   pub remembered : 0 < remembered_ever k s page → 0 < remembered_now s page
@@ -146,12 +146,12 @@ pub record Standing (k : Key) (s : Table) (page : ℕ) : Type 0 where
       → (page_word s page ≡ 0) ⊎ ((page_word s page ≡ 4) ⊎ (0 < remembered_now s page + fetched_ever s page))
 
 -- Content, of one seat: the lane that holds a page's domain records its content and that it is remembered, and takes it from Gone,
--- and nobody else does. What a seat has in hand has the content that it took
+-- and nobody else does; but a page of a frozen domain any seat may take from Gone. What a seat has in hand has the content that it took
 pub record RecordsContent (k : Key) (rec : ℕ → List ℕ) (v : View) : Type 0 where
   pub mine : (p : ℕ) → 0 < has_role v (owner k p) → rec p ≡ record_of v p
   pub others : (p : ℕ) → has_role v (owner k p) ≡ 0 → entries p v.changed ≡ 0
   pub unrecorded : (p : ℕ) → has_role v (owner k p) ≡ 0 → times p v.recorded ≡ 0
-  pub unfetched : (p : ℕ) → has_role v (owner k p) ≡ 0 → times p v.fetched ≡ 0
+  pub unfetched : (p : ℕ) → has_role v (owner k p) ≡ 0 → (IsFrozenIn k p → ⊥) → times p v.fetched ≡ 0
   pub in_hand : (h : Hand) → v.hand ≡ Some h → (h.page < pages_of k) × (h.content ≡ rec h.page)
 
 -- Seen: a page that was read as Remembered is Remembered or in hand so, and an own page that was read as Gone is Gone until the seat

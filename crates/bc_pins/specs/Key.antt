@@ -1,5 +1,7 @@
 -- What a table knows for its whole life, and where its words lie.
-use Rattle.std.specs.Prelude.{ℕ, ◌+◌, ◌*◌, ◌/◌, ◌%◌, Bool, true, false, if◌then◌else◌, List, slice_index}
+use Rattle.std.specs.Prelude.{◌≡◌, ℕ, ◌+◌, ◌*◌, ◌/◌, ◌%◌, Bool, true, false, if◌then◌else◌, List, slice_index}
+use Rattle.bc_model.specs.declared.values.Holder.{Holder}
+use Rattle.bc_model.specs.declared.values.Holder.TheVariants as holder
 use Rattle.bc_pins.specs.declared.key.Turn.{Turn}
 use Rattle.bc_pins.specs.declared.key.Turn.TheVariants.{Lanes, Mark}
 use Rattle.bc_pins.specs.declared.key.Role.{Role}
@@ -21,6 +23,11 @@ role_number (Lane lane) = lane_role lane
 role_number (Marker marker) = 3 * marker + 1
 role_number (Pager pager) = 3 * pager + 2
 
+-- the role of the lane that holds a domain of this holder, or nobody's where it is frozen
+abbrev pub owner_role : Holder → ℕ
+owner_role (holder.Lane lane) = lane_role lane
+owner_role holder.Frozen = 0
+
 -- what a table keeps for its whole life
 pub record Key : Type 0 where
   -- how many superpages the table has: those up to the last that has a page which isn't Absent
@@ -33,7 +40,7 @@ pub record Key : Type 0 where
   pub lanes : Bool
   -- the space at the opening
   pub opening : Layout
-  -- by domain, the role that holds it
+  -- by domain, the role that holds it, or 0 where it is frozen
   pub owners : List ℕ
   -- the roles that are given out
   pub roles : List ℕ
@@ -44,9 +51,13 @@ pub record Key : Type 0 where
 abbrev pub pages_of : Key → ℕ
 pages_of k = 4 * k.supers
 
--- the role that holds a page's domain, or 0: nobody holds one in a mark turn
+-- the role that holds a page's domain, or 0: nobody holds a frozen one, and none in a mark turn
 abbrev pub owner : Key → ℕ → ℕ
 owner k page = slice_index k.owners (slice_index k.opening.domains (page / 4))
+
+-- in a turn of lanes the page's domain is frozen: nobody holds it, and every lane may read it
+abbrev pub IsFrozenIn : Key → ℕ → Type 0
+IsFrozenIn k page = (k.lanes ≡ true) × (owner k page ≡ 0)
 
 -- Where the words lie: first sixteen words for each superpage, of which its pages have the first four, then by superpage its
 -- counter, then its sixteen bookmark words, then the frame words, then the next notice. A mark turn has besides by superpage

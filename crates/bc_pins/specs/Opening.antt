@@ -11,13 +11,14 @@ use Rattle.bc_superpages.specs.Collecting.{is_marked, is_finished}
 use Rattle.bc_superpages.specs.Calls.{IsClosed}
 use Rattle.bc_superpages.specs.Parts.{state_in, AreParts}
 use Rattle.bc_bookmarks.specs.Summarised.{IsSummarised}
+use Rattle.bc_model.specs.declared.values.Holder.{Holder}
 use Rattle.bc_pins.specs.Lodging.{Replaced, home_of, away_of}
 use Rattle.bc_pins.specs.declared.key.Turn.{Turn}
 use Rattle.bc_pins.specs.declared.key.Role.{Role}
 use Rattle.bc_pins.specs.declared.views.Lodged.{Lodged}
 use Rattle.bc_pins.specs.declared.views.Lodged.TheVariants.{Nothing}
 use Rattle.bc_pins.specs.declared.views.View.{View}
-use Rattle.bc_pins.specs.Key.{Key, pages_of, page_at, counter_at, all_words, is_lanes, lane_role, role_number, home_slot, frame_slot, store_slot}
+use Rattle.bc_pins.specs.Key.{Key, pages_of, page_at, counter_at, all_words, is_lanes, owner_role, role_number, home_slot, frame_slot, store_slot}
 use Rattle.bc_pins.specs.Totals.{times, sum_to}
 use Rattle.bc_pins.specs.Contents.{IsContent, RefersYoung, IsBarePage}
 use Rattle.bc_pins.specs.Views.{marked_for, opened_content, opened_word, record_of}
@@ -135,14 +136,14 @@ pub record SameParts (a b : SpaceParts) : Type 0 where
   pub places : b.store.places ≡ a.store.places
 
 -- the key of a table, by what it was opened with
-abbrev pub key_for : ℕ → Turn → Layout → List Bool → List ℕ → List ℕ → List Role → Key
+abbrev pub key_for : ℕ → Turn → Layout → List Bool → List ℕ → List Holder → List Role → Key
 key_for superpages turn space pool nursery holders roles = record {
   supers = superpages;
   frames = length pool;
   pool = pool;
   lanes = is_lanes turn;
   opening = space;
-  owners = map lane_role holders;
+  owners = map owner_role holders;
   roles = map role_number roles;
   nursery = nursery;
 }

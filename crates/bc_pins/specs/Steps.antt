@@ -243,10 +243,12 @@ pub record ReadsWord (v : View) (page found : ℕ) : Type 0 where
 
 -- what is known of the box of a page that was taken from Home, or from Home and remembered. Its content is what the lane that
 -- holds the page's domain put back last, and where none does that of the opening. An own page is remembered exactly where it was
--- so at the opening or the seat put it back so. One that was Gone at the opening the seat of its lane took from there
+-- so at the opening or the seat put it back so, and one that nobody holds exactly where it was so at the opening. An own page that was
+-- Gone at the opening the seat took from there
 pub record Takes (v : View) (page : ℕ) (remembered : Bool) (homed : Homed) : Type 0 where
   pub mine : 0 < has_role v (owner v.about page) → homed.page ≡ record_of v page
   pub unowned : times (owner v.about page) v.about.roles ≡ 0 → homed.page ≡ opened_content v.about page
+  pub plain : owner v.about page ≡ 0 → remembered ≡ true → opened_word v.about page ≡ 2
   pub fixed : IsContent v.about.opening page homed.page
   pub young : RefersYoung v.about.opening page homed.page → remembered ≡ true
   pub recorded : 0 < one_if (opened_word v.about page == 2) + times page v.recorded → remembered ≡ true
@@ -260,10 +262,12 @@ pub record Took (st : Step Lodged) (m : Mine) (found : ℕ) (m' : Mine) : Type 0
       × Takes m.0 page (st.first == 2) homed
   pub miss : (page : ℕ) → st.word ≡ page_at page → found ≢ st.first → (m' ≡ (having_read m.0 page found, m.1)) × ReadsWord m.0 page found
 
--- what is known of the box of an own page that was taken from Gone: its content is what the seat put back last, or else the
--- opening's. An allocated cell lies on it, it refers to no nursery, and it wasn't remembered: neither at the opening nor since
+-- what is known of the box of a page that was taken from Gone, an own one or one of a frozen domain: its content is what the seat put
+-- back last, or else the opening's, and always the opening's where nobody holds the page. An allocated cell lies on it, it refers to no
+-- nursery, and it wasn't remembered: neither at the opening nor since
 pub record Fetches (v : View) (page : ℕ) (content : List ℕ) : Type 0 where
   pub mine : content ≡ record_of v page
+  pub unowned : owner v.about page ≡ 0 → content ≡ opened_content v.about page
   pub fixed : IsContent v.about.opening page content
   pub there : HasCell v.about.opening page
   pub old : RefersYoung v.about.opening page content → ⊥

@@ -4,6 +4,7 @@ ghost use Rattle.std.specs.Prelude.{◌≡◌, ◌+◌, ◌*◌, ◌<◌, ◌^�
 ghost use Rattle.bc_pins.specs.Key.{page_at, home_slot};
 
 use bc_frames::{Frame, FramePool};
+use bc_model::Holder;
 use bc_superpages::Space;
 use std::marker::Model;
 use std::snapshot::Snapshot;
@@ -38,8 +39,8 @@ pub struct About {
     pub pool: Snapshot<FramePool>,
     pub turn: Turn,
     pub opening: Snapshot<Space>,
-    /// By domain, the lane that holds it.
-    pub holders: Snapshot<Vec<u32>>,
+    /// By domain, who holds it.
+    pub holders: Snapshot<Vec<Holder>>,
     pub roles: Snapshot<Vec<Role>>,
     pub nursery: Snapshot<Vec<Frame>>,
 }
@@ -110,7 +111,7 @@ pub(crate) fn store_entry(page: usize) -> usize
 
 impl Model for About {
     ghost use Rattle.std.specs.Prelude.{map};
-    ghost use Rattle.bc_pins.specs.Key.{Key, is_lanes, lane_role, role_number};
+    ghost use Rattle.bc_pins.specs.Key.{Key, is_lanes, owner_role, role_number};
 
     ghost Value = { Key };
 
@@ -120,7 +121,7 @@ impl Model for About {
       pool = a.pool.value;
       lanes = is_lanes a.turn;
       opening = a.opening.value;
-      owners = map lane_role a.holders.value.items;
+      owners = map owner_role a.holders.value.items;
       roles = map role_number a.roles.value.items;
       nursery = a.nursery.value.items;
     } };

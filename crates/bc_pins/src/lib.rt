@@ -8,6 +8,7 @@
 // A worker steps with a seat, which has a role: a lane, a marker or a pager. A lane may change pages of the domains that it
 // holds; everybody else puts back what it took. What a seat has done and read is its view, which exists in proofs alone. The
 // record of a page is the content that its lane put back last, or else the opening's; its lane alone records whether it is remembered.
+// A page of a frozen domain has no lane, so its record is the opening's for the whole turn.
 //
 // The rule (`specs/Rule.antt`, made of the turn facts of `specs/Facts.antt`) holds between any two steps, whatever order the
 // threads' steps take: a page's box lies where its word says, with the record as its content; a page is in one view's hands at
@@ -29,7 +30,7 @@
 // bit for each frame, set where it is in use. Words for notices and, in a mark turn, for queues have their places too
 // (`specs/Key.antt`); no step changes them.
 //
-// In a turn of lanes a page comes back from Gone by the lane that holds its domain, which has the right to one frame: `take_gone`,
+// In a turn of lanes a page comes back from Gone by the lane that holds its domain, or by any where that is frozen, which has the right to one frame: `take_gone`,
 // after which the frame is the page's and the page is counted in each superpage that has a target of it; `store_out`, which opens
 // its box and is its read; and `counter_sub` for each of these superpages. A right is taken by `frame_claim`, which sets all bits of
 // a frame word, so that all frames are the seat's that were free there, or by giving a page up. So `close` sets the pool's words

@@ -12,6 +12,7 @@ use crate::pins::{Pins, Seat};
 use crate::rest::{Rest, lodge_all, restore};
 use crate::room::{Room, deal_all, take_room};
 use atomic_table::{Refused, Table};
+use bc_model::Holder;
 use bc_superpages::{Space, SpaceParts};
 use std::alloc::{AllocError, Global};
 use std::snapshot::Snapshot;
@@ -22,7 +23,7 @@ fn about_of(
     superpages: usize,
     turn: Turn,
     opening: Snapshot<Space>,
-    holders: &Vec<u32>,
+    holders: &Vec<Holder>,
     roles: &Vec<Role>,
 ) -> About
     ensures key { result ≡ key_for superpages turn opening.value parts.now.pool parts.now.nursery.items holders.now.items roles.now.items }
@@ -41,13 +42,13 @@ fn about_of(
 
 impl Pins {
     /// Opens a table over a space: each page up to the last that isn't Absent has its word and its slots, and each role its
-    /// seat, in their order. In a mark turn no lane holds a domain. It takes all its memory first, and where there is none it gives the
-    /// space back.
+    /// seat, in their order. `holders` names who holds each domain; in a mark turn no lane holds one, and the list is empty. It takes all
+    /// its memory first, and where there is none it gives the space back.
     pub fn open(
         alloc: Global,
         space: Space,
         turn: Turn,
-        holders: &[u32],
+        holders: &[Holder],
         roles: &[Role],
     ) -> Result<(Pins, Vec<Seat>), (Space, AllocError)>
         requires openable { IsOpenable space }

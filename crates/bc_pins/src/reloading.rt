@@ -5,11 +5,10 @@ ghost use Rattle.std.specs.Int.{bit_at};
 ghost use Rattle.bc_frames.specs.Places.{one_more};
 ghost use Rattle.bc_pins.specs.declared.views.Hand.{Hand};
 ghost use Rattle.bc_pins.specs.declared.views.Lodged.TheVariants.{Nothing, Away};
-ghost use Rattle.bc_pins.specs.Key.{pages_of, frame_words, owner};
+ghost use Rattle.bc_pins.specs.Key.{pages_of, frame_words};
 ghost use Rattle.bc_pins.specs.Totals.{times};
-ghost use Rattle.bc_pins.specs.Views.{has_role};
 ghost use Rattle.bc_pins.specs.Steps.{both_slots, fetching, having_read, Fetches, ReadsWord, discounting, claiming};
-ghost use Rattle.bc_pins.specs.Calls.{key_of, view_of, slots_of, IsAt, IsFree, IsSameSeat, IsSameWorker};
+ghost use Rattle.bc_pins.specs.Calls.{key_of, view_of, slots_of, IsAt, IsFree, IsSameSeat, IsSameWorker, MayFetch};
 
 use crate::key::{counter_entry, frame_entry, page_entry, store_entry};
 use crate::pins::{Pins, Seat};
@@ -23,13 +22,13 @@ const HELD: u64 = 3;
 const GONE: u64 = 4;
 
 impl Pins {
-    /// Tries to take an own page from Gone, for which the seat has the right to a frame, and to no other: the frame is the page's
+    /// Tries to take an own page from Gone, or one of a frozen domain, for which the seat has the right to a frame, and to no other: the frame is the page's
     /// then. It answers the word that it found, and the page is in hand where that is Gone.
     pub fn take_gone(&self, seat: &mut Seat, page: u32, frame: u32) -> u64
         requires seat { IsAt self.now seat.old }
         requires free { IsFree seat.old }
         requires page { page < pages_of (key_of self.now) }
-        requires own { 0 < has_role (view_of seat.old) (owner (key_of self.now) page) }
+        requires may { MayFetch (view_of seat.old) page }
         requires right { (view_of seat.old).rights ≡ frame ∷ [] }
         ensures same { IsSameWorker seat.old seat.new }
         ensures opens { seat.new.opens ≡ seat.old.opens }

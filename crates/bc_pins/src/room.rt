@@ -11,6 +11,7 @@ use crate::rule::{Deal, TurnRule};
 use crate::views::{Lodged, View};
 use atomic_table::Shared;
 use bc_frames::Opens;
+use bc_model::Holder;
 use std::alloc::{AllocError, Global};
 
 /// Room for the words and slots of a table, and copies of what its key is made of.
@@ -20,7 +21,7 @@ pub(crate) struct Room {
     pub(crate) slots: Vec<Lodged>,
     /// For the slots when they come back.
     pub(crate) spare: Vec<Lodged>,
-    pub(crate) holders: Vec<u32>,
+    pub(crate) holders: Vec<Holder>,
     pub(crate) roles: Vec<Role>,
 }
 
@@ -29,7 +30,7 @@ pub(crate) fn take_room(
     alloc: Global,
     words: usize,
     slots: usize,
-    holders: &[u32],
+    holders: &[Holder],
     roles: &[Role],
 ) -> Result<Room, AllocError>
     ensures words { IfOk result (λ r. (r.words.items ≡ []) × (words ≤ vec_capacity r.words)) }

@@ -115,7 +115,7 @@ impl Play<Lodged, View> for MakeAbsent {
     ghost then = { λ st m _ n. Vacated st m n };
 }
 
-/// A page is taken from Gone, by the lane that holds its domain.
+/// A page is taken from Gone, by the lane that holds its domain or by any where that is frozen.
 pub struct TakeGone;
 
 impl Play<Lodged, View> for TakeGone {

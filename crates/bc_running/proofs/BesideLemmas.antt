@@ -10,6 +10,7 @@ use Rattle.bc_model.specs.State.{State}
 use Rattle.bc_model.specs.Step.{step}
 use Rattle.bc_model.specs.declared.operations.Op.{Op}
 use Rattle.bc_model.specs.declared.operations.Reply.{Reply}
+use Rattle.bc_model.specs.declared.values.Holder.{Holder}
 use Rattle.bc_mutator.specs.Effects.{Leaves}
 use Rattle.bc_mutator.specs.Objects.{own_chunk}
 use Rattle.bc_mutator.proofs.NewLemmas.{none-later}
@@ -32,7 +33,7 @@ use Rattle.bc_turn.proofs.BackLemmas.{lies-back-running, lies-back-stands}
 use Rattle.bc_whole_heap.proofs.MovingLemmas.{running-moved, stands-moved}
 
 -- lanes can run on the heap, and it stands for a state in which each lane has its number of births
-pub record IsInOrder (h : HeapView) (hs serials : List ℕ) : Type 0 where
+pub record IsInOrder (h : HeapView) (hs : List Holder) (serials : List ℕ) : Type 0 where
   pub running : IsRunning h hs
   pub meant : (state : State) × StandsAs h hs serials state
 
@@ -67,7 +68,7 @@ sizes-then {h} {m} {k} first second = record {
 }
 
 -- an operation keeps them
-sizes-left : {hs : List ℕ} {lane : ℕ} {h k : HeapView} → Leaves hs lane h k → KeepsSizesOf h k
+sizes-left : {hs : List Holder} {lane : ℕ} {h k : HeapView} → Leaves hs lane h k → KeepsSizesOf h k
 sizes-left {hs} {lane} {h} {k} leaves = record {
   space =
       leaves.space
@@ -85,14 +86,14 @@ sizes-left {hs} {lane} {h} {k} leaves = record {
 }
 
 -- so do the operations of a lane, one after another
-pub sizes-did : (hs : List ℕ) (lane : ℕ) (ops : List Op) (replies : List Reply) {h k : HeapView} (serial next : ℕ) → DidAll hs lane ops replies h serial k next → KeepsSizesOf h k
+pub sizes-did : (hs : List Holder) (lane : ℕ) (ops : List Op) (replies : List Reply) {h k : HeapView} (serial next : ℕ) → DidAll hs lane ops replies h serial k next → KeepsSizesOf h k
 sizes-did hs lane [] [] {h} {k} serial next did = sizes-same h k did.0
 sizes-did hs lane [] (reply ∷ replies) serial next did = absurd did
 sizes-did hs lane (op ∷ ops) [] serial next did = absurd did
 sizes-did hs lane (op ∷ ops) (reply ∷ replies) serial next did = sizes-then (sizes-left did.2.leaves) (sizes-did hs lane ops replies did.1 next did.3)
 
 -- and each of them leaves the heap in order
-pub order-did : (hs : List ℕ) (lane : ℕ) (ops : List Op) (replies : List Reply) {h k : HeapView} (serials : List ℕ) (next : ℕ) → lane < length serials → IsInOrder h hs serials → DidAll hs lane ops replies h (get_or serials lane 0) k next → IsInOrder k hs (set serials lane next)
+pub order-did : (hs : List Holder) (lane : ℕ) (ops : List Op) (replies : List Reply) {h k : HeapView} (serials : List ℕ) (next : ℕ) → lane < length serials → IsInOrder h hs serials → DidAll hs lane ops replies h (get_or serials lane 0) k next → IsInOrder k hs (set serials lane next)
 order-did hs lane [] [] {h} {k} serials next within order did =
     let same : set serials lane next ≡ serials = ap (set serials lane) did.1 ∙ set-get_or serials lane 0 in
     subst (λ (x : HeapView). IsInOrder x hs (set serials lane next)) (sym did.0) (subst (λ (ns : List ℕ). IsInOrder h hs ns) (sym same) order)
@@ -113,7 +114,7 @@ order-did hs lane (op ∷ ops) (reply ∷ replies) {h} {k} serials next within o
     subst (λ (ns : List ℕ). IsInOrder k hs ns) (set-set serials lane n next)
     (order-did hs lane ops replies later next (omega (arith, within, length-set serials lane n)) mid rest)
 
-pub order-laid : (h k : HeapView) (hs serials : List ℕ) → IsLaidBack h k → IsInOrder h hs serials → IsInOrder k hs serials
+pub order-laid : (h k : HeapView) (hs : List Holder) (serials : List ℕ) → IsLaidBack h k → IsInOrder h hs serials → IsInOrder k hs serials
 order-laid h k hs serials laid order = record {
   running = lies-back-running h k hs laid order.running;
   meant = (order.meant.0, lies-back-stands h k hs serials order.meant.0 laid order.meant.1);
@@ -131,7 +132,7 @@ sizes-laid h k laid = record {
 }
 
 -- so it is where pages moved
-order-moved : (h k : HeapView) (hs serials : List ℕ) → PagesMoved h k → IsInOrder h hs serials → IsInOrder k hs serials
+order-moved : (h k : HeapView) (hs : List Holder) (serials : List ℕ) → PagesMoved h k → IsInOrder h hs serials → IsInOrder k hs serials
 order-moved h k hs serials moved order = subst (λ (x : HeapView). IsInOrder x hs serials) (sym moved.1) (record {
   running = running-moved h k.space hs moved.0 order.running;
   meant = (order.meant.0, stands-moved h k.space hs serials order.meant.0 moved.0 order.meant.1);
@@ -156,7 +157,7 @@ ops_done lanes before n replies = take (length replies) (drop (length (get_or be
 abbrev pub IsOfLanes : List (List Op) → List ℕ → Type 0
 IsOfLanes lanes serials = length lanes ≡ length serials
 
-pub lane-did : {hs : List ℕ} {lanes : List (List Op)} {h k : HeapView} {serials nexts : List ℕ} {before after : List (List Reply)} (ran : RanBeside hs lanes h serials before k nexts after) (n : ℕ) → n < length lanes
+pub lane-did : {hs : List Holder} {lanes : List (List Op)} {h k : HeapView} {serials nexts : List ℕ} {before after : List (List Reply)} (ran : RanBeside hs lanes h serials before k nexts after) (n : ℕ) → n < length lanes
     → DidAll hs n (ops_done lanes before n (ran.new n)) (ran.new n) (ran.at n) (get_or (with_first n nexts serials) n 0) (ran.at (suc n)) (get_or nexts n 0)
 lane-did {hs} {lanes} {h} {k} {serials} {nexts} {before} {after} ran n lt =
     let one : n + 1 ≡ suc n = omega arith in
@@ -165,7 +166,7 @@ lane-did {hs} {lanes} {h} {k} {serials} {nexts} {before} {after} ran n lt =
     (subst (λ (m : ℕ). DidAll hs n ops (ran.new n) (ran.at n) (get_or serials n 0) (ran.at m) (get_or nexts n 0)) one (ran.did n lt))
 
 -- what each lane leaves is in order, and has the sizes
-pub order-at : {hs : List ℕ} {lanes : List (List Op)} {h k : HeapView} {serials nexts : List ℕ} {before after : List (List Reply)} (ran : RanBeside hs lanes h serials before k nexts after) (n : ℕ) → IsOfLanes lanes serials → n ≤ length lanes → IsInOrder h hs serials → IsInOrder (ran.at n) hs (with_first n nexts serials)
+pub order-at : {hs : List Holder} {lanes : List (List Op)} {h k : HeapView} {serials nexts : List ℕ} {before after : List (List Reply)} (ran : RanBeside hs lanes h serials before k nexts after) (n : ℕ) → IsOfLanes lanes serials → n ≤ length lanes → IsInOrder h hs serials → IsInOrder (ran.at n) hs (with_first n nexts serials)
 order-at {hs} {lanes} {h} {k} {serials} {nexts} ran zero each le order = order-moved h (ran.at 0) hs serials ran.first order
 order-at {hs} {lanes} {h} {k} {serials} {nexts} {before} ran (suc n) each le order =
     let here = order-at ran n each (omega arith) order in
@@ -173,20 +174,20 @@ order-at {hs} {lanes} {h} {k} {serials} {nexts} {before} ran (suc n) each le ord
     subst (λ (ns : List ℕ). IsInOrder (ran.at (suc n)) hs ns) (sym (with_first-more n nexts serials 0 ran.long.0 (omega (arith, le, each))))
     (order-did hs n (ops_done lanes before n (ran.new n)) (ran.new n) (with_first n nexts serials) (get_or nexts n 0) within here (lane-did ran n (omega arith)))
 
-pub sizes-at : {hs : List ℕ} {lanes : List (List Op)} {h k : HeapView} {serials nexts : List ℕ} {before after : List (List Reply)} (ran : RanBeside hs lanes h serials before k nexts after) (n : ℕ) → n ≤ length lanes → KeepsSizesOf h (ran.at n)
+pub sizes-at : {hs : List Holder} {lanes : List (List Op)} {h k : HeapView} {serials nexts : List ℕ} {before after : List (List Reply)} (ran : RanBeside hs lanes h serials before k nexts after) (n : ℕ) → n ≤ length lanes → KeepsSizesOf h (ran.at n)
 sizes-at {h = h} ran zero le = sizes-moved h (ran.at 0) ran.first
 sizes-at {hs} {lanes} {h} {k} {serials} {nexts} {before} ran (suc n) le =
     sizes-then (sizes-at ran n (omega arith))
     (sizes-did hs n (ops_done lanes before n (ran.new n)) (ran.new n) (get_or (with_first n nexts serials) n 0) (get_or nexts n 0) (lane-did ran n (omega arith)))
 
 -- and so is the heap at the end of the turn
-pub order-beside : {hs : List ℕ} {lanes : List (List Op)} {h k : HeapView} {serials nexts : List ℕ} {before after : List (List Reply)} (ran : RanBeside hs lanes h serials before k nexts after) → IsOfLanes lanes serials → IsInOrder h hs serials → IsInOrder k hs nexts
+pub order-beside : {hs : List Holder} {lanes : List (List Op)} {h k : HeapView} {serials nexts : List ℕ} {before after : List (List Reply)} (ran : RanBeside hs lanes h serials before k nexts after) → IsOfLanes lanes serials → IsInOrder h hs serials → IsInOrder k hs nexts
 order-beside {hs} {lanes} {h} {k} {serials} {nexts} ran each order =
     let n = length lanes in
     subst (λ (ns : List ℕ). IsInOrder k hs ns) (with_first-all n nexts serials each ran.long.0)
     (order-laid (ran.at n) k hs (with_first n nexts serials) ran.back (order-at ran n each (omega arith) order))
 
-pub sizes-beside : {hs : List ℕ} {lanes : List (List Op)} {h k : HeapView} {serials nexts : List ℕ} {before after : List (List Reply)} (ran : RanBeside hs lanes h serials before k nexts after) → KeepsSizesOf h k
+pub sizes-beside : {hs : List Holder} {lanes : List (List Op)} {h k : HeapView} {serials nexts : List ℕ} {before after : List (List Reply)} (ran : RanBeside hs lanes h serials before k nexts after) → KeepsSizesOf h k
 sizes-beside {lanes = lanes} {k = k} ran = sizes-then (sizes-at ran (length lanes) (omega arith)) (sizes-laid (ran.at (length lanes)) k ran.back)
 
 pub sound-beside : (r : RunningView) (k : HeapView) {lanes : List (List Op)} {nexts : List ℕ} {before after : List (List Reply)} → RanBeside r.holders lanes r.heap r.serials before k nexts after → IsOfLanes lanes r.serials → (state : State) × StandsAs r.heap r.holders r.serials state → IsSound r → IsSound (running_of k r.holders nexts)

@@ -1,42 +1,47 @@
 -- The page of the object that an operation looks at: when it is Gone, and that it comes home.
-use Rattle.std.proofs.Common.{◌≡◌, ℕ, ◌+◌, ◌*◌, ◌<◌, ◌==◌, Bool, true, false, inl, inr, List, length, get_or, Option, Some, None, refl, sym, ap, subst, ◌∙◌, arith}
-use Rattle.std.specs.List.{list_all}
+use Rattle.std.proofs.Common.{◌≡◌, ℕ, ◌*◌, ◌/◌, ◌<◌, Bool, true, false, inl, inr, List, length, get_or, Option, Some, None, refl, sym, ap, subst, ◌∙◌, arith}
 use Rattle.bc_bookmarks.specs.Changes.{Reloaded}
 use Rattle.bc_bookmarks.specs.Choices.{EligibleNamesCells, GivenUp, MadeRoom}
 use Rattle.bc_bookmarks.specs.Moves.{CanMakeRoom, Frees, NoPageGoes}
 use Rattle.bc_bookmarks.specs.Targets.{HasCell, is_target}
 use Rattle.bc_memory.specs.Memory.{Memory}
-use Rattle.bc_model.specs.Step.{domains_of}
+use Rattle.bc_model.specs.State.{holder_of}
 use Rattle.bc_model.specs.WellFormed.{IsSlot}
 use Rattle.bc_model.specs.declared.operations.Op.{Op}
 use Rattle.bc_model.specs.declared.operations.Op.TheVariants.{New, Who, Len, Set, Cut, Link, Load, Copy, Clear, Same}
+use Rattle.bc_model.specs.declared.values.Holder.{Holder}
 use Rattle.bc_model.specs.declared.values.Slot.{Slot}
 use Rattle.bc_mutator.specs.Objects.{AreWhole, slot_word}
-use Rattle.bc_mutator.specs.Operations.{IsOpOf, WantsMore, setup_of}
-use Rattle.bc_mutator.specs.Parts.{touched_slot}
-use Rattle.bc_mutator.proofs.ObjectLemmas.{LieBehind-laid, there-below, one_address}
+use Rattle.bc_mutator.specs.Operations.{IsOpOf, MayName, WantsMore, setup_of}
+use Rattle.bc_mutator.specs.Parts.{has_right, touched_slot}
+use Rattle.bc_mutator.proofs.ObjectLemmas.{LieBehind-laid}
+use Rattle.bc_mutator.proofs.PartLemmas.{cell-domain}
 use Rattle.bc_nursery.specs.Entries.{Entries}
 use Rattle.bc_nursery.specs.Nurseries.{Nursery}
 use Rattle.bc_superpages.specs.Calls.{IsTaken}
 use Rattle.bc_superpages.specs.Memory.{memory}
+use Rattle.bc_superpages.specs.Memory as space
+use Rattle.bc_superpages.proofs.MemoryLemmas.{memory_of-cell}
 use Rattle.bc_superpages.specs.Paging.{HasNoPromise}
 use Rattle.bc_superpages.specs.declared.headers.PageState.TheVariants.{Home, Gone}
 use Rattle.bc_superpages.specs.Headers.{is_gone, is_resident}
 use Rattle.bc_superpages.specs.Kept.{IsLayout}
 use Rattle.bc_superpages.specs.Layout.{Layout, is_cell, superpages}
-use Rattle.bc_superpages.specs.LayoutAt.{state_at}
+use Rattle.bc_superpages.specs.LayoutAt.{IsAllocated, state_at}
 use Rattle.bc_superpages.specs.RootWords.{RootWords}
 use Rattle.bc_whole_heap.specs.Closed.{IsClosedHeap}
-use Rattle.bc_whole_heap.specs.LaneChunks.{chunk_of}
 use Rattle.bc_whole_heap.specs.Heaps.{end_of}
 use Rattle.bc_whole_heap.specs.HeapFacts.{NoneRemembered, view_of}
 use Rattle.bc_whole_heap.specs.Running.{IsRunning}
 use Rattle.bc_whole_heap.proofs.HeapLemmas.{allocated-below}
-use Rattle.bc_word.specs.Addresses.{page_of}
+use Rattle.bc_word.specs.Addresses.{page_of, superpage_of}
+use Rattle.bc_word.proofs.AddressLemmas.{page_of-superpage}
 use Rattle.bc_word.specs.declared.addresses.Address.{Address}
+use Rattle.bc_word.specs.declared.words.Word.TheVariants.{Ref}
 use Rattle.bc_running.specs.Running.{RunningView}
 use Rattle.bc_running.specs.RunningFacts.{IsSound}
-use Rattle.bc_running.specs.Touching.{BringsHome, IsHere, IsTouching, LeadsToPage, LooksAtGone, TouchesHere}
+use Rattle.bc_running.specs.Touching.{BringsHome, IsTouching, LeadsToPage, LooksAtGone, LooksHere}
+use Rattle.bc_running.proofs.WholeLemmas.{cell-of_holder}
 
 true_false : {X : Type 0} (b : Bool) → b ≡ false → b ≡ true → X
 true_false b off on = absurd (let e : false ≡ true = sym off ∙ on in cc)
@@ -49,74 +54,90 @@ room-sound {r} sound none = record {
   frames = let two = sound.frames in omega arith;
 }
 
--- the lane holds all domains that the operation names
-abbrev pub all_held : List ℕ → ℕ → Op → Bool
-all_held hs lane op = list_all (λ d. get_or hs d 0 == lane) (domains_of op)
-
 -- it looks at no such page where what its slot refers to is elsewhere
-pub looks-elsewhere : {hs : List ℕ} {lane : ℕ} {s : Layout} {r : RootWords} {op : Op} → IsLayout s → TouchesHere s r (touched_slot op) → LooksAtGone hs lane s r op → ⊥
+pub looks-elsewhere : {hs : List Holder} {lane : ℕ} {s : Layout} {r : RootWords} {op : Op} → IsLayout s → LooksHere s r (has_right hs lane op) (touched_slot op) → LooksAtGone hs lane s r op → ⊥
 looks-elsewhere {hs} {lane} {s} {r} {op} layout here looks =
-    let there : IsHere s (slot_word r looks.slot) = subst (λ (x : Option Slot). TouchesHere s r x) looks.touched here in
-    true_false (is_gone (state_at s.states (page_of looks.at.0))) (there looks.at looks.to (allocated-below s looks.at.0 layout looks.cell)) (ap is_gone looks.gone)
+    let there : LooksHere s r (has_right hs lane op) (Some looks.slot) = subst (λ (x : Option Slot). LooksHere s r (has_right hs lane op) x) looks.touched here in
+    true_false (is_gone (state_at s.states (page_of looks.at.0))) (there looks.at looks.to (allocated-below s looks.at.0 layout looks.cell) looks.right) (ap is_gone looks.gone)
 
--- it looks at the page that its slot leads to
-record LooksAtGonePage (hs : List ℕ) (lane : ℕ) (s : Layout) (r : RootWords) (cs : List Nursery) (bs : List Entries) (op : Op) (page : ℕ) : Type 0 where
+-- the domain of an address on a page
+domain-on : (s : Layout) (a page : ℕ) → page_of a ≡ page → get_or s.domains (superpage_of a) 0 ≡ get_or s.domains (page / 4) 0
+domain-on s a page on = ap (λ (q : ℕ). get_or s.domains q 0) (page_of-superpage a ∙ ap (λ (p : ℕ). p / 4) on)
+
+-- the cell on a page to which the operation's slot leads
+record LeadsToCell (s : Layout) (r : RootWords) (op : Op) (page : ℕ) : Type 0 where
+  pub slot : Slot
+  pub touched : touched_slot op ≡ Some slot
+  pub at : Address
+  pub to : slot_word r slot ≡ Ref at
+  pub cell : IsAllocated s at.0
+  pub on : page_of at.0 ≡ page
+
+-- the heap that a page and root slots are of
+record HasPageOf (hs : List Holder) (s : Layout) (r : RootWords) (cs : List Nursery) (bs : List Entries) (page : ℕ) : Type 0 where
   pub whole : AreWhole cs
   pub running : IsRunning (view_of s r cs bs) hs
-  pub held : all_held hs lane op ≡ true
   pub within : page < 4 * superpages s
-  pub gone : state_at s.states page ≡ Gone
 
-looks-by : {hs : List ℕ} {lane : ℕ} {s : Layout} {r : RootWords} {cs : List Nursery} {bs : List Entries} {op : Op} {page : ℕ} (p : Slot) → LooksAtGonePage hs lane s r cs bs op page → touched_slot op ≡ Some p → IsSlot (setup_of r) p → LeadsToPage r (Some p) page → LooksAtGone hs lane s r op
-looks-by {hs} {lane} {s} {r} {cs} {bs} {op} {page} p h is slot leads =
+leads-by : {hs : List Holder} {s : Layout} {r : RootWords} {cs : List Nursery} {bs : List Entries} {op : Op} {page : ℕ} (p : Slot) → HasPageOf hs s r cs bs page → touched_slot op ≡ Some p → IsSlot (setup_of r) p → LeadsToPage r (Some p) page → LeadsToCell s r op page
+leads-by {hs} {s} {r} {cs} {bs} {op} {page} p h is slot leads =
     let closed : IsClosedHeap (view_of s r cs bs) hs = h.running.closed in
     let a : Address = leads.0 in
-    let l : ℕ = get_or hs p.domain 0 in
     let in_holders : p.domain < length hs = (let lt = slot.0 in let same = closed.domains in omega arith) in
-    let within = closed.holder p.domain in_holders in
     let below : a.0 < end_of s = (let on = leads.2 in let lt = h.within in omega arith) in
     record {
-      held = h.held;
       slot = p;
       touched = is;
       at = a;
       to = leads.1;
-      cell = there-below s (chunk_of cs l) a.0 (LieBehind-laid s h.running.laid.0 cs l h.running.laid.1 within (h.whole l within))
-          (closed.root p.domain p.slot a slot.0 slot.1 leads.1) below;
-      gone = ap (state_at s.states) leads.2 ∙ h.gone;
+      cell = cell-of_holder s cs (holder_of hs p.domain) a.0 (λ l within. LieBehind-laid s h.running.laid.0 cs l h.running.laid.1 within (h.whole l within))
+          (closed.holder p.domain in_holders) (closed.root p.domain p.slot a slot.0 slot.1 leads.1) below;
+      on = leads.2;
     }
 
-looks-at : {hs : List ℕ} {lane : ℕ} {s : Layout} {r : RootWords} {cs : List Nursery} {bs : List Entries} {page : ℕ} (op : Op) → IsOpOf r op → LooksAtGonePage hs lane s r cs bs op page → LeadsToPage r (touched_slot op) page → LooksAtGone hs lane s r op
-looks-at (Who p) fits h leads = looks-by p h refl fits leads
-looks-at (Len p) fits h leads = looks-by p h refl fits leads
-looks-at (Set p i v) fits h leads = looks-by p h refl fits.0 leads
-looks-at (Cut p i) fits h leads = looks-by p h refl fits.0 leads
-looks-at (Link p i q) fits h leads = looks-by p h refl fits.0 leads
-looks-at (Load p i q) fits h leads = looks-by p h refl fits.0 leads
-looks-at (New p n) fits h leads = absurd leads
-looks-at (Copy p q) fits h leads = absurd leads
-looks-at (Clear p) fits h leads = absurd leads
-looks-at (Same p q) fits h leads = absurd leads
+leads-to : {hs : List Holder} {s : Layout} {r : RootWords} {cs : List Nursery} {bs : List Entries} {page : ℕ} (op : Op) → IsOpOf r op → HasPageOf hs s r cs bs page → LeadsToPage r (touched_slot op) page → LeadsToCell s r op page
+leads-to (Who p) fits h leads = leads-by p h refl fits leads
+leads-to (Len p) fits h leads = leads-by p h refl fits leads
+leads-to (Set p i v) fits h leads = leads-by p h refl fits.0 leads
+leads-to (Cut p i) fits h leads = leads-by p h refl fits.0 leads
+leads-to (Link p i q) fits h leads = leads-by p h refl fits.0 leads
+leads-to (Load p i q) fits h leads = leads-by p h refl fits.0 leads
+leads-to (New p n) fits h leads = absurd leads
+leads-to (Copy p q) fits h leads = absurd leads
+leads-to (Clear p) fits h leads = absurd leads
+leads-to (Same p q) fits h leads = absurd leads
 
--- and the page is the one that it leads to
-same_page : {hs : List ℕ} {lane : ℕ} {s : Layout} {r : RootWords} {op : Op} {page : ℕ} → LeadsToPage r (touched_slot op) page → (looks : LooksAtGone hs lane s r op) → page_of looks.at.0 ≡ page
-same_page {hs} {lane} {s} {r} {op} {page} leads looks =
-    let there : LeadsToPage r (Some looks.slot) page = subst (λ (x : Option Slot). LeadsToPage r x page) looks.touched leads in
-    let same : looks.at ≡ there.0 = one_address looks.at there.0 (sym looks.to ∙ there.1) in
-    ap (λ (x : Address). page_of x.0) same ∙ there.2
+-- the page's superpage is of one of the domains
+pub domain-within : {hs : List Holder} {s : Layout} {r : RootWords} (cs : List Nursery) (bs : List Entries) (op : Op) (page : ℕ) → IsLayout s → AreWhole cs → IsRunning (view_of s r cs bs) hs → IsOpOf r op → page < 4 * superpages s → LeadsToPage r (touched_slot op) page → get_or s.domains (page / 4) 0 < length hs
+domain-within {hs} {s} {r} cs bs op page layout whole running fits within leads =
+    let f : LeadsToCell s r op page = leads-to op fits (record { whole = whole; running = running; within = within }) leads in
+    subst (λ (d : ℕ). d < length hs) (cell-domain s f.at.0 layout f.cell ∙ domain-on s f.at.0 page f.on)
+    (running.closed.mature_domain f.at.0 (space.cell_at s.pages f.at.0) (memory_of-cell s.classes s.cells s.pages f.at.0 f.cell))
 
 -- what is found of a page that is Gone to which the operation's slot leads
-pub record FindsGone (hs : List ℕ) (lane : ℕ) (s : Layout) (r : RootWords) (op : Op) (page : ℕ) : Type 0 where
+pub record FindsGone (hs : List Holder) (lane : ℕ) (s : Layout) (r : RootWords) (op : Op) (page : ℕ) : Type 0 where
   pub looks : LooksAtGone hs lane s r op
   pub same : page_of looks.at.0 ≡ page
 
-pub finds-gone : {hs : List ℕ} {lane : ℕ} {s : Layout} {r : RootWords} (cs : List Nursery) (bs : List Entries) (op : Op) (page : ℕ) → AreWhole cs → IsRunning (view_of s r cs bs) hs → IsOpOf r op → all_held hs lane op ≡ true → page < 4 * superpages s → state_at s.states page ≡ Gone → LeadsToPage r (touched_slot op) page → FindsGone hs lane s r op page
-finds-gone cs bs op page whole running fits held within gone leads =
-    let looks = looks-at {cs = cs} {bs = bs} {page = page} op fits (record { whole = whole; running = running; held = held; within = within; gone = gone }) leads in
-    record { looks = looks; same = same_page {op = op} {page = page} leads looks }
+pub finds-gone : {hs : List Holder} {lane : ℕ} {s : Layout} {r : RootWords} (cs : List Nursery) (bs : List Entries) (op : Op) (page : ℕ) → AreWhole cs → IsRunning (view_of s r cs bs) hs → IsOpOf r op → MayName hs lane op → page < 4 * superpages s → state_at s.states page ≡ Gone → LeadsToPage r (touched_slot op) page → has_right hs lane op (get_or s.domains (page / 4) 0) ≡ true → FindsGone hs lane s r op page
+finds-gone {hs} {lane} {s} {r} cs bs op page whole running fits named within gone leads right =
+    let f : LeadsToCell s r op page = leads-to op fits (record { whole = whole; running = running; within = within }) leads in
+    record {
+      looks = record {
+        named = named;
+        slot = f.slot;
+        touched = f.touched;
+        at = f.at;
+        to = f.to;
+        cell = f.cell;
+        right = ap (has_right hs lane op) (domain-on s f.at.0 page f.on) ∙ right;
+        gone = ap (state_at s.states) f.on ∙ gone;
+      };
+      same = f.on;
+    }
 
 -- it came home
-pub came-home : {hs : List ℕ} {lane : ℕ} {s t : Layout} {r : RootWords} {op : Op} {page : ℕ} → FindsGone hs lane s r op page → (hint : ℕ) × (u : Layout) × MadeRoom s hint u × Reloaded u page t → BringsHome hs lane s r op t
+pub came-home : {hs : List Holder} {lane : ℕ} {s t : Layout} {r : RootWords} {op : Op} {page : ℕ} → FindsGone hs lane s r op page → (hint : ℕ) × (u : Layout) × MadeRoom s hint u × Reloaded u page t → BringsHome hs lane s r op t
 came-home {hs} {lane} {s} {t} {r} {op} {page} found back =
     inl (record {
       looks = found.looks;
@@ -160,16 +181,16 @@ no-room {s} {t} {hint} none (inr given) = no-given given.1.2
     no-given (inr eligible) = none.1.1 given.1.0 given.1.1 eligible.1.here
 
 -- what was done wanted no frame
-pub no-want : {hs : List ℕ} {lane : ℕ} {s t : Layout} {r : RootWords} {op : Op} → BringsHome hs lane s r op t → LooksAtGone hs lane s r op × NoPageGoes s → ⊥
+pub no-want : {hs : List Holder} {lane : ℕ} {s t : Layout} {r : RootWords} {op : Op} → BringsHome hs lane s r op t → LooksAtGone hs lane s r op × NoPageGoes s → ⊥
 no-want (inl came) wants = no-room wants.1 came.made
 no-want (inr same) wants = same.0 wants.0
 
 -- an operation that looks at a Gone page touches it
-pub looks-touching : {hs : List ℕ} {lane : ℕ} {s : Layout} {r : RootWords} {op : Op} → LooksAtGone hs lane s r op → IsTouching (touched_slot op)
+pub looks-touching : {hs : List Holder} {lane : ℕ} {s : Layout} {r : RootWords} {op : Op} → LooksAtGone hs lane s r op → IsTouching (touched_slot op)
 looks-touching looks = subst IsTouching (sym looks.touched) tt
 
 -- one that makes an object looks at none
-pub wants-elsewhere : {hs : List ℕ} {lane : ℕ} {s t : Layout} {r : RootWords} (words : ℕ) (op : Op) → WantsMore hs lane words op → BringsHome hs lane s r op t → t ≡ s
+pub wants-elsewhere : {hs : List Holder} {lane : ℕ} {s t : Layout} {r : RootWords} (words : ℕ) (op : Op) → WantsMore hs lane words op → BringsHome hs lane s r op t → t ≡ s
 wants-elsewhere words op wants (inr same) = same.1
 wants-elsewhere words (New p n) wants (inl came) = absurd (let e = came.looks.touched in none_some came.looks.slot e)
   where

@@ -1,18 +1,18 @@
 -- What an operation does after the page that it touches came home, said of the heap before.
-use Rattle.std.specs.Option.{IfSome, IfNone}
 use Rattle.std.specs.Prelude.{IsErrOf}
 use Rattle.std.specs.Result.{OnErr}
-use Rattle.std.proofs.Common.{◌≡◌, ◌↔◌, ℕ, ◌+◌, ◌*◌, ◌<◌, inl, inr, List, get_or, Some, None, Option, Result, Err, refl, sym, ap, subst, ◌∙◌, arith}
+use Rattle.std.proofs.Common.{◌≡◌, ◌≢◌, ◌↔◌, ℕ, ◌+◌, ◌/◌, List, get_or, Some, None, Option, Result, Err, refl, sym, ap, subst, ◌∙◌, arith}
 use Prim.Native.Nat.{suc}
 use Rattle.std.proofs.lemmas.List.{set-get_or}
 use Rattle.bc_bookmarks.specs.Changes.{Settled}
-use Rattle.bc_bookmarks.specs.Choices.{GivenUp, NoneLeaves}
 use Rattle.bc_bookmarks.specs.Moves.{MovesPages}
 use Rattle.bc_bookmarks.specs.Summarised.{IsSummarised}
-use Rattle.bc_bookmarks.proofs.MovingLemmas.{Frees-given, MovesPages-after, MovesPages-none}
 use Rattle.bc_memory.specs.Memory.{Memory}
+use Rattle.bc_model.specs.State.{holder_of}
 use Rattle.bc_model.specs.declared.operations.Op.{Op}
 use Rattle.bc_model.specs.declared.operations.Op.TheVariants.{New, Who, Len, Set, Cut, Link, Load, Copy, Clear, Same}
+use Rattle.bc_model.specs.declared.values.Holder.{Holder}
+use Rattle.bc_model.specs.declared.values.Holder.TheVariants.{Lane}
 use Rattle.bc_model.specs.declared.values.Slot.{Slot}
 use Rattle.bc_mutator.specs.Operations.{NeedsEntry, NoneLater, WantsMore}
 use Rattle.bc_mutator.specs.Parts.{touched_slot}
@@ -24,8 +24,7 @@ use Rattle.bc_standing.specs.Standing.{births}
 use Rattle.bc_superpages.specs.declared.headers.PageState.{PageState}
 use Rattle.bc_superpages.specs.declared.headers.PageState.TheVariants.{Home}
 use Rattle.bc_superpages.specs.Headers.{is_gone}
-use Rattle.bc_superpages.specs.Kept.{IsLayout}
-use Rattle.bc_superpages.specs.Layout.{Layout, superpages}
+use Rattle.bc_superpages.specs.Layout.{Layout, content_at}
 use Rattle.bc_superpages.specs.LayoutAt.{state_at}
 use Rattle.bc_superpages.specs.RootWords.{RootWords}
 use Rattle.bc_whole_heap.specs.HeapFacts.{HasTwoFrames}
@@ -58,7 +57,9 @@ stays-moved lane r q t moves stays = record {
   others = stays.others;
   space = stays.space
       ∙ ap (λ (x : Layout). record x { states = q.heap.space.states; pages = q.heap.space.pages; free = q.heap.space.free; bookmarks = q.heap.space.bookmarks; incoming = q.heap.space.incoming; reads = q.heap.space.reads }) moves.same;
+  pages = subst (λ (x : Layout). (page : ℕ) → holder_of r.holders (get_or x.domains (page / 4) 0) ≢ Lane lane → content_at q.heap.space.pages page ≡ content_at x.pages page) moves.same stays.pages;
   roots = stays.roots;
+  slots = stays.slots;
   chunk = stays.chunk;
   chunks = stays.chunks;
   buffers = stays.buffers;
@@ -66,7 +67,7 @@ stays-moved lane r q t moves stays = record {
 }
 
 -- an entry is needed where it was, and where it was it is
-needs-before : (s : Layout) (states : List (List PageState)) (free : ℕ) (bits : List (List ℕ)) (counters : List ℕ) (reads : ℕ) (hs : List ℕ) (lane : ℕ) (r : RootWords) (c : Nursery) (b : Entries) (op : Op) → NeedsEntry hs lane (record s { states = states; free = free; bookmarks = bits; incoming = counters; reads = reads }) r c b op → NeedsEntry hs lane s r c b op
+needs-before : (s : Layout) (states : List (List PageState)) (free : ℕ) (bits : List (List ℕ)) (counters : List ℕ) (reads : ℕ) (hs : List Holder) (lane : ℕ) (r : RootWords) (c : Nursery) (b : Entries) (op : Op) → NeedsEntry hs lane (record s { states = states; free = free; bookmarks = bits; incoming = counters; reads = reads }) r c b op → NeedsEntry hs lane s r c b op
 needs-before s states free bits counters reads hs lane r c b (Link p i q) needs =
     let f = needs.0.target in (
       record {
@@ -88,7 +89,7 @@ needs-before s states free bits counters reads hs lane r c b (Copy p q) needs = 
 needs-before s states free bits counters reads hs lane r c b (Clear p) needs = needs
 needs-before s states free bits counters reads hs lane r c b (Same p q) needs = needs
 
-needs-after : (s : Layout) (states : List (List PageState)) (free : ℕ) (bits : List (List ℕ)) (counters : List ℕ) (reads : ℕ) (hs : List ℕ) (lane : ℕ) (r : RootWords) (c : Nursery) (b : Entries) (op : Op) → NeedsEntry hs lane s r c b op → NeedsEntry hs lane (record s { states = states; free = free; bookmarks = bits; incoming = counters; reads = reads }) r c b op
+needs-after : (s : Layout) (states : List (List PageState)) (free : ℕ) (bits : List (List ℕ)) (counters : List ℕ) (reads : ℕ) (hs : List Holder) (lane : ℕ) (r : RootWords) (c : Nursery) (b : Entries) (op : Op) → NeedsEntry hs lane s r c b op → NeedsEntry hs lane (record s { states = states; free = free; bookmarks = bits; incoming = counters; reads = reads }) r c b op
 needs-after s states free bits counters reads hs lane r c b (Link p i q) needs =
     let f = needs.0.target in (
       record {
@@ -110,11 +111,11 @@ needs-after s states free bits counters reads hs lane r c b (Copy p q) needs = n
 needs-after s states free bits counters reads hs lane r c b (Clear p) needs = needs
 needs-after s states free bits counters reads hs lane r c b (Same p q) needs = needs
 
-pub needs-moved : {s t : Layout} (hs : List ℕ) (lane : ℕ) (r : RootWords) (c : Nursery) (b : Entries) (op : Op) → MovesPages s t → NeedsEntry hs lane t r c b op → NeedsEntry hs lane s r c b op
+pub needs-moved : {s t : Layout} (hs : List Holder) (lane : ℕ) (r : RootWords) (c : Nursery) (b : Entries) (op : Op) → MovesPages s t → NeedsEntry hs lane t r c b op → NeedsEntry hs lane s r c b op
 needs-moved {s} {t} hs lane r c b op moves needs =
     needs-before s t.states t.free t.bookmarks t.incoming t.reads hs lane r c b op (subst (λ (x : Layout). NeedsEntry hs lane x r c b op) moves.same needs)
 
-pub needs-kept : {s t : Layout} (hs : List ℕ) (lane : ℕ) (r : RootWords) (c : Nursery) (b : Entries) (op : Op) → MovesPages s t → NeedsEntry hs lane s r c b op → NeedsEntry hs lane t r c b op
+pub needs-kept : {s t : Layout} (hs : List Holder) (lane : ℕ) (r : RootWords) (c : Nursery) (b : Entries) (op : Op) → MovesPages s t → NeedsEntry hs lane s r c b op → NeedsEntry hs lane t r c b op
 needs-kept {s} {t} hs lane r c b op moves needs =
     subst (λ (x : Layout). NeedsEntry hs lane x r c b op) (sym moves.same) (needs-after s t.states t.free t.bookmarks t.incoming t.reads hs lane r c b op needs)
 
@@ -153,7 +154,7 @@ frame_nursery stop is e = cc
 frame_buffer : {T : Type 0} (stop : Stop) → stop ≡ NoFrame → IsErrOf {T = T} (Err stop) BufferFull → ⊥
 frame_buffer stop is e = cc
 
-wants-none : (hs : List ℕ) (lane words : ℕ) (op : Op) → IsTouching (touched_slot op) → WantsMore hs lane words op → ⊥
+wants-none : (hs : List Holder) (lane words : ℕ) (op : Op) → IsTouching (touched_slot op) → WantsMore hs lane words op → ⊥
 wants-none hs lane words (New p n) touches wants = touches
 wants-none hs lane words (Who p) touches wants = wants
 wants-none hs lane words (Len p) touches wants = wants
@@ -165,7 +166,7 @@ wants-none hs lane words (Copy p q) touches wants = wants
 wants-none hs lane words (Clear p) touches wants = wants
 wants-none hs lane words (Same p q) touches wants = wants
 
-pub frame-nursery : (T : Type 0) (hs : List ℕ) (lane words : ℕ) (op : Op) (stop : Stop) → stop ≡ NoFrame → IsTouching (touched_slot op) → IsErrOf {T = T} (Err stop) NurseryFull ↔ WantsMore hs lane words op
+pub frame-nursery : (T : Type 0) (hs : List Holder) (lane words : ℕ) (op : Op) (stop : Stop) → stop ≡ NoFrame → IsTouching (touched_slot op) → IsErrOf {T = T} (Err stop) NurseryFull ↔ WantsMore hs lane words op
 frame-nursery T hs lane words op stop is touches = (λ e. absurd (frame_nursery {T = T} stop is e), λ wants. absurd (wants-none hs lane words op touches wants))
 
 pub frame-buffer : (T X : Type 0) (stop : Stop) → stop ≡ NoFrame → IsErrOf {T = T} (Err stop) BufferFull → X
@@ -182,7 +183,9 @@ stays-same lane r = record {
   serials = sym (set-get_or r.serials lane 0);
   others = λ l ne. (refl, refl);
   space = refl;
+  pages = λ page ne. refl;
   roots = refl;
+  slots = λ p ne less. refl;
   chunk = refl;
   chunks = refl;
   buffers = refl;

@@ -6,6 +6,7 @@ use Rattle.std.specs.Option.{is_some}
 use Rattle.std.proofs.lemmas.Bool.{cases_eq}
 use Rattle.std.proofs.lemmas.List.{get_or-set_same, get_or-set_other, length-set, length-map}
 use Rattle.bc_cycle.specs.Causes.{IfOutOfHeap}
+use Rattle.bc_model.specs.declared.values.Holder.{Holder}
 use Rattle.bc_cycle.specs.Emptying.{outline_nursery, outline_object, HasRoomToList, IsEmptied, KeepsMeaning}
 use Rattle.bc_cycle.specs.declared.heaps.Heap.{Heap}
 use Rattle.bc_promotion.proofs.ListingLemmas.{words_in-same}
@@ -74,7 +75,7 @@ room-operated lane h k rest others own long room =
     ]
 
 -- an emptying leaves what a collection does, and so does one that was refused, since it collected cells
-emptied-collects : (h k : HeapView) (hs : List ℕ) → IsRunning h hs → IsEmptied h k → Collects h k hs
+emptied-collects : (h k : HeapView) (hs : List Holder) → IsRunning h hs → IsEmptied h k → Collects h k hs
 emptied-collects h k hs order is = record {
   running = is.order hs (running-survivors h hs order);
   born = is.born;
@@ -82,7 +83,7 @@ emptied-collects h k hs order is = record {
   lanes = ap length is.cleared ∙ length-map h.chunks emptied;
 }
 
-kept-collects : (h k : HeapView) (hs : List ℕ) → KeepsMeaning h k → IsRunning k hs → Collects h k hs
+kept-collects : (h k : HeapView) (hs : List Holder) → KeepsMeaning h k → IsRunning k hs → Collects h k hs
 kept-collects h k hs is order = record {
   running = order;
   born = is.born;
@@ -93,12 +94,12 @@ kept-collects h k hs is order = record {
 pub sound-emptied : (r : RunningView) (k : HeapView) → IsSound r → IsEmptied r.heap k → IsSound (running_of k r.holders r.serials)
 sound-emptied r k h is = sound-collected r k h (emptied-collects r.heap k r.holders h.running is)
 
-pub sound-kept : (r : RunningView) (k : HeapView) → IsSound r → KeepsMeaning r.heap k → ((hs : List ℕ) → IsRunningForSurvivors r.heap hs → IsRunning k hs) → IsSound (running_of k r.holders r.serials)
+pub sound-kept : (r : RunningView) (k : HeapView) → IsSound r → KeepsMeaning r.heap k → ((hs : List Holder) → IsRunningForSurvivors r.heap hs → IsRunning k hs) → IsSound (running_of k r.holders r.serials)
 sound-kept r k h is order = sound-collected r k h (kept-collects r.heap k r.holders is (order r.holders (running-survivors r.heap r.holders h.running)))
 
 -- so lanes can run on whichever answer there is
 pub sound-answered : {T : Type 0} (result : Result T CycleError) (r : RunningView) (k : HeapView) → IsSound r → OnOk result (IsEmptied r.heap k) → IfOutOfHeap result (λ need. KeepsMeaning r.heap k)
-    → IfOutOfHeap result (λ need. (hs : List ℕ) → IsRunningForSurvivors r.heap hs → IsRunning k hs) → result ≢ Err NoMemory → IsSound (running_of k r.holders r.serials)
+    → IfOutOfHeap result (λ need. (hs : List Holder) → IsRunningForSurvivors r.heap hs → IsRunning k hs) → result ≢ Err NoMemory → IsSound (running_of k r.holders r.serials)
 sound-answered (Ok x) r k h emptied kept order memory = sound-emptied r k h emptied
 sound-answered (Err (OutOfHeap need)) r k h emptied kept order memory = sound-kept r k h kept order
 sound-answered (Err NoMemory) r k h emptied kept order memory = absurd (memory refl)

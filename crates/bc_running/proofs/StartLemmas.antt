@@ -13,6 +13,8 @@ use Rattle.bc_model.specs.State.{Object, State, numbers_below}
 use Rattle.bc_model.specs.WellFormed.{IsSetup}
 use Rattle.bc_model.specs.declared.traces.Setup.{Setup}
 use Rattle.bc_model.specs.declared.values.Birth.{Birth}
+use Rattle.bc_model.specs.declared.values.Holder.{Holder}
+use Rattle.bc_model.specs.declared.values.Holder.TheVariants.{Lane}
 use Rattle.bc_model.specs.declared.values.Value.TheVariants as value
 use Rattle.bc_model.proofs.Openings.{IsState-opening, length-numbers_below}
 use Rattle.bc_nursery.specs.Objects.{emptied}
@@ -58,7 +60,7 @@ opening-stands s range =
       born = λ a b e. absurd (let c = births-cell m a b e in nothing s.superpages s.frames (s.lanes * s.nursery) a h.chunks (no_object s) (c.0, c.1));
       held = refl;
       births = no-births s.lanes;
-      domains = sym (length-map (numbers_below s.domains) (λ d. d % s.lanes) ∙ length-numbers_below s.domains);
+      domains = sym (length-map (numbers_below s.domains) (λ d. Lane (d % s.lanes)) ∙ length-numbers_below s.domains);
       slots = refl;
       lanes = chunks-long s ∙ sym (length-replicate {A = List Object} s.lanes []);
     }
@@ -67,7 +69,7 @@ opening-stands s range =
     no-births zero = refl
     no-births (suc n) = ap (λ (ns : List ℕ). 0 ∷ ns) (no-births n)
 
-pub stands-emptied : {hs serials : List ℕ} {h k : HeapView} (state : State) → IsEmptied h k → StandsAs h hs serials state → StandsAs k hs serials state
+pub stands-emptied : {hs : List Holder} {serials : List ℕ} {h k : HeapView} (state : State) → IsEmptied h k → StandsAs h hs serials state → StandsAs k hs serials state
 stands-emptied {hs} {serials} {h} state is st = record {
   consistent = st.consistent;
   stands = is.keeps state.slots state.made st.stands;

@@ -1,6 +1,6 @@
 -- Where there is no line there is no notice, and no answer.
 use Rattle.std.specs.Result.{IfOk, OnOk}
-use Rattle.std.proofs.Common.{◌≡◌, ℕ, ◌+◌, ◌<◌, List, [], ◌∷◌, length, Result, Ok, Err, refl, ap, subst, ◌∙◌, arith}
+use Rattle.std.proofs.Common.{◌≡◌, ℕ, List, [], ◌∷◌, length, Result, Ok, Err, refl, ap, subst, ◌∙◌, arith}
 use Prim.Native.Nat.{zero, suc}
 use Rattle.std.proofs.lemmas.List.{get_or_past}
 use Rattle.bc_cycle.specs.Causes.{IfOutOfHeap}

@@ -5,11 +5,12 @@ use Rattle.bc_whole_heap.specs.Heaps.{HeapView}
 use Rattle.bc_whole_heap.specs.LaneChunks.{chunk_of}
 use Rattle.bc_whole_heap.specs.LaneStates.{StandsAs}
 use Rattle.bc_model.specs.State.{State}
+use Rattle.bc_model.specs.declared.values.Holder.{Holder}
 
--- the heap, the lane that holds each domain, and the number of births of each lane
+-- the heap, the holder of each domain, and the number of births of each lane
 pub record RunningView : Type 0 where
   pub heap : HeapView
-  pub holders : List ℕ
+  pub holders : List Holder
   pub serials : List ℕ
 
 -- the heap that lanes run on stands for the state

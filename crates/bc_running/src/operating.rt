@@ -18,14 +18,14 @@ ghost use Rattle.bc_running.specs.Touching.{BringsHome, LooksAtGone, RecordsAfte
 use crate::touching::reload_touched;
 use crate::whole::operate_here;
 use bc_cycle::Heap;
-use bc_model::{Op, Reply};
+use bc_model::{Holder, Op, Reply};
 use bc_mutator::Stop;
 use bc_whole_heap::heap_facts;
 
 /// The lane does an operation that fits, once the page that it touches is in memory, or stops. Then at most pages have moved.
 pub(crate) fn attempt(
     heap: &mut Heap,
-    holders: &[u32],
+    holders: &[Holder],
     serials: &mut [u32],
     lane: u32,
     op: &Op,

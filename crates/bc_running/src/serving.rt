@@ -11,13 +11,14 @@ ghost use Rattle.bc_running.specs.Serving.{GivesUpFirst, Served};
 
 use bc_bookmarks::settle;
 use bc_cycle::Heap;
+use bc_model::Holder;
 use bc_pager::{Answer, answer_all, answer_one};
 use bc_superpages::Space;
 use bc_whole_heap::heap_facts;
 
 /// Gives up a page of a heap that is running for each hint, in their order, and then settles. A hint for which no page can leave
 /// changes nothing.
-pub(crate) fn serve_heap(heap: &mut Heap, holders: &[u32], hints: &[u32])
+pub(crate) fn serve_heap(heap: &mut Heap, holders: &[Holder], hints: &[u32])
     requires { IsRunning (heap_view heap.old) holders.now }
     ensures served { Served heap.old.space hints.now heap.new.space }
     ensures moves { MovesPages heap.old.space heap.new.space }
@@ -30,7 +31,7 @@ pub(crate) fn serve_heap(heap: &mut Heap, holders: &[u32], hints: &[u32])
 /// Answers the notices with these hints on a heap that is running, in their order, and keeps the answers after those that there are.
 pub(crate) fn answer_heap(
     heap: &mut Heap,
-    holders: &[u32],
+    holders: &[Holder],
     hints: &[u32],
     answers: &mut Vec<Answer>,
 )
@@ -46,7 +47,7 @@ pub(crate) fn answer_heap(
 }
 
 /// Settles the space of a heap that is running.
-pub(crate) fn settle_heap(heap: &mut Heap, holders: &[u32])
+pub(crate) fn settle_heap(heap: &mut Heap, holders: &[Holder])
     requires { IsRunning (heap_view heap.old) holders.now }
     ensures settled { Settled heap.old.space heap.new.space }
     ensures moves { MovesPages heap.old.space heap.new.space }

@@ -1,22 +1,20 @@
 -- What is built of a listing is what an engine can go on with.
-use Rattle.std.proofs.Common.{◌≡◌, ℕ, ◌<◌, ◌≤◌, List, [], ◌∷◌, length, map, get_or, option_map, Some, refl, sym, ◌∙◌, ap, subst, arith}
+use Rattle.std.proofs.Common.{◌≡◌, ℕ, ◌<◌, List, [], ◌∷◌, length, map, get_or, option_map, Some, sym, ◌∙◌, ap, subst, arith}
 use Prim.Native.Nat.{zero, suc}
-use Rattle.std.specs.List.{AllByRecursion}
 use Rattle.std.proofs.Math.ListN.{get_or-map}
-use Rattle.std.proofs.lemmas.List.{length-map}
 use Rattle.bc_image.specs.Cells.{CellList}
-use Rattle.bc_image.specs.Images.{AreLinked, IsHolder, IsImageListing, IsLinked, IsListed}
+use Rattle.bc_image.specs.Images.{AreLinked, IsImageListing, IsLinked, IsListed}
 use Rattle.bc_image.specs.Listings.{ListingLists}
 use Rattle.bc_image.specs.Memories.{cell_at, cell_of, memory_of}
 use Rattle.bc_image.specs.Pictures.{Pictures}
-use Rattle.bc_image.specs.declared.listing.Holder.{Holder}
-use Rattle.bc_image.specs.declared.listing.Holder.TheVariants.{Frozen, Lane}
 use Rattle.bc_image.proofs.Grammar.{all-at}
+use Rattle.bc_image.proofs.Pictured.{listed-holders}
 use Rattle.bc_memory.specs.Memory.{Cell, Memory}
 use Rattle.bc_model.specs.Consistent.{IsState}
 use Rattle.bc_model.specs.State.{State}
 use Rattle.bc_model.specs.declared.traces.Setup.{Setup}
 use Rattle.bc_model.specs.declared.values.Birth.{Birth}
+use Rattle.bc_model.specs.declared.values.Holder.{Holder}
 use Rattle.bc_picture.proofs.ListedMemories.{LiesAs, lying-at, lying-is}
 use Rattle.bc_standing.specs.Standing.{StandsFor, birth_of, births}
 use Rattle.bc_standing.proofs.Homes.{births-cell}
@@ -32,35 +30,6 @@ use Rattle.bc_word.proofs.WordLemmas.{word_of_bits-nil}
 use Rattle.bc_saving.specs.Built.{IsBuiltOf}
 use Rattle.bc_engine.specs.Parts.{CanAdopt, IsLaneBirth, PartsStand}
 use Rattle.bc_engine.proofs.Parting.{cell-there}
-
--- ---- lanes that hold domains
-
-pub held-below : (version lanes : ℕ) (holders : List ℕ) → AllByRecursion (IsHolder version lanes) (map Lane holders) → (d : ℕ) → d < length holders → get_or holders d 0 < lanes
-held-below version lanes [] all d lt = absurd (omega arith)
-held-below version lanes (h ∷ hs) all zero lt = all.0
-held-below version lanes (h ∷ hs) all (suc d) lt = held-below version lanes hs all.1 d (omega arith)
-
-pub same-lanes : (ls ms : List ℕ) → map Lane ls ≡ map Lane ms → ls ≡ ms
-same-lanes [] [] e = refl
-same-lanes [] (m ∷ ms) e = absurd (let bad = ap length e in omega arith)
-same-lanes (l ∷ ls) [] e = absurd (let bad = ap length e in omega arith)
-same-lanes (l ∷ ls) (m ∷ ms) e =
-    let first : l ≡ m = (let h : Lane l ∷ map Lane ls ≡ Lane m ∷ map Lane ms = e in cc) in
-    let others : map Lane ls ≡ map Lane ms = (let h : Lane l ∷ map Lane ls ≡ Lane m ∷ map Lane ms = e in cc) in
-    ap (λ (n : ℕ). n ∷ ls) first ∙ ap (λ (ns : List ℕ). m ∷ ns) (same-lanes ls ms others)
-
--- lanes hold all domains where none may be frozen
-pub unfrozen : (version lanes : ℕ) (holders : List Holder) → version ≡ 1 → AllByRecursion (IsHolder version lanes) holders → (ls : List ℕ) × (holders ≡ map Lane ls)
-unfrozen version lanes [] first all = ([], refl)
-unfrozen version lanes (Lane j ∷ hs) first all = (let rest = unfrozen version lanes hs first all.1 in (j ∷ rest.0, ap (λ (xs : List Holder). Lane j ∷ xs) rest.1))
-unfrozen version lanes (Frozen ∷ hs) first all = absurd (let h : 2 ≤ version = all.0 in omega (arith, h, first))
-
--- a lane is somebody
-pub not-frozen : (holders : List Holder) (ls : List ℕ) (i : ℕ) → holders ≡ map Lane ls → get_or holders i (Lane 0) ≡ Frozen → ⊥
-not-frozen holders ls i is frozen = lane-frozen (sym (ap (λ (hs : List Holder). get_or hs i (Lane 0)) is ∙ get_or-map Lane ls i 0) ∙ frozen)
-  where
-    lane-frozen : {j : ℕ} → Lane j ≡ Frozen → ⊥
-    lane-frozen e = cc
 
 -- ---- objects of a listing
 
@@ -82,7 +51,7 @@ bits-linked cells (n ∷ ns) (suc k) all = bits-linked cells ns k all.1
 words-at : (ns : List ℕ) (k : ℕ) → get_or (map word_of_bits ns) k Nil ≡ word_of_bits (get_or ns k 0)
 words-at ns k = ap (λ (w : Word). get_or (map word_of_bits ns) k w) (sym word_of_bits-nil) ∙ get_or-map word_of_bits ns k 0
 
-module _ (l : ListingLists) (lanes : List ℕ) (r : RootWords) (s : Layout) (is : IsImageListing l) (held : l.holders ≡ map Lane lanes) (built : IsBuiltOf l r s) where
+module _ (l : ListingLists) (r : RootWords) (s : Layout) (is : IsImageListing l) (built : IsBuiltOf l r s) where
   listed : (k : ℕ) → k < length l.cells → IsListed l (cell_at l.cells k)
   listed k lt = all-at (IsListed l) l.cells k lt is.cells
 
@@ -90,11 +59,11 @@ module _ (l : ListingLists) (lanes : List ℕ) (r : RootWords) (s : Layout) (is 
   born-at : (a : ℕ) (b : Birth) → births (space.memory s) a ≡ Some b → (c : Cell) × LiesAs l.cells a c × (birth_of c.head ≡ b)
   born-at a b there = (let c = births-cell (space.memory s) a b there in (c.0, lies l.cells (space.memory s) a c.0 built.objects c.1, c.2))
 
-  pub adopted-built : CanAdopt l.setup lanes l.births r s
+  pub adopted-built : CanAdopt l.setup l.holders l.births r s
   adopted-built = record {
     range = is.setup;
-    domains = sym (length-map lanes Lane) ∙ ap length (sym held) ∙ is.domains;
-    holder = held-below l.version l.setup.lanes lanes (subst (AllByRecursion (IsHolder l.version l.setup.lanes)) held is.holders);
+    domains = is.domains;
+    holder = listed-holders l.version l.setup.lanes l.holders is.holders;
     lanes = is.lanes;
     rooted = built.domains;
     slots = built.slots;
@@ -125,19 +94,20 @@ module _ (l : ListingLists) (lanes : List ℕ) (r : RootWords) (s : Layout) (is 
         subst (IsLaneBirth l.births) birth (record { lane = (let h = x.lane in omega (arith, h, many)); positive = x.positive; serial = x.serial });
   }
 
-  pub stands-built : (state : State) → IsState state → Pictures l state → PartsStand l.setup lanes l.births r s state
+  pub stands-built : (state : State) → IsState state → Pictures l state → PartsStand l.setup l.holders l.births r s state
   stands-built state consistent p = record {
     consistent = consistent;
     stands = subst (λ (m : Memory). StandsFor m (map word_of_bits r.words) state) (sym built.objects) (subst (λ (ns : List ℕ). StandsFor (memory_of l.cells) (map word_of_bits ns) state) (sym built.words) p.stands);
     sizes = p.sizes;
-    held = same-lanes state.holders lanes (sym p.holders ∙ held);
+    held = sym p.holders;
     made = sym p.births;
   }
 
-  -- the same of copies of the listing's numbers
-  pub adopted-copied : (setup : Setup) (serials : List ℕ) → setup ≡ l.setup → serials ≡ l.births → CanAdopt setup lanes serials r s
-  adopted-copied setup serials sized born = subst (λ (x : Setup). CanAdopt x lanes serials r s) (sym sized) (subst (λ (ns : List ℕ). CanAdopt l.setup lanes ns r s) (sym born) adopted-built)
+  -- the same of copies of the listing's lists
+  pub adopted-copied : (setup : Setup) (holders : List Holder) (serials : List ℕ) → setup ≡ l.setup → holders ≡ l.holders → serials ≡ l.births → CanAdopt setup holders serials r s
+  adopted-copied setup holders serials sized held born =
+      subst (λ (x : Setup). CanAdopt x holders serials r s) (sym sized) (subst (λ (hs : List Holder). CanAdopt l.setup hs serials r s) (sym held) (subst (λ (ns : List ℕ). CanAdopt l.setup l.holders ns r s) (sym born) adopted-built))
 
-  pub stands-copied : (setup : Setup) (serials : List ℕ) → setup ≡ l.setup → serials ≡ l.births → (state : State) → IsState state → Pictures l state → PartsStand setup lanes serials r s state
-  stands-copied setup serials sized born state consistent p =
-      subst (λ (x : Setup). PartsStand x lanes serials r s state) (sym sized) (subst (λ (ns : List ℕ). PartsStand l.setup lanes ns r s state) (sym born) (stands-built state consistent p))
+  pub stands-copied : (setup : Setup) (holders : List Holder) (serials : List ℕ) → setup ≡ l.setup → holders ≡ l.holders → serials ≡ l.births → (state : State) → IsState state → Pictures l state → PartsStand setup holders serials r s state
+  stands-copied setup holders serials sized held born state consistent p =
+      subst (λ (x : Setup). PartsStand x holders serials r s state) (sym sized) (subst (λ (hs : List Holder). PartsStand l.setup hs serials r s state) (sym held) (subst (λ (ns : List ℕ). PartsStand l.setup l.holders ns r s state) (sym born) (stands-built state consistent p)))

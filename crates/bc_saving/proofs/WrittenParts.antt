@@ -1,21 +1,22 @@
 -- What an engine can go on with is listed as an image may be.
-use Rattle.std.proofs.Common.{◌≡◌, ℕ, ◌+◌, ◌*◌, ◌/◌, ◌%◌, ◌^◌, ◌<◌, ◌≤◌, List, [], ◌∷◌, ◌++◌, length, map, get_or, option_map, Option, Some, None, refl, sym, ◌∙◌, ap, subst, inl, inr, arith}
+use Rattle.std.proofs.Common.{◌≡◌, ◌≢◌, ◌⊎◌, ℕ, ◌+◌, ◌*◌, ◌/◌, ◌%◌, ◌^◌, ◌<◌, ◌≤◌, List, [], ◌∷◌, ◌++◌, length, map, get_or, option_map, Option, Some, None, refl, sym, ◌∙◌, ap, subst, inl, inr, arith}
 use Prim.Native.Nat.{zero, suc}
 use Rattle.std.specs.List.{AllByRecursion}
 use Rattle.std.proofs.lemmas.Bool.{cases_lt}
 use Rattle.std.proofs.lemmas.List.{get_or_past, length-map}
 use Rattle.bc_classes.specs.Classes.{class_of}
 use Rattle.bc_image.specs.Cells.{CellList}
-use Rattle.bc_image.specs.Images.{AreLinked, IsHolder, IsImageListing, IsLinked, IsListed}
+use Rattle.bc_image.specs.Images.{AreLinked, IsImageHolder, IsImageListing, IsLinked, IsListed}
 use Rattle.bc_image.specs.Listings.{ListingLists}
 use Rattle.bc_image.specs.Memories.{cell_at, cell_of, memory_of, no_cell, number_at}
 use Rattle.bc_image.specs.Pictures.{Pictures}
-use Rattle.bc_image.specs.declared.listing.Holder.{Holder}
-use Rattle.bc_image.specs.declared.listing.Holder.TheVariants.{Lane}
 use Rattle.bc_image.proofs.HasState.{IsNumberWord}
 use Rattle.bc_memory.specs.Memory.{Cell, Memory}
-use Rattle.bc_model.specs.State.{State}
+use Rattle.bc_model.specs.Consistent.{IsHolder}
+use Rattle.bc_model.specs.State.{State, NoneFrozen, holder_of}
 use Rattle.bc_model.specs.declared.traces.Setup.{Setup}
+use Rattle.bc_model.specs.declared.values.Holder.{Holder}
+use Rattle.bc_model.specs.declared.values.Holder.TheVariants.{Frozen, Lane}
 use Rattle.bc_picture.specs.Readable.{IsCalm}
 use Rattle.bc_picture.specs.SpaceListing.{heap_listing, listed_cell, listed_cells, listed_from}
 use Rattle.bc_picture.proofs.ListedBack.{listed-memory}
@@ -101,9 +102,16 @@ all-from : {X : Type 0} (P : X → Type 0) (xs : List X) (d : X) → ((k : ℕ) 
 all-from P [] d each = tt
 all-from P (x ∷ xs) d each = (each 0 (omega arith), all-from P xs d (λ k lt. each (suc k) (omega arith)))
 
-pub lanes-hold : (version lanes : ℕ) (holders : List ℕ) → ((d : ℕ) → d < length holders → get_or holders d 0 < lanes) → AllByRecursion (IsHolder version lanes) (map Lane holders)
-lanes-hold version lanes [] each = tt
-lanes-hold version lanes (h ∷ hs) each = (each 0 (omega arith), lanes-hold version lanes hs (λ d lt. each (suc d) (omega arith)))
+-- a holder of an engine may be listed, in version 1 unless its domain is frozen
+listed-holder : (version lanes : ℕ) (h : Holder) → IsHolder lanes h → (h ≢ Frozen) ⊎ (2 ≤ version) → IsImageHolder version lanes h
+listed-holder version lanes (Lane j) is known = is
+listed-holder version lanes Frozen is (inl never) = absurd (never refl)
+listed-holder version lanes Frozen is (inr since) = since
+
+listed-holders : (version lanes : ℕ) (holders : List Holder) → ((d : ℕ) → d < length holders → IsHolder lanes (holder_of holders d)) → NoneFrozen holders ⊎ (2 ≤ version) → AllByRecursion (IsImageHolder version lanes) holders
+listed-holders version lanes [] each known = tt
+listed-holders version lanes (h ∷ hs) each (inl none) = (listed-holder version lanes h (each 0 (omega arith)) (inl (none 0 (omega arith))), listed-holders version lanes hs (λ d lt. each (suc d) (omega arith)) (inl (λ d lt. none (suc d) (omega arith))))
+listed-holders version lanes (h ∷ hs) each (inr since) = (listed-holder version lanes h (each 0 (omega arith)) (inr since), listed-holders version lanes hs (λ d lt. each (suc d) (omega arith)) (inr since))
 
 -- ---- an image of the parts
 
@@ -132,15 +140,15 @@ words-linked s k (n ∷ ns) packed named = (
   words-linked s k ns (λ i. packed (suc i)) (λ i a lt e. named (suc i) a (omega arith) e),
 )
 
-module _ (setup : Setup) (holders serials : List ℕ) (r : RootWords) (s : Layout) (can : CanAdopt setup holders serials r s) (kept : IsLayout s) where
-  module _ (version phases : ℕ) (held : List Holder) (lanes_held : held ≡ map Lane holders) where
+module _ (setup : Setup) (holders : List Holder) (serials : List ℕ) (r : RootWords) (s : Layout) (can : CanAdopt setup holders serials r s) (kept : IsLayout s) where
+  module _ (version phases : ℕ) (known_holders : NoneFrozen holders ⊎ (2 ≤ version)) where
     abbrev l : ListingLists
-    l = heap_listing version setup phases held serials r s
+    l = heap_listing version setup phases holders serials r s
 
     number-at : (k : ℕ) → k < length (listed_cells s) → ListedAt (space.memory s) 0 (2048 * superpages s) (cell_at (listed_cells s) k)
     number-at k lt = listed-at (space.memory s) (2048 * superpages s) 0 k lt
 
-    listed : (a : ℕ) (c : Cell) → space.memory s a ≡ Some c → IsListed (heap_listing version setup phases held serials r s) (as_listed a c)
+    listed : (a : ℕ) (c : Cell) → space.memory s a ≡ Some c → IsListed (heap_listing version setup phases holders serials r s) (as_listed a c)
     listed a c there =
         let at = cell-there s a c there in
         let within = allocated-superpage s a kept at.0 in
@@ -164,20 +172,20 @@ module _ (setup : Setup) (holders serials : List ℕ) (r : RootWords) (s : Layou
         }
 
     pub image : (1 ≤ version) × (version ≤ 3) → phases < 2 ^ 32 → AllByRecursion (λ n. n ≤ 4000000000) serials → ((k : ℕ) → IsPacked (get_or r.words k 0)) → length r.words ≡ r.domains * r.slots
-        → IsImageListing (heap_listing version setup phases held serials r s)
+        → IsImageListing (heap_listing version setup phases holders serials r s)
     image known few born packed long = record {
       version = known;
       setup = can.range;
       phases = few;
-      domains = ap length lanes_held ∙ length-map holders Lane ∙ can.domains;
-      holders = subst (AllByRecursion (IsHolder version setup.lanes)) (sym lanes_held) (lanes-hold version setup.lanes holders can.holder);
+      domains = can.domains;
+      holders = listed-holders version setup.lanes holders can.holder known_holders;
       lanes = can.lanes;
       births = born;
       slots = long ∙ ap (λ (n : ℕ). n * r.slots) can.rooted ∙ ap (λ (n : ℕ). setup.domains * n) can.slots;
       roots = words-linked s kept r.words packed can.root;
-      cells = all-from (IsListed (heap_listing version setup phases held serials r s)) (listed_cells s) no_cell (λ k lt.
+      cells = all-from (IsListed (heap_listing version setup phases holders serials r s)) (listed_cells s) no_cell (λ k lt.
           let at = number-at k lt in
-          subst (IsListed (heap_listing version setup phases held serials r s)) (sym at.is) (listed at.at at.object at.there));
+          subst (IsListed (heap_listing version setup phases holders serials r s)) (sym at.is) (listed at.at at.object at.there));
       rising = listed-rising (space.memory s) (2048 * superpages s) 0;
       alike = λ j k in_j in_k same.
           let one = number-at j in_j in
@@ -205,11 +213,11 @@ module _ (setup : Setup) (holders serials : List ℕ) (r : RootWords) (s : Layou
               ap (λ (x : Cell). class_of x.head.fields) at.1 ∙ object.of_class,
             )
 
-    pub pictures : (state : State) → PartsStand setup holders serials r s state → Pictures (heap_listing version setup phases held serials r s) state
-    pictures state st = (pictures-listed version phases setup held serials r s kept state).1 (record {
+    pub pictures : (state : State) → PartsStand setup holders serials r s state → Pictures (heap_listing version setup phases holders serials r s) state
+    pictures state st = (pictures-listed version phases setup holders serials r s kept state).1 (record {
       stands = st.stands;
       sizes = st.sizes;
-      held = lanes_held ∙ ap (λ (hs : List ℕ). map Lane hs) (sym st.held);
+      held = sym st.held;
       born = sym st.made;
     })
 

@@ -3,16 +3,14 @@
 // An engine between phases is taken apart (`Engine::split` of bc_engine): who holds each domain, how many objects each lane has made, root
 // slots and a space. These are what `write` of bc_picture puts as an image, and what `build` makes of an image is what `Engine::adopt` goes on
 // with. This crate joins the two: `law_writable` says that what is split can be written, and that its image pictures what the engine stood
-// for; `adopt_listing` makes an engine of what an image lists, and it stands for what the image pictures.
+// for; `adopt_listing` makes an engine of what an image lists, and it stands for what the image pictures. Frozen domains stay frozen; an image
+// with one has version 2 at least.
 //
-// Where things are: `holders` who holds each domain, as engines and as images say it; `saving` parts that can be written; `resuming` an engine
-// that goes on with what an image lists.
+// Where things are: `saving` parts that can be written; `resuming` an engine that goes on with what an image lists.
 #![tactic(auto)]
 
-mod holders;
 mod resuming;
 mod saving;
 
-pub use holders::{first_version_lanes, lanes_of_holders, put_holders};
 pub use resuming::{adopt_listing, law_built};
 pub use saving::law_writable;

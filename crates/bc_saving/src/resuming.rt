@@ -1,42 +1,39 @@
 //! An engine that goes on with what an image lists.
 
-ghost use Rattle.std.specs.Prelude.{◌≡◌, ℕ, ◌≤◌, List, None, map, IfOk};
+ghost use Rattle.std.specs.Prelude.{◌≡◌, ◌≤◌, None, IfOk};
 ghost use Rattle.bc_engine.specs.Engines.{EngineStands, HasEmptyChunks};
 ghost use Rattle.bc_engine.specs.Parts.{CanAdopt, PartsStand};
 ghost use Rattle.bc_image.specs.Images.{IsImageListing};
 ghost use Rattle.bc_image.specs.Listings.{ListingLists};
 ghost use Rattle.bc_image.specs.Pictures.{Pictures};
-ghost use Rattle.bc_image.specs.declared.listing.Holder.TheVariants.{Lane};
 ghost use Rattle.bc_model.specs.Consistent.{IsState};
 ghost use Rattle.bc_model.specs.State.{State};
 ghost use Rattle.bc_saving.specs.Built.{IsBuiltOf};
 ghost use Rattle.bc_superpages.specs.Layout.{Layout};
 ghost use Rattle.bc_superpages.specs.RootWords.{RootWords};
 
-use crate::holders::lanes_of_holders;
 use bc_engine::Engine;
 use bc_image::Listing;
 use bc_picture::build;
 use std::alloc::{AllocError, Global};
 
-/// The engine of a listing whose domains are all held by lanes: its heap is built, and the engine goes on with it. It stands for every state that
-/// the listing pictures and that a run may come to. `workers` is how many threads may mark, from 1 to 16. The error is out of memory.
+/// The engine of a listing: its heap is built, and the engine goes on with it. It stands for every state that the listing pictures and that a run
+/// may come to. `workers` is how many threads may mark, from 1 to 16. The error is out of memory.
 pub fn adopt_listing(alloc: Global, listing: &Listing, workers: u32) -> Result<Engine, AllocError>
     requires image { IsImageListing listing.now }
-    requires lanes { (lanes : List ℕ) × (listing.now.holders ≡ map Lane lanes) }
     requires workers { (1 ≤ workers) × (workers ≤ 16) }
     ensures stands { IfOk result (λ engine. (state : State) → IsState state → Pictures listing.now state → EngineStands engine state) }
     ensures setup { IfOk result (λ engine. (engine.setup ≡ listing.now.setup) × (engine.ended ≡ None) × HasEmptyChunks engine.running.heap × (engine.workers ≡ workers)) }
     ensures births { IfOk result (λ engine. engine.running.serials ≡ listing.now.births) }
     ensures unread { IfOk result (λ engine. engine.running.heap.space.reads ≡ 0) }
 {
-    let lanes = lanes_of_holders(alloc, &listing.holders)?;
-    let births = copied(alloc, &listing.births)?;
+    let holders = listing.holders.to_vec(alloc)?;
+    let births = listing.births.to_vec(alloc)?;
     let picture = build(alloc, listing)?;
     Engine::adopt(
         alloc,
         &listing.setup,
-        lanes,
+        holders,
         births,
         picture.roots,
         picture.space,
@@ -44,22 +41,10 @@ pub fn adopt_listing(alloc: Global, listing: &Listing, workers: u32) -> Result<E
     )
 }
 
-/// A list of these numbers. The error is out of memory.
-fn copied(alloc: Global, numbers: &[u32]) -> Result<Vec<u32>, AllocError>
-    ensures { IfOk result (λ copy. copy.items ≡ numbers.now) }
-{
-    let mut copy = Vec::with_capacity(alloc, numbers.len())?;
-    for number in numbers {
-        copy.push(*number)?;
-    }
-    Ok(copy)
-}
-
-/// Law: what is built of a listing whose domains are all held by lanes is what an engine can go on with, and it stands for every state that the
-/// listing pictures and that a run may come to. It does nothing.
+/// Law: what is built of a listing is what an engine can go on with, and it stands for every state that the listing pictures and that a run may
+/// come to. It does nothing.
 pub fn law_built()
-    ensures adopt { (l : ListingLists) → (lanes : List ℕ) → (r : RootWords) → (s : Layout) → IsImageListing l → l.holders ≡ map Lane lanes → IsBuiltOf l r s
-        → CanAdopt l.setup lanes l.births r s }
-    ensures stands { (l : ListingLists) → (lanes : List ℕ) → (r : RootWords) → (s : Layout) → IsImageListing l → l.holders ≡ map Lane lanes → IsBuiltOf l r s
-        → (state : State) → IsState state → Pictures l state → PartsStand l.setup lanes l.births r s state }
+    ensures adopt { (l : ListingLists) → (r : RootWords) → (s : Layout) → IsImageListing l → IsBuiltOf l r s → CanAdopt l.setup l.holders l.births r s }
+    ensures stands { (l : ListingLists) → (r : RootWords) → (s : Layout) → IsImageListing l → IsBuiltOf l r s
+        → (state : State) → IsState state → Pictures l state → PartsStand l.setup l.holders l.births r s state }
 {}

@@ -16,8 +16,8 @@ use Rattle.bc_trace.specs.declared.words.Verb.{Verb}
 use Rattle.bc_trace.specs.declared.words.Verb.TheVariants as verbs
 use Rattle.bc_trace.specs.declared.words.Keyword.{Keyword}
 use Rattle.bc_trace.specs.declared.words.Keyword.TheVariants as words
-use Rattle.bc_trace.specs.Lines.{Line, version, setting, phase, turn, lane, op, give, end, done, word_of_line, verb_of_op}
-use Rattle.bc_trace.specs.Grammar.{start, may_stand, same_setting, arity, MayStand, Passes, after, after_all, Follow}
+use Rattle.bc_trace.specs.Lines.{Line, version, setting, phase, turn, lane, op, give, freeze, end, done, word_of_line, verb_of_op}
+use Rattle.bc_trace.specs.Grammar.{start, KnowsWord, may_stand, same_setting, arity, MayStand, Passes, after, after_all, Follow}
 use Rattle.bc_trace.specs.Fronts.{Begins, GoesOnWith}
 use Rattle.bc_trace.specs.Drafts.{DraftLists, empty_draft}
 use Rattle.bc_trace.specs.Reading.{trace_of_draft}
@@ -35,16 +35,16 @@ record Ends (s : Progress) : Type 0 where
 ends_on : (s : Progress) (l : Line) → Passes s l → Ends (after l s) → Ends s
 ends_on s l h e = record { rest = l ∷ e.rest; pass = (h, e.pass); stage = e.stage }
 
-abbrev progress : Stage → Setup → ℕ → Progress
-progress p s k = record { stage = p; setup = s; stood = k }
+abbrev progress : ℕ → Stage → Setup → ℕ → Progress
+progress v p s k = record { version = v; stage = p; setup = s; stood = k }
 
-ends_phases : (s : Setup) (k : ℕ) → Ends (progress stages.Phases s k)
+ends_phases : (v : ℕ) (s : Setup) (k : ℕ) → Ends (progress v stages.Phases s k)
 unfolding may_stand arity
-ends_phases s k = ends_on (progress stages.Phases s k) done (record { stands = refl; count = refl; numbers = tt; range = tt; frames = tt }) (record { rest = []; pass = tt; stage = refl })
+ends_phases v s k = ends_on (progress v stages.Phases s k) done (record { known = tt; stands = refl; count = refl; numbers = tt; range = tt; frames = tt }) (record { rest = []; pass = tt; stage = refl })
 
-ends_all : (p : Stage) (s : Setup) (k : ℕ) → may_stand words.End p true ≡ true → k ≡ s.lanes → Ends (progress p s k)
+ends_all : (p : Stage) (v : ℕ) (s : Setup) (k : ℕ) → may_stand words.End p true ≡ true → k ≡ s.lanes → Ends (progress v p s k)
 unfolding arity
-ends_all p s k may all = ends_on (progress p s k) end (record { stands = rw (eq-eqb k s.lanes all) may; count = refl; numbers = tt; range = tt; frames = tt }) (ends_phases s k)
+ends_all p v s k may all = ends_on (progress v p s k) end (record { known = tt; stands = rw (eq-eqb k s.lanes all) may; count = refl; numbers = tt; range = tt; frames = tt }) (ends_phases v s k)
 
 end_ops : may_stand words.End stages.Ops true ≡ true
 unfolding may_stand
@@ -54,64 +54,64 @@ end_gives : may_stand words.End stages.Gives true ≡ true
 unfolding may_stand
 end_gives = refl
 
-ends_ops : (m : ℕ) (s : Setup) (k : ℕ) → k + m ≡ s.lanes → s.lanes ≤ 16 → Ends (progress stages.Ops s k)
+ends_ops : (m : ℕ) (v : ℕ) (s : Setup) (k : ℕ) → k + m ≡ s.lanes → s.lanes ≤ 16 → Ends (progress v stages.Ops s k)
 unfolding may_stand arity
-ends_ops zero s k all few = ends_all stages.Ops s k end_ops (omega arith)
-ends_ops (suc m) s k more few = ends_on (progress stages.Ops s k) (lane k) (record { stands = rw (ne_eqb k s.lanes (λ h. absurd (omega arith))) refl; count = refl; numbers = (omega arith, tt); range = refl; frames = tt }) (ends_ops m s (k + 1) (omega arith) few)
+ends_ops zero v s k all few = ends_all stages.Ops v s k end_ops (omega arith)
+ends_ops (suc m) v s k more few = ends_on (progress v stages.Ops s k) (lane k) (record { known = tt; stands = rw (ne_eqb k s.lanes (λ h. absurd (omega arith))) refl; count = refl; numbers = (omega arith, tt); range = refl; frames = tt }) (ends_ops m v s (k + 1) (omega arith) few)
 
-ends_turns : (s : Setup) (k : ℕ) → IsWithin 1 16 s.lanes → k ≡ 0 → Ends (progress stages.Turns s k)
+ends_turns : (v : ℕ) (s : Setup) (k : ℕ) → IsWithin 1 16 s.lanes → k ≡ 0 → Ends (progress v stages.Turns s k)
 unfolding may_stand arity
-ends_turns s k h zero-is = ends_on (progress stages.Turns s k) (lane k) (record { stands = refl; count = refl; numbers = (omega arith, tt); range = refl; frames = tt }) (ends_ops (s.lanes - 1) s (k + 1) (omega (arith, h.0)) h.1)
+ends_turns v s k h zero-is = ends_on (progress v stages.Turns s k) (lane k) (record { known = tt; stands = refl; count = refl; numbers = (omega arith, tt); range = refl; frames = tt }) (ends_ops (s.lanes - 1) v s (k + 1) (omega (arith, h.0)) h.1)
 
-frames_line : (s : Setup) (k : ℕ) → IsWithin 1 16 s.lanes → IsWithin 1 4096 s.superpages → IsWithin 1 16 s.nursery → Passes (progress (stages.Awaiting settings.Frames) s k) (setting settings.Frames (s.lanes * s.nursery + 2))
+frames_line : (v : ℕ) (s : Setup) (k : ℕ) → IsWithin 1 16 s.lanes → IsWithin 1 4096 s.superpages → IsWithin 1 16 s.nursery → Passes (progress v (stages.Awaiting settings.Frames) s k) (setting settings.Frames (s.lanes * s.nursery + 2))
 unfolding may_stand same_setting arity
-frames_line s k l p n = record { stands = refl; count = refl; numbers = (omega (arith, product_small s.lanes s.nursery l.1 n.1), tt); range = tt; frames = (omega arith, omega (arith, p.0)) }
+frames_line v s k l p n = record { known = tt; stands = refl; count = refl; numbers = (omega (arith, product_small s.lanes s.nursery l.1 n.1), tt); range = tt; frames = (omega arith, omega (arith, p.0)) }
 
-ends_frames : (s : Setup) (k : ℕ) → IsWithin 1 16 s.lanes → IsWithin 1 4096 s.superpages → IsWithin 1 16 s.nursery → Ends (progress (stages.Awaiting settings.Frames) s k)
-ends_frames s k l p n = ends_on (progress (stages.Awaiting settings.Frames) s k) (setting settings.Frames (s.lanes * s.nursery + 2)) (frames_line s k l p n) (ends_phases (record s { frames = s.lanes * s.nursery + 2 }) k)
+ends_frames : (v : ℕ) (s : Setup) (k : ℕ) → IsWithin 1 16 s.lanes → IsWithin 1 4096 s.superpages → IsWithin 1 16 s.nursery → Ends (progress v (stages.Awaiting settings.Frames) s k)
+ends_frames v s k l p n = ends_on (progress v (stages.Awaiting settings.Frames) s k) (setting settings.Frames (s.lanes * s.nursery + 2)) (frames_line v s k l p n) (ends_phases v (record s { frames = s.lanes * s.nursery + 2 }) k)
 
-ends_buffer : (s : Setup) (k : ℕ) → IsWithin 1 16 s.lanes → IsWithin 1 4096 s.superpages → IsWithin 1 16 s.nursery → Ends (progress (stages.Awaiting settings.Buffer) s k)
+ends_buffer : (v : ℕ) (s : Setup) (k : ℕ) → IsWithin 1 16 s.lanes → IsWithin 1 4096 s.superpages → IsWithin 1 16 s.nursery → Ends (progress v (stages.Awaiting settings.Buffer) s k)
 unfolding may_stand same_setting arity
-ends_buffer s k l p n = ends_on (progress (stages.Awaiting settings.Buffer) s k) (setting settings.Buffer 1) (record { stands = refl; count = refl; numbers = (omega arith, tt); range = (omega arith, omega arith); frames = tt }) (ends_frames (record s { buffer = 1 }) k l p n)
+ends_buffer v s k l p n = ends_on (progress v (stages.Awaiting settings.Buffer) s k) (setting settings.Buffer 1) (record { known = tt; stands = refl; count = refl; numbers = (omega arith, tt); range = (omega arith, omega arith); frames = tt }) (ends_frames v (record s { buffer = 1 }) k l p n)
 
-ends_nursery : (s : Setup) (k : ℕ) → IsWithin 1 16 s.lanes → IsWithin 1 4096 s.superpages → Ends (progress (stages.Awaiting settings.Nursery) s k)
+ends_nursery : (v : ℕ) (s : Setup) (k : ℕ) → IsWithin 1 16 s.lanes → IsWithin 1 4096 s.superpages → Ends (progress v (stages.Awaiting settings.Nursery) s k)
 unfolding may_stand same_setting arity
-ends_nursery s k l p = ends_on (progress (stages.Awaiting settings.Nursery) s k) (setting settings.Nursery 1) (record { stands = refl; count = refl; numbers = (omega arith, tt); range = (omega arith, omega arith); frames = tt }) (ends_buffer (record s { nursery = 1 }) k l p (omega arith, omega arith))
+ends_nursery v s k l p = ends_on (progress v (stages.Awaiting settings.Nursery) s k) (setting settings.Nursery 1) (record { known = tt; stands = refl; count = refl; numbers = (omega arith, tt); range = (omega arith, omega arith); frames = tt }) (ends_buffer v (record s { nursery = 1 }) k l p (omega arith, omega arith))
 
-ends_superpages : (s : Setup) (k : ℕ) → IsWithin 1 16 s.lanes → Ends (progress (stages.Awaiting settings.Superpages) s k)
+ends_superpages : (v : ℕ) (s : Setup) (k : ℕ) → IsWithin 1 16 s.lanes → Ends (progress v (stages.Awaiting settings.Superpages) s k)
 unfolding may_stand same_setting arity
-ends_superpages s k l = ends_on (progress (stages.Awaiting settings.Superpages) s k) (setting settings.Superpages 1) (record { stands = refl; count = refl; numbers = (omega arith, tt); range = (omega arith, omega arith); frames = tt }) (ends_nursery (record s { superpages = 1 }) k l (omega arith, omega arith))
+ends_superpages v s k l = ends_on (progress v (stages.Awaiting settings.Superpages) s k) (setting settings.Superpages 1) (record { known = tt; stands = refl; count = refl; numbers = (omega arith, tt); range = (omega arith, omega arith); frames = tt }) (ends_nursery v (record s { superpages = 1 }) k l (omega arith, omega arith))
 
-ends_slots : (s : Setup) (k : ℕ) → IsWithin 1 16 s.lanes → Ends (progress (stages.Awaiting settings.Slots) s k)
+ends_slots : (v : ℕ) (s : Setup) (k : ℕ) → IsWithin 1 16 s.lanes → Ends (progress v (stages.Awaiting settings.Slots) s k)
 unfolding may_stand same_setting arity
-ends_slots s k l = ends_on (progress (stages.Awaiting settings.Slots) s k) (setting settings.Slots 1) (record { stands = refl; count = refl; numbers = (omega arith, tt); range = (omega arith, omega arith); frames = tt }) (ends_superpages (record s { slots = 1 }) k l)
+ends_slots v s k l = ends_on (progress v (stages.Awaiting settings.Slots) s k) (setting settings.Slots 1) (record { known = tt; stands = refl; count = refl; numbers = (omega arith, tt); range = (omega arith, omega arith); frames = tt }) (ends_superpages v (record s { slots = 1 }) k l)
 
-ends_domains : (s : Setup) (k : ℕ) → IsWithin 1 16 s.lanes → Ends (progress (stages.Awaiting settings.Domains) s k)
+ends_domains : (v : ℕ) (s : Setup) (k : ℕ) → IsWithin 1 16 s.lanes → Ends (progress v (stages.Awaiting settings.Domains) s k)
 unfolding may_stand same_setting arity
-ends_domains s k l = ends_on (progress (stages.Awaiting settings.Domains) s k) (setting settings.Domains 1) (record { stands = refl; count = refl; numbers = (omega arith, tt); range = (omega arith, omega arith); frames = tt }) (ends_slots (record s { domains = 1 }) k l)
+ends_domains v s k l = ends_on (progress v (stages.Awaiting settings.Domains) s k) (setting settings.Domains 1) (record { known = tt; stands = refl; count = refl; numbers = (omega arith, tt); range = (omega arith, omega arith); frames = tt }) (ends_slots v (record s { domains = 1 }) k l)
 
-ends_lanes : (s : Setup) (k : ℕ) → Ends (progress (stages.Awaiting settings.Lanes) s k)
+ends_lanes : (v : ℕ) (s : Setup) (k : ℕ) → Ends (progress v (stages.Awaiting settings.Lanes) s k)
 unfolding may_stand same_setting arity
-ends_lanes s k = ends_on (progress (stages.Awaiting settings.Lanes) s k) (setting settings.Lanes 1) (record { stands = refl; count = refl; numbers = (omega arith, tt); range = (omega arith, omega arith); frames = tt }) (ends_domains (record s { lanes = 1 }) k (omega arith, omega arith))
+ends_lanes v s k = ends_on (progress v (stages.Awaiting settings.Lanes) s k) (setting settings.Lanes 1) (record { known = tt; stands = refl; count = refl; numbers = (omega arith, tt); range = (omega arith, omega arith); frames = tt }) (ends_domains v (record s { lanes = 1 }) k (omega arith, omega arith))
 
-ends_start : (s : Setup) (k : ℕ) → Ends (progress stages.Start s k)
+ends_start : (v : ℕ) (s : Setup) (k : ℕ) → Ends (progress v stages.Start s k)
 unfolding may_stand arity
-ends_start s k = ends_on (progress stages.Start s k) (version 1) (record { stands = refl; count = refl; numbers = (omega arith, tt); range = refl; frames = tt }) (ends_lanes s k)
+ends_start v s k = ends_on (progress v stages.Start s k) (version 1) (record { known = tt; stands = refl; count = refl; numbers = (omega arith, tt); range = (omega arith, omega arith); frames = tt }) (ends_lanes 1 s k)
 
-shape_ends : (p : Stage) (d : DraftLists) (ls : List Line) → Shape p d ls → Ends (progress p d.progress.setup d.progress.stood)
+shape_ends : (p : Stage) (d : DraftLists) (ls : List Line) → Shape p d ls → Ends (progress d.progress.version p d.progress.setup d.progress.stood)
 unfolding Shape
-shape_ends stages.Start d ls h = ends_start d.progress.setup d.progress.stood
-shape_ends (stages.Awaiting settings.Lanes) d ls h = ends_lanes d.progress.setup d.progress.stood
-shape_ends (stages.Awaiting settings.Domains) d ls h = ends_domains d.progress.setup d.progress.stood h.2
-shape_ends (stages.Awaiting settings.Slots) d ls h = ends_slots d.progress.setup d.progress.stood h.2
-shape_ends (stages.Awaiting settings.Superpages) d ls h = ends_superpages d.progress.setup d.progress.stood h.2
-shape_ends (stages.Awaiting settings.Nursery) d ls h = ends_nursery d.progress.setup d.progress.stood h.2 h.5
-shape_ends (stages.Awaiting settings.Buffer) d ls h = ends_buffer d.progress.setup d.progress.stood h.2 h.5 h.6
-shape_ends (stages.Awaiting settings.Frames) d ls h = ends_frames d.progress.setup d.progress.stood h.2 h.5 h.6
-shape_ends stages.Phases d ls h = ends_phases d.progress.setup d.progress.stood
-shape_ends stages.Turns d ls h = ends_turns d.progress.setup d.progress.stood h.closed.setup.lanes h.stood
-shape_ends stages.Ops d ls h = ends_ops (d.progress.setup.lanes - d.progress.stood) d.progress.setup d.progress.stood (omega (arith, h.begun.room)) h.begun.closed.setup.lanes.1
-shape_ends stages.Gives d ls h = ends_all stages.Gives d.progress.setup d.progress.stood end_gives h.all
+shape_ends stages.Start d ls h = ends_start d.progress.version d.progress.setup d.progress.stood
+shape_ends (stages.Awaiting settings.Lanes) d ls h = ends_lanes d.progress.version d.progress.setup d.progress.stood
+shape_ends (stages.Awaiting settings.Domains) d ls h = ends_domains d.progress.version d.progress.setup d.progress.stood h.3
+shape_ends (stages.Awaiting settings.Slots) d ls h = ends_slots d.progress.version d.progress.setup d.progress.stood h.3
+shape_ends (stages.Awaiting settings.Superpages) d ls h = ends_superpages d.progress.version d.progress.setup d.progress.stood h.3
+shape_ends (stages.Awaiting settings.Nursery) d ls h = ends_nursery d.progress.version d.progress.setup d.progress.stood h.3 h.6
+shape_ends (stages.Awaiting settings.Buffer) d ls h = ends_buffer d.progress.version d.progress.setup d.progress.stood h.3 h.6 h.7
+shape_ends (stages.Awaiting settings.Frames) d ls h = ends_frames d.progress.version d.progress.setup d.progress.stood h.3 h.6 h.7
+shape_ends stages.Phases d ls h = ends_phases d.progress.version d.progress.setup d.progress.stood
+shape_ends stages.Turns d ls h = ends_turns d.progress.version d.progress.setup d.progress.stood h.closed.setup.lanes h.stood
+shape_ends stages.Ops d ls h = ends_ops (d.progress.setup.lanes - d.progress.stood) d.progress.version d.progress.setup d.progress.stood (omega (arith, h.begun.room)) h.begun.closed.setup.lanes.1
+shape_ends stages.Gives d ls h = ends_all stages.Gives d.progress.version d.progress.setup d.progress.stood end_gives h.all
 shape_ends stages.Finished d ls h = record { rest = []; pass = tt; stage = refl }
 
 -- ---- lines that pass are the first lines of a trace
@@ -153,15 +153,15 @@ record Opens (s : Progress) (w : Keyword) : Type 0 where
 slot_0 : Slot
 slot_0 = record { domain = 0; slot = 0 }
 
-open_setting : (k : Setting) (p : Stage) (d : DraftLists) (ls : List Line) → Shape p d ls → may_stand (words.Setting k) p (eqb d.progress.stood d.progress.setup.lanes) ≡ true → Opens (progress p d.progress.setup d.progress.stood) (words.Setting k)
+open_setting : (k : Setting) (p : Stage) (d : DraftLists) (ls : List Line) → Shape p d ls → may_stand (words.Setting k) p (eqb d.progress.stood d.progress.setup.lanes) ≡ true → Opens (progress d.progress.version p d.progress.setup d.progress.stood) (words.Setting k)
 unfolding may_stand same_setting arity Shape
-open_setting settings.Lanes (stages.Awaiting settings.Lanes) d ls h stands = record { line = setting settings.Lanes 1; word = refl; pass = record { stands = refl; count = refl; numbers = (omega arith, tt); range = (omega arith, omega arith); frames = tt } }
-open_setting settings.Domains (stages.Awaiting settings.Domains) d ls h stands = record { line = setting settings.Domains 1; word = refl; pass = record { stands = refl; count = refl; numbers = (omega arith, tt); range = (omega arith, omega arith); frames = tt } }
-open_setting settings.Slots (stages.Awaiting settings.Slots) d ls h stands = record { line = setting settings.Slots 1; word = refl; pass = record { stands = refl; count = refl; numbers = (omega arith, tt); range = (omega arith, omega arith); frames = tt } }
-open_setting settings.Superpages (stages.Awaiting settings.Superpages) d ls h stands = record { line = setting settings.Superpages 1; word = refl; pass = record { stands = refl; count = refl; numbers = (omega arith, tt); range = (omega arith, omega arith); frames = tt } }
-open_setting settings.Nursery (stages.Awaiting settings.Nursery) d ls h stands = record { line = setting settings.Nursery 1; word = refl; pass = record { stands = refl; count = refl; numbers = (omega arith, tt); range = (omega arith, omega arith); frames = tt } }
-open_setting settings.Buffer (stages.Awaiting settings.Buffer) d ls h stands = record { line = setting settings.Buffer 1; word = refl; pass = record { stands = refl; count = refl; numbers = (omega arith, tt); range = (omega arith, omega arith); frames = tt } }
-open_setting settings.Frames (stages.Awaiting settings.Frames) d ls h stands = record { line = setting settings.Frames (d.progress.setup.lanes * d.progress.setup.nursery + 2); word = refl; pass = frames_line d.progress.setup d.progress.stood h.2 h.5 h.6 }
+open_setting settings.Lanes (stages.Awaiting settings.Lanes) d ls h stands = record { line = setting settings.Lanes 1; word = refl; pass = record { known = tt; stands = refl; count = refl; numbers = (omega arith, tt); range = (omega arith, omega arith); frames = tt } }
+open_setting settings.Domains (stages.Awaiting settings.Domains) d ls h stands = record { line = setting settings.Domains 1; word = refl; pass = record { known = tt; stands = refl; count = refl; numbers = (omega arith, tt); range = (omega arith, omega arith); frames = tt } }
+open_setting settings.Slots (stages.Awaiting settings.Slots) d ls h stands = record { line = setting settings.Slots 1; word = refl; pass = record { known = tt; stands = refl; count = refl; numbers = (omega arith, tt); range = (omega arith, omega arith); frames = tt } }
+open_setting settings.Superpages (stages.Awaiting settings.Superpages) d ls h stands = record { line = setting settings.Superpages 1; word = refl; pass = record { known = tt; stands = refl; count = refl; numbers = (omega arith, tt); range = (omega arith, omega arith); frames = tt } }
+open_setting settings.Nursery (stages.Awaiting settings.Nursery) d ls h stands = record { line = setting settings.Nursery 1; word = refl; pass = record { known = tt; stands = refl; count = refl; numbers = (omega arith, tt); range = (omega arith, omega arith); frames = tt } }
+open_setting settings.Buffer (stages.Awaiting settings.Buffer) d ls h stands = record { line = setting settings.Buffer 1; word = refl; pass = record { known = tt; stands = refl; count = refl; numbers = (omega arith, tt); range = (omega arith, omega arith); frames = tt } }
+open_setting settings.Frames (stages.Awaiting settings.Frames) d ls h stands = record { line = setting settings.Frames (d.progress.setup.lanes * d.progress.setup.nursery + 2); word = refl; pass = frames_line d.progress.version d.progress.setup d.progress.stood h.3 h.6 h.7 }
 open_setting _ _ d ls h stands = absurd cc
 
 zero_op : Verb → Op
@@ -202,42 +202,45 @@ zero_fits verbs.Copy s h = ((omega (arith, h.domains), omega (arith, h.slots)), 
 zero_fits verbs.Clear s h = (omega (arith, h.domains), omega (arith, h.slots))
 zero_fits verbs.Same s h = ((omega (arith, h.domains), omega (arith, h.slots)), (omega (arith, h.domains), omega (arith, h.slots)))
 
-open_op : (v : Verb) (s : Setup) (k : ℕ) → IsSetup s → Opens (progress stages.Ops s k) (words.Op v)
+open_op : (w : Verb) (v : ℕ) (s : Setup) (k : ℕ) → IsSetup s → Opens (progress v stages.Ops s k) (words.Op w)
 unfolding may_stand
-open_op v s k h =
-    let o = zero_op v in
-    let fits = zero_fits v s h in
-    record { line = op o; word = ap (λ x. words.Op x) (zero_verb v); pass = record { stands = refl; count = count-op o; numbers = op_numbers s h o fits; range = fits; frames = tt } }
+open_op w v s k h =
+    let o = zero_op w in
+    let fits = zero_fits w s h in
+    record { line = op o; word = ap (λ x. words.Op x) (zero_verb w); pass = record { known = tt; stands = refl; count = count-op o; numbers = op_numbers s h o fits; range = fits; frames = tt } }
 
 first_give : Give
 first_give = record { domain = 0; lane = 0 }
 
-opens : (w : Keyword) (p : Stage) (d : DraftLists) (ls : List Line) → Shape p d ls → may_stand w p (eqb d.progress.stood d.progress.setup.lanes) ≡ true → Opens (progress p d.progress.setup d.progress.stood) w
+opens : (w : Keyword) (p : Stage) (d : DraftLists) (ls : List Line) → Shape p d ls → KnowsWord d.progress.version w → may_stand w p (eqb d.progress.stood d.progress.setup.lanes) ≡ true → Opens (progress d.progress.version p d.progress.setup d.progress.stood) w
 unfolding may_stand arity Shape first_give
-opens words.Version stages.Start d ls h stands = record { line = version 1; word = refl; pass = record { stands = refl; count = refl; numbers = (omega arith, tt); range = refl; frames = tt } }
-opens (words.Setting k) p d ls h stands = open_setting k p d ls h stands
-opens words.Phase stages.Phases d ls h stands = record { line = phase; word = refl; pass = record { stands = refl; count = refl; numbers = tt; range = tt; frames = tt } }
-opens words.Done stages.Phases d ls h stands = record { line = done; word = refl; pass = record { stands = refl; count = refl; numbers = tt; range = tt; frames = tt } }
-opens words.Turn stages.Turns d ls h stands = record { line = turn []; word = refl; pass = record { stands = refl; count = omega arith; numbers = tt; range = tt; frames = tt } }
-opens words.Lane stages.Turns d ls h stands = record { line = lane d.progress.stood; word = refl; pass = record { stands = refl; count = refl; numbers = (omega (arith, h.stood), tt); range = refl; frames = tt } }
-opens words.Lane stages.Ops d ls h stands = record { line = lane d.progress.stood; word = refl; pass = record { stands = stands; count = refl; numbers = (omega (arith, h.begun.room, h.begun.closed.setup.lanes), tt); range = refl; frames = tt } }
-opens (words.Op v) stages.Ops d ls h stands = open_op v d.progress.setup d.progress.stood h.begun.closed.setup
-opens words.Give stages.Ops d ls h stands = record { line = give first_give; word = refl; pass = record { stands = stands; count = refl; numbers = (omega arith, (omega arith, tt)); range = (omega (arith, h.begun.closed.setup.domains), omega (arith, h.begun.closed.setup.lanes)); frames = tt } }
-opens words.Give stages.Gives d ls h stands = record { line = give first_give; word = refl; pass = record { stands = refl; count = refl; numbers = (omega arith, (omega arith, tt)); range = (omega (arith, h.begun.closed.setup.domains), omega (arith, h.begun.closed.setup.lanes)); frames = tt } }
-opens words.End stages.Ops d ls h stands = record { line = end; word = refl; pass = record { stands = stands; count = refl; numbers = tt; range = tt; frames = tt } }
-opens words.End stages.Gives d ls h stands = record { line = end; word = refl; pass = record { stands = refl; count = refl; numbers = tt; range = tt; frames = tt } }
-opens _ _ d ls h stands = absurd cc
+opens words.Version stages.Start d ls h known stands = record { line = version 1; word = refl; pass = record { known = tt; stands = refl; count = refl; numbers = (omega arith, tt); range = (omega arith, omega arith); frames = tt } }
+opens (words.Setting k) p d ls h known stands = open_setting k p d ls h stands
+opens words.Phase stages.Phases d ls h known stands = record { line = phase; word = refl; pass = record { known = tt; stands = refl; count = refl; numbers = tt; range = tt; frames = tt } }
+opens words.Done stages.Phases d ls h known stands = record { line = done; word = refl; pass = record { known = tt; stands = refl; count = refl; numbers = tt; range = tt; frames = tt } }
+opens words.Turn stages.Turns d ls h known stands = record { line = turn []; word = refl; pass = record { known = tt; stands = refl; count = omega arith; numbers = tt; range = tt; frames = tt } }
+opens words.Lane stages.Turns d ls h known stands = record { line = lane d.progress.stood; word = refl; pass = record { known = tt; stands = refl; count = refl; numbers = (omega (arith, h.stood), tt); range = refl; frames = tt } }
+opens words.Lane stages.Ops d ls h known stands = record { line = lane d.progress.stood; word = refl; pass = record { known = tt; stands = stands; count = refl; numbers = (omega (arith, h.begun.room, h.begun.closed.setup.lanes), tt); range = refl; frames = tt } }
+opens (words.Op v) stages.Ops d ls h known stands = open_op v d.progress.version d.progress.setup d.progress.stood h.begun.closed.setup
+opens words.Give stages.Ops d ls h known stands = record { line = give first_give; word = refl; pass = record { known = tt; stands = stands; count = refl; numbers = (omega arith, (omega arith, tt)); range = (omega (arith, h.begun.closed.setup.domains), omega (arith, h.begun.closed.setup.lanes)); frames = tt } }
+opens words.Give stages.Gives d ls h known stands = record { line = give first_give; word = refl; pass = record { known = tt; stands = refl; count = refl; numbers = (omega arith, (omega arith, tt)); range = (omega (arith, h.begun.closed.setup.domains), omega (arith, h.begun.closed.setup.lanes)); frames = tt } }
+opens words.Freeze stages.Ops d ls h known stands = record { line = freeze 0; word = refl; pass = record { known = known; stands = stands; count = refl; numbers = (omega arith, tt); range = omega (arith, h.begun.closed.setup.domains); frames = tt } }
+opens words.Freeze stages.Gives d ls h known stands = record { line = freeze 0; word = refl; pass = record { known = known; stands = refl; count = refl; numbers = (omega arith, tt); range = omega (arith, h.begun.closed.setup.domains); frames = tt } }
+opens words.End stages.Ops d ls h known stands = record { line = end; word = refl; pass = record { known = tt; stands = stands; count = refl; numbers = tt; range = tt; frames = tt } }
+opens words.End stages.Gives d ls h known stands = record { line = end; word = refl; pass = record { known = tt; stands = refl; count = refl; numbers = tt; range = tt; frames = tt } }
+opens _ _ d ls h known stands = absurd cc
 
-pub goes_on : (before : List Line) (w : Keyword) → Follow start before → MayStand (after_all start before) w → GoesOnWith before w
-goes_on before w f stands =
+pub goes_on : (before : List Line) (w : Keyword) → Follow start before → KnowsWord (after_all start before).version w → MayStand (after_all start before) w → GoesOnWith before w
+goes_on before w f known stands =
     let d = put_all empty_draft before in
     let same : after_all start before ≡ d.progress = sym (put_all-state before empty_draft) in
+    let knows : KnowsWord d.progress.version w = subst (λ s. KnowsWord s.version w) same known in
     let here : MayStand d.progress w = subst (λ s. MayStand s w) same stands in
-    let o = opens w d.progress.stage d before (steps before empty_draft [] at_start f) here in
+    let o = opens w d.progress.stage d before (steps before empty_draft [] at_start f) knows here in
     let pass : Passes (after_all start before) o.line = subst (λ s. Passes s o.line) (sym same) o.pass in
     record { line = o.line; word = o.word; begins = follow_begins (before ++ o.line ∷ []) (follow-append before (o.line ∷ []) start f (pass, tt)) }
 
-pub stands_there : (before : List Line) (w : Keyword) → GoesOnWith before w → MayStand (after_all start before) w
+pub stands_there : (before : List Line) (w : Keyword) → GoesOnWith before w → KnowsWord (after_all start before).version w × MayStand (after_all start before) w
 stands_there before w h =
     let pass = (follow_front before (h.line ∷ []) start (begins_follow (before ++ h.line ∷ []) h.begins)).1.0 in
-    subst (λ v. MayStand (after_all start before) v) h.word pass.stands
+    (subst (λ v. KnowsWord (after_all start before).version v) h.word pass.known, subst (λ v. MayStand (after_all start before) v) h.word pass.stands)

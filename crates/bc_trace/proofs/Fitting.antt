@@ -9,8 +9,8 @@ use Rattle.bc_model.specs.StateSizes.{HasSerials, sizes_of}
 use Rattle.bc_model.specs.Lists.{PhaseLists, TraceLists}
 use Rattle.bc_model.specs.Run.{opening, after_ops, after_phase, replies_to, replies_to_lanes, replies_of_phases, replies_of, replies_of_cut}
 use Rattle.bc_model.specs.RunLengths.{ops_of, all_ops_of}
-use Rattle.bc_model.specs.State.{State, IsBorn, object_of, slot_of, field_of, holds}
-use Rattle.bc_model.specs.Step.{act, domains_of, on_object, on_field, step, told, loaded, is_same}
+use Rattle.bc_model.specs.State.{State, IsBorn, object_of, slot_of, field_of, reads, writes}
+use Rattle.bc_model.specs.Step.{act, domains_of, target_writes, on_object, on_field, on_own_field, step, told, loaded, is_same}
 use Rattle.bc_model.specs.WellFormed.{IsOp, IsPhase, IsTrace}
 use Rattle.bc_model.specs.declared.operations.Op.{Op}
 use Rattle.bc_model.specs.declared.operations.Op.TheVariants as op
@@ -56,16 +56,22 @@ short-born s b hs few born = (omega (arith, hs.lanes, born.lane), omega (arith, 
 short-on_object : (s : State) (j : ℕ) (v : Value) (next : Birth → State × Reply) → IsValue s.made v → ((b : Birth) → IsBorn s.made b → IsShort (next b).1) → IsShort (on_object s j v next).1
 short-on_object s j Nil next h f = tt
 short-on_object s j (Num v) next h f = tt
-short-on_object s j (Obj b) next h f = short-if (holds s j (object_of s.made b).domain) (next b) (s, replies.Foreign) (f b h) tt
+short-on_object s j (Obj b) next h f = short-if (reads s j (object_of s.made b).domain) (next b) (s, replies.Foreign) (f b h) tt
 
 short-on_field : (s : State) (j : ℕ) (v : Value) (i : ℕ) (next : Birth → State × Reply) → IsValue s.made v → ((b : Birth) → IsBorn s.made b → IsShort (next b).1) → IsShort (on_field s j v i next).1
 short-on_field s j v i next h f =
     short-on_object s j v _ h (λ b born. short-if (nat_lt i (length (object_of s.made b).fields)) (next b) (s, replies.Range) (f b born) tt)
 
+short-on_own_field : (s : State) (j : ℕ) (v : Value) (i : ℕ) (next : Birth → State × Reply) → IsValue s.made v → ((b : Birth) → IsBorn s.made b → IsShort (next b).1) → IsShort (on_own_field s j v i next).1
+short-on_own_field s j v i next h f =
+    short-on_object s j v _ h (λ b born.
+    let field = nat_lt i (length (object_of s.made b).fields) in
+    short-if (writes s j (object_of s.made b).domain) (if field then next b else (s, replies.Range)) (s, replies.Frozen) (short-if field (next b) (s, replies.Range) (f b born) tt) tt)
+
 short-told : (s : State) (j : ℕ) (v : Value) → IsState s → HasSerials 0 s → IsValue s.made v → IsShort (told s j v)
 short-told s j Nil hs few h = tt
 short-told s j (Num v) hs few h = h
-short-told s j (Obj b) hs few h = short-either (holds s j (object_of s.made b).domain) (replies.Obj b) replies.Foreign (short-born s b hs few h) tt
+short-told s j (Obj b) hs few h = short-either (reads s j (object_of s.made b).domain) (replies.Obj b) replies.Foreign (short-born s b hs few h) tt
 
 short-loaded : (s : State) (v : Value) → IsValue s.made v → IsShort (loaded v)
 short-loaded s Nil h = tt
@@ -76,9 +82,9 @@ short-act : (s : State) (j : ℕ) (o : Op) → IsState s → HasSerials 1 s → 
 short-act s j (op.New p n) hs few lane = (omega (arith, hs.lanes), omega (arith, few.below j))
 short-act s j (op.Who p) hs few lane = short-told s j (slot_of s p) hs (HasSerials-less 0 1 s (omega arith) few) (hs.values _)
 short-act s j (op.Len p) hs few lane = short-on_object s j (slot_of s p) _ (hs.values _) (λ b born. omega (arith, (hs.objects b born).fields))
-short-act s j (op.Set p i v) hs few lane = short-on_field s j (slot_of s p) i _ (hs.values _) (λ b born. tt)
-short-act s j (op.Cut p i) hs few lane = short-on_field s j (slot_of s p) i _ (hs.values _) (λ b born. tt)
-short-act s j (op.Link p i q) hs few lane = short-on_field s j (slot_of s p) i _ (hs.values _) (λ b born. tt)
+short-act s j (op.Set p i v) hs few lane = short-on_own_field s j (slot_of s p) i _ (hs.values _) (λ b born. tt)
+short-act s j (op.Cut p i) hs few lane = short-on_own_field s j (slot_of s p) i _ (hs.values _) (λ b born. tt)
+short-act s j (op.Link p i q) hs few lane = short-on_own_field s j (slot_of s p) i _ (hs.values _) (λ b born. tt)
 short-act s j (op.Load p i q) hs few lane =
     short-on_field s j (slot_of s p) i _ (hs.values _) (λ b born. short-loaded s (field_of s b i) ((hs.objects b born).values i))
 short-act s j (op.Copy p q) hs few lane = tt
@@ -87,7 +93,8 @@ short-act s j (op.Same p q) hs few lane = short-either (is_same (slot_of s p) (s
 
 short-step : (s : State) (j : ℕ) (o : Op) → IsState s → HasSerials 1 s → j < length s.made → IsShort (step s j o).1
 short-step s j o hs few lane =
-    short-if (list_all (holds s j) (domains_of o)) (act s j o) (s, replies.Foreign) (short-act s j o hs few lane) tt
+    short-if (list_all (reads s j) (domains_of o)) (if target_writes s j o then act s j o else (s, replies.Frozen)) (s, replies.Foreign)
+    (short-if (target_writes s j o) (act s j o) (s, replies.Frozen) (short-act s j o hs few lane) tt) tt
 
 -- ---- those of a run
 
@@ -171,6 +178,7 @@ fits-reply replies.No h = tt
 fits-reply replies.NotObj h = tt
 fits-reply replies.Range h = tt
 fits-reply replies.Foreign h = tt
+fits-reply replies.Frozen h = tt
 
 fits-phase : (lanes : List (List Reply)) → AreShort lanes → FitsPhase lanes
 fits-phase lanes h = all-weaker (AllByRecursion IsShort) (AllByRecursion FitsReply) lanes (λ rs. all-weaker IsShort FitsReply rs fits-reply) h

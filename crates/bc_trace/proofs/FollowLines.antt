@@ -5,16 +5,18 @@ use Rattle.std.proofs.lemmas.Bool.{not-true, eqb-true, eqb-false, eq-eqb, ne_eqb
 use Rattle.std.proofs.lemmas.List.{append-nil, length-append, map-append}
 use Rattle.std.proofs.lemmas.List.Concat.{flat_map-append}
 use Rattle.bc_model.specs.Lists.{PhaseLists}
-use Rattle.bc_model.specs.WellFormed.{IsWithin, IsSetup, IsOp, IsGive, IsTurn, IsPhase, IsTrace}
+use Rattle.bc_model.specs.WellFormed.{IsWithin, IsSetup, IsOp, FitsChange, KnowsChange, IsKnown, IsTurn, IsPhase, IsTrace}
 use Rattle.bc_model.specs.declared.operations.Op.{Op}
+use Rattle.bc_model.specs.declared.traces.Change.{Change}
+use Rattle.bc_model.specs.declared.traces.Change.TheVariants as changes
 use Rattle.bc_model.specs.declared.traces.Give.{Give}
 use Rattle.bc_model.specs.declared.traces.Setup.{Setup}
 use Rattle.bc_trace.specs.declared.grammar.Stage.{Stage}
 use Rattle.bc_trace.specs.declared.grammar.Stage.TheVariants as stages
 use Rattle.bc_trace.specs.declared.words.Setting.{Setting}
 use Rattle.bc_trace.specs.declared.words.Setting.TheVariants as settings
-use Rattle.bc_trace.specs.Lines.{Line, version, setting, phase, turn, lane, op, give, end, done, word_of_line, operands, setup_lines, lane_lines, phase_lines, trace_lines}
-use Rattle.bc_trace.specs.Grammar.{start, may_stand, same_setting, IsCount, InRange, FramesFit, after, Follow}
+use Rattle.bc_trace.specs.Lines.{Line, version, setting, phase, turn, lane, op, give, freeze, end, done, change_line, word_of_line, operands, setup_lines, lane_lines, phase_lines, trace_lines}
+use Rattle.bc_trace.specs.Grammar.{start, KnowsWord, may_stand, same_setting, IsCount, InRange, FramesFit, after, Follow}
 use Rattle.bc_trace.specs.Drafts.{DraftLists, empty_draft, put, put_lists}
 use Rattle.bc_trace.specs.Reading.{trace_of_draft}
 use Rattle.bc_trace.proofs.ReadOfFault.{put_all}
@@ -38,14 +40,16 @@ pub record NoPhases (d : DraftLists) : Type 0 where
 
 -- the lines of whole phases
 abbrev pub closed_lines : DraftLists → List Line
-closed_lines d = version 1 ∷ (setup_lines d.progress.setup ++ flat_map phase_lines d.phases)
+closed_lines d = version d.progress.version ∷ (setup_lines d.progress.setup ++ flat_map phase_lines d.phases)
 
 -- the header and the phases are well formed
 pub record IsClosed (d : DraftLists) : Type 0 where
+  pub version : IsWithin 1 2 d.progress.version
+  pub known : AllByRecursion (IsKnown d.progress.version) d.phases
   pub setup : IsSetup d.progress.setup
   pub phases : AllByRecursion (IsPhase d.progress.setup) d.phases
 
--- what was read of a phase, its gives aside, is well formed
+-- what was read of a phase, its gives and freezes aside, is well formed
 pub record IsOpen (d : DraftLists) : Type 0 where
   pub closed : IsClosed d
   pub turns : AllByRecursion IsTurn d.turns
@@ -72,21 +76,22 @@ pub record AtOps (d : DraftLists) (ls : List Line) : Type 0 where
   pub gives : d.gives ≡ []
 
 pub record AtGives (d : DraftLists) (ls : List Line) : Type 0 where
-  pub lines : ls ≡ closed_lines d ++ (open_lines d ++ map give d.gives)
+  pub lines : ls ≡ closed_lines d ++ (open_lines d ++ map change_line d.gives)
   pub begun : IsOpen d
   pub all : d.progress.stood ≡ d.progress.setup.lanes
-  pub gives : AllByRecursion (IsGive d.progress.setup) d.gives
+  pub gives : AllByRecursion (FitsChange d.progress.setup) d.gives
+  pub known : AllByRecursion (KnowsChange d.progress.version) d.gives
 
 -- what the lines so far make
 unfoldable pub Shape : Stage → DraftLists → List Line → Type 0
 Shape stages.Start d ls = (ls ≡ []) × NoPhases d
-Shape (stages.Awaiting settings.Lanes) d ls = (ls ≡ version 1 ∷ []) × NoPhases d
-Shape (stages.Awaiting settings.Domains) d ls = (ls ≡ version 1 ∷ setting settings.Lanes d.progress.setup.lanes ∷ []) × NoPhases d × IsWithin 1 16 d.progress.setup.lanes
-Shape (stages.Awaiting settings.Slots) d ls = (ls ≡ version 1 ∷ setting settings.Lanes d.progress.setup.lanes ∷ setting settings.Domains d.progress.setup.domains ∷ []) × NoPhases d × IsWithin 1 16 d.progress.setup.lanes × IsWithin 1 64 d.progress.setup.domains
-Shape (stages.Awaiting settings.Superpages) d ls = (ls ≡ version 1 ∷ setting settings.Lanes d.progress.setup.lanes ∷ setting settings.Domains d.progress.setup.domains ∷ setting settings.Slots d.progress.setup.slots ∷ []) × NoPhases d × IsWithin 1 16 d.progress.setup.lanes × IsWithin 1 64 d.progress.setup.domains × IsWithin 1 256 d.progress.setup.slots
-Shape (stages.Awaiting settings.Nursery) d ls = (ls ≡ version 1 ∷ setting settings.Lanes d.progress.setup.lanes ∷ setting settings.Domains d.progress.setup.domains ∷ setting settings.Slots d.progress.setup.slots ∷ setting settings.Superpages d.progress.setup.superpages ∷ []) × NoPhases d × IsWithin 1 16 d.progress.setup.lanes × IsWithin 1 64 d.progress.setup.domains × IsWithin 1 256 d.progress.setup.slots × IsWithin 1 4096 d.progress.setup.superpages
-Shape (stages.Awaiting settings.Buffer) d ls = (ls ≡ version 1 ∷ setting settings.Lanes d.progress.setup.lanes ∷ setting settings.Domains d.progress.setup.domains ∷ setting settings.Slots d.progress.setup.slots ∷ setting settings.Superpages d.progress.setup.superpages ∷ setting settings.Nursery d.progress.setup.nursery ∷ []) × NoPhases d × IsWithin 1 16 d.progress.setup.lanes × IsWithin 1 64 d.progress.setup.domains × IsWithin 1 256 d.progress.setup.slots × IsWithin 1 4096 d.progress.setup.superpages × IsWithin 1 16 d.progress.setup.nursery
-Shape (stages.Awaiting settings.Frames) d ls = (ls ≡ version 1 ∷ setting settings.Lanes d.progress.setup.lanes ∷ setting settings.Domains d.progress.setup.domains ∷ setting settings.Slots d.progress.setup.slots ∷ setting settings.Superpages d.progress.setup.superpages ∷ setting settings.Nursery d.progress.setup.nursery ∷ setting settings.Buffer d.progress.setup.buffer ∷ []) × NoPhases d × IsWithin 1 16 d.progress.setup.lanes × IsWithin 1 64 d.progress.setup.domains × IsWithin 1 256 d.progress.setup.slots × IsWithin 1 4096 d.progress.setup.superpages × IsWithin 1 16 d.progress.setup.nursery × IsWithin 1 4096 d.progress.setup.buffer
+Shape (stages.Awaiting settings.Lanes) d ls = (ls ≡ version d.progress.version ∷ []) × NoPhases d × IsWithin 1 2 d.progress.version
+Shape (stages.Awaiting settings.Domains) d ls = (ls ≡ version d.progress.version ∷ setting settings.Lanes d.progress.setup.lanes ∷ []) × NoPhases d × IsWithin 1 2 d.progress.version × IsWithin 1 16 d.progress.setup.lanes
+Shape (stages.Awaiting settings.Slots) d ls = (ls ≡ version d.progress.version ∷ setting settings.Lanes d.progress.setup.lanes ∷ setting settings.Domains d.progress.setup.domains ∷ []) × NoPhases d × IsWithin 1 2 d.progress.version × IsWithin 1 16 d.progress.setup.lanes × IsWithin 1 64 d.progress.setup.domains
+Shape (stages.Awaiting settings.Superpages) d ls = (ls ≡ version d.progress.version ∷ setting settings.Lanes d.progress.setup.lanes ∷ setting settings.Domains d.progress.setup.domains ∷ setting settings.Slots d.progress.setup.slots ∷ []) × NoPhases d × IsWithin 1 2 d.progress.version × IsWithin 1 16 d.progress.setup.lanes × IsWithin 1 64 d.progress.setup.domains × IsWithin 1 256 d.progress.setup.slots
+Shape (stages.Awaiting settings.Nursery) d ls = (ls ≡ version d.progress.version ∷ setting settings.Lanes d.progress.setup.lanes ∷ setting settings.Domains d.progress.setup.domains ∷ setting settings.Slots d.progress.setup.slots ∷ setting settings.Superpages d.progress.setup.superpages ∷ []) × NoPhases d × IsWithin 1 2 d.progress.version × IsWithin 1 16 d.progress.setup.lanes × IsWithin 1 64 d.progress.setup.domains × IsWithin 1 256 d.progress.setup.slots × IsWithin 1 4096 d.progress.setup.superpages
+Shape (stages.Awaiting settings.Buffer) d ls = (ls ≡ version d.progress.version ∷ setting settings.Lanes d.progress.setup.lanes ∷ setting settings.Domains d.progress.setup.domains ∷ setting settings.Slots d.progress.setup.slots ∷ setting settings.Superpages d.progress.setup.superpages ∷ setting settings.Nursery d.progress.setup.nursery ∷ []) × NoPhases d × IsWithin 1 2 d.progress.version × IsWithin 1 16 d.progress.setup.lanes × IsWithin 1 64 d.progress.setup.domains × IsWithin 1 256 d.progress.setup.slots × IsWithin 1 4096 d.progress.setup.superpages × IsWithin 1 16 d.progress.setup.nursery
+Shape (stages.Awaiting settings.Frames) d ls = (ls ≡ version d.progress.version ∷ setting settings.Lanes d.progress.setup.lanes ∷ setting settings.Domains d.progress.setup.domains ∷ setting settings.Slots d.progress.setup.slots ∷ setting settings.Superpages d.progress.setup.superpages ∷ setting settings.Nursery d.progress.setup.nursery ∷ setting settings.Buffer d.progress.setup.buffer ∷ []) × NoPhases d × IsWithin 1 2 d.progress.version × IsWithin 1 16 d.progress.setup.lanes × IsWithin 1 64 d.progress.setup.domains × IsWithin 1 256 d.progress.setup.slots × IsWithin 1 4096 d.progress.setup.superpages × IsWithin 1 16 d.progress.setup.nursery × IsWithin 1 4096 d.progress.setup.buffer
 Shape stages.Phases d ls = (ls ≡ closed_lines d) × IsClosed d × NoPhase d
 Shape stages.Turns d ls = AtTurns d ls
 Shape stages.Ops d ls = AtOps d ls
@@ -96,7 +101,7 @@ Shape stages.Finished d ls = (ls ≡ trace_lines (trace_of_draft d)) × IsTrace 
 -- ---- one more line
 
 abbrev pub Step : Line → Stage → DraftLists → List Line → Type 0
-Step l p d ls = may_stand (word_of_line l) p (eqb d.progress.stood d.progress.setup.lanes) ≡ true → IsCount (word_of_line l) (length (operands l)) → InRange d.progress l → FramesFit d.progress l → Shape p d ls → Shape (after l d.progress).stage (put l d) (ls ++ l ∷ [])
+Step l p d ls = KnowsWord d.progress.version (word_of_line l) → may_stand (word_of_line l) p (eqb d.progress.stood d.progress.setup.lanes) ≡ true → IsCount (word_of_line l) (length (operands l)) → InRange d.progress l → FramesFit d.progress l → Shape p d ls → Shape (after l d.progress).stage (put l d) (ls ++ l ∷ [])
 
 no_phases : (d e : DraftLists) → e.phases ≡ d.phases → e.turns ≡ d.turns → e.lanes ≡ d.lanes → e.ops ≡ d.ops → e.gives ≡ d.gives → NoPhases d → NoPhases e
 no_phases d e p1 p2 p3 p4 p5 h = record { phases = p1 ∙ h.phases; begun = record { turns = p2 ∙ h.begun.turns; lanes = p3 ∙ h.begun.lanes; ops = p4 ∙ h.begun.ops; gives = p5 ∙ h.begun.gives } }
@@ -106,64 +111,69 @@ on xs ys l e = ap (λ (zs : List Line). zs ++ l ∷ []) e
 
 step_version : (n : ℕ) (p : Stage) (d : DraftLists) (ls : List Line) → Step (version n) p d ls
 unfolding may_stand put_lists Shape
-step_version n stages.Start d ls stands count range frames h = (on ls [] (version n) h.0 ∙ ap (λ k. version k ∷ []) range, no_phases d (put (version n) d) refl refl refl refl refl h.1)
-step_version n (stages.Awaiting k) d ls stands count range frames h = absurd cc
-step_version n stages.Phases d ls stands count range frames h = absurd cc
-step_version n stages.Turns d ls stands count range frames h = absurd cc
-step_version n stages.Ops d ls stands count range frames h = absurd cc
-step_version n stages.Gives d ls stands count range frames h = absurd cc
-step_version n stages.Finished d ls stands count range frames h = absurd cc
+step_version n stages.Start d ls known stands count range frames h = (on ls [] (version n) h.0, no_phases d (put (version n) d) refl refl refl refl refl h.1, range)
+step_version n (stages.Awaiting k) d ls known stands count range frames h = absurd cc
+step_version n stages.Phases d ls known stands count range frames h = absurd cc
+step_version n stages.Turns d ls known stands count range frames h = absurd cc
+step_version n stages.Ops d ls known stands count range frames h = absurd cc
+step_version n stages.Gives d ls known stands count range frames h = absurd cc
+step_version n stages.Finished d ls known stands count range frames h = absurd cc
 
 first_setting : (k : Setting) (n : ℕ) (p : Stage) (d : DraftLists) (ls : List Line) → Step (setting k n) p d ls
 unfolding may_stand same_setting put_lists Shape
-first_setting settings.Lanes n (stages.Awaiting settings.Lanes) d ls stands count range frames h = (on ls (version 1 ∷ []) (setting settings.Lanes n) h.0, no_phases d (put (setting settings.Lanes n) d) refl refl refl refl refl h.1, range)
-first_setting settings.Domains n (stages.Awaiting settings.Domains) d ls stands count range frames h = (ap (λ (zs : List Line). zs ++ setting settings.Domains n ∷ []) h.0, no_phases d (put (setting settings.Domains n) d) refl refl refl refl refl h.1, h.2, range)
-first_setting settings.Slots n (stages.Awaiting settings.Slots) d ls stands count range frames h = (ap (λ (zs : List Line). zs ++ setting settings.Slots n ∷ []) h.0, no_phases d (put (setting settings.Slots n) d) refl refl refl refl refl h.1, h.2, h.3, range)
-first_setting settings.Superpages n (stages.Awaiting settings.Superpages) d ls stands count range frames h = (ap (λ (zs : List Line). zs ++ setting settings.Superpages n ∷ []) h.0, no_phases d (put (setting settings.Superpages n) d) refl refl refl refl refl h.1, h.2, h.3, h.4, range)
-first_setting settings.Nursery n (stages.Awaiting settings.Nursery) d ls stands count range frames h = (ap (λ (zs : List Line). zs ++ setting settings.Nursery n ∷ []) h.0, no_phases d (put (setting settings.Nursery n) d) refl refl refl refl refl h.1, h.2, h.3, h.4, h.5, range)
-first_setting settings.Buffer n (stages.Awaiting settings.Buffer) d ls stands count range frames h = (ap (λ (zs : List Line). zs ++ setting settings.Buffer n ∷ []) h.0, no_phases d (put (setting settings.Buffer n) d) refl refl refl refl refl h.1, h.2, h.3, h.4, h.5, h.6, range)
-first_setting settings.Frames n (stages.Awaiting settings.Frames) d ls stands count range frames h = (
-  ap (λ (zs : List Line). zs ++ setting settings.Frames n ∷ []) h.0 ∙ ap (λ (ps : List PhaseLists). version 1 ∷ (setup_lines (record d.progress.setup { frames = n }) ++ flat_map phase_lines ps)) (sym h.1.phases),
-  record { setup = record { lanes = h.2; domains = h.3; slots = h.4; superpages = h.5; nursery = h.6; buffer = h.7; frames = frames }; phases = subst (λ (ps : List PhaseLists). AllByRecursion (IsPhase (record d.progress.setup { frames = n })) ps) (sym h.1.phases) tt },
+first_setting settings.Lanes n (stages.Awaiting settings.Lanes) d ls known stands count range frames h = (on ls (version d.progress.version ∷ []) (setting settings.Lanes n) h.0, no_phases d (put (setting settings.Lanes n) d) refl refl refl refl refl h.1, h.2, range)
+first_setting settings.Domains n (stages.Awaiting settings.Domains) d ls known stands count range frames h = (ap (λ (zs : List Line). zs ++ setting settings.Domains n ∷ []) h.0, no_phases d (put (setting settings.Domains n) d) refl refl refl refl refl h.1, h.2, h.3, range)
+first_setting settings.Slots n (stages.Awaiting settings.Slots) d ls known stands count range frames h = (ap (λ (zs : List Line). zs ++ setting settings.Slots n ∷ []) h.0, no_phases d (put (setting settings.Slots n) d) refl refl refl refl refl h.1, h.2, h.3, h.4, range)
+first_setting settings.Superpages n (stages.Awaiting settings.Superpages) d ls known stands count range frames h = (ap (λ (zs : List Line). zs ++ setting settings.Superpages n ∷ []) h.0, no_phases d (put (setting settings.Superpages n) d) refl refl refl refl refl h.1, h.2, h.3, h.4, h.5, range)
+first_setting settings.Nursery n (stages.Awaiting settings.Nursery) d ls known stands count range frames h = (ap (λ (zs : List Line). zs ++ setting settings.Nursery n ∷ []) h.0, no_phases d (put (setting settings.Nursery n) d) refl refl refl refl refl h.1, h.2, h.3, h.4, h.5, h.6, range)
+first_setting settings.Buffer n (stages.Awaiting settings.Buffer) d ls known stands count range frames h = (ap (λ (zs : List Line). zs ++ setting settings.Buffer n ∷ []) h.0, no_phases d (put (setting settings.Buffer n) d) refl refl refl refl refl h.1, h.2, h.3, h.4, h.5, h.6, h.7, range)
+first_setting settings.Frames n (stages.Awaiting settings.Frames) d ls known stands count range frames h = (
+  ap (λ (zs : List Line). zs ++ setting settings.Frames n ∷ []) h.0 ∙ ap (λ (ps : List PhaseLists). version d.progress.version ∷ (setup_lines (record d.progress.setup { frames = n }) ++ flat_map phase_lines ps)) (sym h.1.phases),
+  record {
+    version = h.2;
+    known = subst (λ (ps : List PhaseLists). AllByRecursion (IsKnown d.progress.version) ps) (sym h.1.phases) tt;
+    setup = record { lanes = h.3; domains = h.4; slots = h.5; superpages = h.6; nursery = h.7; buffer = h.8; frames = frames };
+    phases = subst (λ (ps : List PhaseLists). AllByRecursion (IsPhase (record d.progress.setup { frames = n })) ps) (sym h.1.phases) tt;
+  },
   record { turns = h.1.begun.turns; lanes = h.1.begun.lanes; ops = h.1.begun.ops; gives = h.1.begun.gives },
 )
-first_setting _ n _ d ls stands count range frames h = absurd cc
+first_setting _ n _ d ls known stands count range frames h = absurd cc
 
 step_phase : (p : Stage) (d : DraftLists) (ls : List Line) → Step phase p d ls
 unfolding may_stand put_lists Shape
-step_phase stages.Phases d ls stands count range frames h = record {
+step_phase stages.Phases d ls known stands count range frames h = record {
   lines = on ls (closed_lines d) phase h.0 ∙ ap (λ (ts : List (List ℕ)). closed_lines d ++ phase ∷ map turn ts) (sym h.2.turns);
-  closed = record { setup = h.1.setup; phases = h.1.phases };
+  closed = record { version = h.1.version; known = h.1.known; setup = h.1.setup; phases = h.1.phases };
   turns = subst (λ (ts : List (List ℕ)). AllByRecursion IsTurn ts) (sym h.2.turns) tt;
   stood = refl;
   lanes = h.2.lanes;
   ops = h.2.ops;
   gives = h.2.gives;
 }
-step_phase stages.Start d ls stands count range frames h = absurd cc
-step_phase (stages.Awaiting k) d ls stands count range frames h = absurd cc
-step_phase stages.Turns d ls stands count range frames h = absurd cc
-step_phase stages.Ops d ls stands count range frames h = absurd cc
-step_phase stages.Gives d ls stands count range frames h = absurd cc
-step_phase stages.Finished d ls stands count range frames h = absurd cc
+step_phase stages.Start d ls known stands count range frames h = absurd cc
+step_phase (stages.Awaiting k) d ls known stands count range frames h = absurd cc
+step_phase stages.Turns d ls known stands count range frames h = absurd cc
+step_phase stages.Ops d ls known stands count range frames h = absurd cc
+step_phase stages.Gives d ls known stands count range frames h = absurd cc
+step_phase stages.Finished d ls known stands count range frames h = absurd cc
 
 step_turn : (hints : List ℕ) (p : Stage) (d : DraftLists) (ls : List Line) → Step (turn hints) p d ls
 unfolding may_stand put_lists Shape
-step_turn hints stages.Turns d ls stands count range frames h = record {
+step_turn hints stages.Turns d ls known stands count range frames h = record {
   lines = on ls (closed_lines d ++ phase ∷ map turn d.turns) (turn hints) h.lines ∙ append_assoc (closed_lines d) (phase ∷ map turn d.turns) (turn hints ∷ []) ∙ ap (λ (ts : List Line). closed_lines d ++ phase ∷ ts) (sym (map-append turn d.turns (hints ∷ [])));
-  closed = record { setup = h.closed.setup; phases = h.closed.phases };
+  closed = record { version = h.closed.version; known = h.closed.known; setup = h.closed.setup; phases = h.closed.phases };
   turns = all-push IsTurn d.turns hints h.turns (count, range);
   stood = h.stood;
   lanes = h.lanes;
   ops = h.ops;
   gives = h.gives;
 }
-step_turn hints stages.Start d ls stands count range frames h = absurd cc
-step_turn hints (stages.Awaiting k) d ls stands count range frames h = absurd cc
-step_turn hints stages.Phases d ls stands count range frames h = absurd cc
-step_turn hints stages.Ops d ls stands count range frames h = absurd cc
-step_turn hints stages.Gives d ls stands count range frames h = absurd cc
-step_turn hints stages.Finished d ls stands count range frames h = absurd cc
+step_turn hints stages.Start d ls known stands count range frames h = absurd cc
+step_turn hints (stages.Awaiting k) d ls known stands count range frames h = absurd cc
+step_turn hints stages.Phases d ls known stands count range frames h = absurd cc
+step_turn hints stages.Ops d ls known stands count range frames h = absurd cc
+step_turn hints stages.Gives d ls known stands count range frames h = absurd cc
+step_turn hints stages.Finished d ls known stands count range frames h = absurd cc
 
 -- ---- a lane begins
 
@@ -192,11 +202,11 @@ next_lines d ls j number lines =
 
 step_lane : (j : ℕ) (p : Stage) (d : DraftLists) (ls : List Line) → Step (lane j) p d ls
 unfolding may_stand Shape begun_first begun_next
-step_lane j stages.Turns d ls stands count range frames h =
+step_lane j stages.Turns d ls known stands count range frames h =
     let made : AtOps (begun_first d j) (ls ++ lane j ∷ []) = record {
       lines = first_lines d ls j (range ∙ h.stood) h.lines d.lanes d.ops h.lanes h.ops;
       begun = record {
-        closed = record { setup = h.closed.setup; phases = h.closed.phases };
+        closed = record { version = h.closed.version; known = h.closed.known; setup = h.closed.setup; phases = h.closed.phases };
         turns = h.turns;
         stood = ap (λ k. k + 1) (h.stood ∙ ap (λ (xs : List (List Op)). length xs) (sym h.lanes));
         room = omega (arith, h.stood, h.closed.setup.lanes);
@@ -206,11 +216,11 @@ step_lane j stages.Turns d ls stands count range frames h =
       gives = h.gives;
     } in
     subst (λ e. AtOps e (ls ++ lane j ∷ [])) (put_first d j h.stood) made
-step_lane j stages.Ops d ls stands count range frames h =
+step_lane j stages.Ops d ls known stands count range frames h =
     let made : AtOps (begun_next d j) (ls ++ lane j ∷ []) = record {
       lines = next_lines d ls j (range ∙ h.begun.stood) h.lines;
       begun = record {
-        closed = record { setup = h.begun.closed.setup; phases = h.begun.closed.phases };
+        closed = record { version = h.begun.closed.version; known = h.begun.closed.known; setup = h.begun.closed.setup; phases = h.begun.closed.phases };
         turns = h.begun.turns;
         stood = ap (λ k. k + 1) (h.begun.stood ∙ sym (length-append d.lanes (d.ops ∷ [])));
         room = omega (arith, h.begun.room, eqb-false d.progress.stood d.progress.setup.lanes (not-true (eqb d.progress.stood d.progress.setup.lanes) stands));
@@ -220,11 +230,11 @@ step_lane j stages.Ops d ls stands count range frames h =
       gives = h.gives;
     } in
     subst (λ e. AtOps e (ls ++ lane j ∷ [])) (put_next d j (λ z. absurd (omega (arith, h.begun.stood)))) made
-step_lane j stages.Start d ls stands count range frames h = absurd cc
-step_lane j (stages.Awaiting k) d ls stands count range frames h = absurd cc
-step_lane j stages.Phases d ls stands count range frames h = absurd cc
-step_lane j stages.Gives d ls stands count range frames h = absurd cc
-step_lane j stages.Finished d ls stands count range frames h = absurd cc
+step_lane j stages.Start d ls known stands count range frames h = absurd cc
+step_lane j (stages.Awaiting k) d ls known stands count range frames h = absurd cc
+step_lane j stages.Phases d ls known stands count range frames h = absurd cc
+step_lane j stages.Gives d ls known stands count range frames h = absurd cc
+step_lane j stages.Finished d ls known stands count range frames h = absurd cc
 
 -- ---- operations, gives, ends
 
@@ -234,10 +244,10 @@ op_lines lanes os o =
 
 step_op : (o : Op) (p : Stage) (d : DraftLists) (ls : List Line) → Step (op o) p d ls
 unfolding may_stand put_lists Shape
-step_op o stages.Ops d ls stands count range frames h = record {
+step_op o stages.Ops d ls known stands count range frames h = record {
   lines = on ls (closed_lines d ++ open_lines d) (op o) h.lines ∙ append_assoc (closed_lines d) (open_lines d) (op o ∷ []) ∙ ap (λ (xs : List Line). closed_lines d ++ phase ∷ xs) (append_assoc (map turn d.turns) (lane_lines 0 (d.lanes ++ d.ops ∷ [])) (op o ∷ []) ∙ ap (λ (xs : List Line). map turn d.turns ++ xs) (op_lines d.lanes d.ops o));
   begun = record {
-    closed = record { setup = h.begun.closed.setup; phases = h.begun.closed.phases };
+    closed = record { version = h.begun.closed.version; known = h.begun.closed.known; setup = h.begun.closed.setup; phases = h.begun.closed.phases };
     turns = h.begun.turns;
     stood = h.begun.stood;
     room = h.begun.room;
@@ -246,31 +256,36 @@ step_op o stages.Ops d ls stands count range frames h = record {
   };
   gives = h.gives;
 }
-step_op o stages.Start d ls stands count range frames h = absurd cc
-step_op o (stages.Awaiting k) d ls stands count range frames h = absurd cc
-step_op o stages.Phases d ls stands count range frames h = absurd cc
-step_op o stages.Turns d ls stands count range frames h = absurd cc
-step_op o stages.Gives d ls stands count range frames h = absurd cc
-step_op o stages.Finished d ls stands count range frames h = absurd cc
+step_op o stages.Start d ls known stands count range frames h = absurd cc
+step_op o (stages.Awaiting k) d ls known stands count range frames h = absurd cc
+step_op o stages.Phases d ls known stands count range frames h = absurd cc
+step_op o stages.Turns d ls known stands count range frames h = absurd cc
+step_op o stages.Gives d ls known stands count range frames h = absurd cc
+step_op o stages.Finished d ls known stands count range frames h = absurd cc
 
-give_lines : (d : DraftLists) (g : Give) → (closed_lines d ++ (open_lines d ++ map give d.gives)) ++ give g ∷ [] ≡ closed_lines d ++ (open_lines d ++ map give (d.gives ++ g ∷ []))
-give_lines d g = append_assoc (closed_lines d) (open_lines d ++ map give d.gives) (give g ∷ []) ∙ ap (λ (xs : List Line). closed_lines d ++ xs) (append_assoc (open_lines d) (map give d.gives) (give g ∷ []) ∙ ap (λ (xs : List Line). open_lines d ++ xs) (sym (map-append give d.gives (g ∷ []))))
+change_lines : (d : DraftLists) (c : Change) → (closed_lines d ++ (open_lines d ++ map change_line d.gives)) ++ change_line c ∷ [] ≡ closed_lines d ++ (open_lines d ++ map change_line (d.gives ++ c ∷ []))
+change_lines d c = append_assoc (closed_lines d) (open_lines d ++ map change_line d.gives) (change_line c ∷ []) ∙ ap (λ (xs : List Line). closed_lines d ++ xs) (append_assoc (open_lines d) (map change_line d.gives) (change_line c ∷ []) ∙ ap (λ (xs : List Line). open_lines d ++ xs) (sym (map-append change_line d.gives (c ∷ []))))
 
--- all lanes stood, and no give yet
+-- all lanes stood, and no give or freeze yet
 as_gives : (d : DraftLists) (ls : List Line) → eqb d.progress.stood d.progress.setup.lanes ≡ true → AtOps d ls → AtGives d ls
 as_gives d ls stands h = record {
-  lines = h.lines ∙ ap (λ (xs : List Line). closed_lines d ++ xs) (sym (ap (λ (gs : List Give). open_lines d ++ map give gs) h.gives ∙ append-nil (open_lines d)));
+  lines = h.lines ∙ ap (λ (xs : List Line). closed_lines d ++ xs) (sym (ap (λ (gs : List Change). open_lines d ++ map change_line gs) h.gives ∙ append-nil (open_lines d)));
   begun = h.begun;
   all = eqb-true d.progress.stood d.progress.setup.lanes stands;
-  gives = subst (λ (gs : List Give). AllByRecursion (IsGive d.progress.setup) gs) (sym h.gives) tt;
+  gives = subst (λ (gs : List Change). AllByRecursion (FitsChange d.progress.setup) gs) (sym h.gives) tt;
+  known = subst (λ (gs : List Change). AllByRecursion (KnowsChange d.progress.version) gs) (sym h.gives) tt;
 }
 
-more_gives : (g : Give) (d : DraftLists) (ls : List Line) → IsGive d.progress.setup g → AtGives d ls → AtGives (put (give g) d) (ls ++ give g ∷ [])
-unfolding put_lists
-more_gives g d ls range h = record {
-  lines = on ls (closed_lines d ++ (open_lines d ++ map give d.gives)) (give g) h.lines ∙ give_lines d g;
+-- one more of them
+changed : DraftLists → Change → DraftLists
+changed d c = record { progress = record d.progress { stage = stages.Gives }; phases = d.phases; turns = d.turns; lanes = d.lanes; ops = d.ops; gives = d.gives ++ c ∷ [] }
+
+more_changes : (c : Change) (d : DraftLists) (ls : List Line) → KnowsChange d.progress.version c → FitsChange d.progress.setup c → AtGives d ls → AtGives (changed d c) (ls ++ change_line c ∷ [])
+unfolding changed
+more_changes c d ls known range h = record {
+  lines = on ls (closed_lines d ++ (open_lines d ++ map change_line d.gives)) (change_line c) h.lines ∙ change_lines d c;
   begun = record {
-    closed = record { setup = h.begun.closed.setup; phases = h.begun.closed.phases };
+    closed = record { version = h.begun.closed.version; known = h.begun.closed.known; setup = h.begun.closed.setup; phases = h.begun.closed.phases };
     turns = h.begun.turns;
     stood = h.begun.stood;
     room = h.begun.room;
@@ -278,32 +293,43 @@ more_gives g d ls range h = record {
     ops = h.begun.ops;
   };
   all = h.all;
-  gives = all-push (IsGive d.progress.setup) d.gives g h.gives range;
+  gives = all-push (FitsChange d.progress.setup) d.gives c h.gives range;
+  known = all-push (KnowsChange d.progress.version) d.gives c h.known known;
 }
 
 step_give : (g : Give) (p : Stage) (d : DraftLists) (ls : List Line) → Step (give g) p d ls
-unfolding may_stand Shape
-step_give g stages.Ops d ls stands count range frames h = more_gives g d ls range (as_gives d ls stands h)
-step_give g stages.Gives d ls stands count range frames h = more_gives g d ls range h
-step_give g stages.Start d ls stands count range frames h = absurd cc
-step_give g (stages.Awaiting k) d ls stands count range frames h = absurd cc
-step_give g stages.Phases d ls stands count range frames h = absurd cc
-step_give g stages.Turns d ls stands count range frames h = absurd cc
-step_give g stages.Finished d ls stands count range frames h = absurd cc
+unfolding may_stand put_lists changed Shape
+step_give g stages.Ops d ls known stands count range frames h = more_changes (changes.Give g) d ls tt range (as_gives d ls stands h)
+step_give g stages.Gives d ls known stands count range frames h = more_changes (changes.Give g) d ls tt range h
+step_give g stages.Start d ls known stands count range frames h = absurd cc
+step_give g (stages.Awaiting k) d ls known stands count range frames h = absurd cc
+step_give g stages.Phases d ls known stands count range frames h = absurd cc
+step_give g stages.Turns d ls known stands count range frames h = absurd cc
+step_give g stages.Finished d ls known stands count range frames h = absurd cc
+
+step_freeze : (domain : ℕ) (p : Stage) (d : DraftLists) (ls : List Line) → Step (freeze domain) p d ls
+unfolding may_stand put_lists changed Shape
+step_freeze domain stages.Ops d ls known stands count range frames h = more_changes (changes.Freeze domain) d ls known range (as_gives d ls stands h)
+step_freeze domain stages.Gives d ls known stands count range frames h = more_changes (changes.Freeze domain) d ls known range h
+step_freeze domain stages.Start d ls known stands count range frames h = absurd cc
+step_freeze domain (stages.Awaiting k) d ls known stands count range frames h = absurd cc
+step_freeze domain stages.Phases d ls known stands count range frames h = absurd cc
+step_freeze domain stages.Turns d ls known stands count range frames h = absurd cc
+step_freeze domain stages.Finished d ls known stands count range frames h = absurd cc
 
 regroup : (ts ls gs es : List Line) → ((ts ++ ls) ++ gs) ++ es ≡ ts ++ (ls ++ (gs ++ es))
 regroup ts ls gs es = simp append_assoc
 
-end_lines : (s : Setup) (ps : List PhaseLists) (p : PhaseLists) → ((version 1 ∷ (setup_lines s ++ flat_map phase_lines ps)) ++ ((phase ∷ (map turn p.turns ++ lane_lines 0 p.lanes)) ++ map give p.gives)) ++ end ∷ [] ≡ version 1 ∷ (setup_lines s ++ flat_map phase_lines (ps ++ p ∷ []))
-end_lines s ps p =
-    let closed : List Line = version 1 ∷ (setup_lines s ++ flat_map phase_lines ps) in
-    let body : List Line = (phase ∷ (map turn p.turns ++ lane_lines 0 p.lanes)) ++ map give p.gives in
-    let same : body ++ end ∷ [] ≡ phase_lines p = ap (λ (xs : List Line). phase ∷ xs) (regroup (map turn p.turns) (lane_lines 0 p.lanes) (map give p.gives) (end ∷ [])) in
+end_lines : (v : ℕ) (s : Setup) (ps : List PhaseLists) (p : PhaseLists) → ((version v ∷ (setup_lines s ++ flat_map phase_lines ps)) ++ ((phase ∷ (map turn p.turns ++ lane_lines 0 p.lanes)) ++ map change_line p.gives)) ++ end ∷ [] ≡ version v ∷ (setup_lines s ++ flat_map phase_lines (ps ++ p ∷ []))
+end_lines v s ps p =
+    let closed : List Line = version v ∷ (setup_lines s ++ flat_map phase_lines ps) in
+    let body : List Line = (phase ∷ (map turn p.turns ++ lane_lines 0 p.lanes)) ++ map change_line p.gives in
+    let same : body ++ end ∷ [] ≡ phase_lines p = ap (λ (xs : List Line). phase ∷ xs) (regroup (map turn p.turns) (lane_lines 0 p.lanes) (map change_line p.gives) (end ∷ [])) in
     let more : flat_map phase_lines (ps ++ p ∷ []) ≡ flat_map phase_lines ps ++ phase_lines p = flat_map-append phase_lines ps (p ∷ []) ∙ ap (λ (xs : List Line). flat_map phase_lines ps ++ xs) (append-nil (phase_lines p)) in
     append_assoc closed body (end ∷ [])
     ∙ ap (λ (xs : List Line). closed ++ xs) same
-    ∙ append_assoc (version 1 ∷ setup_lines s) (flat_map phase_lines ps) (phase_lines p)
-    ∙ ap (λ (xs : List Line). version 1 ∷ (setup_lines s ++ xs)) (sym more)
+    ∙ append_assoc (version v ∷ setup_lines s) (flat_map phase_lines ps) (phase_lines p)
+    ∙ ap (λ (xs : List Line). version v ∷ (setup_lines s ++ xs)) (sym more)
 
 phase_ends : (d : DraftLists) (ls : List Line) → AtGives d ls → Shape stages.Phases (put end d) (ls ++ end ∷ [])
 unfolding put_lists Shape
@@ -315,33 +341,38 @@ phase_ends d ls h =
       ops = all-push (AllByRecursion (IsOp d.progress.setup)) d.lanes d.ops h.begun.lanes h.begun.ops;
       gives = h.gives;
     } in (
-      on ls (closed_lines d ++ (open_lines d ++ map give d.gives)) end h.lines ∙ end_lines d.progress.setup d.phases p,
-      record { setup = h.begun.closed.setup; phases = all-push (IsPhase d.progress.setup) d.phases p h.begun.closed.phases formed },
+      on ls (closed_lines d ++ (open_lines d ++ map change_line d.gives)) end h.lines ∙ end_lines d.progress.version d.progress.setup d.phases p,
+      record {
+        version = h.begun.closed.version;
+        known = all-push (IsKnown d.progress.version) d.phases p h.begun.closed.known h.known;
+        setup = h.begun.closed.setup;
+        phases = all-push (IsPhase d.progress.setup) d.phases p h.begun.closed.phases formed;
+      },
       record { turns = refl; lanes = refl; ops = refl; gives = refl },
     )
 
 step_end : (p : Stage) (d : DraftLists) (ls : List Line) → Step end p d ls
 unfolding may_stand Shape
-step_end stages.Ops d ls stands count range frames h = phase_ends d ls (as_gives d ls stands h)
-step_end stages.Gives d ls stands count range frames h = phase_ends d ls h
-step_end stages.Start d ls stands count range frames h = absurd cc
-step_end (stages.Awaiting k) d ls stands count range frames h = absurd cc
-step_end stages.Phases d ls stands count range frames h = absurd cc
-step_end stages.Turns d ls stands count range frames h = absurd cc
-step_end stages.Finished d ls stands count range frames h = absurd cc
+step_end stages.Ops d ls known stands count range frames h = phase_ends d ls (as_gives d ls stands h)
+step_end stages.Gives d ls known stands count range frames h = phase_ends d ls h
+step_end stages.Start d ls known stands count range frames h = absurd cc
+step_end (stages.Awaiting k) d ls known stands count range frames h = absurd cc
+step_end stages.Phases d ls known stands count range frames h = absurd cc
+step_end stages.Turns d ls known stands count range frames h = absurd cc
+step_end stages.Finished d ls known stands count range frames h = absurd cc
 
 step_done : (p : Stage) (d : DraftLists) (ls : List Line) → Step done p d ls
 unfolding may_stand put_lists Shape
-step_done stages.Phases d ls stands count range frames h = (
-  on ls (closed_lines d) done h.0 ∙ append_assoc (version 1 ∷ setup_lines d.progress.setup) (flat_map phase_lines d.phases) (done ∷ []),
-  record { setup = h.1.setup; phases = h.1.phases },
+step_done stages.Phases d ls known stands count range frames h = (
+  on ls (closed_lines d) done h.0 ∙ append_assoc (version d.progress.version ∷ setup_lines d.progress.setup) (flat_map phase_lines d.phases) (done ∷ []),
+  record { version = h.1.version; known = h.1.known; setup = h.1.setup; phases = h.1.phases },
 )
-step_done stages.Start d ls stands count range frames h = absurd cc
-step_done (stages.Awaiting k) d ls stands count range frames h = absurd cc
-step_done stages.Turns d ls stands count range frames h = absurd cc
-step_done stages.Ops d ls stands count range frames h = absurd cc
-step_done stages.Gives d ls stands count range frames h = absurd cc
-step_done stages.Finished d ls stands count range frames h = absurd cc
+step_done stages.Start d ls known stands count range frames h = absurd cc
+step_done (stages.Awaiting k) d ls known stands count range frames h = absurd cc
+step_done stages.Turns d ls known stands count range frames h = absurd cc
+step_done stages.Ops d ls known stands count range frames h = absurd cc
+step_done stages.Gives d ls known stands count range frames h = absurd cc
+step_done stages.Finished d ls known stands count range frames h = absurd cc
 
 pub step : (l : Line) (p : Stage) (d : DraftLists) (ls : List Line) → Step l p d ls
 step (version n) p d ls = step_version n p d ls
@@ -351,13 +382,14 @@ step (turn hints) p d ls = step_turn hints p d ls
 step (lane j) p d ls = step_lane j p d ls
 step (op o) p d ls = step_op o p d ls
 step (give g) p d ls = step_give g p d ls
+step (freeze domain) p d ls = step_freeze domain p d ls
 step end p d ls = step_end p d ls
 step done p d ls = step_done p d ls
 
 pub steps : (more : List Line) (d : DraftLists) (ls : List Line) → Shape d.progress.stage d ls → Follow d.progress more → Shape (put_all d more).progress.stage (put_all d more) (ls ++ more)
 steps [] d ls h f = subst (λ (xs : List Line). Shape d.progress.stage d xs) (sym (append-nil ls)) h
 steps (l ∷ more) d ls h f =
-    let one = step l d.progress.stage d ls f.0.stands f.0.count f.0.range f.0.frames h in
+    let one = step l d.progress.stage d ls f.0.known f.0.stands f.0.count f.0.range f.0.frames h in
     subst (λ (xs : List Line). Shape (put_all d (l ∷ more)).progress.stage (put_all d (l ∷ more)) xs) (append_assoc ls (l ∷ []) more) (steps more (put l d) (ls ++ l ∷ []) one f.1)
 
 pub at_start : Shape stages.Start empty_draft []

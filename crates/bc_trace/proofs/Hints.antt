@@ -22,13 +22,14 @@ hints_all (n ∷ ns) e (suc i) = hints_all ns (and_parts (ltb n (2 ^ 32)) (list_
 
 -- the numbers of a line are the first ones of the buffer
 said-take : (l : ReadLine) (n : ℕ) (ns : List ℕ) → HoldsAllHints l (take n ns) → said l (take n ns) ≡ said l ns
-said-take lines.Version n ns h = refl
+said-take (lines.Version v) n ns h = refl
 said-take (lines.Setting k m) n ns h = refl
 said-take lines.Phase n ns h = refl
 said-take (lines.Turn count) n ns h = ap turn (take-take count n ns (omega (arith, length-take n ns)))
 said-take (lines.Lane j) n ns h = refl
 said-take (lines.Op o) n ns h = refl
 said-take (lines.Give g) n ns h = refl
+said-take (lines.Freeze d) n ns h = refl
 said-take lines.End n ns h = refl
 said-take lines.Done n ns h = refl
 
@@ -37,7 +38,7 @@ Reads-take line (Ok l) n ns h e = e ∙ ap Ok (said-take l n ns h)
 Reads-take line (Err cause) n ns h e = e
 
 fits-take : (l : ReadLine) (n : ℕ) (ns : List ℕ) → HoldsAllHints l (take n ns) → FitsBuffer l ns
-fits-take lines.Version n ns h = tt
+fits-take (lines.Version v) n ns h = tt
 fits-take (lines.Setting k m) n ns h = tt
 fits-take lines.Phase n ns h = tt
 fits-take (lines.Turn count) n ns h =
@@ -46,6 +47,7 @@ fits-take (lines.Turn count) n ns h =
 fits-take (lines.Lane j) n ns h = tt
 fits-take (lines.Op o) n ns h = tt
 fits-take (lines.Give g) n ns h = tt
+fits-take (lines.Freeze d) n ns h = tt
 fits-take lines.End n ns h = tt
 fits-take lines.Done n ns h = tt
 
@@ -62,6 +64,7 @@ has_count-many words.Phase n many = ne_eqb n 0 (omega arith)
 has_count-many words.Turn n many = lt-leb n 64 many
 has_count-many words.Lane n many = ne_eqb n 1 (omega arith)
 has_count-many words.Give n many = ne_eqb n 2 (omega arith)
+has_count-many words.Freeze n many = ne_eqb n 1 (omega arith)
 has_count-many words.End n many = ne_eqb n 0 (omega arith)
 has_count-many words.Done n many = ne_eqb n 0 (omega arith)
 has_count-many (words.Op verbs.New) n many = ne_eqb n 3 (omega arith)

@@ -13,25 +13,25 @@ unfolding line_at
 line_at-unformed s line e = rw e refl
 
 module _ (s : Progress) (line first : List ℕ) (others : List (List ℕ)) (formed : formed_from true line ≡ true) (parts : line_words line ≡ first ∷ others) where
-  pub line_at-unknown : word_of first ≡ None → line_at s line ≡ Err causes.Word
+  pub line_at-unknown : word_of s.version first ≡ None → line_at s line ≡ Err causes.Word
   unfolding line_at
   line_at-unknown e = rw (formed, parts, e) refl
 
-  pub line_at-misplaced : (w : Keyword) → word_of first ≡ Some w → may_stand w s.stage (eqb s.stood s.setup.lanes) ≡ false → line_at s line ≡ Err causes.Order
+  pub line_at-misplaced : (w : Keyword) → word_of s.version first ≡ Some w → may_stand w s.stage (eqb s.stood s.setup.lanes) ≡ false → line_at s line ≡ Err causes.Order
   unfolding line_at
   line_at-misplaced w e order = rw (formed, parts, e, order) refl
 
-  pub line_at-miscounted : (w : Keyword) → word_of first ≡ Some w → may_stand w s.stage (eqb s.stood s.setup.lanes) ≡ true → has_count w (length others) ≡ false → line_at s line ≡ Err causes.Form
+  pub line_at-miscounted : (w : Keyword) → word_of s.version first ≡ Some w → may_stand w s.stage (eqb s.stood s.setup.lanes) ≡ true → has_count w (length others) ≡ false → line_at s line ≡ Err causes.Form
   unfolding line_at
   line_at-miscounted w e stands count = rw (formed, parts, e, stands, count) refl
 
-  pub line_at-many : (w : Keyword) → word_of first ≡ Some w → may_stand w s.stage (eqb s.stood s.setup.lanes) ≡ true → 64 < length others → line_at s line ≡ Err causes.Form
+  pub line_at-many : (w : Keyword) → word_of s.version first ≡ Some w → may_stand w s.stage (eqb s.stood s.setup.lanes) ≡ true → 64 < length others → line_at s line ≡ Err causes.Form
   line_at-many w e stands many = line_at-miscounted w e stands (has_count-many w (length others) many)
 
-  pub line_at-no_numbers : (w : Keyword) → word_of first ≡ Some w → may_stand w s.stage (eqb s.stood s.setup.lanes) ≡ true → has_count w (length others) ≡ true → read_numbers others ≡ None → line_at s line ≡ Err causes.Number
+  pub line_at-no_numbers : (w : Keyword) → word_of s.version first ≡ Some w → may_stand w s.stage (eqb s.stood s.setup.lanes) ≡ true → has_count w (length others) ≡ true → read_numbers others ≡ None → line_at s line ≡ Err causes.Number
   unfolding line_at
   line_at-no_numbers w e stands count numbers = rw (formed, parts, e, stands, count, numbers) refl
 
-  pub line_at-says : (w : Keyword) (ns : List ℕ) → word_of first ≡ Some w → may_stand w s.stage (eqb s.stood s.setup.lanes) ≡ true → has_count w (length others) ≡ true → read_numbers others ≡ Some ns → line_at s line ≡ judge_line s (line_of w ns)
+  pub line_at-says : (w : Keyword) (ns : List ℕ) → word_of s.version first ≡ Some w → may_stand w s.stage (eqb s.stood s.setup.lanes) ≡ true → has_count w (length others) ≡ true → read_numbers others ≡ Some ns → line_at s line ≡ judge_line s (line_of w ns)
   unfolding line_at
   line_at-says w ns e stands count numbers = rw (formed, parts, e, stands, count, numbers) refl

@@ -4,7 +4,7 @@ use Rattle.std.specs.Prelude.{◌⊎◌}
 use Rattle.std.specs.Bool.{Decides}
 use Rattle.std.specs.List.{AllByRecursion, flat_map, join_with_byte, list_all}
 use Rattle.std.specs.Fmt.{decimal}
-use Rattle.std.proofs.lemmas.Bool.{cases_Bool, both_ways, false_from_ne_true, and_parts, ne_eqb, leb-true}
+use Rattle.std.proofs.lemmas.Bool.{cases_Bool, both_ways, false_from_ne_true, and_parts, ne_eqb, leb-true, lt-leb}
 use Rattle.std.specs.Char.{is_ascii_digit}
 use Rattle.std.specs.Str.{all_ascii_digits}
 use Rattle.std.proofs.lemmas.Fmt.{decimal_nonempty, digits_decimal}
@@ -22,7 +22,7 @@ use Rattle.bc_trace.specs.declared.words.Keyword.{Keyword}
 use Rattle.bc_trace.specs.declared.words.Keyword.TheVariants as words
 use Rattle.bc_trace.specs.Words.{name, verb_name, setting_name}
 use Rattle.bc_trace.specs.Lines.{Line, word_of_line, operands, spelling}
-use Rattle.bc_trace.specs.Grammar.{may_stand, MayStand, IsCount, Passes}
+use Rattle.bc_trace.specs.Grammar.{KnowsWord, may_stand, MayStand, IsCount, Passes}
 use Rattle.bc_trace.specs.Faults.{line_words, IsWord, IsFormed, BeginsWith, IsNumeral, WordFails, OrderFails, CountFails, NumberFails, IsReadable, RangeFails, FramesFails, Fails}
 use Rattle.bc_trace.specs.Reading.{is_within, formed_from, word_of, has_count, read_numbers, line_of, in_range, frames_fit, judge_line, line_at}
 use Rattle.bc_trace.proofs.Operands.{line_words-some}
@@ -96,6 +96,7 @@ is_word-name words.Phase = refl
 is_word-name words.Turn = refl
 is_word-name words.Lane = refl
 is_word-name words.Give = refl
+is_word-name words.Freeze = refl
 is_word-name words.End = refl
 is_word-name words.Done = refl
 is_word-name (words.Op verbs.New) = refl
@@ -146,17 +147,17 @@ module _ (w : Keyword) (ns : List ℕ) (fits : AllByRecursion IsNumber ns) where
 
 -- ---- a line that passes is read again
 
-says_again : (s : Progress) (l : Line) → MayStand s (word_of_line l) → IsCount (word_of_line l) (length (operands l)) → AllByRecursion IsNumber (operands l) → line_at s (spelling (word_of_line l) (operands l)) ≡ judge_line s l
-says_again s l stands right fits =
+says_again : (s : Progress) (l : Line) → KnowsWord s.version (word_of_line l) → MayStand s (word_of_line l) → IsCount (word_of_line l) (length (operands l)) → AllByRecursion IsNumber (operands l) → line_at s (spelling (word_of_line l) (operands l)) ≡ judge_line s l
+says_again s l known stands right fits =
     let w = word_of_line l in
     let ns = operands l in
     let count : has_count w (length (map decimal ns)) ≡ true = rw (length-map ns decimal) ((Decides-count w (length ns)).1 right) in
-    line_at-says s (spelling w ns) (name w) (map decimal ns) ((Decides-formed (spelling w ns)).1 (IsFormed-spelling w ns fits)) (line_words-spelling w ns fits) w ns (word_of-name w) stands count (read_numbers-decimal ns fits)
+    line_at-says s (spelling w ns) (name w) (map decimal ns) ((Decides-formed (spelling w ns)).1 (IsFormed-spelling w ns fits)) (line_words-spelling w ns fits) w ns (word_of-name s.version w known) stands count (read_numbers-decimal ns fits)
     ∙ ap (λ l. judge_line s l) (line_of-line l)
 
 pub read_again : (s : Progress) (l : Line) → Passes s l → line_at s (spelling (word_of_line l) (operands l)) ≡ Ok l
 unfolding judge_line
-read_again s l h = says_again s l h.stands h.count h.numbers ∙ rw ((Decides-range s l).1 h.range, (Decides-frames s l).1 h.frames) refl
+read_again s l h = says_again s l h.known h.stands h.count h.numbers ∙ rw ((Decides-range s l).1 h.range, (Decides-frames s l).1 h.frames) refl
 
 -- ---- the verdict on a line
 
@@ -169,12 +170,20 @@ not_none others none h =
     let some : read_numbers others ≡ Some found.0 = ap read_numbers found.1 ∙ read_numbers-decimal found.0 found.2 in
     absurd cc
 
-no_word : (line first : List ℕ) (others more : List (List ℕ)) (w : Keyword) → line_words line ≡ first ∷ others → word_of first ≡ None → ¬ BeginsWith line w more
-no_word line first others more w parts none h =
-    let both : first ∷ others ≡ name w ∷ more = sym parts ∙ h in
+no_word : (s : Progress) (line first : List ℕ) (others more : List (List ℕ)) (w : Keyword) → line_words line ≡ first ∷ others → word_of s.version first ≡ None → ¬ BeginsWith s line w more
+no_word s line first others more w parts none h =
+    let both : first ∷ others ≡ name w ∷ more = sym parts ∙ h.1 in
     let same : first ≡ name w = cc in
-    let some : word_of first ≡ Some w = rw same (word_of-name w) in
+    let some : word_of s.version first ≡ Some w = rw same (word_of-name s.version w h.0) in
     absurd cc
+
+no_freeze : (version : ℕ) → version < 2 → word_of version (name words.Freeze) ≡ None
+unfolding word_of name verb_name setting_name
+no_freeze version old = rw (lt-leb 2 version old) refl
+
+-- the word of a later version
+pub freeze_unknown : (s : Progress) (line : List ℕ) (others : List (List ℕ)) → s.version < 2 → IsFormed line → line_words line ≡ name words.Freeze ∷ others → WordFails s line
+freeze_unknown s line others old formed parts = record { formed = formed; unknown = λ w more h. no_word s line (name words.Freeze) others more w parts (no_freeze s.version old) h }
 
 -- a line whose words and count are right, and which is readable
 module _ (s : Progress) (line : List ℕ) where
@@ -183,27 +192,28 @@ module _ (s : Progress) (line : List ℕ) where
   judged_line l e readable =
       elim (cases_Bool (in_range s l)) [
         | inl range ↦ elim (cases_Bool (frames_fit s l)) [
-          | inl frames ↦ inl (l, e ∙ rw (range, frames) refl, readable.text, record { stands = readable.stands; count = readable.count; numbers = readable.numbers; range = (Decides-range s l).0 range; frames = (Decides-frames s l).0 frames })
+          | inl frames ↦ inl (l, e ∙ rw (range, frames) refl, readable.text, record { known = readable.known; stands = readable.stands; count = readable.count; numbers = readable.numbers; range = (Decides-range s l).0 range; frames = (Decides-frames s l).0 frames })
           | inr misfit ↦ inr (causes.Frames, e ∙ rw (range, misfit) refl, record { says = l; readable = readable; range = (Decides-range s l).0 range; frames = not_from_Decides (frames_fit s l) (Decides-frames s l) misfit })
         ]
         | inr out ↦ inr (causes.Range, e ∙ rw out refl, record { says = l; readable = readable; range = not_from_Decides (in_range s l) (Decides-range s l) out })
       ]
 
   module _ (first : List ℕ) (others : List (List ℕ)) (formed : formed_from true line ≡ true) (parts : line_words line ≡ first ∷ others) where
-    module _ (w : Keyword) (is : word_of first ≡ Some w) where
-      begins : BeginsWith line w others
-      begins = parts ∙ ap (λ (v : List ℕ). v ∷ others) (word_of-is first w is)
+    module _ (w : Keyword) (is : word_of s.version first ≡ Some w) where
+      begins : BeginsWith s line w others
+      begins = let found = word_of-is s.version first w is in (found.0, parts ∙ ap (λ (v : List ℕ). v ∷ others) found.1)
 
       judged_numbers : (stands : may_stand w s.stage (eqb s.stood s.setup.lanes) ≡ true) (count : has_count w (length others) ≡ true) (ns : List ℕ) → read_numbers others ≡ Some ns → Judgement s line
       judged_numbers stands count ns numbers =
           let facts = read_numbers-is others ns numbers in
           let same : length others ≡ length ns = ap (λ (ws : List (List ℕ)). length ws) facts.0 ∙ length-map ns decimal in
           let right : IsCount w (length ns) = subst (λ n. IsCount w n) same ((Decides-count w (length others)).0 count) in
-          let text : line ≡ spelling w ns = spelled line w ns (begins ∙ ap (λ (ws : List (List ℕ)). name w ∷ ws) facts.0) in
+          let text : line ≡ spelling w ns = spelled line w ns (begins.1 ∙ ap (λ (ws : List (List ℕ)). name w ∷ ws) facts.0) in
           let w-is = word_of_line-line_of w ns in
           let ns-is = operands-line_of w ns right in
           judged_line (line_of w ns) (line_at-says s line first others formed parts w ns is stands count numbers) (record {
             text = rw (w-is, ns-is) text;
+            known = rw w-is begins.0;
             stands = rw w-is stands;
             count = rw (w-is, ns-is) right;
             numbers = rw ns-is facts.1;
@@ -224,8 +234,8 @@ module _ (s : Progress) (line : List ℕ) where
 
     judged_words : Judgement s line
     judged_words =
-        elim (cases_Option (word_of first)) [
-          | inl none ↦ inr (causes.Word, line_at-unknown s line first others formed parts none, record { formed = (Decides-formed line).0 formed; unknown = λ w more h. no_word line first others more w parts none h })
+        elim (cases_Option (word_of s.version first)) [
+          | inl none ↦ inr (causes.Word, line_at-unknown s line first others formed parts none, record { formed = (Decides-formed line).0 formed; unknown = λ w more h. no_word s line first others more w parts none h })
           | inr (w, is) ↦ judged_word w is
         ]
 
@@ -250,34 +260,34 @@ none_from others bad =
 
 module _ (s : Progress) (line : List ℕ) where
   fails_count : CountFails s line → line_at s line ≡ Err causes.Form
-  fails_count h = line_at-miscounted s line (name h.word) h.others ((Decides-formed line).1 h.formed) h.begins h.word (word_of-name h.word) h.stands (false_from (has_count h.word (length h.others)) (Decides-count h.word (length h.others)) h.count)
+  fails_count h = line_at-miscounted s line (name h.word) h.others ((Decides-formed line).1 h.formed) h.begins.1 h.word (word_of-name s.version h.word h.begins.0) h.stands (false_from (has_count h.word (length h.others)) (Decides-count h.word (length h.others)) h.count)
 
-  fails_word : WordFails line → line_at s line ≡ Err causes.Word
+  fails_word : WordFails s line → line_at s line ≡ Err causes.Word
   fails_word h =
       let cut = cases_parts (line_words line) (line_words-some line) in
-      elim (cases_Option (word_of cut.0)) [
+      elim (cases_Option (word_of s.version cut.0)) [
         | inl none ↦ line_at-unknown s line cut.0 cut.1 ((Decides-formed line).1 h.formed) cut.2 none
-        | inr (w, is) ↦ absurd (h.unknown w cut.1 (cut.2 ∙ ap (λ (v : List ℕ). v ∷ cut.1) (word_of-is cut.0 w is)))
+        | inr (w, is) ↦ let found = word_of-is s.version cut.0 w is in absurd (h.unknown w cut.1 (found.0, cut.2 ∙ ap (λ (v : List ℕ). v ∷ cut.1) found.1))
       ]
 
   fails_order : OrderFails s line → line_at s line ≡ Err causes.Order
-  fails_order h = line_at-misplaced s line (name h.word) h.others ((Decides-formed line).1 h.formed) h.begins h.word (word_of-name h.word) (false_from_ne_true (may_stand h.word s.stage (eqb s.stood s.setup.lanes)) h.order)
+  fails_order h = line_at-misplaced s line (name h.word) h.others ((Decides-formed line).1 h.formed) h.begins.1 h.word (word_of-name s.version h.word h.begins.0) (false_from_ne_true (may_stand h.word s.stage (eqb s.stood s.setup.lanes)) h.order)
 
   fails_number : NumberFails s line → line_at s line ≡ Err causes.Number
-  fails_number h = line_at-no_numbers s line (name h.word) h.others ((Decides-formed line).1 h.formed) h.begins h.word (word_of-name h.word) h.stands ((Decides-count h.word (length h.others)).1 h.count) (none_from h.others h.number)
+  fails_number h = line_at-no_numbers s line (name h.word) h.others ((Decides-formed line).1 h.formed) h.begins.1 h.word (word_of-name s.version h.word h.begins.0) h.stands ((Decides-count h.word (length h.others)).1 h.count) (none_from h.others h.number)
 
   fails_range : RangeFails s line → line_at s line ≡ Err causes.Range
   unfolding judge_line
   fails_range h =
       let l = h.says in
-      ap (λ (line : List ℕ). line_at s line) h.readable.text ∙ says_again s l h.readable.stands h.readable.count h.readable.numbers
+      ap (λ (line : List ℕ). line_at s line) h.readable.text ∙ says_again s l h.readable.known h.readable.stands h.readable.count h.readable.numbers
       ∙ rw (false_from (in_range s l) (Decides-range s l) h.range) refl
 
   fails_frames : FramesFails s line → line_at s line ≡ Err causes.Frames
   unfolding judge_line
   fails_frames h =
       let l = h.says in
-      ap (λ (line : List ℕ). line_at s line) h.readable.text ∙ says_again s l h.readable.stands h.readable.count h.readable.numbers
+      ap (λ (line : List ℕ). line_at s line) h.readable.text ∙ says_again s l h.readable.known h.readable.stands h.readable.count h.readable.numbers
       ∙ rw ((Decides-range s l).1 h.range, false_from (frames_fit s l) (Decides-frames s l) h.frames) refl
 
   fails_form : (¬ IsFormed line ⊎ CountFails s line) → line_at s line ≡ Err causes.Form

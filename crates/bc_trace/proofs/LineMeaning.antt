@@ -14,7 +14,7 @@ use Rattle.bc_trace.specs.declared.words.Setting.TheVariants as settings
 use Rattle.bc_trace.specs.declared.words.Verb.TheVariants as verbs
 use Rattle.bc_trace.specs.declared.words.Keyword.{Keyword}
 use Rattle.bc_trace.specs.declared.words.Keyword.TheVariants as words
-use Rattle.bc_trace.specs.Lines.{Line, version, setting, phase, turn, lane, op, give, end, done, word_of_line, operands}
+use Rattle.bc_trace.specs.Lines.{Line, version, setting, phase, turn, lane, op, give, freeze, end, done, word_of_line, operands}
 use Rattle.bc_trace.specs.Grammar.{arity, IsCount, InRange, FramesFit}
 use Rattle.bc_trace.specs.Reading.{has_count, line_of, is_slot, is_op, is_setting, in_range, least_frames, most_frames, frames_fit}
 use Rattle.bc_trace.proofs.Meaning.{Decides-within}
@@ -29,6 +29,7 @@ Decides-count words.Phase n = Decides-eqb n (arity words.Phase)
 Decides-count words.Turn n = (leb-true n 64, le-leb n 64)
 Decides-count words.Lane n = Decides-eqb n (arity words.Lane)
 Decides-count words.Give n = Decides-eqb n (arity words.Give)
+Decides-count words.Freeze n = Decides-eqb n (arity words.Freeze)
 Decides-count words.End n = Decides-eqb n (arity words.End)
 Decides-count words.Done n = Decides-eqb n (arity words.Done)
 Decides-count (words.Op v) n = Decides-eqb n (arity (words.Op v))
@@ -69,6 +70,7 @@ word_of_line-line_of words.Phase ns = refl
 word_of_line-line_of words.Turn ns = refl
 word_of_line-line_of words.Lane ns = refl
 word_of_line-line_of words.Give ns = refl
+word_of_line-line_of words.Freeze ns = refl
 word_of_line-line_of words.End ns = refl
 word_of_line-line_of words.Done ns = refl
 word_of_line-line_of (words.Op verbs.New) ns = refl
@@ -90,6 +92,7 @@ operands-line_of words.Phase ns e = numbers_0 ns e
 operands-line_of words.Turn ns e = refl
 operands-line_of words.Lane ns e = numbers_1 ns e
 operands-line_of words.Give ns e = numbers_2 ns e
+operands-line_of words.Freeze ns e = numbers_1 ns e
 operands-line_of words.End ns e = numbers_0 ns e
 operands-line_of words.Done ns e = numbers_0 ns e
 operands-line_of (words.Op verbs.New) ns e = numbers_3 ns e
@@ -120,6 +123,7 @@ line_of-line (op (ops.Copy p q)) = refl
 line_of-line (op (ops.Clear p)) = refl
 line_of-line (op (ops.Same p q)) = refl
 line_of-line (give g) = refl
+line_of-line (freeze d) = refl
 line_of-line end = refl
 line_of-line done = refl
 
@@ -150,7 +154,7 @@ always = (λ e. tt, λ h. refl)
 
 pub Decides-range : (s : Progress) (l : Line) → Decides (in_range s l) (InRange s l)
 unfolding in_range is_setting
-Decides-range s (version n) = Decides-eqb n 1
+Decides-range s (version n) = Decides-within 1 2 n
 Decides-range s (setting settings.Lanes n) = Decides-within 1 16 n
 Decides-range s (setting settings.Domains n) = Decides-within 1 64 n
 Decides-range s (setting settings.Slots n) = Decides-within 1 256 n
@@ -163,6 +167,7 @@ Decides-range s (turn hints) = Decides-hints hints
 Decides-range s (lane j) = Decides-eqb j s.stood
 Decides-range s (op o) = Decides-op s.setup o
 Decides-range s (give g) = Decides-and (ltb g.domain s.setup.domains) (ltb g.lane s.setup.lanes) (Decides-ltb g.domain s.setup.domains) (Decides-ltb g.lane s.setup.lanes)
+Decides-range s (freeze d) = Decides-ltb d s.setup.domains
 Decides-range s end = always
 Decides-range s done = always
 
@@ -181,5 +186,6 @@ Decides-frames s (turn hints) = always
 Decides-frames s (lane j) = always
 Decides-frames s (op o) = always
 Decides-frames s (give g) = always
+Decides-frames s (freeze d) = always
 Decides-frames s end = always
 Decides-frames s done = always

@@ -79,11 +79,11 @@ count-op (ops.Same p q) = refl
 
 pub op_passes : (s : Progress) (o : Op) → s.stage ≡ stages.Ops → IsOp s.setup o → AllByRecursion IsNumber (operands_of_op o) → Passes s (op o)
 unfolding may_stand
-op_passes s o stage range numbers = record { stands = rw stage refl; count = count-op o; numbers = numbers; range = range; frames = tt }
+op_passes s o stage range numbers = record { known = tt; stands = rw stage refl; count = count-op o; numbers = numbers; range = range; frames = tt }
 
 pub turn_passes : (s : Progress) (hints : List ℕ) → s.stage ≡ stages.Turns → length hints ≤ 64 → AllByRecursion (λ h. h < 2 ^ 32) hints → Passes s (turn hints)
 unfolding may_stand
-turn_passes s hints stage few range = record { stands = rw stage refl; count = few; numbers = fit hints range; range = range; frames = tt } where
+turn_passes s hints stage few range = record { known = tt; stands = rw stage refl; count = few; numbers = fit hints range; range = range; frames = tt } where
   fit : (ns : List ℕ) → AllByRecursion (λ h. h < 2 ^ 32) ns → AllByRecursion IsNumber ns
   fit [] h = tt
   fit (n ∷ ns) h = (omega (arith, h.0), fit ns h.1)
@@ -107,28 +107,28 @@ module _ (s : Progress) (text rest : List ℕ) where
   pub phase_is_ahead : (after : List ℕ) → may_stand words.Phase s.stage (eqb s.stood s.setup.lanes) ≡ true → text ≡ name words.Phase ++ after → after ≡ 10 ∷ rest → IsAhead s text phase rest
   unfolding arity operands_text
   phase_is_ahead after stands begins feed = record {
-    passes = record { stands = stands; count = refl; numbers = tt; range = tt; frames = tt };
+    passes = record { known = tt; stands = stands; count = refl; numbers = tt; range = tt; frames = tt };
     begins = line_text_of phase text after after rest begins refl feed;
   }
 
   pub end_is_ahead : (after : List ℕ) → may_stand words.End s.stage (eqb s.stood s.setup.lanes) ≡ true → text ≡ name words.End ++ after → after ≡ 10 ∷ rest → IsAhead s text end rest
   unfolding arity operands_text
   end_is_ahead after stands begins feed = record {
-    passes = record { stands = stands; count = refl; numbers = tt; range = tt; frames = tt };
+    passes = record { known = tt; stands = stands; count = refl; numbers = tt; range = tt; frames = tt };
     begins = line_text_of end text after after rest begins refl feed;
   }
 
   pub lane_is_ahead : (j : ℕ) (numbers after : List ℕ) → may_stand words.Lane s.stage (eqb s.stood s.setup.lanes) ≡ true → IsNumber j → j ≡ s.stood → text ≡ name words.Lane ++ numbers → numbers ≡ 32 ∷ (decimal j ++ after) → after ≡ 10 ∷ rest → IsAhead s text (lane j) rest
   unfolding arity operands_text
   lane_is_ahead j numbers after stands number next begins spelled feed = record {
-    passes = record { stands = stands; count = refl; numbers = (number, tt); range = next; frames = tt };
+    passes = record { known = tt; stands = stands; count = refl; numbers = (number, tt); range = next; frames = tt };
     begins = line_text_of (lane j) text numbers after rest begins (spelled ∙ operands-more [] j after) feed;
   }
 
   pub give_is_ahead : (g : Give) (numbers lanes after : List ℕ) → may_stand words.Give s.stage (eqb s.stood s.setup.lanes) ≡ true → IsGive s.setup g → IsNumber g.domain → IsNumber g.lane → text ≡ name words.Give ++ numbers → numbers ≡ 32 ∷ (decimal g.domain ++ lanes) → lanes ≡ 32 ∷ (decimal g.lane ++ after) → after ≡ 10 ∷ rest → IsAhead s text (give g) rest
   unfolding arity operands_text
   give_is_ahead g numbers lanes after stands range small_domain small_lane begins first second feed = record {
-    passes = record { stands = stands; count = refl; numbers = (small_domain, (small_lane, tt)); range = range; frames = tt };
+    passes = record { known = tt; stands = stands; count = refl; numbers = (small_domain, (small_lane, tt)); range = range; frames = tt };
     begins = line_text_of (give g) text numbers after rest begins (first ∙ operands-more [] g.domain lanes ∙ ap (λ t. operands_text (g.domain ∷ []) ++ t) second ∙ operands-more (g.domain ∷ []) g.lane after) feed;
   }
 

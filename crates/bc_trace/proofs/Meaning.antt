@@ -18,8 +18,9 @@ use Rattle.bc_trace.specs.declared.words.Verb.TheVariants as verbs
 use Rattle.bc_trace.specs.declared.words.Keyword.{Keyword}
 use Rattle.bc_trace.specs.declared.words.Keyword.TheVariants as words
 use Rattle.bc_trace.specs.Words.{name, verb_name, setting_name}
+use Rattle.bc_trace.specs.Grammar.{KnowsWord}
 use Rattle.bc_trace.specs.Faults.{line_words, IsWord, IsFormed, IsNumeral}
-use Rattle.bc_trace.specs.Reading.{next_fresh, where_some, is_within, formed_from, named, word_of, op_word, setting_word, or_word, all_verbs, all_settings, all_others, read_on, digits_of, number_of, both, read_numbers}
+use Rattle.bc_trace.specs.Reading.{next_fresh, where_some, is_within, formed_from, named, word_of, op_word, setting_word, or_word, all_verbs, all_settings, all_others, later_words, read_on, digits_of, number_of, both, read_numbers}
 
 -- ---- words of visible bytes
 
@@ -85,41 +86,63 @@ named-is f (v ∷ ws) bytes w e = go (named-is f ws bytes w) (bytes_eq bytes (f 
   go next true is e = let same : v ≡ w = cc in (bytes_eq-Decides bytes (f v)).0 is ∙ ap f same
   go next false is e = next e
 
-pub word_of-is : (bytes : List ℕ) (w : Keyword) → word_of bytes ≡ Some w → bytes ≡ name w
-unfolding word_of name
-word_of-is bytes w e = go (named verb_name all_verbs bytes) (named name all_others bytes) (named setting_name all_settings bytes) refl refl refl e where
-  go : (a : Option Verb) (b : Option Keyword) (c : Option Setting) → named verb_name all_verbs bytes ≡ a → named name all_others bytes ≡ b → named setting_name all_settings bytes ≡ c → or_word (op_word a) (or_word b (setting_word c)) ≡ Some w → bytes ≡ name w
-  go (Some v) b c x y z e = let same : words.Op v ≡ w = cc in named-is verb_name all_verbs bytes v x ∙ ap name same
-  go None (Some v) c x y z e = let same : v ≡ w = cc in named-is name all_others bytes v y ∙ ap name same
-  go None None (Some k) x y z e = let same : words.Setting k ≡ w = cc in named-is setting_name all_settings bytes k z ∙ ap name same
-  go None None None x y z e = absurd cc
+-- what is found is one of those that were looked through
+named-one : {W : Type 0} (P : W → Type 0) (f : W → List ℕ) (ws : List W) (bytes : List ℕ) (w : W) → AllByRecursion P ws → named f ws bytes ≡ Some w → P w
+named-one P f [] bytes w all e = absurd cc
+named-one P f (v ∷ ws) bytes w all e = go (named-one P f ws bytes w all.1) (bytes_eq bytes (f v)) e where
+  go : (named f ws bytes ≡ Some w → P w) → (b : Bool) → cond b (Some v) (named f ws bytes) ≡ Some w → P w
+  go next true e = let same : v ≡ w = cc in subst P same all.0
+  go next false e = next e
 
-pub word_of-name : (w : Keyword) → word_of (name w) ≡ Some w
+knows_all : (version : ℕ) → AllByRecursion (KnowsWord version) all_others
+knows_all version = (tt, (tt, (tt, (tt, (tt, (tt, (tt, tt)))))))
+
+knows_later : (version : ℕ) → AllByRecursion (KnowsWord version) (later_words version)
+knows_later version = go (leb 2 version) refl where
+  go : (b : Bool) → leb 2 version ≡ b → AllByRecursion (KnowsWord version) (cond b (words.Freeze ∷ []) [])
+  go true is = (leb-true 2 version is, tt)
+  go false is = tt
+
+pub word_of-is : (version : ℕ) (bytes : List ℕ) (w : Keyword) → word_of version bytes ≡ Some w → KnowsWord version w × (bytes ≡ name w)
+unfolding word_of name
+word_of-is version bytes w e = go (named verb_name all_verbs bytes) (named name all_others bytes) (named setting_name all_settings bytes) (named name (later_words version) bytes) refl refl refl refl e where
+  found : (v : Keyword) → v ≡ w → KnowsWord version v → bytes ≡ name v → KnowsWord version w × (bytes ≡ name w)
+  found v same known is = (subst (λ (u : Keyword). KnowsWord version u) same known, is ∙ ap name same)
+
+  go : (a : Option Verb) (b : Option Keyword) (c : Option Setting) (l : Option Keyword) → named verb_name all_verbs bytes ≡ a → named name all_others bytes ≡ b → named setting_name all_settings bytes ≡ c → named name (later_words version) bytes ≡ l → or_word (op_word a) (or_word b (or_word (setting_word c) l)) ≡ Some w → KnowsWord version w × (bytes ≡ name w)
+  go (Some v) b c l x y z u e = let same : words.Op v ≡ w = cc in found (words.Op v) same tt (named-is verb_name all_verbs bytes v x)
+  go None (Some v) c l x y z u e = let same : v ≡ w = cc in found v same (named-one (λ v. KnowsWord version v) name all_others bytes v (knows_all version) y) (named-is name all_others bytes v y)
+  go None None None (Some v) x y z u e = let same : v ≡ w = cc in found v same (named-one (λ v. KnowsWord version v) name (later_words version) bytes v (knows_later version) u) (named-is name (later_words version) bytes v u)
+  go None None (Some k) l x y z u e = let same : words.Setting k ≡ w = cc in found (words.Setting k) same tt (named-is setting_name all_settings bytes k z)
+  go None None None None x y z u e = absurd cc
+
+pub word_of-name : (version : ℕ) (w : Keyword) → KnowsWord version w → word_of version (name w) ≡ Some w
 unfolding word_of name verb_name setting_name
-word_of-name words.Version = refl
-word_of-name (words.Setting settings.Lanes) = refl
-word_of-name (words.Setting settings.Domains) = refl
-word_of-name (words.Setting settings.Slots) = refl
-word_of-name (words.Setting settings.Superpages) = refl
-word_of-name (words.Setting settings.Nursery) = refl
-word_of-name (words.Setting settings.Buffer) = refl
-word_of-name (words.Setting settings.Frames) = refl
-word_of-name words.Phase = refl
-word_of-name words.Turn = refl
-word_of-name words.Lane = refl
-word_of-name words.Give = refl
-word_of-name words.End = refl
-word_of-name words.Done = refl
-word_of-name (words.Op verbs.New) = refl
-word_of-name (words.Op verbs.Who) = refl
-word_of-name (words.Op verbs.Len) = refl
-word_of-name (words.Op verbs.Set) = refl
-word_of-name (words.Op verbs.Cut) = refl
-word_of-name (words.Op verbs.Link) = refl
-word_of-name (words.Op verbs.Load) = refl
-word_of-name (words.Op verbs.Copy) = refl
-word_of-name (words.Op verbs.Clear) = refl
-word_of-name (words.Op verbs.Same) = refl
+word_of-name version words.Version known = refl
+word_of-name version (words.Setting settings.Lanes) known = refl
+word_of-name version (words.Setting settings.Domains) known = refl
+word_of-name version (words.Setting settings.Slots) known = refl
+word_of-name version (words.Setting settings.Superpages) known = refl
+word_of-name version (words.Setting settings.Nursery) known = refl
+word_of-name version (words.Setting settings.Buffer) known = refl
+word_of-name version (words.Setting settings.Frames) known = refl
+word_of-name version words.Phase known = refl
+word_of-name version words.Turn known = refl
+word_of-name version words.Lane known = refl
+word_of-name version words.Give known = refl
+word_of-name version words.Freeze known = rw (le-leb 2 version known) refl
+word_of-name version words.End known = refl
+word_of-name version words.Done known = refl
+word_of-name version (words.Op verbs.New) known = refl
+word_of-name version (words.Op verbs.Who) known = refl
+word_of-name version (words.Op verbs.Len) known = refl
+word_of-name version (words.Op verbs.Set) known = refl
+word_of-name version (words.Op verbs.Cut) known = refl
+word_of-name version (words.Op verbs.Link) known = refl
+word_of-name version (words.Op verbs.Load) known = refl
+word_of-name version (words.Op verbs.Copy) known = refl
+word_of-name version (words.Op verbs.Clear) known = refl
+word_of-name version (words.Op verbs.Same) known = refl
 
 -- ---- numbers
 

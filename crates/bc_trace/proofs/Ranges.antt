@@ -3,7 +3,7 @@ use Rattle.std.proofs.Common.{◌≡◌, ℕ, ◌+◌, ◌≤◌, true, ◌&&◌
 use Rattle.std.proofs.lemmas.Bool.{leb-true, and_parts}
 use Rattle.bc_trace.specs.declared.grammar.Progress.{Progress}
 use Rattle.bc_trace.specs.declared.words.Setting.TheVariants as settings
-use Rattle.bc_trace.specs.Lines.{Line, version, setting, phase, turn, lane, op, give, end, done}
+use Rattle.bc_trace.specs.Lines.{Line, version, setting, phase, turn, lane, op, give, freeze, end, done}
 use Rattle.bc_trace.specs.Grammar.{after}
 use Rattle.bc_trace.specs.Reading.{in_range, is_setting}
 use Rattle.bc_trace.specs.Said.{IsSmall}
@@ -27,5 +27,6 @@ IsSmall-after (turn hints) s n e h = record { lanes = h.lanes; nursery = h.nurse
 IsSmall-after (lane j) s n e h = record { lanes = h.lanes; nursery = h.nursery; superpages = h.superpages; stood = omega (arith, h.stood) }
 IsSmall-after (op o) s n e h = record { lanes = h.lanes; nursery = h.nursery; superpages = h.superpages; stood = omega (arith, h.stood) }
 IsSmall-after (give g) s n e h = record { lanes = h.lanes; nursery = h.nursery; superpages = h.superpages; stood = omega (arith, h.stood) }
+IsSmall-after (freeze d) s n e h = record { lanes = h.lanes; nursery = h.nursery; superpages = h.superpages; stood = omega (arith, h.stood) }
 IsSmall-after end s n e h = record { lanes = h.lanes; nursery = h.nursery; superpages = h.superpages; stood = omega (arith, h.stood) }
 IsSmall-after done s n e h = record { lanes = h.lanes; nursery = h.nursery; superpages = h.superpages; stood = omega (arith, h.stood) }

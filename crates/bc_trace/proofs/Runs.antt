@@ -61,7 +61,7 @@ judge_word-range s (Some w) others says e = go (may_stand w s.stage (eqb s.stood
 
 judge_words-range : (s : Progress) (ws : List (List ℕ)) (says : Line) → judge_words s ws ≡ Ok says → in_range s says ≡ true
 judge_words-range s [] says e = absurd cc
-judge_words-range s (first ∷ others) says e = judge_word-range s (word_of first) others says e
+judge_words-range s (first ∷ others) says e = judge_word-range s (word_of s.version first) others says e
 
 pub line_at-range : (s : Progress) (line : List ℕ) (says : Line) → line_at s line ≡ Ok says → in_range s says ≡ true
 unfolding line_at

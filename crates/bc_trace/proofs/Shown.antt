@@ -55,6 +55,7 @@ reply_by a b c rest =
     else if a == 114 then (if b == 101 then replies.Ref else replies.Range)
     else if a == 108 then replies.Len (read_on 0 rest)
     else if a == 121 then replies.Yes
+    else if c == 111 then replies.Frozen
     else replies.Foreign
 
 abbrev reply_in : List ℕ → Reply
@@ -82,6 +83,7 @@ reply_in-word replies.No h = refl
 reply_in-word replies.NotObj h = refl
 reply_in-word replies.Range h = refl
 reply_in-word replies.Foreign h = refl
+reply_in-word replies.Frozen h = refl
 
 -- ---- a line
 
@@ -110,6 +112,7 @@ Lacks-word replies.No h = Lacks-known (codes "no") refl
 Lacks-word replies.NotObj h = Lacks-known (codes "notobj") refl
 Lacks-word replies.Range h = Lacks-known (codes "range") refl
 Lacks-word replies.Foreign h = Lacks-known (codes "foreign") refl
+Lacks-word replies.Frozen h = Lacks-known (codes "frozen") refl
 
 -- two texts are cut at their first line feed
 cut_alike : (c : ℕ) (xs ys a b : List ℕ) → Lacks c xs → Lacks c ys → xs ++ c ∷ a ≡ ys ++ c ∷ b → (xs ≡ ys) × (a ≡ b)
@@ -158,6 +161,7 @@ sort-reply replies.No a = refl
 sort-reply replies.NotObj a = refl
 sort-reply replies.Range a = refl
 sort-reply replies.Foreign a = refl
+sort-reply replies.Frozen a = refl
 
 sort-lane : (j : ℕ) (rs : List Reply) (a : List ℕ) → sort_of (lane_text j rs ++ a) ≡ 1
 unfolding lane_text

@@ -2,21 +2,22 @@
 use Rattle.std.specs.Prelude.{ℕ, ◌==◌, if◌then◌else◌, List, [], ◌∷◌, ◌++◌, map}
 use Rattle.bc_model.specs.Lists.{PhaseLists}
 use Rattle.bc_model.specs.declared.operations.Op.{Op}
-use Rattle.bc_model.specs.declared.traces.Give.{Give}
+use Rattle.bc_model.specs.declared.traces.Change.{Change}
+use Rattle.bc_model.specs.declared.traces.Change.TheVariants as changes
 use Rattle.bc_trace.specs.declared.draft.Draft.{Draft}
 use Rattle.bc_trace.specs.declared.grammar.Progress.{Progress}
-use Rattle.bc_trace.specs.Lines.{Line, turn, lane, op, give, end}
+use Rattle.bc_trace.specs.Lines.{Line, turn, lane, op, give, freeze, end}
 use Rattle.bc_trace.specs.Grammar.{start, after}
 
 -- the phases that were read, and what was read of the next one: its turns, the lanes before the
--- last one that was begun, that lane's operations, and its gives
+-- last one that was begun, that lane's operations, and its gives and freezes
 pub record DraftLists : Type 0 where
   pub progress : Progress
   pub phases : List PhaseLists
   pub turns : List (List ℕ)
   pub lanes : List (List Op)
   pub ops : List Op
-  pub gives : List Give
+  pub gives : List Change
 
 -- what contracts see of a draft
 abbrev pub shown : Draft → DraftLists
@@ -39,7 +40,8 @@ unfoldable pub put_lists : Line → DraftLists → DraftLists
 put_lists (turn hints) d = record d { turns = d.turns ++ hints ∷ [] }
 put_lists (lane j) d = if d.progress.stood == 0 then d else lanes_ended d
 put_lists (op o) d = record d { ops = d.ops ++ o ∷ [] }
-put_lists (give g) d = record d { gives = d.gives ++ g ∷ [] }
+put_lists (give g) d = record d { gives = d.gives ++ changes.Give g ∷ [] }
+put_lists (freeze domain) d = record d { gives = d.gives ++ changes.Freeze domain ∷ [] }
 put_lists end d = phase_ended d
 put_lists l d = d
 

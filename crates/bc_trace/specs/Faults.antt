@@ -12,7 +12,7 @@ use Rattle.bc_trace.specs.declared.grammar.Progress.{Progress}
 use Rattle.bc_trace.specs.declared.words.Keyword.{Keyword}
 use Rattle.bc_trace.specs.Words.{name}
 use Rattle.bc_trace.specs.Lines.{Line, word_of_line, operands, spelling, line_text}
-use Rattle.bc_trace.specs.Grammar.{start, MayStand, IsCount, InRange, FramesFit, after_all, Follow}
+use Rattle.bc_trace.specs.Grammar.{start, KnowsWord, MayStand, IsCount, InRange, FramesFit, after_all, Follow}
 
 -- what single spaces separate
 abbrev pub line_words : List ℕ → List (List ℕ)
@@ -27,9 +27,9 @@ IsWord (b ∷ bs) = AllByRecursion (IsWithin 33 126) (b ∷ bs)
 abbrev pub IsFormed : List ℕ → Type 0
 IsFormed line = AllByRecursion IsWord (line_words line)
 
--- the line begins with the word, and these are its operands
-abbrev pub BeginsWith : List ℕ → Keyword → List (List ℕ) → Type 0
-BeginsWith line w others = line_words line ≡ name w ∷ others
+-- the line begins with the word, which the version has, and these are its operands
+abbrev pub BeginsWith : Progress → List ℕ → Keyword → List (List ℕ) → Type 0
+BeginsWith s line w others = KnowsWord s.version w × (line_words line ≡ name w ∷ others)
 
 -- a number below 2^63, as numbers are written
 abbrev pub IsNumeral : List ℕ → Type 0
@@ -37,17 +37,17 @@ IsNumeral word = (n : ℕ) × IsNumber n × (word ≡ decimal n)
 
 -- Each of these says that one test fails, and that the tests before it pass.
 
--- the line is formed, and its first word is no word of the language
-pub record WordFails (line : List ℕ) : Type 0 where
+-- the line is formed, and its first word is no word of this version of the language
+pub record WordFails (s : Progress) (line : List ℕ) : Type 0 where
   pub formed : IsFormed line
-  pub unknown : (w : Keyword) (others : List (List ℕ)) → ¬ BeginsWith line w others
+  pub unknown : (w : Keyword) (others : List (List ℕ)) → ¬ BeginsWith s line w others
 
 -- the line begins with a word, and it may not stand here
 pub record OrderFails (s : Progress) (line : List ℕ) : Type 0 where
   pub formed : IsFormed line
   pub word : Keyword
   pub others : List (List ℕ)
-  pub begins : BeginsWith line word others
+  pub begins : BeginsWith s line word others
   pub order : ¬ MayStand s word
 
 -- the word may stand here, and has the wrong number of operands
@@ -55,7 +55,7 @@ pub record CountFails (s : Progress) (line : List ℕ) : Type 0 where
   pub formed : IsFormed line
   pub word : Keyword
   pub others : List (List ℕ)
-  pub begins : BeginsWith line word others
+  pub begins : BeginsWith s line word others
   pub stands : MayStand s word
   pub count : ¬ IsCount word (length others)
 
@@ -64,7 +64,7 @@ pub record NumberFails (s : Progress) (line : List ℕ) : Type 0 where
   pub formed : IsFormed line
   pub word : Keyword
   pub others : List (List ℕ)
-  pub begins : BeginsWith line word others
+  pub begins : BeginsWith s line word others
   pub stands : MayStand s word
   pub count : IsCount word (length others)
   pub number : ¬ AllByRecursion IsNumeral others
@@ -72,6 +72,7 @@ pub record NumberFails (s : Progress) (line : List ℕ) : Type 0 where
 -- the line is a word that may stand here, and so many numbers as it may have
 pub record IsReadable (s : Progress) (line : List ℕ) (l : Line) : Type 0 where
   pub text : line ≡ spelling (word_of_line l) (operands l)
+  pub known : KnowsWord s.version (word_of_line l)
   pub stands : MayStand s (word_of_line l)
   pub count : IsCount (word_of_line l) (length (operands l))
   pub numbers : AllByRecursion IsNumber (operands l)
@@ -92,7 +93,7 @@ pub record FramesFails (s : Progress) (line : List ℕ) : Type 0 where
 -- in this progress the first test that the line fails has this cause
 abbrev pub Fails : Progress → List ℕ → Cause → Type 0
 Fails s line causes.Form = ¬ IsFormed line ⊎ CountFails s line
-Fails s line causes.Word = WordFails line
+Fails s line causes.Word = WordFails s line
 Fails s line causes.Order = OrderFails s line
 Fails s line causes.Number = NumberFails s line
 Fails s line causes.Range = RangeFails s line

@@ -12,11 +12,11 @@ use Rattle.bc_trace.specs.declared.words.Setting.TheVariants as settings
 use Rattle.bc_trace.specs.declared.words.Verb.TheVariants as verbs
 use Rattle.bc_trace.specs.declared.words.Keyword.{Keyword}
 use Rattle.bc_trace.specs.declared.words.Keyword.TheVariants as words
-use Rattle.bc_trace.specs.Lines.{Line, version, setting, phase, turn, lane, op, give, end, done, word_of_line, operands}
+use Rattle.bc_trace.specs.Lines.{Line, version, setting, phase, turn, lane, op, give, freeze, end, done, word_of_line, operands}
 
 -- before the first line
 abbrev pub start : Progress
-start = record { stage = stages.Start; setup = record { lanes = 0; domains = 0; slots = 0; superpages = 0; nursery = 0; buffer = 0; frames = 0 }; stood = 0 }
+start = record { version = 0; stage = stages.Start; setup = record { lanes = 0; domains = 0; slots = 0; superpages = 0; nursery = 0; buffer = 0; frames = 0 }; stood = 0 }
 
 -- two words of the header are the same
 unfoldable pub same_setting : Setting → Setting → Bool
@@ -29,7 +29,7 @@ same_setting settings.Buffer settings.Buffer = true
 same_setting settings.Frames settings.Frames = true
 same_setting _ _ = false
 
--- the header's lines stand in one order; in a phase the turns come first, then all lanes, then the gives
+-- the header's lines stand in one order; in a phase the turns come first, then all lanes, then gives and freezes
 unfoldable pub may_stand : Keyword → Stage → Bool → Bool
 may_stand words.Version stages.Start all = true
 may_stand (words.Setting k) (stages.Awaiting awaited) all = same_setting k awaited
@@ -41,6 +41,8 @@ may_stand words.Lane stages.Ops all = not all
 may_stand (words.Op v) stages.Ops all = true
 may_stand words.Give stages.Ops all = all
 may_stand words.Give stages.Gives all = true
+may_stand words.Freeze stages.Ops all = all
+may_stand words.Freeze stages.Gives all = true
 may_stand words.End stages.Ops all = all
 may_stand words.End stages.Gives all = true
 may_stand _ _ all = false
@@ -48,6 +50,11 @@ may_stand _ _ all = false
 -- the word may stand next; all lanes have stood where as many have stood as there are lanes
 abbrev pub MayStand : Progress → Keyword → Type 0
 MayStand s w = may_stand w s.stage (s.stood == s.setup.lanes) ≡ true
+
+-- the words of a version of the language; before its line was read they are those of version 1
+abbrev pub KnowsWord : ℕ → Keyword → Type 0
+KnowsWord n words.Freeze = 2 ≤ n
+KnowsWord n w = ⊤
 
 -- how many numbers follow a word other than `turn`
 unfoldable pub arity : Keyword → ℕ
@@ -57,6 +64,7 @@ arity words.Phase = 0
 arity words.Turn = 0
 arity words.Lane = 1
 arity words.Give = 2
+arity words.Freeze = 1
 arity words.End = 0
 arity words.Done = 0
 arity (words.Op verbs.New) = 3
@@ -77,7 +85,7 @@ IsCount w n = n ≡ arity w
 
 -- the numbers are in their ranges, that of frames aside
 abbrev pub InRange : Progress → Line → Type 0
-InRange s (version n) = n ≡ 1
+InRange s (version n) = IsWithin 1 2 n
 InRange s (setting settings.Lanes n) = IsWithin 1 16 n
 InRange s (setting settings.Domains n) = IsWithin 1 64 n
 InRange s (setting settings.Slots n) = IsWithin 1 256 n
@@ -90,6 +98,7 @@ InRange s (turn hints) = AllByRecursion (λ h. h < 2 ^ 32) hints
 InRange s (lane j) = j ≡ s.stood
 InRange s (op o) = IsOp s.setup o
 InRange s (give g) = IsGive s.setup g
+InRange s (freeze d) = d < s.setup.domains
 InRange s end = ⊤
 InRange s done = ⊤
 
@@ -100,6 +109,7 @@ FramesFit s l = ⊤
 
 -- the line may stand next, and says what it may say
 pub record Passes (s : Progress) (l : Line) : Type 0 where
+  pub known : KnowsWord s.version (word_of_line l)
   pub stands : MayStand s (word_of_line l)
   pub count : IsCount (word_of_line l) (length (operands l))
   pub numbers : AllByRecursion IsNumber (operands l)
@@ -128,13 +138,14 @@ with_setting settings.Frames n s = record s { frames = n }
 
 -- how far the lines have come after one more
 abbrev pub after : Line → Progress → Progress
-after (version n) s = record s { stage = stages.Awaiting settings.Lanes }
+after (version n) s = record s { version = n; stage = stages.Awaiting settings.Lanes }
 after (setting k n) s = record s { stage = stage_after_setting k; setup = with_setting k n s.setup }
 after phase s = record s { stage = stages.Turns; stood = 0 }
 after (turn hints) s = record s { stage = stages.Turns }
 after (lane j) s = record s { stage = stages.Ops; stood = s.stood + 1 }
 after (op o) s = record s { stage = stages.Ops }
 after (give g) s = record s { stage = stages.Gives }
+after (freeze d) s = record s { stage = stages.Gives }
 after end s = record s { stage = stages.Phases }
 after done s = record s { stage = stages.Finished }
 

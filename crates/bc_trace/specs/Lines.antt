@@ -7,6 +7,8 @@ use Rattle.bc_model.specs.Lists.{PhaseLists, TraceLists}
 use Rattle.bc_model.specs.WellFormed.{IsTrace}
 use Rattle.bc_model.specs.declared.operations.Op.{Op}
 use Rattle.bc_model.specs.declared.operations.Op.TheVariants as ops
+use Rattle.bc_model.specs.declared.traces.Change.{Change}
+use Rattle.bc_model.specs.declared.traces.Change.TheVariants as changes
 use Rattle.bc_model.specs.declared.traces.Give.{Give}
 use Rattle.bc_model.specs.declared.traces.Setup.{Setup}
 use Rattle.bc_trace.specs.declared.words.Setting.{Setting}
@@ -26,6 +28,7 @@ pub data Line : Type 0 where
   lane : ℕ → Line
   op : Op → Line
   give : Give → Line
+  freeze : ℕ → Line
   end : Line
   done : Line
 
@@ -64,6 +67,7 @@ word_of_line (turn hints) = words.Turn
 word_of_line (lane j) = words.Lane
 word_of_line (op o) = words.Op (verb_of_op o)
 word_of_line (give g) = words.Give
+word_of_line (freeze d) = words.Freeze
 word_of_line end = words.End
 word_of_line done = words.Done
 
@@ -76,6 +80,7 @@ operands (turn hints) = hints
 operands (lane j) = j ∷ []
 operands (op o) = operands_of_op o
 operands (give g) = g.domain ∷ g.lane ∷ []
+operands (freeze d) = d ∷ []
 operands end = []
 operands done = []
 
@@ -96,13 +101,18 @@ abbrev pub lane_lines : ℕ → List (List Op) → List Line
 lane_lines j [] = []
 lane_lines j (os ∷ lanes) = lane j ∷ (map op os ++ lane_lines (suc j) lanes)
 
+-- a domain changes hands, or is frozen
+abbrev pub change_line : Change → Line
+change_line (changes.Give g) = give g
+change_line (changes.Freeze d) = freeze d
+
 -- the lines of a phase
 abbrev pub phase_lines : PhaseLists → List Line
-phase_lines p = phase ∷ (map turn p.turns ++ (lane_lines 0 p.lanes ++ (map give p.gives ++ end ∷ [])))
+phase_lines p = phase ∷ (map turn p.turns ++ (lane_lines 0 p.lanes ++ (map change_line p.gives ++ end ∷ [])))
 
 -- the lines of a trace
 abbrev pub trace_lines : TraceLists → List Line
-trace_lines t = version 1 ∷ (setup_lines t.setup ++ (flat_map phase_lines t.phases ++ done ∷ []))
+trace_lines t = version t.version ∷ (setup_lines t.setup ++ (flat_map phase_lines t.phases ++ done ∷ []))
 
 -- the one text of a trace
 unfoldable pub trace_text : TraceLists → List ℕ

@@ -21,7 +21,7 @@ use Rattle.bc_trace.specs.declared.words.Verb.TheVariants as verbs
 use Rattle.bc_trace.specs.declared.words.Keyword.{Keyword}
 use Rattle.bc_trace.specs.declared.words.Keyword.TheVariants as words
 use Rattle.bc_trace.specs.Words.{setting_name, verb_name, name}
-use Rattle.bc_trace.specs.Lines.{Line, version, setting, phase, turn, lane, op, give, end, done}
+use Rattle.bc_trace.specs.Lines.{Line, version, setting, phase, turn, lane, op, give, freeze, end, done}
 use Rattle.bc_trace.specs.Grammar.{may_stand, arity}
 use Rattle.bc_trace.specs.Drafts.{DraftLists, empty_draft, put}
 use Rattle.bc_trace.specs.Faults.{line_words, lines_begun}
@@ -64,9 +64,13 @@ all_verbs = verbs.New ∷ verbs.Link ∷ verbs.Load ∷ verbs.Copy ∷ verbs.Set
 abbrev pub all_settings : List Setting
 all_settings = settings.Lanes ∷ settings.Domains ∷ settings.Slots ∷ settings.Superpages ∷ settings.Nursery ∷ settings.Buffer ∷ settings.Frames ∷ []
 
--- the words of the language that are neither an operation's nor the header's
+-- the words of every version that are neither an operation's nor the header's
 abbrev pub all_others : List Keyword
 all_others = words.Turn ∷ words.Lane ∷ words.Give ∷ words.Phase ∷ words.End ∷ words.Done ∷ words.Version ∷ []
+
+-- the words that a version has besides
+abbrev pub later_words : ℕ → List Keyword
+later_words v = if nat_le 2 v then words.Freeze ∷ [] else []
 
 -- the first of two words that is there
 abbrev pub or_word : Option Keyword → Option Keyword → Option Keyword
@@ -83,9 +87,9 @@ abbrev pub setting_word : Option Setting → Option Keyword
 setting_word None = None
 setting_word (Some s) = Some (words.Setting s)
 
--- the word of the language that is written so
-unfoldable pub word_of : List ℕ → Option Keyword
-word_of bytes = or_word (op_word (named verb_name all_verbs bytes)) (or_word (named name all_others bytes) (setting_word (named setting_name all_settings bytes)))
+-- the word of this version of the language that is written so
+unfoldable pub word_of : ℕ → List ℕ → Option Keyword
+word_of v bytes = or_word (op_word (named verb_name all_verbs bytes)) (or_word (named name all_others bytes) (or_word (setting_word (named setting_name all_settings bytes)) (named name (later_words v) bytes)))
 
 -- ---- numbers
 
@@ -151,6 +155,7 @@ line_of words.Phase ns = phase
 line_of words.Turn ns = turn ns
 line_of words.Lane ns = lane (slice_index ns 0)
 line_of words.Give ns = give (give_at ns)
+line_of words.Freeze ns = freeze (slice_index ns 0)
 line_of words.End ns = end
 line_of words.Done ns = done
 line_of (words.Op v) ns = op (op_of v ns)
@@ -189,13 +194,14 @@ is_setting k n = is_within 1 (most_of k) n
 
 -- the operands of a line are in their ranges
 unfoldable pub in_range : Progress → Line → Bool
-in_range s (version n) = n == 1
+in_range s (version n) = is_within 1 2 n
 in_range s (setting k n) = is_setting k n
 in_range s phase = true
 in_range s (turn hints) = list_all (λ h. nat_lt h (2 ^ 32)) hints
 in_range s (lane j) = j == s.stood
 in_range s (op o) = is_op s.setup o
 in_range s (give g) = nat_lt g.domain s.setup.domains && nat_lt g.lane s.setup.lanes
+in_range s (freeze d) = nat_lt d s.setup.domains
 in_range s end = true
 in_range s done = true
 
@@ -231,7 +237,7 @@ judge_word s (Some w) others = if may_stand w s.stage (s.stood == s.setup.lanes)
 -- what the words of a line say, or their fault
 abbrev pub judge_words : Progress → List (List ℕ) → Result Line Cause
 judge_words s [] = Err causes.Form
-judge_words s (first ∷ others) = judge_word s (word_of first) others
+judge_words s (first ∷ others) = judge_word s (word_of s.version first) others
 
 -- what a line says, or its fault
 unfoldable pub line_at : Progress → List ℕ → Result Line Cause
@@ -249,7 +255,7 @@ fault line cause = record { line = line; cause = cause }
 
 -- the trace that a draft has read
 abbrev pub trace_of_draft : DraftLists → TraceLists
-trace_of_draft d = record { setup = d.progress.setup; phases = d.phases }
+trace_of_draft d = record { version = d.progress.version; setup = d.progress.setup; phases = d.phases }
 
 -- what the text is where it ends after n whole lines and the rest
 abbrev pub ended_at : Stage → DraftLists → ℕ → List ℕ → Result TraceLists TraceFault

@@ -19,6 +19,7 @@ reply_word replies.No = codes "no"
 reply_word replies.NotObj = codes "notobj"
 reply_word replies.Range = codes "range"
 reply_word replies.Foreign = codes "foreign"
+reply_word replies.Frozen = codes "frozen"
 
 -- the line of a reply
 abbrev pub reply_text : Reply → List ℕ

@@ -6,18 +6,19 @@ use Rattle.bc_trace.specs.declared.fault.Cause.{Cause}
 use Rattle.bc_trace.specs.declared.grammar.Progress.{Progress}
 use Rattle.bc_trace.specs.declared.line.Line.{Line as ReadLine}
 use Rattle.bc_trace.specs.declared.line.Line.TheVariants as lines
-use Rattle.bc_trace.specs.Lines.{Line, version, setting, phase, turn, lane, op, give, end, done, line_text}
+use Rattle.bc_trace.specs.Lines.{Line, version, setting, phase, turn, lane, op, give, freeze, end, done, line_text}
 use Rattle.bc_trace.specs.Grammar.{Passes}
 
 -- by the numbers of the buffer
 abbrev pub said : ReadLine → List ℕ → Line
-said lines.Version ns = version 1
+said (lines.Version n) ns = version n
 said (lines.Setting k n) ns = setting k n
 said lines.Phase ns = phase
 said (lines.Turn count) ns = turn (take count ns)
 said (lines.Lane j) ns = lane j
 said (lines.Op o) ns = op o
 said (lines.Give g) ns = give g
+said (lines.Freeze d) ns = freeze d
 said lines.End ns = end
 said lines.Done ns = done
 

@@ -39,6 +39,7 @@ name words.Phase = codes "phase"
 name words.Turn = codes "turn"
 name words.Lane = codes "lane"
 name words.Give = codes "give"
+name words.Freeze = codes "freeze"
 name words.End = codes "end"
 name words.Done = codes "done"
 name (words.Op v) = verb_name v

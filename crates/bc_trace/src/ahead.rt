@@ -135,7 +135,7 @@ pub fn turn_word_ahead(text: &[u8]) -> Option<&[u8]>
     }
 }
 
-/// The word of a phase's other lines that the text begins with, and what follows it.
+/// The word of a phase's other lines that the text begins with, `freeze` aside, and what follows it.
 #[inline(always)]
 #[tactic(auto, unfolding(crate::specs::Words::name))]
 pub fn word_ahead(text: &[u8]) -> Option<(Keyword, &[u8])>

@@ -13,13 +13,16 @@ use crate::line::Line;
 use crate::words::{Keyword, Setting, Verb};
 use bc_model::{Give, Op, Setup, Slot};
 
+/// The latest version of the language.
+const LATEST: u64 = 2;
+
 /// How many numbers follow the word, `turn` aside.
 #[tactic(auto, unfolding(crate::specs::Grammar::arity))]
 fn arity(word: Keyword) -> usize
     ensures { result ≡ arity word }
 {
     match word {
-        Keyword::Version | Keyword::Setting(_) | Keyword::Lane => 1,
+        Keyword::Version | Keyword::Setting(_) | Keyword::Lane | Keyword::Freeze => 1,
         Keyword::Phase | Keyword::Turn | Keyword::End | Keyword::Done => 0,
         Keyword::Give => 2,
         Keyword::Op(verb) => match verb {
@@ -174,8 +177,8 @@ pub fn line_of(progress: &Progress, word: Keyword, numbers: &[u64]) -> Result<Li
 {
     match word {
         Keyword::Version => {
-            if numbers[0] == 1 {
-                Ok(Line::Version)
+            if 1 <= numbers[0] && numbers[0] <= LATEST {
+                Ok(Line::Version(numbers[0] as u32))
             } else {
                 Err(Cause::Range)
             }
@@ -198,6 +201,10 @@ pub fn line_of(progress: &Progress, word: Keyword, numbers: &[u64]) -> Result<Li
         }
         Keyword::Give => match give_of(&progress.setup, numbers) {
             Some(give) => Ok(Line::Give(give)),
+            None => Err(Cause::Range),
+        },
+        Keyword::Freeze => match below(numbers[0], progress.setup.domains) {
+            Some(domain) => Ok(Line::Freeze(domain)),
             None => Err(Cause::Range),
         },
         Keyword::End => Ok(Line::End),

@@ -9,7 +9,7 @@ ghost use Rattle.bc_trace.specs.Said.{said, FitsBuffer, AreHints};
 use crate::grammar::Progress;
 use crate::line::Line;
 use crate::operations::{op_ahead, turn_ahead};
-use bc_model::{Give, Op, Phase};
+use bc_model::{Change, Op, Phase};
 use std::alloc::{AllocError, Global};
 use std::mem;
 
@@ -28,8 +28,8 @@ pub struct Draft {
     pub lanes: Vec<Vec<Op>>,
     /// The operations of that lane.
     pub ops: Vec<Op>,
-    /// Its gives.
-    pub gives: Vec<Give>,
+    /// The gives and freezes of the phase.
+    pub gives: Vec<Change>,
 }
 
 impl Draft {
@@ -80,7 +80,7 @@ impl Draft {
         ensures { OnOk result (shown self.new ≡ put (said line numbers.now) (shown self.old)) }
     {
         match line {
-            Line::Version | Line::Setting(_, _) | Line::Phase | Line::Done => {}
+            Line::Version(_) | Line::Setting(_, _) | Line::Phase | Line::Done => {}
             Line::Turn(count) => self.turns.push(hints(alloc, &numbers[..count])?)?,
             Line::Lane(_) => {
                 if self.progress.stood == 0 {
@@ -91,7 +91,8 @@ impl Draft {
                 }
             }
             Line::Op(op) => self.ops.push(op)?,
-            Line::Give(give) => self.gives.push(give)?,
+            Line::Give(give) => self.gives.push(Change::Give(give))?,
+            Line::Freeze(domain) => self.gives.push(Change::Freeze(domain))?,
             Line::End => self.end_phase(alloc)?,
         }
         self.progress.advance(line);

@@ -10,7 +10,7 @@ use std::fmt::{self, Display, Formatter, Write};
 pub enum Cause {
     /// The line isn't words with single spaces between them, or has too few or too many operands.
     Form,
-    /// The line begins with no word of the language.
+    /// The line begins with no word of the language, in the version that the first line says.
     Word,
     /// The word may not stand here, or something follows `done`.
     Order,

@@ -20,7 +20,7 @@ pub enum Stage {
     Turns,
     /// In a phase, at a lane's operations.
     Ops,
-    /// In a phase, after its first give.
+    /// In a phase, after its first give or freeze.
     Gives,
     /// After `done`.
     Finished,
@@ -29,6 +29,8 @@ pub enum Stage {
 /// What the lines so far say about which line may stand next, and what it may say.
 #[derive(Clone, Copy, Debug)]
 pub struct Progress {
+    /// The version of the language; 0 before its line was read.
+    pub version: u32,
     pub stage: Stage,
     /// The header's numbers; 0 where they weren't read yet.
     pub setup: Setup,
@@ -42,6 +44,7 @@ impl Progress {
         ensures { result ≡ start }
     {
         Progress {
+            version: 0,
             stage: Stage::Start,
             setup: Setup {
                 lanes: 0,
@@ -77,7 +80,7 @@ impl Progress {
                 _ => false,
             },
             Keyword::Op(_) => matches!(self.stage, Stage::Ops),
-            Keyword::Give | Keyword::End => match self.stage {
+            Keyword::Give | Keyword::Freeze | Keyword::End => match self.stage {
                 Stage::Ops => all_stood,
                 Stage::Gives => true,
                 _ => false,
@@ -92,7 +95,10 @@ impl Progress {
         ensures { (ns : List ℕ) → self.new ≡ after (said line ns) self.old }
     {
         match line {
-            Line::Version => self.stage = Stage::Awaiting(Setting::Lanes),
+            Line::Version(version) => {
+                self.version = version;
+                self.stage = Stage::Awaiting(Setting::Lanes);
+            }
             Line::Setting(setting, number) => {
                 self.stage = behind(setting);
                 set(&mut self.setup, setting, number);
@@ -107,7 +113,7 @@ impl Progress {
                 self.stood += 1;
             }
             Line::Op(_) => self.stage = Stage::Ops,
-            Line::Give(_) => self.stage = Stage::Gives,
+            Line::Give(_) | Line::Freeze(_) => self.stage = Stage::Gives,
             Line::End => self.stage = Stage::Phases,
             Line::Done => self.stage = Stage::Finished,
         }

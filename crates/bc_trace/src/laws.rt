@@ -1,17 +1,19 @@
 //! What the definitions say together: functions that do nothing, whose contracts are the laws.
 ghost use Rattle.std.specs.List.{AllByRecursion};
-ghost use Rattle.std.specs.Prelude.{◌≡◌, ◌⊎◌, ◌↔◌, ◌++◌, ◌<◌, ◌^◌, ℕ, List};
+ghost use Rattle.std.specs.Prelude.{◌≡◌, ◌⊎◌, ◌↔◌, ◌++◌, ◌<◌, ◌^◌, ◌∷◌, ℕ, List};
 ghost use Rattle.bc_model.specs.Lists.{TraceLists};
 ghost use Rattle.bc_model.specs.Run.{replies_of, replies_of_cut};
 ghost use Rattle.bc_model.specs.RunLengths.{all_ops_of};
 ghost use Rattle.bc_model.specs.WellFormed.{IsTrace};
 ghost use Rattle.bc_model.specs.declared.operations.Reply.{Reply};
 ghost use Rattle.bc_trace.specs.declared.fault.Cause.{Cause};
+ghost use Rattle.bc_trace.specs.declared.grammar.Progress.{Progress};
 ghost use Rattle.bc_trace.specs.declared.words.Keyword.{Keyword};
 ghost use Rattle.bc_trace.specs.Lines.{Line, trace_text, Spells};
-ghost use Rattle.bc_trace.specs.Grammar.{start, MayStand, after_all, Follow};
+ghost use Rattle.bc_trace.specs.Grammar.{start, KnowsWord, MayStand, after_all, Follow};
 ghost use Rattle.bc_trace.specs.Fronts.{Begins, GoesOnWith};
-ghost use Rattle.bc_trace.specs.Faults.{Fault};
+ghost use Rattle.bc_trace.specs.Faults.{line_words, IsFormed, Fails, Fault};
+ghost use Rattle.bc_trace.specs.Words.{name};
 ghost use Rattle.bc_trace.specs.Replies.{reply_text, phase_text, phases_text, out_of_heap_text};
 ghost use Rattle.bc_trace.specs.ReplyRanges.{FitsReply, FitsPhase, IsLastLine};
 
@@ -38,9 +40,15 @@ pub fn law_first_lines()
     ensures { (lines : List Line) → Follow start lines ↔ Begins lines }
 {}
 
-/// A word may follow lines that pass exactly where some well-formed trace goes on with it.
+/// A word may follow lines that pass, and is one of their version's, exactly where some well-formed trace goes on with it.
 pub fn law_next_word()
-    ensures { (before : List Line) (w : Keyword) → Follow start before → (MayStand (after_all start before) w ↔ GoesOnWith before w) }
+    ensures { (before : List Line) (w : Keyword) → Follow start before → ((KnowsWord (after_all start before).version w × MayStand (after_all start before) w) ↔ GoesOnWith before w) }
+{}
+
+/// In version 1, and before the first line was read, `freeze` is no word of the language.
+pub fn law_first_version()
+    ensures { (s : Progress) (line : List ℕ) (others : List (List ℕ)) → s.version < 2 → IsFormed line
+        → line_words line ≡ name Keyword.Freeze ∷ others → Fails s line Cause.Word }
 {}
 
 /// A line shows its reply, the text of a phase the replies of each lane, a whole output those of each phase and how it ends,

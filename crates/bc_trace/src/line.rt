@@ -6,7 +6,7 @@ use bc_model::{Give, Op};
 /// What a line says. The hints of a turn lie apart, in a buffer.
 #[derive(Clone, Copy, Debug)]
 pub enum Line {
-    Version,
+    Version(u32),
     Setting(Setting, u32),
     Phase,
     /// So many numbers of the buffer are the hints.
@@ -14,6 +14,7 @@ pub enum Line {
     Lane(u32),
     Op(Op),
     Give(Give),
+    Freeze(u32),
     End,
     Done,
 }

@@ -34,7 +34,7 @@ fn line_at(progress: &Progress, line: &[u8], operands: &mut [u64; 64]) -> Result
         return Err(Cause::Form);
     }
     let (first, rest) = first_word(line);
-    let word = match word_of(first) {
+    let word = match word_of(progress.version, first) {
         Some(word) => word,
         None => return Err(Cause::Word),
     };
@@ -60,11 +60,12 @@ fn end(draft: Draft, lines: u32, rest: &[u8]) -> Result<Trace, ReadTrace>
     requires { lines + length rest.now < 2 ^ 32 }
     ensures { Gives result (ended (shown draft) lines rest.now) }
 {
-    let setup = draft.progress.setup;
+    let Progress { version, setup, .. } = draft.progress;
     let done = matches!(draft.progress.stage, Stage::Finished);
     let begun = if rest.is_empty() { 0 } else { 1 };
     if done && rest.is_empty() {
         return Ok(Trace {
+            version,
             setup,
             phases: draft.phases,
         });

@@ -48,6 +48,7 @@ fn put_word(out: &mut Vec<u8>, reply: &Reply)
         Reply::NotObj => put(out, b"notobj"),
         Reply::Range => put(out, b"range"),
         Reply::Foreign => put(out, b"foreign"),
+        Reply::Frozen => put(out, b"frozen"),
     }
 }
 

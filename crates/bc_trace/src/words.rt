@@ -1,7 +1,7 @@
-//! The 24 words that a line may begin with.
+//! The 25 words that a line may begin with, of which version 1 has 24.
 ghost use Rattle.std.specs.Prelude.{◌≡◌};
 ghost use Rattle.bc_trace.specs.Words.{setting_name, verb_name, name};
-ghost use Rattle.bc_trace.specs.Reading.{all_verbs, all_settings, all_others, named, word_of};
+ghost use Rattle.bc_trace.specs.Reading.{all_verbs, all_settings, all_others, later_words, named, word_of};
 
 /// A line of the header below the first one.
 #[derive(Clone, Copy, Debug, PartialEq, Eq)]
@@ -40,6 +40,8 @@ pub enum Keyword {
     Turn,
     Lane,
     Give,
+    /// From version 2 on.
+    Freeze,
     End,
     Done,
     Op(Verb),
@@ -99,7 +101,7 @@ fn setting_of(word: &[u8]) -> Option<Setting>
     }
 }
 
-/// The other word that is written so.
+/// The other word of every version that is written so.
 #[tactic(auto, unfolding(crate::specs::Words::name))]
 fn other_of(word: &[u8]) -> Option<Keyword>
     ensures { result ≡ named name all_others word.now }
@@ -123,10 +125,22 @@ fn other_of(word: &[u8]) -> Option<Keyword>
     }
 }
 
-/// The word of the language that is written so.
+/// The word that later versions have, and that is written so.
+#[tactic(auto, unfolding(crate::specs::Words::name))]
+fn later_of(version: u32, word: &[u8]) -> Option<Keyword>
+    ensures { result ≡ named name (later_words version) word.now }
+{
+    if version >= 2 && word == b"freeze".as_slice() {
+        Some(Keyword::Freeze)
+    } else {
+        None
+    }
+}
+
+/// The word of this version of the language that is written so.
 #[tactic(auto, unfolding(crate::specs::Reading::word_of))]
-pub fn word_of(word: &[u8]) -> Option<Keyword>
-    ensures { result ≡ word_of word.now }
+pub fn word_of(version: u32, word: &[u8]) -> Option<Keyword>
+    ensures { result ≡ word_of version word.now }
 {
     if let Some(verb) = verb_of(word) {
         return Some(Keyword::Op(verb));
@@ -134,7 +148,10 @@ pub fn word_of(word: &[u8]) -> Option<Keyword>
     if let Some(other) = other_of(word) {
         return Some(other);
     }
-    setting_of(word).map(Keyword::Setting)
+    if let Some(setting) = setting_of(word) {
+        return Some(Keyword::Setting(setting));
+    }
+    later_of(version, word)
 }
 
 impl Verb {
@@ -189,6 +206,7 @@ impl Keyword {
             Keyword::Turn => b"turn",
             Keyword::Lane => b"lane",
             Keyword::Give => b"give",
+            Keyword::Freeze => b"freeze",
             Keyword::End => b"end",
             Keyword::Done => b"done",
             Keyword::Op(verb) => verb.name(),

@@ -3,11 +3,11 @@ ghost use Rattle.std.specs.Prelude.{◌≡◌, ◌++◌, [], ◌∷◌, map, OnO
 ghost use Rattle.std.specs.List.{flat_map};
 ghost use Rattle.std.specs.Fmt.{decimal};
 ghost use Rattle.bc_model.specs.WellFormed.{IsTrace};
-ghost use Rattle.bc_trace.specs.Lines.{setting as setting_line, turn as turn_line, lane as lane_line, op as op_line, give as give_line, setup_lines, lane_lines, phase_lines, trace_text, spelling, line_text};
+ghost use Rattle.bc_trace.specs.Lines.{setting as setting_line, turn as turn_line, lane as lane_line, op as op_line, change_line, setup_lines, lane_lines, phase_lines, trace_text, spelling, line_text};
 
 use crate::rooms::put_number;
 use crate::words::{Keyword, Setting, Verb};
-use bc_model::{Give, Op, Phase, Setup, Slot, Trace};
+use bc_model::{Change, Op, Phase, Setup, Slot, Trace};
 use std::alloc::{AllocError, Global};
 
 /// Puts the number at the end, in decimal.
@@ -158,20 +158,27 @@ fn push_turns(out: &mut Vec<u8>, turns: &[Vec<u32>]) -> Result<(), AllocError>
     Ok(())
 }
 
-/// Puts the line of a give at the end.
+/// Puts the line of a give or a freeze at the end.
 #[tactic(auto, unfolding(crate::specs::Lines::line_text))]
-fn push_give(out: &mut Vec<u8>, give: &Give) -> Result<(), AllocError>
-    ensures { OnOk result (out.new.items ≡ out.old.items ++ line_text (give_line give.now)) }
+fn push_change(out: &mut Vec<u8>, change: &Change) -> Result<(), AllocError>
+    ensures { OnOk result (out.new.items ≡ out.old.items ++ line_text (change_line change.now)) }
 {
-    push_line(out, Keyword::Give, &[give.domain as u64, give.lane as u64])
+    match *change {
+        Change::Give(give) => push_line(
+            out,
+            Keyword::Give,
+            &[give.domain as u64, give.lane as u64],
+        ),
+        Change::Freeze(domain) => push_line(out, Keyword::Freeze, &[domain as u64]),
+    }
 }
 
-/// Puts the lines of all gives at the end.
-fn push_gives(out: &mut Vec<u8>, gives: &[Give]) -> Result<(), AllocError>
-    ensures { OnOk result (out.new.items ≡ out.old.items ++ flat_map line_text (map give_line gives.now)) }
+/// Puts the lines of all gives and freezes at the end.
+fn push_changes(out: &mut Vec<u8>, changes: &[Change]) -> Result<(), AllocError>
+    ensures { OnOk result (out.new.items ≡ out.old.items ++ flat_map line_text (map change_line changes.now)) }
 {
-    for give in gives {
-        push_give(out, give)?;
+    for change in changes {
+        push_change(out, change)?;
     }
     Ok(())
 }
@@ -183,7 +190,7 @@ fn push_phase(out: &mut Vec<u8>, phase: &Phase) -> Result<(), AllocError>
     push_line(out, Keyword::Phase, &[])?;
     push_turns(out, &phase.turns)?;
     push_lanes(out, &phase.lanes)?;
-    push_gives(out, &phase.gives)?;
+    push_changes(out, &phase.gives)?;
     push_line(out, Keyword::End, &[])?;
     Ok(())
 }
@@ -194,7 +201,7 @@ pub fn write(alloc: Global, trace: &Trace) -> Result<Vec<u8>, AllocError>
     ensures { IfOk result (λ text. text.items ≡ trace_text trace.now) }
 {
     let mut text = Vec::new(alloc);
-    push_line(&mut text, Keyword::Version, &[1])?;
+    push_line(&mut text, Keyword::Version, &[trace.version as u64])?;
     push_setup(&mut text, &trace.setup)?;
     for phase in &trace.phases {
         push_phase(&mut text, phase)?;

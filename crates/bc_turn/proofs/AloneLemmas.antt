@@ -4,6 +4,7 @@ use Rattle.std.proofs.lemmas.List.{get_or_push, length_push}
 use Rattle.bc_bookmarks.specs.Summarised.{IsSummarised}
 use Rattle.bc_lane.specs.Back.{all_back, heap_back}
 use Rattle.bc_lane.proofs.BackLemmas.{back-layout, back-moves}
+use Rattle.bc_model.specs.declared.values.Holder.{Holder}
 use Rattle.bc_pager.specs.Answering.{AreAnswered}
 use Rattle.bc_pager.specs.declared.answers.Answer.{Answer}
 use Rattle.bc_pins.specs.Calls.{CountsFetches, key_of, view_of}
@@ -53,7 +54,7 @@ lies-from-back s t summarised lies =
     }
 
 -- the only seat is the pager's
-module _ (pins : Pins) (h : HeapView) (hs : List ℕ) (seats : List Seat) (pager : Seat) (opened : Opened h.space Lanes hs (turn_roles []) pins (seats ++ pager ∷ [])) where
+module _ (pins : Pins) (h : HeapView) (hs : List Holder) (seats : List Seat) (pager : Seat) (opened : Opened h.space Lanes hs (turn_roles []) pins (seats ++ pager ∷ [])) where
   none-else : seats ≡ []
   none-else = let all = opened.seats_are.long in let long = length_push seats pager in no-items seats (omega arith)
 

@@ -1,6 +1,7 @@
 -- A heap after a turn: lanes can run on, and it stands for the same.
 use Rattle.std.proofs.Common.{◌≡◌, ℕ, ◌⊎◌, ◌<◌, List, length, get_or, sym, subst}
 use Rattle.bc_model.specs.State.{State}
+use Rattle.bc_model.specs.declared.values.Holder.{Holder}
 use Rattle.bc_nursery.specs.Survivors.{entry_at}
 use Rattle.bc_reach.specs.Distinct.{Has}
 use Rattle.bc_superpages.specs.declared.headers.PageState.TheVariants.{Remembered}
@@ -40,7 +41,7 @@ noted-back : (h k : HeapView) → IsLaidBack h k → AreNoted h k.roots.noted
 noted-back h k back =
     subst (λ (x : HeapView). AreNoted x x.roots.noted → AreNoted h x.roots.noted) (sym (back-is h k back)) (λ noted. noted) back.noted
 
-closed-laid : (h : HeapView) (t : Layout) (noted : List ℕ) (hs : List ℕ) → ((p : ℕ) → state_at h.space.states p ≡ Remembered → state_at t.states p ≡ Remembered) → AreNoted h noted → IsClosedHeap h hs → IsClosedHeap (laid h t noted) hs
+closed-laid : (h : HeapView) (t : Layout) (noted : List ℕ) (hs : List Holder) → ((p : ℕ) → state_at h.space.states p ≡ Remembered → state_at t.states p ≡ Remembered) → AreNoted h noted → IsClosedHeap h hs → IsClosedHeap (laid h t noted) hs
 closed-laid h t noted hs still notes c = record {
   lanes = c.lanes;
   domains = c.domains;
@@ -56,7 +57,7 @@ closed-laid h t noted hs still notes c = record {
       record { object = e.object; there = e.there; field = e.field; held = e.held; remembered = still (page_of (entry_at (buffer_of h.buffers l) i).0.0) e.remembered };
 }
 
-running-laid : (h : HeapView) (t : Layout) (noted : List ℕ) (hs : List ℕ) → IsSummarised (moved h.space t) → ((p : ℕ) → state_at h.space.states p ≡ Remembered → state_at t.states p ≡ Remembered) → AreNoted h noted → IsRunning h hs → IsRunning (laid h t noted) hs
+running-laid : (h : HeapView) (t : Layout) (noted : List ℕ) (hs : List Holder) → IsSummarised (moved h.space t) → ((p : ℕ) → state_at h.space.states p ≡ Remembered → state_at t.states p ≡ Remembered) → AreNoted h noted → IsRunning h hs → IsRunning (laid h t noted) hs
 running-laid h t noted hs summarised still notes run = record {
   summarised = summarised;
   none_promised = run.none_promised;
@@ -65,7 +66,7 @@ running-laid h t noted hs summarised still notes run = record {
   closed = closed-laid h t noted hs still notes run.closed;
 }
 
-stands-laid : (h : HeapView) (t : Layout) (noted : List ℕ) (hs serials : List ℕ) (state : State) → StandsAs h hs serials state → StandsAs (laid h t noted) hs serials state
+stands-laid : (h : HeapView) (t : Layout) (noted : List ℕ) (hs : List Holder) (serials : List ℕ) (state : State) → StandsAs h hs serials state → StandsAs (laid h t noted) hs serials state
 stands-laid h t noted hs serials state stands = record {
   consistent = stands.consistent;
   stands = stands.stands;
@@ -78,12 +79,12 @@ stands-laid h t noted hs serials state stands = record {
 }
 
 -- lanes can run on where what they took into a turn is laid back
-pub lies-back-running : (h k : HeapView) (hs : List ℕ) → IsLaidBack h k → IsRunning h hs → IsRunning k hs
+pub lies-back-running : (h k : HeapView) (hs : List Holder) → IsLaidBack h k → IsRunning h hs → IsRunning k hs
 lies-back-running h k hs back run =
     subst (λ (x : HeapView). IsRunning x hs) (sym (back-is h k back))
     (running-laid h k.space k.roots.noted hs (subst IsSummarised back.pages.same back.pages.summarised) (λ p. (back.pages.remembered p).0) (noted-back h k back) run)
 
 -- and the heap stands for the same
-pub lies-back-stands : (h k : HeapView) (hs serials : List ℕ) (state : State) → IsLaidBack h k → StandsAs h hs serials state → StandsAs k hs serials state
+pub lies-back-stands : (h k : HeapView) (hs : List Holder) (serials : List ℕ) (state : State) → IsLaidBack h k → StandsAs h hs serials state → StandsAs k hs serials state
 lies-back-stands h k hs serials state back stands =
     subst (λ (x : HeapView). StandsAs x hs serials state) (sym (back-is h k back)) (stands-laid h k.space k.roots.noted hs serials state stands)

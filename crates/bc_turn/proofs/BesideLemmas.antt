@@ -1,5 +1,5 @@
 -- Lanes that ran side by side are lanes that ran one after another.
-use Rattle.std.proofs.Common.{◌≡◌, ℕ, ◌+◌, ◌*◌, ◌<◌, ◌≤◌, List, [], length, get_or, take, drop, None, inl, inr, refl, ap, sym, subst, ◌∙◌, arith}
+use Rattle.std.proofs.Common.{◌≡◌, ◌≢◌, ℕ, ◌+◌, ◌*◌, ◌<◌, ◌≤◌, List, [], length, get_or, take, drop, None, inl, inr, refl, ap, sym, subst, ◌∙◌, arith}
 use Prim.Native.Nat.{suc}
 use Rattle.std.proofs.lemmas.Bool.{cases_lt}
 use Rattle.std.specs.List.{AllByRecursion}
@@ -11,11 +11,12 @@ use Rattle.bc_lane.specs.declared.turns.LaneTurn.{LaneTurn}
 use Rattle.bc_model.specs.State.{State}
 use Rattle.bc_model.specs.declared.operations.Op.{Op}
 use Rattle.bc_model.specs.declared.operations.Reply.{Reply}
+use Rattle.bc_model.specs.declared.values.Holder.{Holder}
 use Rattle.bc_mutator.specs.Objects.{AreWhole}
 use Rattle.bc_mutator.specs.Operations.{IsOpOf}
 use Rattle.bc_pins.specs.Calls.{key_of, view_of}
 use Rattle.bc_pins.specs.Closing.{Closed}
-use Rattle.bc_pins.specs.Key.{pages_of}
+use Rattle.bc_pins.specs.Key.{owner, pages_of}
 use Rattle.bc_pins.specs.Opened.{Opened}
 use Rattle.bc_pins.specs.Totals.{times, total}
 use Rattle.bc_pins.specs.Views.{entries}
@@ -42,7 +43,7 @@ use Rattle.bc_whole_heap.specs.LaneStates.{StandsAs}
 use Rattle.bc_whole_heap.specs.Running.{IsRunning}
 
 -- a table that was opened for the lanes
-pub turn-table : (s : Layout) (hs busy : List ℕ) (pins : Pins) (seats : List Seat) → Opened s Lanes hs (turn_roles busy) pins seats → IsTurnTable (key_of pins) s hs busy
+pub turn-table : (s : Layout) (hs : List Holder) (busy : List ℕ) (pins : Pins) (seats : List Seat) → Opened s Lanes hs (turn_roles busy) pins seats → IsTurnTable (key_of pins) s hs busy
 turn-table s hs busy pins seats opened = record {
   opening = opened.opening;
   owners = opened.owners;
@@ -50,21 +51,21 @@ turn-table s hs busy pins seats opened = record {
   behind = opened.behind;
 }
 
-module _ (pins : Pins) (h : HeapView) (hs serials : List ℕ) (lanes : List (List Op)) (before : List (List Reply)) (busy : List ℕ) (old : ℕ → LaneTurn) (seat : ℕ → Seat) (new : ℕ → LaneTurn) (after : ℕ → Seat)
+module _ (pins : Pins) (h : HeapView) (hs : List Holder) (serials : List ℕ) (lanes : List (List Op)) (before : List (List Reply)) (busy : List ℕ) (old : ℕ → LaneTurn) (seat : ℕ → Seat) (new : ℕ → LaneTurn) (after : ℕ → Seat)
     (begun : AreBegun pins h hs serials lanes before busy old seat) (ran : AllRan lanes busy old seat new after) (state : State) (stands : StandsAs h hs serials state)
     (words : length h.roots.words ≡ h.roots.domains * h.roots.slots) (ops : (j : ℕ) → Has busy j → AllByRecursion (IsOpOf h.roots) (of_lane lanes j))
     (running : IsRunning h hs) (layout : IsLayout h.space) (whole : AreWhole h.chunks) (some : 0 < length busy)
     (seats : List Seat) (table : IsTurnTable (key_of pins) h.space hs busy) (seats_long : length seats ≡ length busy + 1) (seats_are : (i : ℕ) → i < length busy → (d : Seat) → get_or seats i d ≡ after i)
     (k : HeapView) (nexts : List ℕ) (told : List (List Reply)) (closed : Closed (key_of pins) seats k.space) (given : IsLayout k.space)
-    (laid : AreLaidBack hs busy new (length busy) h serials before k nexts told) (recorded : AreRecorded (key_of pins) busy after seats) (kept : (p : ℕ) → total (λ (seat : Seat). times p (view_of seat).returned) seats ≡ 0) where
+    (laid : AreLaidBack hs busy new (length busy) h serials before k nexts told) (recorded : AreRecorded (key_of pins) busy after seats) (kept : (p : ℕ) → owner (key_of pins) p ≢ 0 → total (λ (seat : Seat). times p (view_of seat).returned) seats ≡ 0) where
   stands_back : StandsAs (heap_back h) hs serials state
   stands_back = back-stands h hs serials state running stands
 
-  -- a page that stopped a lane is Gone
+  -- a page that stopped a lane is Gone, where some lane holds it
   notes : (i : ℕ) → i < length busy → NotesGone (view_of (after i)) h.space k.space
   notes i lt =
       subst (λ (s : Seat). NotesGone (view_of s) h.space k.space) (seats_are i lt (after i))
-      (notes-gone (key_of pins) h.space k.space seats table.opening table.behind closed layout given kept i (after i) (omega arith))
+      (notes-gone (key_of pins) h.space k.space seats table.opening table.behind closed layout given kept i (after i) (omega arith) (ap (λ (s : Seat). (view_of s).about) (seats_are i lt (after i)) ∙ (ran.each i lt).seat_is.about ∙ ap (λ (v : View). v.about) (begun.each i lt).view))
 
   abbrev stage : (n : ℕ) → Stage h hs serials busy old seat new after n
   stage n = stages pins h hs serials lanes before busy old seat new after begun ran state stands_back words ops k nexts told laid notes n
@@ -127,7 +128,7 @@ module _ (pins : Pins) (h : HeapView) (hs serials : List ℕ) (lanes : List (Lis
   }
 
 -- no lane has operations left
-module _ (h : HeapView) (hs serials : List ℕ) (lanes : List (List Op)) (before : List (List Reply)) (busy : List ℕ) (are : AreBusyLanes lanes before busy) (none : length busy ≡ 0) (running : IsRunning h hs) where
+module _ (h : HeapView) (hs : List Holder) (serials : List ℕ) (lanes : List (List Op)) (before : List (List Reply)) (busy : List ℕ) (are : AreBusyLanes lanes before busy) (none : length busy ≡ 0) (running : IsRunning h hs) where
   all-done : (n : ℕ) → length (of_lane lanes n) ≤ length (of_lane before n)
   all-done n = elim (cases_lt (length (of_lane before n)) (length (of_lane lanes n))) [
     | inl lt ↦ let b = are.all n lt in let there = b.1 in absurd (omega arith)

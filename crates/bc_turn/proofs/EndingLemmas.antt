@@ -6,6 +6,7 @@ use Rattle.std.proofs.lemmas.Bool.{cases_eq, cases_lt}
 use Rattle.std.proofs.lemmas.List.{get_or_push, get_or_append_left, map-append, length_push}
 use Rattle.bc_model.specs.declared.operations.Op.{Op}
 use Rattle.bc_model.specs.declared.operations.Reply.{Reply}
+use Rattle.bc_model.specs.declared.values.Holder.{Holder}
 use Rattle.bc_pins.specs.declared.pins.Seat.{Seat}
 use Rattle.bc_lane.specs.declared.turns.LaneTurn.{LaneTurn}
 use Rattle.bc_reach.specs.Distinct.{Has}
@@ -19,7 +20,7 @@ use Rattle.bc_turn.proofs.LayingLemmas.{laid-next}
 use Rattle.bc_whole_heap.specs.Heaps.{HeapView}
 
 -- what is true while the lanes lay back what is their own: `runs` are those that are left, and `seats` those that came back
-pub record Ending (hs busy : List ℕ) (g : HeapView) (serials : List ℕ) (before : List (List Reply)) (all : List Run) (runs : List Run) (k : HeapView) (nexts : List ℕ) (after : List (List Reply)) (seats : List Seat) : Type 0 where
+pub record Ending (hs : List Holder) (busy : List ℕ) (g : HeapView) (serials : List ℕ) (before : List (List Reply)) (all : List Run) (runs : List Run) (k : HeapView) (nexts : List ℕ) (after : List (List Reply)) (seats : List Seat) : Type 0 where
   pub laid : (d : Run) → AreLaidBack hs busy (turn_at d all) (length seats) g serials before k nexts after
 
 -- and whichever lanes are busy
@@ -41,7 +42,7 @@ gathering-none all seats none = record {
   seats_are = λ i lt d e. absurd (let z = ap length none in omega arith);
 }
 
-pub laid-none : (hs busy : List ℕ) (turn : ℕ → LaneTurn) (g : HeapView) (serials : List ℕ) (before : List (List Reply)) → AreLaidBack hs busy turn 0 g serials before g serials before
+pub laid-none : (hs : List Holder) (busy : List ℕ) (turn : ℕ → LaneTurn) (g : HeapView) (serials : List ℕ) (before : List (List Reply)) → AreLaidBack hs busy turn 0 g serials before g serials before
 laid-none hs busy turn g serials before = record {
   chunks_long = refl;
   buffers_long = refl;
@@ -63,7 +64,7 @@ laid-none hs busy turn g serials before = record {
   written = λ i. inl refl;
 }
 
-pub ending-none : (hs busy : List ℕ) (g : HeapView) (serials : List ℕ) (before : List (List Reply)) (all : List Run) (seats : List Seat) → seats ≡ [] → Ending hs busy g serials before all all g serials before seats
+pub ending-none : (hs : List Holder) (busy : List ℕ) (g : HeapView) (serials : List ℕ) (before : List (List Reply)) (all : List Run) (seats : List Seat) → seats ≡ [] → Ending hs busy g serials before all all g serials before seats
 ending-none hs busy g serials before all seats none = record {
   laid = λ d. subst (λ (n : ℕ). AreLaidBack hs busy (turn_at d all) n g serials before g serials before) (sym (ap length none)) (laid-none hs busy (turn_at d all) g serials before);
 }
@@ -100,7 +101,7 @@ module _ (all runs left : List Run) (seats : List Seat) (is : Gathering all runs
         ];
       }
 
-  module _ (hs busy : List ℕ) (g : HeapView) (serials : List ℕ) (before : List (List Reply)) (are : AreRunsOf hs busy g all) (k : HeapView) (births : List ℕ) (told : List (List Reply)) (ending : Ending hs busy g serials before all runs k births told seats) where
+  module _ (hs : List Holder) (busy : List ℕ) (g : HeapView) (serials : List ℕ) (before : List (List Reply)) (are : AreRunsOf hs busy g all) (k : HeapView) (births : List ℕ) (told : List (List Reply)) (ending : Ending hs busy g serials before all runs k births told seats) where
     there : length seats < length busy
     there = let a = all-count in let l = are.long in omega arith
 
@@ -124,7 +125,7 @@ module _ (all runs left : List Run) (seats : List Seat) (is : Gathering all runs
         let right = subst (λ (r : Run). LiesRight hs g.roots r.turn.part) (next-run run) (are.right (length seats) there run) in
         let slots : k.roots.slots ≡ g.roots.slots = ap (λ (r : RootWords). r.slots) laid.roots in
         let domains : k.roots.domains ≡ g.roots.domains = ap (λ (r : RootWords). r.domains) laid.roots in
-        subst (λ (xs : List ℕ). LiesRight xs k.roots run.turn.part) (sym holders-are) (record {
+        subst (λ (xs : List Holder). LiesRight xs k.roots run.turn.part) (sym holders-are) (record {
           domains = right.domains;
           starts = right.starts;
           slots = right.slots ∙ sym slots;
@@ -138,7 +139,7 @@ module _ (all runs left : List Run) (seats : List Seat) (is : Gathering all runs
         → length g.buffers ≡ length g.chunks → length serials ≡ length g.chunks → length before ≡ length g.chunks → Ending hs busy g serials before all left n nexts after (seats ++ seat ∷ [])
     ending-more n nexts after seat lays buffers births_long told_long = record {
       laid = λ d.
-          let back = subst (λ (t : LaneTurn). LaysBack hs t k births told n nexts after) (ap (λ (r : Run). r.turn) (sym (next-run d))) (subst (λ (xs : List ℕ). LaysBack xs run.turn k births told n nexts after) holders-are lays) in
+          let back = subst (λ (t : LaneTurn). LaysBack hs t k births told n nexts after) (ap (λ (r : Run). r.turn) (sym (next-run d))) (subst (λ (xs : List Holder). LaysBack xs run.turn k births told n nexts after) holders-are lays) in
           let w = are.within (length seats) there in
           subst (λ (m : ℕ). AreLaidBack hs busy (turn_at d all) m g serials before n nexts after) (sym (length_push seats seat))
           (laid-next hs busy (turn_at d all) (length seats) g serials before k births told n nexts after (ending.laid d) back (are.lane_is (length seats) there d) there are.rising w (omega arith) (omega arith) (omega arith));

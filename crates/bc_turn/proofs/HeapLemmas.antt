@@ -4,7 +4,10 @@ use Rattle.std.proofs.lemmas.List.{ext_get_or}
 use Rattle.bc_lane.specs.Back.{heap_back}
 use Rattle.bc_lane.specs.Turns.{IsWhole}
 use Rattle.bc_lane.specs.declared.turns.LaneTurn.{LaneTurn}
+use Rattle.bc_model.specs.State.{holder_of}
 use Rattle.bc_model.specs.declared.operations.Reply.{Reply}
+use Rattle.bc_model.specs.declared.values.Holder.{Holder}
+use Rattle.bc_model.specs.declared.values.Holder.TheVariants.{Lane}
 use Rattle.bc_mutator.specs.Objects.{own_chunk}
 use Rattle.bc_pins.specs.declared.views.View.{View}
 use Rattle.bc_reach.specs.Distinct.{Has}
@@ -13,6 +16,7 @@ use Rattle.bc_superpages.specs.LayoutAt.{IsAllocated}
 use Rattle.bc_superpages.specs.RootSlots.{root_at}
 use Rattle.bc_superpages.specs.RootWords.{RootWords}
 use Rattle.bc_turn.proofs.BusyLemmas.{find-index}
+use Rattle.bc_turn.proofs.HolderLemmas.{find-holder}
 use Rattle.bc_turn.proofs.PassLemmas.{Passes}
 use Rattle.bc_turn.specs.Beside.{IsLaidBack, LiesBack}
 use Rattle.bc_turn.specs.Laying.{AreLaidBack}
@@ -23,21 +27,21 @@ use Rattle.bc_word.specs.declared.addresses.Address.{Address}
 use Rattle.bc_word.specs.declared.words.Word.TheVariants.{Ref}
 use Rattle.bc_word.specs.Words.{word_of_bits}
 
-module _ (h m k : HeapView) (hs busy serials nexts : List ℕ) (before told : List (List Reply)) (turn : ℕ → LaneTurn) (view : ℕ → View) (end : ℕ)
+module _ (h m k : HeapView) (hs : List Holder) (busy serials nexts : List ℕ) (before told : List (List Reply)) (turn : ℕ → LaneTurn) (view : ℕ → View) (end : ℕ)
     (closed : IsClosedHeap h hs) (words_long : length h.roots.words ≡ h.roots.domains * h.roots.slots) (made_long : length m.roots.words ≡ m.roots.domains * m.roots.slots)
     (holders : (i : ℕ) → i < length busy → (turn i).part.holders.items ≡ hs) (lanes : (i : ℕ) → i < length busy → (turn i).part.lane ≡ get_or busy i 0)
     (whole : (i : ℕ) → i < length busy → IsWhole (turn i).part (view i) None end m) (passes : Passes hs (Has busy) (heap_back h) m)
     (laid : AreLaidBack hs busy turn (length busy) h serials before k nexts told) (pages : LiesBack m.space k.space) where
   -- the words of the root slots
   slot-same : (d t : ℕ) → d < length hs → t < h.roots.slots → root_at k.roots d t ≡ root_at m.roots d t
-  slot-same d t within less = elim (find-index busy (get_or hs d 0)) [
+  slot-same d t within less = elim (find-holder busy (holder_of hs d)) [
     | inl r ↦
         let w = (whole r.0 r.1).belongs.roots in
-        let held : get_or (turn r.0).part.holders.items d 0 ≡ (turn r.0).part.lane = ap (λ (l : List ℕ). get_or l d 0) (holders r.0 r.1) ∙ sym (lanes r.0 r.1 ∙ r.2) in
-        let inside : d < length (turn r.0).part.holders.items = subst (λ (l : List ℕ). d < length l) (sym (holders r.0 r.1)) within in
+        let held : holder_of (turn r.0).part.holders.items d ≡ Lane (turn r.0).part.lane = ap (λ (l : List Holder). holder_of l d) (holders r.0 r.1) ∙ r.2 ∙ sym (ap Lane (lanes r.0 r.1)) in
+        let inside : d < length (turn r.0).part.holders.items = subst (λ (l : List Holder). d < length l) (sym (holders r.0 r.1)) within in
         let slots = ap (λ (x : RootWords). x.slots) passes.roots in
         let slots_are = w.slots_are d inside held in
-        laid.words r.0 d t r.1 within (sym r.2) less ∙ sym (w.same d t inside held (omega arith))
+        laid.words r.0 d t r.1 within r.2 less ∙ sym (w.same d t inside held (omega arith))
     | inr none ↦ laid.words_else d t within none less ∙ sym (passes.slots (record { domain = d; slot = t }) none less)
   ]
 

@@ -2,7 +2,11 @@
 use Rattle.std.proofs.Common.{◌≡◌, ◌⊎◌, ℕ, ◌+◌, ◌<◌, List, [], length, get_or, set, inl, inr, ap, sym, subst, ◌∙◌, arith, length-set, get_or-set_same, get_or-set_other}
 use Rattle.std.proofs.lemmas.Bool.{cases_eq, cases_lt}
 use Rattle.bc_lane.specs.declared.turns.LaneTurn.{LaneTurn}
+use Rattle.bc_model.proofs.Holders.{same-lane as lanes-same}
+use Rattle.bc_model.specs.State.{holder_of}
 use Rattle.bc_model.specs.declared.operations.Reply.{Reply}
+use Rattle.bc_model.specs.declared.values.Holder.{Holder}
+use Rattle.bc_model.specs.declared.values.Holder.TheVariants.{Lane}
 use Rattle.bc_mutator.specs.Objects.{own_chunk}
 use Rattle.bc_reach.specs.Distinct.{Has}
 use Rattle.bc_superpages.specs.Layout.{Layout}
@@ -21,15 +25,18 @@ replaced-here xs ys l m x d is lt e = ap (λ zs. get_or zs m d) is ∙ ap (λ (j
 replaced-else : {A : Type 0} (xs ys : List A) (l m : ℕ) (x d : A) → ys ≡ set xs l x → (m ≡ l → ⊥) → get_or ys m d ≡ get_or xs m d
 replaced-else xs ys l m x d is off = ap (λ zs. get_or zs m d) is ∙ get_or-set_other xs l m x d off
 
-module _ (hs busy : List ℕ) (turn : ℕ → LaneTurn) (n : ℕ) (h : HeapView) (serials : List ℕ) (before : List (List Reply)) (g : HeapView) (births : List ℕ) (told : List (List Reply)) (k : HeapView) (nexts : List ℕ) (after : List (List Reply))
+module _ (hs : List Holder) (busy : List ℕ) (turn : ℕ → LaneTurn) (n : ℕ) (h : HeapView) (serials : List ℕ) (before : List (List Reply)) (g : HeapView) (births : List ℕ) (told : List (List Reply)) (k : HeapView) (nexts : List ℕ) (after : List (List Reply))
     (laid : AreLaidBack hs busy turn n h serials before g births told) (one : LaysBack hs (turn n) g births told k nexts after) (lane_is : (turn n).part.lane ≡ get_or busy n 0) (lt : n < length busy)
     (rising : (i j : ℕ) → i < j → j < length busy → get_or busy i 0 < get_or busy j 0)
     (in_chunks : get_or busy n 0 < length h.chunks) (in_buffers : get_or busy n 0 < length h.buffers) (in_births : get_or busy n 0 < length serials) (in_replies : get_or busy n 0 < length before) where
   abbrev l : ℕ
   l = (turn n).part.lane
 
+  has-last : Has busy l
+  has-last = subst (Has busy) (sym lane_is) (Has-get_or busy n lt)
+
   not-has : (m : ℕ) → (Has busy m → ⊥) → m ≡ l → ⊥
-  not-has m none e = none (subst (Has busy) (sym (e ∙ lane_is)) (Has-get_or busy n lt))
+  not-has m none e = none (subst (Has busy) (sym e) has-last)
 
   earlier : (i : ℕ) → i < n + 1 → (i ≡ n → ⊥) → i < n
   earlier i less ne = elim (cases_lt i n) [
@@ -78,14 +85,14 @@ module _ (hs busy : List ℕ) (turn : ℕ → LaneTurn) (n : ℕ) (h : HeapView)
   small-there : (t : ℕ) → t < h.roots.slots → t < g.roots.slots
   small-there t small = subst (λ (s : ℕ). t < s) (sym (ap (λ (r : RootWords). r.slots) laid.roots)) small
 
-  word : (i d t : ℕ) → i < n + 1 → (i ≡ n) ⊎ (i ≡ n → ⊥) → d < length hs → get_or hs d 0 ≡ get_or busy i 0 → t < h.roots.slots
+  word : (i d t : ℕ) → i < n + 1 → (i ≡ n) ⊎ (i ≡ n → ⊥) → d < length hs → holder_of hs d ≡ Lane (get_or busy i 0) → t < h.roots.slots
       → root_at k.roots d t ≡ get_or (turn i).part.words.items (get_or (turn i).part.starts.items d 0 + t) 0
   word i d t less (inl e) within held small =
-      one.roots.own d t within (held ∙ same-lane i e) (small-there t small)
+      one.roots.own d t within (held ∙ ap Lane (same-lane i e)) (small-there t small)
       ∙ ap (λ (j : ℕ). get_or (turn j).part.words.items (get_or (turn j).part.starts.items d 0 + t) 0) (sym e)
   word i d t less (inr ne) within held small =
       let before_it = earlier i less ne in
-      one.roots.others d t within (λ e. not-last i before_it (sym held ∙ e)) (small-there t small) ∙ laid.words i d t before_it within held small
+      one.roots.others d t within (λ e. not-last i before_it (lanes-same (get_or busy i 0) l (sym held ∙ e))) (small-there t small) ∙ laid.words i d t before_it within held small
 
   pub laid-next : AreLaidBack hs busy turn (n + 1) h serials before k nexts after
   laid-next = record {
@@ -104,7 +111,7 @@ module _ (hs busy : List ℕ) (turn : ℕ → LaneTurn) (n : ℕ) (h : HeapView)
     buffer_else = λ m none. replaced-else g.buffers k.buffers l m (turn n).part.buffer no_buffer one.buffers (not-has m none) ∙ laid.buffer_else m none;
     births_else = λ m none. replaced-else births nexts l m (turn n).part.serial 0 one.births (not-has m none) ∙ laid.births_else m none;
     replies_else = λ m none. replaced-else told after l m (turn n).replies.items [] one.replies (not-has m none) ∙ laid.replies_else m none;
-    words_else = λ d t within none small. one.roots.others d t within (not-has (get_or hs d 0) none) (small-there t small) ∙ laid.words_else d t within none small;
+    words_else = λ d t within none small. one.roots.others d t within (λ is. none l is has-last) (small-there t small) ∙ laid.words_else d t within none small;
     kept = λ i note. one.roots.kept i (laid.kept i note);
     written = λ i. elim (one.roots.written i) [
       | inl same ↦ elim (laid.written i) [
@@ -116,7 +123,7 @@ module _ (hs busy : List ℕ) (turn : ℕ → LaneTurn) (n : ℕ) (h : HeapView)
   }
 
 -- where the space is put back besides
-pub laid-space : (hs busy : List ℕ) (turn : ℕ → LaneTurn) (n : ℕ) (h : HeapView) (serials : List ℕ) (before : List (List Reply)) (k : HeapView) (nexts : List ℕ) (after : List (List Reply)) (t : Layout) → AreLaidBack hs busy turn n h serials before k nexts after
+pub laid-space : (hs : List Holder) (busy : List ℕ) (turn : ℕ → LaneTurn) (n : ℕ) (h : HeapView) (serials : List ℕ) (before : List (List Reply)) (k : HeapView) (nexts : List ℕ) (after : List (List Reply)) (t : Layout) → AreLaidBack hs busy turn n h serials before k nexts after
     → AreLaidBack hs busy turn n h serials before (record k { space = t }) nexts after
 laid-space hs busy turn n h serials before k nexts after t laid = record {
   chunks_long = laid.chunks_long;

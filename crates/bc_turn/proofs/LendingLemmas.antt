@@ -7,6 +7,7 @@ use Rattle.std.proofs.lemmas.List.{get_or_push, get_or_append_left, get_or-map, 
 use Rattle.bc_model.specs.Rows.{lists_of}
 use Rattle.bc_model.specs.declared.operations.Op.{Op}
 use Rattle.bc_model.specs.declared.operations.Reply.{Reply}
+use Rattle.bc_model.specs.declared.values.Holder.{Holder}
 use Rattle.bc_mutator.specs.Objects.{own_chunk}
 use Rattle.bc_nursery.specs.Entries.{Entries}
 use Rattle.bc_nursery.specs.Nurseries.{Nursery}
@@ -23,7 +24,7 @@ use Rattle.bc_whole_heap.specs.Closed.{buffer_of, no_buffer}
 use Rattle.bc_whole_heap.specs.Heaps.{HeapView, no_chunk}
 
 -- what is true while the lanes take along what is their own: `spares` and `seats` are those that are left
-pub record Lending (hs serials : List ℕ) (lanes : List (List Op)) (h : HeapView) (before : List (Vec Reply Global)) (spares0 : List Spare) (seats0 : List Seat)
+pub record Lending (hs : List Holder) (serials : List ℕ) (lanes : List (List Op)) (h : HeapView) (before : List (Vec Reply Global)) (spares0 : List Spare) (seats0 : List Seat)
     (spares : List Spare) (seats : List Seat) (k : HeapView) (after : List (Vec Reply Global)) (runs : List Run) : Type 0 where
   pub behind : List Spare
   pub front : spares ++ behind ≡ spares0
@@ -38,7 +39,7 @@ pub record Lending (hs serials : List ℕ) (lanes : List (List Op)) (h : HeapVie
   pub away : AreAway (running_lanes runs) h (lists_of before) k (lists_of after)
   pub room : HasReplyRoom lanes after (running_lanes runs)
 
-pub lending-none : (hs serials : List ℕ) (lanes : List (List Op)) (h : HeapView) (before : List (Vec Reply Global)) (spares : List Spare) (seats : List Seat) (runs : List Run)
+pub lending-none : (hs : List Holder) (serials : List ℕ) (lanes : List (List Op)) (h : HeapView) (before : List (Vec Reply Global)) (spares : List Spare) (seats : List Seat) (runs : List Run)
     → length seats ≡ length spares → runs ≡ [] → HasReplyRoom lanes before [] → Lending hs serials lanes h before spares seats spares seats h before runs
 lending-none hs serials lanes h before spares seats runs even none room = record {
   behind = [];
@@ -60,7 +61,7 @@ lending-none hs serials lanes h before spares seats runs even none room = record
     append-nil {X = X} (x ∷ xs) = ap (λ (t : List X). x ∷ t) (append-nil xs)
 
 -- the next room and the next seat
-module _ (hs serials : List ℕ) (lanes : List (List Op)) (h : HeapView) (before : List (Vec Reply Global)) (spares0 : List Spare) (seats0 : List Seat) (spares left : List Spare) (seats places : List Seat)
+module _ (hs : List Holder) (serials : List ℕ) (lanes : List (List Op)) (h : HeapView) (before : List (Vec Reply Global)) (spares0 : List Spare) (seats0 : List Seat) (spares left : List Spare) (seats places : List Seat)
     (k : HeapView) (after : List (Vec Reply Global)) (runs : List Run) (is : Lending hs serials lanes h before spares0 seats0 spares seats k after runs) (busy : AreBusyLanes lanes (lists_of before) (spare_lanes spares0))
     (spare : Spare) (seat : Seat) (spares_are : spares ≡ left ++ spare ∷ []) (seats_are : seats ≡ places ++ seat ∷ []) where
   spares-split : left ++ spare ∷ is.behind ≡ spares0
@@ -154,8 +155,8 @@ module _ (hs serials : List ℕ) (lanes : List (List Op)) (h : HeapView) (before
     roots-same : k.roots ≡ h.roots
     roots-same = ap (λ (v : HeapView). v.roots) is.away.same
 
-    abbrev prepared : ℕ → Nursery → Entries → Type 0
-    prepared slots c b = IsPreparedTurn spare.lane hs slots takes.roots c b (get_or serials spare.lane 0) takes.told (length (of_lane lanes spare.lane)) run.turn
+    abbrev prepared : RootWords → Nursery → Entries → Type 0
+    prepared r c b = IsPreparedTurn spare.lane hs r.slots r takes.roots c b (get_or serials spare.lane 0) takes.told (length (of_lane lanes spare.lane)) run.turn
 
     takes-first : TakesAlong h hs serials lanes (lists_of before) spare.lane run.turn
     takes-first = record {
@@ -164,9 +165,9 @@ module _ (hs serials : List ℕ) (lanes : List (List Op)) (h : HeapView) (before
       words = subst (λ (r : RootWords). AreWordsOf r takes.roots.domains.items takes.roots.words.items) roots-same takes.words;
       told = takes.told;
       told_are = takes.told_are ∙ is.away.replies spare.lane spare-off;
-      prepared = subst (λ (r : RootWords). prepared r.slots (own_chunk h spare.lane) (buffer_of h.buffers spare.lane)) roots-same
-          (subst (λ (c : Nursery). prepared k.roots.slots c (buffer_of h.buffers spare.lane)) (is.away.chunk spare.lane spare-off)
-          (subst (λ (b : Entries). prepared k.roots.slots (own_chunk k spare.lane) b) (is.away.buffer spare.lane spare-off) takes.prepared));
+      prepared = subst (λ (r : RootWords). prepared r (own_chunk h spare.lane) (buffer_of h.buffers spare.lane)) roots-same
+          (subst (λ (c : Nursery). prepared k.roots c (buffer_of h.buffers spare.lane)) (is.away.chunk spare.lane spare-off)
+          (subst (λ (b : Entries). prepared k.roots (own_chunk k spare.lane) b) (is.away.buffer spare.lane spare-off) takes.prepared));
     }
 
     off-both : (l : ℕ) → (Has (running_lanes (runs ++ run ∷ [])) l → ⊥) → (l ≢ spare.lane) × (Has (running_lanes runs) l → ⊥)
@@ -239,7 +240,7 @@ module _ (hs serials : List ℕ) (lanes : List (List Op)) (h : HeapView) (before
     }
 
 -- all have
-pub all-taken : (hs serials : List ℕ) (lanes : List (List Op)) (h : HeapView) (before : List (Vec Reply Global)) (spares : List Spare) (seats left : List Seat) (k : HeapView) (after : List (Vec Reply Global)) (runs : List Run)
+pub all-taken : (hs : List Holder) (serials : List ℕ) (lanes : List (List Op)) (h : HeapView) (before : List (Vec Reply Global)) (spares : List Spare) (seats left : List Seat) (k : HeapView) (after : List (Vec Reply Global)) (runs : List Run)
     → Lending hs serials lanes h before spares seats [] left k after runs → AreTaken h hs serials lanes before (spare_lanes spares) seats k after runs
 all-taken hs serials lanes h before spares seats left k after runs is =
     let c = is.count in

@@ -8,6 +8,8 @@ pub mod PassLemmas
 pub mod OtherLemmas
 -- The list of the lanes that have operations left
 pub mod BusyLemmas
+-- Domains that a lane holds, and that none of some lanes holds
+pub mod HolderLemmas
 -- The heaps between the lanes
 pub mod StageLemmas
 -- What a closed table gives back

@@ -1,54 +1,47 @@
 -- What a lane has belongs to the heap that another lane's operations make.
-use Rattle.std.proofs.Common.{◌≡◌, ◌≢◌, ℕ, ◌*◌, ◌/◌, ◌<◌, List, [], ◌∷◌, length, map, get_or, true, None, inl, inr, ap, sym, subst, ◌∙◌, arith}
-use Rattle.std.proofs.lemmas.List.{get_or-map, get_or_past, length-map}
-use Rattle.bc_lane.specs.Shown.{IsOwnPage, ShowsPage, ShowsPages}
+use Rattle.std.proofs.Common.{◌≡◌, ◌≢◌, ℕ, ◌*◌, ◌/◌, ◌<◌, List, [], ◌∷◌, length, map, get_or, None, ap, sym, subst, ◌∙◌}
+use Rattle.bc_lane.specs.Shown.{IsFrozenPage, IsOwnPage, ShowsPage, ShowsPages}
 use Rattle.bc_lane.specs.Turns.{IsWhole, SlotsOf}
 use Rattle.bc_lane.specs.declared.parts.LanePart.{LanePart}
-use Rattle.bc_model.specs.State.{State}
+use Rattle.bc_model.proofs.Holders.{same-lane}
+use Rattle.bc_model.specs.State.{State, holder_of}
+use Rattle.bc_model.specs.declared.values.Holder.{Holder}
+use Rattle.bc_model.specs.declared.values.Holder.TheVariants.{Frozen, Lane}
 use Rattle.bc_mutator.specs.Objects.{MayOperate}
-use Rattle.bc_pins.specs.Key.{lane_role, owner}
+use Rattle.bc_pins.specs.Key.{lane_role, owner, owner_role}
 use Rattle.bc_pins.specs.Totals.{times}
 use Rattle.bc_pins.specs.Views.{has_role}
 use Rattle.bc_pins.specs.declared.views.View.{View}
-use Rattle.bc_pins.proofs.TotalLemmas.{one_is, one_other}
 use Rattle.bc_superpages.specs.Headers.{is_gone}
 use Rattle.bc_superpages.specs.Layout.{Layout}
 use Rattle.bc_superpages.specs.RootWords.{RootWords}
+use Rattle.bc_turn.proofs.HolderLemmas.{NoneHolds, no-owner-frozen, nobody-holds, owner-of, role-holder}
 use Rattle.bc_turn.proofs.PassLemmas.{IsOthersPage, Passes}
 use Rattle.bc_whole_heap.specs.Heaps.{HeapView, end_of}
 use Rattle.bc_whole_heap.specs.LaneStates.{StandsAs}
-use Rattle.std.proofs.lemmas.Bool.{cases_lt}
 
 -- what a lane's seat is at a table whose pages these lanes own
-pub record IsSeatOf (hs : List ℕ) (lane : ℕ) (v : View) : Type 0 where
-  pub owners : v.about.owners ≡ map lane_role hs
+pub record IsSeatOf (hs : List Holder) (lane : ℕ) (v : View) : Type 0 where
+  pub owners : v.about.owners ≡ map owner_role hs
   pub roles : v.roles ≡ lane_role lane ∷ []
 
-one-role : (a b : ℕ) → 0 < times (lane_role a) (lane_role b ∷ []) → b ≡ a
-one-role a b lt = let same = one_is (lane_role b) (lane_role a) (omega arith) in omega arith
-
--- a page of its own is of a domain that the lane holds, where that is one of the domains
-pub own-holder : (hs : List ℕ) (lane page : ℕ) (v : View) → IsSeatOf hs lane v → IsOwnPage v page → get_or v.about.opening.domains (page / 4) 0 < length hs → get_or hs (get_or v.about.opening.domains (page / 4) 0) 0 ≡ lane
-own-holder hs lane page v seat own within =
+-- who owns a page at such a table: the lane that holds its domain
+pub seat-owner : (hs : List Holder) (lane page : ℕ) (v : View) → IsSeatOf hs lane v → owner v.about page ≡ owner_role (holder_of hs (get_or v.about.opening.domains (page / 4) 0))
+seat-owner hs lane page v seat =
     let d : ℕ = get_or v.about.opening.domains (page / 4) 0 in
-    let owner_is : owner v.about page ≡ lane_role (get_or hs d 0) = ap (λ (l : List ℕ). get_or l d 0) seat.owners ∙ get_or-map lane_role hs d 0 0 within in
-    sym (one-role (get_or hs d 0) lane (subst (λ (rs : List ℕ). 0 < times (lane_role (get_or hs d 0)) rs) seat.roles (subst (λ (r : ℕ). 0 < has_role v r) owner_is own)))
+    ap (λ (l : List ℕ). get_or l d 0) seat.owners ∙ owner-of hs d
 
--- and its domain is one of the domains
-pub own-within : (hs : List ℕ) (lane page : ℕ) (v : View) → IsSeatOf hs lane v → IsOwnPage v page → get_or v.about.opening.domains (page / 4) 0 < length hs
-own-within hs lane page v seat own =
-    let d : ℕ = get_or v.about.opening.domains (page / 4) 0 in
-    elim (cases_lt d (length hs)) [
-      | inl within ↦ within
-      | inr out ↦
-          let long = length-map hs lane_role in
-          let nobody : owner v.about page ≡ 0 = ap (λ (l : List ℕ). get_or l d 0) seat.owners ∙ get_or_past (map lane_role hs) d 0 (omega arith) in
-          let has : 0 < times 0 (lane_role lane ∷ []) = subst (λ (rs : List ℕ). 0 < times 0 rs) seat.roles (subst (λ (r : ℕ). 0 < has_role v r) nobody own) in
-          let none = one_other (lane_role lane) 0 (λ e. absurd (omega arith)) in
-          absurd (omega arith)
-    ]
+-- a page of its own is of a domain that the lane holds
+pub own-holder : (hs : List Holder) (lane page : ℕ) (v : View) → IsSeatOf hs lane v → IsOwnPage v page → holder_of hs (get_or v.about.opening.domains (page / 4) 0) ≡ Lane lane
+own-holder hs lane page v seat own =
+    let x : Holder = holder_of hs (get_or v.about.opening.domains (page / 4) 0) in
+    role-holder x lane (subst (λ (rs : List ℕ). 0 < times (owner_role x) rs) seat.roles (subst (λ (r : ℕ). 0 < has_role v r) (seat-owner hs lane page v seat) own))
 
-module _ (hs : List ℕ) (lane : ℕ) (part : LanePart) (v : View) (end : ℕ) (h k : HeapView) (seat : IsSeatOf hs part.lane v) (holders : part.holders.items ≡ hs) (other : part.lane ≢ lane)
+-- a page that nobody owns is of a frozen domain
+pub frozen-holder : (hs : List Holder) (lane page : ℕ) (v : View) → IsSeatOf hs lane v → IsFrozenPage v page → holder_of hs (get_or v.about.opening.domains (page / 4) 0) ≡ Frozen
+frozen-holder hs lane page v seat frozen = no-owner-frozen (holder_of hs (get_or v.about.opening.domains (page / 4) 0)) (sym (seat-owner hs lane page v seat) ∙ frozen)
+
+module _ (hs : List Holder) (lane : ℕ) (part : LanePart) (v : View) (end : ℕ) (h k : HeapView) (seat : IsSeatOf hs part.lane v) (holders : part.holders.items ≡ hs) (other : part.lane ≢ lane)
     (whole : IsWhole part v None end h) (passes : Passes hs (λ l. l ≡ lane) h k) (long : length k.roots.words ≡ k.roots.domains * k.roots.slots) where
   shown : ShowsPages v None end h.space
   shown = whole.belongs.space
@@ -57,8 +50,12 @@ module _ (hs : List ℕ) (lane : ℕ) (part : LanePart) (v : View) (end : ℕ) (
   domains-are = ap (λ (s : Layout). s.domains) shown.same
 
   off : (page : ℕ) → IsOwnPage v page → IsOthersPage h.space hs (λ l. l ≡ lane) page
-  off page own = subst (λ (ds : List ℕ). get_or ds (page / 4) 0 < length hs → get_or hs (get_or ds (page / 4) 0) 0 ≡ lane → ⊥) (sym domains-are)
-      (λ within is. other (sym (own-holder hs part.lane page v seat own within) ∙ is))
+  off page own = subst (λ (ds : List ℕ). NoneHolds (λ l. l ≡ lane) (holder_of hs (get_or ds (page / 4) 0))) (sym domains-are)
+      (λ l is e. other (same-lane part.lane l (sym (own-holder hs part.lane page v seat own) ∙ is) ∙ e))
+
+  off-frozen : (page : ℕ) → IsFrozenPage v page → IsOthersPage h.space hs (λ l. l ≡ lane) page
+  off-frozen page frozen = subst (λ (ds : List ℕ). NoneHolds (λ l. l ≡ lane) (holder_of hs (get_or ds (page / 4) 0))) (sym domains-are)
+      (λ l is e. nobody-holds l (sym (frozen-holder hs part.lane page v seat frozen) ∙ is))
 
   page-stays : (page : ℕ) → IsOwnPage v page → ShowsPage v h.space page → ShowsPage v k.space page
   page-stays page own p =
@@ -77,6 +74,7 @@ module _ (hs : List ℕ) (lane : ℕ) (part : LanePart) (v : View) (end : ℕ) (
     end_is = shown.end_is ∙ ap end_of (sym passes.space);
     opening = shown.opening;
     others = λ page own none. page-stays page own (shown.others page own none);
+    frozen = λ page frozen none. (passes.pages page (off-frozen page frozen)).0 ∙ shown.frozen page frozen none;
     in_hand = tt;
   }
 
@@ -92,16 +90,20 @@ module _ (hs : List ℕ) (lane : ℕ) (part : LanePart) (v : View) (end : ℕ) (
         within = r.within;
         apart = r.apart;
         same = λ d t within held less.
-            passes.slots (record { domain = d; slot = t }) (λ is. other (sym held ∙ ap (λ (l : List ℕ). get_or l d 0) holders ∙ is)) (subst (λ (n : ℕ). t < n) (sym (r.slots_are d within held)) less)
+            passes.slots (record { domain = d; slot = t }) (λ l is e. other (same-lane part.lane l (sym held ∙ ap (λ (xs : List Holder). holder_of xs d) holders ∙ is) ∙ e)) (subst (λ (n : ℕ). t < n) (sym (r.slots_are d within held)) less)
             ∙ r.same d t within held less;
         packed = r.packed;
+        shared_sizes = (ap (λ (x : RootWords). x.domains) passes.roots ∙ r.shared_sizes.0, slots ∙ r.shared_sizes.1);
+        frozen = λ d t within frozen less.
+            let near : t < h.roots.slots = subst (λ (n : ℕ). t < n) slots less in
+            passes.slots (record { domain = d; slot = t }) (λ l is e. nobody-holds l (sym frozen ∙ ap (λ (xs : List Holder). holder_of xs d) holders ∙ is)) near ∙ r.frozen d t within frozen near;
       }
 
   -- what it belongs to stands for a state in which it has its number of births
   pub other-whole : MayOperate k hs part.lane → ((serials : List ℕ) × (state : State) × StandsAs k hs serials state × (get_or serials part.lane 0 ≡ part.serial)) → IsWhole part v None end k
   other-whole ready stands = record {
-    ready = subst (λ (l : List ℕ). MayOperate k l part.lane) (sym holders) ready;
-    stands = subst (λ (l : List ℕ). (serials : List ℕ) × (state : State) × StandsAs k l serials state × (get_or serials part.lane 0 ≡ part.serial)) (sym holders) stands;
+    ready = subst (λ (l : List Holder). MayOperate k l part.lane) (sym holders) ready;
+    stands = subst (λ (l : List Holder). (serials : List ℕ) × (state : State) × StandsAs k l serials state × (get_or serials part.lane 0 ≡ part.serial)) (sym holders) stands;
     belongs = record {
       space = pages-stay;
       roots = slots-stay;

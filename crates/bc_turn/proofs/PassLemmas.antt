@@ -2,10 +2,11 @@
 use Rattle.std.proofs.Common.{◌≡◌, ℕ, ◌/◌, ◌<◌, List, [], ◌∷◌, length, get_or, set, refl, ap, sym, subst, ◌∙◌, length-set, get_or-set_same, get_or-set_other}
 use Rattle.std.proofs.lemmas.List.{set-get_or, set-set}
 use Rattle.bc_lane.specs.Doing.{DidAll}
-use Rattle.bc_model.specs.State.{State}
+use Rattle.bc_model.specs.State.{State, holder_of}
 use Rattle.bc_model.specs.Step.{step}
 use Rattle.bc_model.specs.declared.operations.Op.{Op}
 use Rattle.bc_model.specs.declared.operations.Reply.{Reply}
+use Rattle.bc_model.specs.declared.values.Holder.{Holder}
 use Rattle.bc_model.specs.declared.values.Slot.{Slot}
 use Rattle.bc_mutator.specs.Effects.{DidOperation, Leaves}
 use Rattle.bc_mutator.specs.Objects.{MayOperate, own_chunk}
@@ -19,28 +20,29 @@ use Rattle.bc_superpages.specs.Layout.{Layout, content_at}
 use Rattle.bc_superpages.specs.LayoutAt.{state_at}
 use Rattle.bc_superpages.specs.RootSlots.{root_at}
 use Rattle.bc_superpages.specs.RootWords.{RootWords}
+use Rattle.bc_turn.proofs.HolderLemmas.{NoneHolds}
 use Rattle.bc_whole_heap.specs.Closed.{buffer_of, no_buffer}
 use Rattle.bc_whole_heap.specs.Heaps.{HeapView, no_chunk}
 use Rattle.bc_whole_heap.specs.LaneChunks.{chunk_of}
 use Rattle.bc_whole_heap.specs.LaneStates.{StandsAs}
 
 -- the page is of no domain that one of these lanes holds
-abbrev pub IsOthersPage : Layout → List ℕ → (ℕ → Type 0) → ℕ → Type 0
-IsOthersPage s hs Mine page = get_or s.domains (page / 4) 0 < length hs → Mine (get_or hs (get_or s.domains (page / 4) 0) 0) → ⊥
+abbrev pub IsOthersPage : Layout → List Holder → (ℕ → Type 0) → ℕ → Type 0
+IsOthersPage s hs Mine page = NoneHolds Mine (holder_of hs (get_or s.domains (page / 4) 0))
 
 -- from the heap h to the heap k nothing changed but what is these lanes'
-pub record Passes (hs : List ℕ) (Mine : ℕ → Type 0) (h k : HeapView) : Type 0 where
+pub record Passes (hs : List Holder) (Mine : ℕ → Type 0) (h k : HeapView) : Type 0 where
   pub space : k.space ≡ record (h.space) { states = k.space.states; pages = k.space.pages }
   pub pages : (page : ℕ) → IsOthersPage h.space hs Mine page
       → (content_at k.space.pages page ≡ content_at h.space.pages page) × (state_at k.space.states page ≡ state_at h.space.states page)
   pub roots : k.roots ≡ record (h.roots) { words = k.roots.words; noted = k.roots.noted }
-  pub slots : (p : Slot) → (Mine (get_or hs p.domain 0) → ⊥) → p.slot < h.roots.slots → root_at k.roots p.domain p.slot ≡ root_at h.roots p.domain p.slot
+  pub slots : (p : Slot) → NoneHolds Mine (holder_of hs p.domain) → p.slot < h.roots.slots → root_at k.roots p.domain p.slot ≡ root_at h.roots p.domain p.slot
   pub chunks : length k.chunks ≡ length h.chunks
   pub chunk : (l : ℕ) → (Mine l → ⊥) → chunk_of k.chunks l ≡ chunk_of h.chunks l
   pub buffers : length k.buffers ≡ length h.buffers
   pub buffer : (l : ℕ) → (Mine l → ⊥) → buffer_of k.buffers l ≡ buffer_of h.buffers l
 
-pub passes-none : (hs : List ℕ) (Mine : ℕ → Type 0) (h : HeapView) → Passes hs Mine h h
+pub passes-none : (hs : List Holder) (Mine : ℕ → Type 0) (h : HeapView) → Passes hs Mine h h
 passes-none hs Mine h = record {
   space = refl;
   pages = λ page off. (refl, refl);
@@ -53,12 +55,12 @@ passes-none hs Mine h = record {
 }
 
 -- so does one operation
-passes-one : (hs : List ℕ) (lane : ℕ) (h k : HeapView) → Leaves hs lane h k → Passes hs (λ l. l ≡ lane) h k
+passes-one : (hs : List Holder) (lane : ℕ) (h k : HeapView) → Leaves hs lane h k → Passes hs (λ l. l ≡ lane) h k
 passes-one hs lane h k leaves = record {
   space = leaves.space;
-  pages = leaves.pages;
+  pages = λ page off. leaves.pages page (λ within is. off lane is refl);
   roots = leaves.roots;
-  slots = leaves.slots;
+  slots = λ p off. leaves.slots p (λ is. off lane is refl);
   chunks = ap length leaves.chunks ∙ length-set h.chunks lane (own_chunk k lane);
   chunk = λ l off. ap (λ (cs : List Nursery). chunk_of cs l) leaves.chunks ∙ get_or-set_other h.chunks lane l (own_chunk k lane) no_chunk off;
   buffers = ap length leaves.buffers ∙ length-set h.buffers lane (buffer_of k.buffers lane);
@@ -66,11 +68,11 @@ passes-one hs lane h k leaves = record {
 }
 
 -- so do lists of operations one after another, and of more lanes
-pub passes-then : (hs : List ℕ) (Mine : ℕ → Type 0) (h m k : HeapView) → Passes hs Mine h m → Passes hs Mine m k → Passes hs Mine h k
+pub passes-then : (hs : List Holder) (Mine : ℕ → Type 0) (h m k : HeapView) → Passes hs Mine h m → Passes hs Mine m k → Passes hs Mine h k
 passes-then hs Mine h m k x y = record {
   space = y.space ∙ ap (λ (s : Layout). record s { states = k.space.states; pages = k.space.pages }) x.space;
   pages = λ page off.
-      let there : IsOthersPage m.space hs Mine page = subst (λ (ds : List ℕ). get_or ds (page / 4) 0 < length hs → Mine (get_or hs (get_or ds (page / 4) 0) 0) → ⊥) (sym (ap (λ (s : Layout). s.domains) x.space)) off in
+      let there : IsOthersPage m.space hs Mine page = subst (λ (ds : List ℕ). NoneHolds Mine (holder_of hs (get_or ds (page / 4) 0))) (sym (ap (λ (s : Layout). s.domains) x.space)) off in
       let a = x.pages page off in
       let b = y.pages page there in
       (b.0 ∙ a.0, b.1 ∙ a.1);
@@ -82,12 +84,12 @@ passes-then hs Mine h m k x y = record {
   buffer = λ l off. y.buffer l off ∙ x.buffer l off;
 }
 
-pub passes-wider : (hs : List ℕ) (Mine More : ℕ → Type 0) (h k : HeapView) → ((l : ℕ) → Mine l → More l) → Passes hs Mine h k → Passes hs More h k
+pub passes-wider : (hs : List Holder) (Mine More : ℕ → Type 0) (h k : HeapView) → ((l : ℕ) → Mine l → More l) → Passes hs Mine h k → Passes hs More h k
 passes-wider hs Mine More h k wider x = record {
   space = x.space;
-  pages = λ page off. x.pages page (λ within mine. off within (wider (get_or hs (get_or h.space.domains (page / 4) 0) 0) mine));
+  pages = λ page off. x.pages page (λ l is mine. off l is (wider l mine));
   roots = x.roots;
-  slots = λ p off. x.slots p (λ mine. off (wider (get_or hs p.domain 0) mine));
+  slots = λ p off. x.slots p (λ l is mine. off l is (wider l mine));
   chunks = x.chunks;
   chunk = λ l off. x.chunk l (λ mine. off (wider l mine));
   buffers = x.buffers;
@@ -95,7 +97,7 @@ passes-wider hs Mine More h k wider x = record {
 }
 
 -- where one lane may operate, each may
-pub ready-each : (h : HeapView) (hs : List ℕ) (lane l : ℕ) → MayOperate h hs lane → l < length h.chunks → MayOperate h hs l
+pub ready-each : (h : HeapView) (hs : List Holder) (lane l : ℕ) → MayOperate h hs lane → l < length h.chunks → MayOperate h hs l
 ready-each h hs lane l ready lt = record {
   running = ready.running;
   layout = ready.layout;
@@ -107,13 +109,13 @@ ready-each h hs lane l ready lt = record {
 }
 
 -- a heap after operations of a lane: what it stands for, where the lane has n births
-pub record Passed (hs : List ℕ) (lane : ℕ) (h k : HeapView) (serials : List ℕ) (n : ℕ) : Type 0 where
+pub record Passed (hs : List Holder) (lane : ℕ) (h k : HeapView) (serials : List ℕ) (n : ℕ) : Type 0 where
   pub state : State
   pub stands : StandsAs k hs (set serials lane n) state
   pub ready : MayOperate k hs lane
   pub passes : Passes hs (λ l. l ≡ lane) h k
 
-pub passed : (hs : List ℕ) (lane : ℕ) (ops : List Op) (replies : List Reply) (h k : HeapView) (s n : ℕ) (serials : List ℕ) (state : State) → DidAll hs lane ops replies h s k n → StandsAs h hs serials state → get_or serials lane 0 ≡ s → lane < length serials → MayOperate h hs lane → Passed hs lane h k serials n
+pub passed : (hs : List Holder) (lane : ℕ) (ops : List Op) (replies : List Reply) (h k : HeapView) (s n : ℕ) (serials : List ℕ) (state : State) → DidAll hs lane ops replies h s k n → StandsAs h hs serials state → get_or serials lane 0 ≡ s → lane < length serials → MayOperate h hs lane → Passed hs lane h k serials n
 passed hs lane [] [] h k s n serials state did stands e lt ready = record {
   state = state;
   stands = subst (λ (x : HeapView). StandsAs x hs (set serials lane n) state) (sym did.0)

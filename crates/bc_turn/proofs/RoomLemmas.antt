@@ -9,6 +9,7 @@ use Rattle.bc_lane.specs.declared.turns.LaneRoom.{LaneRoom}
 use Rattle.bc_lane.specs.Turns.{AreStarts}
 use Rattle.bc_model.specs.declared.operations.Op.{Op}
 use Rattle.bc_model.specs.declared.operations.Reply.{Reply}
+use Rattle.bc_model.specs.declared.values.Holder.{Holder}
 use Rattle.bc_reach.specs.Distinct.{Has}
 use Rattle.bc_superpages.specs.RootWords.{RootWords}
 use Rattle.bc_turn.specs.declared.rooms.Spare.{Spare}
@@ -36,13 +37,13 @@ busy-later lanes before after kept longer among = record {
   all = λ lane left. among.all lane (let more = longer lane in omega (arith, left));
 }
 
-pub room-kept : (hs : List ℕ) (slots : ℕ) (lanes : List (List Op)) (before after : List (List Reply)) (room : TurnRoom) → ((j : ℕ) → length (of_lane before j) ≤ length (of_lane after j))
+pub room-kept : (hs : List Holder) (slots : ℕ) (lanes : List (List Op)) (before after : List (List Reply)) (room : TurnRoom) → ((j : ℕ) → length (of_lane before j) ≤ length (of_lane after j))
     → IsRoomKept hs slots lanes before room → IsRoomKept hs slots lanes after room
 room-kept hs slots lanes before after room longer (inl none) = inl none
 room-kept hs slots lanes before after room longer (inr kept) = inr (kept.0, busy-later lanes before after (spare_lanes room.spares.items) longer kept.1)
 
 -- lanes that run make them so
-pub beside-longer : (hs : List ℕ) (lanes : List (List Op)) (h : HeapView) (serials : List ℕ) (before : List (List Reply)) (k : HeapView) (nexts : List ℕ) (after : List (List Reply)) → length before ≡ length lanes
+pub beside-longer : (hs : List Holder) (lanes : List (List Op)) (h : HeapView) (serials : List ℕ) (before : List (List Reply)) (k : HeapView) (nexts : List ℕ) (after : List (List Reply)) → length before ≡ length lanes
     → RanBeside hs lanes h serials before k nexts after → (j : ℕ) → length (of_lane before j) ≤ length (of_lane after j)
 beside-longer hs lanes h serials before k nexts after sizes ran j = elim (cases_lt j (length lanes)) [
   | inl lt ↦ subst (λ (rs : List Reply). length (of_lane before j) ≤ length rs) (sym (ran.told j lt)) (longer (of_lane before j) (ran.new j))
@@ -136,17 +137,17 @@ pub filter-lanes : (test : ℕ → Bool) (spares : List Spare) → spare_lanes (
 filter-lanes test [] = refl
 filter-lanes test (spare ∷ spares) = lanes-cons spare (filter (λ (s : Spare). test s.lane) spares) (filter test (spare_lanes spares)) (filter-lanes test spares) (test spare.lane)
 
-spares-cons : (hs : List ℕ) (slots : ℕ) (spare : Spare) (spares left : List Spare) → AreSparesOf hs slots (spare ∷ spares) → AreSparesOf hs slots left → (b : Bool) → AreSparesOf hs slots (cond b (spare ∷ left) left)
+spares-cons : (hs : List Holder) (slots : ℕ) (spare : Spare) (spares left : List Spare) → AreSparesOf hs slots (spare ∷ spares) → AreSparesOf hs slots left → (b : Bool) → AreSparesOf hs slots (cond b (spare ∷ left) left)
 spares-cons hs slots spare spares left all rest true zero lt d = all 0 (omega arith) d
 spares-cons hs slots spare spares left all rest true (suc i) lt d = rest i (omega arith) d
 spares-cons hs slots spare spares left all rest false i lt d = rest i lt d
 
-pub filter-spares : (hs : List ℕ) (slots : ℕ) (test : Spare → Bool) (spares : List Spare) → AreSparesOf hs slots spares → AreSparesOf hs slots (filter test spares)
+pub filter-spares : (hs : List Holder) (slots : ℕ) (test : Spare → Bool) (spares : List Spare) → AreSparesOf hs slots spares → AreSparesOf hs slots (filter test spares)
 filter-spares hs slots test [] all = λ i lt d. absurd (omega arith)
 filter-spares hs slots test (spare ∷ spares) all = spares-cons hs slots spare spares (filter test spares) all (filter-spares hs slots test spares (λ i lt d. all (suc i) (omega arith) d)) (test spare)
 
 -- room that is kept, without that of lanes that have no operations left
-pub room-fitted : (hs : List ℕ) (slots : ℕ) (lanes : List (List Op)) (replies : List (List Reply)) (room : TurnRoom) (new : List Spare) → IsRoomKept hs slots lanes replies room → 0 < length room.spares.items
+pub room-fitted : (hs : List Holder) (slots : ℕ) (lanes : List (List Op)) (replies : List (List Reply)) (room : TurnRoom) (new : List Spare) → IsRoomKept hs slots lanes replies room → 0 < length room.spares.items
     → new ≡ filter (λ (spare : Spare). is_busy lanes replies spare.lane) room.spares.items → AreBusyLanes lanes replies (spare_lanes new) × AreSparesOf hs slots new
 room-fitted hs slots lanes replies room new (inl none) some is = absurd (let zero = ap length none in omega arith)
 room-fitted hs slots lanes replies room new (inr kept) some is = (
@@ -155,7 +156,7 @@ room-fitted hs slots lanes replies room new (inr kept) some is = (
 )
 
 -- the room of a lane whose turn ended
-pub spare-back : (hs : List ℕ) (part : LanePart) (r : RootWords) (spare : Spare) → LiesRight hs r part → part.holders.items ≡ hs → spare.lane ≡ part.lane
+pub spare-back : (hs : List Holder) (part : LanePart) (r : RootWords) (spare : Spare) → LiesRight hs r part → part.holders.items ≡ hs → spare.lane ≡ part.lane
     → spare.room ≡ record { holders = part.holders; starts = part.starts; slots = part.slots } → spare.roots.domains ≡ part.domains → spare.roots.words.items ≡ [] → length part.words.items ≤ vec_capacity spare.roots.words → IsSpareOf hs r.slots spare
 spare-back hs part r spare right holders lane room domains none enough =
     let items : spare.roots.domains.items ≡ part.domains.items = ap (λ (v : Vec ℕ Global). v.items) domains in
@@ -175,17 +176,17 @@ spare-back hs part r spare right holders lane room domains none enough =
     }
 
 -- room that came back so far: that of the first of the busy lanes
-pub record AreReturned (hs : List ℕ) (slots : ℕ) (busy : List ℕ) (spares : List Spare) : Type 0 where
+pub record AreReturned (hs : List Holder) (slots : ℕ) (busy : List ℕ) (spares : List Spare) : Type 0 where
   pub spares_are : AreSparesOf hs slots spares
   pub lanes_are : (i : ℕ) → i < length spares → get_or (spare_lanes spares) i 0 ≡ get_or busy i 0
 
-pub returned-none : (hs : List ℕ) (slots : ℕ) (busy : List ℕ) (spares : List Spare) → spares ≡ [] → AreReturned hs slots busy spares
+pub returned-none : (hs : List Holder) (slots : ℕ) (busy : List ℕ) (spares : List Spare) → spares ≡ [] → AreReturned hs slots busy spares
 returned-none hs slots busy spares none = record {
   spares_are = λ i lt d. absurd (let z = ap length none in omega arith);
   lanes_are = λ i lt. absurd (let z = ap length none in omega arith);
 }
 
-pub returned-more : (hs : List ℕ) (slots : ℕ) (busy : List ℕ) (spares : List Spare) (spare : Spare) → AreReturned hs slots busy spares → IsSpareOf hs slots spare → spare.lane ≡ get_or busy (length spares) 0
+pub returned-more : (hs : List Holder) (slots : ℕ) (busy : List ℕ) (spares : List Spare) (spare : Spare) → AreReturned hs slots busy spares → IsSpareOf hs slots spare → spare.lane ≡ get_or busy (length spares) 0
     → AreReturned hs slots busy (spares ++ spare ∷ [])
 returned-more hs slots busy spares spare are one lane = record {
   spares_are = spares-more hs slots spares spare are.spares_are one;
@@ -201,7 +202,7 @@ returned-more hs slots busy spares spare are one lane = record {
       ];
 }
 
-pub returned-all : (hs : List ℕ) (slots : ℕ) (busy : List ℕ) (spares : List Spare) → AreReturned hs slots busy spares → length spares ≡ length busy → AreSparesOf hs slots spares × (spare_lanes spares ≡ busy)
+pub returned-all : (hs : List Holder) (slots : ℕ) (busy : List ℕ) (spares : List Spare) → AreReturned hs slots busy spares → length spares ≡ length busy → AreSparesOf hs slots spares × (spare_lanes spares ≡ busy)
 returned-all hs slots busy spares are long =
     let lanes = length-map spares (λ (s : Spare). s.lane) in (
       are.spares_are,

@@ -1,36 +1,39 @@
 -- Lanes that ran side by side, one after another: the heaps between them.
-use Rattle.std.proofs.Common.{◌≡◌, ◌⊎◌, ℕ, ◌+◌, ◌*◌, ◌<◌, ◌≤◌, List, [], ◌∷◌, ◌++◌, length, map, get_or, set, take, drop, None, inl, inr, refl, ap, sym, subst, ◌∙◌, arith, length-append, get_or-set_same, get_or-set_other}
+use Rattle.std.proofs.Common.{◌≡◌, ◌≢◌, ◌⊎◌, ℕ, ◌+◌, ◌*◌, ◌/◌, ◌<◌, ◌≤◌, List, [], ◌∷◌, ◌++◌, length, map, get_or, set, take, drop, None, inl, inr, refl, ap, sym, subst, ◌∙◌, arith, length-append, get_or-set_same, get_or-set_other}
 use Prim.Native.Nat.{zero, suc}
 use Rattle.std.proofs.lemmas.Bool.{cases_eq, cases_lt}
 use Rattle.std.specs.List.{AllByRecursion}
 use Rattle.bc_lane.specs.Back.{heap_back}
 use Rattle.bc_lane.specs.Doing.{DidAll}
-use Rattle.bc_lane.specs.Turns.{IsWhole, LaneRan, StopsOp, WhyStopped}
+use Rattle.bc_lane.specs.Turns.{IsWhole, LaneRan, LooksOn, StopsOp, WhyStopped}
 use Rattle.bc_lane.specs.declared.parts.LanePart.{LanePart}
 use Rattle.bc_lane.specs.declared.stops.Stop.{Stop}
 use Rattle.bc_lane.specs.declared.stops.Stop.TheVariants as stop
 use Rattle.bc_lane.specs.declared.turns.LaneTurn.{LaneTurn}
 use Rattle.bc_model.proofs.Runs.{at-index}
-use Rattle.bc_model.specs.State.{State}
+use Rattle.bc_model.specs.State.{State, holder_of}
 use Rattle.bc_model.specs.declared.operations.Op.{Op}
 use Rattle.bc_model.specs.declared.operations.Reply.{Reply}
+use Rattle.bc_model.specs.declared.values.Holder.{Holder}
+use Rattle.bc_model.specs.declared.values.Holder.TheVariants.{Frozen}
 use Rattle.bc_mutator.specs.Objects.{MayOperate}
 use Rattle.bc_mutator.specs.Operations.{IsOpOf, NeedsEntry, WantsMore}
 use Rattle.bc_nursery.specs.Entries.{Entries}
 use Rattle.bc_nursery.specs.Nurseries.{Nursery}
 use Rattle.bc_nursery.specs.Objects.{left_of}
 use Rattle.bc_pins.specs.Calls.{view_of}
-use Rattle.bc_pins.specs.Key.{Key, lane_role}
+use Rattle.bc_pins.specs.Key.{Key, lane_role, owner, owner_role}
 use Rattle.bc_pins.specs.declared.pins.Pins.{Pins}
 use Rattle.bc_pins.specs.declared.pins.Seat.{Seat}
 use Rattle.bc_pins.specs.declared.views.View.{View}
 use Rattle.bc_reach.specs.Distinct.{Has}
+use Rattle.bc_superpages.specs.declared.headers.PageState.TheVariants.{Gone}
 use Rattle.bc_superpages.specs.Layout.{Layout}
-use Rattle.bc_superpages.specs.LayoutAt.{IsAllocated}
+use Rattle.bc_superpages.specs.LayoutAt.{IsAllocated, state_at}
 use Rattle.bc_superpages.specs.RootWords.{RootWords}
 use Rattle.bc_turn.proofs.BusyLemmas.{has-left, same-index}
 use Rattle.bc_turn.proofs.AwayLemmas.{NotesGone}
-use Rattle.bc_turn.proofs.OtherLemmas.{IsSeatOf, other-whole}
+use Rattle.bc_turn.proofs.OtherLemmas.{IsSeatOf, frozen-holder, other-whole}
 use Rattle.bc_turn.proofs.PassLemmas.{Passed, Passes, passed, passes-none, passes-then, passes-wider, ready-each}
 use Rattle.bc_turn.specs.Begun.{AllRan, AreBegun, HasLeft, of_lane}
 use Rattle.bc_turn.specs.Beside.{IsAtEndOr, StopsBeside}
@@ -43,7 +46,7 @@ use Rattle.bc_reach.proofs.Pushed.{Has-get_or}
 
 -- the heap that the lanes below n left, the first of them the one with every page back. What each busy lane has belongs to it: what it has after its operations where it is below n,
 -- and else what it began with
-pub record Stage (h : HeapView) (hs serials busy : List ℕ) (old : ℕ → LaneTurn) (seat : ℕ → Seat) (new : ℕ → LaneTurn) (after : ℕ → Seat) (n : ℕ) : Type 0 where
+pub record Stage (h : HeapView) (hs : List Holder) (serials busy : List ℕ) (old : ℕ → LaneTurn) (seat : ℕ → Seat) (new : ℕ → LaneTurn) (after : ℕ → Seat) (n : ℕ) : Type 0 where
   pub heap : HeapView
   pub births : List ℕ
   pub state : State
@@ -57,7 +60,7 @@ pub record Stage (h : HeapView) (hs serials busy : List ℕ) (old : ℕ → Lane
   pub done : (i : ℕ) → i < length busy → get_or busy i 0 < n → IsWhole (new i).part (view_of (after i)) None (end_of h.space) heap
 
 -- what one lane did of its operations, from one heap to the next. `t` is the space after the turn
-pub record Link (hs : List ℕ) (n : ℕ) (ops : List Op) (serial : ℕ) (told : List Reply) (g k : HeapView) (next : ℕ) (after : List Reply) (t : Layout) : Type 0 where
+pub record Link (hs : List Holder) (n : ℕ) (ops : List Op) (serial : ℕ) (told : List Reply) (g k : HeapView) (next : ℕ) (after : List Reply) (t : Layout) : Type 0 where
   pub new : List Reply
   pub told_are : after ≡ told ++ new
   pub did : DidAll hs n (take (length new) (drop (length told) ops)) new g serial k next
@@ -68,7 +71,7 @@ whole-end : (part : LanePart) (v : View) (end : ℕ) (h : HeapView) → IsWhole 
 whole-end part v end h w = subst (λ (n : ℕ). IsWhole part v None n h) w.belongs.space.end_is w
 
 -- a lane that has no operations left does nothing
-pub nothing-did : (hs : List ℕ) (n : ℕ) (ops : List Op) (h : HeapView) (s : ℕ) → DidAll hs n (take 0 ops) [] h s h s
+pub nothing-did : (hs : List Holder) (n : ℕ) (ops : List Op) (h : HeapView) (s : ℕ) → DidAll hs n (take 0 ops) [] h s h s
 nothing-did hs n [] h s = (refl, refl)
 nothing-did hs n (op ∷ ops) h s = (refl, refl)
 
@@ -76,21 +79,42 @@ pub nothing-more : (xs : List Reply) → xs ≡ xs ++ []
 nothing-more [] = refl
 nothing-more (x ∷ xs) = ap (λ (l : List Reply). x ∷ l) (nothing-more xs)
 
+-- a page on which an operation looks, and which is Gone after the turn where some lane holds it: or it is frozen
+noted-beside : (hs : List Holder) (n page : ℕ) (v : View) (k : HeapView) (t : Layout) (op : Op) → IsSeatOf hs n v → k.space.domains ≡ v.about.opening.domains → LooksOn k op page
+    → (owner v.about page ≢ 0 → state_at t.states page ≡ Gone)
+    → ((q : ℕ) × LooksOn k op q × (state_at t.states q ≡ Gone)) ⊎ ((q : ℕ) × LooksOn k op q × (holder_of hs (get_or k.space.domains (q / 4) 0) ≡ Frozen))
+noted-beside hs n page v k t op seat domains looks gone = elim (cases_eq (owner v.about page) 0) [
+  | inl frozen ↦ inr (page, looks, subst (λ (ds : List ℕ). holder_of hs (get_or ds (page / 4) 0) ≡ Frozen) (sym domains) (frozen-holder hs n page v seat frozen))
+  | inr owned ↦ inl (page, looks, gone owned)
+]
+
 -- why a lane stopped, said of the heap to which belongs what it has and of the space after the turn
-stops-beside : (hs : List ℕ) (n end : ℕ) (part : LanePart) (u v : View) (k : HeapView) (t : Layout) (op : Op) (why : Stop) → part.holders.items ≡ hs → part.lane ≡ n → IsWhole part v None end k → IsOpOf k.roots op → NotesGone v k.space t → StopsOp u part v None end op why
+stops-beside : (hs : List Holder) (n end : ℕ) (part : LanePart) (u v : View) (k : HeapView) (t : Layout) (op : Op) (why : Stop) → part.holders.items ≡ hs → part.lane ≡ n → IsSeatOf hs n v → IsWhole part v None end k → IsOpOf k.roots op → NotesGone v k.space t → StopsOp u part v None end op why
     → StopsBeside hs n op k t
-stops-beside hs n end part u v k t op why eh el whole fits notes stops =
-    subst (λ (l : ℕ). StopsBeside hs l op k t) el (subst (λ (l : List ℕ). StopsBeside l part.lane op k t) eh (go why stops))
+stops-beside hs n end part u v k t op why eh el seat whole fits notes stops =
+    subst (λ (l : ℕ). StopsBeside hs l op k t) el (subst (λ (l : List Holder). StopsBeside l part.lane op k t) eh (go why stops))
   where
+    here : IsSeatOf part.holders.items part.lane v
+    here = subst (λ (l : ℕ). IsSeatOf part.holders.items l v) (sym el) (subst (λ (l : List Holder). IsSeatOf l n v) (sym eh) seat)
+
+    beside : (page : ℕ) → LooksOn k op page → (owner v.about page ≢ 0 → state_at t.states page ≡ Gone)
+        → ((q : ℕ) × LooksOn k op q × (state_at t.states q ≡ Gone)) ⊎ ((q : ℕ) × LooksOn k op q × (holder_of part.holders.items (get_or k.space.domains (q / 4) 0) ≡ Frozen))
+    beside page looks gone = noted-beside part.holders.items part.lane page v k t op here (ap (λ (s : Layout). s.domains) whole.belongs.space.same) looks gone
+
     go : (w : Stop) → StopsOp u part v None end op w → StopsBeside part.holders.items part.lane op k t
     go stop.End s = absurd s
     go stop.NurseryFull s = inl (subst (λ (c : Nursery). WantsMore part.holders.items part.lane (left_of c) op) (sym whole.belongs.chunk_is) s)
     go stop.BufferFull s = inr (inl (subst (λ (c : Nursery). NeedsEntry part.holders.items part.lane k.space k.roots c (buffer_of k.buffers part.lane) op) (sym whole.belongs.chunk_is)
         (subst (λ (b : Entries). NeedsEntry part.holders.items part.lane k.space k.roots part.chunk b op) (sym whole.belongs.buffer_is) (s k whole fits))))
-    go (stop.Busy page) s = let looks = s.1 k whole fits in inr (inr (page, looks, notes page looks.0.0 looks.2 looks.3 (inr s.0.noted)))
-    go stop.NoFrame s = let looks = s.2 k whole fits in inr (inr (s.0, looks, notes s.0 looks.0.0 looks.2 looks.3 (inl s.1.noted)))
+    go (stop.Busy page) s = let looks = s.1 k whole fits in inr (inr (beside page looks (λ owned. elim s.0 [
+      | inl reads ↦ notes page looks.0.0 looks.2 looks.3 owned (inr reads.noted)
+      | inr reads ↦ absurd (owned reads.frozen)
+    ])))
+    go stop.NoFrame s = let looks = s.2 k whole fits in inr (inr (beside s.0 looks (λ owned. notes s.0 looks.0.0 looks.2 looks.3 owned (inl s.1.noted))))
+    go (stop.Gone page) s = inr (inr (beside page (s.1 k whole fits) (λ owned. absurd (owned s.0.frozen))))
+    go (stop.Moved page) s = inr (inr (beside page (s.1 k whole fits) (λ owned. absurd (owned s.0.frozen))))
 
-module _ (pins : Pins) (h : HeapView) (hs serials : List ℕ) (lanes : List (List Op)) (before : List (List Reply)) (busy : List ℕ) (old : ℕ → LaneTurn) (seat : ℕ → Seat) (new : ℕ → LaneTurn) (after : ℕ → Seat)
+module _ (pins : Pins) (h : HeapView) (hs : List Holder) (serials : List ℕ) (lanes : List (List Op)) (before : List (List Reply)) (busy : List ℕ) (old : ℕ → LaneTurn) (seat : ℕ → Seat) (new : ℕ → LaneTurn) (after : ℕ → Seat)
     (begun : AreBegun pins h hs serials lanes before busy old seat) (ran : AllRan lanes busy old seat new after) (state : State) (stands : StandsAs (heap_back h) hs serials state)
     (words : length h.roots.words ≡ h.roots.domains * h.roots.slots) (ops : (j : ℕ) → Has busy j → AllByRecursion (IsOpOf h.roots) (of_lane lanes j)) where
   abbrev end : ℕ
@@ -116,7 +140,7 @@ module _ (pins : Pins) (h : HeapView) (hs serials : List ℕ) (lanes : List (Lis
   old-seat i lt =
       let b = begun.each i lt in
       record {
-        owners = ap (λ (v : View). v.about.owners) b.view ∙ b.going.table.owners ∙ ap (map lane_role) b.holders_are;
+        owners = ap (λ (v : View). v.about.owners) b.view ∙ b.going.table.owners ∙ ap (map owner_role) b.holders_are;
         roles = ap (λ (v : View). v.roles) b.view ∙ ap (λ (l : ℕ). lane_role l ∷ []) (begun.lane_is i lt);
       }
 
@@ -138,7 +162,7 @@ module _ (pins : Pins) (h : HeapView) (hs serials : List ℕ) (lanes : List (Lis
     born = λ i lt less. absurd (omega arith);
     ready = λ i lt.
         let b = begun.each i lt in
-        subst (λ (l : ℕ). MayOperate (heap_back h) hs l) (begun.lane_is i lt) (subst (λ (l : List ℕ). MayOperate (heap_back h) l (old i).part.lane) b.holders_are b.whole.ready);
+        subst (λ (l : ℕ). MayOperate (heap_back h) hs l) (begun.lane_is i lt) (subst (λ (l : List Holder). MayOperate (heap_back h) l (old i).part.lane) b.holders_are b.whole.ready);
     waits = λ i lt le. (begun.each i lt).whole;
     done = λ i lt less. absurd (omega arith);
   }
@@ -225,7 +249,7 @@ module _ (pins : Pins) (h : HeapView) (hs serials : List ℕ) (lanes : List (Lis
         (subst (λ (q : ℕ). DidAll hs n (take m (drop (length (of_lane before n)) (of_lane lanes q))) run.replies s.heap o.part.serial k w.part.serial) is
         (subst (λ (q : ℕ). DidAll hs n (take m (drop q (of_lane lanes (lane i)))) run.replies s.heap o.part.serial k w.part.serial) next-n
         (subst (λ (q : ℕ). DidAll hs q (take m (drop o.next (of_lane lanes (lane i)))) run.replies s.heap o.part.serial k w.part.serial) lane-n
-        (subst (λ (l : List ℕ). DidAll l o.part.lane (take m (drop o.next (of_lane lanes (lane i)))) run.replies s.heap o.part.serial k w.part.serial) (begun.each i lt).holders_are made.2))))
+        (subst (λ (l : List Holder). DidAll l o.part.lane (take m (drop o.next (of_lane lanes (lane i)))) run.replies s.heap o.part.serial k w.part.serial) (begun.each i lt).holders_are made.2))))
 
     within : n < length s.heap.chunks
     within = subst (λ (l : ℕ). l < length s.heap.chunks) is (s.ready i lt).lane_within
@@ -326,7 +350,7 @@ module _ (pins : Pins) (h : HeapView) (hs serials : List ℕ) (lanes : List (Lis
           e.0,
           subst (λ (q : ℕ). q < length (of_lane lanes (lane i))) next-is e.1,
           subst (λ (q : ℕ). e.0 ≡ get_or (of_lane lanes (lane i)) q e.0) next-is e.2,
-          stops-beside hs n (end_of s.heap.space) w.part (view_of (seat i)) (view_of (after i)) k t e.0 (ran.why i) (new-holders i lt) (new-lane i lt ∙ is) made.1
+          stops-beside hs n (end_of s.heap.space) w.part (view_of (seat i)) (view_of (after i)) k t e.0 (ran.why i) (new-holders i lt) (new-lane i lt ∙ is) (subst (λ (l : ℕ). IsSeatOf hs l (view_of (after i))) is (new-seat i lt)) made.1
               (subst (IsOpOf k.roots) (sym e.2) (at-index (IsOpOf k.roots) (of_lane lanes (lane i)) w.next e.0 (fits-at k passes-h) e.1))
               (λ page cell there. notes page cell (subst (λ (x : Layout). IsAllocated x cell) passes-h.space there)) e.3,
         )

@@ -1,15 +1,18 @@
 -- What a closed table gives back is what the lanes' operations made, one lane after another.
 use Rattle.std.proofs.Common.{◌≡◌, ℕ, ◌+◌, ◌*◌, ◌/◌, ◌<◌, ◌≤◌, ◌==◌, List, [], ◌∷◌, ◌++◌, length, map, get_or, inl, inr, refl, ap, sym, subst, ◌∙◌, arith}
 use Rattle.std.proofs.lemmas.Bool.{cases_lt}
-use Rattle.std.proofs.lemmas.List.{ext_get_or, get_or-map, get_or_past, length-map}
+use Rattle.std.proofs.lemmas.List.{ext_get_or}
 use Rattle.bc_bits.specs.Counting.{one_if}
 use Rattle.bc_lane.specs.Back.{back_state, heap_back}
 use Rattle.bc_lane.specs.Shown.{IsOwnPage, ShowsPage}
 use Rattle.bc_lane.proofs.BackLemmas.{back-state, remembered-to}
 use Rattle.bc_lane.proofs.OpenLemmas.{remembered-word}
+use Rattle.bc_model.specs.State.{holder_of}
+use Rattle.bc_model.specs.declared.values.Holder.{Holder}
+use Rattle.bc_model.specs.declared.values.Holder.TheVariants.{Frozen, Lane}
 use Rattle.bc_pins.specs.Calls.{view_of}
 use Rattle.bc_pins.specs.Closing.{Closed}
-use Rattle.bc_pins.specs.Key.{Key, lane_role, owner, pages_of, role_number}
+use Rattle.bc_pins.specs.Key.{Key, lane_role, owner, owner_role, pages_of, role_number}
 use Rattle.bc_pins.specs.Opening.{IsOpenable}
 use Rattle.bc_pins.specs.Totals.{times, total}
 use Rattle.bc_pins.specs.Views.{entries, has_role, opened_content, opened_state, opened_word, record_of, state_word}
@@ -25,7 +28,7 @@ use Rattle.bc_superpages.specs.Kept.{IsLayout}
 use Rattle.bc_superpages.specs.Layout.{Layout, content_at, superpages}
 use Rattle.bc_superpages.specs.LayoutAt.{state_at}
 use Rattle.bc_pager.proofs.HomeLemmas.{state-behind}
-use Rattle.bc_turn.proofs.BusyLemmas.{find-index}
+use Rattle.bc_turn.proofs.HolderLemmas.{NoneHolds, find-holder, owner-of}
 use Rattle.bc_turn.proofs.PassLemmas.{IsOthersPage, Passes}
 use Rattle.bc_turn.specs.Beside.{LiesBack}
 use Rattle.bc_turn.specs.Taking.{turn_roles}
@@ -40,9 +43,9 @@ role-numbers [] = refl
 role-numbers (x ∷ xs) = ap (λ (rs : List ℕ). lane_role x ∷ rs) (role-numbers xs)
 
 -- the table is over this space, for lanes who hold the domains so, and has a role for each of these lanes and one for a pager
-pub record IsTurnTable (k : Key) (s : Layout) (hs busy : List ℕ) : Type 0 where
+pub record IsTurnTable (k : Key) (s : Layout) (hs : List Holder) (busy : List ℕ) : Type 0 where
   pub opening : k.opening ≡ s
-  pub owners : k.owners ≡ map lane_role hs
+  pub owners : k.owners ≡ map owner_role hs
   pub roles : k.roles ≡ turn_numbers busy
   pub behind : (p : ℕ) → pages_of k ≤ p → state_at s.states p ≡ Absent
 
@@ -53,7 +56,7 @@ pub record AreRecorded (k : Key) (busy : List ℕ) (seat : ℕ → Seat) (seats 
   pub nobody : (p : ℕ) → times (owner k p) k.roles ≡ 0 → total (λ (s : Seat). times p (view_of s).recorded) seats ≡ 0
 
 -- the seats when they are back, the lanes' first. What each lane's says of its pages is so in this heap
-pub record AreSeatsBack (k : Key) (hs busy : List ℕ) (m : HeapView) (seat : ℕ → Seat) (seats : List Seat) : Type 0 where
+pub record AreSeatsBack (k : Key) (hs : List Holder) (busy : List ℕ) (m : HeapView) (seat : ℕ → Seat) (seats : List Seat) : Type 0 where
   pub long : length seats ≡ length busy + 1
   pub same : (i : ℕ) → i < length busy → (d : Seat) → get_or seats i d ≡ seat i
   pub about : (i : ℕ) → i < length busy → (view_of (seat i)).about ≡ k
@@ -88,14 +91,19 @@ no-lane busy l none =
     let pager = one_other (role_number (Pager 0)) (lane_role l) (λ e. absurd (omega arith)) in
     omega arith
 
-no-owner : (busy : List ℕ) → times 0 (turn_numbers busy) ≡ 0
+pub no-owner : (busy : List ℕ) → times 0 (turn_numbers busy) ≡ 0
 no-owner busy =
     let both = times_append 0 (map lane_role busy) (role_number (Pager 0) ∷ []) in
     let lanes = nobody-role busy in
     let pager = one_other (role_number (Pager 0)) 0 (λ e. absurd (omega arith)) in
     omega arith
 
-module _ (k : Key) (h m : HeapView) (hs busy : List ℕ) (seat : ℕ → Seat) (seats : List Seat) (t : Layout)
+-- nobody is there whose is what none of the lanes holds
+no-holder : (busy : List ℕ) (x : Holder) → NoneHolds (Has busy) x → times (owner_role x) (turn_numbers busy) ≡ 0
+no-holder busy (Lane l) off = no-lane busy l (off l refl)
+no-holder busy Frozen off = no-owner busy
+
+module _ (k : Key) (h m : HeapView) (hs : List Holder) (busy : List ℕ) (seat : ℕ → Seat) (seats : List Seat) (t : Layout)
     (table : IsTurnTable k h.space hs busy) (back : AreSeatsBack k hs busy m seat seats) (passes : Passes hs (Has busy) (heap_back h) m) (closed : Closed k seats t) where
   abbrev view : ℕ → View
   view i = view_of (seat i)
@@ -104,9 +112,9 @@ module _ (k : Key) (h m : HeapView) (hs busy : List ℕ) (seat : ℕ → Seat) (
   domain p = get_or k.opening.domains (p / 4) 0
 
   -- a page of one of the lanes, at the table
-  module _ (p i : ℕ) (lt : i < length busy) (within : domain p < length hs) (held : get_or hs (domain p) 0 ≡ get_or busy i 0) where
+  module _ (p i : ℕ) (lt : i < length busy) (held : holder_of hs (domain p) ≡ Lane (get_or busy i 0)) where
     role-is : owner k p ≡ lane_role (get_or busy i 0)
-    role-is = ap (λ (l : List ℕ). get_or l (domain p) 0) table.owners ∙ get_or-map lane_role hs (domain p) 0 0 within ∙ ap lane_role held
+    role-is = ap (λ (l : List ℕ). get_or l (domain p) 0) table.owners ∙ owner-of hs (domain p) ∙ ap owner_role held
 
     has : 0 < has_role (view i) (owner k p)
     has =
@@ -156,20 +164,15 @@ module _ (k : Key) (h m : HeapView) (hs busy : List ℕ) (seat : ℕ → Seat) (
         omega arith
 
   -- and one of nobody who was there
-  module _ (p : ℕ) (off : domain p < length hs → Has busy (get_or hs (domain p) 0) → ⊥) where
+  module _ (p : ℕ) (off : NoneHolds (Has busy) (holder_of hs (domain p))) where
     off-h : IsOthersPage h.space hs (Has busy) p
     off-h = subst (λ (s : Layout). IsOthersPage s hs (Has busy) p) table.opening off
 
     unowned : times (owner k p) k.roles ≡ 0
-    unowned = subst (λ (rs : List ℕ). times (owner k p) rs ≡ 0) (sym table.roles) (elim (cases_lt (domain p) (length hs)) [
-      | inl within ↦
-          subst (λ (r : ℕ). times r (turn_numbers busy) ≡ 0) (sym (ap (λ (l : List ℕ). get_or l (domain p) 0) table.owners ∙ get_or-map lane_role hs (domain p) 0 0 within))
-          (no-lane busy (get_or hs (domain p) 0) (off within))
-      | inr out ↦
-          subst (λ (r : ℕ). times r (turn_numbers busy) ≡ 0)
-          (sym (ap (λ (l : List ℕ). get_or l (domain p) 0) table.owners ∙ get_or_past (map lane_role hs) (domain p) 0 (let long = length-map hs lane_role in omega arith)))
-          (no-owner busy)
-    ])
+    unowned =
+        subst (λ (rs : List ℕ). times (owner k p) rs ≡ 0) (sym table.roles)
+        (subst (λ (r : ℕ). times r (turn_numbers busy) ≡ 0) (sym (ap (λ (l : List ℕ). get_or l (domain p) 0) table.owners ∙ owner-of hs (domain p)))
+        (no-holder busy (holder_of hs (domain p)) off))
 
     opened-same : content_at m.space.pages p ≡ opened_content k p
     opened-same = (passes.pages p off-h).0 ∙ ap (λ (s : Layout). content_at s.pages p) (sym table.opening)
@@ -199,33 +202,24 @@ module _ (k : Key) (h m : HeapView) (hs busy : List ℕ) (seat : ℕ → Seat) (
 
   -- every page
   content-same : (p : ℕ) → p < 4 * superpages k.opening → content_at t.pages p ≡ content_at m.space.pages p
-  content-same p inside = elim (cases_lt (domain p) (length hs)) [
-    | inl within ↦ elim (find-index busy (get_or hs (domain p) 0)) [
-      | inl r ↦ elim (cases_lt p (pages_of k)) [
-        | inl near ↦ mine-near p r.0 r.1 within (sym r.2) near
-        | inr far ↦ mine-far p r.0 r.1 within (sym r.2) far inside
-      ]
-      | inr none ↦ left-content p (λ w. none) inside
+  content-same p inside = elim (find-holder busy (holder_of hs (domain p))) [
+    | inl r ↦ elim (cases_lt p (pages_of k)) [
+      | inl near ↦ mine-near p r.0 r.1 r.2 near
+      | inr far ↦ mine-far p r.0 r.1 r.2 far inside
     ]
-    | inr out ↦ left-content p (λ w. absurd (omega arith)) inside
+    | inr none ↦ left-content p none inside
   ]
 
   remembered-still : (p : ℕ) → state_at m.space.states p ≡ Remembered → state_at t.states p ≡ Remembered
-  remembered-still p is = elim (cases_lt p (pages_of k)) [
-    | inl near ↦ elim (cases_lt (domain p) (length hs)) [
-      | inl within ↦ elim (find-index busy (get_or hs (domain p) 0)) [
-        | inl r ↦ mine-remembered p r.0 r.1 within (sym r.2) near is
-        | inr none ↦ left-remembered p (λ w. none) near is
-      ]
-      | inr out ↦ left-remembered p (λ w. absurd (omega arith)) near is
+  remembered-still p is = elim (find-holder busy (holder_of hs (domain p))) [
+    | inl r ↦ elim (cases_lt p (pages_of k)) [
+      | inl near ↦ mine-remembered p r.0 r.1 r.2 near is
+      | inr far ↦ absurd (mine-behind p r.0 r.1 r.2 far is)
     ]
-    | inr far ↦ absurd (elim (cases_lt (domain p) (length hs)) [
-      | inl within ↦ elim (find-index busy (get_or hs (domain p) 0)) [
-        | inl r ↦ mine-behind p r.0 r.1 within (sym r.2) far is
-        | inr none ↦ left-behind p (λ w. none) far is
-      ]
-      | inr out ↦ left-behind p (λ w. absurd (omega arith)) far is
-    ])
+    | inr none ↦ elim (cases_lt p (pages_of k)) [
+      | inl near ↦ left-remembered p none near is
+      | inr far ↦ absurd (left-behind p none far is)
+    ]
   ]
 
   -- and no other page becomes Remembered
@@ -237,12 +231,9 @@ module _ (k : Key) (h m : HeapView) (hs busy : List ℕ) (seat : ℕ → Seat) (
 
   remembered-before : IsLayout t → (p : ℕ) → state_at t.states p ≡ Remembered → state_at m.space.states p ≡ Remembered
   remembered-before layout p is = elim (cases_lt p (pages_of k)) [
-    | inl near ↦ elim (cases_lt (domain p) (length hs)) [
-      | inl within ↦ elim (find-index busy (get_or hs (domain p) 0)) [
-        | inl r ↦ mine-recorded p r.0 r.1 within (sym r.2) near is
-        | inr none ↦ left-recorded p (λ w. none) near is
-      ]
-      | inr out ↦ left-recorded p (λ w. absurd (omega arith)) near is
+    | inl near ↦ elim (find-holder busy (holder_of hs (domain p))) [
+      | inl r ↦ mine-recorded p r.0 r.1 r.2 near is
+      | inr none ↦ left-recorded p none near is
     ]
     | inr far ↦ absurd (absent-remembered (sym (absent-far layout p far) ∙ is))
   ]

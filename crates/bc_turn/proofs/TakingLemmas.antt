@@ -10,9 +10,12 @@ use Rattle.bc_lane.specs.declared.turns.LaneTurn.{LaneTurn}
 use Rattle.bc_lane.specs.Turns.{IsPreparedTurn}
 use Rattle.bc_cycle.specs.declared.heaps.Heap.{Heap}
 use Rattle.bc_model.specs.Rows.{lists_of}
+use Rattle.bc_model.specs.State.{holder_of}
 use Rattle.std.proofs.lemmas.Nat.{mul-add-lt}
 use Rattle.bc_model.specs.declared.operations.Op.{Op}
 use Rattle.bc_model.specs.declared.operations.Reply.{Reply}
+use Rattle.bc_model.specs.declared.values.Holder.{Holder}
+use Rattle.bc_model.specs.declared.values.Holder.TheVariants.{Lane}
 use Rattle.bc_mutator.specs.Objects.{own_chunk}
 use Rattle.bc_nursery.specs.Entries.{Entries}
 use Rattle.bc_nursery.specs.Nurseries.{Nursery}
@@ -56,7 +59,7 @@ push-last : (xs : List ℕ) (y : ℕ) → (i : ℕ) × (i < length (xs ++ y ∷ 
 push-last xs y = let long = length_push xs y in (length xs, omega arith, get_or_push xs y 0 (length xs) refl)
 
 -- domains that a lane holds
-pub held-none : (hs : List ℕ) (lane : ℕ) → AreHeldBelow hs lane 0 []
+pub held-none : (hs : List Holder) (lane : ℕ) → AreHeldBelow hs lane 0 []
 held-none hs lane = record {
   rising = λ i j less lt. absurd (omega arith);
   within = λ i lt. absurd (omega arith);
@@ -64,24 +67,24 @@ held-none hs lane = record {
   all = λ d lt own. absurd (omega arith);
 }
 
-pub held-more : (hs : List ℕ) (lane n : ℕ) (ds : List ℕ) → AreHeldBelow hs lane n ds → get_or hs n 0 ≡ lane → AreHeldBelow hs lane (n + 1) (ds ++ n ∷ [])
+pub held-more : (hs : List Holder) (lane n : ℕ) (ds : List ℕ) → AreHeldBelow hs lane n ds → holder_of hs n ≡ Lane lane → AreHeldBelow hs lane (n + 1) (ds ++ n ∷ [])
 held-more hs lane n ds are own = record {
   rising = push-rising ds n are.rising are.within;
   within = push-each (λ d. d < n + 1) ds n (λ i lt. let h = are.within i lt in omega arith) (omega arith);
-  held = push-each (λ d. get_or hs d 0 ≡ lane) ds n are.held own;
+  held = push-each (λ d. holder_of hs d ≡ Lane lane) ds n are.held own;
   all = λ d lt mine. elim (cases_eq d n) [
     | inl e ↦ let f = push-last ds n in (f.0, f.1, f.2 ∙ sym e)
     | inr ne ↦ push-found ds n d (are.all d (omega arith) mine)
   ];
 }
 
-pub held-same : (hs : List ℕ) (lane n : ℕ) (ds : List ℕ) → AreHeldBelow hs lane n ds → get_or hs n 0 ≢ lane → AreHeldBelow hs lane (n + 1) ds
+pub held-same : (hs : List Holder) (lane n : ℕ) (ds : List ℕ) → AreHeldBelow hs lane n ds → holder_of hs n ≢ Lane lane → AreHeldBelow hs lane (n + 1) ds
 held-same hs lane n ds are off = record {
   rising = are.rising;
   within = λ i lt. let h = are.within i lt in omega arith;
   held = are.held;
   all = λ d lt mine. elim (cases_eq d n) [
-    | inl e ↦ absurd (off (ap (λ (x : ℕ). get_or hs x 0) (sym e) ∙ mine))
+    | inl e ↦ absurd (off (ap (λ (x : ℕ). holder_of hs x) (sym e) ∙ mine))
     | inr ne ↦ are.all d (omega arith) mine
   ];
 }
@@ -190,7 +193,7 @@ busy-all lanes replies busy are = record {
 }
 
 -- room for one lane more
-pub spares-more : (hs : List ℕ) (slots : ℕ) (spares : List Spare) (spare : Spare) → AreSparesOf hs slots spares → IsSpareOf hs slots spare → AreSparesOf hs slots (spares ++ spare ∷ [])
+pub spares-more : (hs : List Holder) (slots : ℕ) (spares : List Spare) (spare : Spare) → AreSparesOf hs slots spares → IsSpareOf hs slots spare → AreSparesOf hs slots (spares ++ spare ∷ [])
 spares-more hs slots spares spare all one i lt d = elim (cases_lt i (length spares)) [
   | inl near ↦ subst (IsSpareOf hs slots) (sym (get_or_append_left spares (spare ∷ []) d i near)) (all i near d)
   | inr far ↦ let long = length_push spares spare in subst (IsSpareOf hs slots) (sym (get_or_push spares spare d i (omega arith))) one
@@ -214,19 +217,19 @@ pub list-at : {X : Type 0} (vs : List (Vec X Global)) (i : ℕ) (v : Vec X Globa
 list-at {X} vs i v lt e = get_or-map (λ (u : Vec X Global). u.items) vs i v [] lt ∙ ap (λ (u : Vec X Global). u.items) (sym e)
 
 -- what a lane takes along, by what it was prepared with
-pub takes-of : (h : HeapView) (hs serials : List ℕ) (lanes : List (List Op)) (before : List (List Reply)) (lane : ℕ) (turn : LaneTurn) (roots : LaneRoots) (told : Vec Reply Global) (slots count : ℕ) (chunk : Nursery) (buffer : Entries)
+pub takes-of : (h : HeapView) (hs : List Holder) (serials : List ℕ) (lanes : List (List Op)) (before : List (List Reply)) (lane : ℕ) (turn : LaneTurn) (roots : LaneRoots) (told : Vec Reply Global) (slots count : ℕ) (chunk : Nursery) (buffer : Entries)
     → AreHeldDomains hs lane roots.domains.items → AreWordsOf h.roots roots.domains.items roots.words.items → told.items ≡ of_lane before lane → slots ≡ h.roots.slots → chunk ≡ own_chunk h lane
-    → buffer ≡ buffer_of h.buffers lane → count ≡ length (of_lane lanes lane) → IsPreparedTurn lane hs slots roots chunk buffer (get_or serials lane 0) told count turn → TakesAlong h hs serials lanes before lane turn
+    → buffer ≡ buffer_of h.buffers lane → count ≡ length (of_lane lanes lane) → IsPreparedTurn lane hs slots h.roots roots chunk buffer (get_or serials lane 0) told count turn → TakesAlong h hs serials lanes before lane turn
 takes-of h hs serials lanes before lane turn roots told slots count chunk buffer domains words told_are slots_are chunk_is buffer_is count_is prepared = record {
   roots = roots;
   domains = domains;
   words = words;
   told = told;
   told_are = told_are;
-  prepared = subst (λ (s : ℕ). IsPreparedTurn lane hs s roots (own_chunk h lane) (buffer_of h.buffers lane) (get_or serials lane 0) told (length (of_lane lanes lane)) turn) slots_are
-      (subst (λ (c : Nursery). IsPreparedTurn lane hs slots roots c (buffer_of h.buffers lane) (get_or serials lane 0) told (length (of_lane lanes lane)) turn) chunk_is
-      (subst (λ (b : Entries). IsPreparedTurn lane hs slots roots chunk b (get_or serials lane 0) told (length (of_lane lanes lane)) turn) buffer_is
-      (subst (λ (n : ℕ). IsPreparedTurn lane hs slots roots chunk buffer (get_or serials lane 0) told n turn) count_is prepared)));
+  prepared = subst (λ (s : ℕ). IsPreparedTurn lane hs s h.roots roots (own_chunk h lane) (buffer_of h.buffers lane) (get_or serials lane 0) told (length (of_lane lanes lane)) turn) slots_are
+      (subst (λ (c : Nursery). IsPreparedTurn lane hs slots h.roots roots c (buffer_of h.buffers lane) (get_or serials lane 0) told (length (of_lane lanes lane)) turn) chunk_is
+      (subst (λ (b : Entries). IsPreparedTurn lane hs slots h.roots roots chunk b (get_or serials lane 0) told (length (of_lane lanes lane)) turn) buffer_is
+      (subst (λ (n : ℕ). IsPreparedTurn lane hs slots h.roots roots chunk buffer (get_or serials lane 0) told n turn) count_is prepared)));
 }
 
 -- the operations of a lane, by the vector in its place
@@ -245,7 +248,7 @@ no-items [] e = refl
 no-items (x ∷ xs) e = absurd (omega arith)
 
 -- room that fits the root slots of one heap fits those of another that differs in chunks and buffers alone
-pub spare-slots : (hs : List ℕ) (old new : Heap) (spare : Spare) → new ≡ record old { chunks = new.chunks; buffers = new.buffers } → IsSpareOf hs old.roots.slots spare → IsSpareOf hs new.roots.slots spare
+pub spare-slots : (hs : List Holder) (old new : Heap) (spare : Spare) → new ≡ record old { chunks = new.chunks; buffers = new.buffers } → IsSpareOf hs old.roots.slots spare → IsSpareOf hs new.roots.slots spare
 spare-slots hs old new spare same is = subst (λ (s : ℕ). IsSpareOf hs s spare) (sym (ap (λ (h : Heap). h.roots.slots) same)) is
 
 pub ops-within : (vs : List (Vec Op Global)) (lane : ℕ) → lane < length (lists_of vs) → lane < length vs

@@ -1,5 +1,5 @@
 -- A turn put together: what its steps say makes the lanes' begin, their runs, and what they lay back.
-use Rattle.std.proofs.Common.{◌≡◌, ℕ, ◌+◌, ◌-◌, ◌*◌, ◌^◌, ◌<◌, ◌≤◌, ◌==◌, true, false, List, [], ◌∷◌, ◌++◌, length, map, get_or, None, Vec, vec_capacity, inl, inr, refl, ap, sym, subst, ◌∙◌, arith, ◌/◌}
+use Rattle.std.proofs.Common.{◌≡◌, ℕ, ◌+◌, ◌-◌, ◌*◌, ◌^◌, ◌<◌, ◌≤◌, ◌==◌, true, false, List, [], ◌∷◌, ◌++◌, length, map, get_or, None, Vec, vec_capacity, inl, inr, refl, ap, sym, subst, ◌∙◌, arith}
 use Prim.Native.Nat.{zero, suc}
 use Rattle.std.specs.declared.alloc.Global.{Global}
 use Rattle.std.specs.List.{AllByRecursion}
@@ -12,9 +12,11 @@ use Rattle.bc_lane.specs.declared.stops.Stop.{Stop}
 use Rattle.bc_lane.specs.declared.stops.Stop.TheVariants as stop
 use Rattle.bc_lane.specs.Turns.{AreStarts, LaneRan, SlotsOf}
 use Rattle.bc_model.specs.Rows.{lists_of}
-use Rattle.bc_model.specs.State.{State}
+use Rattle.bc_model.specs.State.{State, holder_of}
 use Rattle.bc_model.specs.declared.operations.Op.{Op}
 use Rattle.bc_model.specs.declared.operations.Reply.{Reply}
+use Rattle.bc_model.specs.declared.values.Holder.{Holder}
+use Rattle.bc_model.specs.declared.values.Holder.TheVariants as holder
 use Rattle.bc_mutator.specs.Objects.{AreWhole}
 use Rattle.bc_mutator.specs.Operations.{IsOpOf}
 use Rattle.bc_pager.specs.Answering.{AreAnswered}
@@ -46,7 +48,7 @@ use Rattle.bc_turn.specs.Laying.{AreLaidBack}
 use Rattle.bc_pager.specs.Paging.{HasPaged}
 use Rattle.bc_turn.specs.Taking.{AreHeldDomains, AreRunsOf, AreSparesOf, AreTaken, CanRun, HasBusyAmong, HasReplyRoom, HasRoomForLane, LaneHasRun, IsRoomKept, LiesRight, running_lanes, seat_at, spare_lanes, turn_at, turn_roles}
 use Rattle.bc_turn.proofs.AnsweredLemmas.{AreMoved, answered}
-use Rattle.bc_turn.proofs.BegunLemmas.{IsPagerBack, all-fetched, all-homes, all-put, are-back, are-moved, are-recorded, begun-lane, gathered, may-operate, none-returned, ops-each, own-fetched, paged-back, pager-logged}
+use Rattle.bc_turn.proofs.BegunLemmas.{IsPagerBack, all-fetched, all-homes, all-put, are-back, are-moved, are-recorded, begun-lane, gathered, may-operate, ops-each, own-fetched, own-returned, paged-back, pager-logged}
 use Rattle.bc_turn.proofs.BesideLemmas.{ran-beside, turn-table}
 use Rattle.bc_turn.proofs.LayingLemmas.{laid-space}
 use Rattle.bc_turn.proofs.RoomLemmas.{beside-longer, busy-among, busy-later, same-numbers}
@@ -62,15 +64,15 @@ first-of [] lt = absurd (omega arith)
 first-of (x ∷ xs) lt = x
 
 -- there are words for all slots of the lane's domains
-pub words-enough : (hs : List ℕ) (part : LanePart) (r : RootWords) → SlotsOf part r → part.holders.items ≡ hs → AreHeldDomains hs part.lane part.domains.items → AreStarts part.domains.items part.slots (length hs) part.starts.items
+pub words-enough : (hs : List Holder) (part : LanePart) (r : RootWords) → SlotsOf part r → part.holders.items ≡ hs → AreHeldDomains hs part.lane part.domains.items → AreStarts part.domains.items part.slots (length hs) part.starts.items
     → length part.domains.items * part.slots ≤ length part.words.items
 words-enough hs part r shows holders domains starts = by-count (length part.domains.items) refl
   where
     at : (i : ℕ) → i < length part.domains.items → i * part.slots + part.slots ≤ length part.words.items
     at i lt =
         let d = get_or part.domains.items i 0 in
-        let within : d < length part.holders.items = subst (λ (xs : List ℕ). d < length xs) (sym holders) (domains.within i lt) in
-        let held : get_or part.holders.items d 0 ≡ part.lane = ap (λ (xs : List ℕ). get_or xs d 0) holders ∙ domains.held i lt in
+        let within : d < length part.holders.items = subst (λ (xs : List Holder). d < length xs) (sym holders) (domains.within i lt) in
+        let held : holder_of part.holders.items d ≡ holder.Lane part.lane = ap (λ (xs : List Holder). holder_of xs d) holders ∙ domains.held i lt in
         let fits = shows.within d within held in
         let start = starts.1 domains.rising i lt in
         omega arith
@@ -100,7 +102,7 @@ pager-role busy = get_or_push (map (λ (l : ℕ). Lane l) busy) (Pager 0) (Lane 
 
 -- a turn whose lanes have taken along what is their own, at a table that was opened for them and a pager. `s` is the space that stood in the
 -- heap's meanwhile
-pub record Setting (h : HeapView) (hs serials : List ℕ) (lanes : List (List Op)) (before : List (Vec Reply Global)) (busy : List ℕ) (s : Layout) (pins : Pins) (seats : List Seat) (pager : Seat) (k : HeapView) (after : List (Vec Reply Global)) (runs : List Run) : Type 0 where
+pub record Setting (h : HeapView) (hs : List Holder) (serials : List ℕ) (lanes : List (List Op)) (before : List (Vec Reply Global)) (busy : List ℕ) (s : Layout) (pins : Pins) (seats : List Seat) (pager : Seat) (k : HeapView) (after : List (Vec Reply Global)) (runs : List Run) : Type 0 where
   pub running : IsRunning h hs
   pub state : State
   pub stands : StandsAs h hs serials state
@@ -115,7 +117,7 @@ pub record Setting (h : HeapView) (hs serials : List ℕ) (lanes : List (List Op
   pub opened : Opened h.space Lanes hs (turn_roles busy) pins (seats ++ pager ∷ [])
   pub taken : AreTaken (record h { space = s }) hs serials lanes before busy seats k after runs
 
-module _ (h : HeapView) (hs serials : List ℕ) (lanes : List (List Op)) (before : List (Vec Reply Global)) (busy : List ℕ) (s : Layout) (pins : Pins) (seats : List Seat) (pager : Seat) (k : HeapView) (after : List (Vec Reply Global)) (runs : List Run)
+module _ (h : HeapView) (hs : List Holder) (serials : List ℕ) (lanes : List (List Op)) (before : List (Vec Reply Global)) (busy : List ℕ) (s : Layout) (pins : Pins) (seats : List Seat) (pager : Seat) (k : HeapView) (after : List (Vec Reply Global)) (runs : List Run)
     (set : Setting h hs serials lanes before busy s pins seats pager k after runs) where
   busy_are : AreBusyLanes lanes (lists_of before) busy
   busy_are = set.busy_are
@@ -170,13 +172,13 @@ module _ (h : HeapView) (hs serials : List ℕ) (lanes : List (List Op)) (before
   ops-at : (i : ℕ) → i < length busy → (d : Run) → AllByRecursion (IsOpOf h.roots) (of_lane lanes (turn_at d runs i).part.lane)
   ops-at i lt d = ops-each h.roots lanes (turn_at d runs i).part.lane (begun-at i lt d).within set.ops
 
-  pub can-run : (r : ℕ) → (d : Run) → r < length runs → CanRun pins lanes (get_or runs r d)
+  pub can-run : (r : ℕ) → (d : Run) → r < length runs → CanRun pins lanes h.roots (get_or runs r d)
   can-run r d lt =
       let all = taken.long in
       let i = length runs - (r + 1) in
       let inside : i < length busy = omega arith in
       let b = begun-at i inside d in
-      subst (λ (q : ℕ). CanRun pins lanes (get_or runs q d)) (back-place (length runs) r lt) (record { within = b.within; going = b.going; heap = heap_back h; whole = b.whole; ops = ops-at i inside d })
+      subst (λ (q : ℕ). CanRun pins lanes h.roots (get_or runs q d)) (back-place (length runs) r lt) (record { within = b.within; shares = (taken.each i inside d).prepared.shared_is; going = b.going; heap = heap_back h; whole = b.whole; ops = ops-at i inside d })
 
   module _ (new : List Run) (ran : (i : ℕ) → (d : Run) → i < length runs → LaneHasRun lanes (get_or runs i d) (get_or new i d)) (new_long : length new ≡ length runs) where
     has-run : (i : ℕ) → i < length busy → (d : Run) → LaneHasRun lanes (get_or runs (length runs - (i + 1)) d) (get_or new (length new - (i + 1)) d)
@@ -207,7 +209,7 @@ module _ (h : HeapView) (hs serials : List ℕ) (lanes : List (List Op)) (before
     lane-is i lt d = (lane-ran i lt d).same.lane ∙ (taken.each i lt d).prepared.lane_is
 
     holders-are : (i : ℕ) → i < length busy → (d : Run) → (turn_at d new i).part.holders.items ≡ hs
-    holders-are i lt d = ap (λ (v : Vec ℕ Global). v.items) (lane-ran i lt d).same.holders ∙ (taken.each i lt d).prepared.holders_are
+    holders-are i lt d = ap (λ (v : Vec Holder Global). v.items) (lane-ran i lt d).same.holders ∙ (taken.each i lt d).prepared.holders_are
 
     roots-same : k.roots ≡ h.roots
     roots-same = ap (λ (v : HeapView). v.roots) taken.away.same
@@ -362,7 +364,7 @@ module _ (h : HeapView) (hs serials : List ℕ) (lanes : List (List Op)) (before
               set.running set.layout set.whole some whole-list table all-long all-are (record g { space = t }) nexts told closed given
               (laid-space hs busy (turn_at d new) (length busy) h serials (lists_of before) g nexts told t home)
               (are-recorded pins h hs serials lanes (lists_of before) busy (turn_at d runs) (seat_at d runs) (turn_at d new) (seat_at d new) (begun d) (all-ran d) back later.seat table seats-long seats-are pager-back)
-              (none-returned pins h hs serials lanes (lists_of before) busy (turn_at d runs) (seat_at d runs) (turn_at d new) (seat_at d new) (begun d) (all-ran d) back later.seat table seats-long seats-are pager-back)
+              (own-returned pins h hs serials lanes (lists_of before) busy (turn_at d runs) (seat_at d runs) (turn_at d new) (seat_at d new) (begun d) (all-ran d) back later.seat table seats-long seats-are pager-back)
 
           each-fits : (i : ℕ) → i < length busy → AllByRecursion (IsOpOf h.roots) (of_lane lanes (get_or busy i 0))
           each-fits i lt = ops-each h.roots lanes (get_or busy i 0) (busy_are.within i lt) set.ops
@@ -383,7 +385,7 @@ module _ (h : HeapView) (hs serials : List ℕ) (lanes : List (List Op)) (before
               (all-put pins h hs serials lanes (lists_of before) busy (turn_at d runs) (seat_at d runs) (turn_at d new) (seat_at d new) (begun d) (all-ran d) back later.seat table seats-long seats-are pager-back told home.replies each-fits)
 
 -- room that came back is kept for the next turn
-pub room-returned : (hs : List ℕ) (slots : ℕ) (lanes : List (List Op)) (h : HeapView) (serials : List ℕ) (before : List (List Reply)) (k : HeapView) (nexts : List ℕ) (after : List (List Reply)) (busy : List ℕ) (room : TurnRoom)
+pub room-returned : (hs : List Holder) (slots : ℕ) (lanes : List (List Op)) (h : HeapView) (serials : List ℕ) (before : List (List Reply)) (k : HeapView) (nexts : List ℕ) (after : List (List Reply)) (busy : List ℕ) (room : TurnRoom)
     → AreSparesOf hs slots room.spares.items → spare_lanes room.spares.items ≡ busy → AreBusyLanes lanes before busy → length before ≡ length lanes → RanBeside hs lanes h serials before k nexts after → IsRoomKept hs slots lanes after room
 room-returned hs slots lanes h serials before k nexts after busy room spares lanes_are busy_are sizes ran =
     inr (

@@ -4,6 +4,8 @@ use Rattle.std.proofs.Math.Nat.{mul-le-mul_right}
 use Rattle.std.proofs.lemmas.Bool.{cases_eq}
 use Rattle.std.proofs.lemmas.Nat.{mul-add-lt, same_from_place}
 use Rattle.bc_lane.specs.declared.parts.LanePart.{LanePart}
+use Rattle.bc_model.specs.State.{holder_of}
+use Rattle.bc_model.specs.declared.values.Holder.{Holder}
 use Rattle.bc_reach.specs.Distinct.{Has}
 use Rattle.bc_superpages.specs.RootSlots.{root_at, root_place, with_note}
 use Rattle.bc_superpages.specs.RootWords.{RootWords}
@@ -138,7 +140,7 @@ module _ (old mid new : RootWords) (ds ws : List ℕ) (n d start : ℕ) (is : La
   }
 
 -- the words of all domains of the lane, by domain
-pub lays-words : (hs : List ℕ) (part : LanePart) (old new : RootWords) → LiesRight hs old part → LaysDomains old part.domains.items part.words.items (length part.domains.items) new → LaysWords hs part old new
+pub lays-words : (hs : List Holder) (part : LanePart) (old new : RootWords) → LiesRight hs old part → LaysDomains old part.domains.items part.words.items (length part.domains.items) new → LaysWords hs part old new
 lays-words hs part old new right is = record {
   same = is.same;
   long = is.long;
@@ -148,12 +150,12 @@ lays-words hs part old new right is = record {
       ap (λ (x : ℕ). root_at new x t) (sym f.2) ∙ is.own f.0 t f.1 less
       ∙ ap (λ (x : ℕ). get_or part.words.items (f.0 * x + t) 0) (sym right.slots) ∙ ap (λ (x : ℕ). get_or part.words.items (x + t) 0) (sym s)
       ∙ ap (λ (x : ℕ). get_or part.words.items (get_or part.starts.items x 0 + t) 0) f.2);
-  others = λ d t lt off less. is.others d t less (λ i within e. off (ap (λ (x : ℕ). get_or hs x 0) (sym e) ∙ right.domains.held i within));
+  others = λ d t lt off less. is.others d t less (λ i within e. off (ap (λ (x : ℕ). holder_of hs x) (sym e) ∙ right.domains.held i within));
   kept = is.kept;
   written = is.written;
 }
 
-pub may-lay : (hs : List ℕ) (part : LanePart) (r : RootWords) → LiesRight hs r part → MayLay r part.domains.items part.words.items
+pub may-lay : (hs : List Holder) (part : LanePart) (r : RootWords) → LiesRight hs r part → MayLay r part.domains.items part.words.items
 may-lay hs part r right = record {
   rising = right.domains.rising;
   within = λ i lt. let h = right.domains.within i lt in let e = right.holders_long in omega arith;

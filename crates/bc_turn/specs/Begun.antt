@@ -7,6 +7,7 @@ use Rattle.bc_lane.specs.declared.turns.LaneTurn.{LaneTurn}
 use Rattle.bc_lane.specs.Turns.{IsGoing, IsWhole, LaneRan, WhyStopped}
 use Rattle.bc_model.specs.declared.operations.Op.{Op}
 use Rattle.bc_model.specs.declared.operations.Reply.{Reply}
+use Rattle.bc_model.specs.declared.values.Holder.{Holder}
 use Rattle.bc_pins.specs.Calls.{CountsFetches, IsFree, IsSameWorker, key_of, view_of}
 use Rattle.bc_pins.specs.Key.{lane_role}
 use Rattle.bc_pins.specs.Steps.{fresh}
@@ -31,7 +32,7 @@ pub record AreBusyLanes (lanes : List (List Op)) (replies : List (List Reply)) (
 
 -- a lane that begins: its seat has done nothing and opened no box, what it takes into the turn belongs to the heap with every page back, and
 -- its replies are those so far
-pub record IsBegunLane (pins : Pins) (h : HeapView) (holders serials : List ℕ) (lanes : List (List Op)) (before : List (List Reply)) (turn : LaneTurn) (seat : Seat) : Type 0 where
+pub record IsBegunLane (pins : Pins) (h : HeapView) (holders : List Holder) (serials : List ℕ) (lanes : List (List Op)) (before : List (List Reply)) (turn : LaneTurn) (seat : Seat) : Type 0 where
   pub within : turn.part.lane < length lanes
   pub going : IsGoing pins (of_lane lanes turn.part.lane) turn seat None
   pub view : view_of seat ≡ fresh (key_of pins) (lane_role turn.part.lane ∷ [])
@@ -43,7 +44,7 @@ pub record IsBegunLane (pins : Pins) (h : HeapView) (holders serials : List ℕ)
   pub replies_are : turn.replies.items ≡ of_lane before turn.part.lane
 
 -- all lanes that have operations left begin: the busy lane of number i has this turn and this seat
-pub record AreBegun (pins : Pins) (h : HeapView) (holders serials : List ℕ) (lanes : List (List Op)) (before : List (List Reply)) (busy : List ℕ) (turn : ℕ → LaneTurn) (seat : ℕ → Seat) : Type 0 where
+pub record AreBegun (pins : Pins) (h : HeapView) (holders : List Holder) (serials : List ℕ) (lanes : List (List Op)) (before : List (List Reply)) (busy : List ℕ) (turn : ℕ → LaneTurn) (seat : ℕ → Seat) : Type 0 where
   pub busy_are : AreBusyLanes lanes before busy
   pub each : (i : ℕ) → i < length busy → IsBegunLane pins h holders serials lanes before (turn i) (seat i)
   pub lane_is : (i : ℕ) → i < length busy → (turn i).part.lane ≡ slice_index busy i

@@ -1,11 +1,14 @@
 -- Lanes that ran side by side in one turn, as if one had run after another.
-use Rattle.std.specs.Prelude.{◌≡◌, ◌⊎◌, ◌↔◌, ℕ, ◌+◌, ◌<◌, ◌≤◌, List, [], ◌++◌, length, take, drop, slice_index, slice_index_or}
+use Rattle.std.specs.Prelude.{◌≡◌, ◌⊎◌, ◌↔◌, ℕ, ◌+◌, ◌/◌, ◌<◌, ◌≤◌, List, [], ◌++◌, length, take, drop, slice_index, slice_index_or}
 use Rattle.bc_bookmarks.specs.Moves.{MovesPages}
 use Rattle.bc_bookmarks.specs.Summarised.{IsSummarised}
 use Rattle.bc_lane.specs.Doing.{DidAll}
 use Rattle.bc_lane.specs.Turns.{LooksOn}
+use Rattle.bc_model.specs.State.{holder_of}
 use Rattle.bc_model.specs.declared.operations.Op.{Op}
 use Rattle.bc_model.specs.declared.operations.Reply.{Reply}
+use Rattle.bc_model.specs.declared.values.Holder.{Holder}
+use Rattle.bc_model.specs.declared.values.Holder.TheVariants.{Frozen}
 use Rattle.bc_mutator.specs.Objects.{own_chunk}
 use Rattle.bc_mutator.specs.Operations.{NeedsEntry, WantsMore}
 use Rattle.bc_nursery.specs.Objects.{left_of}
@@ -38,12 +41,14 @@ pub record IsLaidBack (h k : HeapView) : Type 0 where
 
 -- why a lane's next operation can't be done in this turn, said of the heap that its operations make and of the space after the turn: as
 -- on plain data, or it looks at an object in a cell on a page that is Gone after the turn. When the lane stopped the page was Gone and
--- there was no frame for it, or it was in the hands of a pager or of another lane, who put none back
-abbrev pub StopsBeside : List ℕ → ℕ → Op → HeapView → Layout → Type 0
+-- there was no frame for it, or it was in the hands of a pager or of another lane, who put none back. Or it looks at one on a page of a
+-- frozen domain, which any lane may take and puts back: another lane had it in hand, or it was Gone
+abbrev pub StopsBeside : List Holder → ℕ → Op → HeapView → Layout → Type 0
 StopsBeside holders lane op h t =
     WantsMore holders lane (left_of (own_chunk h lane)) op
     ⊎ (NeedsEntry holders lane h.space h.roots (own_chunk h lane) (buffer_of h.buffers lane) op
-    ⊎ ((page : ℕ) × LooksOn h op page × (state_at t.states page ≡ Gone)))
+    ⊎ (((page : ℕ) × LooksOn h op page × (state_at t.states page ≡ Gone))
+    ⊎ ((page : ℕ) × LooksOn h op page × (holder_of holders (slice_index h.space.domains (page / 4)) ≡ Frozen))))
 
 -- all of a lane's operations have replies, or this is true of the next one
 abbrev pub IsAtEndOr : List Op → List Reply → (Op → Type 0) → Type 0
@@ -58,7 +63,7 @@ PagesMoved h k = MovesPages h.space k.space × (k ≡ record h { space = k.space
 -- lanes that ran side by side, as if one had run after another: pages came back first; then lane j found the heap `at j` and left the heap
 -- `at (j + 1)`. It gave the replies `new j`. `before` and `serials` are the replies and the births of each lane before the turn, `after` and `nexts` those
 -- after it
-pub record RanBeside (holders : List ℕ) (lanes : List (List Op)) (h : HeapView) (serials : List ℕ) (before : List (List Reply)) (k : HeapView) (nexts : List ℕ) (after : List (List Reply)) : Type 0 where
+pub record RanBeside (holders : List Holder) (lanes : List (List Op)) (h : HeapView) (serials : List ℕ) (before : List (List Reply)) (k : HeapView) (nexts : List ℕ) (after : List (List Reply)) : Type 0 where
   pub at : ℕ → HeapView
   pub first : PagesMoved h (at 0)
   pub new : ℕ → List Reply

@@ -1,17 +1,20 @@
 -- Heaps on the way of a lane's turn: pages on which an operation looks, and contents that a page had.
-use Rattle.std.specs.Prelude.{◌≡◌, ℕ, ◌+◌, ◌/◌, ◌<◌, ◌≤◌, List, ◌++◌, length, take, drop, slice_index, slice_index_or}
+use Rattle.std.specs.Prelude.{◌≡◌, ℕ, ◌+◌, ◌/◌, ◌<◌, ◌≤◌, true, List, ◌++◌, length, take, drop, slice_index, slice_index_or}
 use Rattle.bc_lane.specs.Back.{heap_back}
 use Rattle.bc_lane.specs.Doing.{DidAll}
 use Rattle.bc_lane.specs.Turns.{LooksOn}
+use Rattle.bc_model.specs.State.{holder_of, lets_read}
 use Rattle.bc_model.specs.declared.operations.Op.{Op}
 use Rattle.bc_model.specs.declared.operations.Reply.{Reply}
+use Rattle.bc_model.specs.declared.values.Holder.{Holder}
+use Rattle.bc_model.specs.declared.values.Holder.TheVariants.{Lane}
 use Rattle.bc_superpages.specs.Layout.{content_at}
 use Rattle.bc_turn.specs.Begun.{of_lane}
 use Rattle.bc_whole_heap.specs.Heaps.{HeapView}
 
 -- the first operations of a lane in the turn, so many, make this heap of the one before the turn with every page back. `before` and `serials` are
 -- the replies and the births of each lane before the turn, `after` the replies after it
-pub record IsOnTheWay (holders : List ℕ) (lanes : List (List Op)) (h : HeapView) (serials : List ℕ) (before after : List (List Reply)) (lane count : ℕ) (heap : HeapView) : Type 0 where
+pub record IsOnTheWay (holders : List Holder) (lanes : List (List Op)) (h : HeapView) (serials : List ℕ) (before after : List (List Reply)) (lane count : ℕ) (heap : HeapView) : Type 0 where
   -- what the lane did in the turn
   pub new : List Reply
   pub told : of_lane after lane ≡ of_lane before lane ++ new
@@ -19,11 +22,11 @@ pub record IsOnTheWay (holders : List ℕ) (lanes : List (List Op)) (h : HeapVie
   pub serial : ℕ
   pub did : DidAll holders lane (take count (drop (length (of_lane before lane)) (of_lane lanes lane))) (take count new) (heap_back h) (slice_index serials lane) heap serial
 
--- an operation that the lane of the page's domain did in the turn looks at a cell on the page, or the next one that it would do: in the heap that
--- its operations before that one make
-pub record IsLookedAtInTurn (holders : List ℕ) (lanes : List (List Op)) (h : HeapView) (serials : List ℕ) (before after : List (List Reply)) (page : ℕ) : Type 0 where
+-- an operation that a lane did in the turn, which may read the page's domain, looks at a cell on the page, or the next one that it would do: in
+-- the heap that its operations before that one make. So where the domain isn't frozen the lane is the one that holds it
+pub record IsLookedAtInTurn (holders : List Holder) (lanes : List (List Op)) (h : HeapView) (serials : List ℕ) (before after : List (List Reply)) (page : ℕ) : Type 0 where
   pub lane : ℕ
-  pub holder : slice_index holders (slice_index h.space.domains (page / 4)) ≡ lane
+  pub reader : lets_read (holder_of holders (slice_index h.space.domains (page / 4))) lane ≡ true
   pub count : ℕ
   pub op : Op
   pub less : length (of_lane before lane) + count < length (of_lane lanes lane)
@@ -33,9 +36,9 @@ pub record IsLookedAtInTurn (holders : List ℕ) (lanes : List (List Op)) (h : H
   pub looks : LooksOn heap op page
 
 -- the page had this content in the turn: in a heap that the first operations of its domain's lane make
-pub record HadInTurn (holders : List ℕ) (lanes : List (List Op)) (h : HeapView) (serials : List ℕ) (before after : List (List Reply)) (page : ℕ) (content : List ℕ) : Type 0 where
+pub record HadInTurn (holders : List Holder) (lanes : List (List Op)) (h : HeapView) (serials : List ℕ) (before after : List (List Reply)) (page : ℕ) (content : List ℕ) : Type 0 where
   pub lane : ℕ
-  pub holder : slice_index holders (slice_index h.space.domains (page / 4)) ≡ lane
+  pub holder : holder_of holders (slice_index h.space.domains (page / 4)) ≡ Lane lane
   pub count : ℕ
   pub heap : HeapView
   pub way : IsOnTheWay holders lanes h serials before after lane count heap

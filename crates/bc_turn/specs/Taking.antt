@@ -8,13 +8,16 @@ use Rattle.bc_lane.specs.declared.turns.LaneTurn.{LaneTurn}
 use Rattle.bc_lane.specs.declared.stops.Stop.{Stop}
 use Rattle.bc_lane.specs.Turns.{AreStarts, IsGoing, IsPreparedTurn, IsRoomOf, IsWhole}
 use Rattle.bc_model.specs.Rows.{lists_of}
+use Rattle.bc_model.specs.State.{holder_of}
 use Rattle.bc_model.specs.declared.operations.Op.{Op}
 use Rattle.bc_model.specs.declared.operations.Reply.{Reply}
+use Rattle.bc_model.specs.declared.values.Holder.{Holder}
+use Rattle.bc_model.specs.declared.values.Holder.TheVariants.{Lane}
 use Rattle.bc_mutator.specs.Objects.{own_chunk}
 use Rattle.bc_mutator.specs.Operations.{IsOpOf}
 use Rattle.bc_pins.specs.Calls.{view_of}
 use Rattle.bc_pins.specs.declared.key.Role.{Role}
-use Rattle.bc_pins.specs.declared.key.Role.TheVariants.{Lane, Pager}
+use Rattle.bc_pins.specs.declared.key.Role.TheVariants as role
 use Rattle.bc_pins.specs.declared.pins.Pins.{Pins}
 use Rattle.bc_pins.specs.declared.pins.Seat.{Seat}
 use Rattle.bc_reach.specs.Distinct.{Has}
@@ -29,14 +32,14 @@ use Rattle.bc_whole_heap.specs.Heaps.{HeapView, end_of}
 use Rattle.bc_word.specs.WordBits.{IsPacked}
 
 -- the domains below this one that the lane holds, in ascending order
-pub record AreHeldBelow (holders : List ℕ) (lane end : ℕ) (domains : List ℕ) : Type 0 where
+pub record AreHeldBelow (holders : List Holder) (lane end : ℕ) (domains : List ℕ) : Type 0 where
   pub rising : (i j : ℕ) → i < j → j < length domains → slice_index domains i < slice_index domains j
   pub within : (i : ℕ) → i < length domains → slice_index domains i < end
-  pub held : (i : ℕ) → i < length domains → slice_index holders (slice_index domains i) ≡ lane
-  pub all : (d : ℕ) → d < end → slice_index holders d ≡ lane → (i : ℕ) × (i < length domains) × (slice_index domains i ≡ d)
+  pub held : (i : ℕ) → i < length domains → holder_of holders (slice_index domains i) ≡ Lane lane
+  pub all : (d : ℕ) → d < end → holder_of holders d ≡ Lane lane → (i : ℕ) × (i < length domains) × (slice_index domains i ≡ d)
 
 -- the domains that the lane holds, in ascending order
-abbrev pub AreHeldDomains : List ℕ → ℕ → List ℕ → Type 0
+abbrev pub AreHeldDomains : List Holder → ℕ → List ℕ → Type 0
 AreHeldDomains holders lane domains = AreHeldBelow holders lane (length holders) domains
 
 -- a word for each root slot of the first of these domains, in order of domain and slot
@@ -57,7 +60,7 @@ pub record HasCopied (r : RootWords) (domain count : ℕ) (old new : List ℕ) :
   pub packed : ((k : ℕ) → IsPacked (slice_index old k)) → (k : ℕ) → IsPacked (slice_index new k)
 
 -- room for the turn of a lane: the domains that it holds, and room for a word for each of their slots
-pub record IsSpareOf (holders : List ℕ) (slots : ℕ) (spare : Spare) : Type 0 where
+pub record IsSpareOf (holders : List Holder) (slots : ℕ) (spare : Spare) : Type 0 where
   pub room : IsRoomOf holders spare.roots.domains.items slots spare.room
   pub domains : AreHeldDomains holders spare.lane spare.roots.domains.items
   pub words : spare.roots.words.items ≡ []
@@ -68,7 +71,7 @@ abbrev pub spare_lanes : List Spare → List ℕ
 spare_lanes spares = map (λ (spare : Spare). spare.lane) spares
 
 -- each room that is kept is one for its lane
-abbrev pub AreSparesOf : List ℕ → ℕ → List Spare → Type 0
+abbrev pub AreSparesOf : List Holder → ℕ → List Spare → Type 0
 AreSparesOf holders slots spares = (i : ℕ) → i < length spares → (d : Spare) → IsSpareOf holders slots (slice_index_or spares i d)
 
 -- lanes in ascending order, with each that has operations left among them
@@ -78,22 +81,23 @@ pub record HasBusyAmong (lanes : List (List Op)) (replies : List (List Reply)) (
   pub all : (lane : ℕ) → HasLeft lanes replies lane → (i : ℕ) × (i < length kept) × (slice_index kept i ≡ lane)
 
 -- no room is kept, or that of lanes with each among them that has operations left
-abbrev pub IsRoomKept : List ℕ → ℕ → List (List Op) → List (List Reply) → TurnRoom → Type 0
+abbrev pub IsRoomKept : List Holder → ℕ → List (List Op) → List (List Reply) → TurnRoom → Type 0
 IsRoomKept holders slots lanes replies room =
     (room.spares.items ≡ []) ⊎ (AreSparesOf holders slots room.spares.items × HasBusyAmong lanes replies (spare_lanes room.spares.items))
 
 -- the roles of a turn: these lanes, in their order, and a pager
 abbrev pub turn_roles : List ℕ → List Role
-turn_roles busy = map (λ (lane : ℕ). Lane lane) busy ++ Pager 0 ∷ []
+turn_roles busy = map (λ (lane : ℕ). role.Lane lane) busy ++ role.Pager 0 ∷ []
 
--- what a lane takes into a turn: the words of its domains' root slots, its chunk, its write buffer, its births and its replies
-pub record TakesAlong (h : HeapView) (holders serials : List ℕ) (lanes : List (List Op)) (before : List (List Reply)) (lane : ℕ) (turn : LaneTurn) : Type 0 where
+-- what a lane takes into a turn: the words of its domains' root slots, its chunk, its write buffer, its births and its replies. The heap's root
+-- words it shares
+pub record TakesAlong (h : HeapView) (holders : List Holder) (serials : List ℕ) (lanes : List (List Op)) (before : List (List Reply)) (lane : ℕ) (turn : LaneTurn) : Type 0 where
   pub roots : LaneRoots
   pub domains : AreHeldDomains holders lane roots.domains.items
   pub words : AreWordsOf h.roots roots.domains.items roots.words.items
   pub told : Vec Reply Global
   pub told_are : told.items ≡ of_lane before lane
-  pub prepared : IsPreparedTurn lane holders h.roots.slots roots (own_chunk h lane) (buffer_of h.buffers lane) (slice_index serials lane) told (length (of_lane lanes lane)) turn
+  pub prepared : IsPreparedTurn lane holders h.roots.slots h.roots roots (own_chunk h lane) (buffer_of h.buffers lane) (slice_index serials lane) told (length (of_lane lanes lane)) turn
 
 -- the lanes that run
 abbrev pub running_lanes : List Run → List ℕ
@@ -130,7 +134,7 @@ pub record FitsLanes (lanes : ℕ) (h : HeapView) (serials replies : ℕ) : Type
   pub told : replies ≡ lanes
 
 -- where the words of a lane's domains lie among those that it took into the turn, and that there are as many
-pub record LiesRight (holders : List ℕ) (r : RootWords) (part : LanePart) : Type 0 where
+pub record LiesRight (holders : List Holder) (r : RootWords) (part : LanePart) : Type 0 where
   pub domains : AreHeldDomains holders part.lane part.domains.items
   pub starts : AreStarts part.domains.items part.slots (length holders) part.starts.items
   pub slots : part.slots ≡ r.slots
@@ -158,9 +162,10 @@ pub record LaysDomains (old : RootWords) (domains words : List ℕ) (count : ℕ
   pub kept : (i : ℕ) → Has old.noted i → Has new.noted i
   pub written : (i : ℕ) → (slice_index new.words i ≡ slice_index old.words i) ⊎ Has new.noted i
 
--- a lane can run: it has operations, its seat is free, and there is a whole heap to which belongs what it has
-pub record CanRun (pins : Pins) (lanes : List (List Op)) (run : Run) : Type 0 where
+-- a lane can run: it has operations, its seat is free, it shares these root words, and there is a whole heap to which belongs what it has
+pub record CanRun (pins : Pins) (lanes : List (List Op)) (shared : RootWords) (run : Run) : Type 0 where
   pub within : run.turn.part.lane < length lanes
+  pub shares : run.turn.part.shared.value ≡ shared
   pub going : IsGoing pins (of_lane lanes run.turn.part.lane) run.turn run.seat None
   pub heap : HeapView
   pub whole : IsWhole run.turn.part (view_of run.seat) None (end_of heap.space) heap
@@ -177,15 +182,15 @@ pub record HaveRun (lanes : List (List Op)) (old new : List Run) : Type 0 where
   pub each : (i : ℕ) → (d : Run) → i < length old → LaneHasRun lanes (slice_index_or old i d) (slice_index_or new i d)
 
 -- each of a list of lanes can run
-abbrev pub CanAllRun : Pins → List (List Op) → List Run → Type 0
-CanAllRun pins lanes runs = (i : ℕ) → (d : Run) → i < length runs → CanRun pins lanes (slice_index_or runs i d)
+abbrev pub CanAllRun : Pins → List (List Op) → RootWords → List Run → Type 0
+CanAllRun pins lanes shared runs = (i : ℕ) → (d : Run) → i < length runs → CanRun pins lanes shared (slice_index_or runs i d)
 
 -- there is room for all replies of the lane
 abbrev pub HasRoomForLane : List (List Op) → LaneTurn → Type 0
 HasRoomForLane lanes turn = length (of_lane lanes turn.part.lane) ≤ vec_capacity turn.replies
 
 -- all busy lanes took along what is their own: their turns and seats stand in the list, the last first
-pub record AreTaken (h : HeapView) (holders serials : List ℕ) (lanes : List (List Op)) (before : List (Vec Reply Global)) (busy : List ℕ) (seats : List Seat) (k : HeapView) (after : List (Vec Reply Global)) (runs : List Run) : Type 0 where
+pub record AreTaken (h : HeapView) (holders : List Holder) (serials : List ℕ) (lanes : List (List Op)) (before : List (Vec Reply Global)) (busy : List ℕ) (seats : List Seat) (k : HeapView) (after : List (Vec Reply Global)) (runs : List Run) : Type 0 where
   pub long : length runs ≡ length busy
   pub each : (i : ℕ) → i < length busy → (d : Run) → TakesAlong h holders serials lanes (lists_of before) (slice_index busy i) (turn_at d runs i)
   pub seats_are : (i : ℕ) → i < length busy → (d : Run) → (e : Seat) → seat_at d runs i ≡ slice_index_or seats i e
@@ -201,7 +206,7 @@ pub record MayLay (r : RootWords) (domains words : List ℕ) : Type 0 where
   pub packed : (k : ℕ) → IsPacked (slice_index words k)
 
 -- the list has the turns of the busy lanes, the last first, and they may be laid back into the heap
-pub record AreRunsOf (holders busy : List ℕ) (h : HeapView) (runs : List Run) : Type 0 where
+pub record AreRunsOf (holders : List Holder) (busy : List ℕ) (h : HeapView) (runs : List Run) : Type 0 where
   pub long : length runs ≡ length busy
   pub rising : (i j : ℕ) → i < j → j < length busy → slice_index busy i < slice_index busy j
   pub within : (i : ℕ) → i < length busy → slice_index busy i < length h.chunks

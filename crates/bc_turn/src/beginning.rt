@@ -4,6 +4,7 @@ ghost use Rattle.std.specs.Prelude.{◌≡◌, ℕ, List, Vec, ◌+◌, ◌*◌,
 ghost use Rattle.std.specs.declared.alloc.Global.{Global};
 ghost use Rattle.bc_cycle.specs.Emptying.{heap_view};
 ghost use Rattle.bc_model.specs.Rows.{lists_of};
+ghost use Rattle.bc_model.specs.declared.values.Holder.{Holder};
 ghost use Rattle.bc_turn.specs.Begun.{AreBusyLanes, HasLeft, of_lane};
 ghost use Rattle.bc_turn.specs.Taking.{AreSparesOf, AreTaken, AreWordsOf, FitsLanes, HasCopied, HasReplyRoom, IsSpareOf, TakesAlong, spare_lanes};
 
@@ -28,11 +29,11 @@ pub(crate) fn begin_all(
 )
     requires sizes { FitsLanes (length lanes.now) (heap_view heap.old) (length serials.now) (length replies.old) }
     requires busy { AreBusyLanes (lists_of lanes.now) (lists_of replies.old) (spare_lanes spares.old.items) }
-    requires spares { (holders : List ℕ) × (length holders ≡ heap.old.roots.domains) × AreSparesOf holders heap.old.roots.slots spares.old.items }
+    requires spares { (holders : List Holder) × (length holders ≡ heap.old.roots.domains) × AreSparesOf holders heap.old.roots.slots spares.old.items }
     requires seats { length seats.old.items ≡ length spares.old.items }
     requires runs { (runs.old.items ≡ []) × (length spares.old.items ≤ vec_capacity runs.old) }
     requires room { HasReplyRoom (lists_of lanes.now) replies.old [] }
-    ensures taken { (holders : List ℕ) → AreSparesOf holders heap.old.roots.slots spares.old.items
+    ensures taken { (holders : List Holder) → AreSparesOf holders heap.old.roots.slots spares.old.items
         → AreTaken (heap_view heap.old) holders serials.now (lists_of lanes.now) replies.old (spare_lanes spares.old.items) seats.old.items (heap_view heap.new) replies.new runs.new.items }
     ensures same { heap.new ≡ record heap.old { chunks = heap.new.chunks; buffers = heap.new.buffers } }
     ensures spares { (spares.new.items ≡ []) × (vec_capacity spares.new ≡ vec_capacity spares.old) }
@@ -96,6 +97,7 @@ fn begin_lane(
             serials[index],
             told,
             &lanes[index],
+            &heap.roots,
         ),
         padding: [0; 16],
     }

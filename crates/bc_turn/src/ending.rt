@@ -3,6 +3,7 @@
 ghost use Rattle.std.specs.Prelude.{◌≡◌, ℕ, List, ◌+◌, ◌*◌, ◌<◌, ◌≤◌, [], length, slice_index, slice_index_or, slice_set, vec_capacity};
 ghost use Rattle.bc_cycle.specs.Emptying.{heap_view};
 ghost use Rattle.bc_model.specs.declared.operations.Op.{Op};
+ghost use Rattle.bc_model.specs.declared.values.Holder.{Holder};
 ghost use Rattle.bc_model.specs.Rows.{lists_of};
 ghost use Rattle.bc_turn.specs.Laying.{AreLaidBack, LaysBack};
 ghost use Rattle.bc_turn.specs.Taking.{AreRunsOf, AreSparesOf, FitsLanes, HasReplyRoom, HasRoomForLane, IsSpareOf, LaysDomains, LaysSlots, LiesRight, MayLay, running_lanes, seat_at, spare_lanes, turn_at};
@@ -27,15 +28,15 @@ pub(crate) fn end_all(
     spares: &mut Vec<Spare>,
 )
     requires sizes { (lanes : ℕ) × FitsLanes lanes (heap_view heap.old) (length serials.old) (length replies.old) }
-    requires runs { (holders busy : List ℕ) × AreRunsOf holders busy (heap_view heap.old) runs.old.items }
+    requires runs { (holders : List Holder) × (busy : List ℕ) × AreRunsOf holders busy (heap_view heap.old) runs.old.items }
     requires seats { (seats.old.items ≡ []) × (length runs.old.items ≤ vec_capacity seats.old) }
     requires spares { (spares.old.items ≡ []) × (length runs.old.items ≤ vec_capacity spares.old) }
-    ensures back { (holders busy : List ℕ) → (d : Run) → AreRunsOf holders busy (heap_view heap.old) runs.old.items
+    ensures back { (holders : List Holder) → (busy : List ℕ) → (d : Run) → AreRunsOf holders busy (heap_view heap.old) runs.old.items
         → AreLaidBack holders busy (turn_at d runs.old.items) (length busy) (heap_view heap.old) serials.old (lists_of replies.old) (heap_view heap.new) serials.new (lists_of replies.new) }
     ensures seats { (i : ℕ) → (d : Run) → (e : Seat) → i < length runs.old.items → slice_index_or seats.new.items i e ≡ seat_at d runs.old.items i }
     ensures seats_long { length seats.new.items ≡ length runs.old.items }
     ensures seats_room { vec_capacity seats.new ≡ vec_capacity seats.old }
-    ensures spares { (holders busy : List ℕ) → AreRunsOf holders busy (heap_view heap.old) runs.old.items
+    ensures spares { (holders : List Holder) → (busy : List ℕ) → AreRunsOf holders busy (heap_view heap.old) runs.old.items
         → AreSparesOf holders heap.old.roots.slots spares.new.items × (spare_lanes spares.new.items ≡ busy) }
     ensures room { (lanes : List (List Op)) → HasReplyRoom lanes replies.old (running_lanes runs.old.items)
         → ((i : ℕ) → (d : Run) → i < length runs.old.items → HasRoomForLane lanes (slice_index_or runs.old.items i d).turn) → HasReplyRoom lanes replies.new [] }

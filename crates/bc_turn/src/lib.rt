@@ -1,14 +1,18 @@
 // A turn of the lanes: those that have operations left run side by side over a table, and a pager beside them answers the turn's
 // notices. The heap is then what it would be had the lanes run one after another, but for pages that moved.
 //
+// A domain that is frozen has no lane: all lanes read its root slots and its pages, and none writes them.
+//
 // Between turns a heap lies in one value. For a turn it is taken apart: the space becomes a table (`bc_pins`), at which each lane that
 // runs has a seat and a pager has the last one, and each of these lanes takes what is its own out of the heap (`bc_lane`): the words of
 // its domains' root slots, its chunk, its write buffer, the number of its births and its replies so far. Then they work (`run_beside`): on
 // threads that the call joins, or, where the caller says that these wouldn't pay (`TurnThreads`), one after another on the caller's. The
 // contract doesn't distinguish these. A lane runs until it is at its end or its next operation can't be done in this turn: its chunk or
 // its write buffer has no room, or the operation looks at an object whose page is in other hands, or gone while no frame can be taken for
-// it. The page is Gone after the turn then (`StopsBeside`), since who takes a page that isn't its own puts none back. When all are through
-// each lane lays back what it took, the table is closed, and the heap is one value again.
+// it. The page is Gone after the turn then (`StopsBeside`), since who takes a page of another lane's puts none back; or it is of a frozen
+// domain, where any lane takes pages and puts them back as they were. When all are through each lane lays back what it took, the table
+// is closed, and the heap is one value again. The root slots stay whole in the heap meanwhile. All lanes share them (`&Roots`), to read
+// those of frozen domains.
 //
 // The pager (`bc_pager`) takes the notices with the turn's hints, in order, and gives up a page for each, or declines it. Who comes first
 // has a page, and nobody waits: a lane that has it in hand keeps it, and the pager goes on to another; a page that the pager got first is
@@ -17,11 +21,11 @@
 // Where notices came and no lane has operations left, the pager is alone at a table. Where there is neither, nothing is done.
 //
 // Each notice has one answer (`AnsweredBeside`): by what the pager did and read, after the answers that the caller's list had. Lanes
-// reload pages of their own, and for their frames make others Gone or Absent, no more than they reload. By the answers and the
-// lists of these pages each page is accounted for: how often it is Gone, or Absent, at the close. The bookmark bits that came are those of
-// targets that pages had which were made Gone in the turn, and pages were read as often as one came back. Where a
-// notice was declined, each page that is Home afterwards is looked at in the turn (`declined`), by an operation that its lane did or by the
-// next one that it would do; and so is each page that a lane reloaded (`IsLookedAtInTurn`).
+// reload pages of their own and of frozen domains, and for their frames make others Gone or Absent, no more than they reload. By the
+// answers and the lists of these pages each page is accounted for: how often it is Gone, or Absent, at the close. The bookmark bits that
+// came are those of targets that pages had which were made Gone in the turn, and pages were read as often as one came back. Where a
+// notice was declined, each page that is Home afterwards is looked at in the turn (`declined`), by an operation that a lane did which may
+// read it, or by the next one that it would do; and so is each page that a lane reloaded (`IsLookedAtInTurn`).
 //
 // What takes memory comes first: room for what each lane takes along (`fit_room`), with a chunk, a write buffer and a list of replies
 // without words that stand in the heap's places meanwhile; the roles, the notices and the list of runs; and the table (`open_table`).

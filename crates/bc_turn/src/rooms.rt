@@ -8,7 +8,7 @@ ghost use Rattle.bc_turn.specs.Begun.{AreBusyLanes, of_lane};
 ghost use Rattle.bc_turn.specs.Taking.{AreHeldDomains, AreSparesOf, IsRoomKept, IsSpareOf, spare_lanes, turn_roles};
 
 use bc_lane::{LaneRoom, LaneRoots};
-use bc_model::{Op, Reply};
+use bc_model::{Holder, Op, Reply};
 use bc_nursery::{Chunk, WriteBuffer};
 use bc_pins::Role;
 use bc_word::Address;
@@ -52,7 +52,7 @@ impl TurnRoom {
 pub(crate) fn fit_room(
     alloc: Global,
     room: &mut TurnRoom,
-    holders: &[u32],
+    holders: &[Holder],
     slots: u32,
     lanes: &[Vec<Op>],
     replies: &[Vec<Reply>],
@@ -100,7 +100,7 @@ fn count_of<T>(lists: &[Vec<T>], number: u32) -> usize
 /// domain.
 fn take_spares(
     alloc: Global,
-    holders: &[u32],
+    holders: &[Holder],
     slots: u32,
     lanes: &[Vec<Op>],
     replies: &[Vec<Reply>],
@@ -122,7 +122,7 @@ fn take_spares(
 }
 
 /// Room for the turn of a lane.
-fn take_spare(alloc: Global, lane: u32, holders: &[u32], slots: u32) -> Result<Spare, AllocError>
+fn take_spare(alloc: Global, lane: u32, holders: &[Holder], slots: u32) -> Result<Spare, AllocError>
     requires few { (length holders.now ≤ 64) × (slots ≤ 256) }
     ensures lane { IfOk result (λ spare. spare.lane ≡ lane) }
     ensures spare { IfOk result (λ spare. IsSpareOf holders.now slots spare) }
@@ -140,14 +140,14 @@ fn take_spare(alloc: Global, lane: u32, holders: &[u32], slots: u32) -> Result<S
 }
 
 /// The domains that the lane holds, in ascending order.
-fn held_domains(alloc: Global, lane: u32, holders: &[u32]) -> Result<Vec<u32>, AllocError>
+fn held_domains(alloc: Global, lane: u32, holders: &[Holder]) -> Result<Vec<u32>, AllocError>
     requires few { length holders.now ≤ 64 }
     ensures few { IfOk result (λ domains. length domains.items ≤ 64) }
     ensures domains { IfOk result (λ domains. AreHeldDomains holders.now lane domains.items) }
 {
     let mut domains = Vec::new(alloc);
     for domain in 0..holders.len() {
-        if holders[domain] != lane {
+        if !holders[domain].lets_write(lane) {
             continue;
         }
         domains.push(domain as u32)?;

@@ -11,6 +11,7 @@ use bc_lane::LaneTurn;
 use bc_model::Op;
 use bc_pager::{Paging, serve_all};
 use bc_pins::{Pins, Seat};
+use bc_superpages::Roots;
 use std::thread;
 use std::thread::Threads;
 
@@ -32,11 +33,13 @@ pub enum TurnThreads {
     Each,
 }
 
-/// Runs all lanes, and the pager beside them. Where there is no notice (`asked` is false) the pager has no thread of its own.
+/// Runs all lanes, and the pager beside them. `shared` has the root slots, of which all lanes read those of frozen domains. Where there is
+/// no notice (`asked` is false) the pager has no thread of its own.
 pub(crate) fn run_beside<R: Threads + Sync, G: Gate + Sync>(
     rt: &R,
     pins: &Pins,
     lanes: &[Vec<Op>],
+    shared: &Roots,
     gate: &G,
     runs: &mut Vec<Run>,
     paging: &mut Paging,
@@ -44,16 +47,16 @@ pub(crate) fn run_beside<R: Threads + Sync, G: Gate + Sync>(
     threads: TurnThreads,
 )
     requires some { 0 < length runs.old.items }
-    requires can { CanAllRun pins.now (lists_of lanes.now) runs.old.items }
+    requires can { CanAllRun pins.now (lists_of lanes.now) shared.now runs.old.items }
     requires ready { IsPagerReady pins.now paging.old }
     ensures ran { HaveRun (lists_of lanes.now) runs.old.items runs.new.items }
     ensures paged { HasPaged pins.now paging.old paging.new }
 {
     if !asked || threads == TurnThreads::One {
         serve_all(pins, gate, paging);
-        run_all(rt, pins, lanes, gate, runs, threads);
+        run_all(rt, pins, lanes, shared, gate, runs, threads);
     } else {
-        run_abreast(rt, pins, lanes, gate, runs, paging);
+        run_abreast(rt, pins, lanes, shared, gate, runs, paging);
     }
 }
 
@@ -62,12 +65,13 @@ fn run_abreast<R: Threads + Sync, G: Gate + Sync>(
     rt: &R,
     pins: &Pins,
     lanes: &[Vec<Op>],
+    shared: &Roots,
     gate: &G,
     runs: &mut Vec<Run>,
     paging: &mut Paging,
 )
     requires some { 0 < length runs.old.items }
-    requires can { CanAllRun pins.now (lists_of lanes.now) runs.old.items }
+    requires can { CanAllRun pins.now (lists_of lanes.now) shared.now runs.old.items }
     requires ready { IsPagerReady pins.now paging.old }
     ensures ran { HaveRun (lists_of lanes.now) runs.old.items runs.new.items }
     ensures paged { HasPaged pins.now paging.old paging.new }
@@ -79,9 +83,9 @@ fn run_abreast<R: Threads + Sync, G: Gate + Sync>(
             ensures { HasPaged pins.entry.now paging.entry.now paging.exit.now }
         { serve_all(pins, gate, paging) },
         &mut ||
-            requires { IsSync R.row × (0 < length runs.now.items) × CanAllRun pins.now (lists_of lanes.now) runs.now.items }
+            requires { IsSync R.row × (0 < length runs.now.items) × CanAllRun pins.now (lists_of lanes.now) shared.now runs.now.items }
             ensures { HaveRun (lists_of lanes.entry.now) runs.entry.now.items runs.exit.now.items }
-        { run_all(rt, pins, lanes, gate, runs, TurnThreads::Each) },
+        { run_all(rt, pins, lanes, shared, gate, runs, TurnThreads::Each) },
     );
 }
 
@@ -90,12 +94,13 @@ fn run_all<R: Threads + Sync, G: Gate + Sync>(
     rt: &R,
     pins: &Pins,
     lanes: &[Vec<Op>],
+    shared: &Roots,
     gate: &G,
     runs: &mut Vec<Run>,
     threads: TurnThreads,
 )
     requires some { 0 < length runs.old.items }
-    requires can { CanAllRun pins.now (lists_of lanes.now) runs.old.items }
+    requires can { CanAllRun pins.now (lists_of lanes.now) shared.now runs.old.items }
     ensures ran { HaveRun (lists_of lanes.now) runs.old.items runs.new.items }
 {
     let count = match threads {
@@ -107,17 +112,19 @@ fn run_all<R: Threads + Sync, G: Gate + Sync>(
         runs.as_mut_slice(),
         count,
         &|_, run: &mut Run|
-            requires { CanRun pins.now (lists_of lanes.now) run.now }
+            requires { CanRun pins.now (lists_of lanes.now) shared.now run.now }
             ensures { LaneHasRun (lists_of lanes.entry.now) run.entry.now run.exit.now }
-        { run_lane(pins, lanes, gate, run) },
+        { run_lane(pins, lanes, shared, gate, run) },
     );
 }
 
 /// Runs a lane until all of its operations are done or one can't be yet.
-fn run_lane<G: Gate>(pins: &Pins, lanes: &[Vec<Op>], gate: &G, run: &mut Run)
-    requires { CanRun pins.now (lists_of lanes.now) run.old }
+fn run_lane<G: Gate>(pins: &Pins, lanes: &[Vec<Op>], shared: &Roots, gate: &G, run: &mut Run)
+    requires { CanRun pins.now (lists_of lanes.now) shared.now run.old }
     ensures { LaneHasRun (lists_of lanes.now) run.old run.new }
 {
     let lane = run.turn.lane() as usize;
-    let _why = run.turn.run(pins, &mut run.seat, &lanes[lane], gate);
+    let _why = run
+        .turn
+        .run(pins, &mut run.seat, &lanes[lane], shared, gate);
 }

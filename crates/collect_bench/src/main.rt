@@ -145,7 +145,9 @@ where
 /// Does the operation, or returns why it stopped.
 fn try_once(workshop: &mut Workshop, op: &Op) -> Result<Result<(), Halt>> {
     match workshop.operate(0, op) {
-        Ok(Reply::NotObj | Reply::Range | Reply::Foreign) => bail!("an operation was refused"),
+        Ok(Reply::NotObj | Reply::Range | Reply::Foreign | Reply::Frozen) => {
+            bail!("an operation was refused")
+        }
         Ok(_) => Ok(Ok(())),
         Err(halt) => Ok(Err(halt)),
     }

@@ -5,7 +5,7 @@ ghost use Rattle.bc_model.specs.StateSizes.{HasSerials, HasSizes};
 ghost use Rattle.bc_model.specs.WellFormed.{IsOp};
 ghost use Rattle.edge_tests.specs.declared.plain_heap.TheConstants.{SETUP};
 
-use bc_model::{Birth, Flat, Give, Op, Phase, Reply, Setup, Slot};
+use bc_model::{Birth, Change, Flat, Give, Op, Phase, Reply, Setup, Slot};
 use std::alloc::{AllocError, Global};
 use std::process::Abort;
 use std::test::Fail;
@@ -60,6 +60,12 @@ impl Bench {
         requires lane { lane < 2 }
     {
         self.heap.give(domain, lane);
+    }
+
+    fn freeze(&mut self, domain: u32)
+        requires { domain < 4 }
+    {
+        self.heap.freeze(domain);
     }
 }
 
@@ -238,7 +244,7 @@ fn a_phase_does_lane_after_lane_and_then_the_gives(rt: HostRuntime) -> Result<()
     let phase = Phase {
         turns: Vec::new(rt.alloc()),
         lanes: vec![in rt.alloc(); first, second]?,
-        gives: vec![in rt.alloc(); Give { domain: 2, lane: 1 }]?,
+        gives: vec![in rt.alloc(); Change::Give(Give { domain: 2, lane: 1 })]?,
     };
     let mut heap = Flat::new(rt.alloc(), &SETUP)?;
     let replies = heap.phase(rt.alloc(), &phase)?;
@@ -248,5 +254,43 @@ fn a_phase_does_lane_after_lane_and_then_the_gives(rt: HostRuntime) -> Result<()
         "[[Obj(Birth { lane: 0, serial: 1 })], [Foreign]]"
     );
     assert_eq!(rt; heap.lanes(), 2);
+    Ok(())
+}
+
+#[test]
+fn a_frozen_domain_is_read_by_all_and_written_by_none(rt: HostRuntime) -> Result<(), Fail> {
+    let mut bench = Bench::new(rt.alloc())?;
+    bench.expect(&rt, 0, Op::New(A, 1), of_lane_0(1))?;
+    bench.expect(&rt, 0, Op::Set(A, 0, 7), Reply::Done)?;
+    bench.freeze(0);
+    bench.expect(&rt, 0, Op::Who(A), of_lane_0(1))?;
+    bench.expect(&rt, 0, Op::Set(A, 0, 8), Reply::Frozen)?;
+    bench.expect(&rt, 0, Op::Clear(A), Reply::Frozen)?;
+    bench.expect(&rt, 0, Op::New(B, 0), Reply::Frozen)?;
+    bench.expect(&rt, 1, Op::Load(A, 0, X), Reply::Num(7))?;
+    bench.expect(&rt, 1, Op::Who(X), Reply::Num(7))?;
+    bench.expect(&rt, 1, Op::Copy(A, Y), Reply::Done)?;
+    bench.expect(&rt, 1, Op::Len(Y), Reply::Len(1))?;
+    bench.expect(&rt, 1, Op::Set(Y, 0, 9), Reply::Frozen)?;
+    bench.give(0, 1);
+    bench.expect(&rt, 0, Op::Who(A), Reply::Foreign)?;
+    bench.expect(&rt, 1, Op::Set(A, 0, 9), Reply::Done)?;
+    bench.expect(&rt, 1, Op::Load(Y, 0, X), Reply::Num(9))?;
+    Ok(())
+}
+
+#[test]
+fn what_is_tested_first_is_answered_where_a_domain_is_frozen(rt: HostRuntime) -> Result<(), Fail> {
+    let mut bench = Bench::new(rt.alloc())?;
+    bench.expect(&rt, 0, Op::New(A, 1), of_lane_0(1))?;
+    bench.freeze(0);
+    // A domain of another lane comes before the frozen slot that is to be written, and that before a slot without an object.
+    bench.expect(&rt, 0, Op::Copy(X, B), Reply::Foreign)?;
+    bench.expect(&rt, 0, Op::Load(C, 0, B), Reply::Frozen)?;
+    bench.expect(&rt, 0, Op::Set(B, 0, 5), Reply::NotObj)?;
+    // A frozen object comes before a field that it doesn't have.
+    bench.expect(&rt, 0, Op::Cut(A, 126), Reply::Frozen)?;
+    bench.expect(&rt, 0, Op::Link(A, 126, C), Reply::Frozen)?;
+    bench.expect(&rt, 0, Op::Load(A, 126, C), Reply::Range)?;
     Ok(())
 }

@@ -1,7 +1,7 @@
 //! Texts from outside, read and written again, and each cause of a fault once.
 
 use bc_churn::{Counts, churn_room, generate, put_churn};
-use bc_model::{Birth, Op, Replies, Reply, Slot};
+use bc_model::{Birth, Change, Give, Op, Replies, Reply, Slot};
 use bc_trace::{
     Cause, ReadTrace, TraceFault, need_room, phase_room, phase_text, put_need, put_phase, read,
     reply_line, write,
@@ -29,16 +29,48 @@ const FIRST_PATH: [&str; 15] = [
     "done",
 ];
 
-/// The first path with another text for line `line`, which counts from 1, and `rest` after it.
-fn changed(alloc: Global, line: usize, text: &str, rest: &str) -> Result<Vec<u8>, AllocError> {
+/// A text of version 2, line by line, with a freeze.
+const FROZEN: [&str; 17] = [
+    "bc-trace 2",
+    "lanes 2",
+    "domains 2",
+    "slots 2",
+    "superpages 2",
+    "nursery 1",
+    "buffer 4",
+    "frames 4",
+    "phase",
+    "lane 0",
+    "new 0 0 1",
+    "set 0 0 0 7",
+    "lane 1",
+    "freeze 0",
+    "give 1 0",
+    "end",
+    "done",
+];
+
+/// The lines with another text for line `line`, which counts from 1, and `rest` after them.
+fn with_line(
+    alloc: Global,
+    lines: &[&str],
+    line: usize,
+    text: &str,
+    rest: &str,
+) -> Result<Vec<u8>, AllocError> {
     let mut bytes = Vec::new(alloc);
-    for (i, own) in FIRST_PATH.iter().enumerate() {
+    for (i, own) in lines.iter().enumerate() {
         let here = if i + 1 == line { text } else { *own };
         bytes.extend_from_slice(here.as_bytes())?;
         bytes.extend_from_slice(b"\n")?;
     }
     bytes.extend_from_slice(rest.as_bytes())?;
     Ok(bytes)
+}
+
+/// The first path with another text for line `line`, and `rest` after it.
+fn changed(alloc: Global, line: usize, text: &str, rest: &str) -> Result<Vec<u8>, AllocError> {
+    with_line(alloc, &FIRST_PATH, line, text, rest)
 }
 
 /// The fault of a text, which has one.
@@ -55,6 +87,7 @@ fn the_first_path_is_read_with_its_setup_and_its_one_phase(rt: HostRuntime) -> R
     let bytes = changed(rt.alloc(), 0, "", "")?;
     assert_eq!(rt; bytes.len(), 137);
     let trace = read(rt.alloc(), &bytes).ok().ok_or("the text is a trace")?;
+    assert_eq!(rt; trace.version, 1);
     assert_eq!(rt; trace.setup.slots, 2);
     assert_eq!(rt; trace.setup.frames, 3);
     assert_eq!(rt; trace.phases.len(), 1);
@@ -66,7 +99,9 @@ fn each_spoilt_line_is_refused_at_its_number_and_with_its_cause(
     rt: HostRuntime,
 ) -> Result<(), Fail> {
     for (line, text, cause) in [
-        (1, "bc-trace 4", Cause::Range),
+        (1, "bc-trace 0", Cause::Range),
+        (1, "bc-trace 3", Cause::Range),
+        (1, "freeze 0", Cause::Word),
         (2, " lanes 1", Cause::Form),
         (2, "lanes 01", Cause::Number),
         (3, "slots 2", Cause::Order),
@@ -78,12 +113,54 @@ fn each_spoilt_line_is_refused_at_its_number_and_with_its_cause(
         (12, "set 0 2 1 7", Cause::Range),
         (12, "set 0 0 127 7", Cause::Range),
         (12, "set 0 0 1 99999999999999999999", Cause::Number),
+        (14, "freeze 0", Cause::Word),
     ] {
         let bytes = changed(rt.alloc(), line, text, "")?;
         let fault = fault_of(&rt, rt.alloc(), &bytes);
         assert_eq!(rt; fault.line as usize, line, "{text}");
         assert_eq!(rt; fault.cause, cause, "{text}");
     }
+    Ok(())
+}
+
+#[test]
+fn gives_and_freezes_are_read_in_their_order(rt: HostRuntime) -> Result<(), Fail> {
+    let text =
+        b"bc-trace 2\nlanes 2\ndomains 2\nslots 1\nsuperpages 1\nnursery 1\nbuffer 4\nframes 4\nphase\nlane 0\nlane 1\ngive 1 0\nfreeze 0\ngive 0 1\nfreeze 1\nend\ndone\n";
+    let trace = read(rt.alloc(), text).ok().ok_or("the text is a trace")?;
+    assert_eq!(rt; trace.version, 2);
+    assert_eq!(rt; trace.phases.len(), 1);
+    let changes = &trace.phases[0].gives;
+    assert!(rt; changes.len() == 4);
+    assert!(rt; changes[0] == Change::Give(Give { domain: 1, lane: 0 }));
+    assert!(rt; changes[1] == Change::Freeze(0));
+    assert!(rt; changes[2] == Change::Give(Give { domain: 0, lane: 1 }));
+    assert!(rt; changes[3] == Change::Freeze(1));
+    assert_eq!(rt; write(rt.alloc(), &trace)?.as_slice(), text.as_slice());
+    Ok(())
+}
+
+#[test]
+fn a_freeze_is_refused_in_version_1_and_where_a_give_would_be(rt: HostRuntime) -> Result<(), Fail> {
+    for (line, text, fault, cause) in [
+        (1, "bc-trace 1", 14, Cause::Word),
+        (9, "freeze 0", 9, Cause::Order),
+        (10, "freeze 0", 10, Cause::Order),
+        (13, "freeze 0", 13, Cause::Order),
+        (14, "freeze", 14, Cause::Form),
+        (14, "freeze 0 0", 14, Cause::Form),
+        (14, "freeze 00", 14, Cause::Number),
+        (14, "freeze 2", 14, Cause::Range),
+        (17, "freeze 0", 17, Cause::Order),
+    ] {
+        let bytes = with_line(rt.alloc(), &FROZEN, line, text, "")?;
+        let found = fault_of(&rt, rt.alloc(), &bytes);
+        assert_eq!(rt; found.line as usize, fault, "{text}");
+        assert_eq!(rt; found.cause, cause, "{text}");
+    }
+    let bytes = with_line(rt.alloc(), &FROZEN, 14, "freeze 1", "")?;
+    assert!(rt; bytes.len() < 10000);
+    assert!(rt; read(rt.alloc(), &bytes).is_ok());
     Ok(())
 }
 
@@ -172,11 +249,14 @@ fn what_is_read_is_written_again_byte_for_byte(rt: HostRuntime) -> Result<(), Fa
         b"bc-trace 1\nlanes 2\ndomains 4\nslots 2\nsuperpages 2\nnursery 1\nbuffer 4\nframes 4\nphase\nlane 0\nnew 0 0 1\nnew 2 0 0\nlink 0 0 0 2 0\nlane 1\ngive 2 1\nend\nphase\nlane 0\nload 0 0 0 0 1\nwho 0 1\nlen 0 1\nwho 2 0\nlane 1\nwho 2 0\ngive 2 0\nend\nphase\nlane 0\nwho 0 1\nlane 1\nend\ndone\n";
     let turns =
         b"bc-trace 1\nlanes 1\ndomains 1\nslots 2\nsuperpages 1\nnursery 1\nbuffer 4\nframes 3\nphase\nturn\nturn 0 4294967295\nlane 0\nset 0 1 2 9223372036854775807\ncut 0 0 126\ncopy 0 0 0 1\nclear 0 0\nsame 0 0 0 1\nend\ndone\n";
+    let version_2 =
+        b"bc-trace 2\nlanes 1\ndomains 1\nslots 1\nsuperpages 1\nnursery 1\nbuffer 4\nframes 3\ndone\n";
     for text in [
         header_only.as_slice(),
         two_lanes.as_slice(),
         give_and_take.as_slice(),
         turns.as_slice(),
+        version_2.as_slice(),
     ] {
         assert!(rt; text.len() < 10000);
         let trace = read(rt.alloc(), text).ok().ok_or("the text is a trace")?;
@@ -202,16 +282,17 @@ fn every_reply_is_written_on_a_line_of_its_own(rt: HostRuntime) -> Result<(), Fa
         Reply::NotObj,
         Reply::Range,
         Reply::Foreign,
+        Reply::Frozen,
     ];
     let lanes = vec![in rt.alloc();
         Vec::from_slice(rt.alloc(), &replies)?,
         Vec::from_slice(rt.alloc(), &[])?,
     ]?;
     let replies = Replies { lanes };
-    let mut text = phase_room(rt.alloc(), 2, 11)?;
+    let mut text = phase_room(rt.alloc(), 2, 12)?;
     put_phase(&mut text, 600, &replies);
     let wanted =
-        b"phase 600\nlane 0\nobj 15.10000\nok\nnil\nnum 9223372036854775807\nref\nlen 127\nyes\nno\nnotobj\nrange\nforeign\nlane 1\n";
+        b"phase 600\nlane 0\nobj 15.10000\nok\nnil\nnum 9223372036854775807\nref\nlen 127\nyes\nno\nnotobj\nrange\nforeign\nfrozen\nlane 1\n";
     assert_eq!(rt; text.as_slice(), wanted.as_slice());
     let text = phase_text(rt.alloc(), 600, &replies)?;
     assert_eq!(rt; text.as_slice(), wanted.as_slice());
@@ -261,10 +342,11 @@ fn a_churn_of_no_operations_has_eleven_counts_of_0(rt: HostRuntime) -> Result<()
     Ok(())
 }
 
+// A reply `frozen`, which the churn never has, isn't printed.
 #[test]
 fn replies_are_counted_by_their_kinds(rt: HostRuntime) -> Result<(), Fail> {
     let first = [Reply::Done, Reply::Num(5), Reply::Num(6), Reply::Foreign];
-    let second = [Reply::Len(5), Reply::No, Reply::Done];
+    let second = [Reply::Len(5), Reply::Frozen, Reply::No, Reply::Done];
     let lanes = vec![in rt.alloc();
         Vec::from_slice(rt.alloc(), &first)?,
         Vec::from_slice(rt.alloc(), &second)?,

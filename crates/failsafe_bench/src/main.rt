@@ -106,7 +106,9 @@ fn act(workshop: &mut Workshop, op: Op) -> Result<()> {
         answer => answer,
     };
     match answer {
-        Ok(Reply::NotObj | Reply::Range | Reply::Foreign) => bail!("an operation was refused"),
+        Ok(Reply::NotObj | Reply::Range | Reply::Foreign | Reply::Frozen) => {
+            bail!("an operation was refused")
+        }
         Ok(_) => Ok(()),
         Err(_) => bail!("an operation stopped"),
     }

@@ -10,6 +10,9 @@
 // - `sweep` (bc_sweep): the sweep
 // - `compact` (bc_compact): cells that are packed
 // - `failsafe` (bc_failsafe): the fail-safe
+//
+// Most tests are lists of steps (`steps`): a step is a call with what it is to return, or what is to be found then. The calls stand once, in functions
+// that refuse what their conditions don't allow and have no clauses.
 #![tactic(auto)]
 
 #[cfg(test)]
@@ -24,6 +27,8 @@ mod failsafe;
 mod nursery;
 #[cfg(test)]
 mod promotion;
+#[cfg(test)]
+mod steps;
 #[cfg(test)]
 mod superpages;
 #[cfg(test)]

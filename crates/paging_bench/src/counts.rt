@@ -143,6 +143,7 @@ fn numbers_of(reply: &Reply) -> (u64, u64) {
         Reply::NotObj => (9, 0),
         Reply::Range => (10, 0),
         Reply::Foreign => (11, 0),
+        Reply::Frozen => (12, 0),
     }
 }
 

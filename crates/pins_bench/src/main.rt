@@ -13,6 +13,7 @@ ghost use Rattle.bc_bookmarks.specs.Summarised.{HasNoBookmarks};
 ghost use Rattle.bc_pins.specs.Opening.{IsOpenable};
 
 use anyhow::{Context, Result, bail, ensure};
+use bc_model::Holder;
 use bc_pins::{Pins, Role, Turn};
 use bc_superpages::{PageState, Space};
 use std::env;
@@ -60,7 +61,7 @@ fn turn<R: Clock + AllocGlobal>(rt: &R, space: Space) -> Result<(Space, Duration
         rt.alloc(),
         space,
         Turn::Lanes,
-        [0].as_slice(),
+        [Holder::Lane(0)].as_slice(),
         roles.as_slice(),
     ) else {
         bail!("memory for a table")

@@ -2,6 +2,7 @@
 
 mod devices;
 mod engines;
+mod frozen;
 mod gates;
 mod gates_images;
 mod gates_marker;
@@ -107,9 +108,19 @@ pub fn shows_fault<R: Threads + Sync + Abort>(
 
 /// The header's eight lines, and lines after it.
 pub fn trace(alloc: Global, numbers: [u32; 7], lines: &str) -> Result<String, AllocError> {
+    trace_in(alloc, 1, numbers, lines)
+}
+
+/// The same in another version of the language.
+pub fn trace_in(
+    alloc: Global,
+    version: u32,
+    numbers: [u32; 7],
+    lines: &str,
+) -> Result<String, AllocError> {
     let [lanes, domains, slots, superpages, nursery, buffer, frames] = numbers;
     format!(in alloc;
-        "bc-trace 1\nlanes {lanes}\ndomains {domains}\nslots {slots}\nsuperpages {superpages}\nnursery {nursery}\nbuffer {buffer}\nframes {frames}\n{lines}"
+        "bc-trace {version}\nlanes {lanes}\ndomains {domains}\nslots {slots}\nsuperpages {superpages}\nnursery {nursery}\nbuffer {buffer}\nframes {frames}\n{lines}"
     )
 }
 

@@ -12,9 +12,9 @@ use Rattle.bc_model.specs.declared.traces.Setup.{Setup}
 use Rattle.bc_running.specs.Running.{RunningView, RunningStands}
 use Rattle.sorvekla.specs.Heaps.{OpenHeap}
 use Rattle.sorvekla.proofs.ReplyLemmas.{step-told}
-use Rattle.sorvekla.specs.Steps.{DidStep, IsCauseOf, IsCauseOfNone, IsGiveCause, IsOpFault, IsReplyFault, IsShort, IsShortFault, IsStepOf, KeepsStanding, StaysSame, is_reply_to}
+use Rattle.sorvekla.specs.Steps.{DidStep, IsCauseOf, IsCauseOfNone, IsFreezeCause, IsGiveCause, IsOpFault, IsReplyFault, IsShort, IsShortFault, IsStepOf, KeepsStanding, StaysSame, is_reply_to}
 use Rattle.sorvekla.specs.declared.errors.HeapError.{HeapError}
-use Rattle.sorvekla.specs.declared.errors.HeapError.TheVariants.{Foreign, NoBirthLeft, NoDomain, NoField, NoLane, NoRootLeft, NoSlot, NotObject, OutOfHeap, OutOfRange}
+use Rattle.sorvekla.specs.declared.errors.HeapError.TheVariants.{Foreign, Frozen, NoBirthLeft, NoDomain, NoField, NoLane, NoRootLeft, NoSlot, NotObject, OutOfHeap, OutOfRange}
 
 -- an operation that isn't begun
 pub cause-unbegun : (h k : OpenHeap) (lane : ℕ) (o : Op) (e : HeapError) → IsOpFault h lane o e → k ≡ h → IsCauseOf h lane o e k
@@ -28,6 +28,7 @@ cause-unbegun h k lane o NoRootLeft fault same = (fault, same)
 cause-unbegun h k lane o NotObject fault same = absurd fault
 cause-unbegun h k lane o NoField fault same = absurd fault
 cause-unbegun h k lane o Foreign fault same = absurd fault
+cause-unbegun h k lane o Frozen fault same = absurd fault
 
 -- one that the plain heap refuses too
 pub cause-told : (h k : OpenHeap) (lane : ℕ) (o : Op) (e : HeapError) (r : Reply) → IsReplyFault r e → DidStep h lane o r k → IsCauseOf h lane o e k
@@ -41,6 +42,7 @@ cause-told h k lane o NoRootLeft r fault did = absurd fault
 cause-told h k lane o NotObject r fault did = subst (λ (x : Reply). DidStep h lane o x k) fault did
 cause-told h k lane o NoField r fault did = subst (λ (x : Reply). DidStep h lane o x k) fault did
 cause-told h k lane o Foreign r fault did = subst (λ (x : Reply). DidStep h lane o x k) fault did
+cause-told h k lane o Frozen r fault did = subst (λ (x : Reply). DidStep h lane o x k) fault did
 
 -- a heap that is too small
 pub cause-short : (h k : OpenHeap) (lane : ℕ) (o : Op) (e : HeapError) → IsShortFault h.setup h.running e → StaysSame h k → IsCauseOf h lane o e k
@@ -54,6 +56,7 @@ cause-short h k lane o NoRootLeft short same = absurd short
 cause-short h k lane o NotObject short same = absurd short
 cause-short h k lane o NoField short same = absurd short
 cause-short h k lane o Foreign short same = absurd short
+cause-short h k lane o Frozen short same = absurd short
 
 pub none-short : (h k : OpenHeap) (e : HeapError) → IsShortFault h.setup h.running e → StaysSame h k → IsCauseOfNone h e k
 none-short h k (OutOfHeap need supers) short same = (same, record { there = short.there; above = short.above; needed = short.needed })
@@ -66,6 +69,7 @@ none-short h k NoRootLeft short same = absurd short
 none-short h k NotObject short same = absurd short
 none-short h k NoField short same = absurd short
 none-short h k Foreign short same = absurd short
+none-short h k Frozen short same = absurd short
 
 -- the need of the heap that is left is that of what lanes ran on before
 pub need-before : {r q : RunningView} (need : ℕ) → KeepsStanding r q → NeedOfHeap q.heap.space q.heap.roots q.heap.chunks need → (state : State) → RunningStands r state → IsNeed state need
@@ -83,6 +87,7 @@ short-before setup NoRootLeft keeps short = absurd short
 short-before setup NotObject keeps short = absurd short
 short-before setup NoField keeps short = absurd short
 short-before setup Foreign keeps short = absurd short
+short-before setup Frozen keeps short = absurd short
 
 -- what an operation does after something that kept what it stood for, it does from before that
 pub step-after : (lane : ℕ) (o : Op) (x : Result Reply HeapError) {r q : RunningView} (k : RunningView) → KeepsStanding r q → IfOk x (λ answer. IsStepOf q lane o answer k) → IfOk x (λ answer. IsStepOf r lane o answer k)
@@ -113,6 +118,20 @@ give-short h k domain lane NoRootLeft short same = absurd short
 give-short h k domain lane NotObject short same = absurd short
 give-short h k domain lane NoField short same = absurd short
 give-short h k domain lane Foreign short same = absurd short
+give-short h k domain lane Frozen short same = absurd short
+
+pub freeze-short : (h k : OpenHeap) (domain : ℕ) (e : HeapError) → IsShortFault h.setup h.running e → StaysSame h k → IsFreezeCause h domain e k
+freeze-short h k domain (OutOfHeap need supers) short same = (same, record { there = short.there; above = short.above; needed = short.needed })
+freeze-short h k domain NoLane short same = absurd short
+freeze-short h k domain NoDomain short same = absurd short
+freeze-short h k domain NoSlot short same = absurd short
+freeze-short h k domain OutOfRange short same = absurd short
+freeze-short h k domain NoBirthLeft short same = absurd short
+freeze-short h k domain NoRootLeft short same = absurd short
+freeze-short h k domain NotObject short same = absurd short
+freeze-short h k domain NoField short same = absurd short
+freeze-short h k domain Foreign short same = absurd short
+freeze-short h k domain Frozen short same = absurd short
 
 -- the reply to an operation that was done is one that it can have
 pub told-any : (lane : ℕ) (o : Op) (x : Result Reply HeapError) {r : RunningView} (q : RunningView) (state : State) → RunningStands r state → IfOk x (λ answer. IsStepOf r lane o answer q) → IfOk x (λ answer. is_reply_to o answer ≡ true)

@@ -2,7 +2,7 @@
 use Rattle.std.specs.Prelude.{◌≡◌, ◌⊎◌, ℕ, ◌+◌, ◌^◌, ◌<◌, ◌≤◌, Bool, true, false, slice_index}
 use Rattle.bc_model.specs.Need.{IsNeed}
 use Rattle.bc_model.specs.Slots.{AreSlots, slots_of}
-use Rattle.bc_model.specs.State.{State, given}
+use Rattle.bc_model.specs.State.{State, frozen, given}
 use Rattle.bc_model.specs.Step.{step}
 use Rattle.bc_model.specs.WellFormed.{IsField, IsNumber}
 use Rattle.bc_model.specs.declared.operations.Op.{Op}
@@ -71,6 +71,7 @@ IsCauseOf h lane o (error.OutOfHeap need supers) k = StaysSame h k × IsHeapTooS
 IsCauseOf h lane o error.NotObject k = DidStep h lane o reply.NotObj k
 IsCauseOf h lane o error.NoField k = DidStep h lane o reply.Range k
 IsCauseOf h lane o error.Foreign k = DidStep h lane o reply.Foreign k
+IsCauseOf h lane o error.Frozen k = DidStep h lane o reply.Frozen k
 IsCauseOf h lane o e k = IsOpFault h lane o e × (k ≡ h)
 
 -- the reply as an error
@@ -78,6 +79,7 @@ abbrev pub IsReplyFault : Reply → HeapError → Type 0
 IsReplyFault r error.NotObject = r ≡ reply.NotObj
 IsReplyFault r error.NoField = r ≡ reply.Range
 IsReplyFault r error.Foreign = r ≡ reply.Foreign
+IsReplyFault r error.Frozen = r ≡ reply.Frozen
 IsReplyFault r _ = ⊥
 
 -- why the nurseries aren't emptied, and what stands then
@@ -97,6 +99,18 @@ abbrev pub IsGiveCause : OpenHeap → ℕ → ℕ → HeapError → OpenHeap →
 IsGiveCause h domain lane error.NoDomain k = (h.setup.domains ≤ domain) × (k ≡ h)
 IsGiveCause h domain lane error.NoLane k = (h.setup.lanes ≤ lane) × (k ≡ h)
 IsGiveCause h domain lane e k = IsCauseOfNone h e k
+
+-- the domain is frozen, in every state that the heap stood for
+pub record Freezes (h : OpenHeap) (domain : ℕ) (k : OpenHeap) : Type 0 where
+  pub stands : (state : State) → HeapStands h state → HeapStands k (frozen state domain)
+  pub setup : k.setup ≡ h.setup
+  pub taken : k.taken ≡ h.taken
+  pub minor : k.minor ≡ one_more h.minor
+
+-- why it isn't, and what stands then
+abbrev pub IsFreezeCause : OpenHeap → ℕ → HeapError → OpenHeap → Type 0
+IsFreezeCause h domain error.NoDomain k = (h.setup.domains ≤ domain) × (k ≡ h)
+IsFreezeCause h domain e k = IsCauseOfNone h e k
 
 -- the reply that returns a value, an object by its birth
 abbrev pub reply_of : Value → Reply
@@ -119,6 +133,7 @@ reply_of_same false = reply.No
 abbrev pub is_new_reply : Reply → Bool
 is_new_reply (reply.Obj b) = true
 is_new_reply reply.Foreign = true
+is_new_reply reply.Frozen = true
 is_new_reply _ = false
 
 -- can this be the reply to a `who`?
@@ -142,6 +157,7 @@ is_change_reply reply.Done = true
 is_change_reply reply.NotObj = true
 is_change_reply reply.Range = true
 is_change_reply reply.Foreign = true
+is_change_reply reply.Frozen = true
 is_change_reply _ = false
 
 -- can this be the reply to a `load`?
@@ -152,6 +168,7 @@ is_load_reply reply.Ref = true
 is_load_reply reply.NotObj = true
 is_load_reply reply.Range = true
 is_load_reply reply.Foreign = true
+is_load_reply reply.Frozen = true
 is_load_reply _ = false
 
 -- can this be the reply to a `same`?

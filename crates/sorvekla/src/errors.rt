@@ -68,7 +68,10 @@ pub enum HeapError {
     /// The object has no such field.
     #[error("the object has no such field")]
     NoField,
-    /// The lane doesn't hold the domain of a slot or of an object.
+    /// Another lane holds the domain of a slot or of an object.
     #[error("the lane doesn't hold the domain")]
     Foreign,
+    /// The domain of the slot or of the object that would be written is frozen: all lanes may read it, and none may write it.
+    #[error("the domain is frozen")]
+    Frozen,
 }

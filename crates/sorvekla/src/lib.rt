@@ -3,6 +3,8 @@
 // A `Heap` is opened with its `Limits` and belongs to some lanes, each of which may be a thread of the runtime's own program, though all
 // calls are made one after another. Objects have up to 127 fields; a field holds nil, a number of 63 bits or a reference. They are reached
 // from root slots, of which each domain of the heap has some. A `Root` is a handle for one: the slot, and the lane that works with it.
+// A domain is held by one lane, which alone reads and writes what is in it, until it changes hands (`give`); or it is frozen (`freeze`), and
+// all lanes read it and none writes it, until it is given to a lane again.
 //
 //     let mut heap = Heap::open(rt.alloc(), &Limits { superpages: 64, frames: 40, ..Limits::default() })?;
 //     let list = heap.root(0, 0)?;

@@ -136,8 +136,8 @@ impl Heap {
     }
 
     /// Does an operation that is given as data, as a trace has it. What the plain heap refuses (no object, no such field, a domain that the
-    /// lane doesn't hold) is answered by the reply and is no error here. It takes no memory. Where the chunk or the write buffer is full, or no
-    /// frame can be taken, the nurseries are emptied first.
+    /// lane can't read, or that is frozen and would be written) is answered by the reply and is no error here. It takes no memory. Where the
+    /// chunk or the write buffer is full, or no frame can be taken, the nurseries are emptied first.
     pub fn operate<R>(&mut self, rt: &R, lane: u32, op: &Op) -> Result<Reply, HeapError>
     where
         R: Threads + Sync,

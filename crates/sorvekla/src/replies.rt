@@ -25,6 +25,7 @@ pub(crate) fn object_told(reply: Reply) -> Result<Birth, HeapError>
     match reply {
         Reply::Obj(birth) => Ok(birth),
         Reply::Foreign => Err(HeapError::Foreign),
+        Reply::Frozen => Err(HeapError::Frozen),
         _ => unreachable!(),
     }
 }
@@ -69,6 +70,7 @@ pub(crate) fn change_told(reply: Reply) -> Result<(), HeapError>
         Reply::NotObj => Err(HeapError::NotObject),
         Reply::Range => Err(HeapError::NoField),
         Reply::Foreign => Err(HeapError::Foreign),
+        Reply::Frozen => Err(HeapError::Frozen),
         _ => unreachable!(),
     }
 }
@@ -86,6 +88,7 @@ pub(crate) fn loaded_told(reply: Reply) -> Result<Loaded, HeapError>
         Reply::NotObj => Err(HeapError::NotObject),
         Reply::Range => Err(HeapError::NoField),
         Reply::Foreign => Err(HeapError::Foreign),
+        Reply::Frozen => Err(HeapError::Frozen),
         _ => unreachable!(),
     }
 }

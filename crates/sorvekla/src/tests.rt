@@ -87,6 +87,39 @@ fn what_is_refused_says_why(rt: HostRuntime) -> Result<(), Fail> {
     Ok(())
 }
 
+#[test]
+fn a_frozen_domain_is_read_by_every_lane_and_written_by_none(rt: HostRuntime) -> Result<(), Fail> {
+    let mut heap = Heap::open(rt.alloc(), &TWO_LANES).expect(&rt, "memory");
+    let shared = heap.root(0, 0).expect(&rt, "a root slot");
+    let mine = heap.root(1, 1).expect(&rt, "another root slot");
+    let theirs = shared.of_lane(1);
+    let birth = Birth { lane: 0, serial: 1 };
+    assert_eq!(&rt; heap.new(&rt, shared, 1), Ok(birth));
+    assert_eq!(&rt; heap.set(&rt, shared, 0, 7), Ok(()));
+    assert_eq!(&rt; heap.who(&rt, theirs), Err(HeapError::Foreign));
+    assert_eq!(&rt; heap.freeze(&rt, 2), Err(HeapError::NoDomain));
+    assert_eq!(&rt; heap.freeze(&rt, 0), Ok(()));
+    assert_eq!(&rt; heap.who(&rt, shared), Ok(Value::Obj(birth)));
+    assert_eq!(&rt; heap.set(&rt, shared, 0, 8), Err(HeapError::Frozen));
+    assert_eq!(&rt; heap.clear(&rt, shared), Err(HeapError::Frozen));
+    assert_eq!(&rt; heap.new(&rt, shared, 0), Err(HeapError::Frozen));
+    assert_eq!(&rt; heap.load(&rt, theirs, 0, mine), Ok(Loaded::Num(7)));
+    assert_eq!(&rt; heap.load(&rt, theirs, 0, theirs), Err(HeapError::Frozen));
+    assert_eq!(&rt; heap.copy(&rt, theirs, mine), Ok(()));
+    assert_eq!(&rt; heap.who(&rt, mine), Ok(Value::Obj(birth)));
+    assert_eq!(&rt; heap.len(&rt, mine), Ok(1));
+    assert_eq!(&rt; heap.cut(&rt, mine, 0), Err(HeapError::Frozen));
+    assert_eq!(&rt;
+        heap.operate(&rt, 1, &Op::Clear(shared.slot)),
+        Ok(Reply::Frozen)
+    );
+    assert_eq!(&rt; heap.give(&rt, 0, 1), Ok(()));
+    assert_eq!(&rt; heap.who(&rt, shared), Err(HeapError::Foreign));
+    assert_eq!(&rt; heap.set(&rt, mine, 0, 9), Ok(()));
+    assert_eq!(&rt; heap.load(&rt, theirs, 0, mine), Ok(Loaded::Num(9)));
+    Ok(())
+}
+
 /// Puts so many objects before the list of the first slot. It answers why it ends before that.
 fn longer<R>(heap: &mut Heap, rt: &R, list: Root, fresh: Root, more: u32) -> Result<(), HeapError>
 where

@@ -17,13 +17,14 @@ use Rattle.bc_superpages.specs.Calls.{fields_at}
 use Rattle.bc_superpages.specs.Kept.{IsLayout}
 use Rattle.bc_bookmarks.specs.Targets.{is_target, HasCell}
 use Rattle.bc_bookmarks.proofs.SoundLemmas.{IsSound}
+use Rattle.bc_model.specs.declared.values.Holder.TheVariants as holder
 use Rattle.bc_pins.specs.declared.views.View.{View}
 use Rattle.bc_pins.specs.declared.pins.Pins.{Pins}
 use Rattle.bc_pins.specs.declared.pins.Seat.{Seat}
 use Rattle.bc_pins.specs.declared.holding.Held.{Held}
 use Rattle.bc_pins.specs.declared.taking.Want.{Want}
 use Rattle.bc_pins.specs.declared.taking.Want.TheVariants.{Work}
-use Rattle.bc_pins.specs.Key.{Key, owner, lane_role}
+use Rattle.bc_pins.specs.Key.{Key, owner, owner_role, lane_role}
 use Rattle.bc_pins.specs.Totals.{times}
 use Rattle.bc_pins.specs.Contents.{IsContent, RefersYoung, IsYoung, field_bits, objects_in}
 use Rattle.bc_pins.specs.Views.{has_role}
@@ -129,9 +130,9 @@ module _ (pins : Pins) (old seat : Seat) (page : ℕ) (held : Held) (c : List �
       }
 
 -- the only lane holds each page of domain 0
-pub lane-owns : (k : Key) (v : View) (page : ℕ) → k.owners ≡ map lane_role (0 ∷ []) → slice_index k.opening.domains (page / 4) ≡ 0 → ((r : ℕ) → has_role v r ≡ times r (lane_role 0 ∷ [])) → 0 < has_role v (owner k page)
+pub lane-owns : (k : Key) (v : View) (page : ℕ) → k.owners ≡ map owner_role (holder.Lane 0 ∷ []) → slice_index k.opening.domains (page / 4) ≡ 0 → ((r : ℕ) → has_role v r ≡ times r (lane_role 0 ∷ [])) → 0 < has_role v (owner k page)
 lane-owns k v page owners domain roles =
-    let own : owner k page ≡ lane_role 0 = ap (λ (l : List ℕ). slice_index l (slice_index k.opening.domains (page / 4))) owners ∙ ap (slice_index (map lane_role (0 ∷ []))) domain in
+    let own : owner k page ≡ lane_role 0 = ap (λ (l : List ℕ). slice_index l (slice_index k.opening.domains (page / 4))) owners ∙ ap (slice_index (map owner_role (holder.Lane 0 ∷ []))) domain in
     let one = one_same (lane_role 0) in
     let r : has_role v (owner k page) ≡ has_role v (lane_role 0) = ap (has_role v) own in
     let z = roles (lane_role 0) in

@@ -1,8 +1,9 @@
 //! Tests of what a lane takes into a turn and gives back.
 
 use bc_lane::{LaneRoom, LaneRoots, LaneTurn};
-use bc_model::{Op, Slot};
+use bc_model::{Holder, Op, Slot};
 use bc_nursery::{Chunk, WriteBuffer};
+use bc_superpages::Roots;
 use bc_word::Address;
 use std::marker::Send;
 use std::test::Fail;
@@ -22,8 +23,15 @@ fn what_was_taken_into_a_turn_is_given_back(rt: HostRuntime) -> Result<(), Fail>
         domains: vec![in alloc; 1, 3]?,
         words: vec![in alloc; 0; 16]?,
     };
-    let room = LaneRoom::take(alloc, [0, 1, 0, 1].as_slice(), roots.domains.as_slice(), 8)?;
+    let holders = [
+        Holder::Lane(0),
+        Holder::Lane(1),
+        Holder::Lane(0),
+        Holder::Lane(1),
+    ];
+    let room = LaneRoom::take(alloc, holders.as_slice(), roots.domains.as_slice(), 8)?;
     let ops = [Op::Clear(Slot { domain: 1, slot: 0 })];
+    let shared = Roots::new(alloc, 4, 8)?;
     let turn = LaneTurn::prepare(
         room,
         1,
@@ -33,6 +41,7 @@ fn what_was_taken_into_a_turn_is_given_back(rt: HostRuntime) -> Result<(), Fail>
         7,
         Vec::with_capacity(alloc, 1)?,
         ops.as_slice(),
+        &shared,
     );
     may_cross(&turn);
     assert_eq!(rt; turn.lane(), 1);

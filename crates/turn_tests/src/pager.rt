@@ -13,6 +13,7 @@ mod marking;
 mod telling;
 
 use bc_gates::OpenGate;
+use bc_model::Holder;
 use bc_pager::{Answer, Answers, ListNotices, serve};
 use bc_pins::{Pins, Role, Seat, Turn, Want};
 use bc_superpages::{PageState, Space};
@@ -79,7 +80,7 @@ fn eight_notices_are_declined_where_every_page_is_absent(rt: HostRuntime) -> Res
         rt.alloc(),
         space,
         Turn::Lanes,
-        [0].as_slice(),
+        [Holder::Lane(0)].as_slice(),
         roles.as_slice(),
     ) else {
         panic!(rt; "memory for a table")
@@ -113,7 +114,7 @@ fn a_page_without_cells_is_discarded_once_it_is_not_held(rt: HostRuntime) -> Res
         rt.alloc(),
         space,
         Turn::Lanes,
-        [0].as_slice(),
+        [Holder::Lane(0)].as_slice(),
         roles.as_slice(),
     ) else {
         panic!(rt; "memory for a table")

@@ -6,6 +6,7 @@ ghost use Rattle.bc_pins.specs.Calls.{key_of, view_of, IsAt, IsSameSeat, IsFree}
 
 mod threads;
 
+use bc_model::Holder;
 use bc_pins::{Held, Pins, Role, Seat, TakeError, Turn, Want};
 use bc_superpages::Space;
 use std::marker::{Send, Sync};
@@ -36,7 +37,7 @@ fn a_table_of_the_largest_heap_opens_and_closes(rt: HostRuntime) -> Result<(), F
         rt.alloc(),
         space,
         Turn::Lanes,
-        [0].as_slice(),
+        [Holder::Lane(0)].as_slice(),
         roles.as_slice(),
     ) else {
         panic!(rt; "memory for a table")
@@ -99,7 +100,7 @@ fn a_page_that_one_seat_holds_is_busy_for_another(rt: HostRuntime) -> Result<(),
         rt.alloc(),
         space,
         Turn::Lanes,
-        [0].as_slice(),
+        [Holder::Lane(0)].as_slice(),
         roles.as_slice(),
     ) else {
         panic!(rt; "memory for a table")

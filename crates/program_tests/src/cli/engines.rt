@@ -1,4 +1,4 @@
-//! The calls of an engine that a run doesn't make: an operation by itself, a give before any phase, and what it counted.
+//! The calls of an engine that a run doesn't make: an operation by itself, a give or a freeze before any phase, and what it counted.
 
 use super::gates::run_paced;
 use super::trace;
@@ -28,6 +28,21 @@ fn after_a_give_the_new_holder_makes_an_object(rt: HostRuntime) -> Result<(), Fa
     let reply = engine.serial(0, &Op::New(slot, 1));
     assert_eq!(rt; reply, Reply::Obj(Birth { lane: 0, serial: 1 }));
     assert!(rt; engine.log().is_empty(), "only phases are written down");
+    Ok(())
+}
+
+#[test]
+fn after_a_freeze_another_lane_reads_and_the_old_holder_writes_no_more(
+    rt: HostRuntime,
+) -> Result<(), Fail> {
+    let mut engine = Engine::open(rt.alloc(), &SETUP, 1)?;
+    engine.freeze(1);
+    engine.facts();
+    let slot = Slot { domain: 1, slot: 0 };
+    let other = engine.serial(0, &Op::Who(slot));
+    assert_eq!(rt; other, Reply::Nil);
+    let holder = engine.serial(1, &Op::New(slot, 1));
+    assert_eq!(rt; holder, Reply::Frozen);
     Ok(())
 }
 

@@ -1,7 +1,7 @@
 //! Images: what `save` writes, what `resume` prints after it, and what both refuse.
 
 use super::sink::Paper;
-use super::{Ran, run_over, trace};
+use super::{Ran, run_over, trace, trace_in};
 use bc_cli::top::top;
 use bc_cli::{OpenGate, Status};
 use bc_image::ImageCause;
@@ -19,7 +19,7 @@ pub const SMALL: [u32; 7] = [1, 1, 2, 1, 1, 4, 3];
 pub const FIRST: &str = "phase\nlane 0\nnew 0 0 2\nset 0 0 1 7\nload 0 0 1 0 1\nend\ndone\n";
 
 /// The first eight letters of an image.
-const MAGIC: u64 = 0x6263_696D_6167_6531;
+pub const MAGIC: u64 = 0x6263_696D_6167_6531;
 
 /// The image after that phase, with the object in the first cell: the header, one phase done, holder, births, the slots, and a superpage of class
 /// 4 with one object of two fields.
@@ -252,6 +252,14 @@ fn an_image_of_another_version_is_refused(rt: HostRuntime) -> Result<(), Fail> {
         items[1] = version;
         items[10] = holder;
         let text = trace(alloc, SMALL, FIRST)?;
+        let input = followed(alloc, &bytes_of(alloc, &items)?, text.as_bytes())?;
+        refuses(&rt, alloc, &["resume"], input, Status::Mismatch);
+    }
+    // Nor does an image without a frozen domain go with a trace of a later version.
+    for version in [1, 3] {
+        let mut items = FIRST_IMAGE;
+        items[1] = version;
+        let text = trace_in(alloc, 2, SMALL, FIRST)?;
         let input = followed(alloc, &bytes_of(alloc, &items)?, text.as_bytes())?;
         refuses(&rt, alloc, &["resume"], input, Status::Mismatch);
     }

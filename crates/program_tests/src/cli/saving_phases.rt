@@ -18,6 +18,16 @@ fn goes_on<R: Threads + Sync + Abort>(
     texts: &[&str],
 ) -> Result<(), AllocError> {
     let input = trace(alloc, numbers, lines)?.into_bytes();
+    goes_on_over(rt, alloc, input, texts)
+}
+
+/// The same of the text of a whole trace.
+pub fn goes_on_over<R: Threads + Sync + Abort>(
+    rt: &R,
+    alloc: Global,
+    input: Vec<u8>,
+    texts: &[&str],
+) -> Result<(), AllocError> {
     for workers in ["1", "4"] {
         let words = ["run", "--workers", workers];
         let ran = run_over(rt, alloc, &words, input.as_slice().to_vec(alloc)?);

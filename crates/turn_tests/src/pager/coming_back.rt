@@ -7,6 +7,7 @@ ghost use Rattle.bc_pins.specs.Calls.{key_of, view_of, IsAt, IsFree, IsSameWorke
 
 use super::marking::linked_pages;
 use bc_evict::{claim_frame, free_frame, give_frame, reload};
+use bc_model::Holder;
 use bc_pins::{Pins, Role, Seat, Turn};
 use bc_superpages::PageState;
 use std::test::Fail;
@@ -61,7 +62,7 @@ fn a_lane_brings_a_page_back_in_the_turn_in_which_it_left(rt: HostRuntime) -> Re
         rt.alloc(),
         space,
         Turn::Lanes,
-        [0].as_slice(),
+        [Holder::Lane(0)].as_slice(),
         roles.as_slice(),
     ) else {
         panic!(rt; "memory for a table")

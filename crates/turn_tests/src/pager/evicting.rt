@@ -5,6 +5,7 @@ ghost use Rattle.bc_pins.specs.Opening.{IsOpenable};
 
 use super::furnished::Furnished;
 use super::{served, served_meanwhile};
+use bc_model::Holder;
 use bc_pager::Answer;
 use bc_pins::{Pins, Role, Turn};
 use bc_superpages::{PageState, Space};
@@ -37,7 +38,7 @@ fn the_first_page_that_can_be_had_is_evicted(rt: HostRuntime) -> Result<(), Fail
         rt.alloc(),
         space,
         Turn::Lanes,
-        [0].as_slice(),
+        [Holder::Lane(0)].as_slice(),
         roles.as_slice(),
     ) else {
         panic!(rt; "memory for a table")

@@ -15,6 +15,7 @@ ghost use Rattle.bc_evict.specs.Objects.{HeldHasObject};
 use super::furnished::Furnished;
 use bc_bits::contains;
 use bc_evict::{bookmark, evict, give_frame};
+use bc_model::Holder;
 use bc_pins::{Held, Pins, Role, Seat, Turn, Want};
 use bc_superpages::{PageState, Space};
 use bc_word::{Address, Word, pack, unpack_head};
@@ -181,7 +182,7 @@ fn a_lane_writes_while_a_pager_evicts_the_next_page(rt: HostRuntime) -> Result<(
         rt.alloc(),
         space,
         Turn::Lanes,
-        [0].as_slice(),
+        [Holder::Lane(0)].as_slice(),
         roles.as_slice(),
     ) else {
         panic!(rt; "memory for a table")

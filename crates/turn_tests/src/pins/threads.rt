@@ -10,6 +10,7 @@ ghost use Rattle.bc_pins.specs.Views.{has_role};
 ghost use Rattle.bc_pins.specs.Opening.{IsOpenable};
 ghost use Rattle.bc_pins.specs.Calls.{key_of, view_of, IsAt, IsSameSeat, IsFree};
 
+use bc_model::Holder;
 use bc_pins::{Pins, Role, Seat, Turn, Want};
 use bc_superpages::{PageState, Space};
 use bc_word::Address;
@@ -141,7 +142,7 @@ fn two_threads_write_different_pages(rt: HostRuntime) -> Result<(), Fail> {
         rt.alloc(),
         space,
         Turn::Lanes,
-        [0, 1].as_slice(),
+        [Holder::Lane(0), Holder::Lane(1)].as_slice(),
         roles.as_slice(),
     ) else {
         panic!(rt; "memory for a table")

@@ -7,7 +7,7 @@ use Rattle.bc_churn.proofs.Drawing.{phase-made, number-made, holders-made, phase
 use Rattle.bc_churn.proofs.churn.generate.Goals as goal
 
 pub loop-phase-init : goal.loop-phase-init
-unfolding Rattle.bc_model.specs.Run.after_gives
+unfolding Rattle.bc_model.specs.Run.after_changes
 loop-phase-init c = (c.in_ok-phases.ensures.items, c.new-generator.ensures, refl)
 
 pub loop-phase-preserved : goal.loop-phase-preserved
@@ -22,7 +22,7 @@ loop-phase-preserved c =
       holders-made start ops k c.loop-phase.generator c.loop-phase.holders c.draw_phase.new.holders i.1 i.2 p.holders,
     )
 
-made : (c : goal.After-loop-phase) → the_view (record { setup = churn_setup; phases = c.loop-phase.phases }) ≡ churn_trace c.args.start c.args.ops
+made : (c : goal.After-loop-phase) → the_view (record { version = 1; setup = churn_setup; phases = c.loop-phase.phases }) ≡ churn_trace c.args.start c.args.ops
 made c =
     trace-made c.args.start c.args.ops c.loop-phase.phase c.loop-phase.phases.items _ refl c.loop-phase.invariant.0
     (phases-count c.args.ops c.loop-phase.phase c.div_ceil-count.result c.div_ceil-count.ensures c.loop-phase.auto.phase-end c.loop-phase-test.false)

@@ -9,16 +9,16 @@ run_phase-requires-clause-opened g c κs within = (opening c.args.trace.now.setu
 
 pub unreachable-requires : goal.unreachable-requires
 unreachable-requires g c =
-    no-cut _ _ _ _ _ _ _ c.in-Some.is (c.in_ok-end.ensures.ran (opening c.args.trace.now.setup) c.requires.opened) c.requires.fits
+    no-cut c.args.trace.now _ _ _ _ _ _ c.in-Some.is (c.in_ok-end.ensures.ran (opening c.args.trace.now.setup) c.requires.opened) c.requires.fits
 
 pub add-requires : goal.add-requires
 add-requires g c =
-    counts-room _ _ _ _ _ _ _ c.in-None.is (c.in_ok-end.ensures.ran (opening c.args.trace.now.setup) c.requires.opened) c.requires.few c.requires.counted
+    counts-room c.args.trace.now _ _ _ _ _ _ c.in-None.is (c.in_ok-end.ensures.ran (opening c.args.trace.now.setup) c.requires.opened) c.requires.few c.requires.counted
 
 pub returns-clause-run : goal.returns-clause-run
 returns-clause-run g c = ran-on _ _ _ _ _ _ c.in-None.is (c.in_ok-end.ensures.ran (opening c.args.trace.now.setup) c.requires.opened)
 
 pub returns-clause-counted : goal.returns-clause-counted
 returns-clause-counted g c =
-    counts-next _ _ _ _ _ _ _ c.in-None.is (c.in_ok-end.ensures.ran (opening c.args.trace.now.setup) c.requires.opened)
+    counts-next c.args.trace.now _ _ _ _ _ _ c.in-None.is (c.in_ok-end.ensures.ran (opening c.args.trace.now.setup) c.requires.opened)
     (c.add.ensures.phase (replies_before c.args.trace.now c.args.index) c.requires.counted)

@@ -9,7 +9,7 @@ use Rattle.bc_cli.proofs.resume.resume_trace.Goals as goal
 pub replay_on-requires-clause-opened : goal.replay_on-requires-clause-opened
 replay_on-requires-clause-opened g c κs within =
     let l = c.args.listing in
-    let pictured = c.law_pictured.ensures.whole l c.requires.image c.first_version_lanes.ensures.lanes.0 c.first_version_lanes.ensures.lanes.1 in
+    let pictured = c.law_pictured.ensures.whole l c.requires.image in
     let s = pictured.0 in
     let run : HasRun (course_from c.args.trace.now s l.phases) 0 c.in-Ok.engine = HasRun-adopted c.args.trace.now l s c.in-Ok.engine c.requires.goes c.requires.image (omega (arith, c.requires.few)) (c.in-Ok.ensures.stands s pictured.1 pictured.2) (c.in-Ok.ensures.setup.0, c.in-Ok.ensures.setup.1, c.in-Ok.ensures.setup.2) c.in-Ok.ensures.births in (
       s,

@@ -1,14 +1,16 @@
-use Rattle.std.proofs.Common.{rules, Option, ◌∙◌, ap, arith, refl, sym, subst}
+use Rattle.std.proofs.Common.{rules, Option, ◌∙◌, ap, arith, inl, inr, refl, sym, subst}
+use Rattle.std.proofs.lemmas.Bool.{cases_lt}
 use Rattle.bc_engine.specs.Engines.{EngineView}
 use Rattle.bc_engine.specs.Parts.{CanAdopt, PartsStand}
 use Rattle.bc_model.specs.Lists.{TraceLists}
+use Rattle.bc_model.specs.State.{NoneFrozen}
 use Rattle.bc_model.specs.declared.traces.Setup.{Setup}
 use Rattle.bc_cli.specs.BetweenPhases.{HasRun}
 use Rattle.bc_cli.specs.Courses.{before, whole_course}
-use Rattle.bc_cli.specs.Saves.{CutOffBelow, IsListingOf}
+use Rattle.bc_cli.specs.Saves.{CutOffBelow}
 use Rattle.bc_cli.proofs.Alive.{cut-alive}
 use Rattle.bc_cli.proofs.Finishing.{HasRun-opened}
-use Rattle.bc_cli.proofs.Saving.{births-saved, need-of}
+use Rattle.bc_cli.proofs.Saving.{births-saved, need-of, of-trace}
 use Rattle.bc_cli.proofs.save.save_trace.Goals as goal
 
 pub run_first-requires-clause-opened : goal.run_first-requires-clause-opened
@@ -19,6 +21,21 @@ pub put_image-requires-clause-parts : goal.put_image-requires-clause-parts
 put_image-requires-clause-parts g c =
     let run : HasRun (whole_course c.args.trace.now) c.args.count c.run_first.new.engine = c.in-Ok-None.ensures.run (search rules) in
     subst (λ (z : Setup). CanAdopt z c.split-parts.result.holders.items c.split-parts.result.births.items c.split-parts.result.roots c.split-parts.result.space) (run.setup ∙ sym (ap (λ (x : TraceLists). x.setup) c.trace.view_is)) c.split-parts.ensures.parts
+
+pub put_image-requires-clause-version : goal.put_image-requires-clause-version
+put_image-requires-clause-version g c =
+    let range = c.requires.trace.version in
+    omega (arith, range.0, range.1, ap (λ (x : TraceLists). x.version) c.trace.view_is)
+
+pub put_image-requires-clause-holders : goal.put_image-requires-clause-holders
+put_image-requires-clause-holders g c =
+    let t = c.args.trace.now in
+    let run : HasRun (whole_course t) c.args.count c.run_first.new.engine = c.in-Ok-None.ensures.run (search rules) in
+    let version = ap (λ (x : TraceLists). x.version) c.trace.view_is in
+    elim (cases_lt 1 t.version) [
+      | inl later ↦ inr (omega (arith, later, version))
+      | inr first ↦ inl (subst NoneFrozen (run.stands.held ∙ sym c.split-parts.ensures.holders) (c.law_first_version.ensures.before t c.args.count c.requires.trace (omega (arith, first, c.requires.trace.version.0))))
+    ]
 
 pub put_image-requires-clause-births : goal.put_image-requires-clause-births
 put_image-requires-clause-births g c =
@@ -32,7 +49,7 @@ put_image-requires-clause-room g c =
     let view = (ap (λ (x : TraceLists). x.setup) c.trace.view_is) in
     let stands : PartsStand c.trace.inside.setup c.split-parts.result.holders.items c.split-parts.result.births.items c.split-parts.result.roots c.split-parts.result.space s =
     subst (λ (z : Setup). PartsStand z c.split-parts.result.holders.items c.split-parts.result.births.items c.split-parts.result.roots c.split-parts.result.space s) (run.setup ∙ sym view) (c.split-parts.ensures.stands s run.stands) in
-    (s, stands, λ l listing. c.requires.room l (subst (λ (z : Setup). IsListingOf z c.args.count s l) view listing))
+    (s, stands, λ l listing. c.requires.room l (of-trace c.args.trace.now c.trace.inside.version c.trace.inside.setup c.args.count s l (ap (λ (x : TraceLists). x.version) c.trace.view_is) view listing))
 
 pub returns-in-Ok-put_image-clause-done : goal.returns-in-Ok-put_image-clause-done
 returns-in-Ok-put_image-clause-done g c = λ e.
@@ -43,10 +60,10 @@ returns-in-Ok-put_image-clause-done g c = λ e.
     let stands : PartsStand c.trace.inside.setup c.split-parts.result.holders.items c.split-parts.result.births.items c.split-parts.result.roots c.split-parts.result.space s =
     subst (λ (z : Setup). PartsStand z c.split-parts.result.holders.items c.split-parts.result.births.items c.split-parts.result.roots c.split-parts.result.space s) (run.setup ∙ sym view) (c.split-parts.ensures.stands s run.stands) in
     let out = c.in-Ok-put_image.ensures.written s stands in
-    (out.0, subst (λ (z : Setup). IsListingOf z c.args.count s out.0) view out.1, out.2, run.fits)
+    (out.0, of-trace t c.trace.inside.version c.trace.inside.setup c.args.count s out.0 (ap (λ (x : TraceLists). x.version) c.trace.view_is) view out.1, out.2, run.fits)
 
-pub returns-in-Ok-None-clause-write_fault : goal.returns-in-Ok-None-clause-write_fault
-returns-in-Ok-None-clause-write_fault g c = λ e.
+pub returns-in-Err-put_image-clause-write_fault : goal.returns-in-Err-put_image-clause-write_fault
+returns-in-Err-put_image-clause-write_fault g c = λ e.
     let t = c.args.trace.now in
     let run : HasRun (whole_course t) c.args.count c.run_first.new.engine = c.in-Ok-None.ensures.run (search rules) in
     let s = before (whole_course t) c.args.count in
@@ -54,7 +71,7 @@ returns-in-Ok-None-clause-write_fault g c = λ e.
     let stands : PartsStand c.trace.inside.setup c.split-parts.result.holders.items c.split-parts.result.births.items c.split-parts.result.roots c.split-parts.result.space s =
     subst (λ (z : Setup). PartsStand z c.split-parts.result.holders.items c.split-parts.result.births.items c.split-parts.result.roots c.split-parts.result.space s) (run.setup ∙ sym view) (c.split-parts.ensures.stands s run.stands) in
     let out = c.in-Err-put_image.ensures.front s stands in
-    (out.0, subst (λ (z : Setup). IsListingOf z c.args.count s out.0) view out.1, out.2)
+    (out.0, of-trace t c.trace.inside.version c.trace.inside.setup c.args.count s out.0 (ap (λ (x : TraceLists). x.version) c.trace.view_is) view out.1, out.2)
 
 pub with_heap-requires : goal.with_heap-requires
 with_heap-requires g c = record {

@@ -1,8 +1,12 @@
 use Rattle.std.proofs.Common.{◌≡◌, Option, Some, None, refl, ap, sym, ◌∙◌}
-use Rattle.bc_lane.proofs.HandLemmas.{in-hand, in-none, may-put, none-laid, none-reads, put-laid, put-reads, same-lane, seat-lane, shown-back, shown-none, shown-put, some-back}
+use Rattle.std.proofs.lemmas.Option.{same_Some}
+use Rattle.bc_lane.proofs.HandLemmas.{hand-may, in-hand, in-none, may-put, none-laid, none-reads, put-laid, put-reads, put-unchanged, same-lane, seat-lane, shown-back, shown-none, shown-put, some-back}
 use Rattle.bc_lane.proofs.PageLemmas.{shown-hand}
 use Rattle.bc_lane.proofs.PassLemmas.{none-passes, put-passes, put-puts, same-puts}
+use Rattle.bc_pins.specs.declared.holding.Held.{Held}
 use Rattle.bc_pins.specs.Calls.{view_of}
+use Rattle.bc_pins.specs.Key.{owner}
+use Rattle.bc_pins.specs.Views.{has_role}
 use Rattle.bc_pins.specs.declared.views.Hand.{Hand}
 use Rattle.bc_pins.specs.declared.views.View.{View}
 use Rattle.bc_lane.proofs.hands.put_hand_back.Goals as goal
@@ -29,7 +33,7 @@ returns-in-Some-clause-reads c =
     let s = c.requires.shown in
     let is = sym c.take.ensures.value ∙ c.in-Some.is in
     put-reads c.args.seat.now (view_of c.put.new.seat) c.in-Some.held (in-hand c.args.seat.now c.args.hand.now c.in-Some.held is c.requires.hands)
-    (shown-hand (view_of c.args.seat.now) c.args.hand.now c.in-Some.held s.0 s.1 is s.2).in_hand.own c.put.ensures.view
+    (hand-may (view_of c.args.seat.now) c.in-Some.held s.1 (shown-hand (view_of c.args.seat.now) c.args.hand.now c.in-Some.held s.0 s.1 is s.2).in_hand) c.put.ensures.view
 
 pub returns-in-None-clause-free : goal.returns-in-None-clause-free
 returns-in-None-clause-free c = in-none c.args.seat.now c.args.hand.now (sym c.take.ensures.value ∙ c.in-None.is) c.requires.hands
@@ -56,10 +60,7 @@ pub returns-in-None-clause-passes : goal.returns-in-None-clause-passes
 returns-in-None-clause-passes c = λ q. none-passes (view_of c.args.seat.now) q
 
 pub returns-in-Some-clause-laid : goal.returns-in-Some-clause-laid
-returns-in-Some-clause-laid c =
-    let s = c.requires.shown in
-    let is = sym c.take.ensures.value ∙ c.in-Some.is in
-    put-laid (view_of c.args.seat.now) (view_of c.put.new.seat) c.in-Some.held (shown-hand (view_of c.args.seat.now) c.args.hand.now c.in-Some.held s.0 s.1 is s.2).in_hand.own c.put.ensures.view
+returns-in-Some-clause-laid c = put-laid (view_of c.args.seat.now) (view_of c.put.new.seat) c.in-Some.held c.put.ensures.view
 
 pub returns-in-None-clause-laid : goal.returns-in-None-clause-laid
 returns-in-None-clause-laid c =
@@ -78,3 +79,9 @@ returns-in-Some-clause-idle c = λ none.
   where
     never-both : (hand : Option Hand) (h : Hand) → hand ≡ Some h → hand ≡ None → ⊥
     never-both hand h is none = cc
+
+pub returns-in-Some-clause-foreign : goal.returns-in-Some-clause-foreign
+returns-in-Some-clause-foreign c = λ held is none.
+    let same : c.in-Some.held ≡ held = same_Some c.in-Some.held held (sym (sym c.take.ensures.value ∙ c.in-Some.is) ∙ is) in
+    put-unchanged (view_of c.args.seat.now) (view_of c.put.new.seat) c.in-Some.held c.put.ensures.view
+    (ap (λ (h : Held). has_role (view_of c.args.seat.now) (owner (view_of c.args.seat.now).about h.page)) same ∙ none)

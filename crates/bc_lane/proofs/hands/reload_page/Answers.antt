@@ -1,10 +1,9 @@
-use Rattle.std.proofs.Common.{◌≡◌, ◌<◌, ◌≤◌, ap, sym, subst, ◌∙◌, arith}
+use Rattle.std.proofs.Common.{◌<◌, inl, ap, sym, subst, ◌∙◌, arith}
 use Rattle.bc_lane.proofs.FrameLemmas.{none-found-reads, none-found-shows, reloaded-holds, reloaded-lane, reloaded-reads, reloaded-shows}
 use Rattle.bc_lane.proofs.HandLemmas.{own-lane, seat-lane}
 use Rattle.bc_lane.proofs.PassLemmas.{fetched-passes, none-found-passes}
 use Rattle.bc_pins.specs.Calls.{view_of}
-use Rattle.bc_pins.specs.Key.{Key, owner, pages_of}
-use Rattle.bc_pins.specs.Totals.{times}
+use Rattle.bc_pins.specs.Key.{Key, pages_of}
 use Rattle.bc_pins.specs.declared.views.View.{View}
 use Rattle.bc_pins.proofs.VisitLemmas.{at_after}
 use Rattle.bc_lane.proofs.hands.reload_page.Goals as goal
@@ -12,12 +11,10 @@ use Rattle.bc_lane.proofs.hands.reload_page.Goals as goal
 pub reload-requires-clause-seat : goal.reload-requires-clause-seat
 reload-requires-clause-seat c = at_after c.args.pins.now c.args.seat.now c.find_frame.new.seat c.requires.at c.find_frame.ensures.same
 
-pub reload-requires-clause-own : goal.reload-requires-clause-own
-reload-requires-clause-own c =
-    let own = own-lane c.args.seat.now c.find_frame.new.seat c.args.page
-    (seat-lane c.args.seat.now c.find_frame.new.seat c.find_frame.ensures.same (ap (λ (v : View). v.fetched) c.in-Some.ensures.some.view)) c.requires.own in
-    let about = c.find_frame.ensures.same.about ∙ c.requires.at.about in
-    subst (λ (k : Key). 0 < times (owner k c.args.page) (view_of c.find_frame.new.seat).roles) about own
+pub reload-requires-clause-may : goal.reload-requires-clause-may
+reload-requires-clause-may c =
+    inl (own-lane c.args.seat.now c.find_frame.new.seat c.args.page
+    (seat-lane c.args.seat.now c.find_frame.new.seat c.find_frame.ensures.same (ap (λ (v : View). v.fetched) c.in-Some.ensures.some.view)) c.requires.own)
 
 pub reload-requires-clause-right : goal.reload-requires-clause-right
 reload-requires-clause-right c = ap (λ (v : View). v.rights) c.in-Some.ensures.some.view
@@ -39,7 +36,7 @@ returns-in-Ok-clause-shows c = λ end s shown.
 
 pub returns-in-Ok-clause-reads : goal.returns-in-Ok-clause-reads
 returns-in-Ok-clause-reads c =
-    reloaded-reads (view_of c.args.seat.now) (view_of c.find_frame.new.seat) c.reload.new.seat c.args.page c.in-Some.right.frame c.in-Ok.fetched c.in-Some.ensures.some c.in-Ok.ensures.ok.0 c.requires.rights c.requires.own
+    reloaded-reads (view_of c.args.seat.now) (view_of c.find_frame.new.seat) c.reload.new.seat c.args.page c.in-Some.right.frame c.in-Ok.fetched c.in-Some.ensures.some c.in-Ok.ensures.ok.0 c.requires.rights (inl c.requires.own)
     (subst (λ (k : Key). c.args.page < pages_of k) (sym c.requires.at.about) c.requires.page)
 
 -- a page that is known to be Gone is not refused

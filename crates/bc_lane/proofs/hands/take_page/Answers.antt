@@ -3,7 +3,7 @@ use Rattle.bc_lane.specs.Shown.{ShowsPages}
 use Rattle.bc_lane.specs.Turns.{HasInHand}
 use Rattle.bc_lane.proofs.FrameLemmas.{refused-since-then}
 use Rattle.bc_lane.proofs.PassLemmas.{none-passes, passes-on, puts-on, same-puts}
-use Rattle.bc_lane.proofs.HandLemmas.{at-lane, none-reads, own-lane, rights-on, same-lane, then-lane, then-reads}
+use Rattle.bc_lane.proofs.HandLemmas.{at-lane, none-reads, page-of_lane, rights-on, same-lane, then-lane, then-reads}
 use Rattle.bc_pins.specs.Calls.{HoldsPage, view_of}
 use Rattle.bc_pins.specs.Contents.{IsBarePage}
 use Rattle.bc_pins.specs.Key.{Key, pages_of}
@@ -32,8 +32,8 @@ take_or_reload-requires-clause-at g c = at-lane c.args.pins.now c.args.seat.now 
 pub take_or_reload-requires-clause-lanes : goal.take_or_reload-requires-clause-lanes
 take_or_reload-requires-clause-lanes g c = subst (λ (a : Key). a.lanes ≡ true) (sym c.put_hand_back.ensures.same.worker.about) c.requires.lanes
 
-pub take_or_reload-requires-clause-own : goal.take_or_reload-requires-clause-own
-take_or_reload-requires-clause-own g c = own-lane c.args.seat.now c.put_hand_back.new.seat c.args.page c.put_hand_back.ensures.same c.requires.own
+pub take_or_reload-requires-clause-kind : goal.take_or_reload-requires-clause-kind
+take_or_reload-requires-clause-kind g c = page-of_lane c.args.seat.now c.put_hand_back.new.seat c.args.page c.args.frozen c.put_hand_back.ensures.same c.requires.kind
 
 pub take_or_reload-requires-clause-rights : goal.take_or_reload-requires-clause-rights
 take_or_reload-requires-clause-rights g c = rights-on (view_of c.args.seat.now) (view_of c.put_hand_back.new.seat) c.put_hand_back.ensures.reads c.requires.rights

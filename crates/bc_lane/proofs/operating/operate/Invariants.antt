@@ -7,4 +7,5 @@ ghosts-operate_at a = record {
   lane = a.part.now.lane;
   slots = a.part.now.slots;
   starts = a.part.now.starts.items;
+  shared = a.part.now.shared.value;
 }

@@ -2,6 +2,7 @@ use Rattle.std.proofs.Common.{◌<◌, sym, subst, arith}
 use Rattle.std.proofs.lemmas.Result.{err_from_is_err_and}
 use Rattle.bc_model.specs.declared.operations.Reply.TheVariants.{Done}
 use Rattle.bc_nursery.specs.Entries.{Entries}
+use Rattle.bc_superpages.proofs.MemoryLemmas.{memory_of-cell}
 use Rattle.bc_nursery.specs.Nurseries.{Nursery}
 use Rattle.bc_mutator.specs.Effects.{FindsFull}
 use Rattle.bc_mutator.specs.Objects.{cell_of}
@@ -9,15 +10,23 @@ use Rattle.bc_mutator.proofs.ChangeLemmas.{written-changes, refused-changes}
 use Rattle.bc_mutator.proofs.PartLemmas.{can-store, can-write, field-serves, part-wrote, space-of}
 use Rattle.bc_mutator.proofs.RootLemmas.{done-answers}
 use Rattle.bc_mutator.proofs.RecordLemmas.{written-records, refused-records, write-stops}
-use Rattle.bc_mutator.proofs.WritingLemmas.{done-field, write-effect, write-refuses}
+use Rattle.bc_mutator.proofs.WritingLemmas.{done-field, own-cell, write-effect, write-refuses}
 use Rattle.bc_mutator.proofs.fields.write.Goals as goal
 
 pub write_field-requires-clause-store : goal.write_field-requires-clause-store
 write_field-requires-clause-store g c =
     let h = c.requires.serves.0 in
     let s = c.requires.serves.1 in
-    let w = field-serves c.word-target.result s c.requires.held (c.word-target.ensures.word h.roots s.part.roots s.slot) in
-    (h.space, space-of w, can-store c.word-target.result c.in-Ok.at c.args.index s w (c.in-Ok.ensures.found h w) (c.in-Ok.ensures.index h w))
+    let w = field-serves c.word-target.result s c.requires.held (c.word-target.ensures.word h.roots s.part.roots s.slot) in (
+      h.space,
+      space-of w,
+      can-store c.word-target.result c.in-Ok.at c.args.index s w (c.in-Ok.ensures.found h w) (c.in-Ok.ensures.index h w),
+      λ below.
+          let can = can-write c.word-target.result c.in-Ok.at c.args.index s (c.in-Ok.ensures.found h w) (c.in-Ok.ensures.index h w) in
+          let own = own-cell h c.args.holders.now c.args.lane c.word-target.result c.in-Ok.at c.args.index c.args.word can below in
+          c.requires.pages h.space c.in-Ok.at.0 _ s.part.space s.ready.layout (memory_of-cell h.space.classes h.space.cells h.space.pages c.in-Ok.at.0 own.on) own.held
+          (c.in-Ok.ensures.hand h.space s.part.space below),
+    )
 
 pub returns-in_ok-write_field-in-Ok-clause-done : goal.returns-in_ok-write_field-in-Ok-clause-done
 returns-in_ok-write_field-in-Ok-clause-done g c = λ h s.
@@ -67,3 +76,9 @@ returns-in-Err-clause-done g c = λ h s.
           (λ a of less. c.in-Err.ensures.none h w a of (subst (λ (x : Nursery). c.args.index < (cell_of h.space x a.0).head.fields) s.part.chunk_is less))))
           (is.changes (refused-changes h hs c.args.lane c.args.slot c.args.index c.args.word c.in-Err.reply c.in-Err.ensures.refusal)),
     )
+
+pub own_object_with_field-requires-clause-own : goal.own_object_with_field-requires-clause-own
+own_object_with_field-requires-clause-own g c =
+    let h = c.requires.serves.0 in
+    let s = c.requires.serves.1 in
+    (h, field-serves c.word-target.result s c.requires.held (c.word-target.ensures.word h.roots s.part.roots s.slot))

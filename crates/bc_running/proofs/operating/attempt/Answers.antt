@@ -103,7 +103,9 @@ returns-in-Ok-clause-stays c =
       serials = ap (set c.args.serials.now c.args.lane) (sym (get_or-set_same c.args.serials.now c.args.lane c.operate_here.new.serial 0 c.requires.lane));
       others = e.others;
       space = e.space ∙ sym (ap (λ (x : Layout). record t { states = x.states; pages = x.pages; free = x.free; bookmarks = x.bookmarks; incoming = x.incoming; reads = x.reads }) e.space);
+      pages = e.pages;
       roots = e.roots;
+      slots = e.slots;
       chunk = e.chunk;
       chunks = e.lists.0;
       buffers = e.lists.1;

@@ -1,5 +1,6 @@
 use Rattle.std.proofs.Common.{refl, inr, sym, ◌∙◌}
 use Rattle.std.proofs.lemmas.Result.{on_err_weaker, on_ok_weaker}
+use Rattle.bc_mutator.specs.Operations.{MayName}
 use Rattle.bc_whole_heap.specs.HeapFacts.{view_of}
 use Rattle.bc_whole_heap.proofs.MovingLemmas.{eligible-named}
 use Rattle.bc_running.proofs.BringLemmas.{came-home, finds-gone, looks-elsewhere}
@@ -17,12 +18,12 @@ pub returns-in-Some-clause-brings : goal.returns-in-Some-clause-brings
 returns-in-Some-clause-brings c =
     let h = c.requires.running in
     let e = c.in-Some.ensures in
-    on_ok_weaker c.reload_by_clock.result
-    (λ back. came-home (finds-gone h.0 h.1 c.args.op.now c.in-Some.page h.2 h.3 c.requires.op (sym c.holds_all.ensures.held ∙ c.if-not-holds_all.false) e.within e.gone e.leads) back)
-    c.reload_by_clock.ensures.back
+    let named : MayName c.args.holders.now c.args.lane c.args.op.now = (sym c.reads_all.ensures.held ∙ c.if-not-reads_all.false, sym c.writes_target.ensures.right ∙ c.if-not-writes_target.false) in
+    on_ok_weaker c.reload_by_clock.result (λ back. came-home (finds-gone h.0 h.1 c.args.op.now c.in-Some.page h.2 h.3 c.requires.op named e.within e.gone e.leads e.right) back) c.reload_by_clock.ensures.back
 
 pub returns-in-Some-clause-looks : goal.returns-in-Some-clause-looks
 returns-in-Some-clause-looks c =
     let h = c.requires.running in
     let e = c.in-Some.ensures in
-    on_err_weaker c.reload_by_clock.result (λ same. (finds-gone h.0 h.1 c.args.op.now c.in-Some.page h.2 h.3 c.requires.op (sym c.holds_all.ensures.held ∙ c.if-not-holds_all.false) e.within e.gone e.leads).looks) c.reload_by_clock.ensures.same
+    let named : MayName c.args.holders.now c.args.lane c.args.op.now = (sym c.reads_all.ensures.held ∙ c.if-not-reads_all.false, sym c.writes_target.ensures.right ∙ c.if-not-writes_target.false) in
+    on_err_weaker c.reload_by_clock.result (λ same. (finds-gone h.0 h.1 c.args.op.now c.in-Some.page h.2 h.3 c.requires.op named e.within e.gone e.leads e.right).looks) c.reload_by_clock.ensures.same

@@ -1,10 +1,16 @@
 use Rattle.std.proofs.lemmas.Result.{IfOk-weaker, on_err_weaker}
 use Rattle.bc_cycle.specs.Emptying.{heap_view}
-use Rattle.bc_running.proofs.WholeLemmas.{back-same, did-whole, touches-hand, whole-needs, whole-serves}
+use Rattle.bc_mutator.specs.Parts.{has_right, touched_slot}
+use Rattle.bc_mutator.proofs.PartLemmas.{touches-all}
+use Rattle.bc_running.proofs.WholeLemmas.{back-same, did-whole, looks-in_hand, whole-needs, whole-serves}
 use Rattle.bc_running.proofs.whole.operate_own.Goals as goal
 
 pub operate_parts-requires-clause-hand : goal.operate_parts-requires-clause-hand
-operate_parts-requires-clause-hand c = λ held. touches-hand (heap_view c.args.heap.now) c.args.holders.now c.args.lane c.args.op.now c.requires.ready c.requires.op (c.requires.here held)
+operate_parts-requires-clause-hand c = λ named.
+    looks-in_hand (heap_view c.args.heap.now) c.args.holders.now c.args.lane (has_right c.args.holders.now c.args.lane c.args.op.now) c.args.op.now c.requires.ready c.requires.op (c.requires.here named)
+
+pub operate_parts-requires-clause-known : goal.operate_parts-requires-clause-known
+operate_parts-requires-clause-known c = λ named. touches-all _ _ (λ page. Unit {0}) (touched_slot c.args.op.now) (λ page. tt)
 
 pub returns-clause-done : goal.returns-clause-done
 returns-clause-done c =

@@ -11,6 +11,6 @@ returns c =
     let p : PhaseLists = record { turns = map (λ v. v.items) fields.turns.items; lanes = map (λ v. v.items) fields.lanes.items; gives = fields.gives.items } in
     let turns = rw c.deref.ensures.value at c.in_ok-push_turns.ensures in
     let lanes = rw c.deref-2.ensures.value at c.in_ok-push_lanes.ensures in
-    let gives = rw c.deref-3.ensures.value at c.in_ok-push_gives.ensures in
-    let all = phase_written p c.args.out.now.items c.push_line.new.out.items c.push_turns.new.out.items c.push_lanes.new.out.items c.push_gives.new.out.items c.push_line-2.new.out.items c.in_ok-push_line.ensures turns lanes gives c.in_ok-push_line-2.ensures in
+    let gives = rw c.deref-3.ensures.value at c.in_ok-push_changes.ensures in
+    let all = phase_written p c.args.out.now.items c.push_line.new.out.items c.push_turns.new.out.items c.push_lanes.new.out.items c.push_changes.new.out.items c.push_line-2.new.out.items c.in_ok-push_line.ensures turns lanes gives c.in_ok-push_line-2.ensures in
     subst (λ (p : PhaseLists). c.push_line-2.new.out.items ≡ c.args.out.now.items ++ flat_map line_text (phase_lines p)) c.phase.view_is all

@@ -9,7 +9,7 @@ use Rattle.bc_trace.proofs.writing.write.Goals as goal
 pub returns : goal.returns
 returns c =
     let fields = c.trace.inside in
-    let t : TraceLists = record { setup = fields.setup; phases = fields.phases.items } in
+    let t : TraceLists = record { version = fields.version; setup = fields.setup; phases = fields.phases.items } in
     let head = rw c.new-text.ensures.items at c.in_ok-push_line.ensures in
     let all = take_all c.loop-phase.phase-index c.deref-phase-items.result.now c.loop-phase-test.false ∙ c.deref-phase-items.ensures.value in
     let phases = c.loop-phase.invariant ∙ ap (λ (ps : List PhaseLists). c.push_setup.new.out.items ++ flat_map line_text (flat_map phase_lines ps)) all in

@@ -1,9 +1,10 @@
-use Rattle.std.proofs.Common.{◌≡◌, ℕ, List, [], ◌∷◌, length, Vec, refl, ap, sym, subst, ◌∙◌, arith, length-append}
+use Rattle.std.proofs.Common.{◌≡◌, List, [], ◌∷◌, length, Vec, refl, ap, sym, subst, ◌∙◌, arith, length-append}
 use Rattle.std.proofs.lemmas.List.{length-map}
 use Rattle.std.specs.declared.alloc.Global.{Global}
 use Rattle.bc_cycle.specs.declared.heaps.Heap.{Heap}
 use Rattle.bc_cycle.specs.Emptying.{heap_view}
 use Rattle.bc_model.specs.Rows.{lists_of}
+use Rattle.bc_model.specs.declared.values.Holder.{Holder}
 use Rattle.bc_turn.specs.declared.runs.Run.{Run}
 use Rattle.bc_turn.specs.declared.rooms.Spare.{Spare}
 use Rattle.bc_turn.specs.Taking.{IsSpareOf, TakesAlong}
@@ -41,7 +42,7 @@ begin_lane-requires-clause-spare c =
     let is = spare-slots c.requires.spares.0 c.args.heap.now c.loop-seat.heap c.in-Some-pop.spare c.loop-seat.invariant.same
     (spare-is c.requires.spares.0 c.args.serials.now (lists_of c.args.lanes.now) (heap_view c.args.heap.now) c.args.replies.now c.args.spares.now.items c.args.seats.now.items c.loop-seat.spares.items c.pop-in-Some.new.self.items c.loop-seat.seats.items c.pop.new.self.items
     (heap_view c.loop-seat.heap) c.loop-seat.replies c.loop-seat.runs.items (c.loop-seat.invariant.lending c.requires.spares.0 c.requires.spares.2) c.requires.busy c.in-Some-pop.spare c.in-Some.seat c.in-Some-pop.ensures.items c.in-Some.ensures.items c.requires.spares.2) in
-    subst (λ (hs : List ℕ). IsSpareOf hs c.loop-seat.heap.roots.slots c.in-Some-pop.spare) (sym is.room.holders_are) is
+    subst (λ (hs : List Holder). IsSpareOf hs c.loop-seat.heap.roots.slots c.in-Some-pop.spare) (sym is.room.holders_are) is
 
 pub begin_lane-requires-clause-domains : goal.begin_lane-requires-clause-domains
 begin_lane-requires-clause-domains c =
@@ -79,7 +80,7 @@ loop-seat-preserved c = record {
       let is = spare-slots hs c.args.heap.now c.loop-seat.heap c.in-Some-pop.spare c.loop-seat.invariant.same
       (spare-is hs c.args.serials.now (lists_of c.args.lanes.now) (heap_view c.args.heap.now) c.args.replies.now c.args.spares.now.items c.args.seats.now.items c.loop-seat.spares.items c.pop-in-Some.new.self.items c.loop-seat.seats.items c.pop.new.self.items
       (heap_view c.loop-seat.heap) c.loop-seat.replies c.loop-seat.runs.items (c.loop-seat.invariant.lending hs all) c.requires.busy c.in-Some-pop.spare c.in-Some.seat c.in-Some-pop.ensures.items c.in-Some.ensures.items all) in
-      let takes = subst (λ (xs : List ℕ). TakesAlong (heap_view c.loop-seat.heap) xs c.args.serials.now (lists_of c.args.lanes.now) (lists_of c.loop-seat.replies) c.in-Some-pop.spare.lane c.begin_lane.result.turn) is.room.holders_are c.begin_lane.ensures.takes in
+      let takes = subst (λ (xs : List Holder). TakesAlong (heap_view c.loop-seat.heap) xs c.args.serials.now (lists_of c.args.lanes.now) (lists_of c.loop-seat.replies) c.in-Some-pop.spare.lane c.begin_lane.result.turn) is.room.holders_are c.begin_lane.ensures.takes in
       subst (λ (runs : List Run). Lending hs c.args.serials.now (lists_of c.args.lanes.now) (heap_view c.args.heap.now) c.args.replies.now c.args.spares.now.items c.args.seats.now.items c.pop-in-Some.new.self.items c.pop.new.self.items (heap_view c.begin_lane.new.heap) c.begin_lane.new.replies runs) (sym c.push_reserved.ensures.items)
       (lending-more hs c.args.serials.now (lists_of c.args.lanes.now) (heap_view c.args.heap.now) c.args.replies.now c.args.spares.now.items c.args.seats.now.items c.loop-seat.spares.items c.pop-in-Some.new.self.items c.loop-seat.seats.items c.pop.new.self.items
       (heap_view c.loop-seat.heap) c.loop-seat.replies c.loop-seat.runs.items (c.loop-seat.invariant.lending hs all) c.requires.busy c.in-Some-pop.spare c.in-Some.seat c.in-Some-pop.ensures.items c.in-Some.ensures.items

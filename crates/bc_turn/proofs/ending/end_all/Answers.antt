@@ -5,6 +5,7 @@ use Rattle.bc_cycle.specs.declared.heaps.Heap.{Heap}
 use Rattle.bc_cycle.specs.Emptying.{heap_view}
 use Rattle.bc_model.specs.Rows.{lists_of}
 use Rattle.bc_model.specs.declared.operations.Reply.{Reply}
+use Rattle.bc_model.specs.declared.values.Holder.{Holder}
 use Rattle.bc_superpages.specs.RootWords.{RootWords}
 use Rattle.bc_turn.specs.declared.runs.Run.{Run}
 use Rattle.bc_turn.specs.Laying.{AreLaidBack}
@@ -104,7 +105,7 @@ loop-run-preserved c =
           let slots : c.loop-run.heap.roots.slots ≡ c.args.heap.now.roots.slots = ap (λ (r : RootWords). r.slots) laid.roots in
           subst (AreReturned hs c.args.heap.now.roots.slots busy) (sym c.push_reserved-in-Some.ensures.items)
           (returned-more hs c.args.heap.now.roots.slots busy c.loop-run.spares.items c.end_lane-seat.result.1 (inv.returned hs busy are)
-          (subst (λ (n : ℕ). IsSpareOf hs n c.end_lane-seat.result.1) slots (subst (λ (xs : List ℕ). IsSpareOf xs c.loop-run.heap.roots.slots c.end_lane-seat.result.1) holders c.end_lane-seat.ensures.spare))
+          (subst (λ (n : ℕ). IsSpareOf hs n c.end_lane-seat.result.1) slots (subst (λ (xs : List Holder). IsSpareOf xs c.loop-run.heap.roots.slots c.end_lane-seat.result.1) holders c.end_lane-seat.ensures.spare))
           (c.end_lane-seat.ensures.lane ∙ lane ∙ ap (λ (n : ℕ). get_or busy n 0) (sym inv.even)));
       even =
           let even = inv.even in

@@ -2,7 +2,7 @@ use Rattle.std.proofs.Common.{ℕ, get_or, length, ap, sym, subst, ◌∙◌, ar
 use Rattle.std.proofs.lemmas.List.{take_at}
 use Rattle.bc_model.specs.Lists.{PhaseLists}
 use Rattle.bc_model.specs.Rows.{lists_of}
-use Rattle.bc_model.specs.Run.{after_gives}
+use Rattle.bc_model.specs.Run.{after_changes}
 use Rattle.bc_engine.specs.EngineFacts.{with_answers}
 use Rattle.bc_engine.specs.Engines.{EngineView, EngineStands, HasEmptyChunks}
 use Rattle.bc_engine.specs.Rounds.{IsTooSmall, RanToCut, RanToWant}
@@ -19,7 +19,7 @@ rounds-requires-clause-underway g c κs within =
     (ap lists_of c.deref.ensures.value ∙ ap (λ (p : PhaseLists). p.lanes) c.phase.view_is) c.deref_mut.ensures.value
 
 pub room_facts-requires-clause-empty : goal.room_facts-requires-clause-empty
-room_facts-requires-clause-empty g c = subst (λ (e : EngineView). HasEmptyChunks e.running.heap) (sym c.give_all.ensures.same) c.in-Ok.ensures.through.empty
+room_facts-requires-clause-empty g c = subst (λ (e : EngineView). HasEmptyChunks e.running.heap) (sym c.change_all.ensures.same) c.in-Ok.ensures.through.empty
 
 pub returns-in-Ok-clause-done : goal.returns-in-Ok-clause-done
 returns-in-Ok-clause-done g c =
@@ -28,19 +28,19 @@ returns-in-Ok-clause-done g c =
     let lent = ap length c.deref_mut.ensures.value in
     let len = c.deref_mut.ensures.len in
     let gives = c.deref-in-Ok.ensures.value ∙ ap (λ (p : PhaseLists). p.gives) c.phase.view_is in
-    did-lent c.args.self.now c.rounds.new.self c.give_all.new.self phase (lists_of c.deref.result.now) c.deref_mut.result.now c.args.replies.items c.rounds.new.replies _
+    did-lent c.args.self.now c.rounds.new.self c.change_all.new.self phase (lists_of c.deref.result.now) c.deref_mut.result.now c.args.replies.items c.rounds.new.replies _
     (record { engine = c.facts.ensures.engine; going = c.requires.going; phase = c.requires.phase; room = c.requires.room })
     (ap lists_of c.deref.ensures.value ∙ ap (λ (p : PhaseLists). p.lanes) c.phase.view_is) c.deref_mut.ensures.value
     (take_at c.rounds.new.replies _ c.args.replies.len (omega arith))
     (omega (arith, c.requires.long)) c.in-Ok.ensures.on c.in-Ok.ensures.through
-    (λ s st. subst (λ gs. EngineStands c.give_all.new.self (after_gives s gs)) gives (c.give_all.ensures.given s st))
-    c.give_all.ensures.same c.room_facts.ensures
+    (λ s st. subst (λ gs. EngineStands c.change_all.new.self (after_changes s gs)) gives (c.change_all.ensures.changed s st))
+    c.change_all.ensures.same c.room_facts.ensures
 
 pub returns-in-Ok-clause-births : goal.returns-in-Ok-clause-births
 returns-in-Ok-clause-births g c = λ j.
     let few = births-lent c.args.self.now c.rounds.new.self c.args.phase.now (lists_of c.deref.result.now) c.deref_mut.result.now c.rounds.new.replies
     (ap lists_of c.deref.ensures.value ∙ ap (λ (p : PhaseLists). p.lanes) c.phase.view_is) c.rounds.ensures.births j in
-    omega (arith, few, ap (λ (e : EngineView). get_or e.running.serials j 0) c.give_all.ensures.same)
+    omega (arith, few, ap (λ (e : EngineView). get_or e.running.serials j 0) c.change_all.ensures.same)
 
 pub returns-in-Ok-clause-turns : goal.returns-in-Ok-clause-turns
 returns-in-Ok-clause-turns g c =
@@ -48,10 +48,10 @@ returns-in-Ok-clause-turns g c =
     let same = c.rounds.auto.replies in
     let lent = ap length c.deref_mut.ensures.value in
     let len = c.deref_mut.ensures.len in
-    had-lent c.args.self.now c.rounds.new.self c.give_all.new.self phase c.args.answers.now.items c.rounds.new.answers.items (lists_of c.deref.result.now) (lists_of c.deref-2.result.now) c.deref_mut.result.now c.args.replies.items c.rounds.new.replies _ c.requires.none c.requires.room
+    had-lent c.args.self.now c.rounds.new.self c.change_all.new.self phase c.args.answers.now.items c.rounds.new.answers.items (lists_of c.deref.result.now) (lists_of c.deref-2.result.now) c.deref_mut.result.now c.args.replies.items c.rounds.new.replies _ c.requires.none c.requires.room
     (ap lists_of c.deref.ensures.value ∙ ap (λ (p : PhaseLists). p.lanes) c.phase.view_is)
     (ap lists_of c.deref-2.ensures.value ∙ ap (λ (p : PhaseLists). p.turns) c.phase.view_is) c.deref_mut.ensures.value
-    (take_at c.rounds.new.replies _ c.args.replies.len (omega arith)) c.in-Ok.ensures.turns c.give_all.ensures.same
+    (take_at c.rounds.new.replies _ c.args.replies.len (omega arith)) c.in-Ok.ensures.turns c.change_all.ensures.same
 
 pub returns-in-Err-TooSmall-clause-cut : goal.returns-in-Err-TooSmall-clause-cut
 returns-in-Err-TooSmall-clause-cut g c =

@@ -1,5 +1,5 @@
 use Rattle.std.proofs.Common.{◌≡◌, ◌+◌, ℕ, Some, set, ap, sym, subst, ◌∙◌, arith}
-use Rattle.bc_lane.specs.Shown.{ShowsPages}
+use Rattle.bc_lane.specs.Shown.{IsOwnPage, ShowsPages}
 use Rattle.bc_lane.proofs.PageLemmas.{hand-page, shown-hand, shows-written}
 use Rattle.bc_pins.specs.declared.holding.Held.{Held}
 use Rattle.bc_superpages.specs.LayoutAt.{with_word}
@@ -26,5 +26,5 @@ returns-clause-written g c = λ s shown f may.
     ∙ ap (λ (k : ℕ). record held { homed = record held.homed { page = set held.homed.page (k + 1 + i) c.pack.result } }) c.offset.ensures.offset
     ∙ ap (λ (n : ℕ). record held { homed = record held.homed { page = set held.homed.page (offset_of at + 1 + i) n } }) c.pack.ensures.bits in
     subst (λ (x : Held). ShowsPages g.S.Station.view (Some x) c.args.self.now.end (record s { pages = with_word s.pages (at + 1 + i) (word_bits w) })) (sym is)
-    (shows-written g.S.Station.view held c.args.self.now.end s at i w (shown-hand _ _ held _ s c.in-Some.is shown) (hand-page _ held _ c.in-Some.is c.requires.hand) f may
+    (shows-written g.S.Station.view held c.args.self.now.end s at i w (shown-hand _ _ held _ s c.in-Some.is shown) (hand-page _ held _ c.in-Some.is c.requires.hand) (subst (IsOwnPage g.S.Station.view) (hand-page _ held _ c.in-Some.is c.requires.hand) c.requires.own.1) f may
     (subst IsPacked c.pack.ensures.bits c.pack.ensures.packed))

@@ -11,7 +11,9 @@ returns-clause-written g c = λ r shown fits.
     let p = c.args.slot in
     let ws = c.args.self.now.words.items in (
       shown.0,
-      subst (λ (xs : List ℕ). ShowsSlots s.holders s.lane s.slots s.starts (set ws (get_or xs p.domain 0 + p.slot) c.pack.result) (with_root r p c.args.word)) (sym shown.0)
-          (subst (λ (n : ℕ). ShowsSlots s.holders s.lane s.slots s.starts (set ws (get_or s.starts p.domain 0 + p.slot) n) (with_root r p c.args.word)) (sym c.pack.ensures.bits)
-          (shows-set s.holders s.lane s.slots s.starts ws r p shown.1 fits c.requires.hand c.args.word (subst IsPacked c.pack.ensures.bits c.pack.ensures.packed))),
+      shown.1,
+      shown.2,
+      subst (λ (xs : List ℕ). ShowsSlots s.holders s.lane s.slots s.shared s.starts (set ws (get_or xs p.domain 0 + p.slot) c.pack.result) (with_root r p c.args.word)) (sym shown.1)
+          (subst (λ (n : ℕ). ShowsSlots s.holders s.lane s.slots s.shared s.starts (set ws (get_or s.starts p.domain 0 + p.slot) n) (with_root r p c.args.word)) (sym c.pack.ensures.bits)
+          (shows-set s.holders s.lane s.slots s.shared s.starts ws r p shown.3 fits c.requires.own c.args.word (subst IsPacked c.pack.ensures.bits c.pack.ensures.packed))),
     )

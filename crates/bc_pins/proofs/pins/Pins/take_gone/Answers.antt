@@ -1,12 +1,17 @@
-use Rattle.std.proofs.Common.{ap, refl, sym, subst, ◌∙◌, arith, inl, inr}
+use Rattle.std.proofs.Common.{◌≡◌, ℕ, ◌<◌, ◌⊎◌, ap, refl, sym, subst, ◌∙◌, arith, inl, inr}
 use Rattle.std.proofs.lemmas.Bool.{cases_eq}
 use Rattle.bc_pins.specs.declared.views.View.{View}
-use Rattle.bc_pins.specs.Key.{Key}
+use Rattle.bc_pins.specs.Key.{Key, owner, IsFrozenIn}
+use Rattle.bc_pins.specs.Views.{has_role}
+use Rattle.bc_pins.specs.Calls.{MayFetch, key_of, view_of}
 use Rattle.bc_pins.specs.declared.views.Lodged.TheVariants.{Nothing, Away}
 use Rattle.bc_pins.specs.Steps.{Mine, both_slots}
 use Rattle.bc_pins.specs.Tidy.{IsTidy}
 use Rattle.bc_pins.proofs.FetchSteps.{fetches_from}
 use Rattle.bc_pins.proofs.pins.Pins.take_gone.Goals as goal
+
+may-fetch : (v : View) (k : Key) (page : ℕ) → v.about ≡ k → MayFetch v page → (0 < has_role v (owner k page)) ⊎ IsFrozenIn k page
+may-fetch v k page about may = subst (λ (a : Key). (0 < has_role v (owner a page)) ⊎ IsFrozenIn a page) about may
 
 pub compare_exchange-found-requires : goal.compare_exchange-found-requires
 compare_exchange-found-requires c =
@@ -15,7 +20,7 @@ compare_exchange-found-requires c =
     let lt = c.requires.page in (
       c.requires.seat.table,
       omega arith,
-      fetches_from _ _ c.args.page _ _ c.args.frame _ entry lt c.requires.seat.about c.requires.free.hand c.requires.own c.requires.right c.requires.free.slots,
+      fetches_from _ _ c.args.page _ _ c.args.frame _ _ entry lt c.requires.seat.about c.requires.free.hand c.requires.seat.role (may-fetch (view_of c.args.seat.now) (key_of c.args.self.now) c.args.page c.requires.seat.about c.requires.may) c.requires.right c.requires.free.slots,
     )
 
 pub returns-clause-taken : goal.returns-clause-taken

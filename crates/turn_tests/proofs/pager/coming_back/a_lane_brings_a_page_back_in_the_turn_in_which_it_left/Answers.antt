@@ -1,8 +1,9 @@
 -- The two seats of a table over a space with objects, of which the lane's reloaded a page.
 use Rattle.std.proofs.Common.{rules, ◌≡◌, [], ◌∷◌, ◌++◌, List, map, refl, ap, sym, subst, ◌∙◌}
+use Rattle.bc_model.specs.declared.values.Holder.TheVariants as holder
 use Rattle.bc_pins.specs.declared.key.Role.TheVariants.{Lane, Pager}
 use Rattle.bc_pins.specs.declared.pins.Seat.{Seat}
-use Rattle.bc_pins.specs.Key.{role_number, lane_role}
+use Rattle.bc_pins.specs.Key.{owner_role, role_number}
 use Rattle.bc_pins.specs.Calls.{key_of, view_of}
 use Rattle.bc_pins.specs.Closing.{AreBack}
 use Rattle.bc_pins.proofs.VisitLemmas.{popped_two, dealt_at, dealt_free, visited_back, visited_roles, two_back}
@@ -35,9 +36,9 @@ pub comes_back-came-requires-clause-own : goal.comes_back-came-requires-clause-o
 comes_back-came-requires-clause-own g c =
     let opened = c.in-Ok.ensures.opened in
     let two = popped_two _ _ _ (Lane 0) (Pager 0) _ _ _ _ _ (search rules) c.in-Ok.ensures.opened.seats_are c.in-Some-pop.ensures.items c.in-Some-pop-2.ensures.items in
-    let holders : c.as_slice.result.now ≡ 0 ∷ [] = search rules in
+    let holders : c.as_slice.result.now ≡ holder.Lane 0 ∷ [] = search rules in
     let seat = c.in-Some-pop-2.lane in
-    lane-owns (key_of c.in-Ok.pins) (view_of seat) 0 (opened.owners ∙ ap (map lane_role) holders) (search rules) (visited_roles c.in-Ok.pins (Lane 0) seat two.0.0 seat (same_seat seat))
+    lane-owns (key_of c.in-Ok.pins) (view_of seat) 0 (opened.owners ∙ ap (map owner_role) holders) (search rules) (visited_roles c.in-Ok.pins (Lane 0) seat two.0.0 seat (same_seat seat))
 
 pub close-space-requires : goal.close-space-requires
 close-space-requires g c =
