@@ -10,14 +10,11 @@ use Rattle.bc_pins.specs.declared.views.Hand.{Hand}
 use Rattle.bc_pins.specs.declared.views.View.{View}
 use Rattle.bc_pins.specs.declared.views.Lodged.TheVariants.{Nothing}
 use Rattle.bc_pins.specs.Key.{Key, pages_of, owner, role_number}
-use Rattle.bc_pins.specs.Totals.{times}
-use Rattle.bc_pins.specs.Tidy.{IsTidy}
 use Rattle.bc_pins.specs.Seating.{IsDealt}
-use Rattle.bc_pins.specs.Closing.{IsBack}
 use Rattle.bc_pins.specs.Contents.{IsContent, RefersYoung}
 use Rattle.bc_pins.specs.Views.{has_role}
 use Rattle.bc_pins.specs.Steps.{Mine, fresh, both_slots}
-use Rattle.bc_pins.specs.Calls.{key_of, view_of, IsFree, HoldsPage, MayPut, IsSameSeat, IsSameWorker, CountsFetches}
+use Rattle.bc_pins.specs.Calls.{key_of, view_of, HoldsPage, MayPut, IsSameSeat, IsSameWorker, CountsFetches}
 use Rattle.bc_evict.specs.Reloading.{HasReloaded}
 
 -- a call that leaves the seat that seat, and calls one after another
@@ -41,7 +38,7 @@ counts-same a b x counts = let opens = x.opens in let fetched = ap length x.fetc
 pub counts-more : (a b : Seat) (page : ℕ) → b.opens ≡ one_more a.opens → (view_of b).fetched ≡ page ∷ (view_of a).fetched → CountsFetches a → CountsFetches b
 counts-more a b page opens fetched counts = let long = ap length fetched in omega arith
 
--- a seat that was dealt and reloaded pages may come back
+-- a seat that was dealt took no page from Gone and has no right
 module _ (pins : Pins) (role : Role) (seat : Seat) (d : IsDealt pins.table.shared.table_id (key_of pins) role seat) where
   dealt_view : view_of seat ≡ fresh (key_of pins) (role_number role ∷ [])
   dealt_view = ap (λ (m : Mine). m.0) d.me
@@ -51,20 +48,6 @@ module _ (pins : Pins) (role : Role) (seat : Seat) (d : IsDealt pins.table.share
 
   pub dealt-rights : (view_of seat).rights ≡ []
   dealt-rights = ap (λ (v : View). v.rights) dealt_view
-
-  pub fetched-back : (new : Seat) → IsSameWorker seat new → IsFree new → (view_of new).rights ≡ [] → CountsFetches new → IsTidy (view_of new) → IsBack pins.table.shared.table_id (key_of pins) new
-  fetched-back new same free rights counts tidy = record {
-    table = same.table ∙ d.table;
-    about = same.about ∙ ap (λ (v : View). v.about) dealt_view;
-    hand = free.hand;
-    slots = free.slots;
-    rights = rights;
-    opens = counts;
-    tidy = tidy;
-  }
-
-  pub fetched-roles : (new : Seat) → IsSameWorker seat new → (r : ℕ) → has_role (view_of new) r ≡ times r (role_number role ∷ [])
-  fetched-roles new same r = ap (times r) (same.roles ∙ ap (λ (v : View). v.roles) dealt_view)
 
 -- a page that came back is in hand, and may be put
 module _ (v : View) (page frame : ℕ) (seat : Seat) (held : Held) (r : HasReloaded v page frame seat held) where

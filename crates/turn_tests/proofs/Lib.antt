@@ -4,3 +4,5 @@ mod TestLemmas
 mod BackLemmas
 -- A heap without chunks whose cells can be collected, in the tests
 mod RootedLemmas
+-- What the seats of a test's table keep: how they are dealt, stay and come back
+mod SeatedLemmas

@@ -1,6 +1,6 @@
 -- What the tests' lane, pager and space need.
 use Rattle.std.proofs.Common.{◌≡◌, ℕ, ◌+◌, ◌*◌, ◌/◌, ◌<◌, ◌≤◌, true, false, inl, inr, List, [], ◌∷◌, length, map, set, get_or, slice_index, refl, ap, sym, subst, ◌∙◌, arith, get_or-set_same, get_or-set_other}
-use Rattle.std.proofs.lemmas.Bool.{cases_eq, and_left}
+use Rattle.std.proofs.lemmas.Bool.{cases_eq, cases_lt, and_left}
 use Rattle.std.proofs.lemmas.List.{get_or_past}
 use Rattle.bc_bits.specs.Bits.{has}
 use Rattle.bc_bits.specs.BitChanges.{none_set}
@@ -13,26 +13,25 @@ use Rattle.bc_word.specs.Heads.{fields_of_bits}
 use Rattle.bc_word.specs.Addresses.{superpage_of, page_of, offset_of, cell_number}
 use Rattle.bc_superpages.specs.Layout.{Layout, superpages, set_of, content_at, is_cell}
 use Rattle.bc_superpages.specs.LayoutAt.{IsAllocated, word_at}
-use Rattle.bc_superpages.specs.Calls.{fields_at}
+use Rattle.bc_superpages.specs.Calls.{fields_at, new_space}
 use Rattle.bc_superpages.specs.Kept.{IsLayout}
 use Rattle.bc_bookmarks.specs.Targets.{is_target, HasCell}
-use Rattle.bc_bookmarks.proofs.SoundLemmas.{IsSound}
-use Rattle.bc_model.specs.declared.values.Holder.TheVariants as holder
+use Rattle.bc_bookmarks.proofs.SoundLemmas.{IsSound, sound-opening}
 use Rattle.bc_pins.specs.declared.views.View.{View}
 use Rattle.bc_pins.specs.declared.pins.Pins.{Pins}
 use Rattle.bc_pins.specs.declared.pins.Seat.{Seat}
 use Rattle.bc_pins.specs.declared.holding.Held.{Held}
 use Rattle.bc_pins.specs.declared.taking.Want.{Want}
 use Rattle.bc_pins.specs.declared.taking.Want.TheVariants.{Work}
-use Rattle.bc_pins.specs.Key.{Key, owner, owner_role, lane_role}
+use Rattle.bc_pins.specs.Key.{Key, owner}
 use Rattle.bc_pins.specs.Totals.{times}
 use Rattle.bc_pins.specs.Contents.{IsContent, RefersYoung, IsYoung, field_bits, objects_in}
 use Rattle.bc_pins.specs.Views.{has_role}
 use Rattle.bc_pins.specs.Steps.{Takes}
 use Rattle.bc_pins.specs.Opening.{IsOpenable, IsMarkable}
 use Rattle.bc_pins.specs.Calls.{key_of, view_of, IsAt, Grasps, MayPut, tried}
+use Rattle.bc_pins.proofs.CallerLemmas.{opening_openable}
 use Rattle.bc_pins.proofs.TallyLemmas.{target_in}
-use Rattle.bc_pins.proofs.TotalLemmas.{one_same}
 use Rattle.bc_pins.proofs.VisitLemmas.{may_put_taken, tried_about, tried_roles, takes_tried}
 use Rattle.bc_evict.specs.Objects.{HeldHasObject}
 use Rattle.bc_evict.proofs.ContentLemmas.{word-target}
@@ -51,6 +50,10 @@ young-target s page c heads y =
     let within = y.is.within in
     (found.0.0, word-target s page c y.cell y.index found.0.0 y.is.allocated on (omega arith) found.1, found.2)
 
+-- a new space is one on which all calls' conditions hold, however many frames are the nurseries'
+pub sound-new : (n f y : ℕ) → IsSound (new_space n f y)
+sound-new n f y = let ready = opening_openable n f y in (ready.summarised, ready.closed, λ p t on. (sound-opening n f).2 p t on)
+
 -- a space on which all calls' conditions hold is one over which a table may be opened
 pub sound-openable : (s : Layout) → IsSound s → ((a : ℕ) → is_cell s.classes s.promised a ≡ false) → IsOpenable s
 sound-openable s sound promised = record {
@@ -64,24 +67,31 @@ sound-openable s sound promised = record {
       absurd (omega arith);
 }
 
--- one superpage without a cell in a set
-none-in : (s : Layout) (sets : List (List ℕ)) (ws : List ℕ) → length sets ≡ superpages s → superpages s ≡ 1 → ws ≡ set_of sets 0 → none_set ws ≡ true → (a : ℕ) → is_cell s.classes sets a ≡ false
-none-in s sets ws long one is none a =
+-- sets without a bit have no cell
+none-in : (s : Layout) (sets : List (List ℕ)) → length sets ≡ superpages s → ((q : ℕ) → q < superpages s → none_set (set_of sets q) ≡ true) → (a : ℕ) → is_cell s.classes sets a ≡ false
+none-in s sets long none a =
     let n : ℕ = cell_number (slice_index s.classes (superpage_of a)) a in
-    let off : has (set_of sets (superpage_of a)) n ≡ false = elim (cases_eq (superpage_of a) 0) [
-      | inl e ↦ ap (λ (q : ℕ). has (set_of sets q) n) e ∙ ap (λ (x : List ℕ). has x n) (sym is) ∙ has-none_set ws n none
-      | inr ne ↦ ap (λ (x : List ℕ). has x n) (get_or_past sets (superpage_of a) [] (omega arith)) ∙ has-beyond [] n (omega arith)
+    let off : has (set_of sets (superpage_of a)) n ≡ false = elim (cases_lt (superpage_of a) (superpages s)) [
+      | inl lt ↦ has-none_set (set_of sets (superpage_of a)) n (none (superpage_of a) lt)
+      | inr past ↦ ap (λ (x : List ℕ). has x n) (get_or_past sets (superpage_of a) [] (omega arith)) ∙ has-beyond [] n (omega arith)
     ] in
     and_left _ _ off
 
-pub none-promised : (s : Layout) (ws : List ℕ) → IsLayout s → superpages s ≡ 1 → ws ≡ set_of s.promised 0 → none_set ws ≡ true → (a : ℕ) → is_cell s.classes s.promised a ≡ false
-none-promised s ws l one is none = none-in s s.promised ws l.long.promised one is none
+-- no cell of a superpage is promised, marked or finished
+pub record IsPlainAt (s : Layout) (q : ℕ) : Type 0 where
+  pub promised : none_set (set_of s.promised q) ≡ true
+  pub marks : none_set (set_of s.marks q) ≡ true
+  pub finished : none_set (set_of s.finished q) ≡ true
+
+-- nor is one of the space
+pub none-promised : (s : Layout) → IsLayout s → ((q : ℕ) → q < superpages s → IsPlainAt s q) → (a : ℕ) → is_cell s.classes s.promised a ≡ false
+none-promised s l plain = none-in s s.promised l.long.promised (λ q lt. (plain q lt).promised)
 
 -- a space in which nothing is marked or finished is one over which a mark turn may begin
-pub none-marked : (s : Layout) (marks finished : List ℕ) → IsLayout s → superpages s ≡ 1 → marks ≡ set_of s.marks 0 → finished ≡ set_of s.finished 0 → none_set marks ≡ true → none_set finished ≡ true → IsMarkable s
-none-marked s marks finished l one marks_are finished_are unmarked unfinished = record {
-  cells = λ a on. clash (sym (none-in s s.marks marks l.long.marks one marks_are unmarked a) ∙ on);
-  closed = λ a b on leads. clash (sym (none-in s s.finished finished l.long.finished one finished_are unfinished a) ∙ on);
+pub none-marked : (s : Layout) → IsLayout s → ((q : ℕ) → q < superpages s → IsPlainAt s q) → IsMarkable s
+none-marked s l plain = record {
+  cells = λ a on. clash (sym (none-in s s.marks l.long.marks (λ q lt. (plain q lt).marks) a) ∙ on);
+  closed = λ a b on leads. clash (sym (none-in s s.finished l.long.finished (λ q lt. (plain q lt).finished) a) ∙ on);
 }
   where
     clash : {A : Type 0} → false ≡ true → A
@@ -128,15 +138,6 @@ module _ (pins : Pins) (old seat : Seat) (page : ℕ) (held : Held) (c : List �
         counted = was.counted;
         marked = was.marked;
       }
-
--- the only lane holds each page of domain 0
-pub lane-owns : (k : Key) (v : View) (page : ℕ) → k.owners ≡ map owner_role (holder.Lane 0 ∷ []) → slice_index k.opening.domains (page / 4) ≡ 0 → ((r : ℕ) → has_role v r ≡ times r (lane_role 0 ∷ [])) → 0 < has_role v (owner k page)
-lane-owns k v page owners domain roles =
-    let own : owner k page ≡ lane_role 0 = ap (λ (l : List ℕ). slice_index l (slice_index k.opening.domains (page / 4))) owners ∙ ap (slice_index (map owner_role (holder.Lane 0 ∷ []))) domain in
-    let one = one_same (lane_role 0) in
-    let r : has_role v (owner k page) ≡ has_role v (lane_role 0) = ap (has_role v) own in
-    let z = roles (lane_role 0) in
-    omega arith
 
 -- an object on a page that was taken
 pub object-in-hand : (pins : Pins) (old seat : Seat) (page cell : ℕ) (held : Held) (want : Want) → IsAt pins old → Grasps (tried (view_of old) page want held.remembered) seat page held → Takes (view_of old) page held.remembered held.homed

@@ -5,6 +5,7 @@ use bc_model::{Holder, Op, Slot};
 use bc_nursery::{Chunk, WriteBuffer};
 use bc_superpages::Roots;
 use bc_word::Address;
+use std::alloc::{AllocError, Global};
 use std::marker::Send;
 use std::test::Fail;
 
@@ -16,9 +17,20 @@ fn may_cross(turn: &LaneTurn) {
     sent(turn);
 }
 
-#[test]
-fn what_was_taken_into_a_turn_is_given_back(rt: HostRuntime) -> Result<(), Fail> {
-    let alloc = rt.alloc();
+/// What a lane took into a turn, and what it gave back.
+#[derive(Clone, Copy, PartialEq, Eq, Debug)]
+struct Given {
+    lane: u32,
+    next: usize,
+    words: usize,
+    left: u32,
+    serial: u32,
+    done: usize,
+    replies: usize,
+}
+
+/// What lane 1 gives back that took sixteen root words, two pages and a serial number into a turn, and did nothing.
+fn given_back(alloc: Global) -> Result<Given, AllocError> {
     let roots = LaneRoots {
         domains: vec![in alloc; 1, 3]?,
         words: vec![in alloc; 0; 16]?,
@@ -44,13 +56,31 @@ fn what_was_taken_into_a_turn_is_given_back(rt: HostRuntime) -> Result<(), Fail>
         &shared,
     );
     may_cross(&turn);
-    assert_eq!(rt; turn.lane(), 1);
-    assert_eq!(rt; turn.next(), 0);
+    let lane = turn.lane();
+    let next = turn.next();
     let done = turn.finish();
-    assert_eq!(rt; done.roots.words.len(), 16);
-    assert_eq!(rt; done.chunk.left(), 1024);
-    assert_eq!(rt; done.serial, 7);
-    assert_eq!(rt; done.next, 0);
-    assert_eq!(rt; done.replies.len(), 0);
+    Ok(Given {
+        lane,
+        next,
+        words: done.roots.words.len(),
+        left: done.chunk.left(),
+        serial: done.serial,
+        done: done.next,
+        replies: done.replies.len(),
+    })
+}
+
+#[test]
+fn what_was_taken_into_a_turn_is_given_back(rt: HostRuntime) -> Result<(), Fail> {
+    let given = Given {
+        lane: 1,
+        next: 0,
+        words: 16,
+        left: 1024,
+        serial: 7,
+        done: 0,
+        replies: 0,
+    };
+    assert_eq!(rt; given_back(rt.alloc())?, given);
     Ok(())
 }

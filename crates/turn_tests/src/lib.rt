@@ -8,8 +8,18 @@
 // - `pager` (bc_pager): notices that are answered at a table
 // - `lane` (bc_lane): what a lane takes into a turn and gives back
 // - `markers` (bc_mark_turn, bc_marking): mark turns, and whole markings with a pager beside the markers
+//
+// A test at a table is a case (`cases`) of three lists of steps: how its space is made (`furnished`), what is done at the table and what is returned
+// there (`table`), and what is found in the space once the table is closed (`findings`). The calls stand once. A table keeps the conditions of its
+// calls by its type, so the functions that go through the lists have no clauses.
 #![tactic(auto)]
 
+#[cfg(test)]
+mod cases;
+#[cfg(test)]
+mod findings;
+#[cfg(test)]
+mod furnished;
 #[cfg(test)]
 mod gates;
 #[cfg(test)]
@@ -20,3 +30,7 @@ mod markers;
 mod pager;
 #[cfg(test)]
 mod pins;
+#[cfg(test)]
+mod steps;
+#[cfg(test)]
+mod table;

@@ -1,0 +1,8 @@
+-- Threads may share a table, and take a seat with them.
+use denote.Param.Send.{sendable}
+use Rattle.bc_pins.proofs.SharedLemmas.{pins_sync}
+use Rattle.bc_pins.proofs.pins.Seat.TheSendSync as seat
+use Rattle.turn_tests.proofs.table.meeting.is_visited_beside.Goals as goal
+
+pub join_mut-visited-requires-send-F : goal.join_mut-visited-requires-send-F
+join_mut-visited-requires-send-F g c κs within = search (sendable, pins_sync, seat.the_send) depth 12

@@ -1,0 +1,2 @@
+-- What the seats of a test's table keep
+pub mod Seating
