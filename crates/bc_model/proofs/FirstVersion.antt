@@ -48,7 +48,7 @@ NoneFrozen-after_changes setup s (c ∷ changes) long fits known none =
 NoneFrozen-after_phase : (setup : Setup) (s : State) (p : PhaseLists) → length s.holders ≡ setup.domains → IsPhase setup p → IsKnown 1 p → NoneFrozen s.holders → NoneFrozen (after_phase s p).holders
 NoneFrozen-after_phase setup s p long fits known none =
     let same = holders-after_lanes s 0 p.lanes in
-    NoneFrozen-after_changes setup (after_lanes s 0 p.lanes) p.gives (ap length same ∙ long) fits.gives known (subst NoneFrozen (sym same) none)
+    NoneFrozen-after_changes setup (after_lanes s 0 p.lanes) p.gives (ap length same ∙ long) fits.gives known.gives (subst NoneFrozen (sym same) none)
 
 NoneFrozen-after_phases : (setup : Setup) (s : State) (k : ℕ) (phases : List PhaseLists) → OfSetup setup s → AllByRecursion (IsPhase setup) phases → AllByRecursion (IsKnown 1) phases → NoneFrozen s.holders → NoneFrozen (after_phases s (take k phases)).holders
 unfolding after_phases

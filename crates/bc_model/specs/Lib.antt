@@ -2,6 +2,8 @@
 pub mod Lists
 -- The lists that a list of vectors holds
 pub mod Rows
+-- What the lines of a phase's turns say
+pub mod TurnLines
 -- What a trace may say
 pub mod WellFormed
 -- The abstract state of a run

@@ -5,9 +5,14 @@ use Rattle.bc_model.specs.declared.operations.Op.{Op}
 use Rattle.bc_model.specs.declared.traces.Change.{Change}
 use Rattle.bc_model.specs.declared.traces.Setup.{Setup}
 
--- the hints of each turn line, the operations of each lane, and the domains that change hands or are frozen at the end
+-- a turn line: how many frames are withheld in its turn, and its hints
+pub record TurnLists : Type 0 where
+  pub withheld : ℕ
+  pub hints : List ℕ
+
+-- the turn lines, the operations of each lane, and the domains that change hands or are frozen at the end
 pub record PhaseLists : Type 0 where
-  pub turns : List (List ℕ)
+  pub turns : List TurnLists
   pub lanes : List (List Op)
   pub gives : List Change
 

@@ -1,8 +1,8 @@
 -- In the theorem.
 -- What a trace may say: its setup is within the ranges, and its phases and operations fit the setup.
-use Rattle.std.specs.Prelude.{◌≡◌, ℕ, ◌+◌, ◌*◌, ◌^◌, ◌<◌, ◌≤◌, List, length}
+use Rattle.std.specs.Prelude.{◌≡◌, ℕ, ◌+◌, ◌*◌, ◌^◌, ◌<◌, ◌≤◌, ◌⊎◌, length}
 use Rattle.std.specs.List.{AllByRecursion}
-use Rattle.bc_model.specs.Lists.{PhaseLists, TraceLists}
+use Rattle.bc_model.specs.Lists.{PhaseLists, TraceLists, TurnLists}
 use Rattle.bc_model.specs.declared.operations.Op.{Op}
 use Rattle.bc_model.specs.declared.operations.Op.TheVariants.{New, Who, Len, Set, Cut, Link, Load, Copy, Clear, Same}
 use Rattle.bc_model.specs.declared.traces.Change.{Change}
@@ -60,8 +60,12 @@ FitsChange s (change.Give g) = IsGive s g
 FitsChange s (change.Freeze d) = d < s.domains
 
 -- a turn's line has at most 64 hints
-abbrev pub IsTurn : List ℕ → Type 0
-IsTurn hints = (length hints ≤ 64) × AllByRecursion (λ h. h < 2 ^ 32) hints
+abbrev pub IsTurn : TurnLists → Type 0
+IsTurn line = (length line.hints ≤ 64) × AllByRecursion (λ h. h < 2 ^ 32) line.hints
+
+-- beside the frames of the nurseries and those that are withheld, two are left
+abbrev pub FitsFrames : Setup → TurnLists → Type 0
+FitsFrames s line = s.lanes * s.nursery + 2 + line.withheld ≤ s.frames
 
 -- a phase has the operations of every lane
 pub record IsPhase (s : Setup) (p : PhaseLists) : Type 0 where
@@ -75,14 +79,20 @@ abbrev pub KnowsChange : ℕ → Change → Type 0
 KnowsChange version (change.Give g) = Unit {0}
 KnowsChange version (change.Freeze d) = 2 ≤ version
 
--- the phase has no change that its version doesn't have
-abbrev pub IsKnown : ℕ → PhaseLists → Type 0
-IsKnown version p = AllByRecursion (KnowsChange version) p.gives
+-- the version of the language has such a line: before version 3 none withholds frames
+abbrev pub KnowsLine : ℕ → TurnLists → Type 0
+KnowsLine version line = (3 ≤ version) ⊎ (line.withheld ≡ 0)
 
--- a trace is well formed: its version is 1 or 2 and has all changes of the phases, its setup is in its ranges, and each phase fits
--- the setup
+-- the phase has no change and no line that its version doesn't have
+pub record IsKnown (version : ℕ) (p : PhaseLists) : Type 0 where
+  pub turns : AllByRecursion (KnowsLine version) p.turns
+  pub gives : AllByRecursion (KnowsChange version) p.gives
+
+-- a trace is well formed: its version is 1, 2 or 3 and has all changes and turn lines of the phases, its setup is in its ranges, each
+-- phase fits the setup, and no turn withholds more frames than can be
 pub record IsTrace (t : TraceLists) : Type 0 where
-  pub version : IsWithin 1 2 t.version
+  pub version : IsWithin 1 3 t.version
   pub known : AllByRecursion (IsKnown t.version) t.phases
+  pub budgets : AllByRecursion (λ p. AllByRecursion (FitsFrames t.setup) p.turns) t.phases
   pub setup : IsSetup t.setup
   pub phases : AllByRecursion (IsPhase t.setup) t.phases

@@ -31,5 +31,5 @@ mod values;
 pub use opening::first_holders;
 pub use operations::{Op, Reply};
 pub use plain_heap::Flat;
-pub use traces::{Change, Give, Phase, Replies, Setup, Trace};
+pub use traces::{Change, Give, Phase, Replies, Setup, Trace, TurnLine};
 pub use values::{Birth, Holder, Slot, Value};

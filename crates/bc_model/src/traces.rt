@@ -34,11 +34,28 @@ pub enum Change {
     Freeze(u32),
 }
 
+/// What a `turn` line says of a turn of the phase.
+#[derive(Debug, Drop)]
+pub struct TurnLine {
+    /// How many frames are withheld in the turn: beside those of the nurseries, so many no page may use. In versions 1 and 2 it is 0.
+    pub withheld: u32,
+    /// The hints of its notices, in their order.
+    pub hints: Vec<u32>,
+}
+
+impl Model for TurnLine {
+    ghost use Rattle.bc_model.specs.Lists.{TurnLists};
+
+    ghost Value = { TurnLists };
+
+    ghost view = { λ t. record { withheld = t.withheld; hints = t.hints.items } };
+}
+
 /// A stretch of a run in which no domain changes hands and none is frozen.
 #[derive(Debug, Drop)]
 pub struct Phase {
-    /// The hints of each `turn` line, in the order of the lines.
-    pub turns: Vec<Vec<u32>>,
+    /// The `turn` lines, in their order.
+    pub turns: Vec<TurnLine>,
     /// The operations of each lane.
     pub lanes: Vec<Vec<Op>>,
     /// The domains that change hands or are frozen at the end, in order.
@@ -51,13 +68,13 @@ impl Model for Phase {
 
     ghost Value = { PhaseLists };
 
-    ghost view = { λ p. record { turns = map (λ v. v.items) p.turns.items; lanes = map (λ v. v.items) p.lanes.items; gives = p.gives.items } };
+    ghost view = { λ p. record { turns = p.turns.items; lanes = map (λ v. v.items) p.lanes.items; gives = p.gives.items } };
 }
 
 /// What a program of several lanes asks of its heap.
 #[derive(Debug, Drop)]
 pub struct Trace {
-    /// The version of the language that the trace is written in: 1, or 2, which has frozen domains.
+    /// The version of the language that the trace is written in: 1; 2, which has frozen domains; or 3, which has withheld frames too.
     pub version: u32,
     pub setup: Setup,
     pub phases: Vec<Phase>,

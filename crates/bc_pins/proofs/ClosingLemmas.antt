@@ -15,7 +15,7 @@ use Rattle.bc_pins.proofs.TracingLemmas.{there_is, cell_is, is_set}
 use Rattle.bc_pins.proofs.ShadeSteps.{same_address}
 use Rattle.bc_pins.proofs.MarkSteps.{target_cell}
 use Rattle.bc_pins.proofs.SpaceLemmas.{cell_near}
-use Rattle.std.proofs.Common.{◌≡◌, ℕ, ◌+◌, ◌-◌, ◌*◌, ◌/◌, ◌%◌, ◌^◌, ◌<◌, ◌≤◌, ◌≢◌, ◌==◌, ◌⊎◌, List, [], length, map, get_or, slice_index, min, Option, Some, None, refl, ap, sym, subst, ◌∙◌, arith, inl, inr, true, false, Bool, ◌&&◌, ◌∷◌, if◌then◌else◌}
+use Rattle.std.proofs.Common.{◌≡◌, ℕ, ◌+◌, ◌-◌, ◌*◌, ◌/◌, ◌%◌, ◌^◌, ◌<◌, ◌≤◌, ◌≢◌, ◌==◌, ◌⊎◌, List, [], length, vec_capacity, map, get_or, slice_index, min, Option, Some, None, refl, ap, sym, subst, ◌∙◌, arith, inl, inr, true, false, Bool, ◌&&◌, ◌∷◌, if◌then◌else◌}
 use mathlib.Core.Option as maybe
 use Rattle.std.proofs.lemmas.Bool.{cases_lt, cases_Bool, eqb-true, eq-eqb, and_from}
 use Rattle.std.proofs.lemmas.List.{length-map, get_or-map, get_or_past}
@@ -131,6 +131,7 @@ pub record Together (whole : SpaceParts) (headers : List Header) (boxes : List (
   pub reads_are : f.store.reads ≡ reads
   pub pool : f.pool ≡ now
   pub nursery : f.nursery.items ≡ whole.nursery.items
+  pub room : vec_capacity f.nursery ≡ vec_capacity whole.nursery
   pub end : f.end ≡ whole.end
 
 module _ (id : TableId) (k : Key) (all : List Seat) (root : Worker Lodged View) (whole parts : SpaceParts) (words : List ℕ) (slots : List Lodged) (headers : List Header) (boxes : List (Option Homed)) (places : List (Option (List ℕ))) (now : List Bool)
@@ -143,6 +144,7 @@ module _ (id : TableId) (k : Key) (all : List Seat) (root : Worker Lodged View) 
     kept = rw (t.headers_are, t.boxes_are, t.pool, t.nursery, t.places_are) (closed_kept k whole parts e.rest e.layout e.pool e.nursery e.frames v e.gathered.hand e.gathered.rights words slots e.closed headers e.states_are boxes e.box places e.place now e.pool_set);
     ends = rw (t.headers_are, t.end) (closed_ends k whole parts e.rest e.layout e.pool e.nursery e.frames v e.gathered.hand e.gathered.rights words slots e.closed headers e.states_are boxes e.box places e.place now e.pool_set);
     blank = rw (t.headers_are, t.end) (λ q le. let near = e.rest.near in (e.states_are.behind q (omega arith)).0 ∙ e.rest.kept.blank q le);
+    room = rw (t.pool, t.room, e.pool_set.long) e.rest.kept.room;
   }
 
   abbrev made : ℕ → Layout

@@ -1,5 +1,5 @@
 -- Headers into which marks and finished words were written, and a space's parts that have such headers.
-use Rattle.std.proofs.Common.{◌≡◌, ℕ, ◌+◌, ◌*◌, ◌/◌, ◌%◌, ◌^◌, ◌<◌, ◌≤◌, List, length, map, get_or, set, slice_index, get_or-set_same, get_or-set_other, inl, inr, refl, ap, sym, subst, ◌∙◌, arith, []}
+use Rattle.std.proofs.Common.{◌≡◌, ℕ, ◌+◌, ◌*◌, ◌/◌, ◌%◌, ◌^◌, ◌<◌, ◌≤◌, List, length, vec_capacity, map, get_or, set, slice_index, get_or-set_same, get_or-set_other, inl, inr, refl, ap, sym, subst, ◌∙◌, arith, []}
 use Rattle.std.proofs.lemmas.Bool.{cases_lt, cases_eq}
 use Rattle.std.proofs.lemmas.List.{length-set, length-map, get_or_past, get_or-map}
 use Rattle.bc_bits.specs.BitChanges.{AreWords}
@@ -66,7 +66,7 @@ marks_more o n q h x ws sup start s lt is one =
 
 -- parts whose headers have these marks, and are else as they were
 module _ (old new : SpaceParts) (kept : AreParts old) (sup start : ℕ) (ws : List ℕ) (within : sup ≤ length old.headers.items) (m : MarksBelow old.headers.items new.headers.items sup sup start ws)
-    (boxes : new.boxes.items ≡ old.boxes.items) (pool : new.pool ≡ old.pool) (nursery : new.nursery.items ≡ old.nursery.items) (places : new.store.places ≡ old.store.places) (reads : new.store.reads ≡ old.store.reads) (end : new.end ≡ old.end) where
+    (boxes : new.boxes.items ≡ old.boxes.items) (pool : new.pool ≡ old.pool) (nursery : new.nursery.items ≡ old.nursery.items) (room : vec_capacity new.nursery ≡ vec_capacity old.nursery) (places : new.store.places ≡ old.store.places) (reads : new.store.reads ≡ old.store.reads) (end : new.end ≡ old.end) where
   abbrev o : List Header
   o = old.headers.items
 
@@ -129,6 +129,7 @@ module _ (old new : SpaceParts) (kept : AreParts old) (sup start : ℕ) (ws : Li
           kept = rw (boxes, pool, nursery, places) kept_now;
           ends = record { within = (let a = kept.ends.within in omega arith); absent = λ p le. state_same p ∙ kept.ends.absent p (omega arith) };
           blank = λ q le. ap (λ (h : Header). h.bookmarks) (header_is q) ∙ kept.blank q (omega arith);
+          room = rw (pool, room) kept.room;
         };
         same = rw (
           part_same (λ (h : Header). h.used) o n size (λ q. ap (λ (h : Header). h.used) (header_is q)),

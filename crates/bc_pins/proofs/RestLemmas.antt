@@ -44,4 +44,5 @@ kept_same a b s k = record {
   kept = rw (s.headers, s.pool, s.nursery, s.boxes, s.places) k.kept;
   ends = rw (s.headers, s.end) k.ends;
   blank = rw (s.headers, s.end) k.blank;
+  room = rw (s.pool, s.room) k.room;
 }

@@ -1,5 +1,5 @@
 -- What a table needs when it is opened, and what it leaves when it is closed.
-use Rattle.std.specs.Prelude.{◌≡◌, ◌≢◌, ℕ, ◌+◌, ◌*◌, ◌^◌, ◌<◌, ◌≤◌, ◌==◌, if◌then◌else◌, true, false, List, [], ◌∷◌, length, map, slice_index, slice_index_or, Bool, None}
+use Rattle.std.specs.Prelude.{◌≡◌, ◌≢◌, ℕ, ◌+◌, ◌*◌, ◌^◌, ◌<◌, ◌≤◌, ◌==◌, if◌then◌else◌, true, false, List, [], ◌∷◌, length, vec_capacity, map, slice_index, slice_index_or, Bool, None}
 use mathlib.Core.Option.{some}
 use lib.ListN.{get_elem?}
 use Rattle.atomic_table.specs.Table.{opening}
@@ -106,6 +106,7 @@ pub record Emptied (whole parts : SpaceParts) (pages : ℕ) : Type 0 where
   pub headers : parts.headers.items ≡ whole.headers.items
   pub pool : parts.pool ≡ whole.pool
   pub nursery : parts.nursery.items ≡ whole.nursery.items
+  pub room : vec_capacity parts.nursery ≡ vec_capacity whole.nursery
   pub reads : parts.store.reads ≡ whole.store.reads
   pub end : parts.end ≡ whole.end
   pub boxes : Replaced None whole.boxes.items parts.boxes.items pages (λ p. None)
@@ -130,6 +131,7 @@ pub record SameParts (a b : SpaceParts) : Type 0 where
   pub headers : b.headers.items ≡ a.headers.items
   pub pool : b.pool ≡ a.pool
   pub nursery : b.nursery.items ≡ a.nursery.items
+  pub room : vec_capacity b.nursery ≡ vec_capacity a.nursery
   pub reads : b.store.reads ≡ a.store.reads
   pub end : b.end ≡ a.end
   pub boxes : b.boxes.items ≡ a.boxes.items

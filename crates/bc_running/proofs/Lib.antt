@@ -22,3 +22,5 @@ pub mod SeatLemmas
 pub mod StartLemmas
 -- Where there is no line there is no notice, and no answer
 pub mod UnaskedLemmas
+-- Frames are kept from pages of a heap that lanes run on.
+pub mod UnusedLemmas

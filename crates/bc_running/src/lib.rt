@@ -16,6 +16,7 @@
 // Which pages move is stated exactly (`BringsHome`), and so is when it stops (`LooksAtGone`).
 // In a turn (`take_turn`) the lanes run side by side, also in frozen domains, and a pager answers notices beside them (`bc_turn`). Where
 // there is no table, notices are answered on the heap itself (`answer`), and after a turn the space is settled (`settle`).
+// Between turns frames can be withheld from pages, and returned (`withhold`): pages are given up for those that are wanting.
 //
 // The theorem is that of the crates below, said of the value as a whole. An operation is the step of every state that the heap
 // stands for (`RunningStands`), a collection keeps what it stands for, and what isn't the lane's stays (`StaysBut`).

@@ -1,15 +1,17 @@
-//! Notices that are answered where nobody works beside: pages are given up for their hints. And the space is settled.
+//! Notices that are answered where nobody works beside: pages are given up for their hints. And frames are withheld, and the space is settled.
 
 ghost use Rattle.std.specs.Prelude.{◌≡◌, ◌+◌, ◌≤◌, length, vec_capacity};
 ghost use Rattle.bc_bookmarks.specs.Changes.{Settled};
 ghost use Rattle.bc_bookmarks.specs.Moves.{MovesPages};
+ghost use Rattle.bc_bookmarks.specs.Withholding.{KeepsFrames, Withheld};
 ghost use Rattle.bc_cycle.specs.Emptying.{heap_view};
 ghost use Rattle.bc_pager.specs.Alone.{AnsweredAlone};
 ghost use Rattle.bc_pins.specs.Opening.{IsOpenable};
+ghost use Rattle.bc_whole_heap.specs.HeapFacts.{NoneRemembered};
 ghost use Rattle.bc_whole_heap.specs.Running.{IsRunning};
 ghost use Rattle.bc_running.specs.Serving.{GivesUpFirst, Served};
 
-use bc_bookmarks::settle;
+use bc_bookmarks::{settle, withhold};
 use bc_cycle::Heap;
 use bc_model::Holder;
 use bc_pager::{Answer, answer_all, answer_one};
@@ -54,6 +56,19 @@ pub(crate) fn settle_heap(heap: &mut Heap, holders: &[Holder])
     ensures rest { heap.new ≡ record heap.old { space = heap.new.space } }
 {
     settle(&mut heap.space);
+}
+
+/// Withholds frames of a heap that is running, beside those of the nurseries.
+pub(crate) fn withhold_heap(heap: &mut Heap, holders: &[Holder], nurseries: u32, frames: u32)
+    requires running { IsRunning (heap_view heap.old) holders.now }
+    requires unrecorded { NoneRemembered heap.old.space }
+    requires nurseries { nurseries ≤ heap.old.space.nursery }
+    requires frames { nurseries + frames ≤ heap.old.space.frames }
+    ensures withheld { Withheld (nurseries + frames) heap.old.space heap.new.space }
+    ensures keeps { KeepsFrames (nurseries + frames) heap.old.space heap.new.space }
+    ensures rest { heap.new ≡ record heap.old { space = heap.new.space } }
+{
+    withhold(&mut heap.space, nurseries, frames);
 }
 
 /// Gives up a page of the space of such a heap for each hint, and then settles.

@@ -31,6 +31,8 @@ pub(crate) enum Step {
     Room(u32, bool),
     /// With this hint a page is given up: which one.
     GiveUp(u32, Option<u32>),
+    /// So many frames are withheld from now on, if this is true; else a page can't leave, or there are too few frames.
+    Withhold(u32, bool),
     /// Bookmarks to which no Gone page leads are cleared.
     Settle,
     /// Whether a page may be evicted.
@@ -62,6 +64,7 @@ impl Trial for Sound {
             Step::Reload(page, answer) => self.reload(page) == answer,
             Step::Room(hint, answer) => self.room(hint) == answer,
             Step::GiveUp(hint, answer) => self.give_up(hint) == answer,
+            Step::Withhold(frames, answer) => self.withhold(frames) == answer,
             Step::Settle => {
                 self.settle();
                 true

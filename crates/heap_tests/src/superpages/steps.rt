@@ -71,12 +71,18 @@ pub(crate) enum Step {
     NoteUse(u32),
     /// Which page was used least.
     LeastUsed(u32),
+    /// Which page the clock comes to, also while frames are free.
+    IdlePage(u32),
+    /// So many frames are withheld from now on, if this is true; else there are too few.
+    SetWithheld(u32, bool),
     /// The space is taken apart and put together. From this page on all are Absent.
     Reassemble(u32),
     /// How many pages there are.
     Pages(u32),
     /// How many frames are free.
     FreeFrames(u32),
+    /// How many frames are withheld.
+    Withheld(u32),
     /// How many superpages are empty.
     EmptySuperpages(u32),
     /// How many pages were read.
@@ -148,6 +154,8 @@ fn goes_on_pages(space: &mut Space, step: &Step) -> bool {
         Step::Raise(superpage) => calls::raise(space, superpage),
         Step::Lower(superpage) => calls::lower(space, superpage),
         Step::LeastUsed(page) => space.least_used() == page,
+        Step::IdlePage(page) => space.idle_page() == page,
+        Step::SetWithheld(frames, answer) => calls::set_withheld(space, frames) == answer,
         Step::Reassemble(end) => calls::reassemble(space) == end,
         _ => is_done(space, step) || shows(space, step) || shows_objects(space, step),
     }
@@ -172,6 +180,7 @@ fn shows(space: &Space, step: &Step) -> bool {
     match *step {
         Step::Pages(answer) => space.pages() == answer,
         Step::FreeFrames(answer) => space.free_frames() == answer,
+        Step::Withheld(answer) => space.withheld(0) == answer,
         Step::EmptySuperpages(answer) => space.empty_superpages() == answer,
         Step::Reads(answer) => space.reads() == answer,
         Step::Departures(answer) => space.departures() == answer,

@@ -9,4 +9,4 @@ set_marks-requires-clause-sets c = λ q lt.
     (tags.marks, tags.finished)
 
 pub returns : goal.returns
-returns c = record { laid = laid _ _ c.requires.kept _ _ _ c.requires.superpages.0 c.set_marks.ensures.set refl refl refl refl refl refl }
+returns c = record { laid = laid _ _ c.requires.kept _ _ _ c.requires.superpages.0 c.set_marks.ensures.set refl refl refl refl refl refl refl }

@@ -16,6 +16,7 @@ returns c =
         headers = out.headers;
         pool = out.pool;
         nursery = out.nursery;
+        room = out.room;
         reads = ap (λ (s : StoreView). s.reads) back.store ∙ out.reads;
         end = out.end;
         boxes = back_again None whole.boxes.items _ _ c.args.pages _ out.boxes back.boxes

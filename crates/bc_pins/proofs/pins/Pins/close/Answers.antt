@@ -1,4 +1,4 @@
-use Rattle.std.proofs.Common.{◌≡◌, ℕ, ◌+◌, ◌*◌, ◌≤◌, Bool, false, if◌then◌else◌, List, length, get_or, ap, refl, sym, subst, ◌∙◌, arith}
+use Rattle.std.proofs.Common.{◌≡◌, ℕ, ◌+◌, ◌*◌, ◌≤◌, Bool, false, if◌then◌else◌, List, length, get_or, vec_capacity, ap, refl, sym, subst, ◌∙◌, arith}
 use Rattle.core.specs.Mem.Slots.{slots_items, slots_len, IsFull}
 use Rattle.bc_frames.specs.Places.{StoreView}
 use Rattle.bc_superpages.specs.declared.parts.SpaceParts.{SpaceParts}
@@ -68,6 +68,7 @@ put_together-requires-clause-kept c =
       reads_are = refl;
       pool = ap (λ (p : SpaceParts). p.pool) back.same;
       nursery = ap (λ (p : SpaceParts). p.nursery.items) back.same ∙ out.nursery;
+      room = ap (λ (p : SpaceParts). vec_capacity p.nursery) back.same ∙ out.room;
       end = ap (λ (p : SpaceParts). p.end) back.same ∙ out.end;
     })
 
@@ -124,6 +125,7 @@ returns-clause-closed c = λ turn.
       reads_are = refl;
       pool = ap (λ (p : SpaceParts). p.pool) back.same;
       nursery = ap (λ (p : SpaceParts). p.nursery.items) back.same ∙ out.nursery;
+      room = ap (λ (p : SpaceParts). vec_capacity p.nursery) back.same ∙ out.room;
       end = ap (λ (p : SpaceParts). p.end) back.same ∙ out.end;
     }) (c.put_together.ensures.lanes (self.turned ∙ turn))
 
@@ -145,6 +147,7 @@ returns-clause-marked c = λ turn.
       reads_are = refl;
       pool = ap (λ (p : SpaceParts). p.pool) back.same;
       nursery = ap (λ (p : SpaceParts). p.nursery.items) back.same ∙ out.nursery;
+      room = ap (λ (p : SpaceParts). vec_capacity p.nursery) back.same ∙ out.room;
       end = ap (λ (p : SpaceParts). p.end) back.same ∙ out.end;
     })
     turn self.unheld (self.markable turn) (ap slots_items c.drain.ensures.words) self.counted (let entry = c.mark_entry-start.ensures in let many = self.counted in let framed = self.framed in omega arith) (c.put_together.ensures.marks (self.turned ∙ turn))
