@@ -1,15 +1,16 @@
 -- The trace of `churn` is well formed.
-use Rattle.std.proofs.Common.{ℕ, ◌^◌, ◌<◌, ◌≤◌, if◌then◌else◌, List, [], ◌∷◌, map, Bool, true, false, zero, suc, refl, arith}
+use Rattle.std.proofs.Common.{ℕ, ◌^◌, ◌<◌, ◌≤◌, if◌then◌else◌, List, [], ◌∷◌, map, Bool, true, false, zero, suc, refl, inr, arith}
 use Rattle.std.specs.List.{flat_map, AllByRecursion, filter}
 use Rattle.bc_model.specs.State.{holder_of, lets_write, numbers_below}
-use Rattle.bc_model.specs.WellFormed.{IsTrace, IsKnown, IsPhase, IsSetup, IsOp, IsTurn}
+use Rattle.bc_model.specs.Lists.{PhaseLists}
+use Rattle.bc_model.specs.WellFormed.{IsTrace, IsKnown, FitsFrames, IsPhase, IsSetup, IsOp, IsTurn}
 use Rattle.bc_model.specs.declared.operations.Op.TheVariants as ops
 use Rattle.bc_model.specs.declared.values.Holder.{Holder}
 use Rattle.bc_model.proofs.RunStates.{all-append}
 use Rattle.bc_trace.specs.declared.words.Verb.{Verb}
 use Rattle.bc_trace.specs.declared.words.Verb.TheVariants as verbs
 use Rattle.bc_churn.specs.Draws.{draw, number_after, drawn_with, drawn_op, number_after_ops}
-use Rattle.bc_churn.specs.Churn.{churn_setup, drawn_hints, number_before_lane, drawn_ops, held_below, domain_clears, clears_below, lane_clears, churn_lane, phase_from, phases_of, churn_phase, churn_trace}
+use Rattle.bc_churn.specs.Churn.{churn_setup, drawn_turn, number_before_lane, drawn_ops, held_below, domain_clears, clears_below, lane_clears, churn_lane, phase_from, phases_of, churn_phase, churn_trace}
 use Rattle.bc_trace.proofs.Fitting.{all-weaker}
 
 pub draw-below : (x m : ℕ) → 0 < m → draw x m < m
@@ -74,7 +75,7 @@ lane-formed n x holders j =
 
 -- ---- phases
 
-hints-formed : (x : ℕ) → IsTurn (drawn_hints x)
+hints-formed : (x : ℕ) → IsTurn (drawn_turn x)
 hints-formed x =
     let low : (y : ℕ) → draw y 128 < 2 ^ 32 = λ y. omega (arith, draw-below y 128 (omega arith)) in
     (omega arith, (low _, (low _, (low _, tt))))
@@ -90,7 +91,11 @@ phase-formed k n x holders = record {
 
 phase-known : (k n x : ℕ) (holders : List Holder) → IsKnown 1 (phase_from k n x holders)
 unfolding phase_from
-phase-known k n x holders = (tt, tt)
+phase-known k n x holders = record { turns = (inr refl, (inr refl, tt)); gives = (tt, tt) }
+
+phase-budgets : (k n x : ℕ) (holders : List Holder) → AllByRecursion (FitsFrames churn_setup) (phase_from k n x holders).turns
+unfolding phase_from
+phase-budgets k n x holders = (omega arith, (omega arith, tt))
 
 setup-formed : IsSetup churn_setup
 setup-formed = record {
@@ -108,6 +113,7 @@ unfolding churn_trace
 churn-formed start ops = record {
   version = (omega arith, omega arith);
   known = all-map (IsKnown 1) (churn_phase start ops) (numbers_below (phases_of ops)) (all-of _ (numbers_below (phases_of ops)) (λ k. phase-known k _ _ _));
+  budgets = all-map (λ (p : PhaseLists). AllByRecursion (FitsFrames churn_setup) p.turns) (churn_phase start ops) (numbers_below (phases_of ops)) (all-of _ (numbers_below (phases_of ops)) (λ k. phase-budgets k _ _ _));
   setup = setup-formed;
   phases = all-map (IsPhase churn_setup) (churn_phase start ops) (numbers_below (phases_of ops)) (all-of _ (numbers_below (phases_of ops)) (λ k. phase-formed k _ _ _));
 }

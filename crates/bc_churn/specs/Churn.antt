@@ -2,7 +2,7 @@
 -- The workload of `churn`: the trace, of version 1, of a starting number and of so many drawn operations for each of its two lanes.
 use Rattle.std.specs.Prelude.{ℕ, ◌+◌, ◌-◌, ◌*◌, ◌/◌, ◌%◌, min, List, [], ◌∷◌, ◌++◌, map, filter, zero, suc}
 use Rattle.std.specs.List.{flat_map}
-use Rattle.bc_model.specs.Lists.{PhaseLists, TraceLists}
+use Rattle.bc_model.specs.Lists.{PhaseLists, TraceLists, TurnLists}
 use Rattle.bc_model.specs.Run.{opening, after_changes}
 use Rattle.bc_model.specs.State.{holder_of, lets_write, numbers_below}
 use Rattle.bc_model.specs.declared.operations.Op.{Op}
@@ -23,6 +23,10 @@ churn_setup = record { lanes = 2; domains = 4; slots = 8; superpages = 32; nurse
 -- the three hints of a turn
 abbrev pub drawn_hints : ℕ → List ℕ
 drawn_hints x = draws x (128 ∷ 128 ∷ 128 ∷ [])
+
+-- a turn's line, which withholds nothing
+abbrev pub drawn_turn : ℕ → TurnLists
+drawn_turn x = record { withheld = 0; hints = drawn_hints x }
 
 -- the number before lane j's draws: after six hints, and n operations of each lane before it
 abbrev pub number_before_lane : ℕ → ℕ → ℕ → ℕ
@@ -60,7 +64,7 @@ churn_give k n x = record { domain = (k + 1) % 4; lane = draw (number_before_lan
 -- phase k with n drawn operations a lane, from the number x before it and who holds the domains then
 unfoldable pub phase_from : ℕ → ℕ → ℕ → List Holder → PhaseLists
 phase_from k n x holders = record {
-  turns = drawn_hints x ∷ drawn_hints (number_after 3 x) ∷ [];
+  turns = drawn_turn x ∷ drawn_turn (number_after 3 x) ∷ [];
   lanes = churn_lane n x holders 0 ∷ churn_lane n x holders 1 ∷ [];
   gives = changes.Give (churn_give k n x) ∷ [];
 }

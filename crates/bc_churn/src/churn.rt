@@ -2,11 +2,11 @@
 ghost use Rattle.std.specs.Prelude.{◌≡◌, ◌+◌, ◌%◌, ◌<◌, ◌≤◌, ◌^◌, ◌++◌, IfOk, OnOk, slice_set};
 ghost use Rattle.bc_model.specs.WellFormed.{IsTrace};
 ghost use Rattle.bc_model.specs.declared.values.Holder.TheVariants.{Lane};
-ghost use Rattle.bc_churn.specs.Draws.{draw, next_number, number_after_ops};
-ghost use Rattle.bc_churn.specs.Churn.{churn_give, churn_trace, domain_clears, drawn_ops, lane_clears, number_after_phase, phase_from};
+ghost use Rattle.bc_churn.specs.Draws.{draw, next_number, number_after, number_after_ops};
+ghost use Rattle.bc_churn.specs.Churn.{churn_give, churn_trace, domain_clears, drawn_ops, drawn_turn, lane_clears, number_after_phase, phase_from};
 
 use crate::draws::{DOMAINS, Generator, SLOTS};
-use bc_model::{Change, Give, Holder, Op, Phase, Setup, Slot, Trace};
+use bc_model::{Change, Give, Holder, Op, Phase, Setup, Slot, Trace, TurnLine};
 use std::alloc::{AllocError, Global};
 
 /// The most drawn operations of a lane in a phase.
@@ -81,6 +81,17 @@ fn draw_give(generator: &mut Generator, holders: &mut [Holder; 4], phase: u32) -
     give
 }
 
+/// The line of a turn, which withholds no frame.
+fn draw_turn(alloc: Global, generator: &mut Generator) -> Result<TurnLine, AllocError>
+    ensures turn { IfOk result (λ t. t ≡ drawn_turn generator.old) }
+    ensures next { OnOk result (generator.new ≡ number_after 3 generator.old) }
+{
+    Ok(TurnLine {
+        withheld: 0,
+        hints: Vec::from_slice(alloc, &generator.hints())?,
+    })
+}
+
 /// Phase `phase`, which counts from 0, with `count` drawn operations a lane.
 #[tactic(auto, unfolding(crate::specs::Churn::phase_from, crate::specs::Churn::number_after_phase))]
 fn draw_phase(
@@ -95,8 +106,8 @@ fn draw_phase(
     ensures next { OnOk result (generator.new ≡ number_after_phase count generator.old) }
     ensures holders { OnOk result (holders.new ≡ slice_set holders.old (churn_give phase count generator.old).domain (Lane (churn_give phase count generator.old).lane)) }
 {
-    let first = Vec::from_slice(alloc, &generator.hints())?;
-    let second = Vec::from_slice(alloc, &generator.hints())?;
+    let first = draw_turn(alloc, generator)?;
+    let second = draw_turn(alloc, generator)?;
     let turns = vec![in alloc; first, second]?;
     let first = lane_ops(alloc, generator, holders, 0, count)?;
     let second = lane_ops(alloc, generator, holders, 1, count)?;

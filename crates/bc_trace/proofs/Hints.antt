@@ -25,7 +25,7 @@ said-take : (l : ReadLine) (n : ℕ) (ns : List ℕ) → HoldsAllHints l (take n
 said-take (lines.Version v) n ns h = refl
 said-take (lines.Setting k m) n ns h = refl
 said-take lines.Phase n ns h = refl
-said-take (lines.Turn count) n ns h = ap turn (take-take count n ns (omega (arith, length-take n ns)))
+said-take (lines.Turn shift count) n ns h = ap (turn shift) (take-take count n ns (omega (arith, length-take n ns)))
 said-take (lines.Lane j) n ns h = refl
 said-take (lines.Op o) n ns h = refl
 said-take (lines.Give g) n ns h = refl
@@ -41,7 +41,7 @@ fits-take : (l : ReadLine) (n : ℕ) (ns : List ℕ) → HoldsAllHints l (take n
 fits-take (lines.Version v) n ns h = tt
 fits-take (lines.Setting k m) n ns h = tt
 fits-take lines.Phase n ns h = tt
-fits-take (lines.Turn count) n ns h =
+fits-take (lines.Turn shift count) n ns h =
     let all : take count ns ≡ take n ns = sym (take-take count n ns (omega (arith, length-take n ns))) ∙ take_all count (take n ns) (omega arith) in
     (omega (arith, length-take n ns), λ i. rw all (h.1 i))
 fits-take (lines.Lane j) n ns h = tt

@@ -7,11 +7,11 @@ use Rattle.std.proofs.lemmas.List.Sums.{sum_by-cons}
 use Rattle.bc_model.specs.Lists.{PhaseLists, TraceLists}
 use Rattle.bc_model.specs.RunLengths.{ops_of, all_ops_of}
 use Rattle.bc_model.specs.declared.operations.Op.{Op}
-use Rattle.bc_trace.specs.Lines.{Line, turn, op, change_line, end, done, word_of_line, operands, lane_lines, phase_lines, trace_lines, trace_text, spelling, line_text, Spells}
+use Rattle.bc_trace.specs.Lines.{Line, op, change_line, end, done, word_of_line, shift_of, operands, turn_lines, lane_lines, phase_lines, trace_lines, trace_text, spelling, line_text, Spells}
 
 pub line_some : (l : Line) → 0 < length (line_text l)
 unfolding line_text
-line_some l = omega (arith, length-append (spelling (word_of_line l) (operands l)) (10 ∷ []))
+line_some l = omega (arith, length-append (spelling (word_of_line l) (shift_of l) (operands l)) (10 ∷ []))
 
 lines_fit : (ls : List Line) → length ls ≤ length (flat_map line_text ls)
 lines_fit [] = omega arith
@@ -22,7 +22,7 @@ lanes_fit [] j = omega arith
 lanes_fit (os ∷ lanes) j = omega (arith, sum_by-cons length os lanes, lanes_fit lanes (suc j), length-append (map op os) (lane_lines (suc j) lanes), length-map os (λ o. op o))
 
 phase_fits : (p : PhaseLists) → ops_of p + 1 ≤ length (phase_lines p)
-phase_fits p = omega (arith, lanes_fit p.lanes 0, length-append (map turn p.turns) (lane_lines 0 p.lanes ++ (map change_line p.gives ++ end ∷ [])), length-append (lane_lines 0 p.lanes) (map change_line p.gives ++ end ∷ []))
+phase_fits p = omega (arith, lanes_fit p.lanes 0, length-append (turn_lines 0 p.turns) (lane_lines 0 p.lanes ++ (map change_line p.gives ++ end ∷ [])), length-append (lane_lines 0 p.lanes) (map change_line p.gives ++ end ∷ []))
 
 phases_fit : (ps : List PhaseLists) → sum_by ops_of ps + length ps ≤ length (flat_map phase_lines ps)
 phases_fit [] = omega arith

@@ -20,6 +20,10 @@ pub mod Runs
 pub mod Written
 -- What the tests of counts and ranges mean.
 pub mod LineMeaning
+-- What the operand with a sign says that a turn may have.
+pub mod Signs
+-- The lines of a phase's turns
+pub mod TurnLines
 -- A line passes all tests, or one of them is the first that it fails; the reader says which.
 pub mod LineAtFails
 -- Whole texts
@@ -38,6 +42,8 @@ pub mod LinesAhead
 pub mod Answered
 -- Lines that pass can be gone on with up to the end of a trace.
 pub mod Endings
+-- What traces withhold
+pub mod Withheld
 -- A text shows the replies that it spells
 pub mod Shown
 -- The replies of a run fit, and are short

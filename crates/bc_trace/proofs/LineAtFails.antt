@@ -16,18 +16,21 @@ use Rattle.bc_model.specs.WellFormed.{IsWithin, IsNumber}
 use Rattle.bc_trace.specs.declared.fault.Cause.{Cause}
 use Rattle.bc_trace.specs.declared.fault.Cause.TheVariants as causes
 use Rattle.bc_trace.specs.declared.grammar.Progress.{Progress}
+use Rattle.bc_trace.specs.declared.line.Shift.{Shift}
+use Rattle.bc_trace.specs.declared.line.Shift.TheVariants as shifts
 use Rattle.bc_trace.specs.declared.words.Setting.TheVariants as settings
 use Rattle.bc_trace.specs.declared.words.Verb.TheVariants as verbs
 use Rattle.bc_trace.specs.declared.words.Keyword.{Keyword}
 use Rattle.bc_trace.specs.declared.words.Keyword.TheVariants as words
 use Rattle.bc_trace.specs.Words.{name, verb_name, setting_name}
-use Rattle.bc_trace.specs.Lines.{Line, word_of_line, operands, spelling}
-use Rattle.bc_trace.specs.Grammar.{KnowsWord, may_stand, MayStand, IsCount, Passes}
-use Rattle.bc_trace.specs.Faults.{line_words, IsWord, IsFormed, BeginsWith, IsNumeral, WordFails, OrderFails, CountFails, NumberFails, IsReadable, RangeFails, FramesFails, Fails}
-use Rattle.bc_trace.specs.Reading.{is_within, formed_from, word_of, has_count, read_numbers, line_of, in_range, frames_fit, judge_line, line_at}
+use Rattle.bc_trace.specs.Lines.{Line, word_of_line, shift_of, shift_words, shift_numbers, operands, numbers_of, spelling}
+use Rattle.bc_trace.specs.Grammar.{IsLineOf, may_stand, MayStand, IsCount, Passes}
+use Rattle.bc_trace.specs.Faults.{line_words, IsWord, IsFormed, BeginsWith, counted, unsigned, IsNumeral, WordFails, OrderFails, CountFails, NumberFails, IsReadable, RangeFails, FramesFails, Fails}
+use Rattle.bc_trace.specs.Reading.{is_within, formed_from, word_of, has_count, read_shift, read_numbers, line_of, in_range, frames_fit, judge_line, line_at}
 use Rattle.bc_trace.proofs.Operands.{line_words-some}
-use Rattle.bc_trace.proofs.InOrder.{line_at-unformed, line_at-unknown, line_at-misplaced, line_at-miscounted, line_at-no_numbers, line_at-says}
-use Rattle.bc_trace.proofs.Meaning.{own, Decides-within, Decides-formed, word_of-is, word_of-name, read_numbers-is, read_numbers-decimal, numerals, are_numerals}
+use Rattle.bc_trace.proofs.InOrder.{line_at-unformed, line_at-unknown, line_at-misplaced, line_at-miscounted, line_at-no_shift, line_at-no_numbers, line_at-says}
+use Rattle.bc_trace.proofs.Meaning.{own, Decides-within, Decides-formed, word_of-is, word_of-name, read_numbers-is, read_numbers-decimal}
+use Rattle.bc_trace.proofs.Signs.{operand_words, words_back, words_forth, no_shift, no_number, all_numerals}
 use Rattle.bc_trace.proofs.LineMeaning.{Decides-count, word_of_line-line_of, operands-line_of, line_of-line, Decides-range, Decides-frames}
 
 cases_Option : {A : Type 0} (o : Option A) → (o ≡ None) ⊎ ((x : A) × (o ≡ Some x))
@@ -44,9 +47,18 @@ joined : (first : List ℕ) (ns : List ℕ) → join_with_byte 32 (first ∷ map
 joined first [] = sym (append-nil first)
 joined first (n ∷ ns) = ap (λ (t : List ℕ). first ++ 32 ∷ t) (joined (decimal n) ns)
 
-pub spelled : (line : List ℕ) (w : Keyword) (ns : List ℕ) → line_words line ≡ name w ∷ map decimal ns → line ≡ spelling w ns
+-- a word more
+joined_more : (word : List ℕ) (ns : List ℕ) → join_with_byte 32 (word ∷ map decimal ns) ≡ (word ++ []) ++ flat_map (λ n. 32 ∷ decimal n) ns
+joined_more word ns = joined word ns ∙ ap (λ (t : List ℕ). t ++ flat_map (λ n. 32 ∷ decimal n) ns) (sym (append-nil word))
+
+joined_shift : (first : List ℕ) (shift : Shift) (ns : List ℕ) → join_with_byte 32 (first ∷ (shift_words shift ++ map decimal ns)) ≡ first ++ (flat_map (λ word. 32 ∷ word) (shift_words shift) ++ flat_map (λ n. 32 ∷ decimal n) ns)
+joined_shift first shifts.Stays ns = joined first ns
+joined_shift first (shifts.Withhold k) ns = ap (λ (t : List ℕ). first ++ 32 ∷ t) (joined_more (45 ∷ decimal k) ns)
+joined_shift first (shifts.Return k) ns = ap (λ (t : List ℕ). first ++ 32 ∷ t) (joined_more (43 ∷ decimal k) ns)
+
+pub spelled : (line : List ℕ) (w : Keyword) (shift : Shift) (ns : List ℕ) → line_words line ≡ name w ∷ (shift_words shift ++ map decimal ns) → line ≡ spelling w shift ns
 unfolding spelling
-spelled line w ns e = sym (join_with_byte-slice_split 32 line) ∙ ap (λ (ws : List (List ℕ)). join_with_byte 32 ws) e ∙ joined (name w) ns
+spelled line w shift ns e = sym (join_with_byte-slice_split 32 line) ∙ ap (λ (ws : List (List ℕ)). join_with_byte 32 ws) e ∙ joined_shift (name w) shift ns
 
 no_space : (bs : List ℕ) → AllByRecursion (IsWithin 33 126) bs → AllByRecursion (λ b. eqb b 32 ≡ false) bs
 no_space [] h = tt
@@ -62,9 +74,10 @@ cut_word w rest h = slice_split_at (λ b. eqb b 32) w 32 rest (All-from_recursio
 last_word : (w : List ℕ) → IsWord w → line_words w ≡ w ∷ []
 last_word w h = slice_split_none (λ b. eqb b 32) w (All-from_recursion (λ b. eqb b 32 ≡ false) w (no_space w (visible w h)))
 
-line_words-joined : (first : List ℕ) (ns : List ℕ) → IsWord first → AllByRecursion IsWord (map decimal ns) → line_words (first ++ flat_map (λ n. 32 ∷ decimal n) ns) ≡ first ∷ map decimal ns
-line_words-joined first [] h hs = ap line_words (append-nil first) ∙ last_word first h
-line_words-joined first (n ∷ ns) h hs = cut_word first (decimal n ++ flat_map (λ n. 32 ∷ decimal n) ns) h ∙ ap (λ (ws : List (List ℕ)). first ∷ ws) (line_words-joined (decimal n) ns hs.0 hs.1)
+-- what is joined is cut again
+cut_again : (first : List ℕ) (others : List (List ℕ)) → IsWord first → AllByRecursion IsWord others → line_words (join_with_byte 32 (first ∷ others)) ≡ first ∷ others
+cut_again first [] h hs = last_word first h
+cut_again first (w ∷ ws) h hs = cut_word first (join_with_byte 32 (w ∷ ws)) h ∙ ap (λ (ws : List (List ℕ)). first ∷ ws) (cut_again w ws hs.0 hs.1)
 
 -- ---- names and numerals are words
 
@@ -137,38 +150,49 @@ pub are_words : (ns : List ℕ) → AllByRecursion IsNumber ns → AllByRecursio
 are_words [] h = tt
 are_words (n ∷ ns) h = (IsWord-decimal n h.0, are_words ns h.1)
 
-module _ (w : Keyword) (ns : List ℕ) (fits : AllByRecursion IsNumber ns) where
-  pub line_words-spelling : line_words (spelling w ns) ≡ name w ∷ map decimal ns
-  unfolding spelling
-  line_words-spelling = line_words-joined (name w) ns (IsWord-name w) (are_words ns fits)
+signed_word : (b k : ℕ) → IsWithin 33 126 b → IsNumber k → IsWord (b ∷ decimal k)
+signed_word b k sign number = (sign, visible (decimal k) (IsWord-decimal k number))
 
-  pub IsFormed-spelling : IsFormed (spelling w ns)
-  IsFormed-spelling = rw line_words-spelling (IsWord-name w, are_words ns fits)
+-- so are all operands
+pub are_operands : (shift : Shift) (ns : List ℕ) → AllByRecursion IsNumber (shift_numbers shift ++ ns) → AllByRecursion IsWord (shift_words shift ++ map decimal ns)
+are_operands shifts.Stays ns h = are_words ns h
+are_operands (shifts.Withhold k) ns h = (signed_word 45 k (omega arith, omega arith) h.0, are_words ns h.1)
+are_operands (shifts.Return k) ns h = (signed_word 43 k (omega arith, omega arith) h.0, are_words ns h.1)
+
+module _ (w : Keyword) (shift : Shift) (ns : List ℕ) (fits : AllByRecursion IsNumber (shift_numbers shift ++ ns)) where
+  pub line_words-spelling : line_words (spelling w shift ns) ≡ name w ∷ (shift_words shift ++ map decimal ns)
+  unfolding spelling
+  line_words-spelling = ap line_words (sym (joined_shift (name w) shift ns)) ∙ cut_again (name w) (shift_words shift ++ map decimal ns) (IsWord-name w) (are_operands shift ns fits)
+
+  pub IsFormed-spelling : IsFormed (spelling w shift ns)
+  IsFormed-spelling = rw line_words-spelling (IsWord-name w, are_operands shift ns fits)
 
 -- ---- a line that passes is read again
 
-says_again : (s : Progress) (l : Line) → KnowsWord s.version (word_of_line l) → MayStand s (word_of_line l) → IsCount (word_of_line l) (length (operands l)) → AllByRecursion IsNumber (operands l) → line_at s (spelling (word_of_line l) (operands l)) ≡ judge_line s l
+all_behind : (xs ys : List ℕ) → AllByRecursion IsNumber (xs ++ ys) → AllByRecursion IsNumber ys
+all_behind [] ys h = h
+all_behind (x ∷ xs) ys h = all_behind xs ys h.1
+
+says_again : (s : Progress) (l : Line) → IsLineOf s.version l → MayStand s (word_of_line l) → IsCount (word_of_line l) (length (operands l)) → AllByRecursion IsNumber (numbers_of l) → line_at s (spelling (word_of_line l) (shift_of l) (operands l)) ≡ judge_line s l
 says_again s l known stands right fits =
     let w = word_of_line l in
+    let shift = shift_of l in
     let ns = operands l in
-    let count : has_count w (length (map decimal ns)) ≡ true = rw (length-map ns decimal) ((Decides-count w (length ns)).1 right) in
-    line_at-says s (spelling w ns) (name w) (map decimal ns) ((Decides-formed (spelling w ns)).1 (IsFormed-spelling w ns fits)) (line_words-spelling w ns fits) w ns (word_of-name s.version w known) stands count (read_numbers-decimal ns fits)
+    let line = spelling w shift ns in
+    let forth = words_forth s.version l known.1 fits in
+    let count : has_count w (length (counted s.version w (operand_words l))) ≡ true = rw (forth.plain, length-map ns decimal) ((Decides-count w (length ns)).1 right) in
+    let numbers : read_numbers (counted s.version w (operand_words l)) ≡ Some ns = ap read_numbers forth.plain ∙ read_numbers-decimal ns (all_behind (shift_numbers shift) ns fits) in
+    line_at-says s line (name w) (operand_words l) ((Decides-formed line).1 (IsFormed-spelling w shift ns fits)) (line_words-spelling w shift ns fits) w (word_of-name s.version w known.0) stands count shift ns forth.shift numbers
     ∙ ap (λ l. judge_line s l) (line_of-line l)
 
-pub read_again : (s : Progress) (l : Line) → Passes s l → line_at s (spelling (word_of_line l) (operands l)) ≡ Ok l
+pub read_again : (s : Progress) (l : Line) → Passes s l → line_at s (spelling (word_of_line l) (shift_of l) (operands l)) ≡ Ok l
 unfolding judge_line
 read_again s l h = says_again s l h.known h.stands h.count h.numbers ∙ rw ((Decides-range s l).1 h.range, (Decides-frames s l).1 h.frames) refl
 
 -- ---- the verdict on a line
 
 abbrev pub Judgement : Progress → List ℕ → Type 0
-Judgement s line = ((l : Line) × (line_at s line ≡ Ok l) × (line ≡ spelling (word_of_line l) (operands l)) × Passes s l) ⊎ ((cause : Cause) × (line_at s line ≡ Err cause) × Fails s line cause)
-
-not_none : (others : List (List ℕ)) → read_numbers others ≡ None → ¬ AllByRecursion IsNumeral others
-not_none others none h =
-    let found = numerals others h in
-    let some : read_numbers others ≡ Some found.0 = ap read_numbers found.1 ∙ read_numbers-decimal found.0 found.2 in
-    absurd cc
+Judgement s line = ((l : Line) × (line_at s line ≡ Ok l) × (line ≡ spelling (word_of_line l) (shift_of l) (operands l)) × Passes s l) ⊎ ((cause : Cause) × (line_at s line ≡ Err cause) × Fails s line cause)
 
 no_word : (s : Progress) (line first : List ℕ) (others more : List (List ℕ)) (w : Keyword) → line_words line ≡ first ∷ others → word_of s.version first ≡ None → ¬ BeginsWith s line w more
 no_word s line first others more w parts none h =
@@ -203,32 +227,47 @@ module _ (s : Progress) (line : List ℕ) where
       begins : BeginsWith s line w others
       begins = let found = word_of-is s.version first w is in (found.0, parts ∙ ap (λ (v : List ℕ). v ∷ others) found.1)
 
-      judged_numbers : (stands : may_stand w s.stage (eqb s.stood s.setup.lanes) ≡ true) (count : has_count w (length others) ≡ true) (ns : List ℕ) → read_numbers others ≡ Some ns → Judgement s line
-      judged_numbers stands count ns numbers =
-          let facts = read_numbers-is others ns numbers in
-          let same : length others ≡ length ns = ap (λ (ws : List (List ℕ)). length ws) facts.0 ∙ length-map ns decimal in
-          let right : IsCount w (length ns) = subst (λ n. IsCount w n) same ((Decides-count w (length others)).0 count) in
-          let text : line ≡ spelling w ns = spelled line w ns (begins.1 ∙ ap (λ (ws : List (List ℕ)). name w ∷ ws) facts.0) in
-          let w-is = word_of_line-line_of w ns in
-          let ns-is = operands-line_of w ns right in
-          judged_line (line_of w ns) (line_at-says s line first others formed parts w ns is stands count numbers) (record {
-            text = rw (w-is, ns-is) text;
-            known = rw w-is begins.0;
+      abbrev its : List (List ℕ)
+      its = counted s.version w others
+
+      judged_numbers : (stands : may_stand w s.stage (eqb s.stood s.setup.lanes) ≡ true) (count : has_count w (length (counted s.version w others)) ≡ true) (shift : Shift) (ns : List ℕ) → read_shift s.version w others ≡ Some shift → read_numbers (counted s.version w others) ≡ Some ns → Judgement s line
+      judged_numbers stands count shift ns signs numbers =
+          let facts = read_numbers-is (counted s.version w others) ns numbers in
+          let same : length (counted s.version w others) ≡ length ns = ap (λ (ws : List (List ℕ)). length ws) facts.0 ∙ length-map ns decimal in
+          let right : IsCount w (length ns) = subst (λ n. IsCount w n) same ((Decides-count w (length (counted s.version w others))).0 count) in
+          let l = line_of w shift ns in
+          let back = words_back s.version w others shift ns signs numbers right in
+          let text : line ≡ spelling w (shift_of l) (operands l) = spelled line w (shift_of l) (operands l) (begins.1 ∙ ap (λ (ws : List (List ℕ)). name w ∷ ws) back.words) in
+          let w-is = word_of_line-line_of w shift ns in
+          let ns-is = operands-line_of w shift ns right in
+          judged_line l (line_at-says s line first others formed parts w is stands count shift ns signs numbers) (record {
+            text = rw w-is text;
+            known = (rw w-is begins.0, back.known);
             stands = rw w-is stands;
             count = rw (w-is, ns-is) right;
-            numbers = rw ns-is facts.1;
+            numbers = back.numbers;
           })
+
+      no_numeral : may_stand w s.stage (eqb s.stood s.setup.lanes) ≡ true → has_count w (length (counted s.version w others)) ≡ true → ¬ AllByRecursion IsNumeral (unsigned s.version w others) → NumberFails s line
+      no_numeral stands count bad = record { formed = (Decides-formed line).0 formed; word = w; others = others; begins = begins; stands = stands; count = (Decides-count w (length (counted s.version w others))).0 count; number = bad }
+
+      judged_shift : may_stand w s.stage (eqb s.stood s.setup.lanes) ≡ true → has_count w (length (counted s.version w others)) ≡ true → Judgement s line
+      judged_shift stands count =
+          elim (cases_Option (read_shift s.version w others)) [
+            | inl none ↦ inr (causes.Number, line_at-no_shift s line first others formed parts w is stands count none, no_numeral stands count (no_shift s.version w others none))
+            | inr (shift, signs) ↦ elim (cases_Option (read_numbers (counted s.version w others))) [
+              | inl none ↦ inr (causes.Number, line_at-no_numbers s line first others formed parts w is stands count none, no_numeral stands count (no_number s.version w others none))
+              | inr (ns, numbers) ↦ judged_numbers stands count shift ns signs numbers
+            ]
+          ]
 
       judged_word : Judgement s line
       judged_word =
           elim (cases_Bool (may_stand w s.stage (eqb s.stood s.setup.lanes))) [
             | inr misplaced ↦ inr (causes.Order, line_at-misplaced s line first others formed parts w is misplaced, record { formed = (Decides-formed line).0 formed; word = w; others = others; begins = begins; order = λ h. both_ways _ misplaced h })
-            | inl stands ↦ elim (cases_Bool (has_count w (length others))) [
-              | inr miscounted ↦ inr (causes.Form, line_at-miscounted s line first others formed parts w is stands miscounted, inr (record { formed = (Decides-formed line).0 formed; word = w; others = others; begins = begins; stands = stands; count = not_from_Decides (has_count w (length others)) (Decides-count w (length others)) miscounted }))
-              | inl count ↦ elim (cases_Option (read_numbers others)) [
-                | inl none ↦ inr (causes.Number, line_at-no_numbers s line first others formed parts w is stands count none, record { formed = (Decides-formed line).0 formed; word = w; others = others; begins = begins; stands = stands; count = (Decides-count w (length others)).0 count; number = λ h. not_none others none h })
-                | inr (ns, numbers) ↦ judged_numbers stands count ns numbers
-              ]
+            | inl stands ↦ elim (cases_Bool (has_count w (length its))) [
+              | inr miscounted ↦ inr (causes.Form, line_at-miscounted s line first others formed parts w is stands miscounted, inr (record { formed = (Decides-formed line).0 formed; word = w; others = others; begins = begins; stands = stands; count = not_from_Decides (has_count w (length its)) (Decides-count w (length its)) miscounted }))
+              | inl count ↦ judged_shift stands count
             ]
           ]
 
@@ -251,16 +290,11 @@ module _ (s : Progress) (line : List ℕ) where
 false_from : {P : Type 0} (r : Bool) → Decides r P → ¬ P → r ≡ false
 false_from r h fails = false_from_ne_true r (λ e. fails (h.0 e))
 
-none_from : (others : List (List ℕ)) → ¬ AllByRecursion IsNumeral others → read_numbers others ≡ None
-none_from others bad =
-    elim (cases_Option (read_numbers others)) [
-      | inl none ↦ none
-      | inr (ns, is) ↦ let facts = read_numbers-is others ns is in absurd (bad (subst (λ (ws : List (List ℕ)). AllByRecursion IsNumeral ws) (sym facts.0) (are_numerals ns facts.1)))
-    ]
-
 module _ (s : Progress) (line : List ℕ) where
   fails_count : CountFails s line → line_at s line ≡ Err causes.Form
-  fails_count h = line_at-miscounted s line (name h.word) h.others ((Decides-formed line).1 h.formed) h.begins.1 h.word (word_of-name s.version h.word h.begins.0) h.stands (false_from (has_count h.word (length h.others)) (Decides-count h.word (length h.others)) h.count)
+  fails_count h =
+      let its = counted s.version h.word h.others in
+      line_at-miscounted s line (name h.word) h.others ((Decides-formed line).1 h.formed) h.begins.1 h.word (word_of-name s.version h.word h.begins.0) h.stands (false_from (has_count h.word (length its)) (Decides-count h.word (length its)) h.count)
 
   fails_word : WordFails s line → line_at s line ≡ Err causes.Word
   fails_word h =
@@ -274,7 +308,17 @@ module _ (s : Progress) (line : List ℕ) where
   fails_order h = line_at-misplaced s line (name h.word) h.others ((Decides-formed line).1 h.formed) h.begins.1 h.word (word_of-name s.version h.word h.begins.0) (false_from_ne_true (may_stand h.word s.stage (eqb s.stood s.setup.lanes)) h.order)
 
   fails_number : NumberFails s line → line_at s line ≡ Err causes.Number
-  fails_number h = line_at-no_numbers s line (name h.word) h.others ((Decides-formed line).1 h.formed) h.begins.1 h.word (word_of-name s.version h.word h.begins.0) h.stands ((Decides-count h.word (length h.others)).1 h.count) (none_from h.others h.number)
+  fails_number h =
+      let formed = (Decides-formed line).1 h.formed in
+      let is = word_of-name s.version h.word h.begins.0 in
+      let count = (Decides-count h.word (length (counted s.version h.word h.others))).1 h.count in
+      elim (cases_Option (read_shift s.version h.word h.others)) [
+        | inl none ↦ line_at-no_shift s line (name h.word) h.others formed h.begins.1 h.word is h.stands count none
+        | inr (shift, signs) ↦ elim (cases_Option (read_numbers (counted s.version h.word h.others))) [
+          | inl none ↦ line_at-no_numbers s line (name h.word) h.others formed h.begins.1 h.word is h.stands count none
+          | inr (ns, numbers) ↦ absurd (h.number (all_numerals s.version h.word h.others shift ns signs numbers))
+        ]
+      ]
 
   fails_range : RangeFails s line → line_at s line ≡ Err causes.Range
   unfolding judge_line

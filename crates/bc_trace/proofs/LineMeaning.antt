@@ -1,5 +1,5 @@
 -- What the tests of counts and ranges mean.
-use Rattle.std.proofs.Common.{◌≡◌, ℕ, ◌^◌, ◌<◌, true, ◌&&◌, ltb, List, [], ◌∷◌, length, get_or, refl, ap, arith}
+use Rattle.std.proofs.Common.{◌≡◌, ℕ, ◌+◌, ◌^◌, ◌<◌, true, ◌&&◌, ltb, List, [], ◌∷◌, length, get_or, refl, ap, arith}
 use Rattle.std.specs.Bool.{Decides}
 use Rattle.std.specs.List.{AllByRecursion, list_all}
 use Rattle.std.proofs.lemmas.Bool.{leb-true, le-leb}
@@ -10,13 +10,15 @@ use Rattle.bc_model.specs.declared.operations.Op.TheVariants as ops
 use Rattle.bc_model.specs.declared.traces.Setup.{Setup}
 use Rattle.bc_model.specs.declared.values.Slot.{Slot}
 use Rattle.bc_trace.specs.declared.grammar.Progress.{Progress}
+use Rattle.bc_trace.specs.declared.line.Shift.{Shift}
+use Rattle.bc_trace.specs.declared.line.Shift.TheVariants as shifts
 use Rattle.bc_trace.specs.declared.words.Setting.TheVariants as settings
 use Rattle.bc_trace.specs.declared.words.Verb.TheVariants as verbs
 use Rattle.bc_trace.specs.declared.words.Keyword.{Keyword}
 use Rattle.bc_trace.specs.declared.words.Keyword.TheVariants as words
-use Rattle.bc_trace.specs.Lines.{Line, version, setting, phase, turn, lane, op, give, freeze, end, done, word_of_line, operands}
-use Rattle.bc_trace.specs.Grammar.{arity, IsCount, InRange, FramesFit}
-use Rattle.bc_trace.specs.Reading.{has_count, line_of, is_slot, is_op, is_setting, in_range, least_frames, most_frames, frames_fit}
+use Rattle.bc_trace.specs.Lines.{Line, version, setting, phase, turn, lane, op, give, freeze, end, done, word_of_line, shift_of, operands}
+use Rattle.bc_trace.specs.Grammar.{arity, IsCount, ShiftInRange, ShiftFits, InRange, FramesFit}
+use Rattle.bc_trace.specs.Reading.{has_count, line_of, is_slot, is_op, is_setting, shift_in_range, in_range, least_frames, most_frames, shift_fits, frames_fit}
 use Rattle.bc_trace.proofs.Meaning.{Decides-within}
 
 -- ---- counts
@@ -63,54 +65,67 @@ numbers_5 : (ns : List ℕ) → length ns ≡ 5 → at ns 0 ∷ at ns 1 ∷ at n
 numbers_5 [] e = absurd (omega arith)
 numbers_5 (a ∷ ns) e = ap (λ (ms : List ℕ). a ∷ ms) (numbers_4 ns (omega arith))
 
-pub word_of_line-line_of : (w : Keyword) (ns : List ℕ) → word_of_line (line_of w ns) ≡ w
-word_of_line-line_of words.Version ns = refl
-word_of_line-line_of (words.Setting k) ns = refl
-word_of_line-line_of words.Phase ns = refl
-word_of_line-line_of words.Turn ns = refl
-word_of_line-line_of words.Lane ns = refl
-word_of_line-line_of words.Give ns = refl
-word_of_line-line_of words.Freeze ns = refl
-word_of_line-line_of words.End ns = refl
-word_of_line-line_of words.Done ns = refl
-word_of_line-line_of (words.Op verbs.New) ns = refl
-word_of_line-line_of (words.Op verbs.Who) ns = refl
-word_of_line-line_of (words.Op verbs.Len) ns = refl
-word_of_line-line_of (words.Op verbs.Set) ns = refl
-word_of_line-line_of (words.Op verbs.Cut) ns = refl
-word_of_line-line_of (words.Op verbs.Link) ns = refl
-word_of_line-line_of (words.Op verbs.Load) ns = refl
-word_of_line-line_of (words.Op verbs.Copy) ns = refl
-word_of_line-line_of (words.Op verbs.Clear) ns = refl
-word_of_line-line_of (words.Op verbs.Same) ns = refl
+pub word_of_line-line_of : (w : Keyword) (shift : Shift) (ns : List ℕ) → word_of_line (line_of w shift ns) ≡ w
+word_of_line-line_of words.Version shift ns = refl
+word_of_line-line_of (words.Setting k) shift ns = refl
+word_of_line-line_of words.Phase shift ns = refl
+word_of_line-line_of words.Turn shift ns = refl
+word_of_line-line_of words.Lane shift ns = refl
+word_of_line-line_of words.Give shift ns = refl
+word_of_line-line_of words.Freeze shift ns = refl
+word_of_line-line_of words.End shift ns = refl
+word_of_line-line_of words.Done shift ns = refl
+word_of_line-line_of (words.Op verbs.New) shift ns = refl
+word_of_line-line_of (words.Op verbs.Who) shift ns = refl
+word_of_line-line_of (words.Op verbs.Len) shift ns = refl
+word_of_line-line_of (words.Op verbs.Set) shift ns = refl
+word_of_line-line_of (words.Op verbs.Cut) shift ns = refl
+word_of_line-line_of (words.Op verbs.Link) shift ns = refl
+word_of_line-line_of (words.Op verbs.Load) shift ns = refl
+word_of_line-line_of (words.Op verbs.Copy) shift ns = refl
+word_of_line-line_of (words.Op verbs.Clear) shift ns = refl
+word_of_line-line_of (words.Op verbs.Same) shift ns = refl
 
-pub operands-line_of : (w : Keyword) (ns : List ℕ) → IsCount w (length ns) → operands (line_of w ns) ≡ ns
+pub operands-line_of : (w : Keyword) (shift : Shift) (ns : List ℕ) → IsCount w (length ns) → operands (line_of w shift ns) ≡ ns
 unfolding arity
-operands-line_of words.Version ns e = numbers_1 ns e
-operands-line_of (words.Setting k) ns e = numbers_1 ns e
-operands-line_of words.Phase ns e = numbers_0 ns e
-operands-line_of words.Turn ns e = refl
-operands-line_of words.Lane ns e = numbers_1 ns e
-operands-line_of words.Give ns e = numbers_2 ns e
-operands-line_of words.Freeze ns e = numbers_1 ns e
-operands-line_of words.End ns e = numbers_0 ns e
-operands-line_of words.Done ns e = numbers_0 ns e
-operands-line_of (words.Op verbs.New) ns e = numbers_3 ns e
-operands-line_of (words.Op verbs.Who) ns e = numbers_2 ns e
-operands-line_of (words.Op verbs.Len) ns e = numbers_2 ns e
-operands-line_of (words.Op verbs.Set) ns e = numbers_4 ns e
-operands-line_of (words.Op verbs.Cut) ns e = numbers_3 ns e
-operands-line_of (words.Op verbs.Link) ns e = numbers_5 ns e
-operands-line_of (words.Op verbs.Load) ns e = numbers_5 ns e
-operands-line_of (words.Op verbs.Copy) ns e = numbers_4 ns e
-operands-line_of (words.Op verbs.Clear) ns e = numbers_2 ns e
-operands-line_of (words.Op verbs.Same) ns e = numbers_4 ns e
+operands-line_of words.Version shift ns e = numbers_1 ns e
+operands-line_of (words.Setting k) shift ns e = numbers_1 ns e
+operands-line_of words.Phase shift ns e = numbers_0 ns e
+operands-line_of words.Turn shift ns e = refl
+operands-line_of words.Lane shift ns e = numbers_1 ns e
+operands-line_of words.Give shift ns e = numbers_2 ns e
+operands-line_of words.Freeze shift ns e = numbers_1 ns e
+operands-line_of words.End shift ns e = numbers_0 ns e
+operands-line_of words.Done shift ns e = numbers_0 ns e
+operands-line_of (words.Op verbs.New) shift ns e = numbers_3 ns e
+operands-line_of (words.Op verbs.Who) shift ns e = numbers_2 ns e
+operands-line_of (words.Op verbs.Len) shift ns e = numbers_2 ns e
+operands-line_of (words.Op verbs.Set) shift ns e = numbers_4 ns e
+operands-line_of (words.Op verbs.Cut) shift ns e = numbers_3 ns e
+operands-line_of (words.Op verbs.Link) shift ns e = numbers_5 ns e
+operands-line_of (words.Op verbs.Load) shift ns e = numbers_5 ns e
+operands-line_of (words.Op verbs.Copy) shift ns e = numbers_4 ns e
+operands-line_of (words.Op verbs.Clear) shift ns e = numbers_2 ns e
+operands-line_of (words.Op verbs.Same) shift ns e = numbers_4 ns e
 
-pub line_of-line : (l : Line) → line_of (word_of_line l) (operands l) ≡ l
+-- no line but a turn's does anything to the withheld frames
+pub shift_of-line_of : (w : Keyword) (ns : List ℕ) → shift_of (line_of w shifts.Stays ns) ≡ shifts.Stays
+shift_of-line_of words.Version ns = refl
+shift_of-line_of (words.Setting k) ns = refl
+shift_of-line_of words.Phase ns = refl
+shift_of-line_of words.Turn ns = refl
+shift_of-line_of words.Lane ns = refl
+shift_of-line_of words.Give ns = refl
+shift_of-line_of words.Freeze ns = refl
+shift_of-line_of words.End ns = refl
+shift_of-line_of words.Done ns = refl
+shift_of-line_of (words.Op v) ns = refl
+
+pub line_of-line : (l : Line) → line_of (word_of_line l) (shift_of l) (operands l) ≡ l
 line_of-line (version n) = refl
 line_of-line (setting k n) = refl
 line_of-line phase = refl
-line_of-line (turn hints) = refl
+line_of-line (turn shift hints) = refl
 line_of-line (lane j) = refl
 line_of-line (op (ops.New p n)) = refl
 line_of-line (op (ops.Who p)) = refl
@@ -152,9 +167,19 @@ Decides-hints (n ∷ ns) = Decides-and (ltb n (2 ^ 32)) (list_all (λ h. ltb h (
 always : Decides true (Unit {0})
 always = (λ e. tt, λ h. refl)
 
+Decides-shift : (shift : Shift) → Decides (shift_in_range shift) (ShiftInRange shift)
+Decides-shift shifts.Stays = always
+Decides-shift (shifts.Withhold k) = Decides-within 1 16640 k
+Decides-shift (shifts.Return k) = Decides-within 1 16640 k
+
+Decides-fits : (s : Progress) (shift : Shift) → Decides (shift_fits s shift) (ShiftFits s shift)
+Decides-fits s shifts.Stays = always
+Decides-fits s (shifts.Withhold k) = (leb-true (least_frames s.setup + (s.withheld + k)) s.setup.frames, le-leb (least_frames s.setup + (s.withheld + k)) s.setup.frames)
+Decides-fits s (shifts.Return k) = (leb-true k s.withheld, le-leb k s.withheld)
+
 pub Decides-range : (s : Progress) (l : Line) → Decides (in_range s l) (InRange s l)
 unfolding in_range is_setting
-Decides-range s (version n) = Decides-within 1 2 n
+Decides-range s (version n) = Decides-within 1 3 n
 Decides-range s (setting settings.Lanes n) = Decides-within 1 16 n
 Decides-range s (setting settings.Domains n) = Decides-within 1 64 n
 Decides-range s (setting settings.Slots n) = Decides-within 1 256 n
@@ -163,7 +188,7 @@ Decides-range s (setting settings.Nursery n) = Decides-within 1 16 n
 Decides-range s (setting settings.Buffer n) = Decides-within 1 4096 n
 Decides-range s (setting settings.Frames n) = always
 Decides-range s phase = always
-Decides-range s (turn hints) = Decides-hints hints
+Decides-range s (turn shift hints) = Decides-and (shift_in_range shift) (list_all (λ h. ltb h (2 ^ 32)) hints) (Decides-shift shift) (Decides-hints hints)
 Decides-range s (lane j) = Decides-eqb j s.stood
 Decides-range s (op o) = Decides-op s.setup o
 Decides-range s (give g) = Decides-and (ltb g.domain s.setup.domains) (ltb g.lane s.setup.lanes) (Decides-ltb g.domain s.setup.domains) (Decides-ltb g.lane s.setup.lanes)
@@ -182,7 +207,7 @@ Decides-frames s (setting settings.Nursery n) = always
 Decides-frames s (setting settings.Buffer n) = always
 Decides-frames s (setting settings.Frames n) = Decides-within (least_frames s.setup) (most_frames s.setup) n
 Decides-frames s phase = always
-Decides-frames s (turn hints) = always
+Decides-frames s (turn shift hints) = Decides-fits s shift
 Decides-frames s (lane j) = always
 Decides-frames s (op o) = always
 Decides-frames s (give g) = always

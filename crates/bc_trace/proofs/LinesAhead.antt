@@ -9,11 +9,12 @@ use Rattle.bc_model.specs.declared.operations.Op.TheVariants as ops
 use Rattle.bc_model.specs.declared.traces.Give.{Give}
 use Rattle.bc_trace.specs.declared.grammar.Stage.TheVariants as stages
 use Rattle.bc_trace.specs.declared.grammar.Progress.{Progress}
+use Rattle.bc_trace.specs.declared.line.Shift.TheVariants as shifts
 use Rattle.bc_trace.specs.declared.words.Verb.{Verb}
 use Rattle.bc_trace.specs.declared.words.Keyword.{Keyword}
 use Rattle.bc_trace.specs.declared.words.Keyword.TheVariants as words
 use Rattle.bc_trace.specs.Words.{name, verb_name}
-use Rattle.bc_trace.specs.Lines.{Line, phase, turn, lane, op, give, end, word_of_line, operands, verb_of_op, operands_of_op, spelling, line_text}
+use Rattle.bc_trace.specs.Lines.{Line, phase, turn, lane, op, give, end, word_of_line, shift_of, operands, verb_of_op, operands_of_op, spelling, line_text}
 use Rattle.bc_trace.specs.Grammar.{may_stand, arity, IsCount, Passes}
 use Rattle.bc_trace.specs.Drafts.{DraftLists, put}
 use Rattle.bc_trace.specs.Reading.{lines_of, reading, line_at}
@@ -25,7 +26,7 @@ use Rattle.bc_trace.proofs.Lengths.{line_some}
 
 -- ---- the text of a line, piece by piece
 
-pub text_of : (w : Keyword) (ns : List ℕ) (text operands after rest : List ℕ) → text ≡ name w ++ operands → operands ≡ operands_text ns ++ after → after ≡ 10 ∷ rest → text ≡ (spelling w ns ++ 10 ∷ []) ++ rest
+pub text_of : (w : Keyword) (ns : List ℕ) (text operands after rest : List ℕ) → text ≡ name w ++ operands → operands ≡ operands_text ns ++ after → after ≡ 10 ∷ rest → text ≡ (spelling w shifts.Stays ns ++ 10 ∷ []) ++ rest
 unfolding spelling operands_text
 text_of w ns text operands after rest begins numbers feed =
     begins
@@ -33,9 +34,9 @@ text_of w ns text operands after rest begins numbers feed =
     ∙ sym (append_assoc (name w) (operands_text ns) (10 ∷ rest))
     ∙ sym (append_assoc (name w ++ operands_text ns) (10 ∷ []) rest)
 
-pub line_text_of : (l : Line) (text operands' after rest : List ℕ) → text ≡ name (word_of_line l) ++ operands' → operands' ≡ operands_text (operands l) ++ after → after ≡ 10 ∷ rest → text ≡ line_text l ++ rest
+pub line_text_of : (l : Line) (text operands' after rest : List ℕ) → shift_of l ≡ shifts.Stays → text ≡ name (word_of_line l) ++ operands' → operands' ≡ operands_text (operands l) ++ after → after ≡ 10 ∷ rest → text ≡ line_text l ++ rest
 unfolding line_text
-line_text_of l text operands' after rest begins numbers feed = text_of (word_of_line l) (operands l) text operands' after rest begins numbers feed
+line_text_of l text operands' after rest stays begins numbers feed = rw stays (text_of (word_of_line l) (operands l) text operands' after rest begins numbers feed)
 
 pub name-verb : (v : Verb) → name (words.Op v) ≡ verb_name v
 unfolding name
@@ -79,11 +80,11 @@ count-op (ops.Same p q) = refl
 
 pub op_passes : (s : Progress) (o : Op) → s.stage ≡ stages.Ops → IsOp s.setup o → AllByRecursion IsNumber (operands_of_op o) → Passes s (op o)
 unfolding may_stand
-op_passes s o stage range numbers = record { known = tt; stands = rw stage refl; count = count-op o; numbers = numbers; range = range; frames = tt }
+op_passes s o stage range numbers = record { known = (tt, tt); stands = rw stage refl; count = count-op o; numbers = numbers; range = range; frames = tt }
 
-pub turn_passes : (s : Progress) (hints : List ℕ) → s.stage ≡ stages.Turns → length hints ≤ 64 → AllByRecursion (λ h. h < 2 ^ 32) hints → Passes s (turn hints)
+pub turn_passes : (s : Progress) (hints : List ℕ) → s.stage ≡ stages.Turns → length hints ≤ 64 → AllByRecursion (λ h. h < 2 ^ 32) hints → Passes s (turn shifts.Stays hints)
 unfolding may_stand
-turn_passes s hints stage few range = record { known = tt; stands = rw stage refl; count = few; numbers = fit hints range; range = range; frames = tt } where
+turn_passes s hints stage few range = record { known = (tt, tt); stands = rw stage refl; count = few; numbers = fit hints range; range = (tt, range); frames = tt } where
   fit : (ns : List ℕ) → AllByRecursion (λ h. h < 2 ^ 32) ns → AllByRecursion IsNumber ns
   fit [] h = tt
   fit (n ∷ ns) h = (omega (arith, h.0), fit ns h.1)
@@ -94,42 +95,42 @@ module _ (s : Progress) (text operands after rest : List ℕ) (feed : after ≡ 
   pub op_is_ahead : (o : Op) (v : Verb) → s.stage ≡ stages.Ops → IsOp s.setup o → verb_of_op o ≡ v → AllByRecursion IsNumber (operands_of_op o) → text ≡ verb_name v ++ operands → operands ≡ operands_text (operands_of_op o) ++ after → IsAhead s text (op o) rest
   op_is_ahead o v stage range verb numbers begins spelled = record {
     passes = op_passes s o stage range numbers;
-    begins = line_text_of (op o) text operands after rest (rw (name-verb (verb_of_op o), verb) begins) spelled feed;
+    begins = line_text_of (op o) text operands after rest refl (rw (name-verb (verb_of_op o), verb) begins) spelled feed;
   }
 
-  pub turn_is_ahead : (hints : List ℕ) → s.stage ≡ stages.Turns → length hints ≤ 64 → AllByRecursion (λ h. h < 2 ^ 32) hints → text ≡ name words.Turn ++ operands → operands ≡ operands_text hints ++ after → IsAhead s text (turn hints) rest
+  pub turn_is_ahead : (hints : List ℕ) → s.stage ≡ stages.Turns → length hints ≤ 64 → AllByRecursion (λ h. h < 2 ^ 32) hints → text ≡ name words.Turn ++ operands → operands ≡ operands_text hints ++ after → IsAhead s text (turn shifts.Stays hints) rest
   turn_is_ahead hints stage few range begins spelled = record {
     passes = turn_passes s hints stage few range;
-    begins = line_text_of (turn hints) text operands after rest begins spelled feed;
+    begins = line_text_of (turn shifts.Stays hints) text operands after rest refl begins spelled feed;
   }
 
 module _ (s : Progress) (text rest : List ℕ) where
   pub phase_is_ahead : (after : List ℕ) → may_stand words.Phase s.stage (eqb s.stood s.setup.lanes) ≡ true → text ≡ name words.Phase ++ after → after ≡ 10 ∷ rest → IsAhead s text phase rest
   unfolding arity operands_text
   phase_is_ahead after stands begins feed = record {
-    passes = record { known = tt; stands = stands; count = refl; numbers = tt; range = tt; frames = tt };
-    begins = line_text_of phase text after after rest begins refl feed;
+    passes = record { known = (tt, tt); stands = stands; count = refl; numbers = tt; range = tt; frames = tt };
+    begins = line_text_of phase text after after rest refl begins refl feed;
   }
 
   pub end_is_ahead : (after : List ℕ) → may_stand words.End s.stage (eqb s.stood s.setup.lanes) ≡ true → text ≡ name words.End ++ after → after ≡ 10 ∷ rest → IsAhead s text end rest
   unfolding arity operands_text
   end_is_ahead after stands begins feed = record {
-    passes = record { known = tt; stands = stands; count = refl; numbers = tt; range = tt; frames = tt };
-    begins = line_text_of end text after after rest begins refl feed;
+    passes = record { known = (tt, tt); stands = stands; count = refl; numbers = tt; range = tt; frames = tt };
+    begins = line_text_of end text after after rest refl begins refl feed;
   }
 
   pub lane_is_ahead : (j : ℕ) (numbers after : List ℕ) → may_stand words.Lane s.stage (eqb s.stood s.setup.lanes) ≡ true → IsNumber j → j ≡ s.stood → text ≡ name words.Lane ++ numbers → numbers ≡ 32 ∷ (decimal j ++ after) → after ≡ 10 ∷ rest → IsAhead s text (lane j) rest
   unfolding arity operands_text
   lane_is_ahead j numbers after stands number next begins spelled feed = record {
-    passes = record { known = tt; stands = stands; count = refl; numbers = (number, tt); range = next; frames = tt };
-    begins = line_text_of (lane j) text numbers after rest begins (spelled ∙ operands-more [] j after) feed;
+    passes = record { known = (tt, tt); stands = stands; count = refl; numbers = (number, tt); range = next; frames = tt };
+    begins = line_text_of (lane j) text numbers after rest refl begins (spelled ∙ operands-more [] j after) feed;
   }
 
   pub give_is_ahead : (g : Give) (numbers lanes after : List ℕ) → may_stand words.Give s.stage (eqb s.stood s.setup.lanes) ≡ true → IsGive s.setup g → IsNumber g.domain → IsNumber g.lane → text ≡ name words.Give ++ numbers → numbers ≡ 32 ∷ (decimal g.domain ++ lanes) → lanes ≡ 32 ∷ (decimal g.lane ++ after) → after ≡ 10 ∷ rest → IsAhead s text (give g) rest
   unfolding arity operands_text
   give_is_ahead g numbers lanes after stands range small_domain small_lane begins first second feed = record {
-    passes = record { known = tt; stands = stands; count = refl; numbers = (small_domain, (small_lane, tt)); range = range; frames = tt };
-    begins = line_text_of (give g) text numbers after rest begins (first ∙ operands-more [] g.domain lanes ∙ ap (λ t. operands_text (g.domain ∷ []) ++ t) second ∙ operands-more (g.domain ∷ []) g.lane after) feed;
+    passes = record { known = (tt, tt); stands = stands; count = refl; numbers = (small_domain, (small_lane, tt)); range = range; frames = tt };
+    begins = line_text_of (give g) text numbers after rest refl begins (first ∙ operands-more [] g.domain lanes ∙ ap (λ t. operands_text (g.domain ∷ []) ++ t) second ∙ operands-more (g.domain ∷ []) g.lane after) feed;
   }
 
 -- ---- after the line
@@ -139,15 +140,15 @@ module _ {s : Progress} {text rest : List ℕ} {l : Line} (h : IsAhead s text l 
   shorter_ahead = omega (arith, ap (λ (bs : List ℕ). length bs) h.begins, length-append (line_text l) rest, line_some l)
 
 module _ (d d' : DraftLists) (n : ℕ) (text rest : List ℕ) (l : Line) (h : IsAhead d.progress text l rest) (is : d' ≡ put l d) where
-  says : line_at d.progress (spelling (word_of_line l) (operands l)) ≡ Ok l
+  says : line_at d.progress (spelling (word_of_line l) (shift_of l) (operands l)) ≡ Ok l
   says = read_again d.progress l h.passes
 
   -- the reader goes on to the same answer
   pub went_ahead : reading d' (n + 1) (lines_of rest) ≡ reading d n (lines_of text)
-  went_ahead = went_on d d' n (spelling (word_of_line l) (operands l)) text rest l (reading d n (lines_of text)) (ap lines_of h.begins ∙ lines_of-text l rest h.passes.numbers) says is refl
+  went_ahead = went_on d d' n (spelling (word_of_line l) (shift_of l) (operands l)) text rest l (reading d n (lines_of text)) (ap lines_of h.begins ∙ lines_of-text l rest h.passes.numbers) says is refl
 
   pub IsSmall-ahead : IsSmall d.progress n → IsSmall d'.progress (n + 1)
-  IsSmall-ahead small = small_on d d' n (spelling (word_of_line l) (operands l)) l says is small
+  IsSmall-ahead small = small_on d d' n (spelling (word_of_line l) (shift_of l) (operands l)) l says is small
 
 -- more lines may have been read
 pub IsSmall-more : (s : Progress) (n m : ℕ) → n ≤ m → IsSmall s n → IsSmall s m

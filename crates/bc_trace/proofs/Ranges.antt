@@ -23,7 +23,7 @@ IsSmall-after (setting settings.Nursery v) s n e h = record { lanes = h.lanes; n
 IsSmall-after (setting settings.Buffer v) s n e h = record { lanes = h.lanes; nursery = h.nursery; superpages = h.superpages; stood = omega (arith, h.stood) }
 IsSmall-after (setting settings.Frames v) s n e h = record { lanes = h.lanes; nursery = h.nursery; superpages = h.superpages; stood = omega (arith, h.stood) }
 IsSmall-after phase s n e h = record { lanes = h.lanes; nursery = h.nursery; superpages = h.superpages; stood = omega arith }
-IsSmall-after (turn hints) s n e h = record { lanes = h.lanes; nursery = h.nursery; superpages = h.superpages; stood = omega (arith, h.stood) }
+IsSmall-after (turn shift hints) s n e h = record { lanes = h.lanes; nursery = h.nursery; superpages = h.superpages; stood = omega (arith, h.stood) }
 IsSmall-after (lane j) s n e h = record { lanes = h.lanes; nursery = h.nursery; superpages = h.superpages; stood = omega (arith, h.stood) }
 IsSmall-after (op o) s n e h = record { lanes = h.lanes; nursery = h.nursery; superpages = h.superpages; stood = omega (arith, h.stood) }
 IsSmall-after (give g) s n e h = record { lanes = h.lanes; nursery = h.nursery; superpages = h.superpages; stood = omega (arith, h.stood) }

@@ -14,9 +14,11 @@ use Rattle.bc_trace.specs.declared.fault.TraceFault.{TraceFault}
 use Rattle.bc_trace.specs.declared.grammar.Stage.{Stage}
 use Rattle.bc_trace.specs.declared.grammar.Stage.TheVariants as stages
 use Rattle.bc_trace.specs.declared.grammar.Progress.{Progress}
+use Rattle.bc_trace.specs.declared.line.Shift.{Shift}
+use Rattle.bc_trace.specs.declared.line.Shift.TheVariants as shifts
 use Rattle.bc_trace.specs.declared.words.Keyword.{Keyword}
 use Rattle.bc_trace.specs.Words.{name}
-use Rattle.bc_trace.specs.Lines.{Line, word_of_line, operands, spelling, line_text}
+use Rattle.bc_trace.specs.Lines.{Line, word_of_line, shift_of, shift_words, shift_numbers, operands, numbers_of, spelling, line_text}
 use Rattle.bc_trace.specs.Grammar.{start, Passes, after_all, Follow}
 use Rattle.bc_trace.specs.Faults.{IsWord, Fails, FaultOfLine, FaultAtEnd, EndFails, lines_begun, Fault}
 use Rattle.bc_trace.specs.Drafts.{DraftLists, empty_draft, put}
@@ -50,15 +52,28 @@ clear_operands : (ns : List ℕ) → AllByRecursion IsWord (map decimal ns) → 
 clear_operands [] h = tt
 clear_operands (n ∷ ns) h = clear-append (32 ∷ decimal n) (flat_map (λ n. 32 ∷ decimal n) ns) ((λ e. absurd (omega arith)), clear_word (decimal n) (visible (decimal n) h.0)) (clear_operands ns h.1)
 
-pub clear_spelling : (w : Keyword) (ns : List ℕ) → AllByRecursion IsNumber ns → IsClear (spelling w ns)
-unfolding spelling
-clear_spelling w ns h = clear-append (name w) (flat_map (λ n. 32 ∷ decimal n) ns) (clear_word (name w) (visible (name w) (IsWord-name w))) (clear_operands ns (are_words ns h))
+clear_shift : (shift : Shift) → AllByRecursion IsNumber (shift_numbers shift) → IsClear (flat_map (λ word. 32 ∷ word) (shift_words shift))
+clear_shift shifts.Stays h = tt
+clear_shift (shifts.Withhold k) h = (λ e. absurd (omega arith), (λ e. absurd (omega arith), clear-append (decimal k) [] (clear_word (decimal k) (visible (decimal k) (are_words (k ∷ []) h).0)) tt))
+clear_shift (shifts.Return k) h = (λ e. absurd (omega arith), (λ e. absurd (omega arith), clear-append (decimal k) [] (clear_word (decimal k) (visible (decimal k) (are_words (k ∷ []) h).0)) tt))
 
-pub lines_of-text : (l : Line) (rest : List ℕ) → AllByRecursion IsNumber (operands l) → lines_of (line_text l ++ rest) ≡ spelling (word_of_line l) (operands l) ∷ lines_of rest
+both_parts : (xs ys : List ℕ) → AllByRecursion IsNumber (xs ++ ys) → AllByRecursion IsNumber xs × AllByRecursion IsNumber ys
+both_parts [] ys h = (tt, h)
+both_parts (x ∷ xs) ys h = let rest = both_parts xs ys h.1 in ((h.0, rest.0), rest.1)
+
+pub clear_spelling : (w : Keyword) (shift : Shift) (ns : List ℕ) → AllByRecursion IsNumber (shift_numbers shift ++ ns) → IsClear (spelling w shift ns)
+unfolding spelling
+clear_spelling w shift ns h =
+    let parts = both_parts (shift_numbers shift) ns h in
+    let signed = flat_map (λ word. 32 ∷ word) (shift_words shift) in
+    let plain = flat_map (λ n. 32 ∷ decimal n) ns in
+    clear-append (name w) (signed ++ plain) (clear_word (name w) (visible (name w) (IsWord-name w))) (clear-append signed plain (clear_shift shift parts.0) (clear_operands ns (are_words ns parts.1)))
+
+pub lines_of-text : (l : Line) (rest : List ℕ) → AllByRecursion IsNumber (numbers_of l) → lines_of (line_text l ++ rest) ≡ spelling (word_of_line l) (shift_of l) (operands l) ∷ lines_of rest
 unfolding line_text
 lines_of-text l rest h =
-    ap lines_of (append_assoc (spelling (word_of_line l) (operands l)) (10 ∷ []) rest)
-    ∙ lines_of-line (spelling (word_of_line l) (operands l)) rest (clear_spelling (word_of_line l) (operands l) h)
+    ap lines_of (append_assoc (spelling (word_of_line l) (shift_of l) (operands l)) (10 ∷ []) rest)
+    ∙ lines_of-line (spelling (word_of_line l) (shift_of l) (operands l)) rest (clear_spelling (word_of_line l) (shift_of l) (operands l) h)
 
 -- ---- lines that pass are read
 
@@ -74,8 +89,8 @@ pub forward : (ls : List Line) (d : DraftLists) (n : ℕ) (rest : List ℕ) → 
 forward [] d n rest h = ap (λ k. reading d k (lines_of rest)) (omega arith)
 forward (l ∷ ls) d n rest h =
     let more = flat_map line_text ls ++ rest in
-    let cut : lines_of (flat_map line_text (l ∷ ls) ++ rest) ≡ spelling (word_of_line l) (operands l) ∷ lines_of more = ap lines_of (append_assoc (line_text l) (flat_map line_text ls) rest) ∙ lines_of-text l more h.0.numbers in
-    let go = reading-go d n (spelling (word_of_line l) (operands l)) (lines_of more) l (lines_of-some more) (read_again d.progress l h.0) in
+    let cut : lines_of (flat_map line_text (l ∷ ls) ++ rest) ≡ spelling (word_of_line l) (shift_of l) (operands l) ∷ lines_of more = ap lines_of (append_assoc (line_text l) (flat_map line_text ls) rest) ∙ lines_of-text l more h.0.numbers in
+    let go = reading-go d n (spelling (word_of_line l) (shift_of l) (operands l)) (lines_of more) l (lines_of-some more) (read_again d.progress l h.0) in
     let count : n + 1 + length ls ≡ n + suc (length ls) = omega arith in
     ap (λ (ps : List (List ℕ)). reading d n ps) cut ∙ go ∙ forward ls (put l d) (n + 1) rest h.1 ∙ ap (λ k. reading (put_all (put l d) ls) k (lines_of rest)) count
 
@@ -194,11 +209,11 @@ verdict_end d n rest clear e =
       | inr isnt ↦ unfinished d n rest clear isnt e
     ]
 
-front : (line : List ℕ) (l : Line) (bytes rest : List ℕ) → line ≡ spelling (word_of_line l) (operands l) → bytes ≡ rest → line ++ 10 ∷ bytes ≡ line_text l ++ rest
+front : (line : List ℕ) (l : Line) (bytes rest : List ℕ) → line ≡ spelling (word_of_line l) (shift_of l) (operands l) → bytes ≡ rest → line ++ 10 ∷ bytes ≡ line_text l ++ rest
 unfolding line_text
-front line l bytes rest e h = rw (e, h) (sym (append_assoc (spelling (word_of_line l) (operands l)) (10 ∷ []) rest))
+front line l bytes rest e h = rw (e, h) (sym (append_assoc (spelling (word_of_line l) (shift_of l) (operands l)) (10 ∷ []) rest))
 
-module _ (d : DraftLists) (n : ℕ) (line : List ℕ) (l : Line) (parts : List (List ℕ)) (some : 0 < length parts) (says : line_at d.progress line ≡ Ok l) (text : line ≡ spelling (word_of_line l) (operands l)) (passes : Passes d.progress l) where
+module _ (d : DraftLists) (n : ℕ) (line : List ℕ) (l : Line) (parts : List (List ℕ)) (some : 0 < length parts) (says : line_at d.progress line ≡ Ok l) (text : line ≡ spelling (word_of_line l) (shift_of l) (operands l)) (passes : Passes d.progress l) where
   one_more : line ++ 10 ∷ join_with_byte 10 parts ≡ join_with_byte 10 (line ∷ parts) → Verdict (put l d) (n + 1) parts → Verdict d n (line ∷ parts)
   one_more join (inl (t, e, h)) = inl (
     t,

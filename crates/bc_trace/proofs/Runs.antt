@@ -9,11 +9,12 @@ use Rattle.bc_trace.specs.declared.grammar.Progress.{Progress}
 use Rattle.bc_trace.specs.declared.words.Keyword.{Keyword}
 use Rattle.bc_trace.specs.Lines.{Line}
 use Rattle.bc_trace.specs.Grammar.{may_stand}
-use Rattle.bc_trace.specs.Faults.{line_words}
+use Rattle.bc_trace.specs.declared.line.Shift.{Shift}
+use Rattle.bc_trace.specs.Faults.{line_words, counted}
 use Rattle.bc_trace.specs.Said.{IsSmall}
 use Rattle.bc_trace.proofs.Ranges.{IsSmall-after}
 use Rattle.bc_trace.specs.Drafts.{DraftLists, empty_draft, put}
-use Rattle.bc_trace.specs.Reading.{formed_from, word_of, has_count, in_range, frames_fit, read_numbers, line_of, judge_line, judge_numbers, judge_word, judge_words, line_at, lines_of, fault, ended, reading, read_of}
+use Rattle.bc_trace.specs.Reading.{formed_from, word_of, has_count, in_range, frames_fit, read_shift, read_numbers, line_of, judge_line, judge_numbers, judge_word, judge_words, line_at, lines_of, fault, ended, reading, read_of}
 
 pub lines_of-some : (bytes : List ℕ) → 0 < length (lines_of bytes)
 lines_of-some bytes = omega (arith, length-slice_split (λ b. eqb b 10) bytes)
@@ -47,17 +48,18 @@ judge_line-range s l says e = go (in_range s l) (frames_fit s l) refl e where
   go true false is e = absurd cc
   go true true is e = let same : l ≡ says = cc in rw (← same) is
 
-judge_numbers-range : (s : Progress) (w : Keyword) (ns : Option (List ℕ)) (says : Line) → judge_numbers s w ns ≡ Ok says → in_range s says ≡ true
-judge_numbers-range s w None says e = absurd cc
-judge_numbers-range s w (Some ns) says e = judge_line-range s (line_of w ns) says e
+judge_numbers-range : (s : Progress) (w : Keyword) (shift : Option Shift) (ns : Option (List ℕ)) (says : Line) → judge_numbers s w shift ns ≡ Ok says → in_range s says ≡ true
+judge_numbers-range s w None ns says e = absurd cc
+judge_numbers-range s w (Some shift) None says e = absurd cc
+judge_numbers-range s w (Some shift) (Some ns) says e = judge_line-range s (line_of w shift ns) says e
 
 judge_word-range : (s : Progress) (o : Option Keyword) (others : List (List ℕ)) (says : Line) → judge_word s o others ≡ Ok says → in_range s says ≡ true
 judge_word-range s None others says e = absurd cc
-judge_word-range s (Some w) others says e = go (may_stand w s.stage (eqb s.stood s.setup.lanes)) (has_count w (length others)) e where
-  go : (a b : Bool) → cond a (cond b (judge_numbers s w (read_numbers others)) (Err causes.Form)) (Err causes.Order) ≡ Ok says → in_range s says ≡ true
+judge_word-range s (Some w) others says e = go (may_stand w s.stage (eqb s.stood s.setup.lanes)) (has_count w (length (counted s.version w others))) e where
+  go : (a b : Bool) → cond a (cond b (judge_numbers s w (read_shift s.version w others) (read_numbers (counted s.version w others))) (Err causes.Form)) (Err causes.Order) ≡ Ok says → in_range s says ≡ true
   go false b e = absurd cc
   go true false e = absurd cc
-  go true true e = judge_numbers-range s w (read_numbers others) says e
+  go true true e = judge_numbers-range s w (read_shift s.version w others) (read_numbers (counted s.version w others)) says e
 
 judge_words-range : (s : Progress) (ws : List (List ℕ)) (says : Line) → judge_words s ws ≡ Ok says → in_range s says ≡ true
 judge_words-range s [] says e = absurd cc

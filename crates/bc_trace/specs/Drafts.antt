@@ -1,27 +1,27 @@
 -- A trace that is being read: the lines so far, put together.
-use Rattle.std.specs.Prelude.{ℕ, ◌==◌, if◌then◌else◌, List, [], ◌∷◌, ◌++◌, map}
-use Rattle.bc_model.specs.Lists.{PhaseLists}
+use Rattle.std.specs.Prelude.{◌==◌, if◌then◌else◌, List, [], ◌∷◌, ◌++◌, map}
+use Rattle.bc_model.specs.Lists.{PhaseLists, TurnLists}
 use Rattle.bc_model.specs.declared.operations.Op.{Op}
 use Rattle.bc_model.specs.declared.traces.Change.{Change}
 use Rattle.bc_model.specs.declared.traces.Change.TheVariants as changes
 use Rattle.bc_trace.specs.declared.draft.Draft.{Draft}
 use Rattle.bc_trace.specs.declared.grammar.Progress.{Progress}
 use Rattle.bc_trace.specs.Lines.{Line, turn, lane, op, give, freeze, end}
-use Rattle.bc_trace.specs.Grammar.{start, after}
+use Rattle.bc_trace.specs.Grammar.{start, shifted, after}
 
 -- the phases that were read, and what was read of the next one: its turns, the lanes before the
 -- last one that was begun, that lane's operations, and its gives and freezes
 pub record DraftLists : Type 0 where
   pub progress : Progress
   pub phases : List PhaseLists
-  pub turns : List (List ℕ)
+  pub turns : List TurnLists
   pub lanes : List (List Op)
   pub ops : List Op
   pub gives : List Change
 
 -- what contracts see of a draft
 abbrev pub shown : Draft → DraftLists
-shown d = record { progress = d.progress; phases = d.phases.items; turns = map (λ v. v.items) d.turns.items; lanes = map (λ v. v.items) d.lanes.items; ops = d.ops.items; gives = d.gives.items }
+shown d = record { progress = d.progress; phases = d.phases.items; turns = d.turns.items; lanes = map (λ v. v.items) d.lanes.items; ops = d.ops.items; gives = d.gives.items }
 
 -- a draft without a line
 abbrev pub empty_draft : DraftLists
@@ -37,7 +37,7 @@ phase_ended d = record { progress = d.progress; phases = d.phases ++ record { tu
 
 -- the lists with one more line
 unfoldable pub put_lists : Line → DraftLists → DraftLists
-put_lists (turn hints) d = record d { turns = d.turns ++ hints ∷ [] }
+put_lists (turn shift hints) d = record d { turns = d.turns ++ record { withheld = shifted shift d.progress.withheld; hints = hints } ∷ [] }
 put_lists (lane j) d = if d.progress.stood == 0 then d else lanes_ended d
 put_lists (op o) d = record d { ops = d.ops ++ o ∷ [] }
 put_lists (give g) d = record d { gives = d.gives ++ changes.Give g ∷ [] }

@@ -1,6 +1,6 @@
 -- In the theorem.
 -- The first fault of a text.
-use Rattle.std.specs.Prelude.{◌≡◌, ◌≢◌, ℕ, ◌+◌, ◌==◌, ◌⊎◌, List, [], ◌∷◌, ◌++◌, length}
+use Rattle.std.specs.Prelude.{◌≡◌, ◌≢◌, ℕ, ◌+◌, ◌==◌, ◌&&◌, ◌||◌, ◌⊎◌, nat_le, if◌then◌else◌, Option, Some, None, List, [], ◌∷◌, ◌++◌, length}
 use Rattle.std.specs.List.{AllByRecursion, flat_map, slice_split}
 use Rattle.std.specs.Fmt.{decimal}
 use Rattle.bc_model.specs.WellFormed.{IsWithin, IsNumber}
@@ -10,9 +10,10 @@ use Rattle.bc_trace.specs.declared.grammar.Stage.{Stage}
 use Rattle.bc_trace.specs.declared.grammar.Stage.TheVariants as stages
 use Rattle.bc_trace.specs.declared.grammar.Progress.{Progress}
 use Rattle.bc_trace.specs.declared.words.Keyword.{Keyword}
+use Rattle.bc_trace.specs.declared.words.Keyword.TheVariants as words
 use Rattle.bc_trace.specs.Words.{name}
-use Rattle.bc_trace.specs.Lines.{Line, word_of_line, operands, spelling, line_text}
-use Rattle.bc_trace.specs.Grammar.{start, KnowsWord, MayStand, IsCount, InRange, FramesFit, after_all, Follow}
+use Rattle.bc_trace.specs.Lines.{Line, word_of_line, shift_of, operands, numbers_of, spelling, line_text}
+use Rattle.bc_trace.specs.Grammar.{start, KnowsWord, IsLineOf, MayStand, IsCount, InRange, FramesFit, after_all, Follow}
 
 -- what single spaces separate
 abbrev pub line_words : List ℕ → List (List ℕ)
@@ -30,6 +31,39 @@ IsFormed line = AllByRecursion IsWord (line_words line)
 -- the line begins with the word, which the version has, and these are its operands
 abbrev pub BeginsWith : Progress → List ℕ → Keyword → List (List ℕ) → Type 0
 BeginsWith s line w others = KnowsWord s.version w × (line_words line ≡ name w ∷ others)
+
+-- the sign that a turn's first operand begins with, a plus or a minus: before version 3 such an operand is none with a sign
+unfoldable pub sign_of : ℕ → Keyword → List (List ℕ) → Option ℕ
+sign_of version words.Turn ((b ∷ bs) ∷ others) = if nat_le 3 version && (b == 43 || b == 45) then Some b else None
+sign_of version w others = None
+
+-- all but the first
+abbrev pub later : List (List ℕ) → List (List ℕ)
+later [] = []
+later (w ∷ ws) = ws
+
+-- the first one without its first byte
+abbrev pub bared : List (List ℕ) → List (List ℕ)
+bared ((b ∷ bs) ∷ ws) = bs ∷ ws
+bared ws = ws
+
+-- the operands but that with a sign
+abbrev pub without_sign : Option ℕ → List (List ℕ) → List (List ℕ)
+without_sign None others = others
+without_sign (Some b) others = later others
+
+-- the operands that are counted: one with a sign isn't
+abbrev pub counted : ℕ → Keyword → List (List ℕ) → List (List ℕ)
+counted version w others = without_sign (sign_of version w others) others
+
+-- the operands, that with a sign by what follows the sign
+abbrev pub after_sign : Option ℕ → List (List ℕ) → List (List ℕ)
+after_sign None others = others
+after_sign (Some b) others = bared others
+
+-- what has to be numbers: the operands, that with a sign by what follows the sign
+abbrev pub unsigned : ℕ → Keyword → List (List ℕ) → List (List ℕ)
+unsigned version w others = after_sign (sign_of version w others) others
 
 -- a number below 2^63, as numbers are written
 abbrev pub IsNumeral : List ℕ → Type 0
@@ -57,7 +91,7 @@ pub record CountFails (s : Progress) (line : List ℕ) : Type 0 where
   pub others : List (List ℕ)
   pub begins : BeginsWith s line word others
   pub stands : MayStand s word
-  pub count : ¬ IsCount word (length others)
+  pub count : ¬ IsCount word (length (counted s.version word others))
 
 -- the number of operands is right, and one is no number
 pub record NumberFails (s : Progress) (line : List ℕ) : Type 0 where
@@ -66,16 +100,16 @@ pub record NumberFails (s : Progress) (line : List ℕ) : Type 0 where
   pub others : List (List ℕ)
   pub begins : BeginsWith s line word others
   pub stands : MayStand s word
-  pub count : IsCount word (length others)
-  pub number : ¬ AllByRecursion IsNumeral others
+  pub count : IsCount word (length (counted s.version word others))
+  pub number : ¬ AllByRecursion IsNumeral (unsigned s.version word others)
 
 -- the line is a word that may stand here, and so many numbers as it may have
 pub record IsReadable (s : Progress) (line : List ℕ) (l : Line) : Type 0 where
-  pub text : line ≡ spelling (word_of_line l) (operands l)
-  pub known : KnowsWord s.version (word_of_line l)
+  pub text : line ≡ spelling (word_of_line l) (shift_of l) (operands l)
+  pub known : IsLineOf s.version l
   pub stands : MayStand s (word_of_line l)
   pub count : IsCount (word_of_line l) (length (operands l))
-  pub numbers : AllByRecursion IsNumber (operands l)
+  pub numbers : AllByRecursion IsNumber (numbers_of l)
 
 -- all operands are numbers, and one is out of its range
 pub record RangeFails (s : Progress) (line : List ℕ) : Type 0 where
@@ -83,7 +117,7 @@ pub record RangeFails (s : Progress) (line : List ℕ) : Type 0 where
   pub readable : IsReadable s line says
   pub range : ¬ InRange s says
 
--- all operands pass but the number of frames, which doesn't fit
+-- all operands pass but the number of frames, or that of withheld frames, which doesn't fit
 pub record FramesFails (s : Progress) (line : List ℕ) : Type 0 where
   pub says : Line
   pub readable : IsReadable s line says

@@ -6,6 +6,8 @@ pub mod Lines
 pub mod Grammar
 -- Lines that may begin a trace
 pub mod Fronts
+-- What a line withholds and returns.
+pub mod Balances
 -- The first fault of a text.
 pub mod Faults
 -- The texts that a replay prints.

@@ -14,6 +14,8 @@ use Rattle.bc_trace.specs.declared.fault.TraceFault.{TraceFault}
 use Rattle.bc_trace.specs.declared.grammar.Stage.{Stage}
 use Rattle.bc_trace.specs.declared.grammar.Stage.TheVariants as stages
 use Rattle.bc_trace.specs.declared.grammar.Progress.{Progress}
+use Rattle.bc_trace.specs.declared.line.Shift.{Shift}
+use Rattle.bc_trace.specs.declared.line.Shift.TheVariants as shifts
 use Rattle.bc_trace.specs.declared.words.Setting.{Setting}
 use Rattle.bc_trace.specs.declared.words.Setting.TheVariants as settings
 use Rattle.bc_trace.specs.declared.words.Verb.{Verb}
@@ -24,7 +26,7 @@ use Rattle.bc_trace.specs.Words.{setting_name, verb_name, name}
 use Rattle.bc_trace.specs.Lines.{Line, version, setting, phase, turn, lane, op, give, freeze, end, done}
 use Rattle.bc_trace.specs.Grammar.{may_stand, arity}
 use Rattle.bc_trace.specs.Drafts.{DraftLists, empty_draft, put}
-use Rattle.bc_trace.specs.Faults.{line_words, lines_begun}
+use Rattle.bc_trace.specs.Faults.{line_words, sign_of, counted, lines_begun}
 
 -- ---- words
 
@@ -119,6 +121,21 @@ unfoldable pub read_numbers : List (List ℕ) → Option (List ℕ)
 read_numbers [] = Some []
 read_numbers (w ∷ ws) = both (number_of w) (read_numbers ws)
 
+-- what becomes of the withheld frames by a sign and the number after it
+abbrev pub shift_by : ℕ → Option ℕ → Option Shift
+shift_by b None = None
+shift_by b (Some k) = Some (if b == 45 then shifts.Withhold k else shifts.Return k)
+
+-- what the first operand does to the withheld frames, where it has this sign
+abbrev pub shift_said : Option ℕ → List (List ℕ) → Option Shift
+shift_said None others = Some shifts.Stays
+shift_said (Some b) ((c ∷ bs) ∷ others) = shift_by b (number_of bs)
+shift_said (Some b) _ = None
+
+-- what a word with these operands does to the withheld frames, where what follows a sign is a number
+unfoldable pub read_shift : ℕ → Keyword → List (List ℕ) → Option Shift
+read_shift v w others = shift_said (sign_of v w others) others
+
 -- ---- lines
 
 -- so many numbers may follow the word
@@ -147,18 +164,18 @@ op_of verbs.Same ns = ops.Same (slot_at ns 0) (slot_at ns 2)
 abbrev pub give_at : List ℕ → Give
 give_at ns = record { domain = slice_index ns 0; lane = slice_index ns 1 }
 
--- the line that the word and its numbers are
-abbrev pub line_of : Keyword → List ℕ → Line
-line_of words.Version ns = version (slice_index ns 0)
-line_of (words.Setting k) ns = setting k (slice_index ns 0)
-line_of words.Phase ns = phase
-line_of words.Turn ns = turn ns
-line_of words.Lane ns = lane (slice_index ns 0)
-line_of words.Give ns = give (give_at ns)
-line_of words.Freeze ns = freeze (slice_index ns 0)
-line_of words.End ns = end
-line_of words.Done ns = done
-line_of (words.Op v) ns = op (op_of v ns)
+-- the line that the word, what it does to the withheld frames, and its numbers are
+abbrev pub line_of : Keyword → Shift → List ℕ → Line
+line_of words.Version shift ns = version (slice_index ns 0)
+line_of (words.Setting k) shift ns = setting k (slice_index ns 0)
+line_of words.Phase shift ns = phase
+line_of words.Turn shift ns = turn shift ns
+line_of words.Lane shift ns = lane (slice_index ns 0)
+line_of words.Give shift ns = give (give_at ns)
+line_of words.Freeze shift ns = freeze (slice_index ns 0)
+line_of words.End shift ns = end
+line_of words.Done shift ns = done
+line_of (words.Op v) shift ns = op (op_of v ns)
 
 -- the setup has the slot
 abbrev pub is_slot : Setup → Slot → Bool
@@ -192,12 +209,18 @@ unfoldable pub is_setting : Setting → ℕ → Bool
 is_setting settings.Frames n = true
 is_setting k n = is_within 1 (most_of k) n
 
+-- what is withheld or returned is in its range
+abbrev pub shift_in_range : Shift → Bool
+shift_in_range shifts.Stays = true
+shift_in_range (shifts.Withhold k) = is_within 1 16640 k
+shift_in_range (shifts.Return k) = is_within 1 16640 k
+
 -- the operands of a line are in their ranges
 unfoldable pub in_range : Progress → Line → Bool
-in_range s (version n) = is_within 1 2 n
+in_range s (version n) = is_within 1 3 n
 in_range s (setting k n) = is_setting k n
 in_range s phase = true
-in_range s (turn hints) = list_all (λ h. nat_lt h (2 ^ 32)) hints
+in_range s (turn shift hints) = shift_in_range shift && list_all (λ h. nat_lt h (2 ^ 32)) hints
 in_range s (lane j) = j == s.stood
 in_range s (op o) = is_op s.setup o
 in_range s (give g) = nat_lt g.domain s.setup.domains && nat_lt g.lane s.setup.lanes
@@ -213,9 +236,16 @@ least_frames s = s.lanes * s.nursery + 2
 abbrev pub most_frames : Setup → ℕ
 most_frames s = s.lanes * s.nursery + 4 * s.superpages
 
+-- so many frames can be withheld or returned
+abbrev pub shift_fits : Progress → Shift → Bool
+shift_fits s shifts.Stays = true
+shift_fits s (shifts.Withhold k) = nat_le (least_frames s.setup + (s.withheld + k)) s.setup.frames
+shift_fits s (shifts.Return k) = nat_le k s.withheld
+
 -- the number of frames fits the setup
 unfoldable pub frames_fit : Progress → Line → Bool
 frames_fit s (setting settings.Frames n) = is_within (least_frames s.setup) (most_frames s.setup) n
+frames_fit s (turn shift hints) = shift_fits s shift
 frames_fit s l = true
 
 -- ---- the tests of a line, in their order
@@ -224,15 +254,16 @@ frames_fit s l = true
 unfoldable pub judge_line : Progress → Line → Result Line Cause
 judge_line s l = if in_range s l then (if frames_fit s l then Ok l else Err causes.Frames) else Err causes.Range
 
--- what a word says with these numbers, where each of its words spells one
-abbrev pub judge_numbers : Progress → Keyword → Option (List ℕ) → Result Line Cause
-judge_numbers s w None = Err causes.Number
-judge_numbers s w (Some ns) = judge_line s (line_of w ns)
+-- what a word says with what becomes of the withheld frames and these numbers, where each of its words spells one
+abbrev pub judge_numbers : Progress → Keyword → Option Shift → Option (List ℕ) → Result Line Cause
+judge_numbers s w None ns = Err causes.Number
+judge_numbers s w (Some shift) None = Err causes.Number
+judge_numbers s w (Some shift) (Some ns) = judge_line s (line_of w shift ns)
 
 -- what a word of the language says with the words after it, or its fault
 abbrev pub judge_word : Progress → Option Keyword → List (List ℕ) → Result Line Cause
 judge_word s None others = Err causes.Word
-judge_word s (Some w) others = if may_stand w s.stage (s.stood == s.setup.lanes) then (if has_count w (length others) then judge_numbers s w (read_numbers others) else Err causes.Form) else Err causes.Order
+judge_word s (Some w) others = if may_stand w s.stage (s.stood == s.setup.lanes) then (if has_count w (length (counted s.version w others)) then judge_numbers s w (read_shift s.version w others) (read_numbers (counted s.version w others)) else Err causes.Form) else Err causes.Order
 
 -- what the words of a line say, or their fault
 abbrev pub judge_words : Progress → List (List ℕ) → Result Line Cause

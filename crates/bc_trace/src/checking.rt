@@ -3,18 +3,21 @@ ghost use Rattle.std.specs.Prelude.{◌≡◌, ◌+◌, ◌*◌, ◌^◌, ◌<�
 ghost use Rattle.std.specs.List.{list_all};
 ghost use Rattle.bc_trace.specs.declared.words.Keyword.TheVariants as words;
 ghost use Rattle.bc_trace.specs.Grammar.{arity};
-ghost use Rattle.bc_trace.specs.Reading.{most_of, has_count, slot_at, op_of, give_at, is_slot, is_op, is_within, is_setting, least_frames, most_frames, in_range, frames_fit, line_of, judge_line};
-ghost use Rattle.bc_trace.specs.Lines.{setting as setting_of};
-ghost use Rattle.bc_trace.specs.Said.{Reads, IsSmall, HoldsAllHints};
+ghost use Rattle.bc_trace.specs.Reading.{most_of, has_count, slot_at, op_of, give_at, is_slot, is_op, is_within, is_setting, least_frames, most_frames, in_range, frames_fit, shift_in_range, shift_fits, line_of, judge_line};
+ghost use Rattle.bc_trace.specs.Lines.{setting as setting_of, turn as turn_of};
+ghost use Rattle.bc_trace.specs.Said.{Reads, IsSmall, HoldsAllHints, CanGoOn, CanShift};
 
 use crate::fault::Cause;
 use crate::grammar::Progress;
-use crate::line::Line;
+use crate::line::{Line, Shift};
 use crate::words::{Keyword, Setting, Verb};
 use bc_model::{Give, Op, Setup, Slot};
 
 /// The latest version of the language.
-const LATEST: u64 = 2;
+const LATEST: u64 = 3;
+
+/// The most frames that a setup may have, and so the most that a line can withhold or return.
+const MOST_FRAMES: u64 = 16_640;
 
 /// How many numbers follow the word, `turn` aside.
 #[tactic(auto, unfolding(crate::specs::Grammar::arity))]
@@ -130,6 +133,51 @@ fn fits_frames(setup: &Setup, number: u64) -> bool
     least as u64 <= number && number <= most as u64
 }
 
+/// Whether a line can withhold or return so many frames at all.
+fn is_shift(shift: Shift) -> bool
+    ensures { result ≡ shift_in_range shift }
+{
+    match shift {
+        Shift::Stays => true,
+        Shift::Withhold(frames) | Shift::Return(frames) => 1 <= frames && frames <= MOST_FRAMES,
+    }
+}
+
+/// Whether so many frames can be withheld or returned here.
+fn fits_shift(progress: &Progress, shift: Shift) -> bool
+    requires { IsSmall progress.now progress.now.stood }
+    ensures fits { result ≡ shift_fits progress.now shift }
+    ensures room { result ≡ true → CanShift progress.now.withheld shift }
+{
+    match shift {
+        Shift::Stays => true,
+        Shift::Withhold(frames) => {
+            let least = progress.setup.lanes * progress.setup.nursery + 2;
+            let taken = least as u64 + progress.withheld as u64;
+            let all = progress.setup.frames as u64;
+            taken <= all && frames <= all - taken
+        }
+        Shift::Return(frames) => frames <= progress.withheld as u64,
+    }
+}
+
+/// What the line of a turn says.
+#[tactic(auto, unfolding(crate::specs::Reading::judge_line, crate::specs::Reading::in_range, crate::specs::Reading::frames_fit))]
+fn turn_line(progress: &Progress, shift: Shift, hints: &[u64]) -> Result<Line, Cause>
+    requires { IsSmall progress.now progress.now.stood }
+    ensures reads { Reads (judge_line progress.now (turn_of shift hints.now)) result hints.now }
+    ensures whole { IfOk result (λ l. HoldsAllHints l hints.now) }
+    ensures shift { IfOk result (λ l. CanGoOn progress.now l) }
+{
+    if !is_shift(shift) || !are_hints(hints) {
+        return Err(Cause::Range);
+    }
+    if !fits_shift(progress, shift) {
+        return Err(Cause::Frames);
+    }
+    Ok(Line::Turn(shift, hints.len()))
+}
+
 /// The most that a setting other than the frames may say.
 fn most_of(setting: Setting) -> u64
     ensures { result ≡ most_of setting }
@@ -167,13 +215,19 @@ fn setting_line(progress: &Progress, setting: Setting, number: u64) -> Result<Li
     }
 }
 
-/// What a line says: its word, and as many numbers as may follow it.
+/// What a line says: its word, what it does to the withheld frames, and as many numbers as may follow it.
 #[tactic(auto, unfolding(crate::specs::Reading::judge_line, crate::specs::Reading::in_range, crate::specs::Reading::frames_fit, crate::specs::Reading::has_count, crate::specs::Grammar::arity))]
-pub fn line_of(progress: &Progress, word: Keyword, numbers: &[u64]) -> Result<Line, Cause>
+pub fn line_of(
+    progress: &Progress,
+    word: Keyword,
+    shift: Shift,
+    numbers: &[u64],
+) -> Result<Line, Cause>
     requires small { IsSmall progress.now progress.now.stood }
     requires count { has_count word (length numbers.now) ≡ true }
-    ensures reads { Reads (judge_line progress.now (line_of word numbers.now)) result numbers.now }
+    ensures reads { Reads (judge_line progress.now (line_of word shift numbers.now)) result numbers.now }
     ensures whole { IfOk result (λ l. HoldsAllHints l numbers.now) }
+    ensures shift { IfOk result (λ l. CanGoOn progress.now l) }
 {
     match word {
         Keyword::Version => {
@@ -185,13 +239,7 @@ pub fn line_of(progress: &Progress, word: Keyword, numbers: &[u64]) -> Result<Li
         }
         Keyword::Setting(setting) => setting_line(progress, setting, numbers[0]),
         Keyword::Phase => Ok(Line::Phase),
-        Keyword::Turn => {
-            if are_hints(numbers) {
-                Ok(Line::Turn(numbers.len()))
-            } else {
-                Err(Cause::Range)
-            }
-        }
+        Keyword::Turn => turn_line(progress, shift, numbers),
         Keyword::Lane => {
             if numbers[0] == progress.stood as u64 {
                 Ok(Line::Lane(progress.stood))

@@ -2,14 +2,15 @@
 ghost use Rattle.std.specs.Prelude.{◌≡◌, ◌+◌, ◌^◌, ◌<◌, ◌≤◌, [], length, OnOk, IfOk};
 ghost use Rattle.bc_trace.specs.declared.grammar.Stage.TheVariants as stages;
 ghost use Rattle.bc_trace.specs.Lines.{turn, op as op_line};
+ghost use Rattle.bc_trace.specs.declared.line.Shift.TheVariants.{Stays};
 ghost use Rattle.bc_trace.specs.Drafts.{shown, empty_draft, put, lanes_ended, phase_ended};
 ghost use Rattle.bc_trace.specs.Reading.{lines_of, reading};
-ghost use Rattle.bc_trace.specs.Said.{said, FitsBuffer, AreHints};
+ghost use Rattle.bc_trace.specs.Said.{said, FitsBuffer, AreHints, CanGoOn};
 
 use crate::grammar::Progress;
 use crate::line::Line;
 use crate::operations::{op_ahead, turn_ahead};
-use bc_model::{Change, Op, Phase};
+use bc_model::{Change, Op, Phase, TurnLine};
 use std::alloc::{AllocError, Global};
 use std::mem;
 
@@ -23,7 +24,7 @@ pub struct Draft {
     /// The phases that were read.
     pub phases: Vec<Phase>,
     /// The turns of the phase that is being read.
-    pub turns: Vec<Vec<u32>>,
+    pub turns: Vec<TurnLine>,
     /// Its lanes before the one that was begun last.
     pub lanes: Vec<Vec<Op>>,
     /// The operations of that lane.
@@ -77,11 +78,15 @@ impl Draft {
     pub fn put(&mut self, alloc: Global, line: Line, numbers: &[u64]) -> Result<(), AllocError>
         requires room { self.old.progress.stood + 1 < 2 ^ 32 }
         requires buffer { FitsBuffer line numbers.now }
+        requires shift { CanGoOn self.old.progress line }
         ensures { OnOk result (shown self.new ≡ put (said line numbers.now) (shown self.old)) }
     {
         match line {
             Line::Version(_) | Line::Setting(_, _) | Line::Phase | Line::Done => {}
-            Line::Turn(count) => self.turns.push(hints(alloc, &numbers[..count])?)?,
+            Line::Turn(shift, count) => self.turns.push(TurnLine {
+                withheld: shift.after(self.progress.withheld),
+                hints: hints(alloc, &numbers[..count])?,
+            })?,
             Line::Lane(_) => {
                 if self.progress.stood == 0 {
                     self.lanes
@@ -99,15 +104,18 @@ impl Draft {
         Ok(())
     }
 
-    /// Puts one more turn in. After an error the draft is of no use.
+    /// Puts one more turn in, which withholds as many frames as the one before it. After an error the draft is of no use.
     #[inline(always)]
     #[tactic(auto, unfolding(crate::specs::Drafts::put_lists))]
     fn put_turn(&mut self, alloc: Global, hints: &[u32]) -> Result<(), AllocError>
         requires { self.old.progress.stage ≡ stages.Turns }
         ensures progress { OnOk result (self.new.progress ≡ self.old.progress) }
-        ensures put { OnOk result (shown self.new ≡ put (turn hints.now) (shown self.old)) }
+        ensures put { OnOk result (shown self.new ≡ put (turn Stays hints.now) (shown self.old)) }
     {
-        self.turns.push(Vec::from_slice(alloc, hints)?)?;
+        self.turns.push(TurnLine {
+            withheld: self.progress.withheld,
+            hints: Vec::from_slice(alloc, hints)?,
+        })?;
         Ok(())
     }
 

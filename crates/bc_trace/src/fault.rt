@@ -14,11 +14,11 @@ pub enum Cause {
     Word,
     /// The word may not stand here, or something follows `done`.
     Order,
-    /// An operand is no number below 2^63, or isn't written as the language writes numbers.
+    /// An operand, or what follows its sign, is no number below 2^63, or isn't written as the language writes numbers.
     Number,
     /// An operand is out of its range.
     Range,
-    /// The number of frames is out of its range, which other lines of the header give.
+    /// The number of frames is out of its range, which other lines of the header give, or so many can't be withheld or returned.
     Frames,
     /// The text ends before `done`.
     End,

@@ -1,7 +1,7 @@
 //! Which line may stand next, and how far a line brings the reader.
 ghost use Rattle.std.specs.Prelude.{◌≡◌, ◌==◌, ◌+◌, ◌^◌, ◌<◌, ℕ, List};
 ghost use Rattle.bc_trace.specs.Grammar.{start, may_stand, stage_after_setting, with_setting, after};
-ghost use Rattle.bc_trace.specs.Said.{said};
+ghost use Rattle.bc_trace.specs.Said.{said, CanGoOn};
 
 use crate::line::Line;
 use crate::words::{Keyword, Setting};
@@ -36,6 +36,8 @@ pub struct Progress {
     pub setup: Setup,
     /// The lanes of this phase that have stood.
     pub stood: u32,
+    /// The frames that are withheld in the turn of this phase's last `turn` line; 0 before the first.
+    pub withheld: u32,
 }
 
 impl Progress {
@@ -56,6 +58,7 @@ impl Progress {
                 frames: 0,
             },
             stood: 0,
+            withheld: 0,
         }
     }
 
@@ -91,7 +94,8 @@ impl Progress {
     /// Goes on after the line.
     #[inline(always)]
     pub fn advance(&mut self, line: Line)
-        requires { self.old.stood + 1 < 2 ^ 32 }
+        requires room { self.old.stood + 1 < 2 ^ 32 }
+        requires shift { CanGoOn self.old line }
         ensures { (ns : List ℕ) → self.new ≡ after (said line ns) self.old }
     {
         match line {
@@ -106,8 +110,12 @@ impl Progress {
             Line::Phase => {
                 self.stage = Stage::Turns;
                 self.stood = 0;
+                self.withheld = 0;
             }
-            Line::Turn(_) => self.stage = Stage::Turns,
+            Line::Turn(shift, _) => {
+                self.stage = Stage::Turns;
+                self.withheld = shift.after(self.withheld);
+            }
             Line::Lane(_) => {
                 self.stage = Stage::Ops;
                 self.stood += 1;

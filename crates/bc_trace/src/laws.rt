@@ -1,7 +1,8 @@
 //! What the definitions say together: functions that do nothing, whose contracts are the laws.
-ghost use Rattle.std.specs.List.{AllByRecursion};
-ghost use Rattle.std.specs.Prelude.{◌≡◌, ◌⊎◌, ◌↔◌, ◌++◌, ◌<◌, ◌^◌, ◌∷◌, ℕ, List};
-ghost use Rattle.bc_model.specs.Lists.{TraceLists};
+ghost use Rattle.std.specs.List.{AllByRecursion, sum_by};
+ghost use Rattle.std.specs.Prelude.{◌≡◌, ◌⊎◌, ◌↔◌, ◌+◌, ◌++◌, ◌<◌, ◌≤◌, ◌^◌, ◌∷◌, ℕ, List, length, take};
+ghost use Rattle.bc_model.specs.Lists.{TraceLists, TurnLists};
+ghost use Rattle.bc_model.specs.TurnLines.{budget_at};
 ghost use Rattle.bc_model.specs.Run.{replies_of, replies_of_cut};
 ghost use Rattle.bc_model.specs.RunLengths.{all_ops_of};
 ghost use Rattle.bc_model.specs.WellFormed.{IsTrace};
@@ -9,7 +10,8 @@ ghost use Rattle.bc_model.specs.declared.operations.Reply.{Reply};
 ghost use Rattle.bc_trace.specs.declared.fault.Cause.{Cause};
 ghost use Rattle.bc_trace.specs.declared.grammar.Progress.{Progress};
 ghost use Rattle.bc_trace.specs.declared.words.Keyword.{Keyword};
-ghost use Rattle.bc_trace.specs.Lines.{Line, trace_text, Spells};
+ghost use Rattle.bc_trace.specs.Balances.{withheld_by, returned_by};
+ghost use Rattle.bc_trace.specs.Lines.{Line, turn_lines, trace_text, Spells};
 ghost use Rattle.bc_trace.specs.Grammar.{start, KnowsWord, MayStand, after_all, Follow};
 ghost use Rattle.bc_trace.specs.Fronts.{Begins, GoesOnWith};
 ghost use Rattle.bc_trace.specs.Faults.{line_words, IsFormed, Fails, Fault};
@@ -49,6 +51,22 @@ pub fn law_next_word()
 pub fn law_first_version()
     ensures { (s : Progress) (line : List ℕ) (others : List (List ℕ)) → s.version < 2 → IsFormed line
         → line_words line ≡ name Keyword.Freeze ∷ others → Fails s line Cause.Word }
+{}
+
+/// Before version 3 an operand of a turn with a sign, a plus or a minus, is a hint that is no number, and no line of a trace
+/// withholds frames.
+pub fn law_before_signs()
+    ensures number { (s : Progress) (line digits : List ℕ) (sign : ℕ) (hints : List (List ℕ)) → s.version < 3 → IsFormed line → MayStand s Keyword.Turn
+        → (sign ≡ 43) ⊎ (sign ≡ 45) → line_words line ≡ name Keyword.Turn ∷ ((sign ∷ digits) ∷ hints) → length hints < 64 → Fails s line Cause.Number }
+    ensures hint { (s : Progress) (line digits : List ℕ) (sign : ℕ) (hints : List (List ℕ)) → s.version < 3 → IsFormed line → MayStand s Keyword.Turn
+        → (sign ≡ 43) ⊎ (sign ≡ 45) → line_words line ≡ name Keyword.Turn ∷ ((sign ∷ digits) ∷ hints) → 64 ≤ length hints → Fails s line Cause.Form }
+    ensures none { (bytes : List ℕ) (t : TraceLists) → Spells bytes t → t.version < 3 → AllByRecursion (λ p. AllByRecursion (λ line. line.withheld ≡ 0) p.turns) t.phases }
+{}
+
+/// In a turn as many frames are withheld as the lines of its phase up to the turn's withhold, less what they return.
+pub fn law_withheld()
+    ensures { (lines : List TurnLists) (i : ℕ) → i < length lines
+        → sum_by withheld_by (take (i + 1) (turn_lines 0 lines)) ≡ budget_at lines i + sum_by returned_by (take (i + 1) (turn_lines 0 lines)) }
 {}
 
 /// A line shows its reply, the text of a phase the replies of each lane, a whole output those of each phase and how it ends,

@@ -1,8 +1,11 @@
 //! Numbers and operands, as the language writes them.
 ghost use Rattle.std.specs.Prelude.{◌≡◌, ◌<◌, ◌≤◌, if◌then◌else◌, length, take, Some, None, IfSome, IfNone};
-ghost use Rattle.bc_trace.specs.Reading.{digits_of, number_of, read_numbers, words_after};
+ghost use Rattle.bc_trace.specs.Faults.{counted};
+ghost use Rattle.bc_trace.specs.Reading.{digits_of, number_of, read_numbers, read_shift, words_after};
 
 use crate::cutting::first_word;
+use crate::line::Shift;
+use crate::words::Keyword;
 
 /// The least number that a line can't say.
 const LIMIT: u64 = 1 << 63;
@@ -37,6 +40,24 @@ pub fn number(word: &[u8]) -> Option<u64>
         [] => None,
         [b'0', _, ..] => None,
         _ => digits(word),
+    }
+}
+
+/// Takes the operand with a sign off the operands that follow a word: what it does to the withheld frames, or None where no
+/// number follows the sign, and the other operands. Only a turn has such an operand, and only from version 3 on.
+#[tactic(auto, unfolding(crate::specs::Faults::sign_of, crate::specs::Reading::read_shift))]
+pub fn shift_of(version: u32, word: Keyword, operands: &[u8]) -> (Option<Shift>, &[u8])
+    ensures shift { result.0 ≡ read_shift version word (words_after operands.now) }
+    ensures rest { words_after result.1.now ≡ counted version word (words_after operands.now) }
+{
+    if version < 3 || !matches!(word, Keyword::Turn) || operands.is_empty() {
+        return (Some(Shift::Stays), operands);
+    }
+    let (first, rest) = first_word(&operands[1..]);
+    match first {
+        [b'-', digits @ ..] => (number(digits).map(Shift::Withhold), rest),
+        [b'+', digits @ ..] => (number(digits).map(Shift::Return), rest),
+        _ => (Some(Shift::Stays), operands),
     }
 }
 

@@ -4,7 +4,8 @@ ghost use Rattle.std.specs.List.{AllByRecursion};
 ghost use Rattle.bc_model.specs.WellFormed.{IsNumber, IsOp};
 ghost use Rattle.bc_trace.specs.declared.grammar.Stage.TheVariants as stages;
 ghost use Rattle.bc_trace.specs.Lines.{op, turn, verb_of_op, operands_of_op};
-ghost use Rattle.bc_trace.specs.Said.{said, operands_text, FitsBuffer, IsAhead};
+ghost use Rattle.bc_trace.specs.declared.line.Shift.TheVariants.{Stays};
+ghost use Rattle.bc_trace.specs.Said.{said, operands_text, FitsBuffer, CanGoOn, IsAhead};
 
 use crate::ahead::{
     byte_ahead, hints_ahead, operand_ahead, slot_ahead, small_ahead, turn_word_ahead, verb_ahead,
@@ -76,7 +77,7 @@ pub fn op_ahead<'a>(progress: &Progress, text: &'a [u8]) -> Option<(Op, &'a [u8]
     Some((op, rest))
 }
 
-/// The turn whose line the text begins with: how many hints it put into the buffer, and what follows the line.
+/// The turn whose line the text begins with, without an operand with a sign: how many hints it put into the buffer, and what follows the line.
 #[inline(always)]
 pub fn turn_ahead<'a>(
     progress: &Progress,
@@ -84,7 +85,7 @@ pub fn turn_ahead<'a>(
     hints: &mut [u32; 64],
 ) -> Option<(usize, &'a [u8])>
     requires { progress.now.stage ≡ stages.Turns }
-    ensures ahead { IfSome result (λ r. IsAhead progress.now text.now (turn (take r.0 hints.new)) r.1.now) }
+    ensures ahead { IfSome result (λ r. IsAhead progress.now text.now (turn Stays (take r.0 hints.new)) r.1.now) }
     ensures few { IfSome result (λ r. r.0 ≤ 64) }
     ensures shorter { IfSome result (λ r. length r.1.now < length text.now) }
 {
@@ -98,6 +99,7 @@ pub fn turn_ahead<'a>(
 pub fn line_ahead<'a>(progress: &Progress, text: &'a [u8]) -> Option<(Line, &'a [u8])>
     ensures ahead { IfSome result (λ r. IsAhead progress.now text.now (said r.0 []) r.1.now) }
     ensures buffer { IfSome result (λ r. FitsBuffer r.0 []) }
+    ensures shift { IfSome result (λ r. CanGoOn progress.now r.0) }
     ensures shorter { IfSome result (λ r. length r.1.now < length text.now) }
 {
     let (word, rest) = word_ahead(text)?;

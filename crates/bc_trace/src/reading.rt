@@ -8,7 +8,7 @@ ghost use Rattle.bc_trace.specs.Lines.{Spells};
 ghost use Rattle.bc_trace.specs.Faults.{Fault};
 ghost use Rattle.bc_trace.specs.Drafts.{shown};
 ghost use Rattle.bc_trace.specs.Reading.{line_at, ended, lines_of, reading, read_of};
-ghost use Rattle.bc_trace.specs.Said.{Reads, IsSmall, FitsBuffer};
+ghost use Rattle.bc_trace.specs.Said.{Reads, IsSmall, FitsBuffer, CanGoOn};
 ghost use Rattle.bc_trace.specs.Answers.{Gives, TellsFault, IsFaultOrMemory};
 
 use crate::checking::{has_count, line_of};
@@ -17,7 +17,7 @@ use crate::draft::Draft;
 use crate::fault::{Cause, ReadTrace, TraceFault};
 use crate::grammar::{Progress, Stage};
 use crate::line::Line;
-use crate::numbers::operands_of;
+use crate::numbers::{operands_of, shift_of};
 use crate::operations::line_ahead;
 use crate::words::word_of;
 use bc_model::Trace;
@@ -29,6 +29,7 @@ fn line_at(progress: &Progress, line: &[u8], operands: &mut [u64; 64]) -> Result
     requires { IsSmall progress.now progress.now.stood }
     ensures reads { Reads (line_at progress.now line.now) result operands.new }
     ensures buffer { IfOk result (λ l. FitsBuffer l operands.new) }
+    ensures shift { IfOk result (λ l. CanGoOn progress.now l) }
 {
     if !is_formed(line) {
         return Err(Cause::Form);
@@ -41,6 +42,7 @@ fn line_at(progress: &Progress, line: &[u8], operands: &mut [u64; 64]) -> Result
     if !progress.may_stand(word) {
         return Err(Cause::Order);
     }
+    let (shift, rest) = shift_of(progress.version, word, rest);
     let (count, all_numbers) = match operands_of(rest, operands) {
         Some(found) => found,
         None => return Err(Cause::Form),
@@ -48,10 +50,14 @@ fn line_at(progress: &Progress, line: &[u8], operands: &mut [u64; 64]) -> Result
     if !has_count(word, count) {
         return Err(Cause::Form);
     }
+    let shift = match shift {
+        Some(shift) => shift,
+        None => return Err(Cause::Number),
+    };
     if !all_numbers {
         return Err(Cause::Number);
     }
-    line_of(progress, word, &operands[..count])
+    line_of(progress, word, shift, &operands[..count])
 }
 
 /// What the text ends with, after `lines` whole lines.

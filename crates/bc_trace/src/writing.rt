@@ -3,11 +3,13 @@ ghost use Rattle.std.specs.Prelude.{◌≡◌, ◌++◌, [], ◌∷◌, map, OnO
 ghost use Rattle.std.specs.List.{flat_map};
 ghost use Rattle.std.specs.Fmt.{decimal};
 ghost use Rattle.bc_model.specs.WellFormed.{IsTrace};
-ghost use Rattle.bc_trace.specs.Lines.{setting as setting_line, turn as turn_line, lane as lane_line, op as op_line, change_line, setup_lines, lane_lines, phase_lines, trace_text, spelling, line_text};
+ghost use Rattle.bc_trace.specs.declared.line.Shift.TheVariants.{Stays};
+ghost use Rattle.bc_trace.specs.Lines.{setting as setting_line, turn as turn_line, lane as lane_line, op as op_line, change_line, setup_lines, turn_lines, shift_words, lane_lines, phase_lines, trace_text, spelling, line_text};
 
+use crate::line::Shift;
 use crate::rooms::put_number;
 use crate::words::{Keyword, Setting, Verb};
-use bc_model::{Change, Op, Phase, Setup, Slot, Trace};
+use bc_model::{Change, Op, Phase, Setup, Slot, Trace, TurnLine};
 use std::alloc::{AllocError, Global};
 
 /// Puts the number at the end, in decimal.
@@ -33,7 +35,7 @@ fn push_operands(out: &mut Vec<u8>, numbers: &[u64]) -> Result<(), AllocError>
 /// Puts the line of the word and the numbers at the end.
 #[tactic(auto, unfolding(crate::specs::Lines::spelling))]
 fn push_line(out: &mut Vec<u8>, word: Keyword, numbers: &[u64]) -> Result<(), AllocError>
-    ensures { OnOk result (out.new.items ≡ out.old.items ++ (spelling word numbers.now ++ 10 ∷ [])) }
+    ensures { OnOk result (out.new.items ≡ out.old.items ++ (spelling word Stays numbers.now ++ 10 ∷ [])) }
 {
     out.extend_from_slice(word.name())?;
     push_operands(out, numbers)?;
@@ -62,12 +64,33 @@ fn push_setup(out: &mut Vec<u8>, setup: &Setup) -> Result<(), AllocError>
     Ok(())
 }
 
+/// Puts a sign and a number after a space at the end.
+fn push_signed(out: &mut Vec<u8>, sign: u8, number: u64) -> Result<(), AllocError>
+    ensures { OnOk result (out.new.items ≡ out.old.items ++ 32 ∷ sign ∷ decimal number) }
+{
+    out.push(b' ')?;
+    out.push(sign)?;
+    push_number(out, number)
+}
+
+/// Puts the operand at the end that changes the number of withheld frames, if it changes.
+fn push_shift(out: &mut Vec<u8>, shift: Shift) -> Result<(), AllocError>
+    ensures { OnOk result (out.new.items ≡ out.old.items ++ flat_map (λ word. 32 ∷ word) (shift_words shift)) }
+{
+    match shift {
+        Shift::Stays => Ok(()),
+        Shift::Withhold(frames) => push_signed(out, b'-', frames),
+        Shift::Return(frames) => push_signed(out, b'+', frames),
+    }
+}
+
 /// Puts the line of a turn at the end.
 #[tactic(auto, unfolding(crate::specs::Lines::line_text, crate::specs::Lines::spelling))]
-fn push_turn(out: &mut Vec<u8>, hints: &[u32]) -> Result<(), AllocError>
-    ensures { OnOk result (out.new.items ≡ out.old.items ++ line_text (turn_line hints.now)) }
+fn push_turn(out: &mut Vec<u8>, shift: Shift, hints: &[u32]) -> Result<(), AllocError>
+    ensures { OnOk result (out.new.items ≡ out.old.items ++ line_text (turn_line shift hints.now)) }
 {
     out.extend_from_slice(Keyword::Turn.name())?;
+    push_shift(out, shift)?;
     for hint in hints {
         out.push(b' ')?;
         push_number(out, *hint as u64)?;
@@ -79,7 +102,7 @@ fn push_turn(out: &mut Vec<u8>, hints: &[u32]) -> Result<(), AllocError>
 #[tactic(auto, unfolding(crate::specs::Lines::spelling))]
 fn push_on(out: &mut Vec<u8>, verb: Verb, slot: Slot, operands: &[u64]) -> Result<(), AllocError>
     ensures { OnOk result (out.new.items
-        ≡ out.old.items ++ (spelling (Keyword.Op verb) (slot.domain ∷ slot.slot ∷ operands.now) ++ 10 ∷ [])) }
+        ≡ out.old.items ++ (spelling (Keyword.Op verb) Stays (slot.domain ∷ slot.slot ∷ operands.now) ++ 10 ∷ [])) }
 {
     out.extend_from_slice(Keyword::Op(verb).name())?;
     push_operands(out, &[slot.domain as u64, slot.slot as u64])?;
@@ -149,11 +172,13 @@ fn push_lanes(out: &mut Vec<u8>, lanes: &[Vec<Op>]) -> Result<(), AllocError>
 }
 
 /// Puts the lines of all turns at the end.
-fn push_turns(out: &mut Vec<u8>, turns: &[Vec<u32>]) -> Result<(), AllocError>
-    ensures { OnOk result (out.new.items ≡ out.old.items ++ flat_map line_text (map turn_line (map (λ v. v.items) turns.now))) }
+fn push_turns(out: &mut Vec<u8>, turns: &[TurnLine]) -> Result<(), AllocError>
+    ensures { OnOk result (out.new.items ≡ out.old.items ++ flat_map line_text (turn_lines 0 turns.now)) }
 {
-    for hints in turns {
-        push_turn(out, hints)?;
+    let mut before = 0;
+    for line in turns {
+        push_turn(out, Shift::between(before, line.withheld), &line.hints)?;
+        before = line.withheld;
     }
     Ok(())
 }

@@ -50,6 +50,25 @@ const FROZEN: [&str; 17] = [
     "done",
 ];
 
+/// A text of version 3, line by line, with turns that withhold and return frames. Two may be withheld at once.
+const WITHHELD: [&str; 15] = [
+    "bc-trace 3",
+    "lanes 1",
+    "domains 1",
+    "slots 2",
+    "superpages 5",
+    "nursery 1",
+    "buffer 4",
+    "frames 5",
+    "phase",
+    "turn -2",
+    "turn +1 0",
+    "lane 0",
+    "new 0 0 1",
+    "end",
+    "done",
+];
+
 /// The lines with another text for line `line`, which counts from 1, and `rest` after them.
 fn with_line(
     alloc: Global,
@@ -100,7 +119,7 @@ fn each_spoilt_line_is_refused_at_its_number_and_with_its_cause(
 ) -> Result<(), Fail> {
     for (line, text, cause) in [
         (1, "bc-trace 0", Cause::Range),
-        (1, "bc-trace 3", Cause::Range),
+        (1, "bc-trace 4", Cause::Range),
         (1, "freeze 0", Cause::Word),
         (2, " lanes 1", Cause::Form),
         (2, "lanes 01", Cause::Number),
@@ -161,6 +180,76 @@ fn a_freeze_is_refused_in_version_1_and_where_a_give_would_be(rt: HostRuntime) -
     let bytes = with_line(rt.alloc(), &FROZEN, 14, "freeze 1", "")?;
     assert!(rt; bytes.len() < 10000);
     assert!(rt; read(rt.alloc(), &bytes).is_ok());
+    Ok(())
+}
+
+#[test]
+fn a_turn_is_refused_whose_frames_cannot_be_withheld_or_returned(
+    rt: HostRuntime,
+) -> Result<(), Fail> {
+    for (line, text, fault, cause) in [
+        (10, "turn -3", 10, Cause::Frames),
+        (10, "turn +1", 10, Cause::Frames),
+        (10, "turn -16640", 10, Cause::Frames),
+        (11, "turn -1", 11, Cause::Frames),
+        (11, "turn +3 0", 11, Cause::Frames),
+        (10, "turn -0", 10, Cause::Range),
+        (10, "turn +0", 10, Cause::Range),
+        (10, "turn -16641", 10, Cause::Range),
+        (10, "turn -3 4294967296", 10, Cause::Range),
+        (10, "turn -", 10, Cause::Number),
+        (10, "turn -02", 10, Cause::Number),
+        (10, "turn --2", 10, Cause::Number),
+        (10, "turn 0 -2", 10, Cause::Number),
+        (10, "turn -9223372036854775808", 10, Cause::Number),
+        (12, "lane -1", 12, Cause::Number),
+        (1, "bc-trace 2", 10, Cause::Number),
+        (1, "bc-trace 1", 10, Cause::Number),
+    ] {
+        let bytes = with_line(rt.alloc(), &WITHHELD, line, text, "")?;
+        let found = fault_of(&rt, rt.alloc(), &bytes);
+        assert_eq!(rt; found.line as usize, fault, "{text}");
+        assert_eq!(rt; found.cause, cause, "{text}");
+    }
+    Ok(())
+}
+
+#[test]
+fn the_operand_with_a_sign_is_no_hint_from_version_3_on(rt: HostRuntime) -> Result<(), Fail> {
+    let hints =
+        "turn -2 0 1 2 3 4 5 6 7 8 9 0 1 2 3 4 5 6 7 8 9 0 1 2 3 4 5 6 7 8 9 0 1 2 3 4 5 6 7 8 9 0 1 2 3 4 5 6 7 8 9 0 1 2 3 4 5 6 7 8 9 0 1 2 3";
+    let more = format!(in rt.alloc(); "{hints} 4")?;
+    let bytes = with_line(rt.alloc(), &WITHHELD, 10, hints, "")?;
+    assert!(rt; bytes.len() < 10000);
+    assert!(rt; read(rt.alloc(), &bytes).is_ok());
+    let bytes = with_line(rt.alloc(), &WITHHELD, 10, &more, "")?;
+    let found = fault_of(&rt, rt.alloc(), &bytes);
+    assert_eq!(rt; found.line, 10);
+    assert_eq!(rt; found.cause, Cause::Form);
+    let mut lines = WITHHELD;
+    lines[0] = "bc-trace 2";
+    let bytes = with_line(rt.alloc(), &lines, 10, hints, "")?;
+    let found = fault_of(&rt, rt.alloc(), &bytes);
+    assert_eq!(rt; found.line, 10);
+    assert_eq!(rt; found.cause, Cause::Form);
+    Ok(())
+}
+
+#[test]
+fn each_turn_line_is_read_with_the_frames_that_are_withheld_in_its_turn(
+    rt: HostRuntime,
+) -> Result<(), Fail> {
+    let bytes = with_line(rt.alloc(), &WITHHELD, 0, "", "")?;
+    assert!(rt; bytes.len() < 10000);
+    let trace = read(rt.alloc(), &bytes).ok().ok_or("the text is a trace")?;
+    assert_eq!(rt; trace.version, 3);
+    assert_eq!(rt; trace.phases.len(), 1);
+    let turns = &trace.phases[0].turns;
+    assert_eq!(rt; turns.len(), 2);
+    assert_eq!(rt; turns[0].withheld, 2);
+    assert_eq!(rt; turns[0].hints.len(), 0);
+    assert_eq!(rt; turns[1].withheld, 1);
+    assert_eq!(rt; turns[1].hints.len(), 1);
     Ok(())
 }
 
@@ -251,12 +340,15 @@ fn what_is_read_is_written_again_byte_for_byte(rt: HostRuntime) -> Result<(), Fa
         b"bc-trace 1\nlanes 1\ndomains 1\nslots 2\nsuperpages 1\nnursery 1\nbuffer 4\nframes 3\nphase\nturn\nturn 0 4294967295\nlane 0\nset 0 1 2 9223372036854775807\ncut 0 0 126\ncopy 0 0 0 1\nclear 0 0\nsame 0 0 0 1\nend\ndone\n";
     let version_2 =
         b"bc-trace 2\nlanes 1\ndomains 1\nslots 1\nsuperpages 1\nnursery 1\nbuffer 4\nframes 3\ndone\n";
+    let version_3 =
+        b"bc-trace 3\nlanes 1\ndomains 1\nslots 1\nsuperpages 1\nnursery 1\nbuffer 4\nframes 5\nphase\nturn -2\nturn 7\nturn +1 0\nturn +1\nturn\nlane 0\nend\nphase\nturn -1 5\nlane 0\nfreeze 0\nend\nphase\nturn\nturn -2\nlane 0\nend\ndone\n";
     for text in [
         header_only.as_slice(),
         two_lanes.as_slice(),
         give_and_take.as_slice(),
         turns.as_slice(),
         version_2.as_slice(),
+        version_3.as_slice(),
     ] {
         assert!(rt; text.len() < 10000);
         let trace = read(rt.alloc(), text).ok().ok_or("the text is a trace")?;

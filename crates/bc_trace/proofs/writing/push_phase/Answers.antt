@@ -8,7 +8,7 @@ use Rattle.bc_trace.proofs.writing.push_phase.Goals as goal
 pub returns : goal.returns
 returns c =
     let fields = c.phase.inside in
-    let p : PhaseLists = record { turns = map (λ v. v.items) fields.turns.items; lanes = map (λ v. v.items) fields.lanes.items; gives = fields.gives.items } in
+    let p : PhaseLists = record { turns = fields.turns.items; lanes = map (λ v. v.items) fields.lanes.items; gives = fields.gives.items } in
     let turns = rw c.deref.ensures.value at c.in_ok-push_turns.ensures in
     let lanes = rw c.deref-2.ensures.value at c.in_ok-push_lanes.ensures in
     let gives = rw c.deref-3.ensures.value at c.in_ok-push_changes.ensures in
