@@ -12,8 +12,9 @@ use Rattle.bc_model.specs.WellFormed.{IsOp, IsSetup, IsPhase, IsTrace}
 use Rattle.bc_model.specs.declared.operations.Op.{Op}
 use Rattle.bc_model.specs.declared.operations.Op.TheVariants as ops
 use Rattle.bc_model.specs.declared.traces.Setup.{Setup}
-use Rattle.bc_trace.specs.Lines.{lane, op, phase, turn, end, done, version, spelling, line_text, change_line, lane_lines, phase_lines, setup_lines, trace_text}
+use Rattle.bc_trace.specs.Lines.{lane, op, phase, end, done, version, spelling, line_text, change_line, lane_lines, phase_lines, setup_lines, trace_text, turn_lines}
 use Rattle.bc_trace.specs.Words.{name, verb_name}
+use Rattle.bc_trace.specs.declared.line.Shift.TheVariants as shifts
 use Rattle.bc_trace.specs.declared.words.Verb.{Verb}
 use Rattle.bc_trace.specs.declared.words.Verb.TheVariants as verbs
 use Rattle.bc_trace.specs.declared.words.Keyword.TheVariants as words
@@ -44,7 +45,7 @@ two_numbers m n ns h k =
     )
 
 -- a verb, two numbers and a line feed
-op_length : (v : Verb) (m n : ℕ) (ns : List ℕ) → m < 2 ^ 64 → n < 2 ^ 64 → 8 ≤ length (spelling (words.Op v) (m ∷ n ∷ ns) ++ 10 ∷ [])
+op_length : (v : Verb) (m n : ℕ) (ns : List ℕ) → m < 2 ^ 64 → n < 2 ^ 64 → 8 ≤ length (spelling (words.Op v) shifts.Stays (m ∷ n ∷ ns) ++ 10 ∷ [])
 unfolding spelling name
 op_length v m n ns h k =
     omega (
@@ -114,9 +115,9 @@ phase_frame p =
     let tail = map change_line p.gives ++ end ∷ [] in
     omega (
       arith,
-      length-append (line_text phase) (flat_map line_text (map turn p.turns ++ (lanes ++ tail))),
-      ap length (flat_map-append line_text (map turn p.turns) (lanes ++ tail)),
-      length-append (flat_map line_text (map turn p.turns)) (flat_map line_text (lanes ++ tail)),
+      length-append (line_text phase) (flat_map line_text (turn_lines 0 p.turns ++ (lanes ++ tail))),
+      ap length (flat_map-append line_text (turn_lines 0 p.turns) (lanes ++ tail)),
+      length-append (flat_map line_text (turn_lines 0 p.turns)) (flat_map line_text (lanes ++ tail)),
       ap length (flat_map-append line_text lanes tail),
       length-append (flat_map line_text lanes) (flat_map line_text tail),
       ap length (flat_map-append line_text (map change_line p.gives) (end ∷ [])),

@@ -1,6 +1,7 @@
 -- One phase of a trace on an engine, by what the engine says of it.
 use Rattle.std.proofs.Common.{◌≡◌, ℕ, ◌+◌, ◌<◌, ◌≤◌, inl, inr, List, [], ◌++◌, length, drop, get_or, get_or-drop, length-drop, Option, Some, sym, ap, ◌∙◌, append_assoc, arith, subst, length-append, below_more}
 use Rattle.std.specs.Prelude.{sum_by, Result, Err}
+use Rattle.std.specs.List.{AllByRecursion}
 use Rattle.std.proofs.lemmas.Bool.{cases_lt}
 use Rattle.std.proofs.lemmas.List.{get_or_past, get_or_read}
 use Rattle.std.proofs.lemmas.List.Sums.{get_or-le-sum_by, sum_by-drop_more}
@@ -17,7 +18,7 @@ use Rattle.bc_model.specs.Run.{no_phase, after_phase, replies_to_lanes}
 use Rattle.bc_model.specs.Run.{phase_at as phase_of}
 use Rattle.bc_model.specs.RunLengths.{ops_of}
 use Rattle.bc_model.specs.State.{State}
-use Rattle.bc_model.specs.WellFormed.{IsPhase, IsTrace}
+use Rattle.bc_model.specs.WellFormed.{FitsFrames, IsPhase, IsTrace}
 use Rattle.bc_model.specs.declared.operations.Op.{Op}
 use Rattle.bc_model.specs.declared.operations.Reply.{Reply}
 use Rattle.bc_model.specs.declared.traces.Setup.{Setup}
@@ -40,6 +41,12 @@ phase-read t ps k p e lt is = sym (get_or_read t.phases k p lt (subst (λ qs. p 
 pub phase-fits : (t : TraceLists) (k : ℕ) (p : PhaseLists) (setup : Setup) → IsTrace t → k < length t.phases → phase_of t k ≡ p → setup ≡ t.setup → IsPhase setup p
 phase-fits t k p setup h lt at same =
     subst (λ (z : Setup). IsPhase z p) (sym same) (subst (IsPhase t.setup) at (at-index (IsPhase t.setup) t.phases k no_phase h.phases lt))
+
+-- no turn of it withholds more frames than can be
+pub phase-budgets : (t : TraceLists) (k : ℕ) (p : PhaseLists) (setup : Setup) → IsTrace t → k < length t.phases → phase_of t k ≡ p → setup ≡ t.setup → AllByRecursion (FitsFrames setup) p.turns
+phase-budgets t k p setup h lt at same =
+    let Fits : PhaseLists → Type 0 = λ q. AllByRecursion (FitsFrames t.setup) q.turns in
+    subst (λ (z : Setup). AllByRecursion (FitsFrames z) p.turns) (sym same) (subst Fits at (at-index Fits t.phases k no_phase h.budgets lt))
 
 -- the phase of a course is that of its trace
 pub phase-of : (t : TraceLists) (s : State) (first k : ℕ) (p : PhaseLists) → phase_of t (k + first) ≡ p → phase_at (course_from t s first) k ≡ p

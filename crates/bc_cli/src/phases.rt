@@ -1,13 +1,14 @@
 //! The phases of a trace: each is run, and what it prints is written.
 
 ghost use Rattle.std.specs.Prelude.{◌≡◌, ◌⊎◌, ℕ, ◌+◌, ◌^◌, ◌<◌, ◌≤◌, List, Option, Some, None, length, OnOk, IfOk, IsErr, IsErrOf};
+ghost use Rattle.std.specs.List.{AllByRecursion};
 ghost use Rattle.bc_engine.specs.EngineFacts.{HasRoomForBirths};
 ghost use Rattle.bc_engine.specs.Lanes.{HasRoomForOps};
 ghost use Rattle.bc_engine.specs.declared.engines.Ended.{Ended};
 ghost use Rattle.bc_io.specs.Faults.{Rose};
 ghost use Rattle.bc_io.specs.Told.{HeldGrows};
 ghost use Rattle.bc_io.specs.Pieces.{RoomFalls};
-ghost use Rattle.bc_model.specs.WellFormed.{IsPhase, IsTrace};
+ghost use Rattle.bc_model.specs.WellFormed.{FitsFrames, IsPhase, IsTrace};
 ghost use Rattle.bc_model.specs.State.{State};
 ghost use Rattle.bc_cli.specs.Courses.{course_from};
 ghost use Rattle.bc_cli.specs.Output.{texts_before, all_texts};
@@ -175,6 +176,7 @@ where
     G: Gate + Sync,
     requires going { engine.old.ended ≡ None }
     requires phase { IsPhase engine.old.setup phase.now }
+    requires budgets { AllByRecursion (FitsFrames engine.old.setup) phase.now.turns }
     requires births { HasRoomForOps engine.old phase.now.lanes 0 }
     ensures ended { IfOk result (λ end. PhaseEnded engine.old phase.now engine.new end.replies end.need) }
     ensures setup { engine.new.setup ≡ engine.old.setup }

@@ -163,7 +163,8 @@ where
         IfSome result.heap (λ engine. engine.workers ≡ workers_of command) }
 
     // The heap that is handed back keeps its account: bookmarks and counters stand for what the pages that left refer to,
-    // and free frames, nursery pages and resident pages add up to the trace's frames.
+    // and free frames, nursery pages, withheld frames and resident pages add up to the trace's frames. None is withheld but where the heap
+    // turned out too small.
     ensures account { IfSome result.heap KeepsAccount }
 
     // `run` over a trace within the limit: if in every phase, after every cut of its lanes, the need is at most the number

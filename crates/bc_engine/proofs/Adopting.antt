@@ -17,7 +17,7 @@ use Rattle.bc_word.specs.WordBits.{IsPacked}
 use Rattle.bc_running.specs.Running.{HasEmptyChunks, RunningStands, RunningView}
 use Rattle.bc_running.specs.RunningFacts.{adopted_heap, running_of}
 use Rattle.bc_engine.specs.Counting.{IsCounted, counts_from}
-use Rattle.bc_engine.specs.EngineFacts.{CanRunLanes, IsUnrecorded}
+use Rattle.bc_engine.specs.EngineFacts.{CanRunLanes, IsUnrecorded, NoneWithheld}
 use Rattle.bc_engine.specs.Parts.{CanAdopt, PartsStand}
 use Rattle.bc_engine.proofs.Parting.{adopted_state, parts-stand, runs-adopted, stands-adopted}
 
@@ -27,6 +27,7 @@ pub record IsAdopted (setup : Setup) (holders : List Holder) (serials : List ℕ
   pub stands : (state : State) → PartsStand setup holders serials roots s state → RunningStands r state
   pub chunks : HasEmptyChunks r.heap
   pub unrecorded : IsUnrecorded r.heap
+  pub returned : NoneWithheld setup r.heap
   pub counted : IsCounted (counts_from s.reads) r.heap.space.reads
 
 counted-from : (n : ℕ) → n < 2 ^ 64 → (n + (0 + 0 + 0 + 0) % 2 ^ 64) % 2 ^ 64 ≡ n
@@ -61,7 +62,8 @@ module _ (setup : Setup) (holders : List Holder) (serials : List ℕ) (roots : R
         lanes = chunks-long setup;
         words = λ l lt. ap (λ (c : Nursery). c.words) (chunk-at setup l lt);
         entries = λ l lt. ap (λ (b : Entries). b.capacity) (get_or-replicate setup.lanes l (record { capacity = setup.buffer; entries = [] }) _ lt);
-        nursery = can.nursery;
+        nursery = omega (arith, can.nursery);
+        two = omega (arith, can.nursery, can.frames, can.range.frames.0);
         frames = can.frames;
         used = can.used;
       };
@@ -71,6 +73,7 @@ module _ (setup : Setup) (holders : List Holder) (serials : List ℕ) (roots : R
     stands = stands;
     chunks = chunk-none setup;
     unrecorded = record { entries = no_entries setup; remembered = can.none_remembered };
+    returned = can.nursery;
     counted = counted-from s.reads few;
   }
 

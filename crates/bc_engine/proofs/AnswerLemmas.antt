@@ -2,7 +2,8 @@
 use Rattle.std.proofs.Common.{Vec, Global, ◌≡◌, ℕ, ◌+◌, List, [], ◌∷◌, ◌++◌, length, inl, inr, refl, ap, sym, subst, ◌∙◌, arith}
 use Prim.Native.Nat.{zero, suc}
 use Rattle.std.proofs.lemmas.List.{append-nil, length-append}
-use Rattle.bc_model.specs.Lists.{PhaseLists}
+use Rattle.bc_model.specs.Lists.{PhaseLists, TurnLists}
+use Rattle.bc_model.specs.TurnLines.{hints_in}
 use Rattle.bc_model.specs.declared.operations.Op.{Op}
 use Rattle.bc_model.specs.declared.operations.Reply.{Reply}
 use Rattle.bc_marking.proofs.LineLemmas.{told-one, told-then}
@@ -66,46 +67,46 @@ both-told {lines} {line} {next} c d asked mid answers last x y z from turn early
     ((x ++ y) ++ z, told-turns lines line asked next last ((x ++ y) ++ z) same all)
 
 -- and so has a round, to the notices of the lines of all its turns
-module _ {lanes : List (List Op)} {lines : List (List ℕ)} {before after : List (Vec Reply Global)} {line next : ℕ} where
-  round-told : {e f : EngineView} (r : RanRound lanes lines e before line f after next) → (told : List Answer) × HasTold lines line e.answers (turns_of_round r) next f.answers told
+module _ {lanes : List (List Op)} {lines : List TurnLists} {before after : List (Vec Reply Global)} {line next : ℕ} where
+  round-told : {e f : EngineView} (r : RanRound lanes lines e before line f after next) → (told : List Answer) × HasTold (hints_in lines) line e.answers (turns_of_round r) next f.answers told
   round-told {e} {f} r =
-      let first = turn-told lines line r.turn.turn in
+      let first = turn-told (hints_in lines) line r.turn.turn in
       let c = r.empties.collects in
       let b = r.empties.next.beside in
       both-told c.turns b.turns e.answers r.answers r.empties.answers f.answers first.0 c.told b.told r.empties.mid first.1 c.uses b.uses
 
-module _ {lanes : List (List Op)} {lines : List (List ℕ)} {e f : EngineView} {before after : List (Vec Reply Global)} {line : ℕ} where
-  last-told : (r : LastRound lanes lines e before line f after) → (told : List Answer) × HasTold lines line e.answers (turns_of_last r) r.next f.answers told
+module _ {lanes : List (List Op)} {lines : List TurnLists} {e f : EngineView} {before after : List (Vec Reply Global)} {line : ℕ} where
+  last-told : (r : LastRound lanes lines e before line f after) → (told : List Answer) × HasTold (hints_in lines) line e.answers (turns_of_last r) r.next f.answers told
   last-told r =
-      let first = turn-told lines line r.turn.turn in
+      let first = turn-told (hints_in lines) line r.turn.turn in
       let c = r.empties.collects in
       let b = r.empties.next.beside in
       both-told c.turns b.turns e.answers r.answers r.empties.answers f.answers first.0 c.told b.told r.empties.mid first.1 c.uses b.uses
 
-  cut-told : (r : CutRound lanes lines e before line f after) → (told : List Answer) × HasTold lines line e.answers (turns_of_cut r) r.next f.answers told
+  cut-told : (r : CutRound lanes lines e before line f after) → (told : List Answer) × HasTold (hints_in lines) line e.answers (turns_of_cut r) r.next f.answers told
   cut-told r =
-      let first = turn-told lines line r.turn.turn in
+      let first = turn-told (hints_in lines) line r.turn.turn in
       let c = r.leaves.collects in
       let b = r.leaves.next.stays in
       both-told c.turns b.turns e.answers r.answers r.leaves.answers f.answers first.0 c.told b.told r.leaves.mid first.1 c.uses b.uses
 
 -- rounds, one after another, begin with the first line
-rounds-told : (lanes : List (List Op)) (lines : List (List ℕ)) (e : EngineView) (before : List (Vec Reply Global)) (n turns : ℕ) (f : EngineView) (after : List (Vec Reply Global)) → RanRounds lanes lines e before n turns f after
-    → (told : List Answer) × HasTold lines 0 e.answers turns (line_of lines turns) f.answers told
+rounds-told : (lanes : List (List Op)) (lines : List TurnLists) (e : EngineView) (before : List (Vec Reply Global)) (n turns : ℕ) (f : EngineView) (after : List (Vec Reply Global)) → RanRounds lanes lines e before n turns f after
+    → (told : List Answer) × HasTold (hints_in lines) 0 e.answers turns (line_of lines turns) f.answers told
 rounds-told lanes lines e before zero turns f after ran = (
   [],
   record {
     answers = ap (λ (x : EngineView). x.answers) ran.0 ∙ sym (append-nil e.answers);
     next = refl;
-    long = sym (ap (hints_along lines 0) ran.2);
+    long = sym (ap (hints_along (hints_in lines) 0) ran.2);
   },
 )
 rounds-told lanes lines e before (suc n) turns f after ran =
     let first = rounds-told lanes lines e before n ran.2 ran.0 ran.1 ran.4 in
     let last = round-told ran.5 in
-    let all = told-then lines 0 ran.2 (line_of lines ran.2) (turns_of_round ran.5) ran.3 e.answers ran.0.answers f.answers first.0 last.0 first.1 last.1 in
+    let all = told-then (hints_in lines) 0 ran.2 (line_of lines ran.2) (turns_of_round ran.5) ran.3 e.answers ran.0.answers f.answers first.0 last.0 first.1 last.1 in
     let same : ran.2 + turns_of_round ran.5 ≡ turns = sym ran.6 in
-    let now = told-turns lines 0 e.answers ran.3 f.answers (first.0 ++ last.0) same all in
+    let now = told-turns (hints_in lines) 0 e.answers ran.3 f.answers (first.0 ++ last.0) same all in
     (first.0 ++ last.0, record { answers = now.answers; next = refl; long = now.long })
 
 -- so has a phase
@@ -114,15 +115,15 @@ done-answered e f p replies had =
     let all = had.rounds in
     let first = rounds-told p.lanes p.turns (with_answers e []) had.room all.0 all.1 all.2 all.3 all.4 in
     let last = last-told all.5 in
-    let both = told-then p.turns 0 all.1 (line_of p.turns all.1) (turns_of_last all.5) all.5.next [] all.2.answers had.last.answers first.0 last.0 first.1 last.1 in
+    let both = told-then (hints_in p.turns) 0 all.1 (line_of p.turns all.1) (turns_of_last all.5) all.5.next [] all.2.answers had.last.answers first.0 last.0 first.1 last.1 in
     let same : all.1 + turns_of_last all.5 ≡ had.turns = sym all.6 in
-    ap (λ (x : EngineView). length x.answers) had.given ∙ ap length both.answers ∙ (told-turns p.turns 0 [] all.5.next had.last.answers (first.0 ++ last.0) same both).long
+    ap (λ (x : EngineView). length x.answers) had.given ∙ ap length both.answers ∙ (told-turns (hints_in p.turns) 0 [] all.5.next had.last.answers (first.0 ++ last.0) same both).long
 
 pub cut-answered : (e f : EngineView) (p : PhaseLists) (replies : List (List Reply)) (had : HadTurnsToCut e p f replies) → length f.answers ≡ hints_before p.turns had.turns
 cut-answered e f p replies had =
     let all = had.rounds in
     let first = rounds-told p.lanes p.turns (with_answers e []) had.room all.0 all.1 all.2 all.3 all.4 in
     let last = cut-told all.5 in
-    let both = told-then p.turns 0 all.1 (line_of p.turns all.1) (turns_of_cut all.5) all.5.next [] all.2.answers f.answers first.0 last.0 first.1 last.1 in
+    let both = told-then (hints_in p.turns) 0 all.1 (line_of p.turns all.1) (turns_of_cut all.5) all.5.next [] all.2.answers f.answers first.0 last.0 first.1 last.1 in
     let same : all.1 + turns_of_cut all.5 ≡ had.turns = sym all.6 in
-    ap length both.answers ∙ (told-turns p.turns 0 [] all.5.next f.answers (first.0 ++ last.0) same both).long
+    ap length both.answers ∙ (told-turns (hints_in p.turns) 0 [] all.5.next f.answers (first.0 ++ last.0) same both).long

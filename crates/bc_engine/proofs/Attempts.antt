@@ -43,7 +43,7 @@ pub ready-sound : {setup : Setup} {r : RunningView} → CanRunLanes setup r → 
 ready-sound {setup} {r} ready = record {
   running = ready.order;
   later = λ l lt. none-later r.heap r.holders r.serials ready.meant.0 ready.meant.1 l;
-  frames = omega (arith, ready.fits.nursery, ready.fits.frames, ready.range.frames.0);
+  frames = ready.fits.two;
   lanes = ready.fits.lanes ∙ sym ready.lanes;
   few = omega (arith, ready.lanes, ready.range.lanes.1);
 }

@@ -30,6 +30,7 @@ use Rattle.bc_whole_heap.specs.Running.{IsRunning}
 use Rattle.bc_engine.specs.Lanes.{LanesRan, LanesWentOn}
 use Rattle.bc_engine.proofs.GoingLemmas.{goes-none}
 use Rattle.bc_engine.proofs.RunLemmas.{runs-none, runs-same, runs-then}
+use Rattle.bc_engine.proofs.Sizes.{nursery-same, two-same}
 use Rattle.bc_engine.specs.Engines.{HasEmptyChunks}
 use Rattle.bc_engine.specs.EngineFacts.{HasSetup, CanRunLanes, IsUnrecorded}
 use Rattle.bc_engine.specs.Counting.{CountsEarly, left_since}
@@ -74,7 +75,8 @@ fits-emptied setup {h} {k} is fits = record {
   lanes = ap length is.cleared ∙ length-map h.chunks emptied ∙ fits.lanes;
   words = λ l lt. ap (λ (cs : List Nursery). (chunk_of cs l).words) is.cleared ∙ ap (λ (c : Nursery). c.words) (chunk-emptied h.chunks l) ∙ fits.words l lt;
   entries = λ l lt. ap (λ (bs : List Entries). (buffer_of bs l).capacity) is.unrecorded ∙ ap (λ (b : Entries). b.capacity) (buffer-emptied h.buffers l) ∙ fits.entries l lt;
-  nursery = is.sizes.nursery ∙ fits.nursery;
+  nursery = nursery-same setup h.space k.space is.sizes.nursery fits.nursery;
+  two = two-same h.space k.space is.sizes.nursery is.sizes.frames fits.two;
   frames = is.sizes.frames ∙ fits.frames;
   used = used-kept setup h k fits.domains is.domains fits.used;
 }
@@ -118,7 +120,8 @@ ready-kept {hs} {serials} {h} {k} setup is order ready = record {
     lanes = length-alike outline_nursery h.chunks k.chunks is.chunks ∙ ready.fits.lanes;
     words = λ l lt. words-alike h.chunks k.chunks l is.chunks ∙ ready.fits.words l lt;
     entries = λ l lt. ap (λ (bs : List Entries). (buffer_of bs l).capacity) is.entries ∙ ready.fits.entries l lt;
-    nursery = is.sizes.nursery ∙ ready.fits.nursery;
+    nursery = nursery-same setup h.space k.space is.sizes.nursery ready.fits.nursery;
+    two = two-same h.space k.space is.sizes.nursery is.sizes.frames ready.fits.two;
     frames = is.sizes.frames ∙ ready.fits.frames;
     used = used-kept setup h k ready.fits.domains is.domains ready.fits.used;
   };

@@ -20,7 +20,7 @@ use Rattle.bc_superpages.specs.LayoutAt.{IsAllocated}
 use Rattle.bc_superpages.specs.RootWords.{RootWords}
 use Rattle.bc_engine.specs.Counting.{IsCounted}
 use Rattle.bc_engine.specs.Engines.{EngineStands, EngineView, HasEmptyChunks}
-use Rattle.bc_engine.specs.EngineFacts.{CanRunLanes, IsEngine, IsSoundEngine, IsUnrecorded}
+use Rattle.bc_engine.specs.EngineFacts.{CanRunLanes, IsEngine, IsSoundEngine, IsUnrecorded, NoneWithheld}
 use Rattle.bc_running.proofs.SoundLemmas.{none-young}
 
 -- what refers to a cell or to an object of an empty chunk refers to a cell
@@ -99,6 +99,7 @@ module _ (e : EngineView) (q : RunningView) (d : ℕ) (x : Holder) (fits : IsHol
           workers = old.workers;
           ready = subst (CanRunLanes e.setup) (sym is) (ready-handed d x none unrecorded fits old.ready);
           going = λ going. subst (λ (r : RunningView). IsUnrecorded r.heap) (sym is) (old.going going);
+          returned = λ going. subst (λ (r : RunningView). NoneWithheld e.setup r.heap) (sym is) (old.returned going);
         };
     counted = subst (λ (r : RunningView). IsCounted e.counters r.heap.space.reads) (sym is) sound.counted;
   }

@@ -26,6 +26,8 @@ pub mod RunLemmas
 pub mod AttemptLemmas
 -- Lanes that ran side by side
 pub mod BesideLemmas
+-- Frames that are withheld
+pub mod BudgetLemmas
 -- A turn
 pub mod TurnLemmas
 -- A round

@@ -21,7 +21,7 @@ use Rattle.bc_running.proofs.StartLemmas.{opening-stands}
 use Rattle.bc_running.specs.Running.{RunningView, RunningStands}
 use Rattle.bc_running.specs.RunningFacts.{new_running}
 use Rattle.bc_engine.specs.Engines.{HasEmptyChunks}
-use Rattle.bc_engine.specs.EngineFacts.{CanRunLanes, IsUnrecorded}
+use Rattle.bc_engine.specs.EngineFacts.{CanRunLanes, IsUnrecorded, NoneWithheld}
 
 -- every page is absent
 none-remembered : (n p : ℕ) → state_at (map (λ (h : Header). h.pages) (replicate n unused_header)) p ≡ Remembered → ⊥
@@ -68,7 +68,8 @@ ready-opening s range =
         lanes = chunks-long s;
         words = λ l lt. ap (λ (c : Nursery). c.words) (chunk-at s l lt);
         entries = λ l lt. ap (λ (b : Entries). b.capacity) (get_or-replicate s.lanes l (record { capacity = s.buffer; entries = [] }) _ lt);
-        nursery = refl;
+        nursery = omega arith;
+        two = omega (arith, range.frames.0);
         frames = refl;
         used = none-used n frames nursery s.domains;
       };
@@ -82,6 +83,7 @@ pub record IsOpened (s : Setup) (r : RunningView) : Type 0 where
   pub stands : RunningStands r (opening s)
   pub chunks : HasEmptyChunks r.heap
   pub unrecorded : IsUnrecorded r.heap
+  pub returned : NoneWithheld s r.heap
 
 pub opened : (s : Setup) (r : RunningView) → IsSetup s → r ≡ new_running s → IsOpened s r
 opened s r range new = subst (IsOpened s) (sym new) (record {
@@ -89,4 +91,5 @@ opened s r range new = subst (IsOpened s) (sym new) (record {
   stands = opening-stands s range;
   chunks = chunk-none s;
   unrecorded = record { entries = no_entries s; remembered = λ p lt. none-remembered s.superpages p };
+  returned = refl;
 })

@@ -1,28 +1,35 @@
 -- A round: the lanes run, the nurseries are emptied, and the lanes that aren't at their ends do one operation more.
-use Rattle.std.proofs.Common.{Vec, Global, ◌≡◌, ◌≢◌, ℕ, ◌*◌, ◌<◌, ◌≤◌, List, length, Option, Some, None, Err, refl, sym, subst, ◌∙◌, arith}
+use Rattle.std.proofs.Common.{Vec, Global, ◌≡◌, ◌≢◌, ℕ, ◌+◌, ◌-◌, ◌*◌, ◌<◌, ◌≤◌, List, length, Option, Some, None, Err, refl, sym, ap, subst, ◌∙◌, arith}
 use Rattle.bc_cycle.specs.Causes.{IfOutOfHeap}
 use Rattle.bc_cycle.specs.Emptying.{KeepsMeaning}
 use Rattle.bc_cycle.specs.declared.emptying.CycleError.{CycleError}
 use Rattle.bc_cycle.specs.declared.emptying.CycleError.TheVariants as cycle
 use Rattle.bc_failsafe.specs.Packing.{NeedOfHeap}
+use Rattle.bc_marking.specs.Lines.{line_behind}
+use Rattle.bc_model.specs.Lists.{TurnLists}
 use Rattle.bc_model.specs.Rows.{lists_of}
+use Rattle.bc_model.specs.TurnLines.{budget_at, hints_in}
 use Rattle.bc_model.specs.declared.traces.Setup.{Setup}
 use Rattle.bc_model.specs.declared.operations.Op.{Op}
 use Rattle.bc_model.specs.declared.operations.Reply.{Reply}
 use Rattle.bc_pager.specs.declared.answers.Answer.{Answer}
 use Rattle.bc_superpages.specs.Layout.{superpages}
 use Rattle.bc_engine.specs.Answers.{IfNoRoom, IfTooSmall}
+use Rattle.bc_engine.specs.Budgets.{wanted_behind}
+use Rattle.bc_engine.specs.EngineFacts.{with_answers}
 use Rattle.bc_engine.specs.Engines.{EngineView}
+use Rattle.bc_engine.specs.Inside.{engine_of, played}
 use Rattle.bc_engine.specs.Lanes.{of_lane, EachFurther, HasMore, IsUnderway, LanesRan, left}
-use Rattle.bc_engine.specs.Rounds.{CollectsAnd, HadTurn, RoundsWentOn, SameLanes, IsTooSmall, IsUnderwayOn}
+use Rattle.bc_engine.specs.Rounds.{CollectsAnd, HadTurn, SameLanes, IsTooSmall, IsUnderwayOn}
 use Rattle.bc_engine.specs.declared.counters.Counters.{Counters}
 use Rattle.bc_engine.specs.declared.engines.Ended.{Ended}
+use Rattle.bc_engine.specs.declared.engines.Engine.TheInside.{Inside}
 use Rattle.bc_engine.specs.declared.engines.Ended.TheVariants.{OutOfHeap, NoMemory}
 use Rattle.bc_engine.specs.declared.rounds.RoundsError.{RoundsError}
 use Rattle.bc_engine.specs.declared.rounds.RoundsError.TheVariants.{TooSmall, NoRoom}
 use Rattle.bc_engine.proofs.EmptyingLemmas.{goes-refused}
 use Rattle.bc_engine.proofs.GoingLemmas.{goes-then}
-use Rattle.bc_engine.proofs.RunLemmas.{runs-same, runs-then, left-le, left-less}
+use Rattle.bc_engine.proofs.RunLemmas.{runs-then, left-le, left-less}
 use Rattle.bc_running.specs.Running.{RunningView}
 
 -- an engine that hasn't ended hasn't run out of memory
@@ -76,37 +83,38 @@ fewer-left lanes told mid replies n long first second some each =
     let less = left-less lanes mid replies some.0 second some.1 some.2 (omega (arith, more)) in
     omega (arith, less, left-le lanes told mid first)
 
--- one stretch of rounds after another
-pub on-then : {lanes : List (List Op)} {e f g : EngineView} {told mid replies : List (Vec Reply Global)} → RoundsWentOn lanes e told f mid → RoundsWentOn lanes f mid g replies → RoundsWentOn lanes e told g replies
-on-then first second = record { going = second.going; runs = runs-then first.runs second.runs }
-
-pub underway-then : {lanes : List (List Op)} {f g : EngineView} {mid replies : List (Vec Reply Global)} → g.setup ≡ f.setup → RoundsWentOn lanes f mid g replies → IsUnderwayOn f lanes mid → IsUnderwayOn g lanes replies
-underway-then {lanes} {f} {g} {mid} {replies} setup on underway =
-    subst (λ (s : Setup). IsUnderway s lanes g.running replies) (sym setup) (on.runs.underway f.setup underway)
-
 -- rounds that are cut after others are cut
-pub small-then : {lanes : List (List Op)} {e f : EngineView} (g : EngineView) {told mid : List (Vec Reply Global)} (replies : List (Vec Reply Global)) (need : ℕ) → RoundsWentOn lanes e told f mid → IsTooSmall lanes f mid g replies need → IsTooSmall lanes e told g replies need
-small-then g replies need first small = record { cause = small.cause; goes = goes-then first.runs.goes small.goes; needs = small.needs; above = small.above }
-
--- before the first round
-pub on-begun : (lanes : List (List Op)) (e : EngineView) (told : List (Vec Reply Global)) → e.ended ≡ None → RoundsWentOn lanes e told e told
-on-begun lanes e told going = record { going = going; runs = runs-same lanes e.running e.running told refl }
+pub small-then : {lanes : List (List Op)} {e f : EngineView} (g : EngineView) {told mid : List (Vec Reply Global)} (replies : List (Vec Reply Global)) (need : ℕ) → LanesRan lanes e.running told f.running mid → IsTooSmall lanes f mid g replies need → IsTooSmall lanes e told g replies need
+small-then g replies need first small = record { cause = small.cause; goes = goes-then first.goes small.goes; needs = small.needs; above = small.above }
 
 -- nobody's domain changes hands, and no lane makes an object, in one stretch after another
 pub lanes-then : (r q x : RunningView) → SameLanes r q → SameLanes q x → SameLanes r x
 lanes-then r q x first second = (second.0 ∙ first.0, second.1 ∙ first.1)
 
--- a turn, of the answers that there were and of the hints of its line
-pub had-hints : {lanes : List (List Op)} {r q : RunningView} {told replies : List (Vec Reply Global)} {asked kept answers : List Answer} {hints line : List ℕ} {c d : Counters} → kept ≡ asked → hints ≡ line → HadTurn lanes r told kept hints q replies answers c d → HadTurn lanes r told asked line q replies answers c d
-had-hints {lanes} {r} {q} {told} {replies} {asked} {kept} {answers} {hints} {line} {c} {d} list same had =
-    subst (λ (hs : List ℕ). HadTurn lanes r told asked hs q replies answers c d) same
-    (subst (λ (xs : List Answer). HadTurn lanes r told xs hints q replies answers c d) list had)
+-- a turn, of the answers that there were, and of the hints and the frames of its line
+pub had-hints : {lanes : List (List Op)} {few unused : ℕ} {r q : RunningView} {told replies : List (Vec Reply Global)} {asked kept answers : List Answer} {hints line : List ℕ} {c d : Counters} → few ≡ unused → kept ≡ asked → hints ≡ line → HadTurn lanes few r told kept hints q replies answers c d → HadTurn lanes unused r told asked line q replies answers c d
+had-hints {lanes} {few} {unused} {r} {q} {told} {replies} {asked} {kept} {answers} {hints} {line} {c} {d} frames list same had =
+    subst (λ (n : ℕ). HadTurn lanes n r told asked line q replies answers c d) frames
+    (subst (λ (hs : List ℕ). HadTurn lanes few r told asked hs q replies answers c d) same
+    (subst (λ (xs : List Answer). HadTurn lanes few r told xs hints q replies answers c d) list had))
 
--- what came then, on a heap of the same setup and from the line behind it
-pub minor-from : {Then : List (List ℕ) → RunningView → ℕ → List Answer → RunningView → ℕ → List Answer → Counters → Counters → Type 0} {s t : Setup} {lines : List (List ℕ)} {r q : RunningView} {from line to : ℕ} {before after : List Answer} {c d : Counters} → t ≡ s → from ≡ line → CollectsAnd Then (t.lanes * t.nursery) lines r from before q to after c d → CollectsAnd Then (s.lanes * s.nursery) lines r line before q to after c d
-minor-from {Then} {s} {t} {lines} {r} {q} {from} {line} {to} {before} {after} {c} {d} same at minor =
-    subst (λ (x : Setup). CollectsAnd Then (x.lanes * x.nursery) lines r line before q to after c d) same
-    (subst (λ (n : ℕ). CollectsAnd Then (t.lanes * t.nursery) lines r n before q to after c d) at minor)
+-- as many frames are wanted then, on a heap of the same setup
+pub wanted-is : (s t : Setup) (lines : List TurnLists) (line from now more : ℕ) → t ≡ s → from ≡ line_behind (hints_in lines) line → now ≡ budget_at lines line → more ≡ budget_at lines from - now → t.lanes * t.nursery + more ≡ wanted_behind s lines line
+wanted-is s t lines line from now more same at withheld is =
+    ap (λ (x : Setup). x.lanes * x.nursery + more) same
+    ∙ ap (λ (n : ℕ). s.lanes * s.nursery + n)
+    (is ∙ ap (λ (n : ℕ). budget_at lines from - n) withheld ∙ ap (λ (n : ℕ). budget_at lines n - budget_at lines line) at)
+
+-- what came then, from the line behind it
+pub minor-from : {Then : List (List ℕ) → RunningView → ℕ → List Answer → RunningView → ℕ → List Answer → Counters → Counters → Type 0} {few wanted : ℕ} {lines : List (List ℕ)} {r q : RunningView} {from line to : ℕ} {before after : List Answer} {c d : Counters} → few ≡ wanted → from ≡ line → CollectsAnd Then few lines r from before q to after c d → CollectsAnd Then wanted lines r line before q to after c d
+minor-from {Then} {few} {wanted} {lines} {r} {q} {from} {line} {to} {before} {after} {c} {d} same at minor =
+    subst (λ (x : ℕ). CollectsAnd Then x lines r line before q to after c d) same
+    (subst (λ (n : ℕ). CollectsAnd Then few lines r n before q to after c d) at minor)
+
+-- the engine that plays, as contracts see it, where it hasn't ended
+pub played-at : (i : Inside) (answers : List Answer) → i.ended ≡ None → played i.player answers ≡ with_answers (engine_of i) answers
+played-at i answers going =
+    ap (λ (x : Option Ended). record { running = i.player.running; setup = i.player.setup; workers = i.player.workers; ended = x; answers = answers; counters = i.player.counters }) (sym going)
 
 -- engines that are alike in each part
 alike : (r : RunningView) (s t : Setup) (v w : ℕ) (x y : Option Ended) (answers : List Answer) (c : Counters) → s ≡ t → v ≡ w → x ≡ y

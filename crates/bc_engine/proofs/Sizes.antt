@@ -1,5 +1,5 @@
 -- What an operation and an emptying leave as it was: the sizes of a heap, and which operations fit it.
-use Rattle.std.proofs.Common.{◌≡◌, ℕ, List, [], ◌∷◌, None, sym, ap, subst, ◌∙◌, inl, inr}
+use Rattle.std.proofs.Common.{◌≡◌, ℕ, ◌+◌, ◌*◌, ◌≤◌, List, [], ◌∷◌, None, sym, ap, subst, ◌∙◌, inl, inr, arith}
 use Rattle.std.proofs.lemmas.Bool.{cases_eq}
 use Rattle.bc_bookmarks.specs.Moves.{MovesPages}
 use Rattle.bc_whole_heap.specs.Closed.{buffer_of}
@@ -44,6 +44,13 @@ pub lanes-of_heap : (setup : Setup) (h : HeapView) (lanes : List (List Op)) → 
 lanes-of_heap setup h [] fits all = tt
 lanes-of_heap setup h (ops ∷ lanes) fits all = (ops-of_heap setup h ops fits all.0, lanes-of_heap setup h lanes fits all.1)
 
+-- the frames that no page may use, and all frames, stay
+pub nursery-same : (setup : Setup) (s t : Layout) → t.nursery ≡ s.nursery → setup.lanes * setup.nursery ≤ s.nursery → setup.lanes * setup.nursery ≤ t.nursery
+nursery-same setup s t same fits = subst (λ (n : ℕ). setup.lanes * setup.nursery ≤ n) (sym same) fits
+
+pub two-same : (s t : Layout) → t.nursery ≡ s.nursery → t.frames ≡ s.frames → s.nursery + 2 ≤ s.frames → t.nursery + 2 ≤ t.frames
+two-same s t nursery frames two = omega (arith, nursery, frames, two)
+
 -- an operation of a lane leaves the sizes
 pub fits-step : (setup : Setup) {lane : ℕ} {r q : RunningView} → StaysBut lane r q → HasSetup r.heap setup → HasSetup q.heap setup
 fits-step setup {lane} {r} {q} stays fits = record {
@@ -59,35 +66,38 @@ fits-step setup {lane} {r} {q} stays fits = record {
     | inl e ↦ ap (λ (n : ℕ). (buffer_of q.heap.buffers n).capacity) e ∙ stays.capacity ∙ ap (λ (n : ℕ). (buffer_of r.heap.buffers n).capacity) (sym e) ∙ fits.entries l lt
     | inr ne ↦ ap (λ (b : Entries). b.capacity) (stays.others l ne).1 ∙ fits.entries l lt
   ];
-  nursery = ap (λ (s : Layout). s.nursery) stays.space ∙ fits.nursery;
+  nursery = nursery-same setup r.heap.space q.heap.space (ap (λ (s : Layout). s.nursery) stays.space) fits.nursery;
+  two = two-same r.heap.space q.heap.space (ap (λ (s : Layout). s.nursery) stays.space) (ap (λ (s : Layout). s.frames) stays.space) fits.two;
   frames = ap (λ (s : Layout). s.frames) stays.space ∙ fits.frames;
   used = subst (λ (s : Layout). HasDomainsBelow s setup.domains) (sym stays.space) fits.used;
 }
 
 -- nor do pages that move
 pub fits-moved : (setup : Setup) {h : HeapView} {t : Layout} → MovesPages h.space t → HasSetup h setup → HasSetup (record h { space = t }) setup
-fits-moved setup moves fits = record {
+fits-moved setup {h} {t} moves fits = record {
   supers = ap (λ (s : Layout). superpages s) moves.same ∙ fits.supers;
   domains = fits.domains;
   slots = fits.slots;
   lanes = fits.lanes;
   words = fits.words;
   entries = fits.entries;
-  nursery = ap (λ (s : Layout). s.nursery) moves.same ∙ fits.nursery;
+  nursery = nursery-same setup h.space t (ap (λ (s : Layout). s.nursery) moves.same) fits.nursery;
+  two = two-same h.space t (ap (λ (s : Layout). s.nursery) moves.same) (ap (λ (s : Layout). s.frames) moves.same) fits.two;
   frames = ap (λ (s : Layout). s.frames) moves.same ∙ fits.frames;
   used = subst (λ (s : Layout). HasDomainsBelow s setup.domains) (sym moves.same) fits.used;
 }
 
 -- nor does a turn of the lanes
 pub fits-beside : (setup : Setup) {h k : HeapView} → KeepsSizesOf h k → HasSetup h setup → HasSetup k setup
-fits-beside setup sizes fits = record {
+fits-beside setup {h} {k} sizes fits = record {
   supers = ap (λ (s : Layout). superpages s) sizes.space ∙ fits.supers;
   domains = ap (λ (x : RootWords). x.domains) sizes.roots ∙ fits.domains;
   slots = ap (λ (x : RootWords). x.slots) sizes.roots ∙ fits.slots;
   lanes = sizes.chunks ∙ fits.lanes;
   words = λ l lt. sizes.words l ∙ fits.words l lt;
   entries = λ l lt. sizes.capacity l ∙ fits.entries l lt;
-  nursery = ap (λ (s : Layout). s.nursery) sizes.space ∙ fits.nursery;
+  nursery = nursery-same setup h.space k.space (ap (λ (s : Layout). s.nursery) sizes.space) fits.nursery;
+  two = two-same h.space k.space (ap (λ (s : Layout). s.nursery) sizes.space) (ap (λ (s : Layout). s.frames) sizes.space) fits.two;
   frames = ap (λ (s : Layout). s.frames) sizes.space ∙ fits.frames;
   used = subst (λ (s : Layout). HasDomainsBelow s setup.domains) (sym sizes.space) fits.used;
 }

@@ -24,14 +24,14 @@ use Rattle.bc_word.specs.declared.words.Word.TheVariants.{Ref}
 use Rattle.bc_engine.specs.Engines.{EngineView}
 use Rattle.bc_engine.specs.declared.engines.Ended.{Ended}
 use Rattle.bc_engine.specs.declared.engines.Ended.TheVariants.{NoMemory}
-use Rattle.bc_engine.specs.EngineFacts.{CanRunLanes, IsEngine, IsUnrecorded}
+use Rattle.bc_engine.specs.EngineFacts.{CanRunLanes, IsEngine, IsUnrecorded, NoneWithheld}
 use Rattle.bc_running.specs.Running.{HasEmptyChunks, RunningStands, RunningView}
 use Rattle.bc_engine.specs.Parts.{CanAdopt, PartsStand}
 use Rattle.bc_model.proofs.Holders.{IsHolder-as_many}
 use Rattle.bc_engine.proofs.Handing.{none-for}
 use Rattle.bc_engine.proofs.Parting.{empty-memory, none-in}
 
-module _ (setup : Setup) (v : RunningView) (ready : CanRunLanes setup v) (unrecorded : IsUnrecorded v.heap) (empty : HasEmptyChunks v.heap) (kept : IsLayout v.heap.space) (long : length v.heap.roots.words ≡ v.heap.roots.domains * v.heap.roots.slots) where
+module _ (setup : Setup) (v : RunningView) (ready : CanRunLanes setup v) (unrecorded : IsUnrecorded v.heap) (returned : NoneWithheld setup v.heap) (empty : HasEmptyChunks v.heap) (kept : IsLayout v.heap.space) (long : length v.heap.roots.words ≡ v.heap.roots.domains * v.heap.roots.slots) where
   same-memory : heap_memory v.heap.space v.heap.chunks ≡ memory v.heap.space
   same-memory = empty-memory v.heap.space v.heap.chunks kept empty
 
@@ -56,7 +56,7 @@ module _ (setup : Setup) (v : RunningView) (ready : CanRunLanes setup v) (unreco
     slots = ready.fits.slots;
     supers = ready.fits.supers;
     frames = ready.fits.frames;
-    nursery = ready.fits.nursery;
+    nursery = returned;
     used = ready.fits.used;
     summarised = ready.order.summarised;
     none_promised = ready.order.none_promised;
@@ -116,8 +116,8 @@ module _ (e : EngineView) (sound : e.ended ≢ Some NoMemory → IsEngine e) (go
       (subst (λ (x : Layout). Have e.running.holders e.running.serials e.running.heap.roots x) (sym spaced) have)))
 
   pub engine-parts : CanAdopt e.setup hs ns r s
-  engine-parts = handed (CanAdopt e.setup) (can-split e.setup e.running (sound alive).ready ((sound alive).going going) empty layout places)
+  engine-parts = handed (CanAdopt e.setup) (can-split e.setup e.running (sound alive).ready ((sound alive).going going) ((sound alive).returned going) empty layout places)
 
   pub engine-stands : (state : State) → RunningStands e.running state → PartsStand e.setup hs ns r s state
   engine-stands state st = handed (λ (a : List Holder) (b : List ℕ) (c : RootWords) (d : Layout). PartsStand e.setup a b c d state)
-      (stands-split e.setup e.running (sound alive).ready ((sound alive).going going) empty layout places state st)
+      (stands-split e.setup e.running (sound alive).ready ((sound alive).going going) ((sound alive).returned going) empty layout places state st)

@@ -8,9 +8,11 @@ use Rattle.bc_engine.specs.Engines.{EngineView}
 use Rattle.bc_engine.specs.EngineFacts.{with_answers, with_holders}
 use Rattle.bc_engine.specs.declared.engines.Ended.TheVariants.{NoMemory}
 use Rattle.bc_engine.specs.PhaseTurns.{HadTurns, HadTurnsToCut, HadTurnsToWant, HasNoHints}
-use Rattle.bc_engine.specs.Rounds.{CutRound, HasNoRoomFor, IsRoomFor, LastRound, RanAll, RanRound, RanRounds, RanToCut, RanToWant, longest_of, turns_of_cut, turns_of_last, turns_of_round}
+use Rattle.bc_engine.specs.declared.counters.Counters.{Counters}
+use Rattle.bc_engine.specs.Rounds.{CutRound, HadTurn, HasNoRoomFor, IsRoomFor, LastRound, RanAll, RanRound, RanRounds, RanToCut, RanToWant, longest_of, turns_of_cut, turns_of_last, turns_of_round}
 use Rattle.bc_bookmarks.specs.Changes.{Settled}
-use Rattle.bc_model.specs.Lists.{PhaseLists}
+use Rattle.bc_model.specs.Lists.{PhaseLists, TurnLists}
+use Rattle.bc_model.specs.TurnLines.{hints_in}
 use Rattle.bc_model.specs.Rows.{lists_of}
 use Rattle.bc_model.specs.declared.operations.Op.{Op}
 use Rattle.bc_model.specs.declared.operations.Reply.{Reply}
@@ -60,18 +62,18 @@ hints-short (line ∷ lines) zero = omega arith
 hints-short (line ∷ lines) (suc n) = omega (arith, hints-short lines n)
 
 -- the longest line is that of the lines from one on, and of those before it
-pub longest-more : (lines : List (Vec ℕ Global)) (i most more : ℕ) (line : Vec ℕ Global) → i < length lines → line ≡ get_or lines i line → more ≡ max most (length line.items) → max most (longest_of (drop i (lists_of lines))) ≡ longest_of (lists_of lines)
-    → max more (longest_of (drop (i + 1) (lists_of lines))) ≡ longest_of (lists_of lines)
+pub longest-more : (lines : List TurnLists) (i most more : ℕ) (line : TurnLists) → i < length lines → line ≡ get_or lines i line → more ≡ max most (length line.hints) → max most (longest_of (drop i (hints_in lines))) ≡ longest_of (hints_in lines)
+    → max more (longest_of (drop (i + 1) (hints_in lines))) ≡ longest_of (hints_in lines)
 longest-more lines i most more line lt is up before =
-    let long : length (lists_of lines) ≡ length lines = length-map lines (λ (v : Vec ℕ Global). v.items) in
-    let here : get_or (lists_of lines) i [] ≡ line.items = get_or-map (λ (v : Vec ℕ Global). v.items) lines i line [] lt ∙ ap (λ (v : Vec ℕ Global). v.items) (sym is) in
-    let next : longest_of (drop i (lists_of lines)) ≡ max (length (get_or (lists_of lines) i [])) (longest_of (drop (i + 1) (lists_of lines))) =
-    ap longest_of (drop_more (lists_of lines) i [] (omega (arith, lt, long))) in
+    let long : length (hints_in lines) ≡ length lines = length-map lines (λ (x : TurnLists). x.hints) in
+    let here : get_or (hints_in lines) i [] ≡ line.hints = get_or-map (λ (x : TurnLists). x.hints) lines i line [] lt ∙ ap (λ (x : TurnLists). x.hints) (sym is) in
+    let next : longest_of (drop i (hints_in lines)) ≡ max (length (get_or (hints_in lines) i [])) (longest_of (drop (i + 1) (hints_in lines))) =
+    ap longest_of (drop_more (hints_in lines) i [] (omega (arith, lt, long))) in
     omega (arith, before, next, up, ap length here)
 
-pub longest-all : (lines : List (Vec ℕ Global)) (i most : ℕ) → length lines ≤ i → max most (longest_of (drop i (lists_of lines))) ≡ longest_of (lists_of lines) → most ≡ longest_of (lists_of lines)
+pub longest-all : (lines : List TurnLists) (i most : ℕ) → length lines ≤ i → max most (longest_of (drop i (hints_in lines))) ≡ longest_of (hints_in lines) → most ≡ longest_of (hints_in lines)
 longest-all lines i most past before =
-    let none : longest_of (drop i (lists_of lines)) ≡ 0 = at_drop_all longest_of (lists_of lines) i (omega (arith, past, length-map lines (λ (v : Vec ℕ Global). v.items))) in
+    let none : longest_of (drop i (hints_in lines)) ≡ 0 = at_drop_all longest_of (hints_in lines) i (omega (arith, past, length-map lines (λ (x : TurnLists). x.hints))) in
     omega (arith, before, none)
 
 -- a turn leaves the number of slots
@@ -80,6 +82,9 @@ slots-left leaves = ap (λ (x : RootWords). x.slots) leaves.roots
 
 pub slots-turned : {lanes : List (List Op)} {r q : RunningView} {told replies : List (Vec Reply Global)} {asked answers : List Answer} {hints : List ℕ} → RanTurn lanes r told asked hints q replies answers → q.heap.roots.slots ≡ r.heap.roots.slots
 slots-turned turn = ap (λ (x : RunningView). x.heap.roots.slots) turn.rest ∙ slots-left turn.leaves
+
+pub slots-had : {lanes : List (List Op)} {unused : ℕ} {r q : RunningView} {told replies : List (Vec Reply Global)} {asked answers : List Answer} {hints : List ℕ} {c d : Counters} → HadTurn lanes unused r told asked hints q replies answers c d → q.heap.roots.slots ≡ r.heap.roots.slots
+slots-had had = slots-turned had.turn ∙ ap (λ (x : RunningView). x.heap.roots.slots) had.rest
 
 -- room that is kept serves later on
 pub kept-later : {hs ks : List Holder} {m n : ℕ} (lanes : List (List Op)) (told answers : List (List Reply)) (room : TurnRoom) → ks ≡ hs → n ≡ m → ((j : ℕ) → length (of_lane told j) ≤ length (of_lane answers j)) → IsRoomKept hs m lanes told room → IsRoomKept ks n lanes answers room
@@ -114,31 +119,36 @@ behind length turn some =
     lt-no a b le = grind (arith, tests)
 
 -- so the line of a turn is that of its number, modulo how many lines there are
-pub line-number : (lines : List (List ℕ)) (turn : ℕ) → 0 < length lines → line_of lines turn ≡ turn % length lines
-line-number lines zero some = sym (zero-mod (length lines))
-line-number lines (suc turn) some = ap (line_behind lines) (line-number lines turn some) ∙ behind (length lines) turn some
+number-along : (lines : List (List ℕ)) (turn : ℕ) → 0 < length lines → line_along lines 0 turn ≡ turn % length lines
+number-along lines zero some = sym (zero-mod (length lines))
+number-along lines (suc turn) some = ap (line_behind lines) (number-along lines turn some) ∙ behind (length lines) turn some
+
+pub line-number : (lines : List TurnLists) (turn : ℕ) → 0 < length lines → line_of lines turn ≡ turn % length lines
+line-number lines turn some =
+    let long : length (hints_in lines) ≡ length lines = length-map lines (λ (x : TurnLists). x.hints) in
+    number-along (hints_in lines) turn (omega (arith, some, long)) ∙ ap (λ (n : ℕ). turn % n) long
 
 -- this many rounds were run, in so many turns, and this is the line of the next turn
-pub record IsAtTurn (lanes : List (List Op)) (lines : List (List ℕ)) (e : EngineView) (told : List (Vec Reply Global)) (f : EngineView) (replies : List (Vec Reply Global)) (next : ℕ) : Type 0 where
+pub record IsAtTurn (lanes : List (List Op)) (lines : List TurnLists) (e : EngineView) (told : List (Vec Reply Global)) (f : EngineView) (replies : List (Vec Reply Global)) (next : ℕ) : Type 0 where
   pub count : ℕ
   pub used : ℕ
   pub rounds : RanRounds lanes lines e told count used f replies
   pub line : next ≡ line_of lines used
 
-pub turns-begun : (lanes : List (List Op)) (lines : List (List ℕ)) (e : EngineView) (told : List (Vec Reply Global)) → IsAtTurn lanes lines e told e told 0
+pub turns-begun : (lanes : List (List Op)) (lines : List TurnLists) (e : EngineView) (told : List (Vec Reply Global)) → IsAtTurn lanes lines e told e told 0
 turns-begun lanes lines e told = record { count = 0; used = 0; rounds = (refl, refl, refl); line = refl }
 
 -- the line after those of a round
-round-line : {lanes : List (List Op)} {lines : List (List ℕ)} {f g : EngineView} {mid replies : List (Vec Reply Global)} (used : ℕ) {next : ℕ} (r : RanRound lanes lines f mid (line_of lines used) g replies next) → next ≡ line_of lines (used + turns_of_round r)
+round-line : {lanes : List (List Op)} {lines : List TurnLists} {f g : EngineView} {mid replies : List (Vec Reply Global)} (used : ℕ) {next : ℕ} (r : RanRound lanes lines f mid (line_of lines used) g replies next) → next ≡ line_of lines (used + turns_of_round r)
 round-line {lines = lines} used {next} r =
     let c = r.empties.collects in
     let b = r.empties.next.beside in
-    let mid : r.empties.mid ≡ line_along lines 0 (suc used + c.turns) = c.uses.next ∙ sym (along-more lines 0 (suc used) c.turns) in
+    let mid : r.empties.mid ≡ line_along (hints_in lines) 0 (suc used + c.turns) = c.uses.next ∙ sym (along-more (hints_in lines) 0 (suc used) c.turns) in
     let count : suc used + c.turns + b.turns ≡ used + suc (c.turns + b.turns) = omega arith in
-    b.uses.next ∙ ap (λ (n : ℕ). line_along lines n b.turns) mid ∙ sym (along-more lines 0 (suc used + c.turns) b.turns) ∙ ap (line_along lines 0) count
+    b.uses.next ∙ ap (λ (n : ℕ). line_along (hints_in lines) n b.turns) mid ∙ sym (along-more (hints_in lines) 0 (suc used + c.turns) b.turns) ∙ ap (line_along (hints_in lines) 0) count
 
 -- one round more
-pub turns-more : {lanes : List (List Op)} {lines : List (List ℕ)} {e f : EngineView} {told mid : List (Vec Reply Global)} {next : ℕ} (g : EngineView) (replies : List (Vec Reply Global)) (behind_it : ℕ) → IsAtTurn lanes lines e told f mid next → RanRound lanes lines f mid next g replies behind_it → IsAtTurn lanes lines e told g replies behind_it
+pub turns-more : {lanes : List (List Op)} {lines : List TurnLists} {e f : EngineView} {told mid : List (Vec Reply Global)} {next : ℕ} (g : EngineView) (replies : List (Vec Reply Global)) (behind_it : ℕ) → IsAtTurn lanes lines e told f mid next → RanRound lanes lines f mid next g replies behind_it → IsAtTurn lanes lines e told g replies behind_it
 turns-more {lanes} {lines} {e} {f} {told} {mid} {next} g replies behind_it at round =
     let r : RanRound lanes lines f mid (line_of lines at.used) g replies behind_it = subst (λ (n : ℕ). RanRound lanes lines f mid n g replies behind_it) at.line round in
     record {
@@ -148,28 +158,28 @@ turns-more {lanes} {lines} {e} {f} {told} {mid} {next} g replies behind_it at ro
       line = round-line at.used r;
     }
 
-pub turns-all : {lanes : List (List Op)} {lines : List (List ℕ)} {e f : EngineView} {told mid : List (Vec Reply Global)} {next : ℕ} (g : EngineView) (replies : List (Vec Reply Global)) → IsAtTurn lanes lines e told f mid next → LastRound lanes lines f mid next g replies → (turns : ℕ) × RanAll lanes lines e told turns g replies
+pub turns-all : {lanes : List (List Op)} {lines : List TurnLists} {e f : EngineView} {told mid : List (Vec Reply Global)} {next : ℕ} (g : EngineView) (replies : List (Vec Reply Global)) → IsAtTurn lanes lines e told f mid next → LastRound lanes lines f mid next g replies → (turns : ℕ) × RanAll lanes lines e told turns g replies
 turns-all {lanes} {lines} {e} {f} {told} {mid} {next} g replies at last =
     let r : LastRound lanes lines f mid (line_of lines at.used) g replies = subst (λ (n : ℕ). LastRound lanes lines f mid n g replies) at.line last in
     (at.used + turns_of_last r, (at.count, at.used, f, mid, at.rounds, r, refl))
 
-pub turns-cut : {lanes : List (List Op)} {lines : List (List ℕ)} {e f : EngineView} {told mid : List (Vec Reply Global)} {next : ℕ} (g : EngineView) (replies : List (Vec Reply Global)) → IsAtTurn lanes lines e told f mid next → CutRound lanes lines f mid next g replies → (turns : ℕ) × RanToCut lanes lines e told turns g replies
+pub turns-cut : {lanes : List (List Op)} {lines : List TurnLists} {e f : EngineView} {told mid : List (Vec Reply Global)} {next : ℕ} (g : EngineView) (replies : List (Vec Reply Global)) → IsAtTurn lanes lines e told f mid next → CutRound lanes lines f mid next g replies → (turns : ℕ) × RanToCut lanes lines e told turns g replies
 turns-cut {lanes} {lines} {e} {f} {told} {mid} {next} g replies at cut =
     let r : CutRound lanes lines f mid (line_of lines at.used) g replies = subst (λ (n : ℕ). CutRound lanes lines f mid n g replies) at.line cut in
     (at.used + turns_of_cut r, (at.count, at.used, f, mid, at.rounds, r, refl))
 
-pub turns-want : {lanes : List (List Op)} {lines : List (List ℕ)} {e f : EngineView} {told mid : List (Vec Reply Global)} {next : ℕ} (g : EngineView) (replies : List (Vec Reply Global)) (kept : Vec Answer Global) → IsAtTurn lanes lines e told f mid next → g ≡ f → replies ≡ mid → HasNoRoomFor kept (length (hints_at lines next) + 2 * longest_of lines) → RanToWant lanes lines e told g replies kept
+pub turns-want : {lanes : List (List Op)} {lines : List TurnLists} {e f : EngineView} {told mid : List (Vec Reply Global)} {next : ℕ} (g : EngineView) (replies : List (Vec Reply Global)) (kept : Vec Answer Global) → IsAtTurn lanes lines e told f mid next → g ≡ f → replies ≡ mid → HasNoRoomFor kept (length (hints_at (hints_in lines) next) + 2 * longest_of (hints_in lines)) → RanToWant lanes lines e told g replies kept
 turns-want {lanes} {lines} {e} {f} {told} {mid} {next} g replies kept at same back wants = (
   at.count,
   at.used,
   subst (λ (x : EngineView). RanRounds lanes lines e told at.count at.used x replies) (sym same)
       (subst (λ (vs : List (Vec Reply Global)). RanRounds lanes lines e told at.count at.used f vs) (sym back) at.rounds),
-  subst (λ (n : ℕ). HasNoRoomFor kept (length (hints_at lines n) + 2 * longest_of lines)) at.line wants,
+  subst (λ (n : ℕ). HasNoRoomFor kept (length (hints_at (hints_in lines) n) + 2 * longest_of (hints_in lines))) at.line wants,
 )
 
 -- the phase as the code has it: `os` and `ls` are its operations and lines as they were lent to the rounds, `us` the lists for replies, `asked`
 -- and `answers` those to notices
-pub had-lent : (e f g : EngineView) (p : PhaseLists) (asked answers : List Answer) (os : List (List Op)) (ls : List (List ℕ)) (us vs ws xs : List (Vec Reply Global)) → asked ≡ [] → IsRoomFor p.lanes vs → os ≡ p.lanes → ls ≡ p.turns → us ≡ vs → xs ≡ ws → (all : (turns : ℕ) × RanAll os ls (with_answers e asked) us turns (with_answers f answers) ws) → g ≡ with_holders f g.running.holders → HadTurns e p (with_answers g answers) (lists_of xs)
+pub had-lent : (e f g : EngineView) (p : PhaseLists) (asked answers : List Answer) (os : List (List Op)) (ls : List TurnLists) (us vs ws xs : List (Vec Reply Global)) → asked ≡ [] → IsRoomFor p.lanes vs → os ≡ p.lanes → ls ≡ p.turns → us ≡ vs → xs ≡ ws → (all : (turns : ℕ) × RanAll os ls (with_answers e asked) us turns (with_answers f answers) ws) → g ≡ with_holders f g.running.holders → HadTurns e p (with_answers g answers) (lists_of xs)
 had-lent e f g p asked answers os ls us vs ws xs none room lanes lines lent back all given =
     let last = with_answers f answers in
     record {
@@ -181,12 +191,12 @@ had-lent e f g p asked answers os ls us vs ws xs none room lanes lines lent back
       rounds =
           subst (λ (x : List Answer). RanAll p.lanes p.turns (with_answers e x) vs all.0 last ws) none
           (subst (λ (x : List (List Op)). RanAll x p.turns (with_answers e asked) vs all.0 last ws) lanes
-          (subst (λ (x : List (List ℕ)). RanAll os x (with_answers e asked) vs all.0 last ws) lines (subst (λ (x : List (Vec Reply Global)). RanAll os ls (with_answers e asked) x all.0 last ws) lent all.1)));
+          (subst (λ (x : List TurnLists). RanAll os x (with_answers e asked) vs all.0 last ws) lines (subst (λ (x : List (Vec Reply Global)). RanAll os ls (with_answers e asked) x all.0 last ws) lent all.1)));
       given = ap (λ (x : EngineView). with_answers x answers) given;
       replied = ap lists_of back;
     }
 
-pub cut-turns-lent : (e f : EngineView) (p : PhaseLists) (asked answers : List Answer) (os : List (List Op)) (ls : List (List ℕ)) (us vs ws xs : List (Vec Reply Global)) → asked ≡ [] → IsRoomFor p.lanes vs → os ≡ p.lanes → ls ≡ p.turns → us ≡ vs → xs ≡ ws → (all : (turns : ℕ) × RanToCut os ls (with_answers e asked) us turns (with_answers f answers) ws) → HadTurnsToCut e p (with_answers f answers) (lists_of xs)
+pub cut-turns-lent : (e f : EngineView) (p : PhaseLists) (asked answers : List Answer) (os : List (List Op)) (ls : List TurnLists) (us vs ws xs : List (Vec Reply Global)) → asked ≡ [] → IsRoomFor p.lanes vs → os ≡ p.lanes → ls ≡ p.turns → us ≡ vs → xs ≡ ws → (all : (turns : ℕ) × RanToCut os ls (with_answers e asked) us turns (with_answers f answers) ws) → HadTurnsToCut e p (with_answers f answers) (lists_of xs)
 cut-turns-lent e f p asked answers os ls us vs ws xs none room lanes lines lent back all =
     let last = with_answers f answers in
     record {
@@ -197,13 +207,14 @@ cut-turns-lent e f p asked answers os ls us vs ws xs none room lanes lines lent 
       rounds =
           subst (λ (x : List Answer). RanToCut p.lanes p.turns (with_answers e x) vs all.0 last ws) none
           (subst (λ (x : List (List Op)). RanToCut x p.turns (with_answers e asked) vs all.0 last ws) lanes
-          (subst (λ (x : List (List ℕ)). RanToCut os x (with_answers e asked) vs all.0 last ws) lines (subst (λ (x : List (Vec Reply Global)). RanToCut os ls (with_answers e asked) x all.0 last ws) lent all.1)));
+          (subst (λ (x : List TurnLists). RanToCut os x (with_answers e asked) vs all.0 last ws) lines (subst (λ (x : List (Vec Reply Global)). RanToCut os ls (with_answers e asked) x all.0 last ws) lent all.1)));
       replied = ap lists_of back;
     }
 
-pub want-lent : (e f g : EngineView) (p : PhaseLists) (asked : List Answer) (kept : Vec Answer Global) (os : List (List Op)) (ls : List (List ℕ)) (us vs ws : List (Vec Reply Global)) → asked ≡ [] → IsRoomFor p.lanes vs → os ≡ p.lanes → ls ≡ p.turns → us ≡ vs → RanToWant os ls (with_answers e asked) us (with_answers f kept.items) ws kept → g ≡ record f { ended = Some NoMemory } → HadTurnsToWant e p (with_answers g kept.items)
-want-lent e f g p asked kept os ls us vs ws none room lanes lines lent all ended =
-    let last = with_answers f kept.items in
+pub want-lent : (e g : EngineView) (p : PhaseLists) (asked : List Answer) (kept : Vec Answer Global) (os : List (List Op)) (ls : List TurnLists) (us vs ws : List (Vec Reply Global)) → asked ≡ [] → IsRoomFor p.lanes vs → os ≡ p.lanes → ls ≡ p.turns → us ≡ vs
+    → (wants : (last : EngineView) × RanToWant os ls (with_answers e asked) us last ws kept × (with_answers g kept.items ≡ record last { ended = Some NoMemory })) → HadTurnsToWant e p (with_answers g kept.items)
+want-lent e g p asked kept os ls us vs ws none room lanes lines lent wants =
+    let last = wants.0 in
     record {
       room = vs;
       begun = room;
@@ -214,8 +225,8 @@ want-lent e f g p asked kept os ls us vs ws none room lanes lines lent all ended
       rounds =
           subst (λ (x : List Answer). RanToWant p.lanes p.turns (with_answers e x) vs last ws kept) none
           (subst (λ (x : List (List Op)). RanToWant x p.turns (with_answers e asked) vs last ws kept) lanes
-          (subst (λ (x : List (List ℕ)). RanToWant os x (with_answers e asked) vs last ws kept) lines (subst (λ (x : List (Vec Reply Global)). RanToWant os ls (with_answers e asked) x last ws kept) lent all)));
-      wants = ap (λ (x : EngineView). with_answers x kept.items) ended;
+          (subst (λ (x : List TurnLists). RanToWant os x (with_answers e asked) vs last ws kept) lines (subst (λ (x : List (Vec Reply Global)). RanToWant os ls (with_answers e asked) x last ws kept) lent wants.1)));
+      wants = wants.2;
     }
 
 -- with the list of answers taken out before, and put back after
@@ -257,7 +268,7 @@ want-answers {e} {x} {f} y {p} asked answers taken kept had =
     })
 
 -- where no turn has a notice, the longest line has none
-longest-none : (lines : List (List ℕ)) → HasNoHints lines → longest_of lines ≡ 0
+longest-none : (lines : List TurnLists) → HasNoHints lines → longest_of (hints_in lines) ≡ 0
 longest-none [] none = refl
 longest-none (line ∷ lines) none = omega (arith, ap length (none 0), longest-none lines (λ n. none (suc n)))
 

@@ -31,7 +31,8 @@ with_holders e holders = record e { running = record (e.running) { holders = hol
 abbrev pub with_answers : EngineView → List Answer → EngineView
 with_answers e answers = record e { answers = answers }
 
--- the heap has the setup's superpages, root slots, chunks, buffers and frames. Superpages are in use for the setup's domains
+-- the heap has the setup's superpages, root slots, chunks, buffers and frames. Superpages are in use for the setup's domains. Of the frames no page
+-- uses those of the nurseries and those that are withheld, and two are left besides
 pub record HasSetup (h : HeapView) (setup : Setup) : Type 0 where
   pub supers : superpages h.space ≡ setup.superpages
   pub domains : h.roots.domains ≡ setup.domains
@@ -39,9 +40,14 @@ pub record HasSetup (h : HeapView) (setup : Setup) : Type 0 where
   pub lanes : length h.chunks ≡ setup.lanes
   pub words : (l : ℕ) → l < setup.lanes → (chunk_of h.chunks l).words ≡ 512 * setup.nursery
   pub entries : (l : ℕ) → l < setup.lanes → (buffer_of h.buffers l).capacity ≡ setup.buffer
-  pub nursery : h.space.nursery ≡ setup.lanes * setup.nursery
+  pub nursery : setup.lanes * setup.nursery ≤ h.space.nursery
+  pub two : h.space.nursery + 2 ≤ h.space.frames
   pub frames : h.space.frames ≡ setup.frames
   pub used : HasDomainsBelow h.space setup.domains
+
+-- no frame is withheld: pages may use all but those of the nurseries
+abbrev pub NoneWithheld : Setup → HeapView → Type 0
+NoneWithheld setup h = h.space.nursery ≡ setup.lanes * setup.nursery
 
 -- all write buffers are empty, and no page is remembered
 pub record IsUnrecorded (h : HeapView) : Type 0 where
@@ -61,11 +67,12 @@ abbrev pub IsWorkers : ℕ → Type 0
 IsWorkers n = (1 ≤ n) × (n ≤ 16)
 
 -- what is true of an engine whose heap is in order, that of one that hasn't run out of memory: lanes can run on the heap, and as long as the
--- engine hasn't ended nothing is recorded
+-- engine hasn't ended nothing is recorded and no frame is withheld
 pub record IsEngine (e : EngineView) : Type 0 where
   pub workers : IsWorkers e.workers
   pub ready : CanRunLanes e.setup e.running
   pub going : e.ended ≡ None → IsUnrecorded e.running.heap
+  pub returned : e.ended ≡ None → NoneWithheld e.setup e.running.heap
 
 -- every lane can make n objects more, all with serials below 2 ^ 32
 abbrev pub HasRoomForBirths : EngineView → ℕ → Type 0

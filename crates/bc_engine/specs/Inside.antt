@@ -1,6 +1,10 @@
 -- The engine that contracts see.
+use Rattle.std.specs.Prelude.{ℕ, List, None, Some}
+use Rattle.bc_pager.specs.declared.answers.Answer.{Answer}
 use Rattle.bc_engine.specs.Engines.{EngineView}
+use Rattle.bc_engine.specs.declared.engines.Ended.TheVariants.{OutOfHeap}
 use Rattle.bc_engine.specs.declared.engines.Engine.TheInside.{Inside}
+use Rattle.bc_engine.specs.declared.players.Player.{Player}
 
 -- an engine as contracts see it, by what it has inside
 abbrev pub engine_of : Inside → EngineView
@@ -12,3 +16,18 @@ engine_of e = record {
   answers = e.answers.items;
   counters = e.player.counters;
 }
+
+-- the engine that plays on this, with these answers, where it hasn't ended
+abbrev pub played : Player → List Answer → EngineView
+played p answers = record {
+  running = p.running;
+  setup = p.setup;
+  workers = p.workers;
+  ended = None;
+  answers = answers;
+  counters = p.counters;
+}
+
+-- the engine that ended, since what it stands for needs so many superpages
+abbrev pub out_of_heap : ℕ → EngineView → EngineView
+out_of_heap need e = record e { ended = Some (OutOfHeap need) }

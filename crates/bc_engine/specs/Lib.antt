@@ -16,6 +16,8 @@ pub mod Lanes
 pub mod Attempts
 -- The turns of a phase
 pub mod Turns
+-- Frames that are withheld, turn by turn
+pub mod Budgets
 -- The rounds of a phase
 pub mod Rounds
 -- The turns of a phase, from its beginning to its end or to its cut.

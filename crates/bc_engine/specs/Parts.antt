@@ -47,7 +47,7 @@ pub record CanAdopt (setup : Setup) (holders : List Holder) (serials : List ℕ)
   pub supers : superpages s ≡ setup.superpages
   -- it has the setup's frames
   pub frames : s.frames ≡ setup.frames
-  -- so many of them are those of the nurseries' pages
+  -- so many of them are those of the nurseries' pages, and none is withheld
   pub nursery : s.nursery ≡ setup.lanes * setup.nursery
   -- superpages are in use for the setup's domains alone
   pub used : HasDomainsBelow s setup.domains

@@ -1,9 +1,10 @@
 -- The turns of a phase, from its beginning to its end, to its cut or to a turn for whose answers there is no room.
-use Rattle.std.specs.Prelude.{◌≡◌, ℕ, List, [], Some, Vec, slice_index_or}
+use Rattle.std.specs.Prelude.{◌≡◌, ℕ, List, [], Some, Vec}
 use Rattle.std.specs.declared.alloc.Global.{Global}
-use Rattle.bc_marking.specs.Lines.{hints_along}
-use Rattle.bc_model.specs.Lists.{PhaseLists}
+use Rattle.bc_marking.specs.Lines.{hints_along, hints_at}
+use Rattle.bc_model.specs.Lists.{PhaseLists, TurnLists}
 use Rattle.bc_model.specs.Rows.{lists_of}
+use Rattle.bc_model.specs.TurnLines.{hints_in}
 use Rattle.bc_model.specs.declared.operations.Reply.{Reply}
 use Rattle.bc_pager.specs.declared.answers.Answer.{Answer}
 use Rattle.bc_engine.specs.EngineFacts.{with_answers, with_holders}
@@ -44,10 +45,10 @@ pub record HadTurnsToWant (e : EngineView) (p : PhaseLists) (f : EngineView) : T
   pub rounds : RanToWant p.lanes p.turns (with_answers e []) room last told kept
   pub wants : f ≡ record last { ended = Some NoMemory }
 
--- no turn has a notice: each line is empty
-abbrev pub HasNoHints : List (List ℕ) → Type 0
-HasNoHints lines = (n : ℕ) → slice_index_or lines n [] ≡ []
+-- no turn has a notice: no line has a hint
+abbrev pub HasNoHints : List TurnLists → Type 0
+HasNoHints lines = (n : ℕ) → hints_at (hints_in lines) n ≡ []
 
 -- how many notices the first n turns of a phase have
-abbrev pub hints_before : List (List ℕ) → ℕ → ℕ
-hints_before lines n = hints_along lines 0 n
+abbrev pub hints_before : List TurnLists → ℕ → ℕ
+hints_before lines n = hints_along (hints_in lines) 0 n

@@ -2,18 +2,22 @@
 use Rattle.std.specs.Prelude.{◌≡◌, ◌⊎◌, ℕ, ◌+◌, ◌*◌, ◌<◌, ◌≤◌, true, false, List, [], ◌∷◌, length, max, Some, None, Vec, vec_capacity, slice_index_or}
 use Prim.Native.Nat.{zero, suc}
 use Rattle.std.specs.declared.alloc.Global.{Global}
+use Rattle.bc_bookmarks.specs.Withholding.{Withheld}
 use Rattle.bc_cycle.specs.Collecting.{EmptiesBeside, HadMarking, IsCollectedHeap, StaysBeside}
 use Rattle.bc_cycle.specs.Emptying.{IsEmptied, KeepsMeaning, LeavesPages, StayInPlace, SurvivorsFit}
 use Rattle.bc_cycle.specs.declared.emptying.EmptyingKind.{EmptyingKind}
 use Rattle.bc_cycle.specs.declared.emptying.EmptyingKind.TheVariants.{Failsafe}
 use Rattle.bc_failsafe.specs.Packing.{NeedOfHeap}
 use Rattle.bc_marking.specs.Lines.{HasTold, hints_at, line_behind}
+use Rattle.bc_model.specs.Lists.{TurnLists}
 use Rattle.bc_model.specs.Rows.{lists_of}
+use Rattle.bc_model.specs.TurnLines.{hints_in}
 use Rattle.bc_model.specs.declared.operations.Op.{Op}
 use Rattle.bc_model.specs.declared.operations.Reply.{Reply}
 use Rattle.bc_pager.specs.declared.answers.Answer.{Answer}
 use Rattle.bc_superpages.specs.Layout.{superpages}
 use Rattle.bc_engine.specs.Attempts.{RanByAttempts}
+use Rattle.bc_engine.specs.Budgets.{ReturnsFrames, unused_in, wanted_behind}
 use Rattle.bc_engine.specs.Counting.{CountsAlone, CountsEarly, CountsEmptying, CountsTurn, left_since}
 use Rattle.bc_engine.specs.Engines.{EngineView, HasEmptyChunks}
 use Rattle.bc_engine.specs.Lanes.{of_lane, AreDone, EachFurther, HasMore, LanesWentOn, LeavesCells, IsUnderway, LanesRan}
@@ -21,7 +25,7 @@ use Rattle.bc_engine.specs.Turns.{RanTurn, hints_of, line_of}
 use Rattle.bc_engine.specs.declared.counters.Counters.{Counters}
 use Rattle.bc_engine.specs.declared.engines.Ended.TheVariants.{OutOfHeap}
 use Rattle.bc_running.specs.Running.{RunningView}
-use Rattle.bc_running.specs.RunningFacts.{IsSound}
+use Rattle.bc_running.specs.RunningFacts.{IsSound, with_space}
 
 -- a phase is under way on the engine
 abbrev pub IsUnderwayOn : EngineView → List (List Op) → List (Vec Reply Global) → Type 0
@@ -54,15 +58,15 @@ pub record IsTooSmall (lanes : List (List Op)) (e : EngineView) (before : List (
 abbrev pub SameLanes : RunningView → RunningView → Type 0
 SameLanes r q = (q.holders ≡ r.holders) × (q.serials ≡ r.serials)
 
--- between a turn and its minor collection: nothing, or, where fewer frames were free than the nurseries have pages, a bookmark collection. That keeps
+-- between a turn and its minor collection: nothing, or, where fewer frames were free than are wanted, a bookmark collection. That keeps
 -- what the heap stands for, no page is read by it, and it is counted. The answers of its mark turns came after those that there were, from one
 -- line on, and the pages left that they name
-pub record MayCollect (nurseries : ℕ) (lines : List (List ℕ)) (r : RunningView) (from : ℕ) (before : List Answer) (q : RunningView) (to : ℕ) (after : List Answer) (c d : Counters) : Type 0 where
+pub record MayCollect (wanted : ℕ) (lines : List (List ℕ)) (r : RunningView) (from : ℕ) (before : List Answer) (q : RunningView) (to : ℕ) (after : List Answer) (c d : Counters) : Type 0 where
   pub turns : ℕ
   pub told : List Answer
   pub uses : HasTold lines from before turns to after told
   pub way : ((q ≡ r) × (turns ≡ 0) × CountsEarly c false 0 d)
-      ⊎ ((r.heap.space.free < nurseries) × IsCollectedHeap r.heap told q.heap × CountsEarly c true (left_since (length before) after) d
+      ⊎ ((r.heap.space.free < wanted) × IsCollectedHeap r.heap told q.heap × CountsEarly c true (left_since (length before) after) d
       × (m : HadMarking lines from r.heap turns told) × (m.begun ≡ m.settled))
   pub lanes : SameLanes r q
   pub sound : IsSound q
@@ -88,17 +92,21 @@ pub record LeavesNurseries (lines : List (List ℕ)) (r : RunningView) (from : �
   pub counts : CountsEmptying Failsafe c r.heap.space.reads q.heap.space.reads (left_since (length before) after) d
 
 -- after a turn a bookmark collection may have come, and then this, with lines and answers behind those of its mark turns
-pub record CollectsAnd (Then : List (List ℕ) → RunningView → ℕ → List Answer → RunningView → ℕ → List Answer → Counters → Counters → Type 0) (nurseries : ℕ) (lines : List (List ℕ)) (r : RunningView) (from : ℕ) (before : List Answer) (q : RunningView) (to : ℕ) (after : List Answer) (c d : Counters) : Type 0 where
+pub record CollectsAnd (Then : List (List ℕ) → RunningView → ℕ → List Answer → RunningView → ℕ → List Answer → Counters → Counters → Type 0) (wanted : ℕ) (lines : List (List ℕ)) (r : RunningView) (from : ℕ) (before : List Answer) (q : RunningView) (to : ℕ) (after : List Answer) (c d : Counters) : Type 0 where
   pub collected : RunningView
   pub mid : ℕ
   pub answers : List Answer
   pub begun : Counters
-  pub collects : MayCollect nurseries lines r from before collected mid answers c begun
+  pub collects : MayCollect wanted lines r from before collected mid answers c begun
   pub next : Then lines collected mid answers q to after begun d
 
--- the turn of a round, in which the notices with these hints were answered, and what was counted of it
-pub record HadTurn (lanes : List (List Op)) (r : RunningView) (before : List (Vec Reply Global)) (asked : List Answer) (hints : List ℕ) (q : RunningView) (after : List (Vec Reply Global)) (answers : List Answer) (c d : Counters) : Type 0 where
-  pub turn : RanTurn lanes r before asked hints q after answers
+-- the turn of a round. So many frames were kept from pages before it, for which pages were given up where frames were wanting, and nothing else
+-- changed. From there on the lanes ran, and the notices with these hints were answered. What was counted is of both
+pub record HadTurn (lanes : List (List Op)) (unused : ℕ) (r : RunningView) (before : List (Vec Reply Global)) (asked : List Answer) (hints : List ℕ) (q : RunningView) (after : List (Vec Reply Global)) (answers : List Answer) (c d : Counters) : Type 0 where
+  pub began : RunningView
+  pub withheld : Withheld unused r.heap.space began.heap.space
+  pub rest : began ≡ with_space r began.heap.space
+  pub turn : RanTurn lanes began before asked hints q after answers
   pub counts : CountsTurn c r.heap.space.reads q.heap.space.reads (left_since (length asked) answers) d
 
 -- each lane that wasn't at its end did one operation more, and nothing else was done. Its reads are counted
@@ -109,71 +117,75 @@ pub record HadSteps (lanes : List (List Op)) (r : RunningView) (before : List (V
   pub each : EachFurther (length lanes) lanes (lists_of before) (lists_of after)
   pub counts : CountsAlone c r.heap.space.reads q.heap.space.reads d
 
--- a round: the lanes had their turn, in which the notices of this line were answered, a bookmark collection may have come, and the nurseries
--- were emptied. Some lane wasn't at its end, and each such lane did one operation more. Each turn of the round, that of the lanes and those of
+-- a round: the lanes had their turn, in which as many frames were withheld as this line says and its notices were answered, a bookmark collection
+-- may have come, and the nurseries were emptied. Some lane wasn't at its end, and each such lane did one operation more. Each turn of the round, that of the lanes and those of
 -- marks, used one line. The answers to their notices, one to each, in the order of the turns, came after those that there were. The answers and
 -- the counts are the engine's
-pub record RanRound (lanes : List (List Op)) (lines : List (List ℕ)) (e : EngineView) (before : List (Vec Reply Global)) (line : ℕ) (f : EngineView) (after : List (Vec Reply Global)) (next : ℕ) : Type 0 where
+pub record RanRound (lanes : List (List Op)) (lines : List TurnLists) (e : EngineView) (before : List (Vec Reply Global)) (line : ℕ) (f : EngineView) (after : List (Vec Reply Global)) (next : ℕ) : Type 0 where
   pub turned : RunningView
   pub told : List (Vec Reply Global)
   pub answers : List Answer
   pub counted : Counters
-  pub turn : HadTurn lanes e.running before e.answers (hints_at lines line) turned told answers e.counters counted
+  pub turn : HadTurn lanes (unused_in e.setup lines line) e.running before e.answers (hints_at (hints_in lines) line) turned told answers e.counters counted
   pub emptied : RunningView
   pub begun : Counters
-  pub empties : CollectsAnd EmptiesNurseries (e.setup.lanes * e.setup.nursery) lines turned (line_behind lines line) answers emptied next f.answers counted begun
+  pub empties : CollectsAnd EmptiesNurseries (wanted_behind e.setup lines line) (hints_in lines) turned (line_behind (hints_in lines) line) answers emptied next f.answers counted begun
   pub more : HasMore lanes (lists_of told)
   pub steps : HadSteps lanes emptied told f.running after begun f.counters
   pub rest : f ≡ record e { running = f.running; answers = f.answers; counters = f.counters }
 
 -- how many turns a round had: that of the lanes, and mark turns
-abbrev pub turns_of_round : {lanes : List (List Op)} {lines : List (List ℕ)} {e f : EngineView} {before after : List (Vec Reply Global)} {line next : ℕ} → RanRound lanes lines e before line f after next → ℕ
+abbrev pub turns_of_round : {lanes : List (List Op)} {lines : List TurnLists} {e f : EngineView} {before after : List (Vec Reply Global)} {line next : ℕ} → RanRound lanes lines e before line f after next → ℕ
 turns_of_round r = suc (r.empties.collects.turns + r.empties.next.beside.turns)
 
--- the last round: in their turn all lanes came to their ends, a bookmark collection may have come, and the nurseries were emptied
-pub record LastRound (lanes : List (List Op)) (lines : List (List ℕ)) (e : EngineView) (before : List (Vec Reply Global)) (line : ℕ) (f : EngineView) (after : List (Vec Reply Global)) : Type 0 where
+-- the last round: in their turn all lanes came to their ends, a bookmark collection may have come, and the nurseries were emptied. Then the frames
+-- that were withheld were returned
+pub record LastRound (lanes : List (List Op)) (lines : List TurnLists) (e : EngineView) (before : List (Vec Reply Global)) (line : ℕ) (f : EngineView) (after : List (Vec Reply Global)) : Type 0 where
   pub turned : RunningView
   pub answers : List Answer
   pub counted : Counters
-  pub turn : HadTurn lanes e.running before e.answers (hints_at lines line) turned after answers e.counters counted
+  pub turn : HadTurn lanes (unused_in e.setup lines line) e.running before e.answers (hints_at (hints_in lines) line) turned after answers e.counters counted
   pub done : AreDone lanes (lists_of after)
+  pub emptied : RunningView
   pub next : ℕ
-  pub empties : CollectsAnd EmptiesNurseries (e.setup.lanes * e.setup.nursery) lines turned (line_behind lines line) answers f.running next f.answers counted f.counters
+  pub empties : CollectsAnd EmptiesNurseries (wanted_behind e.setup lines line) (hints_in lines) turned (line_behind (hints_in lines) line) answers emptied next f.answers counted f.counters
+  pub returned : ReturnsFrames (e.setup.lanes * e.setup.nursery) emptied f.running
   pub rest : f ≡ record e { running = f.running; answers = f.answers; counters = f.counters }
 
 -- how many turns the last round had
-abbrev pub turns_of_last : {lanes : List (List Op)} {lines : List (List ℕ)} {e f : EngineView} {before after : List (Vec Reply Global)} {line : ℕ} → LastRound lanes lines e before line f after → ℕ
+abbrev pub turns_of_last : {lanes : List (List Op)} {lines : List TurnLists} {e f : EngineView} {before after : List (Vec Reply Global)} {line : ℕ} → LastRound lanes lines e before line f after → ℕ
 turns_of_last r = suc (r.empties.collects.turns + r.empties.next.beside.turns)
 
--- a round that was cut: the lanes had their turn, a bookmark collection may have come, and the nurseries couldn't be emptied
-pub record CutRound (lanes : List (List Op)) (lines : List (List ℕ)) (e : EngineView) (before : List (Vec Reply Global)) (line : ℕ) (f : EngineView) (after : List (Vec Reply Global)) : Type 0 where
+-- a round that was cut: the lanes had their turn, a bookmark collection may have come, and the nurseries couldn't be emptied. The frames stay
+-- withheld
+pub record CutRound (lanes : List (List Op)) (lines : List TurnLists) (e : EngineView) (before : List (Vec Reply Global)) (line : ℕ) (f : EngineView) (after : List (Vec Reply Global)) : Type 0 where
   pub turned : RunningView
   pub answers : List Answer
   pub counted : Counters
-  pub turn : HadTurn lanes e.running before e.answers (hints_at lines line) turned after answers e.counters counted
+  pub turn : HadTurn lanes (unused_in e.setup lines line) e.running before e.answers (hints_at (hints_in lines) line) turned after answers e.counters counted
   pub next : ℕ
-  pub leaves : CollectsAnd LeavesNurseries (e.setup.lanes * e.setup.nursery) lines turned (line_behind lines line) answers f.running next f.answers counted f.counters
+  pub leaves : CollectsAnd LeavesNurseries (wanted_behind e.setup lines line) (hints_in lines) turned (line_behind (hints_in lines) line) answers f.running next f.answers counted f.counters
   pub rest : f ≡ record e { running = f.running; ended = f.ended; answers = f.answers; counters = f.counters }
 
 -- how many turns a round had that was cut
-abbrev pub turns_of_cut : {lanes : List (List Op)} {lines : List (List ℕ)} {e f : EngineView} {before after : List (Vec Reply Global)} {line : ℕ} → CutRound lanes lines e before line f after → ℕ
+abbrev pub turns_of_cut : {lanes : List (List Op)} {lines : List TurnLists} {e f : EngineView} {before after : List (Vec Reply Global)} {line : ℕ} → CutRound lanes lines e before line f after → ℕ
 turns_of_cut r = suc (r.leaves.collects.turns + r.leaves.next.stays.turns)
 
 -- a number of rounds with others to come were run, one after another, in this many turns. Each turn of the phase uses its line
-abbrev pub RanRounds : List (List Op) → List (List ℕ) → EngineView → List (Vec Reply Global) → ℕ → ℕ → EngineView → List (Vec Reply Global) → Type 0
+abbrev pub RanRounds : List (List Op) → List TurnLists → EngineView → List (Vec Reply Global) → ℕ → ℕ → EngineView → List (Vec Reply Global) → Type 0
 RanRounds lanes lines e before zero turns f after = (f ≡ e) × (after ≡ before) × (turns ≡ 0)
 RanRounds lanes lines e before (suc n) turns f after =
     (mid : EngineView) × (told : List (Vec Reply Global)) × (used : ℕ) × (next : ℕ) × RanRounds lanes lines e before n used mid told
     × (r : RanRound lanes lines mid told (line_of lines used) f after next) × (turns ≡ used + turns_of_round r)
 
 -- the rounds of a phase from its first turn on, in this many turns: so many as have others to come, and the last one
-abbrev pub RanAll : List (List Op) → List (List ℕ) → EngineView → List (Vec Reply Global) → ℕ → EngineView → List (Vec Reply Global) → Type 0
+abbrev pub RanAll : List (List Op) → List TurnLists → EngineView → List (Vec Reply Global) → ℕ → EngineView → List (Vec Reply Global) → Type 0
 RanAll lanes lines e before turns f after =
     (n : ℕ) × (used : ℕ) × (mid : EngineView) × (told : List (Vec Reply Global)) × RanRounds lanes lines e before n used mid told
     × (r : LastRound lanes lines mid told (line_of lines used) f after) × (turns ≡ used + turns_of_last r)
 
 -- the rounds of a phase from its first turn on, in this many turns, up to one that was cut
-abbrev pub RanToCut : List (List Op) → List (List ℕ) → EngineView → List (Vec Reply Global) → ℕ → EngineView → List (Vec Reply Global) → Type 0
+abbrev pub RanToCut : List (List Op) → List TurnLists → EngineView → List (Vec Reply Global) → ℕ → EngineView → List (Vec Reply Global) → Type 0
 RanToCut lanes lines e before turns f after =
     (n : ℕ) × (used : ℕ) × (mid : EngineView) × (told : List (Vec Reply Global)) × RanRounds lanes lines e before n used mid told
     × (r : CutRound lanes lines mid told (line_of lines used) f after) × (turns ≡ used + turns_of_cut r)
@@ -189,6 +201,6 @@ HasNoRoomFor kept more = vec_capacity kept < length kept.items + more
 
 -- the rounds of a phase from its first turn on, up to one for whose answers the list has no room: those of its lanes' line, and of as many as
 -- the longest line has, twice
-abbrev pub RanToWant : List (List Op) → List (List ℕ) → EngineView → List (Vec Reply Global) → EngineView → List (Vec Reply Global) → Vec Answer Global → Type 0
+abbrev pub RanToWant : List (List Op) → List TurnLists → EngineView → List (Vec Reply Global) → EngineView → List (Vec Reply Global) → Vec Answer Global → Type 0
 RanToWant lanes lines e before f after kept =
-    (n : ℕ) × (used : ℕ) × RanRounds lanes lines e before n used f after × HasNoRoomFor kept (length (hints_of lines used) + 2 * longest_of lines)
+    (n : ℕ) × (used : ℕ) × RanRounds lanes lines e before n used f after × HasNoRoomFor kept (length (hints_of lines used) + 2 * longest_of (hints_in lines))

@@ -3,7 +3,9 @@ use Rattle.std.specs.Prelude.{◌≡◌, ◌⊎◌, ℕ, List, Vec}
 use Rattle.std.specs.declared.alloc.Global.{Global}
 use Rattle.bc_bookmarks.specs.Changes.{Settled}
 use Rattle.bc_marking.specs.Lines.{hints_at, line_along}
+use Rattle.bc_model.specs.Lists.{TurnLists}
 use Rattle.bc_model.specs.Rows.{lists_of}
+use Rattle.bc_model.specs.TurnLines.{hints_in}
 use Rattle.bc_model.specs.declared.operations.Op.{Op}
 use Rattle.bc_model.specs.declared.operations.Reply.{Reply}
 use Rattle.bc_pager.specs.Alone.{AnsweredAlone}
@@ -18,12 +20,12 @@ use Rattle.bc_engine.specs.Lanes.{EachStopped, LanesRan, LeavesCells, StopsInTur
 
 -- the line of the turn of this number, counted from 0: lines are used in order, one for each turn, and from the first one again when they
 -- are used up
-abbrev pub line_of : List (List ℕ) → ℕ → ℕ
-line_of lines turn = line_along lines 0 turn
+abbrev pub line_of : List TurnLists → ℕ → ℕ
+line_of lines turn = line_along (hints_in lines) 0 turn
 
 -- the hints of the turn of this number
-abbrev pub hints_of : List (List ℕ) → ℕ → List ℕ
-hints_of lines turn = hints_at lines (line_of lines turn)
+abbrev pub hints_of : List TurnLists → ℕ → List ℕ
+hints_of lines turn = hints_at (hints_in lines) (line_of lines turn)
 
 -- the lanes ran side by side, and beside them a pager answered the notices with these hints. Each stop has a cause of that way. Then the
 -- heap was settled

@@ -6,7 +6,7 @@
 // number of workers that it was opened with and, once it has ended, how: what it stands for needs more superpages than there
 // are, or memory ran out. An engine that has ended replays no other phase.
 //
-// A phase (`phases`) begins by taking room for the replies to all its operations. Then it goes in rounds (`rounds`). A round
+// A phase (`phases`) begins by taking room for the replies to all its operations. Then it goes in rounds (`rounds`), on a `Player`. A round
 // begins with a turn of the lanes (`turns`): each does operations until it is at its end or one stops. The lanes run side by
 // side, each on a thread of its own where these pay, over a table of the heap's pages (`bc_turn`), and beside them a pager answers the
 // notices of the turn's line, for each of which it gives up a page if it gets one (`bc_pager`). A lane stops where its chunk or its write
@@ -20,6 +20,12 @@
 // collection (`bc_marking`), and from the first one again when they are used up. So the heap gets by with the frames that the setup gives it, and no reply says which pages were away; but what
 // became of each notice is kept, in order (`Engine::answers`). Room for the answers of a round is taken before it, and only where
 // there is none does a phase end in the middle, out of memory.
+//
+// The line of a turn of the lanes also says how many frames are withheld in it (`budgets`): so many beside those of the nurseries no page may use.
+// Before the turn pages are given up where frames are wanting for that. Chunks hold at most one object then, which nothing mature refers to, and
+// no page is remembered, so every page can go. A mark turn leaves the number, and so do operations of a lane alone. When all lanes are at their
+// ends none is withheld any more; a phase that ends out of heap leaves them, and the engine has ended (`law_budgets`). What the type of an
+// engine says is true of it between phases, so within one the rounds run on what it plays on, the `Player`.
 //
 // Where frames are short a bookmark collection comes next. Then the nurseries are emptied, and if all lanes are at their ends the rounds are
 // through. If not, each lane that has
@@ -41,7 +47,7 @@
 // on it (`IsRunning` in `bc_whole_heap`), of which it is part that bookmarks and counters stand for the pages that left; it has
 // the sizes of the setup and its frames, of which two aren't those of nursery pages, and superpages are in use for the setup's
 // domains alone; and there is a state of the heap that never frees, moves or pages that it stands for, with just these holders
-// and births. As long as it hasn't ended, write buffers are empty and no page is remembered. `facts` says all this.
+// and births. As long as it hasn't ended, write buffers are empty, no page is remembered and no frame is withheld. `facts` says all this.
 //
 // An engine counts what it does (`counters`): turns, collections by kind and reason, and the pages that were read back or left, by whose step it
 // was. Each round says how the counts go on, and all page reads by their causes, with those before the engine had the heap, add up to the heap's
@@ -59,6 +65,7 @@
 // say the same of the opening state, of one give, of one freeze and of one operation.
 #![tactic(auto)]
 
+mod budgets;
 mod counters;
 mod engines;
 mod lanes;
@@ -75,7 +82,7 @@ pub use bc_pager::Answer;
 pub use bc_running::Parts;
 pub use counters::{Counters, PageCounts, Tally, tally_of};
 pub use engines::Engine;
-pub use laws::law_answers;
+pub use laws::{law_answers, law_budgets};
 pub use logs::{Standing, Step, StepKind};
 pub use paces::Pacing;
 pub use phases::PhaseError;

@@ -4,20 +4,28 @@ ghost use Rattle.std.specs.Prelude.{◌≡◌, ◌+◌, ◌*◌, ◌≤◌, leng
 ghost use Rattle.bc_engine.specs.Answers.{IfNoRoom, IfTooSmall};
 ghost use Rattle.bc_engine.specs.Counting.{left_since, names_left as names};
 ghost use Rattle.bc_engine.specs.Rounds.{HasNoRoomFor, longest_of};
-ghost use Rattle.bc_model.specs.Rows.{lists_of};
+ghost use Rattle.bc_model.specs.TurnLines.{hints_in};
 
 use crate::rounds::RoundsError;
+use bc_model::TurnLine;
 use bc_pager::Answer;
 
 /// How many notices the longest line has.
-pub(crate) fn longest_line(lines: &[Vec<u32>]) -> usize
-    ensures { result ≡ longest_of (lists_of lines.now) }
+pub(crate) fn longest_line(lines: &[TurnLine]) -> usize
+    ensures { result ≡ longest_of (hints_in lines.now) }
 {
     let mut most = 0;
     for line in lines {
-        most = larger(most, line.len());
+        most = larger(most, notices_of(line));
     }
     most
+}
+
+/// How many notices the line has.
+fn notices_of(line: &TurnLine) -> usize
+    ensures { result ≡ length line.now.hints }
+{
+    line.hints.len()
 }
 
 /// The larger one of two numbers.

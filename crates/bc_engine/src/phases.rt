@@ -1,25 +1,25 @@
 //! A phase: room for the replies is taken, the rounds are run, and domains change hands or are frozen.
 
-ghost use Rattle.std.specs.Prelude.{◌≡◌, ◌≢◌, ◌⊎◌, ℕ, ◌+◌, ◌<◌, ◌≤◌, [], length, Some, None, Result, Ok, Err, IfOk, slice_index};
+ghost use Rattle.std.specs.Prelude.{◌≡◌, ◌≢◌, ◌⊎◌, ℕ, ◌+◌, ◌<◌, ◌≤◌, [], length, Some, None, Result, Ok, Err, IfOk, OnOk, slice_index};
 ghost use Rattle.std.specs.List.{AllByRecursion};
-ghost use Rattle.bc_engine.specs.Answers.{IfPhaseOutOfHeap, IsOutOfHeap, IsNoMemory};
-ghost use Rattle.bc_engine.specs.Engines.{EngineStands, HasEmptyChunks};
+ghost use Rattle.bc_engine.specs.Answers.{IfNoRoom, IfPhaseOutOfHeap, IfTooSmall, IsOutOfHeap, IsNoMemory};
+ghost use Rattle.bc_engine.specs.Engines.{EngineStands, EngineView, HasEmptyChunks};
 ghost use Rattle.bc_engine.specs.EngineFacts.{HasRoomForBirths, IsUnrecorded, with_answers, with_holders};
-ghost use Rattle.bc_engine.specs.Lanes.{of_lane, HasRoomForOps};
+ghost use Rattle.bc_engine.specs.Lanes.{of_lane, BirthsWithin, HasRoomForOps};
 ghost use Rattle.bc_engine.specs.PhaseTurns.{HadTurns, HadTurnsToCut, HadTurnsToWant, HasNoHints};
 ghost use Rattle.bc_engine.specs.Phases.{DidPhase, CutPhase};
-ghost use Rattle.bc_engine.specs.Rounds.{IsRoomFor};
+ghost use Rattle.bc_engine.specs.Rounds.{IsRoomFor, IsThrough, IsTooSmall, IsUnderwayOn, RanAll, RanToCut, RanToWant, RoundsWentOn};
 ghost use Rattle.bc_model.specs.Rows.{lists_of};
 ghost use Rattle.bc_model.specs.Need.{IsNeed};
 ghost use Rattle.bc_model.specs.Run.{after_changes};
 ghost use Rattle.bc_model.specs.State.{State, changed};
-ghost use Rattle.bc_model.specs.WellFormed.{FitsChange, IsPhase};
+ghost use Rattle.bc_model.specs.WellFormed.{FitsChange, FitsFrames, IsPhase};
 
 use crate::engines::{Ended, Engine};
 use crate::rounds::RoundsError;
 use bc_failsafe::law_room;
 use bc_gates::Gate;
-use bc_model::{Change, Op, Phase, Replies, Reply};
+use bc_model::{Change, Op, Phase, Replies, Reply, TurnLine};
 use bc_pager::Answer;
 use bc_turn::TurnRoom;
 use std::alloc::{AllocError, Global};
@@ -48,6 +48,9 @@ impl Engine {
     /// In each turn, of the lanes or of the marking of a collection, a page is given up for each hint of the turn's line: beside others at a table
     /// one that can be taken, on the heap itself one that can leave; none where there is no such page. No reply says that, but the engine's answers
     /// do. The n-th turn has the n-th line, and after the last line comes the first one again.
+    ///
+    /// In each turn of the lanes, and in the mark turns after it, no page has one of so many frames as the turn's line withholds, which is at most as
+    /// many as leaves two beside the nurseries' pages. After a phase that is done no frame is withheld. One that ends out of heap leaves them withheld.
     pub fn phase<R, G>(
         &mut self,
         rt: &R,
@@ -59,6 +62,7 @@ impl Engine {
         R: Threads + Sync,
         G: Gate + Sync,
         requires phase { IsPhase self.old.setup phase.now }
+        requires budgets { AllByRecursion (FitsFrames self.old.setup) phase.now.turns }
         requires births { HasRoomForOps self.old phase.now.lanes 0 }
         ensures done { self.old.ended ≡ None → IfOk result (λ replies. DidPhase self.old phase.now self.new replies) }
         ensures cut { self.old.ended ≡ None → IfPhaseOutOfHeap result (λ replies need. CutPhase self.old phase.now self.new replies need) }
@@ -117,6 +121,7 @@ impl Engine {
         G: Gate + Sync,
         requires going { self.old.ended ≡ None }
         requires phase { IsPhase self.old.setup phase.now }
+        requires budgets { AllByRecursion (FitsFrames self.old.setup) phase.now.turns }
         requires births { HasRoomForOps self.old phase.now.lanes 0 }
         requires long { length replies.items ≡ length phase.now.lanes }
         requires room { IsRoomFor phase.now.lanes replies.items }
@@ -149,6 +154,7 @@ impl Engine {
         G: Gate + Sync,
         requires going { self.old.ended ≡ None }
         requires phase { IsPhase self.old.setup phase.now }
+        requires budgets { AllByRecursion (FitsFrames self.old.setup) phase.now.turns }
         requires births { HasRoomForOps self.old phase.now.lanes 0 }
         requires long { length replies.items ≡ length phase.now.lanes }
         requires room { IsRoomFor phase.now.lanes replies.items }
@@ -162,11 +168,9 @@ impl Engine {
         ensures births { (j : ℕ) → slice_index self.new.running.serials j ≤ slice_index self.old.running.serials j + length (of_lane phase.now.lanes j) }
     {
         self.facts();
-        let mut room = TurnRoom::new(alloc);
         match self.rounds(
             rt,
             alloc,
-            &mut room,
             &phase.lanes,
             &phase.turns,
             &mut replies,
@@ -184,9 +188,53 @@ impl Engine {
                 let replies = Replies { lanes: replies };
                 Err(PhaseError::OutOfHeap { replies, need })
             }
-            Err(RoundsError::NoRoom(_)) => {
-                self.end_for_want();
-                Err(PhaseError::NoMemory)
+            Err(RoundsError::NoRoom(_)) => Err(PhaseError::NoMemory),
+        }
+    }
+
+    /// Runs the rounds of a phase (`Player::rounds`), and ends the engine where they end before all lanes are at their ends.
+    fn rounds<R, G>(
+        &mut self,
+        rt: &R,
+        alloc: Global,
+        lanes: &[Vec<Op>],
+        lines: &[TurnLine],
+        replies: &mut [Vec<Reply>],
+        answers: &mut Vec<Answer>,
+        gate: &G,
+    ) -> Result<(), RoundsError>
+    where
+        R: Threads + Sync,
+        G: Gate + Sync,
+        requires going { self.old.ended ≡ None }
+        requires underway { IsUnderwayOn self.old (lists_of lanes.now) replies.old }
+        requires budgets { AllByRecursion (FitsFrames self.old.setup) lines.now }
+        ensures same { (self.new.running.holders ≡ self.old.running.holders) × (self.new.setup ≡ self.old.setup) × (self.new.workers ≡ self.old.workers) }
+        ensures births { BirthsWithin (lists_of lanes.now) self.old.running.serials (lists_of replies.old) self.new.running.serials (lists_of replies.new) }
+        ensures on { OnOk result (RoundsWentOn (lists_of lanes.now) self.old replies.old self.new replies.new) }
+        ensures through { OnOk result (IsThrough (lists_of lanes.now) self.new replies.new) }
+        ensures turns { OnOk result ((turns : ℕ) × RanAll (lists_of lanes.now) lines.now
+            (with_answers self.old answers.old.items) replies.old turns (with_answers self.new answers.new.items) replies.new) }
+        ensures cut { IfTooSmall result (λ need. IsTooSmall (lists_of lanes.now) self.old replies.old self.new replies.new need) }
+        ensures cut_turns { IfTooSmall result (λ need. (turns : ℕ) × RanToCut (lists_of lanes.now) lines.now
+            (with_answers self.old answers.old.items) replies.old turns (with_answers self.new answers.new.items) replies.new) }
+        ensures want { IfNoRoom result ((last : EngineView) × RanToWant (lists_of lanes.now) lines.now
+            (with_answers self.old answers.old.items) replies.old last replies.new answers.new
+            × (with_answers self.new answers.new.items ≡ record last { ended = Some Ended.NoMemory })) }
+    {
+        let mut room = TurnRoom::new(alloc);
+        match self
+            .player
+            .rounds(rt, alloc, &mut room, lanes, lines, replies, answers, gate)
+        {
+            Ok(()) => Ok(()),
+            Err(RoundsError::TooSmall { need }) => {
+                self.ended = Some(Ended::OutOfHeap { need });
+                Err(RoundsError::TooSmall { need })
+            }
+            Err(RoundsError::NoRoom(error)) => {
+                self.ended = Some(Ended::NoMemory);
+                Err(RoundsError::NoRoom(error))
             }
         }
     }

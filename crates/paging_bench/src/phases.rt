@@ -4,10 +4,11 @@
 //! has operations.
 
 ghost use Rattle.std.specs.Prelude.{◌≡◌, ℕ, ◌≤◌, None, length, true, IfOk};
+ghost use Rattle.std.specs.List.{AllByRecursion};
 ghost use Rattle.bc_engine.specs.EngineFacts.{HasRoomForBirths};
 ghost use Rattle.bc_engine.specs.Lanes.{HasRoomForOps, of_lane};
 ghost use Rattle.bc_model.specs.Rows.{lists_of};
-ghost use Rattle.bc_model.specs.WellFormed.{IsPhase, IsTrace};
+ghost use Rattle.bc_model.specs.WellFormed.{FitsFrames, IsPhase, IsTrace};
 
 use crate::Asked;
 use crate::counts::{
@@ -57,6 +58,7 @@ where
     R: AllocGlobal + Clock + Print + Threads + Sync,
     requires going { engine.old.ended ≡ None }
     requires phase { IsPhase engine.old.setup phase.now }
+    requires budgets { AllByRecursion (FitsFrames engine.old.setup) phase.now.turns }
     requires births { HasRoomForOps engine.old phase.now.lanes 0 }
     ensures going { IfOk result (λ more. more ≡ true → engine.new.ended ≡ None) }
     ensures setup { engine.new.setup ≡ engine.old.setup }

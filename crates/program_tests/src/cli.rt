@@ -1,5 +1,6 @@
 //! Runs of `top` over devices in memory: what is printed, what is refused, and what a fault leaves.
 
+mod budgets;
 mod devices;
 mod engines;
 mod frozen;
@@ -78,7 +79,7 @@ pub fn shows<R: Threads + Sync + Abort>(
     );
 }
 
-/// Shows that `run` over this header and these lines after it is done, and what it writes.
+/// Shows that `run` over this header and these lines after it is done, in each version of the language, and what it writes.
 pub fn shows_done<R: Threads + Sync + Abort>(
     rt: &R,
     alloc: Global,
@@ -86,12 +87,15 @@ pub fn shows_done<R: Threads + Sync + Abort>(
     lines: &str,
     output: &str,
 ) -> Result<(), AllocError> {
-    let input = trace(alloc, numbers, lines)?.into_bytes();
-    shows(rt, alloc, &["run"], input, (Status::Done, true), output);
+    for version in 1..=3 {
+        let input = trace_in(alloc, version, numbers, lines)?.into_bytes();
+        shows(rt, alloc, &["run"], input, (Status::Done, true), output);
+    }
     Ok(())
 }
 
-/// Shows that `run` over this header and these lines after it is refused, where and why, and that nothing is written.
+/// Shows that `run` over this header and these lines after it is refused, in each version of the language, where and why, and that nothing
+/// is written.
 pub fn shows_fault<R: Threads + Sync + Abort>(
     rt: &R,
     alloc: Global,
@@ -100,9 +104,11 @@ pub fn shows_fault<R: Threads + Sync + Abort>(
     line: u32,
     cause: Cause,
 ) -> Result<(), AllocError> {
-    let input = trace(alloc, numbers, lines)?.into_bytes();
-    let status = Status::BadTrace { line, cause };
-    shows(rt, alloc, &["run"], input, (status, false), "");
+    for version in 1..=3 {
+        let input = trace_in(alloc, version, numbers, lines)?.into_bytes();
+        let status = Status::BadTrace { line, cause };
+        shows(rt, alloc, &["run"], input, (status, false), "");
+    }
     Ok(())
 }
 

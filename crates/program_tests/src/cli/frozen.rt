@@ -1,7 +1,7 @@
 //! Domains that are frozen: what every lane reads and none writes, where a freeze is no word, and images with frozen domains.
 
 use super::gates::run_past;
-use super::rows::{FOREIGN, GIVEN};
+use super::rows::GIVEN;
 use super::saving::{MAGIC, bytes_of, ended, followed, saved};
 use super::saving_phases::goes_on_over;
 use super::{run_over, shows, trace_in};
@@ -28,9 +28,11 @@ const READ: [&str; 3] = [
 fn a_frozen_domain_is_read_by_every_lane_and_written_by_none(rt: HostRuntime) -> Result<(), Fail> {
     let [first, second, third] = READ;
     let output = format!(in rt.alloc(); "{first}{second}{third}done\n")?;
-    let input = trace_in(rt.alloc(), 2, TWO, FROZEN)?.into_bytes();
-    let end = (Status::Done, true);
-    shows(&rt, rt.alloc(), &["run"], input, end, &output);
+    for version in [2, 3] {
+        let input = trace_in(rt.alloc(), version, TWO, FROZEN)?.into_bytes();
+        let end = (Status::Done, true);
+        shows(&rt, rt.alloc(), &["run"], input, end, &output);
+    }
     Ok(())
 }
 
@@ -50,17 +52,6 @@ fn a_freeze_of_a_domain_that_there_is_not_is_refused(rt: HostRuntime) -> Result<
     let (line, cause) = (14, Cause::Range);
     let end = (Status::BadTrace { line, cause }, false);
     shows(&rt, rt.alloc(), &["run"], input, end, "");
-    Ok(())
-}
-
-/// A trace without a freeze prints the same in both versions.
-#[test]
-fn a_trace_of_version_1_prints_the_same_in_version_2(rt: HostRuntime) -> Result<(), Fail> {
-    for version in [1, 2] {
-        let input = trace_in(rt.alloc(), version, [2, 4, 2, 2, 1, 4, 4], GIVEN)?.into_bytes();
-        let end = (Status::Done, true);
-        shows(&rt, rt.alloc(), &["run"], input, end, FOREIGN);
-    }
     Ok(())
 }
 
@@ -102,7 +93,7 @@ fn a_domain_that_was_frozen_stays_so_in_an_image(rt: HostRuntime) -> Result<(), 
 #[test]
 fn an_image_has_the_version_of_its_trace(rt: HostRuntime) -> Result<(), Fail> {
     let alloc = rt.alloc();
-    for version in [1, 2] {
+    for version in [1, 2, 3] {
         let text = trace_in(alloc, version, [2, 4, 2, 2, 1, 4, 4], GIVEN)?;
         let image = saved(&rt, alloc, 1, "1", text.as_bytes())?;
         let first = bytes_of(alloc, &[MAGIC, u64::from(version)])?;

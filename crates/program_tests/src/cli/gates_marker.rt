@@ -2,11 +2,14 @@
 
 use super::gates::{Counting, Patience, run_marked, run_past};
 use super::gates_pager::{ANSWERED, PAGER, TAKEN};
-use super::trace;
+use super::{trace, trace_in};
 use bc_cli::{Gate, Status};
 use bc_engine::{Answer, Pacing};
+use std::alloc::Global;
+use std::process::Abort;
 use std::sync::atomic::{AtomicU64, Ordering};
 use std::test::Fail;
+use std::thread::Threads;
 
 /// The number that the first marker of a turn passes a gate with.
 const MARKER: u32 = 100;
@@ -21,6 +24,10 @@ const PUT_BACK: u32 = 6;
 /// has the notice of the second line.
 const THREE_CLASSES: &str =
     "phase\nlane 0\nnew 0 0 1\nnew 0 1 2\nend\nphase\nturn\nturn 0\nlane 0\nclear 0 1\nnew 0 1 8\nend\ndone\n";
+
+/// The same with a frame more that each turn withholds.
+const ONE_WITHHELD: &str =
+    "phase\nturn -1\nlane 0\nnew 0 0 1\nnew 0 1 2\nend\nphase\nturn -1\nturn 0\nlane 0\nclear 0 1\nnew 0 1 8\nend\ndone\n";
 
 /// What they print.
 const PRINTED: &str = "phase 1\nlane 0\nobj 0.1\nobj 0.2\nphase 2\nlane 0\nok\nobj 0.3\ndone\n";
@@ -49,17 +56,14 @@ impl Gate for Meeting {
     }
 }
 
-#[test]
-fn a_page_leaves_beside_a_marker_that_has_another_in_its_hands(
-    rt: HostRuntime,
-) -> Result<(), Fail> {
-    let text = trace(rt.alloc(), [1, 1, 2, 2, 1, 4, 3], THREE_CLASSES)?;
+/// Shows that in a run of one of these texts a page leaves beside a marker that has another one in its hands.
+fn one_leaves<R: Threads + Sync + Abort>(rt: &R, alloc: Global, text: &str) -> Result<(), Fail> {
     let gate = Meeting {
         in_hand: AtomicU64::new(0),
         answered: AtomicU64::new(0),
         patience: Patience::new(),
     };
-    let passed = run_past(&rt, rt.alloc(), &text, &gate)?;
+    let passed = run_past(rt, alloc, text, &gate)?;
     assert_eq!(rt; passed.status, Status::Done);
     assert!(rt; passed.written.as_slice() == PRINTED.as_bytes());
     // The first object's page is in the marker's hands, so the notice with its number is answered with the other one.
@@ -72,6 +76,17 @@ fn a_page_leaves_beside_a_marker_that_has_another_in_its_hands(
     };
     assert_eq!(rt; counters.departures.notices, 1);
     Ok(())
+}
+
+#[test]
+fn a_page_leaves_beside_a_marker_that_has_another_in_its_hands(
+    rt: HostRuntime,
+) -> Result<(), Fail> {
+    let text = trace(rt.alloc(), [1, 1, 2, 2, 1, 4, 3], THREE_CLASSES)?;
+    one_leaves(&rt, rt.alloc(), &text)?;
+    // The turn of the markers has the frames of the lanes' turn before it.
+    let text = trace_in(rt.alloc(), 3, [1, 1, 2, 2, 1, 4, 4], ONE_WITHHELD)?;
+    one_leaves(&rt, rt.alloc(), &text)
 }
 
 #[test]

@@ -65,8 +65,8 @@ fn a_page_that_a_pager_evicted_comes_back_in_the_same_turn(rt: HostRuntime) -> R
 /// How many objects the chain has.
 const CHAIN: u32 = 5_000;
 
-/// A phase with these lines of notices in which a chain on twenty pages is made, and then followed to its end.
-fn chain(alloc: Global, turns: &str) -> Result<String, AllocError> {
+/// A phase with these lines of turns in which a chain on twenty pages is made, and then followed to its end.
+pub fn chain(alloc: Global, turns: &str) -> Result<String, AllocError> {
     let news = links(alloc, CHAIN)?;
     let loads = repeated(alloc, "load 0 1 0 0 1\n", CHAIN)?;
     format!(in alloc;
@@ -75,7 +75,7 @@ fn chain(alloc: Global, turns: &str) -> Result<String, AllocError> {
 }
 
 /// What it prints.
-fn chain_printed(alloc: Global) -> Result<String, AllocError> {
+pub fn chain_printed(alloc: Global) -> Result<String, AllocError> {
     let replies = linked(alloc, CHAIN)?;
     let references = repeated(alloc, "ref\n", CHAIN - 1)?;
     format!(in alloc; "phase 1\nlane 0\nobj 0.1\nok\n{replies}ok\n{references}nil\ndone\n")

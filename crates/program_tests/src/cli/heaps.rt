@@ -1,6 +1,6 @@
 //! Traces that fill their heap, and what they print.
 
-use super::{repeated, shows, shows_done, trace};
+use super::{repeated, shows, shows_done, trace_in};
 use bc_cli::Status;
 use std::alloc::{AllocError, Global};
 use std::process::Abort;
@@ -10,7 +10,8 @@ use std::thread::Threads;
 /// One lane, one domain, two slots, one superpage.
 const SMALL: [u32; 7] = [1, 1, 2, 1, 1, 4, 3];
 
-/// Shows that `run` over this header and these lines after it ends out of heap by this need, and what it writes.
+/// Shows that `run` over this header and these lines after it ends out of heap by this need, in each version of the language, and what it
+/// writes.
 fn shows_need<R: Threads + Sync + Abort>(
     rt: &R,
     alloc: Global,
@@ -19,9 +20,11 @@ fn shows_need<R: Threads + Sync + Abort>(
     output: &str,
     need: u64,
 ) -> Result<(), AllocError> {
-    let input = trace(alloc, numbers, lines)?.into_bytes();
-    let end = (Status::OutOfHeap { need }, true);
-    shows(rt, alloc, &["run"], input, end, output);
+    for version in 1..=3 {
+        let input = trace_in(alloc, version, numbers, lines)?.into_bytes();
+        let end = (Status::OutOfHeap { need }, true);
+        shows(rt, alloc, &["run"], input, end, output);
+    }
     Ok(())
 }
 

@@ -1,8 +1,9 @@
 //! Hostile use: inputs that are changed in one place, devices that fail, hints that name no page, and calls after one that was refused.
 
 ghost use Rattle.std.specs.Prelude.{◌≡◌, ℕ, ◌*◌, ◌<◌, ◌≤◌, ◌+◌, length, IfOk};
+ghost use Rattle.std.specs.List.{AllByRecursion};
 ghost use Rattle.bc_engine.specs.Lanes.{of_lane};
-ghost use Rattle.bc_model.specs.WellFormed.{IsPhase};
+ghost use Rattle.bc_model.specs.WellFormed.{FitsFrames, IsPhase};
 
 use super::gates::run_past;
 use super::sink::Torn;
@@ -282,6 +283,7 @@ const TWO_LANES: Setup = Setup {
 fn an_object_in_each_domain(alloc: Global) -> Result<Phase, AllocError>
     ensures phase { (setup : Setup) → setup.lanes ≡ 2 → setup.domains ≡ 2 → setup.slots ≡ 1
         → IfOk result (λ phase. IsPhase setup phase) }
+    ensures budgets { (setup : Setup) → IfOk result (λ phase. AllByRecursion (FitsFrames setup) phase.turns) }
     ensures few { IfOk result (λ phase. (lane : ℕ) → length (of_lane phase.lanes lane) ≤ 2) }
 {
     let first = Op::New(Slot { domain: 0, slot: 0 }, 0);

@@ -59,7 +59,7 @@ pub const GIVEN: &str =
     "phase\nlane 0\nnew 0 0 1\nnew 2 0 0\nlink 0 0 0 2 0\nlane 1\ngive 2 1\nend\nphase\nlane 0\nload 0 0 0 0 1\nwho 0 1\nlen 0 1\nwho 2 0\nlane 1\nwho 2 0\ngive 2 0\nend\nphase\nlane 0\nwho 0 1\nlane 1\nend\ndone\n";
 
 /// What they print.
-pub const FOREIGN: &str =
+const FOREIGN: &str =
     "phase 1\nlane 0\nobj 0.1\nobj 0.2\nok\nlane 1\nphase 2\nlane 0\nref\nforeign\nforeign\nforeign\nlane 1\nobj 0.2\nphase 3\nlane 0\nobj 0.2\nlane 1\ndone\n";
 
 #[test]

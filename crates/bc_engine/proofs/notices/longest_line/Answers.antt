@@ -4,7 +4,7 @@ use Rattle.bc_engine.proofs.notices.longest_line.Goals as goal
 
 pub loop-line-preserved : goal.loop-line-preserved
 loop-line-preserved c =
-    longest-more c.args.lines.now c.loop-line.line-index c.loop-line.most c.larger-most.result c.line-item.result c.loop-line-test.true c.line-item.is (omega (arith, c.larger-most.ensures, c.len.ensures, c.line-item.result.ok.0)) c.loop-line.invariant
+    longest-more c.args.lines.now c.loop-line.line-index c.loop-line.most c.larger-most.result c.line-item.result c.loop-line-test.true c.line-item.is (omega (arith, c.larger-most.ensures, c.notices_of.ensures)) c.loop-line.invariant
 
 pub returns : goal.returns
 returns c = longest-all c.args.lines.now c.loop-line.line-index c.loop-line.most (omega (arith, c.loop-line-test.false)) c.loop-line.invariant

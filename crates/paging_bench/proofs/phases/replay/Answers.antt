@@ -6,7 +6,7 @@ use Rattle.bc_engine.specs.Lanes.{of_lane}
 use Rattle.bc_model.specs.Lists.{PhaseLists, TraceLists}
 use Rattle.bc_model.specs.Rows.{lists_of}
 use Rattle.bc_model.specs.declared.operations.Op.{Op}
-use Rattle.paging_bench.proofs.Counted.{phase-at, room-behind, room-here}
+use Rattle.paging_bench.proofs.Counted.{budgets-at, phase-at, room-behind, room-here}
 use Rattle.paging_bench.proofs.phases.replay.Goals as goal
 
 pub loop-index-init : goal.loop-index-init
@@ -23,6 +23,11 @@ pub replay_phase-requires-clause-phase : goal.replay_phase-requires-clause-phase
 replay_phase-requires-clause-phase g c κs within =
     let lt : c.loop-index.index < length c.args.trace.now.phases = omega (arith, ap (λ (x : TraceLists). length x.phases) c.trace.view_is, c.len-index-end.ensures) in
     phase-at c.args.trace.now _ _ _ _ c.requires (ap (λ (x : TraceLists). x.phases) c.trace.view_is) lt c.index-phase.ensures c.loop-index.invariant.setup
+
+pub replay_phase-requires-clause-budgets : goal.replay_phase-requires-clause-budgets
+replay_phase-requires-clause-budgets g c κs within =
+    let lt : c.loop-index.index < length c.args.trace.now.phases = omega (arith, ap (λ (x : TraceLists). length x.phases) c.trace.view_is, c.len-index-end.ensures) in
+    budgets-at c.args.trace.now _ _ _ _ c.requires (ap (λ (x : TraceLists). x.phases) c.trace.view_is) lt c.index-phase.ensures c.loop-index.invariant.setup
 
 pub replay_phase-requires-clause-births : goal.replay_phase-requires-clause-births
 replay_phase-requires-clause-births g c κs within =

@@ -2,7 +2,8 @@ use Rattle.std.proofs.Common.{ℕ, [], get_or, ap, sym, subst, ◌∙◌, arith}
 use Rattle.std.proofs.lemmas.Result.{IfOk-weaker}
 use Rattle.bc_engine.specs.Engines.{EngineView}
 use Rattle.bc_engine.specs.Lanes.{HasRoomForOps}
-use Rattle.bc_model.specs.WellFormed.{IsPhase}
+use Rattle.bc_model.specs.WellFormed.{FitsFrames, IsPhase}
+use Rattle.std.specs.List.{AllByRecursion}
 use Rattle.bc_engine.proofs.PhaseLemmas.{cut-answers, did-answers, ended-weaker}
 use Rattle.bc_engine.proofs.TurnLemmas.{cut-turns-answers, had-answers, want-answers}
 use Rattle.bc_engine.proofs.engines.Engine.replay.Goals as goal
@@ -12,6 +13,9 @@ run_phase-told-requires-clause-going g c κs within = ap (λ (e : EngineView). e
 
 pub run_phase-told-requires-clause-phase : goal.run_phase-told-requires-clause-phase
 run_phase-told-requires-clause-phase g c κs within = subst (λ (e : EngineView). IsPhase e.setup c.args.phase.now) (sym c.take_answers-answers.ensures.same) c.requires.phase
+
+pub run_phase-told-requires-clause-budgets : goal.run_phase-told-requires-clause-budgets
+run_phase-told-requires-clause-budgets g c κs within = subst (λ (e : EngineView). AllByRecursion (FitsFrames e.setup) c.args.phase.now.turns) (sym c.take_answers-answers.ensures.same) c.requires.budgets
 
 pub run_phase-told-requires-clause-births : goal.run_phase-told-requires-clause-births
 run_phase-told-requires-clause-births g c κs within = subst (λ (e : EngineView). HasRoomForOps e c.args.phase.now.lanes 0) (sym c.take_answers-answers.ensures.same) c.requires.births

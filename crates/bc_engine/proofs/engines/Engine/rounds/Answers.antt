@@ -1,85 +1,127 @@
-use Rattle.std.proofs.Common.{◌≡◌, ℕ, ◌+◌, ◌*◌, Bool, length, refl, ap, ◌∙◌, arith}
-use Rattle.std.proofs.lemmas.Result.{err_from_is_err_and}
-use Rattle.bc_marking.specs.Lines.{hints_at}
+use Rattle.std.proofs.Common.{◌≡◌, ℕ, None, Some, refl, sym, subst}
 use Rattle.bc_model.specs.Rows.{lists_of}
-use Rattle.bc_engine.specs.EngineFacts.{with_answers}
+use Rattle.bc_model.specs.declared.traces.Setup.{Setup}
+use Rattle.bc_engine.specs.EngineFacts.{CanRunLanes, IsWorkers, with_answers}
 use Rattle.bc_engine.specs.Engines.{EngineView}
-use Rattle.bc_engine.specs.Rounds.{CutRound, HasNoRoomFor, IsTooSmall, RanToCut, RanToWant, longest_of}
-use Rattle.bc_engine.proofs.RoundLemmas.{on-begun, on-then, room-both, small-then, small-weaker, underway-then}
-use Rattle.bc_engine.proofs.TurnLemmas.{turns-all, turns-begun, turns-cut, turns-more, turns-want}
+use Rattle.bc_engine.specs.Inside.{engine_of, out_of_heap, played}
+use Rattle.bc_engine.specs.Rounds.{IsTooSmall, RanAll, RanToCut, RanToWant}
+use Rattle.bc_engine.specs.declared.engines.Ended.{Ended}
+use Rattle.bc_engine.specs.declared.engines.Ended.TheVariants.{OutOfHeap}
+use Rattle.bc_engine.proofs.RoundLemmas.{goes-on, played-at, room-at, small-at}
 use Rattle.bc_engine.proofs.engines.Engine.rounds.Goals as goal
 
-pub rounds-init : goal.rounds-init
-rounds-init g c = record {
-  same = (refl, refl, refl);
-  births = λ j. omega arith;
-  on = on-begun (lists_of c.args.lanes.now) c.args.self.now c.args.replies.now c.requires.going;
-  underway = c.requires.underway;
-  kept = c.requires.kept;
-  turns = turns-begun (lists_of c.args.lanes.now) (lists_of c.args.lines.now) (with_answers c.args.self.now c.args.answers.now.items) c.args.replies.now;
-}
+pub rounds-requires-clause-underway : goal.rounds-requires-clause-underway
+rounds-requires-clause-underway g c κs within = rw (← c.self.view_is) at c.requires.underway
 
-pub rounds-preserved : goal.rounds-preserved
-rounds-preserved g c =
-    let before = c.rounds.invariant in
-    let round = c.round.ensures in
+pub rounds-requires-clause-budgets : goal.rounds-requires-clause-budgets
+rounds-requires-clause-budgets g c κs within = rw (← c.self.view_is) at c.requires.budgets
+
+pub rounds-requires-clause-unrecorded : goal.rounds-requires-clause-unrecorded
+rounds-requires-clause-unrecorded g c κs within =
+    let going = rw (← c.self.view_is) at c.requires.going in
+    (c.self.invariant.alive (goes-on c.self.inside.ended going)).going going
+
+-- the rounds were run to the lanes' ends
+pub invariant_of-self : goal.invariant_of-self
+invariant_of-self g c =
+    let going = rw (← c.self.view_is) at c.requires.going in
+    let underway = rw (← c.self.view_is) at c.requires.underway in
+    let same = c.rounds.ensures.same in
+    let done = c.in-Ok.ensures in
     record {
-      same = (round.same.0 ∙ before.same.0, round.same.1 ∙ before.same.1, round.same.2 ∙ before.same.2);
-      births = λ j. omega (arith, round.births j, before.births j);
-      on = on-then before.on c.in_ok-round.ensures.on;
-      underway = underway-then round.same.1 c.in_ok-round.ensures.on before.underway;
-      kept = c.in_ok-round.ensures.kept;
-      turns = turns-more (with_answers c.round.new.self c.round.new.answers.items) c.round.new.replies c.round.new.next before.turns (c.in_ok-round.ensures.turn c.if-branch.false);
+      alive = λ alive. record {
+        workers = subst IsWorkers (sym same.2) (c.self.invariant.alive (goes-on c.self.inside.ended going)).workers;
+        ready = subst (λ (s : Setup). CanRunLanes s c.rounds.new.self.running) (sym same.1) (done.runs.underway c.self.inside.player.setup underway).ready;
+        going = λ none. done.idle.0;
+        returned = λ none. done.idle.1;
+      };
+      counted = c.rounds.ensures.counted c.self.invariant.counted;
     }
 
-pub round-requires-clause-longest : goal.round-requires-clause-longest
-round-requires-clause-longest g c κs within = c.longest_line-longest.ensures
+pub returns-in-Ok-clause-births : goal.returns-in-Ok-clause-births
+returns-in-Ok-clause-births g c = rw (← c.self.view_is) c.rounds.ensures.births
 
-pub returns-then-branch-clause-births : goal.returns-then-branch-clause-births
-returns-then-branch-clause-births g c = λ j. omega (arith, c.round.ensures.births j, c.rounds.invariant.births j)
+pub returns-in-Ok-clause-on : goal.returns-in-Ok-clause-on
+returns-in-Ok-clause-on g c =
+    let going = rw (← c.self.view_is) at c.requires.going in
+    rw (← c.self.view_is) (record { going = going; runs = c.in-Ok.ensures.runs })
 
-pub returns-then-branch-clause-on : goal.returns-then-branch-clause-on
-returns-then-branch-clause-on g c =
-    on-then c.rounds.invariant.on c.in_ok-round.ensures.on
+pub returns-in-Ok-clause-through : goal.returns-in-Ok-clause-through
+returns-in-Ok-clause-through g c = record { done = c.in-Ok.ensures.through.done; empty = c.in-Ok.ensures.through.empty }
 
-pub returns-in_err-round-clause-births : goal.returns-in_err-round-clause-births
-returns-in_err-round-clause-births g c = λ j. omega (arith, c.round.ensures.births j, c.rounds.invariant.births j)
-
-pub returns-then-branch-clause-turns : goal.returns-then-branch-clause-turns
-returns-then-branch-clause-turns g c =
-    turns-all (with_answers c.round.new.self c.round.new.answers.items) c.round.new.replies c.rounds.invariant.turns (c.in_ok-round.ensures.last_turn c.if-branch.true)
-
-pub returns-in_err-round-clause-cut : goal.returns-in_err-round-clause-cut
-returns-in_err-round-clause-cut g c =
-    let p = err_from_is_err_and c.from_residual.result c.from_residual.ensures.1 in
+pub returns-in-Ok-clause-turns : goal.returns-in-Ok-clause-turns
+returns-in-Ok-clause-turns g c =
+    let going = rw (← c.self.view_is) at c.requires.going in
     let lanes = lists_of c.args.lanes.now in
-    rw p.1
-    (rw p.2
-    (small-weaker Bool (Unit {0}) _ (IsTooSmall lanes c.rounds.self c.rounds.replies c.round.new.self c.round.new.replies) (IsTooSmall lanes c.args.self.now c.args.replies.now c.round.new.self c.round.new.replies)
-    (λ need small. small-then c.round.new.self c.round.new.replies need c.rounds.invariant.on small) c.in_err-round.ensures.cut))
+    let lines = c.args.lines.now in
+    let i = c.self.inside in
+    let k = record i { player = c.rounds.new.self } in
+    let had = c.in-Ok.ensures.turns in
+    rw (← c.self.view_is) (
+      had.0,
+      subst (λ (x : EngineView). RanAll lanes lines x c.args.replies.now had.0 (with_answers (engine_of k) c.rounds.new.answers.items) c.rounds.new.replies) (played-at i c.args.answers.now.items going)
+          (subst (λ (x : EngineView). RanAll lanes lines (played i.player c.args.answers.now.items) c.args.replies.now had.0 x c.rounds.new.replies) (played-at k c.rounds.new.answers.items going) had.1),
+    )
 
-pub returns-in_err-round-clause-cut_turns : goal.returns-in_err-round-clause-cut_turns
-returns-in_err-round-clause-cut_turns g c =
-    let p = err_from_is_err_and c.from_residual.result c.from_residual.ensures.1 in
-    let lanes = lists_of c.args.lanes.now in
-    let lines = lists_of c.args.lines.now in
-    let f = with_answers c.round.new.self c.round.new.answers.items in
-    rw p.1
-    (rw p.2
-    (small-weaker Bool (Unit {0}) _ (λ need. CutRound lanes lines (with_answers c.rounds.self c.rounds.answers.items) c.rounds.replies c.rounds.next f c.round.new.replies)
-    (λ need. (turns : ℕ) × RanToCut lanes lines (with_answers c.args.self.now c.args.answers.now.items) c.args.replies.now turns f c.round.new.replies)
-    (λ need cut. turns-cut f c.round.new.replies c.rounds.invariant.turns cut) c.in_err-round.ensures.cut_turn))
+-- they ended where the heap is too small
+pub invariant_of-self-in-Err-TooSmall : goal.invariant_of-self-in-Err-TooSmall
+invariant_of-self-in-Err-TooSmall g c =
+    let going = rw (← c.self.view_is) at c.requires.going in
+    let same = c.rounds.ensures.same in
+    let arm = c.in-Err-TooSmall in
+    record {
+      alive = λ alive. record {
+        workers = subst IsWorkers (sym same.2) (c.self.invariant.alive (goes-on c.self.inside.ended going)).workers;
+        ready = small-at (Unit {0}) arm.field-0 arm.need (λ need. CanRunLanes c.rounds.new.self.setup c.rounds.new.self.running) arm.field-0-is arm.ensures.ready;
+        going = λ none. absurd (some_none (OutOfHeap arm.need) none);
+        returned = λ none. absurd (some_none (OutOfHeap arm.need) none);
+      };
+      counted = c.rounds.ensures.counted c.self.invariant.counted;
+    }
+  where
+    some_none : (x : Ended) → Some x ≡ None → ⊥
+    some_none x none = cc
 
-pub returns-in_err-round-clause-want : goal.returns-in_err-round-clause-want
-returns-in_err-round-clause-want g c =
-    let p = err_from_is_err_and c.from_residual.result c.from_residual.ensures.1 in
+pub returns-in-Err-TooSmall-clause-cut : goal.returns-in-Err-TooSmall-clause-cut
+returns-in-Err-TooSmall-clause-cut g c =
+    let arm = c.in-Err-TooSmall in
     let lanes = lists_of c.args.lanes.now in
-    let lines = lists_of c.args.lines.now in
-    let f = with_answers c.round.new.self c.round.new.answers.items in
-    rw p.1
-    (rw p.2
-    (room-both Bool (Unit {0}) _ (HasNoRoomFor c.round.new.answers (length (hints_at lines c.rounds.next) + 2 * longest_of lines))
-    ((c.round.new.self ≡ c.rounds.self) × (c.round.new.replies ≡ c.rounds.replies) × (c.round.new.answers.items ≡ c.rounds.answers.items))
-    (RanToWant lanes lines (with_answers c.args.self.now c.args.answers.now.items) c.args.replies.now f c.round.new.replies c.round.new.answers)
-    (λ wants same. turns-want f c.round.new.replies c.round.new.answers c.rounds.invariant.turns (ap (λ (x : EngineView). with_answers x c.round.new.answers.items) same.0 ∙ ap (with_answers c.rounds.self) same.2) same.1 wants)
-    c.in_err-round.ensures.no_room c.in_err-round.ensures.undone))
+    let e = played c.self.inside.player c.args.answers.now.items in
+    let f = played c.rounds.new.self c.rounds.new.answers.items in
+    let small = small-at (Unit {0}) arm.field-0 arm.need (λ need. IsTooSmall lanes e c.args.replies.now (out_of_heap need f) c.rounds.new.replies need) arm.field-0-is arm.ensures.cut in
+    rw (← c.self.view_is) (record { cause = refl; goes = small.goes; needs = small.needs; above = small.above })
+
+pub returns-in-Err-TooSmall-clause-cut_turns : goal.returns-in-Err-TooSmall-clause-cut_turns
+returns-in-Err-TooSmall-clause-cut_turns g c =
+    let going = rw (← c.self.view_is) at c.requires.going in
+    let arm = c.in-Err-TooSmall in
+    let lanes = lists_of c.args.lanes.now in
+    let lines = c.args.lines.now in
+    let i = c.self.inside in
+    let e = played i.player c.args.answers.now.items in
+    let f = played c.rounds.new.self c.rounds.new.answers.items in
+    let had = small-at (Unit {0}) arm.field-0 arm.need (λ need. (turns : ℕ) × RanToCut lanes lines e c.args.replies.now turns (out_of_heap need f) c.rounds.new.replies) arm.field-0-is arm.ensures.cut_turns in
+    rw (← c.self.view_is) (
+      had.0,
+      subst (λ (x : EngineView). RanToCut lanes lines x c.args.replies.now had.0 (out_of_heap arm.need f) c.rounds.new.replies) (played-at i c.args.answers.now.items going) had.1,
+    )
+
+-- or where there was no memory for answers
+pub invariant_of-self-in-Err-NoRoom : goal.invariant_of-self-in-Err-NoRoom
+invariant_of-self-in-Err-NoRoom g c = record { alive = λ alive. absurd (alive refl); counted = c.rounds.ensures.counted c.self.invariant.counted }
+
+pub returns-clause-want : goal.returns-clause-want
+returns-clause-want g c =
+    let going = rw (← c.self.view_is) at c.requires.going in
+    let arm = c.in-Err-NoRoom in
+    let lanes = lists_of c.args.lanes.now in
+    let lines = c.args.lines.now in
+    let i = c.self.inside in
+    let kept = c.rounds.new.answers in
+    let f = played c.rounds.new.self kept.items in
+    let wants = room-at (Unit {0}) arm.field-0 (RanToWant lanes lines (played i.player c.args.answers.now.items) c.args.replies.now f c.rounds.new.replies kept) arm.field-0-is arm.ensures.want in
+    rw (← c.self.view_is) (
+      f,
+      subst (λ (x : EngineView). RanToWant lanes lines x c.args.replies.now f c.rounds.new.replies kept) (played-at i c.args.answers.now.items going) wants,
+      refl,
+    )

@@ -1,11 +1,14 @@
-use Rattle.std.proofs.Common.{ℕ, get_or, length, ap, sym, subst, ◌∙◌, arith}
+use Rattle.std.proofs.Common.{◌≡◌, ℕ, Some, get_or, length, ap, sym, subst, ◌∙◌, arith}
 use Rattle.std.proofs.lemmas.List.{take_at}
+use Rattle.std.specs.List.{AllByRecursion}
 use Rattle.bc_model.specs.Lists.{PhaseLists}
 use Rattle.bc_model.specs.Rows.{lists_of}
 use Rattle.bc_model.specs.Run.{after_changes}
+use Rattle.bc_model.specs.WellFormed.{FitsFrames}
 use Rattle.bc_engine.specs.EngineFacts.{with_answers}
 use Rattle.bc_engine.specs.Engines.{EngineView, EngineStands, HasEmptyChunks}
 use Rattle.bc_engine.specs.Rounds.{IsTooSmall, RanToCut, RanToWant}
+use Rattle.bc_engine.specs.declared.engines.Ended.TheVariants.{NoMemory}
 use Rattle.bc_engine.proofs.PhaseLemmas.{births-lent, cut-lent, did-lent, underway-lent}
 use Rattle.bc_engine.proofs.RoundLemmas.{room-at, small-at}
 use Rattle.bc_engine.proofs.TurnLemmas.{cut-turns-lent, had-lent, want-lent}
@@ -17,6 +20,11 @@ rounds-requires-clause-underway g c κs within =
     (record { engine = c.facts.ensures.engine; going = c.requires.going; phase = c.requires.phase; room = c.requires.room })
     c.requires.births c.requires.long
     (ap lists_of c.deref.ensures.value ∙ ap (λ (p : PhaseLists). p.lanes) c.phase.view_is) c.deref_mut.ensures.value
+
+-- the lines are the phase's as they were lent
+pub rounds-requires-clause-budgets : goal.rounds-requires-clause-budgets
+rounds-requires-clause-budgets g c κs within =
+    subst (AllByRecursion (FitsFrames c.args.self.now.setup)) (sym (c.deref-2.ensures.value ∙ ap (λ (p : PhaseLists). p.turns) c.phase.view_is)) c.requires.budgets
 
 pub room_facts-requires-clause-empty : goal.room_facts-requires-clause-empty
 room_facts-requires-clause-empty g c = subst (λ (e : EngineView). HasEmptyChunks e.running.heap) (sym c.change_all.ensures.same) c.in-Ok.ensures.through.empty
@@ -48,9 +56,9 @@ returns-in-Ok-clause-turns g c =
     let same = c.rounds.auto.replies in
     let lent = ap length c.deref_mut.ensures.value in
     let len = c.deref_mut.ensures.len in
-    had-lent c.args.self.now c.rounds.new.self c.change_all.new.self phase c.args.answers.now.items c.rounds.new.answers.items (lists_of c.deref.result.now) (lists_of c.deref-2.result.now) c.deref_mut.result.now c.args.replies.items c.rounds.new.replies _ c.requires.none c.requires.room
+    had-lent c.args.self.now c.rounds.new.self c.change_all.new.self phase c.args.answers.now.items c.rounds.new.answers.items (lists_of c.deref.result.now) c.deref-2.result.now c.deref_mut.result.now c.args.replies.items c.rounds.new.replies _ c.requires.none c.requires.room
     (ap lists_of c.deref.ensures.value ∙ ap (λ (p : PhaseLists). p.lanes) c.phase.view_is)
-    (ap lists_of c.deref-2.ensures.value ∙ ap (λ (p : PhaseLists). p.turns) c.phase.view_is) c.deref_mut.ensures.value
+    (c.deref-2.ensures.value ∙ ap (λ (p : PhaseLists). p.turns) c.phase.view_is) c.deref_mut.ensures.value
     (take_at c.rounds.new.replies _ c.args.replies.len (omega arith)) c.in-Ok.ensures.turns c.change_all.ensures.same
 
 pub returns-in-Err-TooSmall-clause-cut : goal.returns-in-Err-TooSmall-clause-cut
@@ -76,12 +84,12 @@ returns-in-Err-TooSmall-clause-cut_turns g c =
     let len = c.deref_mut.ensures.len in
     let arm = c.in-Err-TooSmall in
     let os = lists_of c.deref.result.now in
-    let ls = lists_of c.deref-2.result.now in
+    let ls = c.deref-2.result.now in
     let e = with_answers c.args.self.now c.args.answers.now.items in
     let f = with_answers c.rounds.new.self c.rounds.new.answers.items in
     cut-turns-lent c.args.self.now c.rounds.new.self c.args.phase.now c.args.answers.now.items c.rounds.new.answers.items os ls c.deref_mut.result.now c.args.replies.items c.rounds.new.replies _ c.requires.none c.requires.room
     (ap lists_of c.deref.ensures.value ∙ ap (λ (p : PhaseLists). p.lanes) c.phase.view_is)
-    (ap lists_of c.deref-2.ensures.value ∙ ap (λ (p : PhaseLists). p.turns) c.phase.view_is) c.deref_mut.ensures.value
+    (c.deref-2.ensures.value ∙ ap (λ (p : PhaseLists). p.turns) c.phase.view_is) c.deref_mut.ensures.value
     (take_at c.rounds.new.replies _ c.args.replies.len (omega arith))
     (small-at (Unit {0}) arm.field-0 arm.need (λ need. (turns : ℕ) × RanToCut os ls e c.deref_mut.result.now turns f c.rounds.new.replies) arm.field-0-is arm.ensures.cut_turns)
 
@@ -95,18 +103,15 @@ pub returns-in-Err-NoRoom-clause-want : goal.returns-in-Err-NoRoom-clause-want
 returns-in-Err-NoRoom-clause-want g c = λ no.
     let arm = c.in-Err-NoRoom in
     let os = lists_of c.deref.result.now in
-    let ls = lists_of c.deref-2.result.now in
+    let ls = c.deref-2.result.now in
     let kept = c.rounds.new.answers in
     let e = with_answers c.args.self.now c.args.answers.now.items in
-    let f = with_answers c.rounds.new.self kept.items in
-    want-lent c.args.self.now c.rounds.new.self c.end_for_want.new.self c.args.phase.now c.args.answers.now.items kept os ls c.deref_mut.result.now c.args.replies.items c.rounds.new.replies c.requires.none c.requires.room
+    want-lent c.args.self.now c.rounds.new.self c.args.phase.now c.args.answers.now.items kept os ls c.deref_mut.result.now c.args.replies.items c.rounds.new.replies c.requires.none c.requires.room
     (ap lists_of c.deref.ensures.value ∙ ap (λ (p : PhaseLists). p.lanes) c.phase.view_is)
-    (ap lists_of c.deref-2.ensures.value ∙ ap (λ (p : PhaseLists). p.turns) c.phase.view_is) c.deref_mut.ensures.value
-    (room-at (Unit {0}) arm.field-0 (RanToWant os ls e c.deref_mut.result.now f c.rounds.new.replies kept) arm.field-0-is arm.ensures.want)
-    c.end_for_want.ensures
+    (c.deref-2.ensures.value ∙ ap (λ (p : PhaseLists). p.turns) c.phase.view_is) c.deref_mut.ensures.value
+    (room-at (Unit {0}) arm.field-0 ((last : EngineView) × RanToWant os ls e c.deref_mut.result.now last c.rounds.new.replies kept × (with_answers c.rounds.new.self kept.items ≡ record last { ended = Some NoMemory })) arm.field-0-is arm.ensures.want)
 
 pub returns-in-Err-NoRoom-clause-births : goal.returns-in-Err-NoRoom-clause-births
-returns-in-Err-NoRoom-clause-births g c = λ j.
-    let few = births-lent c.args.self.now c.rounds.new.self c.args.phase.now (lists_of c.deref.result.now) c.deref_mut.result.now c.rounds.new.replies
-    (ap lists_of c.deref.ensures.value ∙ ap (λ (p : PhaseLists). p.lanes) c.phase.view_is) c.rounds.ensures.births j in
-    omega (arith, few, ap (λ (e : EngineView). get_or e.running.serials j 0) c.end_for_want.ensures)
+returns-in-Err-NoRoom-clause-births g c =
+    births-lent c.args.self.now c.rounds.new.self c.args.phase.now (lists_of c.deref.result.now) c.deref_mut.result.now c.rounds.new.replies
+    (ap lists_of c.deref.ensures.value ∙ ap (λ (p : PhaseLists). p.lanes) c.phase.view_is) c.rounds.ensures.births

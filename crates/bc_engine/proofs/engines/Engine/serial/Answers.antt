@@ -1,4 +1,5 @@
-use Rattle.std.proofs.Common.{Err, arith}
+use Rattle.std.proofs.Common.{Err, ap, ◌∙◌, arith}
+use Rattle.bc_superpages.specs.Layout.{Layout}
 use Rattle.bc_engine.proofs.Sizes.{op-of_heap}
 use Rattle.bc_engine.proofs.Attempts.{does-step, ready-sound, ready-step, never-stops, unrecorded-kept}
 use Rattle.bc_engine.proofs.CountLemmas.{alone-counted, alone-counts}
@@ -22,6 +23,7 @@ invariant_of-self c =
             workers = old.workers;
             ready = ready-step c.self.inside.player.setup c.args.lane c.args.op.now c.operate.result e.stays e.sound e.step e.stopped old.ready;
             going = λ going. unrecorded-kept (e.unrecorded empty) e.stays unrecorded;
+            returned = λ going. ap (λ (s : Layout). s.nursery) e.stays.space ∙ old.returned going;
           };
       counted = alone-counted c.self.inside.player.counters c.count_alone.new.self c.self.inside.player.running.heap.space.reads c.operate.new.self.heap.space.reads c.tally_of-before.ensures.fits c.tally_of-after.ensures.fits (the-count c) c.self.invariant.counted;
     }

@@ -10,6 +10,12 @@ phase-requires-clause-phase g c κs =
     let is = ap (λ (e : EngineView). e.setup) c.give.ensures.same ∙ c.in_ok-engine.ensures.setup.0 in
     c.in_ok-phase.ensures.phase c.give.new.self.setup (ap (λ (s : Setup). s.lanes) is) (ap (λ (s : Setup). s.domains) is) (ap (λ (s : Setup). s.slots) is)
 
+pub phase-requires-clause-budgets : goal.phase-requires-clause-budgets
+phase-requires-clause-budgets g c κs = c.in_ok-phase.ensures.budgets c.give.new.self.setup
+
+pub phase-requires-2-clause-budgets : goal.phase-requires-2-clause-budgets
+phase-requires-2-clause-budgets g c κs = c.in_ok-phase.ensures.budgets c.phase-2.new.self.setup
+
 pub phase-requires-2-clause-phase : goal.phase-requires-2-clause-phase
 phase-requires-2-clause-phase g c κs =
     let is = c.phase-2.ensures.setup.0 ∙ ap (λ (e : EngineView). e.setup) c.give.ensures.same ∙ c.in_ok-engine.ensures.setup.0 in

@@ -1,0 +1,117 @@
+use Rattle.std.proofs.Common.{◌≡◌, ℕ, ◌+◌, ◌*◌, Bool, length, refl, sym, ap, subst, ◌∙◌, arith}
+use Rattle.std.proofs.lemmas.Result.{err_from_is_err_and}
+use Rattle.std.specs.List.{AllByRecursion}
+use Rattle.bc_marking.specs.Lines.{hints_at}
+use Rattle.bc_model.specs.Rows.{lists_of}
+use Rattle.bc_model.specs.TurnLines.{hints_in}
+use Rattle.bc_model.specs.WellFormed.{FitsFrames}
+use Rattle.bc_model.specs.declared.traces.Setup.{Setup}
+use Rattle.bc_engine.specs.EngineFacts.{CanRunLanes}
+use Rattle.bc_engine.specs.Inside.{out_of_heap, played}
+use Rattle.bc_engine.specs.Lanes.{IsUnderway}
+use Rattle.bc_engine.specs.Rounds.{CutRound, HasNoRoomFor, IsTooSmall, RanToCut, RanToWant, longest_of}
+use Rattle.bc_engine.specs.declared.players.Player.{Player}
+use Rattle.bc_engine.proofs.RoundLemmas.{room-both, small-then, small-weaker}
+use Rattle.bc_engine.proofs.RunLemmas.{runs-same, runs-then}
+use Rattle.bc_engine.proofs.TurnLemmas.{turns-all, turns-begun, turns-cut, turns-more, turns-want}
+use Rattle.bc_engine.proofs.players.Player.rounds.Goals as goal
+
+pub rounds-init : goal.rounds-init
+rounds-init g c = record {
+  same = (refl, refl, refl);
+  counted = λ sum. sum;
+  births = λ j. omega arith;
+  runs = runs-same (lists_of c.args.lanes.now) c.args.self.now.running c.args.self.now.running c.args.replies.now refl;
+  underway = c.requires.underway;
+  unrecorded = c.requires.unrecorded;
+  budgets = c.requires.budgets;
+  kept = c.requires.kept;
+  turns = turns-begun (lists_of c.args.lanes.now) c.args.lines.now (played c.args.self.now c.args.answers.now.items) c.args.replies.now;
+}
+
+pub rounds-preserved : goal.rounds-preserved
+rounds-preserved g c =
+    let before = c.rounds.invariant in
+    let round = c.round.ensures in
+    record {
+      same = (round.same.0 ∙ before.same.0, round.same.1 ∙ before.same.1, round.same.2 ∙ before.same.2);
+      counted = λ sum. round.counted (before.counted sum);
+      births = λ j. omega (arith, round.births j, before.births j);
+      runs = runs-then before.runs c.in_ok-round.ensures.runs;
+      underway = subst (λ (s : Setup). IsUnderway s (lists_of c.args.lanes.now) c.round.new.self.running c.round.new.replies) (sym round.same.1) (c.in_ok-round.ensures.runs.underway c.rounds.self.setup before.underway);
+      unrecorded = c.in_ok-round.ensures.unrecorded;
+      budgets = subst (λ (s : Setup). AllByRecursion (FitsFrames s) c.args.lines.now) (sym round.same.1) before.budgets;
+      kept = c.in_ok-round.ensures.kept;
+      turns = turns-more (played c.round.new.self c.round.new.answers.items) c.round.new.replies c.round.new.next before.turns (c.in_ok-round.ensures.turn c.if-branch.false);
+    }
+
+pub round-requires-clause-longest : goal.round-requires-clause-longest
+round-requires-clause-longest g c κs within = c.longest_line-longest.ensures
+
+pub returns-then-branch-clause-counted : goal.returns-then-branch-clause-counted
+returns-then-branch-clause-counted g c = λ sum. c.round.ensures.counted (c.rounds.invariant.counted sum)
+
+pub returns-then-branch-clause-births : goal.returns-then-branch-clause-births
+returns-then-branch-clause-births g c = λ j. omega (arith, c.round.ensures.births j, c.rounds.invariant.births j)
+
+pub returns-then-branch-clause-runs : goal.returns-then-branch-clause-runs
+returns-then-branch-clause-runs g c = runs-then c.rounds.invariant.runs c.in_ok-round.ensures.runs
+
+pub returns-then-branch-clause-idle : goal.returns-then-branch-clause-idle
+returns-then-branch-clause-idle g c = (c.in_ok-round.ensures.unrecorded, c.in_ok-round.ensures.returned c.if-branch.true)
+
+pub returns-in_err-round-clause-births : goal.returns-in_err-round-clause-births
+returns-in_err-round-clause-births g c = λ j. omega (arith, c.round.ensures.births j, c.rounds.invariant.births j)
+
+pub returns-in_err-round-clause-counted : goal.returns-in_err-round-clause-counted
+returns-in_err-round-clause-counted g c = λ sum. c.round.ensures.counted (c.rounds.invariant.counted sum)
+
+pub returns-then-branch-clause-turns : goal.returns-then-branch-clause-turns
+returns-then-branch-clause-turns g c =
+    turns-all (played c.round.new.self c.round.new.answers.items) c.round.new.replies c.rounds.invariant.turns (c.in_ok-round.ensures.last_turn c.if-branch.true)
+
+pub returns-in_err-round-clause-ready : goal.returns-in_err-round-clause-ready
+returns-in_err-round-clause-ready g c =
+    let p = err_from_is_err_and c.from_residual.result c.from_residual.ensures.1 in
+    let q = c.round.new.self in
+    rw p.1
+    (rw p.2
+    (small-weaker Bool (Unit {0}) _ (λ need. CanRunLanes q.setup q.running) (λ need. CanRunLanes q.setup q.running) (λ need ready. ready) c.in_err-round.ensures.ready))
+
+pub returns-in_err-round-clause-cut : goal.returns-in_err-round-clause-cut
+returns-in_err-round-clause-cut g c =
+    let p = err_from_is_err_and c.from_residual.result c.from_residual.ensures.1 in
+    let lanes = lists_of c.args.lanes.now in
+    let e = played c.args.self.now c.args.answers.now.items in
+    let m = played c.rounds.self c.rounds.answers.items in
+    let f = played c.round.new.self c.round.new.answers.items in
+    rw p.1
+    (rw p.2
+    (small-weaker Bool (Unit {0}) _ (λ need. IsTooSmall lanes m c.rounds.replies (out_of_heap need f) c.round.new.replies need) (λ need. IsTooSmall lanes e c.args.replies.now (out_of_heap need f) c.round.new.replies need)
+    (λ need small. small-then {e = e} {f = m} (out_of_heap need f) c.round.new.replies need c.rounds.invariant.runs small) c.in_err-round.ensures.cut))
+
+pub returns-in_err-round-clause-cut_turns : goal.returns-in_err-round-clause-cut_turns
+returns-in_err-round-clause-cut_turns g c =
+    let p = err_from_is_err_and c.from_residual.result c.from_residual.ensures.1 in
+    let lanes = lists_of c.args.lanes.now in
+    let lines = c.args.lines.now in
+    let f = played c.round.new.self c.round.new.answers.items in
+    rw p.1
+    (rw p.2
+    (small-weaker Bool (Unit {0}) _ (λ need. CutRound lanes lines (played c.rounds.self c.rounds.answers.items) c.rounds.replies c.rounds.next (out_of_heap need f) c.round.new.replies)
+    (λ need. (turns : ℕ) × RanToCut lanes lines (played c.args.self.now c.args.answers.now.items) c.args.replies.now turns (out_of_heap need f) c.round.new.replies)
+    (λ need cut. turns-cut (out_of_heap need f) c.round.new.replies c.rounds.invariant.turns cut) c.in_err-round.ensures.cut_turn))
+
+pub returns-in_err-round-clause-want : goal.returns-in_err-round-clause-want
+returns-in_err-round-clause-want g c =
+    let p = err_from_is_err_and c.from_residual.result c.from_residual.ensures.1 in
+    let lanes = lists_of c.args.lanes.now in
+    let lines = c.args.lines.now in
+    let f = played c.round.new.self c.round.new.answers.items in
+    rw p.1
+    (rw p.2
+    (room-both Bool (Unit {0}) _ (HasNoRoomFor c.round.new.answers (length (hints_at (hints_in lines) c.rounds.next) + 2 * longest_of (hints_in lines)))
+    ((c.round.new.self ≡ c.rounds.self) × (c.round.new.replies ≡ c.rounds.replies) × (c.round.new.answers.items ≡ c.rounds.answers.items))
+    (RanToWant lanes lines (played c.args.self.now c.args.answers.now.items) c.args.replies.now f c.round.new.replies c.round.new.answers)
+    (λ wants same. turns-want f c.round.new.replies c.round.new.answers c.rounds.invariant.turns (ap (λ (x : Player). played x c.round.new.answers.items) same.0 ∙ ap (played c.rounds.self) same.2) same.1 wants)
+    c.in_err-round.ensures.no_room c.in_err-round.ensures.undone))
