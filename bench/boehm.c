@@ -46,16 +46,24 @@ static void expect(const char *text) {
     at += length;
 }
 
-/* A space and a number below the limit. The trace ends in a byte 0, which is no digit. */
-static inline uint64_t operand(uint64_t limit) {
-    if (*at != ' ' || at[1] < '0' || at[1] > '9')
+/* A number below the limit. The trace ends in a byte 0, which is no digit. */
+static inline uint64_t number_below(uint64_t limit) {
+    if (*at < '0' || *at > '9')
         fault();
     uint64_t number = 0;
-    for (at++; *at >= '0' && *at <= '9'; at++)
+    for (; *at >= '0' && *at <= '9'; at++)
         number = 10 * number + (uint64_t)(*at - '0');
     if (number >= limit)
         fault();
     return number;
+}
+
+/* A space and a number below the limit. */
+static inline uint64_t operand(uint64_t limit) {
+    if (*at != ' ')
+        fault();
+    at++;
+    return number_below(limit);
 }
 
 static inline void line_end(void) {
@@ -344,6 +352,10 @@ static void phase(uint64_t number) {
     SAY_NUMBER("phase ", number);
     while (is("turn")) {
         expect("turn");
+        if (version == 3 && *at == ' ' && (at[1] == '+' || at[1] == '-')) {
+            at += 2;
+            number_below(16641);
+        }
         while (*at == ' ')
             operand(1ull << 32);
         line_end();
@@ -356,7 +368,7 @@ static void phase(uint64_t number) {
         SAY_NUMBER("lane ", lane);
         operations(lane);
     }
-    while (is("give") || (version == 2 && is("free"))) {
+    while (is("give") || (version >= 2 && is("free"))) {
         int gives = is("give");
         expect(gives ? "give" : "freeze");
         uint64_t domain = operand(domains), holder = gives ? operand(lanes) : FROZEN;
@@ -374,7 +386,7 @@ static uint64_t header(const char *word, uint64_t end_of_range) {
 }
 
 static void replay(void) {
-    version = header("bc-trace", 3);
+    version = header("bc-trace", 4);
     lanes = header("lanes", LANES + 1);
     domains = header("domains", DOMAINS + 1);
     width = header("slots", SLOTS + 1);

@@ -15,7 +15,7 @@ const NUMBERS: u64 = 1 << 63;
 
 /// The header's words, with the least number of each and the one after the greatest; those of `frames` come from the others.
 const HEADER: [(&[u8], u64, u64); 8] = [
-    (b"bc-trace", 1, 3),
+    (b"bc-trace", 1, 4),
     (b"lanes", 1, 17),
     (b"domains", 1, 65),
     (b"slots", 1, 257),
@@ -48,10 +48,13 @@ const FREEZE: u32 = front(b"free");
 /// What stands in a domain's place among the holders where all lanes may read it and none may write it.
 const FROZEN: usize = usize::MAX;
 
+/// A `turn` line may withhold or return so many frames.
+const FRAMES: u64 = 16_640;
+
 /// What is left of the trace. Each method takes something off its front, or answers None and leaves it within the same line.
 struct Rest<'a>(&'a [u8]);
 
-impl Rest<'_> {
+impl<'a> Rest<'a> {
     #[inline(always)]
     fn front(&self) -> u32 {
         self.0.first_chunk().map_or(0, front)
@@ -63,10 +66,19 @@ impl Rest<'_> {
         Some(())
     }
 
-    /// A space and a number below the limit. Numbers of twenty digits and more are refused unread, so that nothing overflows.
     #[inline(always)]
     fn operand(&mut self, limit: u64) -> Option<u64> {
-        let [b' ', first @ b'0'..=b'9', digits @ ..] = self.0 else {
+        let [b' ', text @ ..] = self.0 else {
+            return None;
+        };
+        self.number(text, limit)
+    }
+
+    /// A number below the limit, with which this text begins: what is behind it is left. Numbers of twenty digits and more are refused
+    /// unread, so that nothing overflows.
+    #[inline(always)]
+    fn number(&mut self, text: &'a [u8], limit: u64) -> Option<u64> {
+        let [first @ b'0'..=b'9', digits @ ..] = text else {
             return None;
         };
         let (mut value, mut count) = (u64::from(first - b'0'), 0);
@@ -284,6 +296,8 @@ struct Replay<'a> {
     rest: Rest<'a>,
     place: Place,
     header: [u64; 8],
+    /// How many frames the phase's last `turn` line says are withheld.
+    withheld: u64,
     heap: Heap,
     replies: Replies,
 }
@@ -295,6 +309,7 @@ impl<'a> Replay<'a> {
             rest: Rest(trace),
             place: Place::Header(0),
             header: [0; 8],
+            withheld: 0,
             heap: Heap::new(1, 1, 1),
             replies: Replies(Vec::new()),
         }
@@ -340,6 +355,7 @@ impl<'a> Replay<'a> {
     fn phase(&mut self, phase: u64) -> Option<()> {
         self.rest.take(b"phase\n")?;
         self.place = Place::Turns;
+        self.withheld = 0;
         self.replies.number(b"phase ", phase);
         while self.rest.front() == TURN {
             self.turn()?;
@@ -366,7 +382,7 @@ impl<'a> Replay<'a> {
         let (domain, holder) = if front == GIVE {
             self.rest.take(b"give")?;
             (self.rest.operand(self.header[2])?, self.rest.operand(self.header[1])? as usize)
-        } else if front == FREEZE && self.header[0] == 2 {
+        } else if front == FREEZE && self.header[0] >= 2 {
             self.rest.take(b"freeze")?;
             (self.rest.operand(self.header[2])?, FROZEN)
         } else {
@@ -379,13 +395,30 @@ impl<'a> Replay<'a> {
 
     fn turn(&mut self) -> Option<()> {
         self.rest.take(b"turn")?;
+        let withheld = self.shift()?;
         for _ in 0..64 {
             if self.rest.0.first() == Some(&b'\n') {
                 break;
             }
             self.rest.operand(1 << 32)?;
         }
-        self.rest.take(b"\n")
+        self.rest.take(b"\n")?;
+        self.withheld = withheld;
+        Some(())
+    }
+
+    /// How many frames are withheld from a turn's line on: in version 3 its first operand may say how many more or fewer.
+    fn shift(&mut self) -> Option<u64> {
+        let (sign, text) = match self.rest.0 {
+            [b' ', sign @ (b'+' | b'-'), text @ ..] if self.header[0] == 3 => (*sign, text),
+            _ => return Some(self.withheld),
+        };
+        let frames = self.rest.number(text, FRAMES + 1).filter(|frames| *frames > 0)?;
+        let [_, lanes, _, _, _, nursery, _, all] = self.header;
+        match sign {
+            b'+' => self.withheld.checked_sub(frames),
+            _ => Some(self.withheld + frames).filter(|withheld| lanes * nursery + 2 + withheld <= all),
+        }
     }
 
     #[inline(always)]
@@ -605,24 +638,31 @@ impl Replay<'_> {
         if !self.may_stand(word) {
             return "order";
         }
-        let operands: Vec<&[u8]> = words.collect();
+        let mut operands: Vec<&[u8]> = words.collect();
+        let shift = self.take_shift(word, &mut operands);
         if operands.len() > ranges.len() || (operands.len() < ranges.len() && word != b"turn") {
             return "form";
         }
-        let Some(numbers) = operands.into_iter().map(number).collect::<Option<Vec<u64>>>() else {
+        let has_shift = shift.is_some();
+        let Some(numbers) = shift.into_iter().chain(operands).map(number).collect::<Option<Vec<u64>>>() else {
             return "number";
         };
-        let is_inside = numbers.iter().zip(ranges).all(|(number, (least, end))| (least..end).contains(number));
-        match word {
-            b"frames" => "frames",
-            _ => {
-                if is_inside {
-                    unreachable!("a good line was refused")
-                } else {
-                    "range"
-                }
-            }
+        let of_shift = has_shift.then_some((1, FRAMES + 1));
+        let is_inside = numbers.iter().zip(of_shift.into_iter().chain(ranges)).all(|(number, (least, end))| (least..end).contains(number));
+        if word == b"frames" || (has_shift && is_inside) {
+            return "frames";
         }
+        if is_inside { unreachable!("a good line was refused") } else { "range" }
+    }
+
+    /// Takes the operand with a sign from a turn's line, where it has one by its version, and answers what follows the sign.
+    fn take_shift<'b>(&self, word: &[u8], operands: &mut Vec<&'b [u8]>) -> Option<&'b [u8]> {
+        let (sign, frames) = operands.first()?.split_first()?;
+        if word != b"turn" || self.header[0] != 3 || !b"+-".contains(sign) {
+            return None;
+        }
+        operands.remove(0);
+        Some(frames)
     }
 
     /// For each operand of the word its least number and the one after its greatest; all that a turn may have. None: no word.
@@ -641,7 +681,7 @@ impl Replay<'_> {
                 _ => vec![number],
             },
             b"give" => vec![domain, (0, lanes)],
-            b"freeze" if self.header[0] == 2 => vec![domain],
+            b"freeze" if self.header[0] >= 2 => vec![domain],
             b"new" => vec![domain, slot, (0, 128)],
             b"who" | b"len" | b"clear" => vec![domain, slot],
             b"set" => vec![domain, slot, field, number],

@@ -41,6 +41,11 @@ class Setup:
         return f'phase\n{turns}' + ''.join(f'lane {lane}\n{text}' for lane, text in enumerate(texts)) + f'{gives}end\n'
 
 
+def shift(before, withheld):
+    """The operand of a `turn` line in which so many frames are withheld, where it was another number before."""
+    return '' if withheld == before else f' -{withheld - before}' if withheld > before else f' +{before - withheld}'
+
+
 LARGEST = Setup(lanes=16, domains=64, slots=256, superpages=4096, nursery=16, buffer=4096)
 
 
@@ -262,6 +267,7 @@ READINGS = [
     ('turns of 64 hints', read_alone('turn' + ' 4294967295' * 64 + '\n', kind='turns')),
     ('turns of 64 hints `0`', read_alone('turn' + ' 0' * 64 + '\n', kind='turns')),
     ('turns of one hint `0`', read_alone('turn 0\n', kind='turns')),
+    ('turns that withhold and return a frame', read_alone('turn -1\nturn +1\n', Setup(version=3), kind='turns')),
     ('turns without a hint', read_alone('turn\n', kind='turns')),
     ('phases of four lanes with ten operations each', read_phases(Setup(4, 4, 1, 4), 'who 0 0\n' * 10)),
     ('phases of one `who`', read_phases(Setup(), 'who 0 0\n')),

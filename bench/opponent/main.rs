@@ -13,11 +13,12 @@
 //! has `sweeps` and `sweep_reads` of mark-and-sweep, `evictions` and `discards` of pages with and without objects, but for those in a fail-safe,
 //! and `nanoseconds` of processor time. With `fewest` the last line has `fewest`, the reads of the best choice of pages
 //! for what operations and placing touched. With `steps` there is a line for each emptying of the nurseries as well: the operations before it,
-//! its kind (promotion, early, collection, sweep or fail-safe), the pages that it read, and how many are home, gone and absent after it.
+//! its kind (promotion, early, collection, sweep or fail-safe), the pages that it read, how many are home, gone and absent after it, the frames
+//! that are withheld, and the pages that were read so far (`all_reads`).
 
 use bc_gates::OpenGate;
 use bc_marking::{MarkPace, line_after, line_at};
-use bc_model::{Holder, Op, Reply};
+use bc_model::{Holder, Op, Reply, TurnLine};
 use bc_pager::{Answer, answer_all};
 use bc_superpages::{PageState, Space};
 use pages::all_left;
@@ -66,8 +67,15 @@ struct Play {
 
 /// The lines of a phase's turns, and the number of the next one.
 struct Lines<'a> {
-    lines: &'a [shim::Vec<u32>],
+    lines: &'a [TurnLine],
     next: usize,
+}
+
+impl Lines<'_> {
+    /// How many frames are withheld in a turn that uses the next line.
+    fn withheld(&self) -> u32 {
+        self.lines.get(self.next).map_or(0, |line| line.withheld)
+    }
 }
 
 /// A lane's place in a phase, and a number made of its replies.
@@ -134,9 +142,11 @@ impl Play {
         bc_bookmarks::settle(&mut self.heap.space);
     }
 
-    /// A bookmark collection before pages with objects have to leave. Its marking answers the notices of the next line.
+    /// A bookmark collection before pages with objects have to leave, as for the nurseries or since the next line withholds more frames. Its
+    /// marking answers the notices of the next line.
     fn collect_if_short(&mut self, at: &mut Lines) {
-        if self.collector != Collector::Bookmarks || !self.pressure.is_high(&self.heap.space, self.nurseries) {
+        let wanted = self.nurseries + at.withheld().saturating_sub(self.heap.space.withheld(self.nurseries));
+        if self.collector != Collector::Bookmarks || !self.pressure.is_high(&self.heap.space, wanted) {
             return;
         }
         let (before, reads) = (bc_running::pressure::pages_with_objects(&self.heap.space), self.reads());
@@ -164,7 +174,8 @@ impl Play {
         let away = gone(space);
         let home = (0..space.pages()).filter(|page| space.resident(*page)).count() as u64;
         print!("emptying={emptyings} operations={operations} kind={kind} reads={}", space.reads() - reads);
-        println!(" home={home} gone={away} absent={}", u64::from(space.pages()) - home - away);
+        print!(" home={home} gone={away} absent={}", u64::from(space.pages()) - home - away);
+        println!(" withheld={} all_reads={}", space.withheld(self.nurseries), space.reads());
         need
     }
 
@@ -222,12 +233,14 @@ impl Play {
         let mut at = Lines { lines: &phase.turns, next: 0 };
         self.answers.clear();
         loop {
+            bc_bookmarks::withhold(&mut self.heap.space, self.nurseries, at.withheld());
             for (lane, at) in lanes.iter_mut().enumerate() {
                 while self.advance(lane, &phase.lanes[lane], at) {}
             }
             self.serve(&mut at);
             let need = self.empty_told(&mut at);
             if need.is_some() || lanes.iter().zip(&phase.lanes).all(|(at, ops)| at.done == ops.len()) {
+                bc_bookmarks::withhold(&mut self.heap.space, self.nurseries, 0);
                 return need;
             }
             for (lane, at) in lanes.iter_mut().enumerate() {

@@ -1,12 +1,12 @@
 //! Reads a trace that is known to be one.
 
-use crate::bc_model::{Holder, Op, Setup, Slot};
+use crate::bc_model::{Holder, Op, Setup, Slot, TurnLine};
 use crate::shim;
 use std::str::SplitWhitespace;
 
 pub struct Phase {
     pub lanes: Vec<Vec<Op>>,
-    pub turns: Vec<shim::Vec<u32>>,
+    pub turns: Vec<TurnLine>,
     /// Who holds which domain from the end of the phase on.
     pub changes: Vec<(usize, Holder)>,
 }
@@ -68,10 +68,24 @@ pub fn read(text: &str) -> Trace {
 
 fn add(phase: &mut Phase, verb: &str, words: &mut SplitWhitespace) {
     match verb {
-        "turn" => phase.turns.push(words.map(|word| word.parse().expect("a hint")).collect()),
+        "turn" => phase.turns.push(turn_line(phase.turns.last(), words)),
         "lane" => phase.lanes.push(Vec::new()),
         "give" => phase.changes.push((number(words), Holder::Lane(number(words)))),
         "freeze" => phase.changes.push((number(words), Holder::Frozen)),
         _ => phase.lanes.last_mut().expect("a lane").push(operation(verb, words)),
     }
+}
+
+/// The line after another one: an operand with a sign says how many frames more or fewer are withheld.
+fn turn_line(before: Option<&TurnLine>, words: &mut SplitWhitespace) -> TurnLine {
+    let mut withheld = before.map_or(0, |line| line.withheld);
+    let mut hints = Vec::new();
+    for word in words {
+        match (word.strip_prefix('-'), word.strip_prefix('+')) {
+            (Some(frames), _) => withheld += frames.parse::<u32>().expect("a number of frames"),
+            (_, Some(frames)) => withheld -= frames.parse::<u32>().expect("a number of frames"),
+            _ => hints.push(word.parse().expect("a hint")),
+        }
+    }
+    TurnLine { withheld, hints: hints.into_iter().collect() }
 }

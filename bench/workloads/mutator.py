@@ -5,7 +5,10 @@ variable that Python lets go is cleared, and its slot is used again. So the trac
 order, and keeps alive what the program keeps.
 
 Beside the trace the objects themselves are kept, to know what a load answers, and how many superpages is needed by what is reached
-at the end of each phase: `Mutator.trace` makes the heap as large as the most of these, times a factor."""
+at the end of each phase: `Mutator.trace` makes the heap as large as the most of these, times a factor.
+
+Under a budget that breathes (`BUDGETS`) phases are cut into short ones, and each has a `turn` line that withholds so many frames as the budget
+takes away at that time of the run."""
 import argparse
 import os
 import random
@@ -17,6 +20,14 @@ MOST_FIELDS = 127
 MOST_SLOTS = 256
 MOST_SUPERPAGES = 4096
 CLASSES = (2, 4, 8, 16, 32, 64, 128)
+# the part of the frames that a budget leaves at a time of the run, which goes from 0 to 1
+BUDGETS = {
+    'wave': lambda time: 1 if int(8 * time) % 2 == 0 else 0.5,
+    'squeeze': lambda time: max(1 - time, 0.25),
+    'shock': lambda time: 0.25 if 0.5 <= time < 0.625 else 1,
+}
+# so many operations has a phase at most where a budget breathes
+STEP = 4000
 
 
 class Refused(Exception):
@@ -163,19 +174,24 @@ class Domain:
 
 
 class Mutator:
-    """Writes a trace phase by phase. A phase has one `turn` line of so many notices, whose hints are drawn."""
+    """Writes a trace phase by phase. A phase has one `turn` line of so many notices, whose hints are drawn, and of the frames that a budget
+    withholds."""
 
-    def __init__(self, lanes=1, domains=1, notices=0, seed=7):
-        self.lanes, self.notices, self.random = lanes, notices, random.Random(seed)
+    def __init__(self, lanes=1, domains=1, notices=0, seed=7, budget=None):
+        self.lanes, self.notices, self.random, self.budget = lanes, notices, random.Random(seed), budget
         self.domains = [Domain(self, number, number % lanes) for number in range(domains)]
         self.is_done, self.size, self.need = False, 0, 1
         self.phases, self.lines, self.changes, self.version = [], [[] for _ in range(lanes)], [], 1
+        self.operations, self.begun = 0, 0
 
     def write(self, lane, line):
         self.size += len(line) + 1
         if self.size > LIMIT - 65_536:
             raise Refused(f'the trace is longer than {LIMIT} bytes: choose a smaller size')
         self.lines[lane].append(line)
+        self.operations += 1
+        if self.budget and self.operations - self.begun == STEP:
+            self.cut_phase([])
 
     def add_domain(self):
         """One domain more, held by the lane that holds it at the start."""
@@ -191,15 +207,27 @@ class Mutator:
         self.version = 2
 
     def end_phase(self):
-        hints = [f'turn{"".join(f" {self.random.randrange(1 << 14)}" for _ in range(self.notices))}'] if self.notices else []
-        lanes = [line for lane, lines in enumerate(self.lines) for line in [f'lane {lane}', *lines]]
-        changes = [f'freeze {domain.number}' if lane is None else f'give {domain.number} {lane}' for domain, lane in self.changes]
-        self.phases.append('\n'.join(['phase', *hints, *lanes, *changes, 'end\n']))
-        self.size += len(self.phases[-1]) - sum(len(line) + 1 for lines in self.lines for line in lines)
-        for domain, lane in self.changes:
+        changes, self.changes = self.changes, []
+        self.cut_phase(changes)
+        for domain, lane in changes:
             domain.lane = lane
-        self.lines, self.changes = [[] for _ in range(self.lanes)], []
+
+    def cut_phase(self, changes):
+        """Ends the text of a phase with these domains changing hands, and begins the next one."""
+        hints = ''.join(f' {self.random.randrange(1 << 14)}' for _ in range(self.notices))
+        lanes = [line for lane, lines in enumerate(self.lines) for line in [f'lane {lane}', *lines]]
+        given = [f'freeze {domain.number}' if lane is None else f'give {domain.number} {lane}' for domain, lane in changes]
+        text = '\n'.join([*lanes, *given, 'end\n'])
+        self.phases.append((self.begun, hints, text))
+        self.size += len(hints) + len(text) - sum(len(line) + 1 for lines in self.lines for line in lines) + len('phase\nturn -16640\n')
+        self.lines, self.begun = [[] for _ in range(self.lanes)], self.operations
         self.need = max(self.need, self.needed())
+
+    def turn_line(self, begun, hints, frames):
+        """The line of a phase before which so many operations are done, where there are so many frames beyond those of the nurseries."""
+        left = BUDGETS[self.budget](begun / max(self.operations, 1)) if self.budget else 1
+        withheld = min(round((1 - left) * frames), frames - 2)
+        return f'turn{f" -{withheld}" if withheld else ""}{hints}\n' if withheld or hints else ''
 
     def needed(self):
         """How many superpages what is reached now needs, where it is packed."""
@@ -223,6 +251,7 @@ class Mutator:
         lanes_pages = self.lanes * nursery
         frames = min(max(lanes_pages + round(share * 4 * superpages), lanes_pages + 2), lanes_pages + 4 * superpages)
         slots = max(len(domain.held) for domain in self.domains)
-        header = {'bc-trace': self.version, 'lanes': self.lanes, 'domains': len(self.domains), 'slots': slots, 'superpages': superpages,
+        header = {'bc-trace': 3 if self.budget else self.version, 'lanes': self.lanes, 'domains': len(self.domains), 'slots': slots, 'superpages': superpages,
                   'nursery': nursery, 'buffer': buffer, 'frames': frames}
-        return ''.join(f'{word} {number}\n' for word, number in header.items()) + ''.join(self.phases) + 'done\n'
+        phases = (f'phase\n{self.turn_line(begun, hints, frames - lanes_pages)}{text}' for begun, hints, text in self.phases)
+        return ''.join(f'{word} {number}\n' for word, number in header.items()) + ''.join(phases) + 'done\n'
