@@ -7,8 +7,7 @@
 // point until another has passed elsewhere.
 //
 // They stand below the table of a turn (`bc_pins`, which passes them on), since collector, engine and
-// program hand a gate down and need nothing else of a turn. So far the lanes of a turn and the pager
-// beside them pass points.
+// program hand a gate down and need nothing else of a turn.
 #![tactic(auto)]
 
 /// A place where a test may look on. A call returns and changes nothing that a clause sees.

@@ -11,7 +11,7 @@ pub record IsCalm (s : Layout) : Type 0 where
   pub promised : (x : ℕ) → is_cell s.classes s.promised x ≡ false
   pub remembered : (p : ℕ) → state_at s.states p ≢ Remembered
 
--- pages can leave and come back: a frame is not a nursery page's, and what pages refer to are cells
+-- pages can leave and come back: they may use a frame, and what they refer to are cells
 pub record CanBeRead (s : Layout) : Type 0 where
   pub calm : IsCalm s
   pub summarised : IsSummarised s

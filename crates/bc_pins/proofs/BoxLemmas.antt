@@ -74,7 +74,7 @@ frames_back bs xs s n f four le size near past store =
     omega arith
 
 -- how many boxes there are, by the frames that they use
-sum_hit : (m n : ℕ) → m < n → sum_to (λ f. one_if (m == f)) n ≡ 1
+pub sum_hit : (m n : ℕ) → m < n → sum_to (λ f. one_if (m == f)) n ≡ 1
 sum_hit m zero lt = absurd (omega arith)
 sum_hit m (suc n) lt = elim (cases_eq m n) [
   | inl e ↦

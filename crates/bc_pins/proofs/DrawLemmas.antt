@@ -94,6 +94,7 @@ module _ (k : Key) (parts : SpaceParts) (supers : ℕ) (turn : Turn) (holders : 
       record {
         opening = ap (λ (a : Key). a.opening) e;
         frames = ap (λ (a : Key). a.frames) e ∙ frames_are ∙ ap (λ (s : Layout). s.frames) drawn.layout;
+        unused = ap (λ (a : Key). length a.nursery) (e ∙ drawn.key) ∙ ap (λ (s : Layout). s.nursery) drawn.layout;
         lanes = ap (λ (a : Key). a.lanes) (e ∙ drawn.key);
         owners = ap (λ (a : Key). a.owners) (e ∙ drawn.key);
         roles_are = ap (λ (a : Key). a.roles) e ∙ roles_are;

@@ -212,8 +212,8 @@ frame_bit k words frame = bit_at (slice_index words (frame_at k (frame / 64))) (
 abbrev pub is_clear : Key → List ℕ → ℕ → Bool
 is_clear k words frame = nat_lt frame k.frames && (frame_bit k words frame == 0)
 
--- Frames: each frame is in one place: a page's at home, in hand, a right in hand, a nursery's, or free. The bits beyond the last
--- frame are set and nobody's
+-- Frames: each frame is in one place: a page's at home, in hand, a right in hand, a nursery's, withheld, or free. The bits beyond the
+-- last frame are set and nobody's
 pub record Frames (k : Key) (s : Table) (frame : ℕ) : Type 0 where
   pub used : frame_used s frame + (times frame k.nursery + one_if (is_clear k s.words frame)) ≡ one_if (nat_lt frame k.frames)
   pub past : k.frames ≤ frame → frame < 64 * frame_words k → frame_bit k s.words frame ≡ 1

@@ -44,7 +44,7 @@ pub record Key : Type 0 where
   pub owners : List ℕ
   -- the roles that are given out
   pub roles : List ℕ
-  -- the frames that are in use by no page: the nurseries'
+  -- the frames that no page may use: the nurseries' and those withheld
   pub nursery : List ℕ
 
 -- the table's pages. All pages after them are Absent for the whole turn

@@ -16,10 +16,12 @@ use Rattle.bc_pins.specs.Opening.{IsOpenable, IsMarkable, key_for}
 use Rattle.bc_pins.specs.Seating.{AreDealt}
 use Rattle.bc_pins.specs.Calls.{key_of}
 
--- a table over this space, for this turn and these roles, with their seats: each page past the table's is Absent
+-- a table over this space, for this turn and these roles, with their seats: it has as many frames that no page may use as the space,
+-- and each page past the table's is Absent
 pub record Opened (space : Layout) (turn : Turn) (holders : List Holder) (roles : List Role) (pins : Pins) (seats : List Seat) : Type 0 where
   pub opening : (key_of pins).opening ≡ space
   pub frames : (key_of pins).frames ≡ space.frames
+  pub unused : length (key_of pins).nursery ≡ space.nursery
   pub lanes : (key_of pins).lanes ≡ is_lanes turn
   pub owners : (key_of pins).owners ≡ map owner_role holders
   pub roles_are : (key_of pins).roles ≡ map role_number roles

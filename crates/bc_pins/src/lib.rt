@@ -16,7 +16,8 @@
 // read as Gone is Gone until it is taken; a page that was read as Held was taken by somebody, and an own page so read is in
 // another's hands, or that one put it back, or made it Gone or Absent; what was read as Absent, Remembered or Gone isn't Home; a
 // Gone page is summarised by the table's bookmark bits; counters count Gone pages and what is counted for those in hand; each role
-// is in one view; each frame is in one place, so that at most as many are in use as there are (`law_frames_in_use`).
+// is in one view; each frame is in one place, so that at most as many are in use as there are, less those that no page may use
+// (`law_frames_in_use`).
 // `proofs/PageSteps.antt` has the one lemma by which every step on a page's word keeps it, and `proofs/SideSteps.antt` the one for a step
 // on another word.
 //
