@@ -7,7 +7,7 @@ use Rattle.bc_lane.specs.declared.parts.LanePart.{LanePart}
 use Rattle.bc_lane.specs.declared.stops.Stop.{Stop}
 use Rattle.bc_lane.specs.declared.stops.Stop.TheVariants as stop
 use Rattle.bc_lane.specs.Shown.{HasPage, IsOwnPage, ShowsPages}
-use Rattle.bc_lane.specs.Turns.{DoesOne, HasInHand, InEachWhole, IsLaneSeat, IsLaneTable, IsPageOf, IsRefusedFrozen, IsRefusedOwn, IsRefusedPage, IsWhole, LaneMayName, LeadsToPageWhere, LooksForeign, LooksOn, LooksOnIn, LooksReadable, LooksSealed, PassesBy, ReadsFrozenHeld, ReadsHeld, ReadsOn, SlotsOf, StaysWhole, StopsOp, holder_if}
+use Rattle.bc_lane.specs.Turns.{DoesOne, HasInHand, InEachWhole, IsLaneSeat, IsLaneTable, IsFrozenOrOwn, IsRefusedFrozen, IsRefusedOwn, IsRefusedPage, IsWhole, LaneMayName, LeadsToPageWhere, LooksForeign, LooksOn, LooksOnIn, LooksReadable, LooksRightOn, LooksSealed, PassesBy, ReadsFrozenHeld, ReadsHeld, ReadsOn, SlotsOf, StaysWhole, StopsOp, holder_if}
 use Rattle.bc_lane.proofs.ForeignLemmas.{foreign-looked, sealed-looked}
 use Rattle.bc_lane.proofs.FrameLemmas.{frozen-since, gone-since, held-since, moved-since, no-frame-since}
 use Rattle.bc_lane.proofs.HandLemmas.{hand-after}
@@ -44,14 +44,14 @@ own-page pins hs lane page seat hand table seated within owned =
 
 -- a page of a frozen domain is nobody's
 frozen-page : (pins : Pins) (hs : List Holder) (lane page : ℕ) (seat : Seat) (hand : Option Held) → IsLaneTable (key_of pins) hs → IsLaneSeat pins lane seat hand
-    → get_or (key_of pins).opening.domains (page / 4) 0 < length hs → holder_of hs (get_or (key_of pins).opening.domains (page / 4) 0) ≡ holder.Frozen → IsPageOf (view_of seat) page true
+    → get_or (key_of pins).opening.domains (page / 4) 0 < length hs → holder_of hs (get_or (key_of pins).opening.domains (page / 4) 0) ≡ holder.Frozen → IsFrozenOrOwn (view_of seat) page true
 frozen-page pins hs lane page seat hand table seated within owned =
     let is : owner (key_of pins) page ≡ 0 = role-of (key_of pins) hs holder.Frozen page table.owners within owned in
     subst (λ (a : Key). (owner a page ≡ 0) × (times (owner a page) a.roles ≡ 0)) (sym seated.at.about)
     (is, ap (λ (r : ℕ). times r (key_of pins).roles) is ∙ table.nobody)
 
 pub page-of : (pins : Pins) (hs : List Holder) (lane page : ℕ) (frozen : Bool) (seat : Seat) (hand : Option Held) → IsLaneTable (key_of pins) hs → IsLaneSeat pins lane seat hand
-    → get_or (key_of pins).opening.domains (page / 4) 0 < length hs → holder_of hs (get_or (key_of pins).opening.domains (page / 4) 0) ≡ holder_if frozen lane → IsPageOf (view_of seat) page frozen
+    → get_or (key_of pins).opening.domains (page / 4) 0 < length hs → holder_of hs (get_or (key_of pins).opening.domains (page / 4) 0) ≡ holder_if frozen lane → IsFrozenOrOwn (view_of seat) page frozen
 page-of pins hs lane page true seat hand table seated within owned = frozen-page pins hs lane page seat hand table seated within owned
 page-of pins hs lane page false seat hand table seated within owned = own-page pins hs lane page seat hand table seated within owned
 
@@ -109,7 +109,7 @@ refused-stops part k v w after end page op who why about looks refused =
 pub brought-looked : (part : LanePart) (k : Key) (v w : View) (hand : Option Held) (end page : ℕ) (op : Op) (who : Holder) → v.about ≡ k → LooksReadable part k end op who page → ((q : ℕ) → q < pages_of v.about → q ≢ page → PassesBy v w q)
     → (q : ℕ) → q < pages_of v.about → PassesBy v w q ⊎ LooksOnIn part v hand end op q
 brought-looked part k v w hand end page op who about looks passes q near = elim (cases_eq q page) [
-  | inl is ↦ inr (λ h whole fits. subst (LooksOn h op) (sym is) (looks.looks v hand h about whole fits))
+  | inl is ↦ inr (λ h whole fits. subst (LooksRightOn part.holders.items part.lane h op) (sym is) (looks.looks v hand h about whole fits))
   | inr ne ↦ inl (passes q near ne)
 ]
 

@@ -1,6 +1,6 @@
 -- A space with every page back is summarised, since no page is Gone; and a whole heap with every page back is one on which lanes can
 -- run, and stands for the same.
-use Rattle.std.proofs.Common.{◌≡◌, ◌≢◌, ◌↔◌, ℕ, ◌+◌, ◌*◌, ◌/◌, ◌%◌, ◌<◌, ◌≤◌, ◌&&◌, Bool, true, false, List, [], ◌∷◌, length, map, get_or, refl, ap, sym, ◌∙◌, subst, arith}
+use Rattle.std.proofs.Common.{◌≡◌, ◌≢◌, ℕ, ◌+◌, ◌*◌, ◌/◌, ◌%◌, ◌&&◌, Bool, true, false, List, [], ◌∷◌, length, map, get_or, refl, ap, sym, ◌∙◌, arith}
 use Prim.Native.Nat.{zero, suc}
 use Rattle.std.proofs.lemmas.List.{length-map}
 use Rattle.bc_bits.specs.Counting.{count_below, one_if}
@@ -11,7 +11,7 @@ use Rattle.bc_superpages.specs.Headers.{is_gone, is_resident}
 use Rattle.bc_superpages.specs.Layout.{Layout, superpages}
 use Rattle.bc_superpages.specs.LayoutAt.{header_of, states_of, state_at}
 use Rattle.bc_superpages.specs.Memory.{memory}
-use Rattle.bc_superpages.specs.Kept.{IsLayout, IsSuperpage}
+use Rattle.bc_superpages.specs.Kept.{IsLayout}
 use Rattle.bc_classes.specs.Classes.{cells_a_page}
 use Rattle.bc_bookmarks.specs.Targets.{has_target_in}
 use Rattle.bc_bookmarks.specs.Summarised.{IsSummarised, gone_in}

@@ -237,6 +237,7 @@ gone-since u v w page reads gone = record {
   later = gone.later;
   gone = gone.gone ∙ ap (λ (l : List (ℕ × ℕ)). gone.later ++ (page_at page, 4) ∷ (gone.before ++ l)) reads.read
       ∙ ap (λ (l : List (ℕ × ℕ)). gone.later ++ (page_at page, 4) ∷ l) (sym (append_assoc gone.before reads.more u.read));
+  since = gone.since;
 }
 
 pub moved-since : (u v w : View) (page : ℕ) → ReadsOn u v → ReadsFrozenMoved v w page → ReadsFrozenMoved u w page

@@ -1,11 +1,14 @@
 -- A page of a frozen domain that a lane wants: it is taken, or comes back into a frame that is free, or it can't be had.
-use Rattle.std.proofs.Common.{◌≡◌, ◌≢◌, ℕ, ◌-◌, ◌^◌, ◌<◌, List, [], ◌∷◌, ◌++◌, length, min, None, Result, Ok, Err, ◌⊎◌, inl, inr, length-append, refl, ap, sym, subst, ◌∙◌, arith}
+use Rattle.std.proofs.Common.{◌≡◌, ◌≢◌, ℕ, ◌-◌, ◌^◌, ◌<◌, Bool, if◌then◌else◌, List, [], ◌∷◌, ◌++◌, length, min, None, Result, Ok, Err, ◌⊎◌, inl, inr, append_assoc, length-append, refl, ap, sym, subst, ◌∙◌, arith}
 use Rattle.std.specs.Result.{IfErr, IfOk, OnErr}
-use Rattle.std.proofs.lemmas.Bool.{cases_eq}
+use Rattle.std.proofs.lemmas.Bool.{cases_eq, eq-eqb}
 use Rattle.bc_evict.specs.Claiming.{FindsNoFrame, HasClaimed}
 use Rattle.bc_evict.specs.Evicting.{HasGiven}
+use Rattle.bc_evict.specs.Reloading.{reload_word}
+use Rattle.bc_evict.specs.declared.reloading.ReloadError.{ReloadError}
+use Rattle.bc_evict.specs.declared.reloading.ReloadError.TheVariants as refused
 use Rattle.bc_lane.specs.Shown.{MayReadPage, ShowsPages}
-use Rattle.bc_lane.specs.Turns.{IsNobodysPage, IsSameLane, PassesBy, ReadsFrozenGone, ReadsFrozenMoved, ReadsHome, ReadsOn}
+use Rattle.bc_lane.specs.Turns.{FindsNoWayBack, HasNoWayBack, IsNobodysPage, IsSameLane, PassesBy, ReadsFrozenGone, ReadsFrozenMoved, ReadsHome, ReadsOn}
 use Rattle.bc_lane.specs.declared.stops.Stop.{Stop}
 use Rattle.bc_lane.specs.declared.stops.Stop.TheVariants as stop
 use Rattle.bc_lane.proofs.HandLemmas.{nobodys-about, none-reads, reads-word, refused-about, refused-looks, same-lane, same-worker, then-lane, then-reads, then-worker}
@@ -57,10 +60,16 @@ unclaimed-passes v w q near f = subst (λ (x : View). PassesBy v x q) (sym f.vie
 pub unclaimed-shows : (v w : View) (end : ℕ) (s : Layout) → FindsNoFrame v w → ShowsPages v None end s → ShowsPages w None end s
 unclaimed-shows v w end s f shown = shows-besides v w end s (f.view ∙ sym (ap (besides v) f.view)) shown
 
+pub unclaimed-way : (v w : View) (page : ℕ) → FindsNoFrame v w → HasNoWayBack v w page
+unclaimed-way v w page f = record { later = f.looks; reads = ap (λ (x : View). x.read) f.view; since = inl (f.pages, f.each) }
+
 -- a frame was claimed, and given back when the page was not Gone any more
 empty-length : (l : List ℕ) → length l ≡ 0 → l ≡ []
 empty-length [] none = refl
 empty-length (n ∷ l) none = absurd (omega arith)
+
+reads-first : (i n : ℕ) (l : List (ℕ × ℕ)) → reads_of i ((i, n) ∷ l) ≡ n ∷ reads_of i l
+reads-first i n l = ap (λ (b : Bool). if b then n ∷ reads_of i l else reads_of i l) (eq-eqb i i refl)
 
 empty-list : (l : List ℕ) → ((f : ℕ) → times f l ≡ 0) → l ≡ []
 empty-list [] none = refl
@@ -123,26 +132,53 @@ module _ (v u x w : View) (page frame found : ℕ) (c : HasClaimed v frame u) (r
   pub refused-frame-shows : (end : ℕ) (s : Layout) → ShowsPages v None end s → ShowsPages w None end s
   refused-frame-shows end s shown = shows-besides v w end s (refused-view ∙ sym (ap (besides v) refused-view)) shown
 
-  -- where the page's word said Home it was read so, and not since
-  pub refused-frame-home : found ≡ 1 → page < pages_of v.about → ReadsHome v w page
-  refused-frame-home is near =
+  -- the page's word wasn't read since
+  unread-later : page < pages_of v.about → reads_at page later ≡ []
+  unread-later near =
       let near_x : page < pages_of x.about = subst (λ (k : Key). page < pages_of k) (sym about-x) near in
       let kept = ap (λ (l : List ℕ). length l) (g.reads (page_at page) (λ e. absurd (omega arith))) in
       let grown = ap (λ (l : List (ℕ × ℕ)). length (reads_of (page_at page) l)) g.grows.1 in
       let both = ap (λ (l : List ℕ). length l) (reads-append (page_at page) later x.read) in
       let sum = length-append (reads_of (page_at page) later) (reads_of (page_at page) x.read) in
-      record {
-        between = c.looks;
-        later = later;
-        reads = subst (λ (n : ℕ). w.read ≡ later ++ (page_at page, n) ∷ (c.looks ++ v.read)) is (ap (λ (y : View). y.read) refused-view);
-        once = (c.pages page near, empty-length (reads_of (page_at page) later) (omega arith));
-      }
+      empty-length (reads_of (page_at page) later) (omega arith)
+
+  -- where it said Home it was read so, and not since
+  pub refused-frame-home : found ≡ 1 → page < pages_of v.about → ReadsHome v w page
+  refused-frame-home is near = record {
+    between = c.looks;
+    later = later;
+    reads = subst (λ (n : ℕ). w.read ≡ later ++ (page_at page, n) ∷ (c.looks ++ v.read)) is (ap (λ (y : View). y.read) refused-view);
+    once = (c.pages page near, unread-later near);
+  }
+
+  -- where it said neither that nor Gone the page has no way back
+  pub refused-frame-way : found < 4 → found ≢ 1 → page < pages_of v.about → HasNoWayBack v w page
+  refused-frame-way less ne near = record {
+    later = later ++ (page_at page, found) ∷ c.looks;
+    reads = ap (λ (y : View). y.read) refused-view ∙ sym (append_assoc later ((page_at page, found) ∷ c.looks) v.read);
+    since = inr (
+      found,
+      less,
+      ne,
+      reads-append (page_at page) later ((page_at page, found) ∷ c.looks)
+          ∙ ap (λ (l : List ℕ). l ++ reads_at page ((page_at page, found) ∷ c.looks)) (unread-later near)
+          ∙ reads-first (page_at page) found c.looks
+          ∙ ap (λ (l : List ℕ). found ∷ l) (c.pages page near),
+    );
+  }
 
   pub refused-frame-fetched : w.fetched ≡ v.fetched
   refused-frame-fetched = ap (λ (y : View). y.fetched) refused-view
 
   pub refused-frame-changed : w.changed ≡ v.changed
   refused-frame-changed = ap (λ (y : View). y.changed) refused-view
+
+-- what a page's word said for which a reload was refused, if not Home
+pub other-word : (no : ReloadError) → no ≢ refused.Home → (reload_word no < 4) × (reload_word no ≢ 1)
+other-word refused.Busy ne = (omega arith, λ e. omega arith)
+other-word refused.Home ne = absurd (ne refl)
+other-word refused.Remembered ne = (omega arith, λ e. omega arith)
+other-word refused.Absent ne = (omega arith, λ e. omega arith)
 
 -- no box was opened
 pub refused-frame-lane : (a b c d : Seat) → IsSameSeat a b → IsSameWorker b c → c.opens ≡ b.opens → IsSameSeat c d → (view_of d).fetched ≡ (view_of a).fetched → IsSameLane a d
@@ -151,15 +187,17 @@ refused-frame-lane a b c d x y opens z fetched = record {
   opens = λ counts. z.opens ∙ opens ∙ x.opens ∙ subst (λ (l : List ℕ). a.opens ≡ min (length l) (2 ^ 64 - 1)) (sym fetched) counts;
 }
 
--- the page was read as Gone, and the seat read on
-gone-read : (v u w : View) (page : ℕ) → IsNobodysPage v page → IsTakeRefused v page Work Gone u → ReadsOn u w → ReadsFrozenGone v w page
-gone-read v u w page is r reads =
+-- the page was read as Gone, and has no way back
+gone-read : (v u w : View) (page : ℕ) → IsNobodysPage v page → IsTakeRefused v page Work Gone u → ReadsOn u w → HasNoWayBack u w page → ReadsFrozenGone v w page
+gone-read v u w page is r reads way =
     let looks = refused-looks v u page r in
+    let about : w.about ≡ u.about = ap (λ (y : View). y.about) reads.same in
     record {
-      frozen = (nobodys-about v w page (ap (λ (y : View). y.about) reads.same ∙ refused-about v u page Work Gone r) is).0;
+      frozen = (nobodys-about v w page (about ∙ refused-about v u page Work Gone r) is).0;
       before = looks.0;
-      later = reads.more;
-      gone = reads.read ∙ ap (λ (l : List (ℕ × ℕ)). reads.more ++ l) looks.1;
+      later = way.later;
+      gone = way.reads ∙ ap (λ (l : List (ℕ × ℕ)). way.later ++ l) looks.1;
+      since = subst (λ (k : Key). FindsNoWayBack k page way.later) (sym about) way.since;
     }
 
 -- or as Home at the next step on its word, and not since
@@ -175,9 +213,9 @@ moved-read v u w page is r reads home =
       once = home.once;
     }
 
-pub gone-or-moved : (v u w : View) (page : ℕ) (why : Stop) → IsNobodysPage v page → IsTakeRefused v page Work Gone u → ReadsOn u w → (why ≡ stop.Gone page) ⊎ ((why ≡ stop.Moved page) × ReadsHome u w page)
+pub gone-or-moved : (v u w : View) (page : ℕ) (why : Stop) → IsNobodysPage v page → IsTakeRefused v page Work Gone u → ReadsOn u w → ((why ≡ stop.Gone page) × HasNoWayBack u w page) ⊎ ((why ≡ stop.Moved page) × ReadsHome u w page)
     → ((why ≡ stop.Gone page) × ReadsFrozenGone v w page) ⊎ ((why ≡ stop.Moved page) × ReadsFrozenMoved v w page)
-gone-or-moved v u w page why is r reads (inl gone) = inl (gone, gone-read v u w page is r reads)
+gone-or-moved v u w page why is r reads (inl gone) = inl (gone.0, gone-read v u w page is r reads gone.1)
 gone-or-moved v u w page why is r reads (inr moved) = inr (moved.0, moved-read v u w page is r reads moved.1)
 
 -- a seat tried a page some times, and hasn't got it

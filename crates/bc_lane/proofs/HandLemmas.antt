@@ -2,7 +2,7 @@
 use Rattle.std.proofs.Common.{◌≡◌, ◌≢◌, ◌⊎◌, ℕ, ◌-◌, ◌^◌, ◌<◌, ◌≤◌, ◌&&◌, nat_lt, Bool, true, false, min, if◌then◌else◌, List, [], ◌∷◌, ◌++◌, length, Option, Some, None, inl, inr, refl, ap, sym, subst, ◌∙◌, append_assoc, arith}
 use Rattle.std.proofs.lemmas.Bool.{cases_eq, cases_lt, lt-ltb}
 use Rattle.bc_lane.specs.Shown.{HasPage, IsFrozenPage, IsOwnPage, MayReadPage, ShowsFrozen, ShowsHeld, ShowsPages}
-use Rattle.bc_lane.specs.Turns.{HasInHand, IsLaidDown, IsNobodysPage, IsPageOf, IsSameLane, ReadLast, ReadsFrozenHeld, ReadsHeld, ReadsOn}
+use Rattle.bc_lane.specs.Turns.{HasInHand, IsLaidDown, IsNobodysPage, IsFrozenOrOwn, IsSameLane, ReadLast, ReadsFrozenHeld, ReadsHeld, ReadsOn}
 use Rattle.bc_lane.proofs.PageLemmas.{held-in, owns-page, recorded-else, shows-back, shows-given, shows-read, shows-taken, shows-taken_frozen}
 use Rattle.bc_pins.specs.declared.holding.Held.{Held}
 use Rattle.bc_pins.specs.declared.key.Role.{Role}
@@ -447,7 +447,7 @@ nobodys-about v w page e is = subst (λ (k : Key). (owner k page ≡ 0) × (time
 pub somebody-lane : (a b : Seat) → IsSameLane a b → has_role (view_of a) 0 ≡ 0 → has_role (view_of b) 0 ≡ 0
 somebody-lane a b x none = ap (times 0) x.worker.roles ∙ none
 
-pub page-of_lane : (a b : Seat) (page : ℕ) (frozen : Bool) → IsSameLane a b → IsPageOf (view_of a) page frozen → IsPageOf (view_of b) page frozen
+pub page-of_lane : (a b : Seat) (page : ℕ) (frozen : Bool) → IsSameLane a b → IsFrozenOrOwn (view_of a) page frozen → IsFrozenOrOwn (view_of b) page frozen
 page-of_lane a b page true x is = nobodys-about (view_of a) (view_of b) page x.worker.about is
 page-of_lane a b page false x is = own-lane a b page x is
 

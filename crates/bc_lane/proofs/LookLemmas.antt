@@ -10,7 +10,7 @@ use Rattle.bc_lane.specs.declared.looking.Looking.TheVariants.{Foreign, Sealed}
 use Rattle.bc_lane.specs.declared.parts.LanePart.{LanePart}
 use Rattle.bc_lane.proofs.SlotLemmas.{read-domain, read-frozen, read-own, read-word}
 use Rattle.bc_lane.proofs.PageLemmas.{allocated-opened}
-use Rattle.bc_model.proofs.Holders.{reads-of_frozen, reads-other}
+use Rattle.bc_model.proofs.Holders.{reads-held, reads-of_frozen, reads-other, writes-held}
 use Rattle.bc_model.specs.State.{holder_of, lets_read}
 use Rattle.bc_model.specs.Step.{domains_of}
 use Rattle.bc_model.specs.WellFormed.{IsSlot}
@@ -232,8 +232,9 @@ module _ (part : LanePart) (k : Key) (end : ℕ) (op : Op) (at : Address) (table
   told-domain = looked-domain part k some.0 some.1 end some.2 op some.3 some.4 some.5 table named at below one-looks
 
   -- at one of its own or of a frozen domain
-  pub told-at : (who : Holder) → holder_of part.holders.items (get_or k.opening.domains (superpage_of at.0) 0) ≡ who → LooksReadable part k end op who (page_of at.0)
-  told-at who owned =
+  pub told-at : (who : Holder) → holder_of part.holders.items (get_or k.opening.domains (superpage_of at.0) 0) ≡ who → has_right part.holders.items part.lane op (get_or k.opening.domains (superpage_of at.0) 0) ≡ true
+      → LooksReadable part k end op who (page_of at.0)
+  told-at who owned may =
       let same = superpage-page at.0 k.opening.domains in
       record {
         named = named;
@@ -242,7 +243,12 @@ module _ (part : LanePart) (k : Key) (end : ℕ) (op : Op) (at : Address) (table
         domain = subst (λ (d : ℕ). d < length part.holders.items) same told-domain;
         owned = subst (λ (d : ℕ). holder_of part.holders.items d ≡ who) same owned;
         cell = looked-cell part k some.0 some.1 end some.2 op some.3 some.4 some.5 table named at below one-looks;
-        looks = λ v hand h about w fits. looked-on part k v hand end h op about w fits table named at below (at-each v hand h w fits);
+        looks = λ v hand h about w fits. record {
+          named = named;
+          right = ap (λ (ds : List ℕ). has_right part.holders.items part.lane op (get_or ds (page_of at.0 / 4) 0)) (looked-domains part k v hand end h op about w fits table named at below (at-each v hand h w fits))
+              ∙ ap (has_right part.holders.items part.lane op) (sym same) ∙ may;
+          looks = looked-on part k v hand end h op about w fits table named at below (at-each v hand h w fits);
+        };
       }
 
   -- or at one of another lane's
@@ -306,14 +312,25 @@ pub if-some : (r : Option Address) (P Q : Address → Type 0) → ((a : Address)
 if-some None P Q more is = tt
 if-some (Some a) P Q more is = more a is
 
+-- a lane may do all to a domain that it holds
+if-same : (b : Bool) (x : Bool) → x ≡ true → (if b then x else x) ≡ true
+if-same true x on = on
+if-same false x on = on
+
+pub right-held : (hs : List Holder) (lane : ℕ) (op : Op) (d : ℕ) → holder_of hs d ≡ holder.Lane lane → has_right hs lane op d ≡ true
+right-held hs lane op d own =
+    ap (λ (b : Bool). if writes_field op then b else lets_read (holder_of hs d) lane) (writes-held (holder_of hs d) lane own)
+    ∙ ap (λ (b : Bool). if writes_field op then true else b) (reads-held (holder_of hs d) lane own)
+    ∙ if-same (writes_field op) true refl
+
 -- another lane's domain isn't read
 pub foreign-reads : (x : Holder) (l lane : ℕ) → x ≡ holder.Lane l → l ≢ lane → lets_read x lane ≡ false
 foreign-reads x l lane e ne = reads-other x l lane e ne
 
 -- what was answered of the right to a domain
-pub right-as : (hs hs' : List Holder) (lane : ℕ) (op : Op) (d e : ℕ) (b : Bool) → hs' ≡ hs → d ≡ e → b ≡ has_right hs' lane op d → b ≡ false → has_right hs lane op e ≡ false
-right-as hs hs' lane op d e b same at right off =
-    subst (λ (n : ℕ). has_right hs lane op n ≡ false) at (subst (λ (xs : List Holder). has_right xs lane op d ≡ false) same (sym right ∙ off))
+pub right-as : (hs hs' : List Holder) (lane : ℕ) (op : Op) (d e : ℕ) (b x : Bool) → hs' ≡ hs → d ≡ e → b ≡ has_right hs' lane op d → b ≡ x → has_right hs lane op e ≡ x
+right-as hs hs' lane op d e b x same at right is =
+    subst (λ (n : ℕ). has_right hs lane op n ≡ x) at (subst (λ (xs : List Holder). has_right xs lane op d ≡ x) same (sym right ∙ is))
 
 -- the holder of a domain, as it was read
 pub held-by : (hs : List Holder) (d e : ℕ) (x : Holder) → d ≡ e → e < length hs → x ≡ get_or hs d x → holder_of hs e ≡ x

@@ -5,7 +5,7 @@ use Rattle.std.proofs.lemmas.List.{drop-drop, drop-take, get_or-drop, take-appen
 use Rattle.std.specs.List.{AllByRecursion}
 use Rattle.bc_lane.specs.Doing.{DidAll}
 use Rattle.bc_lane.specs.Shown.{ShowsPages}
-use Rattle.bc_lane.specs.Turns.{ComesInRun, DoesOne, HadInRun, IsInHandAs, IsPutBack, IsWhole, LaneRan, LooksInRun, LooksNext, LooksOn, PassesBy, PutsBack, ReadsOn, SamePart, SameSizes}
+use Rattle.bc_lane.specs.Turns.{ComesInRun, DoesOne, HadInRun, IsInHandAs, IsPutBack, IsWhole, LaneRan, LooksInRun, LooksNext, LooksRightOn, PassesBy, PutsBack, ReadsOn, SamePart, SameSizes}
 use Rattle.bc_lane.specs.declared.parts.LanePart.{LanePart}
 use Rattle.bc_lane.specs.declared.turns.LaneTurn.{LaneTurn}
 use Rattle.bc_lane.proofs.HandLemmas.{none-reads, then-reads}
@@ -98,12 +98,18 @@ comes-last ops end old cur v w hand after P ran holds = record {
 -- an operation that looks at a page is among more operations
 looks-longer : (ops : List Op) (end : ℕ) (old : LaneTurn) (v : View) (hand : Option Held) (replies more : List Reply) (page : ℕ) → LooksInRun ops end old v hand replies page → LooksInRun ops end old v hand (replies ++ more) page
 looks-longer ops end old v hand replies more page l =
-    record { before = l.before; op = l.op; less = l.less; is = l.is; run = comes-longer ops end old v hand replies more l.before (λ k. LooksOn k l.op page) l.run }
+    record { before = l.before; op = l.op; less = l.less; is = l.is; run = comes-longer ops end old v hand replies more l.before (λ k. LooksRightOn old.part.holders.items old.part.lane k l.op page) l.run }
 
 -- and a content that a page had
 had-longer : (ops : List Op) (end : ℕ) (old : LaneTurn) (v : View) (hand : Option Held) (replies more : List Reply) (page : ℕ) (content : List ℕ) → HadInRun ops end old v hand replies page content → HadInRun ops end old v hand (replies ++ more) page content
 had-longer ops end old v hand replies more page content l =
     record { before = l.before; run = comes-longer ops end old v hand replies more l.before (λ k. content_at k.space.pages page ≡ content) l.run }
+
+-- a lane is that lane still
+right-on : (old new : LanePart) (h : HeapView) (op : Op) (page : ℕ) → SamePart old new → LooksRightOn new.holders.items new.lane h op page → LooksRightOn old.holders.items old.lane h op page
+right-on old new h op page same looks =
+    subst (λ (l : ℕ). LooksRightOn old.holders.items l h op page) same.lane
+    (subst (λ (hs : Vec Holder Global). LooksRightOn hs.items new.lane h op page) same.holders looks)
 
 -- the next operation after those that were done looks at it
 looks-next : (ops : List Op) (end : ℕ) (old cur : LaneTurn) (v w : View) (hand after : Option Held) (ran : LaneRan ops end old v hand cur w after) (page : ℕ) → LooksNext ops end cur w after page → LooksInRun ops end old v hand ran.replies page
@@ -115,8 +121,8 @@ looks-next ops end old cur v w hand after ran page next =
       op = op;
       less = (let less = next.1 in omega arith);
       is = subst (λ (n : ℕ). op ≡ get_or ops n op) place next.2;
-      run = comes-last ops end old cur v w hand after (λ k. LooksOn k op page) ran
-          (λ h m fits whole same. next.3 m whole (fits-same h m op same (subst (IsOpOf h.roots) (sym next.2) (at-index (IsOpOf h.roots) ops cur.next op fits next.1))));
+      run = comes-last ops end old cur v w hand after (λ k. LooksRightOn old.part.holders.items old.part.lane k op page) ran
+          (λ h m fits whole same. right-on old.part cur.part m op page ran.same (next.3 m whole (fits-same h m op same (subst (IsOpOf h.roots) (sym next.2) (at-index (IsOpOf h.roots) ops cur.next op fits next.1)))));
     }
 
 -- the page in hand has its content in the heap behind them
@@ -325,7 +331,9 @@ looks-then ops end old cur v w hand after one more page l =
       op = l.op;
       less = (let less = l.less in omega arith);
       is = subst (λ (n : ℕ). l.op ≡ get_or ops n l.op) place_is l.is;
-      run = comes-then ops end old cur v w hand after one more l.before (λ k. LooksOn k l.op page) l.run;
+      run = comes-then ops end old cur v w hand after one more l.before (λ k. LooksRightOn old.part.holders.items old.part.lane k l.op page)
+          (subst (λ (n : ℕ). ComesInRun ops end cur w after more l.before (λ k. LooksRightOn old.part.holders.items n k l.op page)) one.same.lane
+          (subst (λ (hs : Vec Holder Global). ComesInRun ops end cur w after more l.before (λ k. LooksRightOn hs.items cur.part.lane k l.op page)) one.same.holders l.run));
     }
 
 had-then : (ops : List Op) (end : ℕ) (old cur : LaneTurn) (v w : View) (hand after : Option Held) (one : LaneRan ops end old v hand cur w after) (more : List Reply) (page : ℕ) (content : List ℕ) → HadInRun ops end cur w after more page content

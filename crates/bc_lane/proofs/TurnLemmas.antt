@@ -3,7 +3,7 @@ use Rattle.std.proofs.Common.{◌≡◌, ◌⊎◌, ℕ, ◌+◌, ◌-◌, ◌*�
 use Rattle.std.proofs.lemmas.List.{get_or_default}
 use Rattle.std.specs.List.{AllByRecursion}
 use Rattle.bc_lane.specs.Shown.{ShowsPages}
-use Rattle.bc_lane.specs.Turns.{DoesOne, FindsNoFrameFor, IsGoing, IsLaidDown, IsLaneSeat, IsLaneTable, IsNextOp, IsWhole, LaneRan, LooksNext, LooksOnIn, PassesBy, PutsBack, ReadsFrozenGone, ReadsFrozenHeld, ReadsFrozenMoved, ReadsHeld, ReadsOn, SamePart, StaysWhole, StopsOp, WhyStopped}
+use Rattle.bc_lane.specs.Turns.{DoesOne, FindsNoFrameFor, FindsNoWayBack, IsGoing, IsLaidDown, IsLaneSeat, IsLaneTable, IsNextOp, IsWhole, LaneRan, LooksNext, LooksOnIn, PassesBy, PutsBack, ReadsFrozenGone, ReadsFrozenHeld, ReadsFrozenMoved, ReadsHeld, ReadsOn, SamePart, StaysWhole, StopsOp, WhyStopped}
 use Rattle.bc_lane.specs.declared.parts.LanePart.{LanePart}
 use Rattle.bc_lane.specs.declared.stops.Stop.{Stop}
 use Rattle.bc_lane.specs.declared.stops.Stop.TheVariants as stop
@@ -73,6 +73,7 @@ gone-laid u v w page laid gone = record {
   before = gone.before;
   later = gone.later;
   gone = ap (λ (x : View). x.read) laid ∙ gone.gone;
+  since = subst (λ (k : Key). FindsNoWayBack k page gone.later) (sym (ap (λ (x : View). x.about) laid)) gone.since;
 }
 
 moved-laid : (u v w : View) (page : ℕ) → IsLaidDown v w → ReadsFrozenMoved u v page → ReadsFrozenMoved u w page

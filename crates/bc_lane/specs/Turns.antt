@@ -24,7 +24,7 @@ use Rattle.bc_model.specs.declared.values.Slot.{Slot}
 use Rattle.bc_mutator.specs.Effects.{DidOperation}
 use Rattle.bc_mutator.specs.Objects.{MayOperate, slot_word}
 use Rattle.bc_mutator.specs.Operations.{IsOpOf, MayName, NeedsEntry, WantsMore}
-use Rattle.bc_mutator.specs.Parts.{IsPartOf, TouchesHand, touched_slot, writes_field}
+use Rattle.bc_mutator.specs.Parts.{IsPartOf, TouchesHand, has_right, touched_slot, writes_field}
 use Rattle.bc_nursery.specs.Objects.{left_of}
 use Rattle.bc_pins.specs.declared.holding.Held.{Held}
 use Rattle.bc_pins.specs.declared.key.Role.TheVariants.{Lane}
@@ -136,6 +136,13 @@ LooksAtObject r (Some p) at = slot_word r p ≡ Ref at
 abbrev pub LooksOn : HeapView → Op → ℕ → Type 0
 LooksOn h op page = (at : Address) × LooksAtObject h.roots (touched_slot op) at × IsAllocated h.space at.0 × (page_of at.0 ≡ page)
 
+-- the operation looks at a cell on this page of a domain to which the lane may do what it does, and names no slot that the lane may not. So
+-- an operation that is answered otherwise looks at no page
+pub record LooksRightOn (holders : List Holder) (lane : ℕ) (h : HeapView) (op : Op) (page : ℕ) : Type 0 where
+  pub named : MayName holders lane op
+  pub right : has_right holders lane op (slice_index h.space.domains (page / 4)) ≡ true
+  pub looks : LooksOn h op page
+
 -- what the seat read last: this, of this page
 abbrev pub ReadLast : View → ℕ → ℕ → Type 0
 ReadLast v page found = (rest : List (ℕ × ℕ)) × (v.read ≡ (page_at page, found) ∷ rest)
@@ -152,12 +159,27 @@ pub record ReadsFrozenHeld (v w : View) (page : ℕ) : Type 0 where
   pub last : ReadLast w page 3
   pub since : length v.read < length w.read
 
--- the word of a page of a frozen domain was read since, and said that the page is Gone
+-- by these looks a page that was Gone couldn't come back into a frame that is free. There was none: each frame word was read once and had no
+-- clear bit, and no page's word was read. Or the page had gone to somebody else: its word was read once, and said neither Home nor Gone
+abbrev pub FindsNoWayBack : Key → ℕ → List (ℕ × ℕ) → Type 0
+FindsNoWayBack k page looks =
+    (((q : ℕ) → q < pages_of k → reads_at q looks ≡ []) × ((word : ℕ) → word < frame_words k → reads_of (frame_at k word) looks ≡ all_bits ∷ []))
+    ⊎ ((found : ℕ) × (found < 4) × (found ≢ 1) × (reads_at page looks ≡ found ∷ []))
+
+-- the seat read on, and by all that it read since a page that was Gone couldn't come back into a frame that is free
+pub record HasNoWayBack (v w : View) (page : ℕ) : Type 0 where
+  pub later : List (ℕ × ℕ)
+  pub reads : w.read ≡ later ++ v.read
+  pub since : FindsNoWayBack v.about page later
+
+-- the word of a page of a frozen domain was read since, and said that the page is Gone; and by all that was read later it couldn't come back
+-- into a frame that is free
 pub record ReadsFrozenGone (v w : View) (page : ℕ) : Type 0 where
   pub frozen : IsFrozenPage w page
   pub before : List (ℕ × ℕ)
   pub later : List (ℕ × ℕ)
   pub gone : w.read ≡ later ++ (page_at page, 4) ∷ (before ++ v.read)
+  pub since : FindsNoWayBack w.about page later
 
 -- a page's word was read since, and said last that the page is Home
 pub record ReadsHome (v w : View) (page : ℕ) : Type 0 where
@@ -267,7 +289,7 @@ LaneMayName part op = MayName part.holders.items part.lane op
 abbrev pub LeadsToPageWhere : LanePart → ℕ → Op → (ℕ → Type 0) → Type 0
 LeadsToPageWhere part end op P = (v : View) → (hand : Option Held) → TouchesHand (ShowsPages v hand end) (SlotsOf part) P (touched_slot op)
 
--- the operation looks at a cell on this page of the table, of a domain that has this holder
+-- the operation looks at a cell on this page of the table, of a domain that has this holder, and the lane may do to it what the operation does
 pub record LooksReadable (part : LanePart) (k : Key) (end : ℕ) (op : Op) (who : Holder) (page : ℕ) : Type 0 where
   pub named : LaneMayName part op
   pub leads : LeadsToPageWhere part end op (λ q. q ≡ page)
@@ -275,7 +297,7 @@ pub record LooksReadable (part : LanePart) (k : Key) (end : ℕ) (op : Op) (who 
   pub domain : slice_index k.opening.domains (page / 4) < length part.holders.items
   pub owned : holder_of part.holders.items (slice_index k.opening.domains (page / 4)) ≡ who
   pub cell : IsBarePage k.opening page → ⊥
-  pub looks : (v : View) → (hand : Option Held) → (h : HeapView) → v.about ≡ k → IsWhole part v hand end h → IsOpOf h.roots op → LooksOn h op page
+  pub looks : (v : View) → (hand : Option Held) → (h : HeapView) → v.about ≡ k → IsWhole part v hand end h → IsOpOf h.roots op → LooksRightOn part.holders.items part.lane h op page
 
 -- the operation looks at a cell of a domain that another lane holds, which this lane may not read
 pub record LooksForeign (h : HeapView) (holders : List Holder) (lane : ℕ) (op : Op) : Type 0 where
@@ -323,9 +345,9 @@ abbrev pub IsNobodysPage : View → ℕ → Type 0
 IsNobodysPage v page = IsFrozenPage v page × (times (owner v.about page) v.about.roles ≡ 0)
 
 -- the page is one of a frozen domain, or else the lane's own
-abbrev pub IsPageOf : View → ℕ → Bool → Type 0
-IsPageOf v page true = IsNobodysPage v page
-IsPageOf v page false = IsOwnPage v page
+abbrev pub IsFrozenOrOwn : View → ℕ → Bool → Type 0
+IsFrozenOrOwn v page true = IsNobodysPage v page
+IsFrozenOrOwn v page false = IsOwnPage v page
 
 -- who holds the page's domain then
 abbrev pub holder_if : Bool → ℕ → Holder
@@ -341,9 +363,9 @@ DoesOne old v hand new w after end op reply = (h : HeapView) → IsWhole old v h
 abbrev pub StaysWhole : LanePart → View → Option Held → LanePart → View → Option Held → ℕ → Type 0
 StaysWhole old v hand new w after end = (new ≡ old) × ((h : HeapView) → IsWhole old v hand end h → IsWhole old w after end h)
 
--- the operation looks at a cell on this page, whatever whole heap what the lane has belongs to
+-- the operation looks at a cell on this page, as the lane may, whatever whole heap what the lane has belongs to
 abbrev pub LooksOnIn : LanePart → View → Option Held → ℕ → Op → ℕ → Type 0
-LooksOnIn part w hand end op page = (h : HeapView) → IsWhole part w hand end h → IsOpOf h.roots op → LooksOn h op page
+LooksOnIn part w hand end op page = (h : HeapView) → IsWhole part w hand end h → IsOpOf h.roots op → LooksRightOn part.holders.items part.lane h op page
 
 -- why an operation isn't done, by what the lane has now, and what its seat read since it had the view v
 abbrev pub StopsOp : View → LanePart → View → Option Held → ℕ → Op → Stop → Type 0
@@ -382,14 +404,14 @@ pub record ComesInRun (ops : List Op) (end : ℕ) (old : LaneTurn) (v : View) (h
   pub comes : (h : HeapView) → IsWhole old.part v hand end h → AllByRecursion (IsOpOf h.roots) ops
       → (k : HeapView) × (serial : ℕ) × DidAll old.part.holders.items old.part.lane (take before (drop old.next ops)) (take before replies) h old.part.serial k serial × P k
 
--- one of the operations with these replies looks at a cell on this page, or the one after them: in the heap that those before it made of
--- the one to which what the lane had belonged
+-- one of the operations with these replies looks at a cell on this page, as the lane may, or the one after them: in the heap that those
+-- before it made of the one to which what the lane had belonged
 pub record LooksInRun (ops : List Op) (end : ℕ) (old : LaneTurn) (v : View) (hand : Option Held) (replies : List Reply) (page : ℕ) : Type 0 where
   pub before : ℕ
   pub op : Op
   pub less : old.next + before < length ops
   pub is : op ≡ slice_index_or ops (old.next + before) op
-  pub run : ComesInRun ops end old v hand replies before (λ k. LooksOn k op page)
+  pub run : ComesInRun ops end old v hand replies before (λ k. LooksRightOn old.part.holders.items old.part.lane k op page)
 
 -- the page had this content in the heap that some of the operations with these replies, the first, made
 pub record HadInRun (ops : List Op) (end : ℕ) (old : LaneTurn) (v : View) (hand : Option Held) (replies : List Reply) (page : ℕ) (content : List ℕ) : Type 0 where

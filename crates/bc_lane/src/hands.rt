@@ -5,7 +5,7 @@ ghost use Rattle.std.specs.Prelude.{◌≡◌, ◌≢◌, ◌⊎◌, ℕ, ◌<�
 ghost use Rattle.bc_evict.specs.declared.reloading.ReloadError.TheVariants as refused;
 ghost use Rattle.bc_lane.specs.declared.stops.Stop.TheVariants as stop;
 ghost use Rattle.bc_lane.specs.Shown.{HasPage, IsOwnPage, ShowsPages};
-ghost use Rattle.bc_lane.specs.Turns.{FindsNoFrameAtAll, HasFrame, HasInHand, IsLaidDown, IsNobodysPage, IsPageOf, IsRefusedFrozen, IsRefusedOwn, IsRefusedPage, IsSameLane, PassesBy, PutsBack, ReadsHome, ReadsOn};
+ghost use Rattle.bc_lane.specs.Turns.{FindsNoFrameAtAll, HasFrame, HasInHand, HasNoWayBack, IsLaidDown, IsNobodysPage, IsFrozenOrOwn, IsRefusedFrozen, IsRefusedOwn, IsRefusedPage, IsSameLane, PassesBy, PutsBack, ReadsHome, ReadsOn};
 ghost use Rattle.bc_pins.specs.Calls.{HoldsPage, IsAt, IsFree, IsSameSeat, key_of, view_of};
 ghost use Rattle.bc_pins.specs.Contents.{IsBarePage};
 ghost use Rattle.bc_pins.specs.Key.{owner, pages_of};
@@ -53,7 +53,7 @@ fn take_or_reload(pins: &Pins, seat: &mut Seat, page: u32, frozen: bool) -> Resu
     requires rights { (view_of seat.old).rights ≡ [] }
     requires page { page < pages_of (key_of pins.now) }
     requires lanes { (view_of seat.old).about.lanes ≡ true }
-    requires kind { IsPageOf (view_of seat.old) page frozen }
+    requires kind { IsFrozenOrOwn (view_of seat.old) page frozen }
     requires cell { IsBarePage (view_of seat.old).about.opening page → ⊥ }
     ensures same { IsSameLane seat.old seat.new }
     ensures ok { IfOk result (λ held. HoldsPage seat.new held × (held.page ≡ page)) }
@@ -209,7 +209,8 @@ fn reload_frozen(pins: &Pins, seat: &mut Seat, page: u32) -> Result<Held, Stop>
     ensures ok { IfOk result (λ held. HoldsPage seat.new held × (held.page ≡ page)) }
     ensures shows { IfOk result (λ held. (end : ℕ) → (s : Layout) → ShowsPages (view_of seat.old) None end s
         → ShowsPages (view_of seat.new) (Some held) end s) }
-    ensures err { IfErr result (λ why. IsFree seat.new × ((why ≡ stop.Gone page) ⊎ ((why ≡ stop.Moved page) × ReadsHome (view_of seat.old) (view_of seat.new) page))) }
+    ensures err { IfErr result (λ why. IsFree seat.new × (((why ≡ stop.Gone page) × HasNoWayBack (view_of seat.old) (view_of seat.new) page)
+        ⊎ ((why ≡ stop.Moved page) × ReadsHome (view_of seat.old) (view_of seat.new) page))) }
     ensures still { OnErr result ((end : ℕ) → (s : Layout) → ShowsPages (view_of seat.old) None end s → ShowsPages (view_of seat.new) None end s) }
     ensures reads { ReadsOn (view_of seat.old) (view_of seat.new) }
     ensures passes { (q : ℕ) → q < pages_of (view_of seat.old).about → q ≢ page → PassesBy (view_of seat.old) (view_of seat.new) q }
@@ -229,7 +230,7 @@ fn reload_frozen(pins: &Pins, seat: &mut Seat, page: u32) -> Result<Held, Stop>
 
 /// Why a lane stops that couldn't bring a page back: another lane did so, or it is in that lane's hands.
 fn moved_or_gone(page: u32, refusal: ReloadError) -> Stop
-    ensures stop { ((refusal ≡ refused.Home) × (result ≡ stop.Moved page)) ⊎ (result ≡ stop.Gone page) }
+    ensures stop { ((refusal ≡ refused.Home) × (result ≡ stop.Moved page)) ⊎ ((refusal ≢ refused.Home) × (result ≡ stop.Gone page)) }
 {
     match refusal {
         ReloadError::Home => Stop::Moved(page),
@@ -271,7 +272,7 @@ pub(crate) fn take_page<G: Gate>(
     requires rights { (view_of seat.old).rights ≡ [] }
     requires page { page < pages_of (key_of pins.now) }
     requires lanes { (view_of seat.old).about.lanes ≡ true }
-    requires kind { IsPageOf (view_of seat.old) page frozen }
+    requires kind { IsFrozenOrOwn (view_of seat.old) page frozen }
     requires cell { IsBarePage (view_of seat.old).about.opening page → ⊥ }
     requires shown { (end : ℕ) × (s : Layout) × ShowsPages (view_of seat.old) hand.old end s }
     ensures same { IsSameLane seat.old seat.new }

@@ -81,7 +81,8 @@ fn cell_looked_at(part: &LanePart, end: u32, op: &Op, shared: &Roots) -> Option<
     cell_in_slot(part, end, op, shared)
 }
 
-/// The same where the lane may read all slots that the operation names, and write the one that it writes.
+/// The address of the cell that an operation of the lane looks at, if it looks at one: where the lane may read all slots that the operation
+/// names, and write the one that it writes.
 fn cell_in_slot(part: &LanePart, end: u32, op: &Op, shared: &Roots) -> Option<Address>
     requires shared { part.now.shared.value ≡ shared.now }
     requires whole { (v : View) × (hand : Option Held) × (h : HeapView) × IsWhole part.now v hand end h × IsOpOf h.roots op.now }

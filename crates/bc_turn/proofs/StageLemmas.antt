@@ -5,7 +5,7 @@ use Rattle.std.proofs.lemmas.Bool.{cases_eq, cases_lt}
 use Rattle.std.specs.List.{AllByRecursion}
 use Rattle.bc_lane.specs.Back.{heap_back}
 use Rattle.bc_lane.specs.Doing.{DidAll}
-use Rattle.bc_lane.specs.Turns.{IsWhole, LaneRan, LooksOn, StopsOp, WhyStopped}
+use Rattle.bc_lane.specs.Turns.{IsWhole, LaneRan, LooksRightOn, StopsOp, WhyStopped}
 use Rattle.bc_lane.specs.declared.parts.LanePart.{LanePart}
 use Rattle.bc_lane.specs.declared.stops.Stop.{Stop}
 use Rattle.bc_lane.specs.declared.stops.Stop.TheVariants as stop
@@ -80,9 +80,9 @@ nothing-more [] = refl
 nothing-more (x ∷ xs) = ap (λ (l : List Reply). x ∷ l) (nothing-more xs)
 
 -- a page on which an operation looks, and which is Gone after the turn where some lane holds it: or it is frozen
-noted-beside : (hs : List Holder) (n page : ℕ) (v : View) (k : HeapView) (t : Layout) (op : Op) → IsSeatOf hs n v → k.space.domains ≡ v.about.opening.domains → LooksOn k op page
+noted-beside : (hs : List Holder) (n page : ℕ) (v : View) (k : HeapView) (t : Layout) (op : Op) → IsSeatOf hs n v → k.space.domains ≡ v.about.opening.domains → LooksRightOn hs n k op page
     → (owner v.about page ≢ 0 → state_at t.states page ≡ Gone)
-    → ((q : ℕ) × LooksOn k op q × (state_at t.states q ≡ Gone)) ⊎ ((q : ℕ) × LooksOn k op q × (holder_of hs (get_or k.space.domains (q / 4) 0) ≡ Frozen))
+    → ((q : ℕ) × LooksRightOn hs n k op q × (state_at t.states q ≡ Gone)) ⊎ ((q : ℕ) × LooksRightOn hs n k op q × (holder_of hs (get_or k.space.domains (q / 4) 0) ≡ Frozen))
 noted-beside hs n page v k t op seat domains looks gone = elim (cases_eq (owner v.about page) 0) [
   | inl frozen ↦ inr (page, looks, subst (λ (ds : List ℕ). holder_of hs (get_or ds (page / 4) 0) ≡ Frozen) (sym domains) (frozen-holder hs n page v seat frozen))
   | inr owned ↦ inl (page, looks, gone owned)
@@ -97,8 +97,8 @@ stops-beside hs n end part u v k t op why eh el seat whole fits notes stops =
     here : IsSeatOf part.holders.items part.lane v
     here = subst (λ (l : ℕ). IsSeatOf part.holders.items l v) (sym el) (subst (λ (l : List Holder). IsSeatOf l n v) (sym eh) seat)
 
-    beside : (page : ℕ) → LooksOn k op page → (owner v.about page ≢ 0 → state_at t.states page ≡ Gone)
-        → ((q : ℕ) × LooksOn k op q × (state_at t.states q ≡ Gone)) ⊎ ((q : ℕ) × LooksOn k op q × (holder_of part.holders.items (get_or k.space.domains (q / 4) 0) ≡ Frozen))
+    beside : (page : ℕ) → LooksRightOn part.holders.items part.lane k op page → (owner v.about page ≢ 0 → state_at t.states page ≡ Gone)
+        → ((q : ℕ) × LooksRightOn part.holders.items part.lane k op q × (state_at t.states q ≡ Gone)) ⊎ ((q : ℕ) × LooksRightOn part.holders.items part.lane k op q × (holder_of part.holders.items (get_or k.space.domains (q / 4) 0) ≡ Frozen))
     beside page looks gone = noted-beside part.holders.items part.lane page v k t op here (ap (λ (s : Layout). s.domains) whole.belongs.space.same) looks gone
 
     go : (w : Stop) → StopsOp u part v None end op w → StopsBeside part.holders.items part.lane op k t
@@ -106,11 +106,11 @@ stops-beside hs n end part u v k t op why eh el seat whole fits notes stops =
     go stop.NurseryFull s = inl (subst (λ (c : Nursery). WantsMore part.holders.items part.lane (left_of c) op) (sym whole.belongs.chunk_is) s)
     go stop.BufferFull s = inr (inl (subst (λ (c : Nursery). NeedsEntry part.holders.items part.lane k.space k.roots c (buffer_of k.buffers part.lane) op) (sym whole.belongs.chunk_is)
         (subst (λ (b : Entries). NeedsEntry part.holders.items part.lane k.space k.roots part.chunk b op) (sym whole.belongs.buffer_is) (s k whole fits))))
-    go (stop.Busy page) s = let looks = s.1 k whole fits in inr (inr (beside page looks (λ owned. elim s.0 [
-      | inl reads ↦ notes page looks.0.0 looks.2 looks.3 owned (inr reads.noted)
+    go (stop.Busy page) s = let looks = s.1 k whole fits in let on = looks.looks in inr (inr (beside page looks (λ owned. elim s.0 [
+      | inl reads ↦ notes page on.0.0 on.2 on.3 owned (inr reads.noted)
       | inr reads ↦ absurd (owned reads.frozen)
     ])))
-    go stop.NoFrame s = let looks = s.2 k whole fits in inr (inr (beside s.0 looks (λ owned. notes s.0 looks.0.0 looks.2 looks.3 owned (inl s.1.noted))))
+    go stop.NoFrame s = let looks = s.2 k whole fits in let on = looks.looks in inr (inr (beside s.0 looks (λ owned. notes s.0 on.0.0 on.2 on.3 owned (inl s.1.noted))))
     go (stop.Gone page) s = inr (inr (beside page (s.1 k whole fits) (λ owned. absurd (owned s.0.frozen))))
     go (stop.Moved page) s = inr (inr (beside page (s.1 k whole fits) (λ owned. absurd (owned s.0.frozen))))
 

@@ -3,7 +3,7 @@ use Rattle.std.specs.Prelude.{◌≡◌, ◌⊎◌, ◌↔◌, ℕ, ◌+◌, ◌
 use Rattle.bc_bookmarks.specs.Moves.{MovesPages}
 use Rattle.bc_bookmarks.specs.Summarised.{IsSummarised}
 use Rattle.bc_lane.specs.Doing.{DidAll}
-use Rattle.bc_lane.specs.Turns.{LooksOn}
+use Rattle.bc_lane.specs.Turns.{LooksRightOn}
 use Rattle.bc_model.specs.State.{holder_of}
 use Rattle.bc_model.specs.declared.operations.Op.{Op}
 use Rattle.bc_model.specs.declared.operations.Reply.{Reply}
@@ -40,15 +40,15 @@ pub record IsLaidBack (h k : HeapView) : Type 0 where
   pub buffers : k.buffers ≡ h.buffers
 
 -- why a lane's next operation can't be done in this turn, said of the heap that its operations make and of the space after the turn: as
--- on plain data, or it looks at an object in a cell on a page that is Gone after the turn. When the lane stopped the page was Gone and
+-- on plain data, or it looks at an object in a cell, as the lane may, on a page that is Gone after the turn. When the lane stopped the page was Gone and
 -- there was no frame for it, or it was in the hands of a pager or of another lane, who put none back. Or it looks at one on a page of a
 -- frozen domain, which any lane may take and puts back: another lane had it in hand, or it was Gone
 abbrev pub StopsBeside : List Holder → ℕ → Op → HeapView → Layout → Type 0
 StopsBeside holders lane op h t =
     WantsMore holders lane (left_of (own_chunk h lane)) op
     ⊎ (NeedsEntry holders lane h.space h.roots (own_chunk h lane) (buffer_of h.buffers lane) op
-    ⊎ (((page : ℕ) × LooksOn h op page × (state_at t.states page ≡ Gone))
-    ⊎ ((page : ℕ) × LooksOn h op page × (holder_of holders (slice_index h.space.domains (page / 4)) ≡ Frozen))))
+    ⊎ (((page : ℕ) × LooksRightOn holders lane h op page × (state_at t.states page ≡ Gone))
+    ⊎ ((page : ℕ) × LooksRightOn holders lane h op page × (holder_of holders (slice_index h.space.domains (page / 4)) ≡ Frozen))))
 
 -- all of a lane's operations have replies, or this is true of the next one
 abbrev pub IsAtEndOr : List Op → List Reply → (Op → Type 0) → Type 0

@@ -2,7 +2,7 @@
 use Rattle.std.specs.Prelude.{◌≡◌, ℕ, ◌+◌, ◌/◌, ◌<◌, ◌≤◌, true, List, ◌++◌, length, take, drop, slice_index, slice_index_or}
 use Rattle.bc_lane.specs.Back.{heap_back}
 use Rattle.bc_lane.specs.Doing.{DidAll}
-use Rattle.bc_lane.specs.Turns.{LooksOn}
+use Rattle.bc_lane.specs.Turns.{LooksRightOn}
 use Rattle.bc_model.specs.State.{holder_of, lets_read}
 use Rattle.bc_model.specs.declared.operations.Op.{Op}
 use Rattle.bc_model.specs.declared.operations.Reply.{Reply}
@@ -22,7 +22,7 @@ pub record IsOnTheWay (holders : List Holder) (lanes : List (List Op)) (h : Heap
   pub serial : ℕ
   pub did : DidAll holders lane (take count (drop (length (of_lane before lane)) (of_lane lanes lane))) (take count new) (heap_back h) (slice_index serials lane) heap serial
 
--- an operation that a lane did in the turn, which may read the page's domain, looks at a cell on the page, or the next one that it would do: in
+-- an operation that a lane did in the turn, which may do so to the page's domain, looks at a cell on the page, or the next one that it would do: in
 -- the heap that its operations before that one make. So where the domain isn't frozen the lane is the one that holds it
 pub record IsLookedAtInTurn (holders : List Holder) (lanes : List (List Op)) (h : HeapView) (serials : List ℕ) (before after : List (List Reply)) (page : ℕ) : Type 0 where
   pub lane : ℕ
@@ -33,7 +33,7 @@ pub record IsLookedAtInTurn (holders : List Holder) (lanes : List (List Op)) (h 
   pub is : op ≡ slice_index_or (of_lane lanes lane) (length (of_lane before lane) + count) op
   pub heap : HeapView
   pub way : IsOnTheWay holders lanes h serials before after lane count heap
-  pub looks : LooksOn heap op page
+  pub looks : LooksRightOn holders lane heap op page
 
 -- the page had this content in the turn: in a heap that the first operations of its domain's lane make
 pub record HadInTurn (holders : List Holder) (lanes : List (List Op)) (h : HeapView) (serials : List ℕ) (before after : List (List Reply)) (page : ℕ) (content : List ℕ) : Type 0 where

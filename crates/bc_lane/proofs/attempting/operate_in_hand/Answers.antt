@@ -86,7 +86,7 @@ pub returns-in-Err-clause-nursery : goal.returns-in-Err-clause-nursery
 returns-in-Err-clause-nursery g c = λ wants.
     let w = c.requires.whole in
     let looks = c.requires.looks.looks (view_of c.args.seat.now) c.args.hand.now w.0 c.requires.seated.at.about w.1 w.2 in
-    absurd (own-wants c.args.part.now w.0 _ c.args.page c.args.op.now looks wants)
+    absurd (own-wants c.args.part.now w.0 _ c.args.page c.args.op.now looks.looks wants)
 
 pub returns-in-Ok-clause-kept : goal.returns-in-Ok-clause-kept
 returns-in-Ok-clause-kept g c = λ has. (c.take_page.ensures.kept has).1

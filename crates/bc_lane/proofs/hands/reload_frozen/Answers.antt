@@ -2,7 +2,7 @@ use Rattle.std.proofs.Common.{◌≡◌, ◌<◌, ℕ, [], ◌∷◌, true, inl,
 use Rattle.bc_evict.specs.Evicting.{HasGiven}
 use Rattle.bc_evict.specs.Reloading.{reload_word}
 use Rattle.bc_lane.proofs.FrameLemmas.{claimed-frame, reloaded-holds, reloaded-lane, reloaded-reads, reloaded-shows_frozen}
-use Rattle.bc_lane.proofs.FrozenLemmas.{refused-frame-changed, refused-frame-fetched, refused-frame-home, refused-frame-lane, refused-frame-passes, refused-frame-reads, refused-frame-shows, unclaimed-passes, unclaimed-reads, unclaimed-shows}
+use Rattle.bc_lane.proofs.FrozenLemmas.{other-word, refused-frame-changed, refused-frame-fetched, refused-frame-home, refused-frame-lane, refused-frame-passes, refused-frame-reads, refused-frame-shows, refused-frame-way, unclaimed-passes, unclaimed-reads, unclaimed-shows, unclaimed-way}
 use Rattle.bc_lane.proofs.HandLemmas.{at-worker, nobodys-about, seat-lane}
 use Rattle.bc_lane.proofs.PassLemmas.{fetched-passes}
 use Rattle.bc_pins.specs.Calls.{view_of}
@@ -90,7 +90,10 @@ returns-in-Err-clause-err c = (
       moved.1,
       refused-frame-home (view_of c.args.seat.now) (view_of c.claim_frame.new.seat) (view_of c.reload.new.seat) (view_of c.give_frame.new.seat) c.args.page c.in-Some.right.frame (reload_word c.in-Err.refusal) c.in-Some.ensures.some c.in-Err.ensures.err.1.view (subst (λ (f : ℕ). HasGiven (view_of c.reload.new.seat) f (view_of c.give_frame.new.seat)) c.in-Err.ensures.err.0 c.give_frame.ensures.given) c.requires.rights (ap reload_word moved.0) (subst (λ (k : Key). c.args.page < pages_of k) (sym c.requires.at.about) c.requires.page),
     )
-    | inr gone ↦ inl gone
+    | inr gone ↦ inl (
+      gone.1,
+      refused-frame-way (view_of c.args.seat.now) (view_of c.claim_frame.new.seat) (view_of c.reload.new.seat) (view_of c.give_frame.new.seat) c.args.page c.in-Some.right.frame (reload_word c.in-Err.refusal) c.in-Some.ensures.some c.in-Err.ensures.err.1.view (subst (λ (f : ℕ). HasGiven (view_of c.reload.new.seat) f (view_of c.give_frame.new.seat)) c.in-Err.ensures.err.0 c.give_frame.ensures.given) c.requires.rights (other-word c.in-Err.refusal gone.0).0 (other-word c.in-Err.refusal gone.0).1 (subst (λ (k : Key). c.args.page < pages_of k) (sym c.requires.at.about) c.requires.page),
+    )
   ],
 )
 
@@ -116,7 +119,7 @@ returns-in-None-clause-err c = (
     hand = ap (λ (v : View). v.hand) c.in-None.ensures.none.view ∙ c.requires.free.hand;
     slots = c.claim_frame.ensures.slots ∙ c.requires.free.slots;
   },
-  inl refl,
+  inl (refl, unclaimed-way (view_of c.args.seat.now) (view_of c.claim_frame.new.seat) c.args.page c.in-None.ensures.none),
 )
 
 pub returns-in-None-clause-still : goal.returns-in-None-clause-still

@@ -1,6 +1,6 @@
-use Rattle.std.proofs.Common.{◌<◌, ℕ, length, get_or, ap, sym, subst, ◌∙◌, arith}
+use Rattle.std.proofs.Common.{◌<◌, ℕ, true, false, length, get_or, ap, sym, subst, ◌∙◌, arith}
 use Rattle.bc_lane.specs.Turns.{LooksReadable}
-use Rattle.bc_lane.proofs.LookLemmas.{foreign-reads, held-by, right-as, told-at, told-domain, told-foreign, told-sealed, told-superpage}
+use Rattle.bc_lane.proofs.LookLemmas.{foreign-reads, held-by, right-as, right-held, told-at, told-domain, told-foreign, told-sealed, told-superpage}
 use Rattle.bc_model.specs.declared.values.Holder.TheVariants as holder
 use Rattle.bc_pins.specs.Calls.{key_of}
 use Rattle.bc_superpages.specs.Layout.{superpages}
@@ -44,7 +44,7 @@ returns-then-lane-part c =
     let who = held-by part.holders.items c.header.result.now.domain _ c.index.result.now domain within c.index.ensures ∙ c.in-Lane.is ∙ ap holder.Lane c.if-lane-part.true in
     record {
       told = subst (λ (p : ℕ). LooksReadable part k c.args.end c.args.op.now (holder.Lane part.lane) p) (sym c.page.ensures.page)
-          (told-at part k c.args.end c.args.op.now c.in-Some.at c.requires.table e.named e.below e.leads e.looks c.requires.whole (holder.Lane part.lane) who);
+          (told-at part k c.args.end c.args.op.now c.in-Some.at c.requires.table e.named e.below e.leads e.looks c.requires.whole (holder.Lane part.lane) who (right-held part.holders.items part.lane c.args.op.now _ who));
     }
 
 pub returns-else-lane-part : goal.returns-else-lane-part
@@ -67,7 +67,8 @@ returns-then-has_right c =
     let who = held-by part.holders.items c.header.result.now.domain _ c.index.result.now domain within c.index.ensures ∙ c.in-Frozen.is in
     record {
       told = subst (λ (p : ℕ). LooksReadable part k c.args.end c.args.op.now holder.Frozen p) (sym c.page-then-has_right.ensures.page)
-          (told-at part k c.args.end c.args.op.now c.in-Some.at c.requires.table e.named e.below e.leads e.looks c.requires.whole holder.Frozen who);
+          (told-at part k c.args.end c.args.op.now c.in-Some.at c.requires.table e.named e.below e.leads e.looks c.requires.whole holder.Frozen who
+          (right-as part.holders.items c.deref.result.now part.lane c.args.op.now c.header.result.now.domain _ c.has_right.result true c.deref.ensures.value domain c.has_right.ensures.right c.if-has_right.true));
     }
 
 pub returns-else-has_right : goal.returns-else-has_right
@@ -80,5 +81,5 @@ returns-else-has_right c =
     let who = held-by part.holders.items c.header.result.now.domain _ c.index.result.now domain within c.index.ensures ∙ c.in-Frozen.is in
     record {
       told = told-sealed part k c.args.end c.args.op.now c.in-Some.at c.requires.table e.named e.below e.leads e.looks c.requires.whole who
-          (right-as part.holders.items c.deref.result.now part.lane c.args.op.now c.header.result.now.domain _ c.has_right.result c.deref.ensures.value domain c.has_right.ensures.right c.if-has_right.false);
+          (right-as part.holders.items c.deref.result.now part.lane c.args.op.now c.header.result.now.domain _ c.has_right.result false c.deref.ensures.value domain c.has_right.ensures.right c.if-has_right.false);
     }
