@@ -11,6 +11,7 @@ use Rattle.bc_cycle.specs.declared.emptying.CycleError.{CycleError}
 use Rattle.bc_cycle.specs.declared.emptying.EmptyingKind.{EmptyingKind}
 use Rattle.bc_cycle.specs.declared.emptying.CycleError.TheVariants.{NoMemory, OutOfHeap}
 use Rattle.bc_marking.specs.Lines.{HasTold, hints_along, hints_at, line_along}
+use Rattle.bc_marking.specs.declared.lines.Cursor.{Cursor}
 use Rattle.bc_pager.specs.declared.answers.Answer.{Answer}
 use Rattle.bc_whole_heap.specs.Heaps.{HeapView}
 
@@ -22,18 +23,18 @@ no-hints from (suc turns) =
     let before = no-hints from turns in
     omega arith
 
-no-told : (from turns to : ℕ) (before after told : List Answer) → HasTold [] from before turns to after told → told ≡ []
-no-told from turns to before after told has = none told (has.long ∙ no-hints from turns)
+no-told : (from : Cursor) (turns : ℕ) (to : Cursor) (before after told : List Answer) → HasTold [] from before turns to after told → told ≡ []
+no-told from turns to before after told has = none told (has.long ∙ no-hints (from.line) turns)
   where
     none : (xs : List Answer) → length xs ≡ 0 → xs ≡ []
     none [] e = refl
     none (x ∷ xs) e = absurd (omega arith)
 
 -- so a collection, an emptying and a refusal name no page
-pub collects-unasked : {h k : HeapView} {from to : ℕ} {before after : List Answer} → CollectsBeside [] h from before k to after → IsCollectedHeap h [] k
+pub collects-unasked : {h k : HeapView} {from to : Cursor} {before after : List Answer} → CollectsBeside [] h from before k to after → IsCollectedHeap h [] k
 collects-unasked {h} {k} {from} {to} {before} {after} c = subst (λ (told : List Answer). IsCollectedHeap h told k) (no-told from c.turns to before after c.told c.uses) c.collected
 
-module _ (h k : HeapView) (from to : ℕ) (before after : List Answer) where
+module _ (h k : HeapView) (from to : Cursor) (before after : List Answer) where
   pub empties-unasked : (r : Result EmptyingKind CycleError) → IfOk r (λ kind. EmptiesBeside kind [] h from before k to after) → OnOk r ((SurvivorsFit h → ⊥) → HasKeptWhereItFits h [] k)
   empties-unasked (Ok kind) e = λ none. subst (λ (told : List Answer). HasKeptWhereItFits h told k) (no-told from e.turns to before after e.told e.uses) (e.kept none)
   empties-unasked (Err fault) e = tt
