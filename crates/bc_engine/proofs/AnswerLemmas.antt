@@ -7,7 +7,8 @@ use Rattle.bc_model.specs.TurnLines.{hints_in}
 use Rattle.bc_model.specs.declared.operations.Op.{Op}
 use Rattle.bc_model.specs.declared.operations.Reply.{Reply}
 use Rattle.bc_marking.proofs.LineLemmas.{told-one, told-then}
-use Rattle.bc_marking.specs.Lines.{HasTold, hints_along, hints_at, line_behind}
+use Rattle.bc_marking.specs.Lines.{HasTold, cursor_along, cursor_at, hints_along, hints_at, line_along, line_behind}
+use Rattle.bc_marking.specs.declared.lines.Cursor.{Cursor}
 use Rattle.bc_pager.specs.Alone.{ArePlainAnswers}
 use Rattle.bc_pager.specs.Answering.{AreAnswered}
 use Rattle.bc_pager.specs.declared.answers.Answer.{Answer}
@@ -15,15 +16,36 @@ use Rattle.bc_pins.specs.Key.{Key}
 use Rattle.bc_pins.specs.declared.views.View.{View}
 use Rattle.bc_running.specs.Running.{RunningView}
 use Rattle.bc_superpages.specs.Layout.{Layout}
-use Rattle.bc_engine.specs.EngineFacts.{with_answers}
+use Rattle.bc_engine.specs.EngineFacts.{without_turns}
 use Rattle.bc_engine.specs.Engines.{EngineView}
 use Rattle.bc_engine.specs.PhaseTurns.{HadTurns, HadTurnsToCut, hints_before}
 use Rattle.bc_engine.specs.Rounds.{CutRound, LastRound, RanRound, RanRounds, turns_of_cut, turns_of_last, turns_of_round}
 use Rattle.bc_engine.specs.Turns.{RanTurn, line_of}
 
+-- so many turns from a cursor on, and their answers
+abbrev TellsAlong : List (List ℕ) → Cursor → List Answer → ℕ → List Answer → List Answer → Type 0
+TellsAlong lines from before turns after told = HasTold lines from before turns (cursor_along lines from turns) after told
+
 -- of as many turns, counted otherwise
-told-turns : (lines : List (List ℕ)) (from : ℕ) (before : List Answer) (to : ℕ) (after told : List Answer) {n m : ℕ} → n ≡ m → HasTold lines from before n to after told → HasTold lines from before m to after told
-told-turns lines from before to after told same t = subst (λ (x : ℕ). HasTold lines from before x to after told) same t
+told-turns : (lines : List (List ℕ)) (from : Cursor) (before after told : List Answer) {n m : ℕ} → n ≡ m → TellsAlong lines from before n after told → TellsAlong lines from before m after told
+told-turns lines from before after told same t = subst (λ (x : ℕ). TellsAlong lines from before x after told) same t
+
+-- counted from another cursor on with the same line
+told-anew : (lines : List (List ℕ)) (at from : Cursor) (before : List Answer) (n : ℕ) (to : Cursor) (after told : List Answer) → at.line ≡ from.line → HasTold lines from before n to after told → TellsAlong lines at before n after told
+told-anew lines at from before n to after told same t = record {
+  answers = t.answers;
+  next = refl;
+  long = t.long ∙ ap (λ (line : ℕ). hints_along lines line n) (sym same);
+}
+
+-- turns after others, counted anew
+along-then : (lines : List (List ℕ)) (from : Cursor) (n : ℕ) (at : Cursor) (m : ℕ) (to : Cursor) (before mid after told more : List Answer) → at.line ≡ line_along lines (from.line) n → TellsAlong lines from before n mid told → HasTold lines at mid m to after more
+    → TellsAlong lines from before (n + m) after (told ++ more)
+along-then lines from n at m to before mid after told more same first second =
+    let here : Cursor = cursor_along lines from n in
+    let there : Cursor = cursor_along lines here m in
+    told-anew lines from from before (n + m) there after (told ++ more) refl
+    (told-then lines from n here m there before mid after told more first (told-anew lines here at mid m to after more (sym same) second))
 
 -- beside the lanes, and where nobody works beside
 beside-long : (k : Key) (hints : List ℕ) (answers : List Answer) (v w : View) → AreAnswered k hints answers v w → length answers ≡ length hints
@@ -40,14 +62,14 @@ plain-long s t (hint ∷ hints) (answer ∷ answers) told = omega (arith, plain-
 
 -- a turn of lanes has an answer to each notice of its line, after those that there were
 turn-told : (lines : List (List ℕ)) (line : ℕ) {lanes : List (List Op)} {r q : RunningView} {before after : List (Vec Reply Global)} {asked answers : List Answer} → RanTurn lanes r before asked (hints_at lines line) q after answers
-    → (told : List Answer) × HasTold lines line asked 1 (line_behind lines line) answers told
+    → (told : List Answer) × TellsAlong lines (cursor_at line) asked 1 answers told
 turn-told lines line {lanes} {r} {q} {before} {after} {asked} {answers} turn = elim turn.way [
   | inl beside ↦
       let b = beside.1 in
-      (b.told, told-one lines line (line_behind lines line) asked answers b.told b.kept refl (beside-long b.key (hints_at lines line) b.told _ b.end b.each))
+      (b.told, told-one lines (cursor_at line) (cursor_along lines (cursor_at line) 1) asked answers b.told b.kept refl (beside-long b.key (hints_at lines line) b.told _ b.end b.each))
   | inr alone ↦
       let a = alone.2.1 in
-      (a.0, told-one lines line (line_behind lines line) asked answers a.0 a.1 refl (plain-long _ alone.2.0 (hints_at lines line) a.0 a.2))
+      (a.0, told-one lines (cursor_at line) (cursor_along lines (cursor_at line) 1) asked answers a.0 a.1 refl (plain-long _ alone.2.0 (hints_at lines line) a.0 a.2))
 ]
 
 -- so there are as many answers more as the line has notices
@@ -57,42 +79,60 @@ turn-long lines line {asked = asked} turn =
     let t = turn-told lines line turn in
     omega (arith, ap length t.1.answers, length-append asked t.0, t.1.long)
 
--- with the mark turns of what may have come first, and of what came then
-both-told : {lines : List (List ℕ)} {line next : ℕ} (c d : ℕ) (asked mid answers last x y z : List Answer) (from : ℕ) → HasTold lines line asked 1 (line_behind lines line) mid x
-    → HasTold lines (line_behind lines line) mid c from answers y → HasTold lines from answers d next last z → (told : List Answer) × HasTold lines line asked (suc (c + d)) next last told
-both-told {lines} {line} {next} c d asked mid answers last x y z from turn early late =
-    let first = told-then lines line 1 (line_behind lines line) c from asked mid answers x y turn early in
-    let all = told-then lines line (1 + c) from d next asked answers last (x ++ y) z first late in
-    let same : 1 + c + d ≡ suc (c + d) = omega arith in
-    ((x ++ y) ++ z, told-turns lines line asked next last ((x ++ y) ++ z) same all)
-
--- and so has a round, to the notices of the lines of all its turns
+-- the mark turns of a round: those of what may have come first, and of what came then
 module _ {lanes : List (List Op)} {lines : List TurnLists} {before after : List (Vec Reply Global)} {line next : ℕ} where
-  round-told : {e f : EngineView} (r : RanRound lanes lines e before line f after next) → (told : List Answer) × HasTold (hints_in lines) line e.answers (turns_of_round r) next f.answers told
-  round-told {e} {f} r =
-      let first = turn-told (hints_in lines) line r.turn.turn in
+  pub round-marks : {e f : EngineView} (r : RanRound lanes lines e before line f after next)
+      → (told : List Answer) × HasTold (hints_in lines) (cursor_at (line_behind (hints_in lines) line)) r.answers (r.empties.collects.turns + r.empties.next.beside.turns) (record { line = next; turns = r.marks }) f.answers told
+  round-marks {e} {f} r =
       let c = r.empties.collects in
       let b = r.empties.next.beside in
-      both-told c.turns b.turns e.answers r.answers r.empties.answers f.answers first.0 c.told b.told r.empties.mid first.1 c.uses b.uses
+      (c.told ++ b.told, told-then (hints_in lines) (cursor_at (line_behind (hints_in lines) line)) c.turns r.empties.mid b.turns (record { line = next; turns = r.marks }) r.answers r.empties.answers f.answers c.told b.told c.uses b.uses)
 
 module _ {lanes : List (List Op)} {lines : List TurnLists} {e f : EngineView} {before after : List (Vec Reply Global)} {line : ℕ} where
-  last-told : (r : LastRound lanes lines e before line f after) → (told : List Answer) × HasTold (hints_in lines) line e.answers (turns_of_last r) r.next f.answers told
-  last-told r =
-      let first = turn-told (hints_in lines) line r.turn.turn in
+  pub last-marks : (r : LastRound lanes lines e before line f after)
+      → (told : List Answer) × HasTold (hints_in lines) (cursor_at (line_behind (hints_in lines) line)) r.answers (r.empties.collects.turns + r.empties.next.beside.turns) (record { line = r.next; turns = r.marks }) f.answers told
+  last-marks r =
       let c = r.empties.collects in
       let b = r.empties.next.beside in
-      both-told c.turns b.turns e.answers r.answers r.empties.answers f.answers first.0 c.told b.told r.empties.mid first.1 c.uses b.uses
+      (c.told ++ b.told, told-then (hints_in lines) (cursor_at (line_behind (hints_in lines) line)) c.turns r.empties.mid b.turns (record { line = r.next; turns = r.marks }) r.answers r.empties.answers f.answers c.told b.told c.uses b.uses)
 
-  cut-told : (r : CutRound lanes lines e before line f after) → (told : List Answer) × HasTold (hints_in lines) line e.answers (turns_of_cut r) r.next f.answers told
-  cut-told r =
-      let first = turn-told (hints_in lines) line r.turn.turn in
+  pub cut-marks : (r : CutRound lanes lines e before line f after)
+      → (told : List Answer) × HasTold (hints_in lines) (cursor_at (line_behind (hints_in lines) line)) r.answers (r.leaves.collects.turns + r.leaves.next.stays.turns) (record { line = r.next; turns = r.marks }) f.answers told
+  cut-marks r =
       let c = r.leaves.collects in
       let b = r.leaves.next.stays in
-      both-told c.turns b.turns e.answers r.answers r.leaves.answers f.answers first.0 c.told b.told r.leaves.mid first.1 c.uses b.uses
+      (c.told ++ b.told, told-then (hints_in lines) (cursor_at (line_behind (hints_in lines) line)) c.turns r.leaves.mid b.turns (record { line = r.next; turns = r.marks }) r.answers r.leaves.answers f.answers c.told b.told c.uses b.uses)
+
+-- with the turn of the lanes before them
+with-marks : (lines : List (List ℕ)) (line n : ℕ) (to : Cursor) (asked mid last told more : List Answer) → TellsAlong lines (cursor_at line) asked 1 mid told → HasTold lines (cursor_at (line_behind lines line)) mid n to last more → TellsAlong lines (cursor_at line) asked (suc n) last (told ++ more)
+with-marks lines line n to asked mid last told more turn marks =
+    let same : 1 + n ≡ suc n = omega arith in
+    told-turns lines (cursor_at line) asked last (told ++ more) same (along-then lines (cursor_at line) 1 (cursor_at (line_behind lines line)) n to asked mid last told more refl turn marks)
+
+-- so has a round an answer to each notice of the lines of all its turns
+module _ {lanes : List (List Op)} {lines : List TurnLists} {before after : List (Vec Reply Global)} {line next : ℕ} where
+  round-told : {e f : EngineView} (r : RanRound lanes lines e before line f after next) → (told : List Answer) × TellsAlong (hints_in lines) (cursor_at line) e.answers (turns_of_round r) f.answers told
+  round-told {e} {f} r =
+      let first = turn-told (hints_in lines) line r.turn.turn in
+      let marks = round-marks r in
+      (first.0 ++ marks.0, with-marks (hints_in lines) line _ _ e.answers r.answers f.answers first.0 marks.0 first.1 marks.1)
+
+module _ {lanes : List (List Op)} {lines : List TurnLists} {e f : EngineView} {before after : List (Vec Reply Global)} {line : ℕ} where
+  last-told : (r : LastRound lanes lines e before line f after) → (told : List Answer) × TellsAlong (hints_in lines) (cursor_at line) e.answers (turns_of_last r) f.answers told
+  last-told r =
+      let first = turn-told (hints_in lines) line r.turn.turn in
+      let marks = last-marks r in
+      (first.0 ++ marks.0, with-marks (hints_in lines) line _ _ e.answers r.answers f.answers first.0 marks.0 first.1 marks.1)
+
+  cut-told : (r : CutRound lanes lines e before line f after) → (told : List Answer) × TellsAlong (hints_in lines) (cursor_at line) e.answers (turns_of_cut r) f.answers told
+  cut-told r =
+      let first = turn-told (hints_in lines) line r.turn.turn in
+      let marks = cut-marks r in
+      (first.0 ++ marks.0, with-marks (hints_in lines) line _ _ e.answers r.answers f.answers first.0 marks.0 first.1 marks.1)
 
 -- rounds, one after another, begin with the first line
 rounds-told : (lanes : List (List Op)) (lines : List TurnLists) (e : EngineView) (before : List (Vec Reply Global)) (n turns : ℕ) (f : EngineView) (after : List (Vec Reply Global)) → RanRounds lanes lines e before n turns f after
-    → (told : List Answer) × HasTold (hints_in lines) 0 e.answers turns (line_of lines turns) f.answers told
+    → (told : List Answer) × TellsAlong (hints_in lines) (cursor_at 0) e.answers turns f.answers told
 rounds-told lanes lines e before zero turns f after ran = (
   [],
   record {
@@ -104,26 +144,27 @@ rounds-told lanes lines e before zero turns f after ran = (
 rounds-told lanes lines e before (suc n) turns f after ran =
     let first = rounds-told lanes lines e before n ran.2 ran.0 ran.1 ran.4 in
     let last = round-told ran.5 in
-    let all = told-then (hints_in lines) 0 ran.2 (line_of lines ran.2) (turns_of_round ran.5) ran.3 e.answers ran.0.answers f.answers first.0 last.0 first.1 last.1 in
-    let same : ran.2 + turns_of_round ran.5 ≡ turns = sym ran.6 in
-    let now = told-turns (hints_in lines) 0 e.answers ran.3 f.answers (first.0 ++ last.0) same all in
-    (first.0 ++ last.0, record { answers = now.answers; next = refl; long = now.long })
+    let same : ran.2 + turns_of_round ran.5 ≡ turns = sym ran.6 in (
+      first.0 ++ last.0,
+      told-turns (hints_in lines) (cursor_at 0) e.answers f.answers (first.0 ++ last.0) same
+          (along-then (hints_in lines) (cursor_at 0) ran.2 (cursor_at (line_of lines ran.2)) (turns_of_round ran.5) _ e.answers ran.0.answers f.answers first.0 last.0 refl first.1 last.1),
+    )
 
 -- so has a phase
 pub done-answered : (e f : EngineView) (p : PhaseLists) (replies : List (List Reply)) (had : HadTurns e p f replies) → length f.answers ≡ hints_before p.turns had.turns
 done-answered e f p replies had =
     let all = had.rounds in
-    let first = rounds-told p.lanes p.turns (with_answers e []) had.room all.0 all.1 all.2 all.3 all.4 in
+    let first = rounds-told p.lanes p.turns (without_turns e) had.room all.0 all.1 all.2 all.3 all.4 in
     let last = last-told all.5 in
-    let both = told-then (hints_in p.turns) 0 all.1 (line_of p.turns all.1) (turns_of_last all.5) all.5.next [] all.2.answers had.last.answers first.0 last.0 first.1 last.1 in
+    let both = along-then (hints_in p.turns) (cursor_at 0) all.1 (cursor_at (line_of p.turns all.1)) (turns_of_last all.5) _ [] all.2.answers had.last.answers first.0 last.0 refl first.1 last.1 in
     let same : all.1 + turns_of_last all.5 ≡ had.turns = sym all.6 in
-    ap (λ (x : EngineView). length x.answers) had.given ∙ ap length both.answers ∙ (told-turns (hints_in p.turns) 0 [] all.5.next had.last.answers (first.0 ++ last.0) same both).long
+    ap (λ (x : EngineView). length x.answers) had.given ∙ ap length both.answers ∙ (told-turns (hints_in p.turns) (cursor_at 0) [] had.last.answers (first.0 ++ last.0) same both).long
 
 pub cut-answered : (e f : EngineView) (p : PhaseLists) (replies : List (List Reply)) (had : HadTurnsToCut e p f replies) → length f.answers ≡ hints_before p.turns had.turns
 cut-answered e f p replies had =
     let all = had.rounds in
-    let first = rounds-told p.lanes p.turns (with_answers e []) had.room all.0 all.1 all.2 all.3 all.4 in
+    let first = rounds-told p.lanes p.turns (without_turns e) had.room all.0 all.1 all.2 all.3 all.4 in
     let last = cut-told all.5 in
-    let both = told-then (hints_in p.turns) 0 all.1 (line_of p.turns all.1) (turns_of_cut all.5) all.5.next [] all.2.answers f.answers first.0 last.0 first.1 last.1 in
+    let both = along-then (hints_in p.turns) (cursor_at 0) all.1 (cursor_at (line_of p.turns all.1)) (turns_of_cut all.5) _ [] all.2.answers f.answers first.0 last.0 refl first.1 last.1 in
     let same : all.1 + turns_of_cut all.5 ≡ had.turns = sym all.6 in
-    ap length both.answers ∙ (told-turns (hints_in p.turns) 0 [] all.5.next f.answers (first.0 ++ last.0) same both).long
+    ap length both.answers ∙ (told-turns (hints_in p.turns) (cursor_at 0) [] f.answers (first.0 ++ last.0) same both).long

@@ -5,6 +5,7 @@ use Rattle.std.proofs.lemmas.Nat.{mul-le}
 use Rattle.std.specs.List.{AllByRecursion}
 use Rattle.bc_bookmarks.specs.Withholding.{Withheld}
 use Rattle.bc_bookmarks.proofs.WithholdingLemmas.{withheld-enough, withheld-same}
+use Rattle.bc_marking.specs.declared.lines.Cursor.{Cursor}
 use Rattle.bc_model.specs.Lists.{PhaseLists, TurnLists}
 use Rattle.bc_model.specs.State.{State}
 use Rattle.bc_model.specs.TurnLines.{budget_at}
@@ -140,7 +141,7 @@ had-unused {unused = unused} {r = r} hints t =
     let first : t.began.heap.space.nursery ≡ unused = withheld-unused unused r.heap.space t.began.heap.space t.withheld in
     (first, turn-unused hints t.turn ∙ first)
 
-collects-unused : {wanted from to : ℕ} {lines : List (List ℕ)} {before after : List Answer} {r q : RunningView} {c d : Counters} → MayCollect wanted lines r from before q to after c d → q.heap.space.nursery ≡ r.heap.space.nursery
+collects-unused : {wanted : ℕ} {from to : Cursor} {lines : List (List ℕ)} {before after : List Answer} {r q : RunningView} {c d : Counters} → MayCollect wanted lines r from before q to after c d → q.heap.space.nursery ≡ r.heap.space.nursery
 collects-unused collects = elim collects.way [
   | inl same ↦ ap (λ (x : RunningView). x.heap.space.nursery) same.0
   | inr collected ↦ collected.1.meaning.sizes.nursery

@@ -3,6 +3,7 @@ use Rattle.std.proofs.Common.{◌≡◌, ℕ, ◌+◌, ◌%◌, ◌^◌, ◌<◌
 use Rattle.std.proofs.lemmas.List.{at_drop_all}
 use Rattle.std.proofs.lemmas.List.Sums.{sum_by-drop_more}
 use Rattle.std.specs.Prelude.{sum_by}
+use Rattle.bc_marking.specs.declared.lines.Cursor.{Cursor}
 use Rattle.bc_pager.specs.declared.answers.Answer.{Answer}
 use Rattle.bc_running.specs.Running.{RunningView}
 use Rattle.bc_engine.specs.Rounds.{MayCollect}
@@ -64,7 +65,7 @@ pub since : (answers : List Answer) {n long : ℕ} {left : ℕ} → left ≡ lef
 since answers left same = left ∙ ap (λ (n : ℕ). left_since n answers) same
 
 -- no page is read between a turn and its minor collection
-pub collect-counted : {n from to : ℕ} {lines : List (List ℕ)} {before after : List Answer} {r q : RunningView} {c d : Counters} → MayCollect n lines r from before q to after c d → IsCounted c r.heap.space.reads → IsCounted d q.heap.space.reads
+pub collect-counted : {n : ℕ} {from to : Cursor} {lines : List (List ℕ)} {before after : List Answer} {r q : RunningView} {c d : Counters} → MayCollect n lines r from before q to after c d → IsCounted c r.heap.space.reads → IsCounted d q.heap.space.reads
 collect-counted {before = before} {after = after} {r = r} {q = q} {c = c} {d = d} collects is = elim collects.way [
   | inl none ↦ subst (λ (x : RunningView). IsCounted d x.heap.space.reads) (sym none.0) (early-counted c d false 0 r.heap.space.reads none.2 is)
   | inr some ↦ subst (IsCounted d) (sym some.1.reads) (early-counted c d true (left_since (length before) after) r.heap.space.reads some.2 is)

@@ -5,6 +5,7 @@ use Rattle.std.proofs.lemmas.List.{append-nil, length-map}
 use Rattle.bc_cycle.specs.Collecting.{CollectsBeside}
 use Rattle.bc_cycle.specs.Emptying.{outline_nursery, IsEmptied, KeepsMeaning}
 use Rattle.bc_cycle.proofs.ChunkLists.{chunk-emptied}
+use Rattle.bc_marking.specs.declared.lines.Cursor.{Cursor}
 use Rattle.bc_whole_heap.specs.Closed.{buffer_of, no_buffer}
 use Rattle.bc_whole_heap.specs.LaneChunks.{chunk_of}
 use Rattle.bc_whole_heap.specs.Heaps.{no_chunk, HeapView}
@@ -140,7 +141,7 @@ ready-refused setup {r} {q} held same is sound ready =
     through r q (CanRunLanes setup) held same (ready-kept setup is (subst (IsRunning q.heap) held sound.running) ready)
 
 -- what came between a turn and its minor collection, as the call answers it
-pub may-collect : {few n from to : ℕ} {lines : List (List ℕ)} {before after : List Answer} {r q : RunningView} {c d : Counters} (early : Bool) → few ≤ n
+pub may-collect : {few n : ℕ} {from to : Cursor} {lines : List (List ℕ)} {before after : List Answer} {r q : RunningView} {c d : Counters} (early : Bool) → few ≤ n
     → (early ≡ true → (r.heap.space.free < few) × CollectsBeside lines r.heap from before q.heap to after)
     → (early ≡ false → (q ≡ r) × (to ≡ from) × (after ≡ before)) → CountsEarly c early (left_since (length before) after) d → SameLanes r q → IsSound q
     → MayCollect n lines r from before q to after c d
@@ -160,7 +161,7 @@ may-collect {before = before} false le collected same counts lanes sound =
     }
 
 -- what lanes can run on, and what it stands for, stays where a bookmark collection may have come
-pub runs-collected : (lanes : List (List Op)) {n from to : ℕ} {lines : List (List ℕ)} {before after : List Answer} {r q : RunningView} {c d : Counters} (told : List (Vec Reply Global)) → MayCollect n lines r from before q to after c d → LanesRan lanes r told q told
+pub runs-collected : (lanes : List (List Op)) {n : ℕ} {from to : Cursor} {lines : List (List ℕ)} {before after : List Answer} {r q : RunningView} {c d : Counters} (told : List (Vec Reply Global)) → MayCollect n lines r from before q to after c d → LanesRan lanes r told q told
 runs-collected lanes {r = r} {q = q} told collects = elim collects.way [
   | inl same ↦ runs-same lanes r q told same.0
   | inr collected ↦
@@ -169,16 +170,16 @@ runs-collected lanes {r = r} {q = q} told collects = elim collects.way [
       (λ setup ready. ready-refused setup collects.lanes.0 collects.lanes.1 collected.1.meaning collects.sound ready)
 ]
 
-slots-collected : {n from to : ℕ} {lines : List (List ℕ)} {before after : List Answer} {r q : RunningView} {c d : Counters} → MayCollect n lines r from before q to after c d → q.heap.roots.slots ≡ r.heap.roots.slots
+slots-collected : {n : ℕ} {from to : Cursor} {lines : List (List ℕ)} {before after : List Answer} {r q : RunningView} {c d : Counters} → MayCollect n lines r from before q to after c d → q.heap.roots.slots ≡ r.heap.roots.slots
 slots-collected collects = elim collects.way [
   | inl same ↦ ap (λ (x : RunningView). x.heap.roots.slots) same.0
   | inr collected ↦ ap (λ (x : RootWords). x.slots) collected.1.meaning.sizes.roots
 ]
 
 -- lanes can run on when it came and the nurseries were emptied
-pub runs-minor : (lanes : List (List Op)) {n from to : ℕ} {lines : List (List ℕ)} {before after : List Answer} {r q : RunningView} {c d : Counters} (told : List (Vec Reply Global)) → CollectsAnd EmptiesNurseries n lines r from before q to after c d → LanesRan lanes r told q told
+pub runs-minor : (lanes : List (List Op)) {n : ℕ} {from to : Cursor} {lines : List (List ℕ)} {before after : List Answer} {r q : RunningView} {c d : Counters} (told : List (Vec Reply Global)) → CollectsAnd EmptiesNurseries n lines r from before q to after c d → LanesRan lanes r told q told
 runs-minor lanes told minor =
     runs-then (runs-collected lanes told minor.collects) (runs-emptied lanes told minor.next.lanes.0 minor.next.lanes.1 minor.next.emptied)
 
-pub slots-minor : {n from to : ℕ} {lines : List (List ℕ)} {before after : List Answer} {r q : RunningView} {c d : Counters} → CollectsAnd EmptiesNurseries n lines r from before q to after c d → q.heap.roots.slots ≡ r.heap.roots.slots
+pub slots-minor : {n : ℕ} {from to : Cursor} {lines : List (List ℕ)} {before after : List Answer} {r q : RunningView} {c d : Counters} → CollectsAnd EmptiesNurseries n lines r from before q to after c d → q.heap.roots.slots ≡ r.heap.roots.slots
 slots-minor minor = slots-emptied minor.next.emptied ∙ slots-collected minor.collects

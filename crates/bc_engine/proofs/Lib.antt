@@ -38,5 +38,9 @@ pub mod PhaseLemmas
 pub mod Births
 -- There is an answer to each notice.
 pub mod AnswerLemmas
+-- The items that an engine lists are the turns of a phase.
+pub mod OpenedLemmas
+-- How many operations the lanes of a phase have.
+pub mod OperationLemmas
 -- Counts that go on as the heap's do add up to it.
 pub mod CountLemmas

@@ -1,8 +1,9 @@
 -- A phase: what its rounds and changes of holders do to the states that the engine stands for.
-use Rattle.std.proofs.Common.{Vec, Global, vec_capacity, ◌≡◌, ℕ, ◌+◌, ◌<◌, ◌≤◌, List, [], ◌∷◌, ◌++◌, length, take, map, get_or, None, Result, Ok, Err, refl, sym, ap, subst, ◌∙◌, inl, inr, arith}
+use Rattle.std.proofs.Common.{Vec, Global, vec_capacity, ◌≡◌, ℕ, ◌+◌, ◌<◌, ◌≤◌, List, [], ◌∷◌, ◌++◌, length, take, map, sum_by, get_or, None, Result, Ok, Err, refl, sym, ap, subst, ◌∙◌, inl, inr, arith}
 use Prim.Native.Nat.{zero, suc}
 use Rattle.std.proofs.lemmas.Bool.{cases_lt}
 use Rattle.std.proofs.lemmas.List.{get_or_append_left, get_or_push, length-map, length_push}
+use Rattle.std.proofs.lemmas.List.Sums.{sum_by-cons}
 use Rattle.std.specs.List.{AllByRecursion}
 use Rattle.bc_whole_heap.specs.LaneChunks.{chunk_of}
 use Rattle.bc_whole_heap.specs.Heaps.{heap_memory, object_in, root_words}
@@ -27,8 +28,11 @@ use Rattle.bc_word.specs.declared.words.Word.{Word}
 use Rattle.bc_engine.specs.Answers.{IfPhaseOutOfHeap}
 use Rattle.bc_engine.specs.Engines.{EngineView, EngineStands, HasEmptyChunks}
 use Rattle.bc_engine.specs.EngineFacts.{with_answers, with_holders, CanRunLanes, HasRoomForBirths, IsEngine}
-use Rattle.bc_engine.specs.Lanes.{of_lane, AreDone, BirthsWithin, LanesWentOn, HasSerialsLeft, HasRoomForOps}
+use Rattle.bc_engine.specs.Inside.{with_log}
+use Rattle.bc_engine.specs.Lanes.{of_lane, AreDone, BirthsWithin, LanesWentOn, HasSerialsLeft, HasRoomForOps, left}
 use Rattle.bc_engine.specs.Phases.{CutPhase, DidPhase}
+use Rattle.bc_engine.specs.declared.opened.Opened.{Opened}
+use Rattle.bc_engine.specs.declared.opened.TurnLog.{TurnLog}
 use Rattle.bc_engine.specs.declared.phases.PhaseError.{PhaseError}
 use Rattle.bc_engine.specs.declared.phases.PhaseError.TheVariants.{OutOfHeap, NoMemory}
 use Rattle.bc_engine.specs.Rounds.{RoundsWentOn, IsRoomFor, IsThrough, IsTooSmall, IsUnderwayOn}
@@ -197,12 +201,12 @@ births-lent e f p os us ws lanes births j =
     omega (arith, births j, ap (λ (ls : List (List Op)). length (of_lane ls j)) lanes)
 
 -- with the list of answers taken out before, and put back after
-pub did-answers : {e x f y : EngineView} {p : PhaseLists} {replies : List (List Reply)} (asked answers : List Answer) → x ≡ with_answers e asked → f ≡ with_answers y answers → DidPhase x p y replies → DidPhase e p f replies
+pub did-answers : {e x f y : EngineView} {p : PhaseLists} {replies : List (List Reply)} (asked : List Answer) (answers : TurnLog) → x ≡ with_answers e asked → f ≡ with_log y answers → DidPhase x p y replies → DidPhase e p f replies
 did-answers {e} {x} {f} {y} {p} {replies} asked answers taken kept did =
     let did = subst (λ (z : EngineView). DidPhase z p y replies) taken did in
     subst (λ (z : EngineView). DidPhase e p z replies) (sym kept) (record { going = did.going; empty = did.empty; stands = did.stands; need = did.need })
 
-pub cut-answers : {e x f y : EngineView} {p : PhaseLists} (asked answers : List Answer) → x ≡ with_answers e asked → f ≡ with_answers y answers → (replies : List (List Reply)) (need : ℕ) → CutPhase x p y replies need → CutPhase e p f replies need
+pub cut-answers : {e x f y : EngineView} {p : PhaseLists} (asked : List Answer) (answers : TurnLog) → x ≡ with_answers e asked → f ≡ with_log y answers → (replies : List (List Reply)) (need : ℕ) → CutPhase x p y replies need → CutPhase e p f replies need
 cut-answers {e} {x} {f} {y} {p} asked answers taken kept replies need cut =
     let cut = subst (λ (z : EngineView). CutPhase z p y replies need) taken cut in
     subst (λ (z : EngineView). CutPhase e p z replies need) (sym kept) (record { cause = cut.cause; stands = cut.stands; above = cut.above })
@@ -212,3 +216,17 @@ pub ended-weaker : {T : Type 0} (x : Result T PhaseError) (P Q : List (List Repl
 ended-weaker (Ok y) P Q f told = tt
 ended-weaker (Err (OutOfHeap replies need)) P Q f told = f replies need told
 ended-weaker (Err NoMemory) P Q f told = tt
+
+-- before anything is done all operations of the phase are to come
+left-none : (lanes : List (List Op)) (told : List (List Reply)) → ((j : ℕ) → of_lane told j ≡ []) → left lanes told ≡ sum_by length lanes
+left-none [] told none = refl
+left-none (ops ∷ lanes) [] none =
+    ap (λ (n : ℕ). length ops + n) (left-none lanes [] (λ j. refl)) ∙ sym (sum_by-cons length ops lanes)
+left-none (ops ∷ lanes) (rs ∷ told) none =
+    omega (arith, ap length (none 0), left-none lanes told (λ j. none (suc j)), sum_by-cons length ops lanes)
+
+-- so there is room to note all turns
+pub turns-lent : (p : PhaseLists) (os : List (List Op)) (us vs : List (Vec Reply Global)) (room : ℕ) (opened : List Opened) → IsRoomFor p.lanes vs → os ≡ p.lanes → us ≡ vs → opened ≡ [] → sum_by length p.lanes + 1 ≤ room → length opened + left os (lists_of us) + 1 ≤ room
+turns-lent p os us vs room opened begun lanes lent none wide =
+    let all : left p.lanes (lists_of vs) ≡ sum_by length p.lanes = left-none p.lanes (lists_of vs) (none-yet p.lanes vs begun) in
+    omega (arith, all, wide, ap length none, ap (λ (ls : List (List Op)). left ls (lists_of us)) lanes, ap (λ (xs : List (Vec Reply Global)). left p.lanes (lists_of xs)) lent)

@@ -1,11 +1,13 @@
 -- A round: the lanes run, the nurseries are emptied, and the lanes that aren't at their ends do one operation more.
-use Rattle.std.proofs.Common.{Vec, Global, ◌≡◌, ◌≢◌, ℕ, ◌+◌, ◌-◌, ◌*◌, ◌<◌, ◌≤◌, List, length, Option, Some, None, Err, refl, sym, ap, subst, ◌∙◌, arith}
+use Rattle.std.proofs.Common.{Vec, Global, vec_capacity, ◌≡◌, ◌≢◌, ℕ, ◌+◌, ◌-◌, ◌*◌, ◌<◌, ◌≤◌, List, [], ◌∷◌, ◌++◌, length, Option, Some, None, Err, refl, sym, ap, subst, ◌∙◌, arith}
+use Rattle.std.proofs.lemmas.List.{length_push}
 use Rattle.bc_cycle.specs.Causes.{IfOutOfHeap}
 use Rattle.bc_cycle.specs.Emptying.{KeepsMeaning}
 use Rattle.bc_cycle.specs.declared.emptying.CycleError.{CycleError}
 use Rattle.bc_cycle.specs.declared.emptying.CycleError.TheVariants as cycle
 use Rattle.bc_failsafe.specs.Packing.{NeedOfHeap}
 use Rattle.bc_marking.specs.Lines.{line_behind}
+use Rattle.bc_marking.specs.declared.lines.Cursor.{Cursor}
 use Rattle.bc_model.specs.Lists.{TurnLists}
 use Rattle.bc_model.specs.Rows.{lists_of}
 use Rattle.bc_model.specs.TurnLines.{budget_at, hints_in}
@@ -16,15 +18,16 @@ use Rattle.bc_pager.specs.declared.answers.Answer.{Answer}
 use Rattle.bc_superpages.specs.Layout.{superpages}
 use Rattle.bc_engine.specs.Answers.{IfNoRoom, IfTooSmall}
 use Rattle.bc_engine.specs.Budgets.{wanted_behind}
-use Rattle.bc_engine.specs.EngineFacts.{with_answers}
 use Rattle.bc_engine.specs.Engines.{EngineView}
-use Rattle.bc_engine.specs.Inside.{engine_of, played}
+use Rattle.bc_engine.specs.Inside.{engine_of, played, with_log}
 use Rattle.bc_engine.specs.Lanes.{of_lane, EachFurther, HasMore, IsUnderway, LanesRan, left}
 use Rattle.bc_engine.specs.Rounds.{CollectsAnd, HadTurn, SameLanes, IsTooSmall, IsUnderwayOn}
 use Rattle.bc_engine.specs.declared.counters.Counters.{Counters}
 use Rattle.bc_engine.specs.declared.engines.Ended.{Ended}
 use Rattle.bc_engine.specs.declared.engines.Engine.TheInside.{Inside}
 use Rattle.bc_engine.specs.declared.engines.Ended.TheVariants.{OutOfHeap, NoMemory}
+use Rattle.bc_engine.specs.declared.opened.Opened.{Opened}
+use Rattle.bc_engine.specs.declared.opened.TurnLog.{TurnLog}
 use Rattle.bc_engine.specs.declared.rounds.RoundsError.{RoundsError}
 use Rattle.bc_engine.specs.declared.rounds.RoundsError.TheVariants.{TooSmall, NoRoom}
 use Rattle.bc_engine.proofs.EmptyingLemmas.{goes-refused}
@@ -106,25 +109,36 @@ wanted-is s t lines line from now more same at withheld is =
     (is ∙ ap (λ (n : ℕ). budget_at lines from - n) withheld ∙ ap (λ (n : ℕ). budget_at lines n - budget_at lines line) at)
 
 -- what came then, from the line behind it
-pub minor-from : {Then : List (List ℕ) → RunningView → ℕ → List Answer → RunningView → ℕ → List Answer → Counters → Counters → Type 0} {few wanted : ℕ} {lines : List (List ℕ)} {r q : RunningView} {from line to : ℕ} {before after : List Answer} {c d : Counters} → few ≡ wanted → from ≡ line → CollectsAnd Then few lines r from before q to after c d → CollectsAnd Then wanted lines r line before q to after c d
+pub minor-from : {Then : List (List ℕ) → RunningView → Cursor → List Answer → RunningView → Cursor → List Answer → Counters → Counters → Type 0} {few wanted : ℕ} {lines : List (List ℕ)} {r q : RunningView} {from line to : Cursor} {before after : List Answer} {c d : Counters} → few ≡ wanted → from ≡ line → CollectsAnd Then few lines r from before q to after c d → CollectsAnd Then wanted lines r line before q to after c d
 minor-from {Then} {few} {wanted} {lines} {r} {q} {from} {line} {to} {before} {after} {c} {d} same at minor =
     subst (λ (x : ℕ). CollectsAnd Then x lines r line before q to after c d) same
-    (subst (λ (n : ℕ). CollectsAnd Then few lines r n before q to after c d) at minor)
+    (subst (λ (n : Cursor). CollectsAnd Then few lines r n before q to after c d) at minor)
 
 -- the engine that plays, as contracts see it, where it hasn't ended
-pub played-at : (i : Inside) (answers : List Answer) → i.ended ≡ None → played i.player answers ≡ with_answers (engine_of i) answers
-played-at i answers going =
-    ap (λ (x : Option Ended). record { running = i.player.running; setup = i.player.setup; workers = i.player.workers; ended = x; answers = answers; counters = i.player.counters }) (sym going)
+pub played-at : (i : Inside) (log : TurnLog) → i.ended ≡ None → played i.player log ≡ with_log (engine_of i) log
+played-at i log going =
+    ap (λ (x : Option Ended). record { running = i.player.running; setup = i.player.setup; workers = i.player.workers; ended = x; answers = log.answers.items; opened = log.opened.items; counters = i.player.counters }) (sym going)
 
 -- engines that are alike in each part
-alike : (r : RunningView) (s t : Setup) (v w : ℕ) (x y : Option Ended) (answers : List Answer) (c : Counters) → s ≡ t → v ≡ w → x ≡ y
-    → let e : EngineView = record { running = r; setup = s; workers = v; ended = x; answers = answers; counters = c } in
-    let f : EngineView = record { running = r; setup = t; workers = w; ended = y; answers = answers; counters = c } in e ≡ f
-alike r s t v w x y answers c setup workers ended = cc
+alike : (r : RunningView) (s t : Setup) (v w : ℕ) (x y : Option Ended) (answers : List Answer) (opened : List Opened) (c : Counters) → s ≡ t → v ≡ w → x ≡ y
+    → let e : EngineView = record { running = r; setup = s; workers = v; ended = x; answers = answers; opened = opened; counters = c } in
+    let f : EngineView = record { running = r; setup = t; workers = w; ended = y; answers = answers; opened = opened; counters = c } in e ≡ f
+alike r s t v w x y answers opened c setup workers ended = cc
 
 -- an engine of which only the heap, the answers and the counts are others, or besides how it ended
-pub rest-of : (e f : EngineView) → f.setup ≡ e.setup → f.workers ≡ e.workers → f.ended ≡ e.ended → f ≡ record e { running = f.running; answers = f.answers; counters = f.counters }
-rest-of e f setup workers ended = alike f.running f.setup e.setup f.workers e.workers f.ended e.ended f.answers f.counters setup workers ended
+pub rest-of : (e f : EngineView) → f.setup ≡ e.setup → f.workers ≡ e.workers → f.ended ≡ e.ended → f ≡ record e { running = f.running; answers = f.answers; opened = f.opened; counters = f.counters }
+rest-of e f setup workers ended = alike f.running f.setup e.setup f.workers e.workers f.ended e.ended f.answers f.opened f.counters setup workers ended
 
-pub left-from : (e f : EngineView) → f.setup ≡ e.setup → f.workers ≡ e.workers → f ≡ record e { running = f.running; ended = f.ended; answers = f.answers; counters = f.counters }
-left-from e f setup workers = alike f.running f.setup e.setup f.workers e.workers f.ended f.ended f.answers f.counters setup workers refl
+pub left-from : (e f : EngineView) → f.setup ≡ e.setup → f.workers ≡ e.workers → f ≡ record e { running = f.running; ended = f.ended; answers = f.answers; opened = f.opened; counters = f.counters }
+left-from e f setup workers = alike f.running f.setup e.setup f.workers e.workers f.ended f.ended f.answers f.opened f.counters setup workers refl
+
+-- the item of a turn says what its line does
+pub noted-as : (lines : List TurnLists) (line marks : ℕ) (before : List Opened) {withheld : ℕ} {after : List Opened} → after ≡ before ++ record { withheld = withheld; marks = marks } ∷ [] → withheld ≡ budget_at lines line → after ≡ before ++ record { withheld = budget_at lines line; marks = marks } ∷ []
+noted-as lines line marks before noted same =
+    noted ∙ ap (λ (n : ℕ). before ++ record { withheld = n; marks = marks } ∷ []) same
+
+-- where operations were done there is room for one item more
+pub room-left : (lanes : List (List Op)) (told replies : List (Vec Reply Global)) (opened noted : Vec Opened Global) (item : Opened) → length opened.items + left lanes (lists_of told) + 1 ≤ vec_capacity opened → left lanes (lists_of replies) < left lanes (lists_of told)
+    → noted.items ≡ opened.items ++ item ∷ [] → vec_capacity noted ≡ vec_capacity opened → length noted.items + left lanes (lists_of replies) + 1 ≤ vec_capacity noted
+room-left lanes told replies opened noted item room fewer more same =
+    omega (arith, room, fewer, same, ap length more, length_push opened.items item)

@@ -5,8 +5,11 @@ use Rattle.std.proofs.Math.Nat.{mod-eq_of_lt, mod-lt, mod_self, suc-mod, zero-mo
 use Rattle.std.proofs.lemmas.Bool.{cases_lt}
 use Rattle.std.proofs.lemmas.List.{at_drop_all, drop_more, get_or-map, length-map}
 use Rattle.bc_engine.specs.Engines.{EngineView}
-use Rattle.bc_engine.specs.EngineFacts.{with_answers, with_holders}
+use Rattle.bc_engine.specs.EngineFacts.{with_answers, with_holders, with_turns, without_turns}
+use Rattle.bc_engine.specs.Inside.{with_log}
 use Rattle.bc_engine.specs.declared.engines.Ended.TheVariants.{NoMemory}
+use Rattle.bc_engine.specs.declared.opened.Opened.{Opened}
+use Rattle.bc_engine.specs.declared.opened.TurnLog.{TurnLog}
 use Rattle.bc_engine.specs.PhaseTurns.{HadTurns, HadTurnsToCut, HadTurnsToWant, HasNoHints}
 use Rattle.bc_engine.specs.declared.counters.Counters.{Counters}
 use Rattle.bc_engine.specs.Rounds.{CutRound, HadTurn, HasNoRoomFor, IsRoomFor, LastRound, RanAll, RanRound, RanRounds, RanToCut, RanToWant, longest_of, turns_of_cut, turns_of_last, turns_of_round}
@@ -19,6 +22,7 @@ use Rattle.bc_model.specs.declared.operations.Reply.{Reply}
 use Rattle.bc_model.specs.declared.values.Holder.{Holder}
 use Rattle.bc_marking.proofs.LineLemmas.{along-more}
 use Rattle.bc_marking.specs.Lines.{hints_at, line_along, line_behind}
+use Rattle.bc_marking.specs.declared.lines.Cursor.{Cursor}
 use Rattle.bc_pager.specs.Alone.{AnsweredAlone}
 use Rattle.bc_pager.specs.declared.answers.Answer.{Answer}
 use Rattle.bc_running.specs.Running.{RunningView}
@@ -29,6 +33,7 @@ use Rattle.bc_turn.specs.Looked.{HadInTurn, IsLookedAtInTurn}
 use Rattle.bc_turn.specs.Taking.{IsRoomKept}
 use Rattle.bc_turn.specs.declared.rooms.TurnRoom.{TurnRoom}
 use Rattle.bc_turn.proofs.RoomLemmas.{room-kept}
+use Rattle.bc_engine.proofs.AnswerLemmas.{round-marks}
 use Rattle.bc_engine.specs.Attempts.{EachAlone, RanByAttempts, StoppedAlone}
 use Rattle.bc_engine.specs.Lanes.{of_lane, EachStopped, LanesRan, LeavesCells, StopsInTurn}
 use Rattle.bc_engine.specs.Turns.{RanTurn, hints_of, line_of}
@@ -141,11 +146,9 @@ turns-begun lanes lines e told = record { count = 0; used = 0; rounds = (refl, r
 -- the line after those of a round
 round-line : {lanes : List (List Op)} {lines : List TurnLists} {f g : EngineView} {mid replies : List (Vec Reply Global)} (used : ℕ) {next : ℕ} (r : RanRound lanes lines f mid (line_of lines used) g replies next) → next ≡ line_of lines (used + turns_of_round r)
 round-line {lines = lines} used {next} r =
-    let c = r.empties.collects in
-    let b = r.empties.next.beside in
-    let mid : r.empties.mid ≡ line_along (hints_in lines) 0 (suc used + c.turns) = c.uses.next ∙ sym (along-more (hints_in lines) 0 (suc used) c.turns) in
-    let count : suc used + c.turns + b.turns ≡ used + suc (c.turns + b.turns) = omega arith in
-    b.uses.next ∙ ap (λ (n : ℕ). line_along (hints_in lines) n b.turns) mid ∙ sym (along-more (hints_in lines) 0 (suc used + c.turns) b.turns) ∙ ap (line_along (hints_in lines) 0) count
+    let marks : ℕ = r.empties.collects.turns + r.empties.next.beside.turns in
+    let count : suc used + marks ≡ used + suc marks = omega arith in
+    ap (λ (x : Cursor). x.line) (round-marks r).1.next ∙ sym (along-more (hints_in lines) 0 (suc used) marks) ∙ ap (line_along (hints_in lines) 0) count
 
 -- one round more
 pub turns-more : {lanes : List (List Op)} {lines : List TurnLists} {e f : EngineView} {told mid : List (Vec Reply Global)} {next : ℕ} (g : EngineView) (replies : List (Vec Reply Global)) (behind_it : ℕ) → IsAtTurn lanes lines e told f mid next → RanRound lanes lines f mid next g replies behind_it → IsAtTurn lanes lines e told g replies behind_it
@@ -177,11 +180,16 @@ turns-want {lanes} {lines} {e} {f} {told} {mid} {next} g replies kept at same ba
   subst (λ (n : ℕ). HasNoRoomFor kept (length (hints_at (hints_in lines) n) + 2 * longest_of (hints_in lines))) at.line wants,
 )
 
+-- nothing was noted before
+begun-lent : (e : EngineView) (asked : TurnLog) (P : EngineView → Type 0) → (asked.answers.items ≡ []) × (asked.opened.items ≡ []) → P (with_log e asked) → P (without_turns e)
+begun-lent e asked P none p =
+    subst (λ (x : List Answer). P (with_turns e x [])) none.0 (subst (λ (x : List Opened). P (with_turns e asked.answers.items x)) none.1 p)
+
 -- the phase as the code has it: `os` and `ls` are its operations and lines as they were lent to the rounds, `us` the lists for replies, `asked`
--- and `answers` those to notices
-pub had-lent : (e f g : EngineView) (p : PhaseLists) (asked answers : List Answer) (os : List (List Op)) (ls : List TurnLists) (us vs ws xs : List (Vec Reply Global)) → asked ≡ [] → IsRoomFor p.lanes vs → os ≡ p.lanes → ls ≡ p.turns → us ≡ vs → xs ≡ ws → (all : (turns : ℕ) × RanAll os ls (with_answers e asked) us turns (with_answers f answers) ws) → g ≡ with_holders f g.running.holders → HadTurns e p (with_answers g answers) (lists_of xs)
+-- and `answers` the logs
+pub had-lent : (e f g : EngineView) (p : PhaseLists) (asked answers : TurnLog) (os : List (List Op)) (ls : List TurnLists) (us vs ws xs : List (Vec Reply Global)) → (asked.answers.items ≡ []) × (asked.opened.items ≡ []) → IsRoomFor p.lanes vs → os ≡ p.lanes → ls ≡ p.turns → us ≡ vs → xs ≡ ws → (all : (turns : ℕ) × RanAll os ls (with_log e asked) us turns (with_log f answers) ws) → g ≡ with_holders f g.running.holders → HadTurns e p (with_log g answers) (lists_of xs)
 had-lent e f g p asked answers os ls us vs ws xs none room lanes lines lent back all given =
-    let last = with_answers f answers in
+    let last = with_log f answers in
     record {
       room = vs;
       begun = room;
@@ -189,30 +197,30 @@ had-lent e f g p asked answers os ls us vs ws xs none room lanes lines lent back
       told = ws;
       turns = all.0;
       rounds =
-          subst (λ (x : List Answer). RanAll p.lanes p.turns (with_answers e x) vs all.0 last ws) none
-          (subst (λ (x : List (List Op)). RanAll x p.turns (with_answers e asked) vs all.0 last ws) lanes
-          (subst (λ (x : List TurnLists). RanAll os x (with_answers e asked) vs all.0 last ws) lines (subst (λ (x : List (Vec Reply Global)). RanAll os ls (with_answers e asked) x all.0 last ws) lent all.1)));
-      given = ap (λ (x : EngineView). with_answers x answers) given;
+          begun-lent e asked (λ (x : EngineView). RanAll p.lanes p.turns x vs all.0 last ws) none
+          (subst (λ (x : List (List Op)). RanAll x p.turns (with_log e asked) vs all.0 last ws) lanes
+          (subst (λ (x : List TurnLists). RanAll os x (with_log e asked) vs all.0 last ws) lines (subst (λ (x : List (Vec Reply Global)). RanAll os ls (with_log e asked) x all.0 last ws) lent all.1)));
+      given = ap (λ (x : EngineView). with_log x answers) given;
       replied = ap lists_of back;
     }
 
-pub cut-turns-lent : (e f : EngineView) (p : PhaseLists) (asked answers : List Answer) (os : List (List Op)) (ls : List TurnLists) (us vs ws xs : List (Vec Reply Global)) → asked ≡ [] → IsRoomFor p.lanes vs → os ≡ p.lanes → ls ≡ p.turns → us ≡ vs → xs ≡ ws → (all : (turns : ℕ) × RanToCut os ls (with_answers e asked) us turns (with_answers f answers) ws) → HadTurnsToCut e p (with_answers f answers) (lists_of xs)
+pub cut-turns-lent : (e f : EngineView) (p : PhaseLists) (asked answers : TurnLog) (os : List (List Op)) (ls : List TurnLists) (us vs ws xs : List (Vec Reply Global)) → (asked.answers.items ≡ []) × (asked.opened.items ≡ []) → IsRoomFor p.lanes vs → os ≡ p.lanes → ls ≡ p.turns → us ≡ vs → xs ≡ ws → (all : (turns : ℕ) × RanToCut os ls (with_log e asked) us turns (with_log f answers) ws) → HadTurnsToCut e p (with_log f answers) (lists_of xs)
 cut-turns-lent e f p asked answers os ls us vs ws xs none room lanes lines lent back all =
-    let last = with_answers f answers in
+    let last = with_log f answers in
     record {
       room = vs;
       begun = room;
       told = ws;
       turns = all.0;
       rounds =
-          subst (λ (x : List Answer). RanToCut p.lanes p.turns (with_answers e x) vs all.0 last ws) none
-          (subst (λ (x : List (List Op)). RanToCut x p.turns (with_answers e asked) vs all.0 last ws) lanes
-          (subst (λ (x : List TurnLists). RanToCut os x (with_answers e asked) vs all.0 last ws) lines (subst (λ (x : List (Vec Reply Global)). RanToCut os ls (with_answers e asked) x all.0 last ws) lent all.1)));
+          begun-lent e asked (λ (x : EngineView). RanToCut p.lanes p.turns x vs all.0 last ws) none
+          (subst (λ (x : List (List Op)). RanToCut x p.turns (with_log e asked) vs all.0 last ws) lanes
+          (subst (λ (x : List TurnLists). RanToCut os x (with_log e asked) vs all.0 last ws) lines (subst (λ (x : List (Vec Reply Global)). RanToCut os ls (with_log e asked) x all.0 last ws) lent all.1)));
       replied = ap lists_of back;
     }
 
-pub want-lent : (e g : EngineView) (p : PhaseLists) (asked : List Answer) (kept : Vec Answer Global) (os : List (List Op)) (ls : List TurnLists) (us vs ws : List (Vec Reply Global)) → asked ≡ [] → IsRoomFor p.lanes vs → os ≡ p.lanes → ls ≡ p.turns → us ≡ vs
-    → (wants : (last : EngineView) × RanToWant os ls (with_answers e asked) us last ws kept × (with_answers g kept.items ≡ record last { ended = Some NoMemory })) → HadTurnsToWant e p (with_answers g kept.items)
+pub want-lent : (e g : EngineView) (p : PhaseLists) (asked kept : TurnLog) (os : List (List Op)) (ls : List TurnLists) (us vs ws : List (Vec Reply Global)) → (asked.answers.items ≡ []) × (asked.opened.items ≡ []) → IsRoomFor p.lanes vs → os ≡ p.lanes → ls ≡ p.turns → us ≡ vs
+    → (wants : (last : EngineView) × RanToWant os ls (with_log e asked) us last ws kept.answers × (with_log g kept ≡ record last { ended = Some NoMemory })) → HadTurnsToWant e p (with_log g kept)
 want-lent e g p asked kept os ls us vs ws none room lanes lines lent wants =
     let last = wants.0 in
     record {
@@ -220,17 +228,17 @@ want-lent e g p asked kept os ls us vs ws none room lanes lines lent wants =
       begun = room;
       last = last;
       told = ws;
-      kept = kept;
+      kept = kept.answers;
       answers = refl;
       rounds =
-          subst (λ (x : List Answer). RanToWant p.lanes p.turns (with_answers e x) vs last ws kept) none
-          (subst (λ (x : List (List Op)). RanToWant x p.turns (with_answers e asked) vs last ws kept) lanes
-          (subst (λ (x : List TurnLists). RanToWant os x (with_answers e asked) vs last ws kept) lines (subst (λ (x : List (Vec Reply Global)). RanToWant os ls (with_answers e asked) x last ws kept) lent wants.1)));
+          begun-lent e asked (λ (x : EngineView). RanToWant p.lanes p.turns x vs last ws kept.answers) none
+          (subst (λ (x : List (List Op)). RanToWant x p.turns (with_log e asked) vs last ws kept.answers) lanes
+          (subst (λ (x : List TurnLists). RanToWant os x (with_log e asked) vs last ws kept.answers) lines (subst (λ (x : List (Vec Reply Global)). RanToWant os ls (with_log e asked) x last ws kept.answers) lent wants.1)));
       wants = wants.2;
     }
 
 -- with the list of answers taken out before, and put back after
-pub had-answers : {e x f : EngineView} (y : EngineView) {p : PhaseLists} {replies : List (List Reply)} (asked answers : List Answer) → x ≡ with_answers e asked → f ≡ with_answers y answers → HadTurns x p (with_answers y answers) replies → HadTurns e p f replies
+pub had-answers : {e x f : EngineView} (y : EngineView) {p : PhaseLists} {replies : List (List Reply)} (asked : List Answer) (answers : TurnLog) → x ≡ with_answers e asked → f ≡ with_log y answers → HadTurns x p (with_log y answers) replies → HadTurns e p f replies
 had-answers {e} {x} {f} y {p} {replies} asked answers taken kept had =
     subst (λ (z : EngineView). HadTurns e p z replies) (sym kept) (record {
       room = had.room;
@@ -238,23 +246,23 @@ had-answers {e} {x} {f} y {p} {replies} asked answers taken kept had =
       last = had.last;
       told = had.told;
       turns = had.turns;
-      rounds = subst (λ (z : EngineView). RanAll p.lanes p.turns (with_answers z []) had.room had.turns had.last had.told) taken had.rounds;
+      rounds = subst (λ (z : EngineView). RanAll p.lanes p.turns (without_turns z) had.room had.turns had.last had.told) taken had.rounds;
       given = had.given;
       replied = had.replied;
     })
 
-pub cut-turns-answers : {e x f : EngineView} (y : EngineView) {p : PhaseLists} {replies : List (List Reply)} (asked answers : List Answer) → x ≡ with_answers e asked → f ≡ with_answers y answers → HadTurnsToCut x p (with_answers y answers) replies → HadTurnsToCut e p f replies
+pub cut-turns-answers : {e x f : EngineView} (y : EngineView) {p : PhaseLists} {replies : List (List Reply)} (asked : List Answer) (answers : TurnLog) → x ≡ with_answers e asked → f ≡ with_log y answers → HadTurnsToCut x p (with_log y answers) replies → HadTurnsToCut e p f replies
 cut-turns-answers {e} {x} {f} y {p} {replies} asked answers taken kept had =
     subst (λ (z : EngineView). HadTurnsToCut e p z replies) (sym kept) (record {
       room = had.room;
       begun = had.begun;
       told = had.told;
       turns = had.turns;
-      rounds = subst (λ (z : EngineView). RanToCut p.lanes p.turns (with_answers z []) had.room had.turns (with_answers y answers) had.told) taken had.rounds;
+      rounds = subst (λ (z : EngineView). RanToCut p.lanes p.turns (without_turns z) had.room had.turns (with_log y answers) had.told) taken had.rounds;
       replied = had.replied;
     })
 
-pub want-answers : {e x f : EngineView} (y : EngineView) {p : PhaseLists} (asked answers : List Answer) → x ≡ with_answers e asked → f ≡ with_answers y answers → HadTurnsToWant x p (with_answers y answers) → HadTurnsToWant e p f
+pub want-answers : {e x f : EngineView} (y : EngineView) {p : PhaseLists} (asked : List Answer) (answers : TurnLog) → x ≡ with_answers e asked → f ≡ with_log y answers → HadTurnsToWant x p (with_log y answers) → HadTurnsToWant e p f
 want-answers {e} {x} {f} y {p} asked answers taken kept had =
     subst (λ (z : EngineView). HadTurnsToWant e p z) (sym kept) (record {
       room = had.room;
@@ -263,7 +271,7 @@ want-answers {e} {x} {f} y {p} asked answers taken kept had =
       told = had.told;
       kept = had.kept;
       answers = had.answers;
-      rounds = subst (λ (z : EngineView). RanToWant p.lanes p.turns (with_answers z []) had.room had.last had.told had.kept) taken had.rounds;
+      rounds = subst (λ (z : EngineView). RanToWant p.lanes p.turns (without_turns z) had.room had.last had.told had.kept) taken had.rounds;
       wants = had.wants;
     })
 

@@ -5,6 +5,7 @@ use Rattle.bc_model.specs.State.{State}
 use Rattle.bc_model.specs.declared.traces.Setup.{Setup}
 use Rattle.bc_engine.specs.declared.counters.Counters.{Counters}
 use Rattle.bc_engine.specs.declared.engines.Ended.{Ended}
+use Rattle.bc_engine.specs.declared.opened.Opened.{Opened}
 use Rattle.bc_pager.specs.declared.answers.Answer.{Answer}
 use Rattle.bc_running.specs.Running.{RunningView, RunningStands}
 pub use Rattle.bc_running.specs.Running.{HasEmptyChunks}
@@ -19,6 +20,8 @@ pub record EngineView : Type 0 where
   pub ended : Option Ended
   -- what became of the notices of the latest phase
   pub answers : List Answer
+  -- the turns of the latest phase: those of the lanes, each with the mark turns after it
+  pub opened : List Opened
   -- what it did since it was opened
   pub counters : Counters
 

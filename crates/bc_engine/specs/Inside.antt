@@ -1,9 +1,10 @@
 -- The engine that contracts see.
-use Rattle.std.specs.Prelude.{ℕ, List, None, Some}
-use Rattle.bc_pager.specs.declared.answers.Answer.{Answer}
+use Rattle.std.specs.Prelude.{ℕ, None, Some}
+use Rattle.bc_engine.specs.EngineFacts.{with_turns}
 use Rattle.bc_engine.specs.Engines.{EngineView}
 use Rattle.bc_engine.specs.declared.engines.Ended.TheVariants.{OutOfHeap}
 use Rattle.bc_engine.specs.declared.engines.Engine.TheInside.{Inside}
+use Rattle.bc_engine.specs.declared.opened.TurnLog.{TurnLog}
 use Rattle.bc_engine.specs.declared.players.Player.{Player}
 
 -- an engine as contracts see it, by what it has inside
@@ -14,19 +15,25 @@ engine_of e = record {
   workers = e.player.workers;
   ended = e.ended;
   answers = e.answers.items;
+  opened = e.opened.items;
   counters = e.player.counters;
 }
 
--- the engine that plays on this, with these answers, where it hasn't ended
-abbrev pub played : Player → List Answer → EngineView
-played p answers = record {
+-- the engine that plays on this, with these answers and turns, where it hasn't ended
+abbrev pub played : Player → TurnLog → EngineView
+played p log = record {
   running = p.running;
   setup = p.setup;
   workers = p.workers;
   ended = None;
-  answers = answers;
+  answers = log.answers.items;
+  opened = log.opened.items;
   counters = p.counters;
 }
+
+-- the engine with the answers and turns of this log
+abbrev pub with_log : EngineView → TurnLog → EngineView
+with_log e log = with_turns e log.answers.items log.opened.items
 
 -- the engine that ended, since what it stands for needs so many superpages
 abbrev pub out_of_heap : ℕ → EngineView → EngineView

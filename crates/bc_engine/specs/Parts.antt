@@ -74,7 +74,7 @@ pub record PartsStand (setup : Setup) (holders : List Holder) (serials : List �
   pub held : state.holders ≡ holders
   pub made : map (λ (objects : List Object). length objects) state.made ≡ serials
 
--- the engine that goes on with the parts: chunks and write buffers are empty, it has no answers, and counts from here on
+-- the engine that goes on with the parts: chunks and write buffers are empty, it has no answers and no turns, and counts from here on
 abbrev pub adopted_engine : Setup → ℕ → List Holder → List ℕ → RootWords → Layout → EngineView
 adopted_engine setup workers holders serials roots s = record {
   running = running_of (adopted_heap setup roots s) holders serials;
@@ -82,5 +82,6 @@ adopted_engine setup workers holders serials roots s = record {
   workers = workers;
   ended = None;
   answers = [];
+  opened = [];
   counters = counts_from s.reads;
 }

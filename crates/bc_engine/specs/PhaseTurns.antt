@@ -7,13 +7,13 @@ use Rattle.bc_model.specs.Rows.{lists_of}
 use Rattle.bc_model.specs.TurnLines.{hints_in}
 use Rattle.bc_model.specs.declared.operations.Reply.{Reply}
 use Rattle.bc_pager.specs.declared.answers.Answer.{Answer}
-use Rattle.bc_engine.specs.EngineFacts.{with_answers, with_holders}
+use Rattle.bc_engine.specs.EngineFacts.{with_holders, without_turns}
 use Rattle.bc_engine.specs.Engines.{EngineView}
 use Rattle.bc_engine.specs.Rounds.{IsRoomFor, RanAll, RanToCut, RanToWant}
 use Rattle.bc_engine.specs.declared.engines.Ended.TheVariants.{NoMemory}
 
--- room for the replies was taken, the rounds of the phase were run with its lines, and then domains changed hands or were frozen. There was no answer
--- before the first round, and those after the last are the engine's
+-- room for the replies was taken, the rounds of the phase were run with its lines, and then domains changed hands or were frozen. There was no answer and no
+-- turn before the first round, and those after the last are the engine's
 pub record HadTurns (e : EngineView) (p : PhaseLists) (f : EngineView) (replies : List (List Reply)) : Type 0 where
   pub room : List (Vec Reply Global)
   pub begun : IsRoomFor p.lanes room
@@ -21,7 +21,7 @@ pub record HadTurns (e : EngineView) (p : PhaseLists) (f : EngineView) (replies 
   pub told : List (Vec Reply Global)
   -- how many turns the phase had, of lanes and of marks
   pub turns : ℕ
-  pub rounds : RanAll p.lanes p.turns (with_answers e []) room turns last told
+  pub rounds : RanAll p.lanes p.turns (without_turns e) room turns last told
   pub given : f ≡ with_holders last f.running.holders
   pub replied : replies ≡ lists_of told
 
@@ -31,7 +31,7 @@ pub record HadTurnsToCut (e : EngineView) (p : PhaseLists) (f : EngineView) (rep
   pub begun : IsRoomFor p.lanes room
   pub told : List (Vec Reply Global)
   pub turns : ℕ
-  pub rounds : RanToCut p.lanes p.turns (with_answers e []) room turns f told
+  pub rounds : RanToCut p.lanes p.turns (without_turns e) room turns f told
   pub replied : replies ≡ lists_of told
 
 -- room for the replies was taken, and the rounds were run up to a turn for whose answers there was no memory
@@ -42,7 +42,7 @@ pub record HadTurnsToWant (e : EngineView) (p : PhaseLists) (f : EngineView) : T
   pub told : List (Vec Reply Global)
   pub kept : Vec Answer Global
   pub answers : kept.items ≡ f.answers
-  pub rounds : RanToWant p.lanes p.turns (with_answers e []) room last told kept
+  pub rounds : RanToWant p.lanes p.turns (without_turns e) room last told kept
   pub wants : f ≡ record last { ended = Some NoMemory }
 
 -- no turn has a notice: no line has a hint

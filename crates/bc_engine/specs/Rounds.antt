@@ -1,5 +1,5 @@
 -- The rounds of a phase: the lanes go on until each is at its end or stops, and then the nurseries are emptied.
-use Rattle.std.specs.Prelude.{◌≡◌, ◌⊎◌, ℕ, ◌+◌, ◌*◌, ◌<◌, ◌≤◌, true, false, List, [], ◌∷◌, length, max, Some, None, Vec, vec_capacity, slice_index_or}
+use Rattle.std.specs.Prelude.{◌≡◌, ◌⊎◌, ℕ, ◌+◌, ◌*◌, ◌<◌, ◌≤◌, true, false, List, [], ◌∷◌, ◌++◌, length, max, Some, None, Vec, vec_capacity, slice_index_or}
 use Prim.Native.Nat.{zero, suc}
 use Rattle.std.specs.declared.alloc.Global.{Global}
 use Rattle.bc_bookmarks.specs.Withholding.{Withheld}
@@ -8,10 +8,11 @@ use Rattle.bc_cycle.specs.Emptying.{IsEmptied, KeepsMeaning, LeavesPages, StayIn
 use Rattle.bc_cycle.specs.declared.emptying.EmptyingKind.{EmptyingKind}
 use Rattle.bc_cycle.specs.declared.emptying.EmptyingKind.TheVariants.{Failsafe}
 use Rattle.bc_failsafe.specs.Packing.{NeedOfHeap}
-use Rattle.bc_marking.specs.Lines.{HasTold, hints_at, line_behind}
+use Rattle.bc_marking.specs.Lines.{HasTold, cursor_at, hints_at, line_behind}
+use Rattle.bc_marking.specs.declared.lines.Cursor.{Cursor}
 use Rattle.bc_model.specs.Lists.{TurnLists}
 use Rattle.bc_model.specs.Rows.{lists_of}
-use Rattle.bc_model.specs.TurnLines.{hints_in}
+use Rattle.bc_model.specs.TurnLines.{budget_at, hints_in}
 use Rattle.bc_model.specs.declared.operations.Op.{Op}
 use Rattle.bc_model.specs.declared.operations.Reply.{Reply}
 use Rattle.bc_pager.specs.declared.answers.Answer.{Answer}
@@ -61,20 +62,20 @@ SameLanes r q = (q.holders ≡ r.holders) × (q.serials ≡ r.serials)
 -- between a turn and its minor collection: nothing, or, where fewer frames were free than are wanted, a bookmark collection. That keeps
 -- what the heap stands for, no page is read by it, and it is counted. The answers of its mark turns came after those that there were, from one
 -- line on, and the pages left that they name
-pub record MayCollect (wanted : ℕ) (lines : List (List ℕ)) (r : RunningView) (from : ℕ) (before : List Answer) (q : RunningView) (to : ℕ) (after : List Answer) (c d : Counters) : Type 0 where
+pub record MayCollect (wanted : ℕ) (lines : List (List ℕ)) (r : RunningView) (from : Cursor) (before : List Answer) (q : RunningView) (to : Cursor) (after : List Answer) (c d : Counters) : Type 0 where
   pub turns : ℕ
   pub told : List Answer
   pub uses : HasTold lines from before turns to after told
   pub way : ((q ≡ r) × (turns ≡ 0) × CountsEarly c false 0 d)
       ⊎ ((r.heap.space.free < wanted) × IsCollectedHeap r.heap told q.heap × CountsEarly c true (left_since (length before) after) d
-      × (m : HadMarking lines from r.heap turns told) × (m.begun ≡ m.settled))
+      × (m : HadMarking lines from.line r.heap turns told) × (m.begun ≡ m.settled))
   pub lanes : SameLanes r q
   pub sound : IsSound q
 
 -- the nurseries were emptied (a minor collection): nothing was freed, moved or read back where the survivors fit, and no page was
 -- read back where they fit what a bookmark collection keeps. Which of these it was is counted. The answers of its mark turns came after those
 -- that there were
-pub record EmptiesNurseries (lines : List (List ℕ)) (r : RunningView) (from : ℕ) (before : List Answer) (q : RunningView) (to : ℕ) (after : List Answer) (c d : Counters) : Type 0 where
+pub record EmptiesNurseries (lines : List (List ℕ)) (r : RunningView) (from : Cursor) (before : List Answer) (q : RunningView) (to : Cursor) (after : List Answer) (c d : Counters) : Type 0 where
   pub emptied : IsEmptied r.heap q.heap
   pub in_place : SurvivorsFit r.heap → StayInPlace r.heap q.heap
   pub pages : SurvivorsFit r.heap → LeavesPages r.heap.space q.heap.space
@@ -85,16 +86,16 @@ pub record EmptiesNurseries (lines : List (List ℕ)) (r : RunningView) (from : 
 
 -- the nurseries couldn't be emptied, which left each page where it was, but for those that the answers of its mark turns name. The fail-safe found
 -- so, and that it did is counted
-pub record LeavesNurseries (lines : List (List ℕ)) (r : RunningView) (from : ℕ) (before : List Answer) (q : RunningView) (to : ℕ) (after : List Answer) (c d : Counters) : Type 0 where
+pub record LeavesNurseries (lines : List (List ℕ)) (r : RunningView) (from : Cursor) (before : List Answer) (q : RunningView) (to : Cursor) (after : List Answer) (c d : Counters) : Type 0 where
   pub meaning : KeepsMeaning r.heap q.heap
   pub stays : StaysBeside lines r.heap from before q.heap to after
   pub lanes : SameLanes r q
   pub counts : CountsEmptying Failsafe c r.heap.space.reads q.heap.space.reads (left_since (length before) after) d
 
 -- after a turn a bookmark collection may have come, and then this, with lines and answers behind those of its mark turns
-pub record CollectsAnd (Then : List (List ℕ) → RunningView → ℕ → List Answer → RunningView → ℕ → List Answer → Counters → Counters → Type 0) (wanted : ℕ) (lines : List (List ℕ)) (r : RunningView) (from : ℕ) (before : List Answer) (q : RunningView) (to : ℕ) (after : List Answer) (c d : Counters) : Type 0 where
+pub record CollectsAnd (Then : List (List ℕ) → RunningView → Cursor → List Answer → RunningView → Cursor → List Answer → Counters → Counters → Type 0) (wanted : ℕ) (lines : List (List ℕ)) (r : RunningView) (from : Cursor) (before : List Answer) (q : RunningView) (to : Cursor) (after : List Answer) (c d : Counters) : Type 0 where
   pub collected : RunningView
-  pub mid : ℕ
+  pub mid : Cursor
   pub answers : List Answer
   pub begun : Counters
   pub collects : MayCollect wanted lines r from before collected mid answers c begun
@@ -129,10 +130,12 @@ pub record RanRound (lanes : List (List Op)) (lines : List TurnLists) (e : Engin
   pub turn : HadTurn lanes (unused_in e.setup lines line) e.running before e.answers (hints_at (hints_in lines) line) turned told answers e.counters counted
   pub emptied : RunningView
   pub begun : Counters
-  pub empties : CollectsAnd EmptiesNurseries (wanted_behind e.setup lines line) (hints_in lines) turned (line_behind (hints_in lines) line) answers emptied next f.answers counted begun
+  pub marks : ℕ
+  pub empties : CollectsAnd EmptiesNurseries (wanted_behind e.setup lines line) (hints_in lines) turned (cursor_at (line_behind (hints_in lines) line)) answers emptied (record { line = next; turns = marks }) f.answers counted begun
   pub more : HasMore lanes (lists_of told)
   pub steps : HadSteps lanes emptied told f.running after begun f.counters
-  pub rest : f ≡ record e { running = f.running; answers = f.answers; counters = f.counters }
+  pub noted : f.opened ≡ e.opened ++ record { withheld = budget_at lines line; marks = marks } ∷ []
+  pub rest : f ≡ record e { running = f.running; answers = f.answers; opened = f.opened; counters = f.counters }
 
 -- how many turns a round had: that of the lanes, and mark turns
 abbrev pub turns_of_round : {lanes : List (List Op)} {lines : List TurnLists} {e f : EngineView} {before after : List (Vec Reply Global)} {line next : ℕ} → RanRound lanes lines e before line f after next → ℕ
@@ -148,9 +151,11 @@ pub record LastRound (lanes : List (List Op)) (lines : List TurnLists) (e : Engi
   pub done : AreDone lanes (lists_of after)
   pub emptied : RunningView
   pub next : ℕ
-  pub empties : CollectsAnd EmptiesNurseries (wanted_behind e.setup lines line) (hints_in lines) turned (line_behind (hints_in lines) line) answers emptied next f.answers counted f.counters
+  pub marks : ℕ
+  pub empties : CollectsAnd EmptiesNurseries (wanted_behind e.setup lines line) (hints_in lines) turned (cursor_at (line_behind (hints_in lines) line)) answers emptied (record { line = next; turns = marks }) f.answers counted f.counters
   pub returned : ReturnsFrames (e.setup.lanes * e.setup.nursery) emptied f.running
-  pub rest : f ≡ record e { running = f.running; answers = f.answers; counters = f.counters }
+  pub noted : f.opened ≡ e.opened ++ record { withheld = budget_at lines line; marks = marks } ∷ []
+  pub rest : f ≡ record e { running = f.running; answers = f.answers; opened = f.opened; counters = f.counters }
 
 -- how many turns the last round had
 abbrev pub turns_of_last : {lanes : List (List Op)} {lines : List TurnLists} {e f : EngineView} {before after : List (Vec Reply Global)} {line : ℕ} → LastRound lanes lines e before line f after → ℕ
@@ -164,8 +169,10 @@ pub record CutRound (lanes : List (List Op)) (lines : List TurnLists) (e : Engin
   pub counted : Counters
   pub turn : HadTurn lanes (unused_in e.setup lines line) e.running before e.answers (hints_at (hints_in lines) line) turned after answers e.counters counted
   pub next : ℕ
-  pub leaves : CollectsAnd LeavesNurseries (wanted_behind e.setup lines line) (hints_in lines) turned (line_behind (hints_in lines) line) answers f.running next f.answers counted f.counters
-  pub rest : f ≡ record e { running = f.running; ended = f.ended; answers = f.answers; counters = f.counters }
+  pub marks : ℕ
+  pub leaves : CollectsAnd LeavesNurseries (wanted_behind e.setup lines line) (hints_in lines) turned (cursor_at (line_behind (hints_in lines) line)) answers f.running (record { line = next; turns = marks }) f.answers counted f.counters
+  pub noted : f.opened ≡ e.opened ++ record { withheld = budget_at lines line; marks = marks } ∷ []
+  pub rest : f ≡ record e { running = f.running; ended = f.ended; answers = f.answers; opened = f.opened; counters = f.counters }
 
 -- how many turns a round had that was cut
 abbrev pub turns_of_cut : {lanes : List (List Op)} {lines : List TurnLists} {e f : EngineView} {before after : List (Vec Reply Global)} {line : ℕ} → CutRound lanes lines e before line f after → ℕ

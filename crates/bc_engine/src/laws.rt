@@ -1,13 +1,14 @@
 //! Laws of phases. The functions do nothing.
 
-ghost use Rattle.std.specs.Prelude.{◌≡◌, ℕ, ◌%◌, ◌<◌, [], List, Vec, length};
+ghost use Rattle.std.specs.Prelude.{◌≡◌, ℕ, ◌+◌, ◌%◌, ◌^◌, ◌<◌, [], List, Vec, length};
 ghost use Rattle.std.specs.declared.alloc.Global.{Global};
-ghost use Rattle.bc_engine.specs.Budgets.{HasBudget, unused_in};
+ghost use Rattle.bc_engine.specs.Budgets.{AreTurns, HasBudget, HaveBudgets, marks_in, turns_with, unused_in};
 ghost use Rattle.bc_engine.specs.EngineFacts.{NoneWithheld};
 ghost use Rattle.bc_engine.specs.Engines.{EngineView};
 ghost use Rattle.bc_engine.specs.PhaseTurns.{HadTurns, HadTurnsToCut, hints_before};
 ghost use Rattle.bc_engine.specs.Rounds.{CutRound, LastRound, RanRound};
 ghost use Rattle.bc_engine.specs.Turns.{line_of};
+ghost use Rattle.bc_engine.specs.declared.opened.Opened.{Opened};
 ghost use Rattle.bc_model.specs.Lists.{PhaseLists, TurnLists};
 ghost use Rattle.bc_model.specs.TurnLines.{budget_at};
 ghost use Rattle.bc_model.specs.declared.operations.Op.{Op};
@@ -37,4 +38,22 @@ pub fn law_budgets()
     ensures returned { (e f : EngineView) → (p : PhaseLists) → (replies : List (List Reply)) → HadTurns e p f replies → NoneWithheld e.setup f.running.heap }
     ensures kept { (e f : EngineView) → (p : PhaseLists) → (replies : List (List Reply)) → (had : HadTurnsToCut e p f replies)
         → f.running.heap.space.nursery ≡ unused_in e.setup p.turns (line_of p.turns had.rounds.1) }
+{}
+
+/// Law: the items of `opened` are the turns of the phase that an engine did, or was cut in. There is one for each round. In the turn of the lanes as
+/// many frames were withheld as its line says, which are those that no page could use in its mark turns too (`law_budgets`). Where these numbers
+/// don't reach their end, the items alone say how many turns there were, and the answers are those to the notices of so many turns.
+pub fn law_opened()
+    ensures done { (e f : EngineView) → (p : PhaseLists) → (replies : List (List Reply)) → (had : HadTurns e p f replies) → AreTurns p.turns had.turns f.opened }
+    ensures cut { (e f : EngineView) → (p : PhaseLists) → (replies : List (List Reply)) → (had : HadTurnsToCut e p f replies) → AreTurns p.turns had.turns f.opened }
+    ensures rounds { (e f : EngineView) → (p : PhaseLists) → (replies : List (List Reply)) → (had : HadTurns e p f replies)
+        → length f.opened ≡ had.rounds.0 + 1 }
+    ensures cut_rounds { (e f : EngineView) → (p : PhaseLists) → (replies : List (List Reply)) → (had : HadTurnsToCut e p f replies)
+        → length f.opened ≡ had.rounds.0 + 1 }
+    ensures counted { (lines : List TurnLists) → (turns : ℕ) → (opened : List Opened) → AreTurns lines turns opened → turns < 2 ^ 64
+        → HaveBudgets lines 0 (marks_in opened) opened × (turns ≡ turns_with (marks_in opened)) }
+    ensures answers { (e f : EngineView) → (p : PhaseLists) → (replies : List (List Reply)) → (had : HadTurns e p f replies) → had.turns < 2 ^ 64
+        → length f.answers ≡ hints_before p.turns (turns_with (marks_in f.opened)) }
+    ensures cut_answers { (e f : EngineView) → (p : PhaseLists) → (replies : List (List Reply)) → (had : HadTurnsToCut e p f replies) → had.turns < 2 ^ 64
+        → length f.answers ≡ hints_before p.turns (turns_with (marks_in f.opened)) }
 {}

@@ -24,7 +24,9 @@
 // The line of a turn of the lanes also says how many frames are withheld in it (`budgets`): so many beside those of the nurseries no page may use.
 // Before the turn pages are given up where frames are wanting for that. Chunks hold at most one object then, which nothing mature refers to, and
 // no page is remembered, so every page can go. A mark turn leaves the number, and so do operations of a lane alone. When all lanes are at their
-// ends none is withheld any more; a phase that ends out of heap leaves them, and the engine has ended (`law_budgets`). What the type of an
+// ends none is withheld any more; a phase that ends out of heap leaves them, and the engine has ended (`law_budgets`). A list that the engine keeps
+// (`opened`) has an item for each turn of the lanes: how many frames were withheld in it, and how many mark turns came after it, before the next
+// one (`law_opened`). Room for it is taken before anything is done, since a round that isn't the last one does an operation. What the type of an
 // engine says is true of it between phases, so within one the rounds run on what it plays on, the `Player`.
 //
 // Where frames are short a bookmark collection comes next. Then the nurseries are emptied, and if all lanes are at their ends the rounds are
@@ -72,6 +74,7 @@ mod lanes;
 mod laws;
 mod logs;
 mod notices;
+mod opened;
 mod paces;
 mod phases;
 mod players;
@@ -82,7 +85,8 @@ pub use bc_pager::Answer;
 pub use bc_running::Parts;
 pub use counters::{Counters, PageCounts, Tally, tally_of};
 pub use engines::Engine;
-pub use laws::{law_answers, law_budgets};
+pub use laws::{law_answers, law_budgets, law_opened};
 pub use logs::{Standing, Step, StepKind};
+pub use opened::Opened;
 pub use paces::Pacing;
 pub use phases::PhaseError;

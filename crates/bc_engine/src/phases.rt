@@ -1,11 +1,12 @@
 //! A phase: room for the replies is taken, the rounds are run, and domains change hands or are frozen.
 
-ghost use Rattle.std.specs.Prelude.{◌≡◌, ◌≢◌, ◌⊎◌, ℕ, ◌+◌, ◌<◌, ◌≤◌, [], length, Some, None, Result, Ok, Err, IfOk, OnOk, slice_index};
+ghost use Rattle.std.specs.Prelude.{◌≡◌, ◌≢◌, ◌⊎◌, ℕ, ◌+◌, ◌<◌, ◌≤◌, [], length, Some, None, Result, Ok, Err, sum_by, vec_capacity, IfOk, OnOk, slice_index};
 ghost use Rattle.std.specs.List.{AllByRecursion};
 ghost use Rattle.bc_engine.specs.Answers.{IfNoRoom, IfPhaseOutOfHeap, IfTooSmall, IsOutOfHeap, IsNoMemory};
 ghost use Rattle.bc_engine.specs.Engines.{EngineStands, EngineView, HasEmptyChunks};
-ghost use Rattle.bc_engine.specs.EngineFacts.{HasRoomForBirths, IsUnrecorded, with_answers, with_holders};
-ghost use Rattle.bc_engine.specs.Lanes.{of_lane, BirthsWithin, HasRoomForOps};
+ghost use Rattle.bc_engine.specs.EngineFacts.{HasRoomForBirths, IsUnrecorded, with_holders};
+ghost use Rattle.bc_engine.specs.Inside.{with_log};
+ghost use Rattle.bc_engine.specs.Lanes.{of_lane, BirthsWithin, HasRoomForOps, left};
 ghost use Rattle.bc_engine.specs.PhaseTurns.{HadTurns, HadTurnsToCut, HadTurnsToWant, HasNoHints};
 ghost use Rattle.bc_engine.specs.Phases.{DidPhase, CutPhase};
 ghost use Rattle.bc_engine.specs.Rounds.{IsRoomFor, IsThrough, IsTooSmall, IsUnderwayOn, RanAll, RanToCut, RanToWant, RoundsWentOn};
@@ -16,11 +17,11 @@ ghost use Rattle.bc_model.specs.State.{State, changed};
 ghost use Rattle.bc_model.specs.WellFormed.{FitsChange, FitsFrames, IsPhase};
 
 use crate::engines::{Ended, Engine};
+use crate::opened::{Opened, TurnLog, room_for_turns};
 use crate::rounds::RoundsError;
 use bc_failsafe::law_room;
 use bc_gates::Gate;
 use bc_model::{Change, Op, Phase, Replies, Reply, TurnLine};
-use bc_pager::Answer;
 use bc_turn::TurnRoom;
 use std::alloc::{AllocError, Global};
 use std::thread::Threads;
@@ -31,7 +32,7 @@ pub enum PhaseError {
     /// What the engine stands for after these replies needs this many superpages, which is more than there are. On an engine that
     /// had ended so, there are no replies.
     OutOfHeap { replies: Replies, need: u64 },
-    /// There was no memory for the replies, or for the answers to the notices of a round, in this phase or in an earlier one. The
+    /// There was no memory for the replies, for the list of turns, or for the answers to the notices of a round, in this phase or in an earlier one. The
     /// engine may be used only to be dropped.
     NoMemory,
 }
@@ -41,8 +42,8 @@ impl Engine {
     /// far and its operations in the phase together are fewer than 2^32.
     ///
     /// It answers `OutOfHeap` where an emptying of the nurseries finds that the heap is too small, with the replies up to there,
-    /// and `NoMemory` where there is no memory for all replies, before anything is done, or for the answers to the notices of a round,
-    /// before that round: nothing else is refused for lack of memory. Both end the engine. One that ended out of heap answers the same need
+    /// and `NoMemory` where there is no memory for all replies and for the list of turns, before anything is done, or for the answers to the
+    /// notices of a round, before that round: nothing else is refused for lack of memory. Both end the engine. One that ended out of heap answers the same need
     /// again with no replies, and changes nothing; one that ended out of memory answers that alone.
     ///
     /// In each turn, of the lanes or of the marking of a collection, a page is given up for each hint of the turn's line: beside others at a table
@@ -51,6 +52,7 @@ impl Engine {
     ///
     /// In each turn of the lanes, and in the mark turns after it, no page has one of so many frames as the turn's line withholds, which is at most as
     /// many as leaves two beside the nurseries' pages. After a phase that is done no frame is withheld. One that ends out of heap leaves them withheld.
+    /// The engine lists these turns (`opened`).
     pub fn phase<R, G>(
         &mut self,
         rt: &R,
@@ -91,8 +93,8 @@ impl Engine {
             }
             Some(Ended::NoMemory) => return Err(PhaseError::NoMemory),
         }
-        match room_for(alloc, &phase.lanes) {
-            Ok(replies) => self.replay(rt, alloc, phase, replies, gate),
+        match room_for_phase(alloc, &phase.lanes) {
+            Ok(room) => self.replay(rt, alloc, phase, room.replies, room.opened, gate),
             Err(_) => {
                 self.end_for_want();
                 Err(PhaseError::NoMemory)
@@ -107,13 +109,14 @@ impl Engine {
         self.ended = Some(Ended::NoMemory);
     }
 
-    /// Does a phase on an engine that hasn't ended, with room for the reply to each operation.
+    /// Does a phase on an engine that hasn't ended, with room for the reply to each operation, and to note the turns.
     fn replay<R, G>(
         &mut self,
         rt: &R,
         alloc: Global,
         phase: &Phase,
         replies: Vec<Vec<Reply>>,
+        opened: Vec<Opened>,
         gate: &G,
     ) -> Result<Replies, PhaseError>
     where
@@ -125,6 +128,8 @@ impl Engine {
         requires births { HasRoomForOps self.old phase.now.lanes 0 }
         requires long { length replies.items ≡ length phase.now.lanes }
         requires room { IsRoomFor phase.now.lanes replies.items }
+        requires none { opened.items ≡ [] }
+        requires turns { sum_by length phase.now.lanes + 1 ≤ vec_capacity opened }
         ensures done { IfOk result (λ told. DidPhase self.old phase.now self.new told) }
         ensures cut { IfPhaseOutOfHeap result (λ told need. CutPhase self.old phase.now self.new told need) }
         ensures setup { (self.new.setup ≡ self.old.setup) × (self.new.workers ≡ self.old.workers) }
@@ -133,20 +138,21 @@ impl Engine {
         ensures want { IsNoMemory result → HadTurnsToWant self.old phase.now self.new }
         ensures births { (j : ℕ) → slice_index self.new.running.serials j ≤ slice_index self.old.running.serials j + length (of_lane phase.now.lanes j) }
     {
-        let mut answers = self.take_answers(alloc);
-        let told = self.run_phase(rt, alloc, phase, replies, &mut answers, gate);
-        self.keep_answers(answers);
+        let answers = self.take_answers(alloc);
+        let mut log = TurnLog { answers, opened };
+        let told = self.run_phase(rt, alloc, phase, replies, &mut log, gate);
+        self.keep_turns(log);
         told
     }
 
-    /// Does such a phase, and keeps what became of its notices in this list, in which there is nothing yet.
+    /// Does such a phase, and keeps its turns and what became of its notices in these lists, in which there is nothing yet.
     fn run_phase<R, G>(
         &mut self,
         rt: &R,
         alloc: Global,
         phase: &Phase,
         mut replies: Vec<Vec<Reply>>,
-        answers: &mut Vec<Answer>,
+        log: &mut TurnLog,
         gate: &G,
     ) -> Result<Replies, PhaseError>
     where
@@ -158,13 +164,14 @@ impl Engine {
         requires births { HasRoomForOps self.old phase.now.lanes 0 }
         requires long { length replies.items ≡ length phase.now.lanes }
         requires room { IsRoomFor phase.now.lanes replies.items }
-        requires none { answers.old.items ≡ [] }
+        requires none { (log.old.answers.items ≡ []) × (log.old.opened.items ≡ []) }
+        requires turns { sum_by length phase.now.lanes + 1 ≤ vec_capacity log.old.opened }
         ensures done { IfOk result (λ told. DidPhase self.old phase.now self.new told) }
         ensures cut { IfPhaseOutOfHeap result (λ told need. CutPhase self.old phase.now self.new told need) }
         ensures setup { (self.new.setup ≡ self.old.setup) × (self.new.workers ≡ self.old.workers) }
-        ensures turns { IfOk result (λ told. HadTurns self.old phase.now (with_answers self.new answers.new.items) told) }
-        ensures cut_turns { IfPhaseOutOfHeap result (λ told need. HadTurnsToCut self.old phase.now (with_answers self.new answers.new.items) told) }
-        ensures want { IsNoMemory result → HadTurnsToWant self.old phase.now (with_answers self.new answers.new.items) }
+        ensures turns { IfOk result (λ told. HadTurns self.old phase.now (with_log self.new log.new) told) }
+        ensures cut_turns { IfPhaseOutOfHeap result (λ told need. HadTurnsToCut self.old phase.now (with_log self.new log.new) told) }
+        ensures want { IsNoMemory result → HadTurnsToWant self.old phase.now (with_log self.new log.new) }
         ensures births { (j : ℕ) → slice_index self.new.running.serials j ≤ slice_index self.old.running.serials j + length (of_lane phase.now.lanes j) }
     {
         self.facts();
@@ -174,7 +181,7 @@ impl Engine {
             &phase.lanes,
             &phase.turns,
             &mut replies,
-            answers,
+            log,
             gate,
         ) {
             Ok(()) => {
@@ -200,7 +207,7 @@ impl Engine {
         lanes: &[Vec<Op>],
         lines: &[TurnLine],
         replies: &mut [Vec<Reply>],
-        answers: &mut Vec<Answer>,
+        log: &mut TurnLog,
         gate: &G,
     ) -> Result<(), RoundsError>
     where
@@ -209,23 +216,24 @@ impl Engine {
         requires going { self.old.ended ≡ None }
         requires underway { IsUnderwayOn self.old (lists_of lanes.now) replies.old }
         requires budgets { AllByRecursion (FitsFrames self.old.setup) lines.now }
+        requires room { length log.old.opened.items + left (lists_of lanes.now) (lists_of replies.old) + 1 ≤ vec_capacity log.old.opened }
         ensures same { (self.new.running.holders ≡ self.old.running.holders) × (self.new.setup ≡ self.old.setup) × (self.new.workers ≡ self.old.workers) }
         ensures births { BirthsWithin (lists_of lanes.now) self.old.running.serials (lists_of replies.old) self.new.running.serials (lists_of replies.new) }
         ensures on { OnOk result (RoundsWentOn (lists_of lanes.now) self.old replies.old self.new replies.new) }
         ensures through { OnOk result (IsThrough (lists_of lanes.now) self.new replies.new) }
         ensures turns { OnOk result ((turns : ℕ) × RanAll (lists_of lanes.now) lines.now
-            (with_answers self.old answers.old.items) replies.old turns (with_answers self.new answers.new.items) replies.new) }
+            (with_log self.old log.old) replies.old turns (with_log self.new log.new) replies.new) }
         ensures cut { IfTooSmall result (λ need. IsTooSmall (lists_of lanes.now) self.old replies.old self.new replies.new need) }
         ensures cut_turns { IfTooSmall result (λ need. (turns : ℕ) × RanToCut (lists_of lanes.now) lines.now
-            (with_answers self.old answers.old.items) replies.old turns (with_answers self.new answers.new.items) replies.new) }
+            (with_log self.old log.old) replies.old turns (with_log self.new log.new) replies.new) }
         ensures want { IfNoRoom result ((last : EngineView) × RanToWant (lists_of lanes.now) lines.now
-            (with_answers self.old answers.old.items) replies.old last replies.new answers.new
-            × (with_answers self.new answers.new.items ≡ record last { ended = Some Ended.NoMemory })) }
+            (with_log self.old log.old) replies.old last replies.new log.new.answers
+            × (with_log self.new log.new ≡ record last { ended = Some Ended.NoMemory })) }
     {
         let mut room = TurnRoom::new(alloc);
         match self
             .player
-            .rounds(rt, alloc, &mut room, lanes, lines, replies, answers, gate)
+            .rounds(rt, alloc, &mut room, lanes, lines, replies, log, gate)
         {
             Ok(()) => Ok(()),
             Err(RoundsError::TooSmall { need }) => {
@@ -278,6 +286,27 @@ impl Engine {
         law_room();
         self.player.running.heap().space.facts();
     }
+}
+
+/// What a phase takes before anything is done.
+#[derive(Drop)]
+struct PhaseRoom {
+    /// A list for the replies of each lane.
+    replies: Vec<Vec<Reply>>,
+    /// A list for the turns.
+    opened: Vec<Opened>,
+}
+
+/// Room for the replies to all operations, and for the turns.
+fn room_for_phase(alloc: Global, lanes: &[Vec<Op>]) -> Result<PhaseRoom, AllocError>
+    ensures long { IfOk result (λ room. length room.replies.items ≡ length lanes.now) }
+    ensures room { IfOk result (λ room. IsRoomFor (lists_of lanes.now) room.replies.items) }
+    ensures none { IfOk result (λ room. room.opened.items ≡ []) }
+    ensures turns { IfOk result (λ room. sum_by length (lists_of lanes.now) + 1 ≤ vec_capacity room.opened) }
+{
+    let replies = room_for(alloc, lanes)?;
+    let opened = room_for_turns(alloc, lanes)?;
+    Ok(PhaseRoom { replies, opened })
 }
 
 /// A list for the replies of each lane, with room for a reply to each of its operations.

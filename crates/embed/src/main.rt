@@ -3,11 +3,15 @@
 // Copy this crate, and change the nodes. A runtime needs three things of the library: a heap (`Heap::open`), a handle for each root slot
 // that it works with (`heap.root`), and the operations (`heap.new`, `load`, `link`, ..), each of which passes on why it isn't done by `?`.
 // Whatever no root slot leads to is freed at some time. A value is looked at where a slot holds it: `load` copies a field into a slot and
-// returns what it is.
+// returns what it is; `who` says what a slot holds.
+//
+// How large the heap has to be: an object takes a word and one for each field, and lies in a cell of 2, 4, 8, .. or 128 words; a superpage
+// has 2,048 words in cells of one size, of one domain. Nodes of four fields lie in cells of 8 words, 256 in a superpage. The frames are at
+// least the nursery pages of all lanes and two; with fewer than all pages, some are read back. A larger nursery is emptied less often.
 #![tactic(auto)]
 
 use anyhow::{Result, bail};
-use sorvekla::{Heap, Limits, Loaded, Root};
+use sorvekla::{Heap, Limits, Loaded, Root, Value};
 use std::alloc::Global;
 use std::thread::Threads;
 
@@ -68,10 +72,18 @@ impl Tree {
         Ok(())
     }
 
+    /// Whether a slot holds a node.
+    fn is_node<R: Threads + Sync>(&mut self, rt: &R, root: Root) -> Result<bool> {
+        match self.heap.who(rt, root)? {
+            Value::Obj(_) => Ok(true),
+            _ => Ok(false),
+        }
+    }
+
     /// Counts a number once more.
     fn count<R: Threads + Sync>(&mut self, rt: &R, key: u64) -> Result<()> {
         self.heap.copy(rt, self.top, self.here)?;
-        if self.heap.len(rt, self.top).is_err() {
+        if !self.is_node(rt, self.top)? {
             self.node(rt, key)?;
             return Ok(self.heap.copy(rt, self.next, self.top)?);
         }
@@ -96,7 +108,7 @@ impl Tree {
 
     /// Puts what a slot holds on the stack, if it is a node.
     fn push<R: Threads + Sync>(&mut self, rt: &R, node: Root) -> Result<()> {
-        if self.heap.len(rt, node).is_err() {
+        if !self.is_node(rt, node)? {
             return Ok(());
         }
         let item = self.heap.root(0, 0)?;
@@ -113,7 +125,7 @@ impl Tree {
         let mut counted = 0u64;
         self.push(rt, self.top)?;
         for _ in 0..u32::MAX {
-            if self.heap.len(rt, self.stack).is_err() {
+            if !self.is_node(rt, self.stack)? {
                 return Ok((nodes, counted));
             }
             self.heap.load(rt, self.stack, ITEM, self.here)?;

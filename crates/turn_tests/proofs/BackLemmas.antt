@@ -9,10 +9,9 @@ use Rattle.bc_pins.specs.declared.holding.Held.{Held}
 use Rattle.bc_pins.specs.declared.views.Hand.{Hand}
 use Rattle.bc_pins.specs.declared.views.View.{View}
 use Rattle.bc_pins.specs.declared.views.Lodged.TheVariants.{Nothing}
-use Rattle.bc_pins.specs.Key.{Key, pages_of, owner, role_number}
+use Rattle.bc_pins.specs.Key.{Key, pages_of, role_number}
 use Rattle.bc_pins.specs.Seating.{IsDealt}
 use Rattle.bc_pins.specs.Contents.{IsContent, RefersYoung}
-use Rattle.bc_pins.specs.Views.{has_role}
 use Rattle.bc_pins.specs.Steps.{Mine, fresh, both_slots}
 use Rattle.bc_pins.specs.Calls.{key_of, view_of, HoldsPage, MayPut, IsSameSeat, IsSameWorker, CountsFetches}
 use Rattle.bc_evict.specs.Reloading.{HasReloaded}
@@ -70,20 +69,15 @@ module _ (v : View) (page frame : ℕ) (seat : Seat) (held : Held) (r : HasReloa
     slots = r.slots ∙ ap (λ (k : Key). both_slots k page Nothing Nothing) (sym about_now) ∙ ap (λ (n : ℕ). both_slots (view_of seat).about n Nothing Nothing) (sym r.is);
   }
 
-  pub reloaded-may-put : 0 < has_role v (owner v.about page) → MayPut seat held
-  reloaded-may-put own = record {
+  pub reloaded-may-put : MayPut seat held
+  reloaded-may-put = record {
     fixed = subst (λ (n : ℕ). IsContent (view_of seat).about.opening n held.homed.page) (sym r.is) (subst (λ (k : Key). IsContent k.opening page held.homed.page) (sym about_now) r.fetches.fixed);
     young = λ y. absurd (r.fetches.old (subst (λ (k : Key). RefersYoung k.opening page held.homed.page) about_now (subst (λ (n : ℕ). RefersYoung (view_of seat).about.opening n held.homed.page) r.is y)));
     remembered = λ hand has on. absurd (clash (sym (ap (λ (h : Hand). h.remembered) (in_hand hand has)) ∙ on));
-    others = λ hand has z. absurd (let mine : 0 < has_role (view_of seat) (owner (view_of seat).about held.page) = owned own in omega arith);
+    others = λ hand has z. (sym (ap (λ (h : Hand). h.content) (in_hand hand has)), r.quiet ∙ sym (ap (λ (h : Hand). h.remembered) (in_hand hand has)));
     counted = λ hand has. ap (λ (h : Hand). h.counted) (in_hand hand has);
     marked = λ hand has. ap (λ (h : Hand). h.marked) (in_hand hand has);
   }
     where
       clash : false ≡ true → ⊥
       clash e = cc
-
-      owned : 0 < has_role v (owner v.about page) → 0 < has_role (view_of seat) (owner (view_of seat).about held.page)
-      owned mine =
-          subst (λ (n : ℕ). 0 < has_role (view_of seat) (owner (view_of seat).about n)) (sym r.is)
-          (subst (λ (w : View). 0 < has_role w (owner w.about page)) (sym r.view) mine)

@@ -1,5 +1,6 @@
 -- What the seats of a test's table keep: how they are dealt, how calls leave them, and how they come back.
-use Rattle.std.proofs.Common.{◌≡◌, ℕ, ◌/◌, ◌<◌, true, false, List, [], ◌∷◌, ◌++◌, map, slice_index, refl, ap, sym, subst, ◌∙◌}
+use Rattle.std.proofs.Common.{◌≡◌, ℕ, ◌/◌, ◌<◌, true, false, inl, inr, List, [], ◌∷◌, ◌++◌, map, slice_index, refl, ap, sym, subst, ◌∙◌, arith}
+use Prim.Native.Nat.{zero, suc}
 use Rattle.bc_model.specs.declared.values.Holder.{Holder}
 use Rattle.bc_superpages.specs.Layout.{Layout}
 use Rattle.bc_pins.specs.declared.key.Role.{Role}
@@ -8,15 +9,17 @@ use Rattle.bc_pins.specs.declared.key.Turn.{Turn}
 use Rattle.bc_pins.specs.declared.key.Turn.TheVariants.{Lanes, Mark}
 use Rattle.bc_pins.specs.declared.pins.Pins.{Pins}
 use Rattle.bc_pins.specs.declared.pins.Seat.{Seat}
-use Rattle.bc_pins.specs.Key.{Key, owner, owner_role, role_number, lane_role, is_lanes}
+use Rattle.bc_pins.specs.declared.taking.Want.TheVariants.{Work}
+use Rattle.bc_pins.specs.Key.{Key, owner, owner_role, role_number, lane_role, is_lanes, IsFrozenIn}
 use Rattle.bc_pins.specs.Totals.{times}
 use Rattle.bc_pins.specs.Tidy.{IsTidy}
 use Rattle.bc_pins.specs.Views.{has_role}
 use Rattle.bc_pins.specs.Seating.{IsDealt}
 use Rattle.bc_pins.specs.Opened.{Opened}
 use Rattle.bc_pins.specs.Closing.{IsBack, AreBack}
-use Rattle.bc_pins.specs.Calls.{key_of, view_of, IsFree, IsSameSeat, IsSameWorker, CountsFetches}
-use Rattle.bc_pins.proofs.VisitLemmas.{popped_two, dealt_at, dealt_free, lane_has, visited_roles, two_back}
+use Rattle.bc_pins.specs.Calls.{key_of, view_of, IsAt, IsFree, IsSameSeat, IsSameWorker, CountsFetches, MayWork, MayFetch}
+use Rattle.bc_pins.proofs.TotalLemmas.{one_same}
+use Rattle.bc_pins.proofs.VisitLemmas.{popped_two, dealt_at, dealt_free, visited_roles, two_back}
 use Rattle.bc_evict.proofs.MarkLemmas.{same_seat}
 use Rattle.turn_tests.specs.Seating.{AreSeated, IsSeated, HasOneRole, LanesHold, holders_in}
 use Rattle.turn_tests.proofs.BackLemmas.{worker-of, counts-same, dealt-counts, dealt-rights}
@@ -112,7 +115,42 @@ pub both-back : (pins : Pins) (a b : Seat) → AreSeated pins a b → IsTidy (vi
 both-back pins a b s first second =
     two_back pins.table.shared.table_id (key_of pins) a.role b.role a b (seated-back pins a s.first first) (seated-back pins b s.second second) s.first.roles s.second.roles s.roles
 
+-- who holds a page of a domain
+owner-at : (k : Key) (page domain : ℕ) → k.owners ≡ map owner_role (holders_in Lanes) → slice_index k.opening.domains (page / 4) ≡ domain → owner k page ≡ slice_index (map owner_role (holders_in Lanes)) domain
+owner-at k page domain owners is = ap (λ (l : List ℕ). slice_index l (slice_index k.opening.domains (page / 4))) owners ∙ ap (slice_index (map owner_role (holders_in Lanes))) is
+
+own-role : (lane : ℕ) → lane < 2 → slice_index (map owner_role (holders_in Lanes)) lane ≡ lane_role lane
+own-role zero lt = refl
+own-role (suc zero) lt = refl
+own-role (suc (suc lane)) lt = absurd (omega arith)
+
 -- the lane of a seat holds the pages of its domain
 pub seat-holds : (k : Key) (seat : Seat) (page lane : ℕ) → LanesHold k → k.lanes ≡ true → HasOneRole seat → seat.role ≡ Lane lane → lane < 2 → slice_index k.opening.domains (page / 4) ≡ lane → 0 < has_role (view_of seat) (owner k page)
 seat-holds k seat page lane hold on roles is lt domain =
-    lane_has k (view_of seat) page lane (hold on) domain lt (λ r. roles r ∙ ap (λ (x : Role). times r (role_number x ∷ [])) is)
+    let own = owner-at k page lane (hold on) domain ∙ own-role lane lt in
+    let one = one_same (lane_role lane) in
+    let r : has_role (view_of seat) (owner k page) ≡ has_role (view_of seat) (lane_role lane) = ap (has_role (view_of seat)) own in
+    let z = roles (lane_role lane) ∙ ap (λ (x : Role). times (lane_role lane) (role_number x ∷ [])) is in
+    omega arith
+
+-- nobody holds the pages of domain 2
+pub frozen-page : (k : Key) (page : ℕ) → LanesHold k → k.lanes ≡ true → slice_index k.opening.domains (page / 4) ≡ 2 → IsFrozenIn k page
+frozen-page k page hold on domain = (on, owner-at k page 2 (hold on) domain)
+
+-- so every lane may work on them
+pub frozen-work : (pins : Pins) (seat : Seat) (page : ℕ) → IsAt pins seat → IsFrozenIn (key_of pins) page → MayWork seat page Work
+frozen-work pins seat page at frozen =
+    let there : IsFrozenIn (view_of seat).about page = subst (λ (k : Key). IsFrozenIn k page) (sym at.about) frozen in
+    (λ off. clash (sym there.0 ∙ off), λ _. inr there.1)
+
+-- a lane may bring back an own page, and one that is frozen, also after a call
+pub own-fetch : (pins : Pins) (seat : Seat) (page : ℕ) → IsAt pins seat → 0 < has_role (view_of seat) (owner (key_of pins) page) → MayFetch (view_of seat) page
+own-fetch pins seat page at own = inl (subst (λ (k : Key). 0 < has_role (view_of seat) (owner k page)) (sym at.about) own)
+
+pub frozen-fetch : (pins : Pins) (seat : Seat) (page : ℕ) → IsAt pins seat → IsFrozenIn (key_of pins) page → MayFetch (view_of seat) page
+frozen-fetch pins seat page at frozen = inr (subst (λ (k : Key). IsFrozenIn k page) (sym at.about) frozen)
+
+pub fetch-same : (a b : Seat) (page : ℕ) → IsSameSeat a b → MayFetch (view_of a) page → MayFetch (view_of b) page
+fetch-same a b page x (inl own) =
+    inl (subst (λ (k : Key). 0 < has_role (view_of b) (owner k page)) (sym x.about) (subst (λ (l : List ℕ). 0 < times (owner (view_of a).about page) l) (sym x.roles) own))
+fetch-same a b page x (inr frozen) = inr (subst (λ (k : Key). IsFrozenIn k page) (sym x.about) frozen)

@@ -23,16 +23,16 @@ use Rattle.bc_pins.specs.declared.pins.Seat.{Seat}
 use Rattle.bc_pins.specs.declared.holding.Held.{Held}
 use Rattle.bc_pins.specs.declared.taking.Want.{Want}
 use Rattle.bc_pins.specs.declared.taking.Want.TheVariants.{Work}
-use Rattle.bc_pins.specs.Key.{Key, owner}
+use Rattle.bc_pins.specs.Key.{Key, owner, pages_of}
 use Rattle.bc_pins.specs.Totals.{times}
 use Rattle.bc_pins.specs.Contents.{IsContent, RefersYoung, IsYoung, field_bits, objects_in}
 use Rattle.bc_pins.specs.Views.{has_role}
 use Rattle.bc_pins.specs.Steps.{Takes}
 use Rattle.bc_pins.specs.Opening.{IsOpenable, IsMarkable}
-use Rattle.bc_pins.specs.Calls.{key_of, view_of, IsAt, Grasps, MayPut, tried}
+use Rattle.bc_pins.specs.Calls.{key_of, view_of, IsAt, Grasps, HoldsPage, MayPut, tried}
 use Rattle.bc_pins.proofs.CallerLemmas.{opening_openable}
 use Rattle.bc_pins.proofs.TallyLemmas.{target_in}
-use Rattle.bc_pins.proofs.VisitLemmas.{may_put_taken, tried_about, tried_roles, takes_tried}
+use Rattle.bc_pins.proofs.VisitLemmas.{holds_taken, may_put_taken, tried_about, tried_roles, takes_tried}
 use Rattle.bc_evict.specs.Objects.{HeldHasObject}
 use Rattle.bc_evict.proofs.ContentLemmas.{word-target}
 
@@ -108,6 +108,15 @@ young-written s page o bits n c lt is y = record {
     | inr ne ↦ subst (λ (i : ℕ). IsYoung s (word_of_bits i)) (get_or-set_other c o (offset_of y.cell + 1 + y.index) bits 0 ne) y.young
   ];
 }
+
+-- a page that was taken is in hand, whatever it was taken for, and may be put back as it is
+module _ (pins : Pins) (old seat : Seat) (page : ℕ) (want : Want) (held : Held) (at : IsAt pins old) (g : Grasps (tried (view_of old) page want held.remembered) seat page held) where
+  pub visited-held : page < pages_of (key_of pins) → HoldsPage seat held
+  visited-held lt =
+      holds_taken (tried (view_of old) page want held.remembered) seat page held g (subst (λ (k : Key). page < pages_of k) (sym (tried_about (view_of old) page want held.remembered ∙ at.about)) lt)
+
+  pub visited-may-put : Takes (view_of old) page held.remembered held.homed → MayPut seat held
+  visited-may-put t = may_put_taken (tried (view_of old) page want held.remembered) seat page held g (takes_tried (view_of old) page want held.remembered held.remembered held.homed t)
 
 -- a page that a lane took and wrote may be put back
 module _ (pins : Pins) (old seat : Seat) (page : ℕ) (held : Held) (c : List ℕ) (at : IsAt pins old) (g : Grasps (tried (view_of old) page Work held.remembered) seat page held) where

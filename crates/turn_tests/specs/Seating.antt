@@ -13,10 +13,10 @@ use Rattle.bc_pins.specs.Calls.{key_of, view_of, IsAt, IsFree, CountsFetches}
 
 -- who holds the domains in a turn
 abbrev pub holders_in : Turn → List Holder
-holders_in Lanes = holder.Lane 0 ∷ holder.Lane 1 ∷ []
+holders_in Lanes = holder.Lane 0 ∷ holder.Lane 1 ∷ holder.Frozen ∷ []
 holders_in Mark = []
 
--- in a turn of lanes, lane 0 holds domain 0 and lane 1 domain 1
+-- in a turn of lanes, lane 0 holds domain 0 and lane 1 domain 1, and domain 2 is frozen
 abbrev pub LanesHold : Key → Type 0
 LanesHold k = k.lanes ≡ true → k.owners ≡ map owner_role (holders_in Lanes)
 

@@ -1,5 +1,6 @@
 //! Tests of tables.
 
+mod frozen;
 mod threads;
 
 use crate::cases::{Case, passes};

@@ -4,10 +4,10 @@ ghost use Rattle.std.specs.Prelude.{◌≡◌, ◌≢◌, ◌<◌, true};
 ghost use Rattle.bc_word.specs.Addresses.{superpage_of, page_of};
 ghost use Rattle.bc_superpages.specs.Layout.{superpages};
 ghost use Rattle.bc_superpages.specs.LayoutAt.{IsAllocated};
-ghost use Rattle.bc_pins.specs.Key.{pages_of, owner, role_number};
+ghost use Rattle.bc_pins.specs.Key.{pages_of, owner, role_number, IsFrozenIn};
 ghost use Rattle.bc_pins.specs.Views.{has_role};
 ghost use Rattle.bc_pins.specs.Opening.{IsOpenable, IsMarkable};
-ghost use Rattle.bc_pins.specs.Calls.{key_of, view_of};
+ghost use Rattle.bc_pins.specs.Calls.{key_of, view_of, IsAt, MayFetch};
 ghost use Rattle.turn_tests.specs.Seating.{HasOneRole, LanesHold, holders_in};
 
 mod coming_back;
@@ -39,7 +39,7 @@ pub(crate) enum Seating {
     MarkerAndPager,
 }
 
-/// A table with two seats that have nothing in hand. In a turn of lanes lane 0 holds domain 0, and lane 1 domain 1.
+/// A table with two seats that have nothing in hand. In a turn of lanes lane 0 holds domain 0 and lane 1 domain 1, and domain 2 is frozen.
 pub(crate) struct Table {
     pins: Pins,
     first: Seat,
@@ -66,7 +66,7 @@ fn holders_in(turn: Turn) -> &'static [Holder]
     ensures { result.now ≡ holders_in turn }
 {
     match turn {
-        Turn::Lanes => &[Holder::Lane(0), Holder::Lane(1)],
+        Turn::Lanes => &[Holder::Lane(0), Holder::Lane(1), Holder::Frozen],
         Turn::Mark => &[],
     }
 }
@@ -163,6 +163,29 @@ fn holds(pins: &Pins, seat: &Seat, page: u32) -> bool
         return false;
     }
     pins.header(page / 4).domain == lane
+}
+
+/// Is the table's a turn of lanes, and the domain of a page of the table frozen?
+fn is_frozen(pins: &Pins, page: u32) -> bool
+    requires lanes { LanesHold (key_of pins.now) }
+    ensures page { result ≡ true → page < pages_of (key_of pins.now) }
+    ensures frozen { result ≡ true → IsFrozenIn (key_of pins.now) page }
+{
+    if pins.turn() != Turn::Lanes || page >= pins.pages() {
+        return false;
+    }
+    pins.header(page / 4).domain == 2
+}
+
+/// May the seat's lane bring a page of the table back: does it hold the page's domain, or is that frozen?
+fn may_fetch(pins: &Pins, seat: &Seat, page: u32) -> bool
+    requires at { IsAt pins.now seat.now }
+    requires lanes { LanesHold (key_of pins.now) }
+    requires roles { HasOneRole seat.now }
+    ensures page { result ≡ true → page < pages_of (key_of pins.now) }
+    ensures may { result ≡ true → MayFetch (view_of seat.now) page }
+{
+    holds(pins, seat, page) || is_frozen(pins, page)
 }
 
 /// Does an allocated cell begin at the address?

@@ -7,6 +7,7 @@ use super::saving_phases::goes_on_over;
 use super::sink::Paper;
 use super::{repeated, run_between, shows, trace_in};
 use bc_cli::{OpenGate, Status};
+use bc_engine::Opened;
 use bc_io::MemSource;
 use bc_trace::Cause;
 use std::alloc::{AllocError, Global};
@@ -176,10 +177,10 @@ fn run_budgeted<R: Threads + Sync>(
     Ok(left)
 }
 
-/// Objects on three pages, of five that may be in memory. Then, with this line, a turn that looks at none.
+/// Objects on three pages, of five that may be in memory. Then, with this line or with none, a turn that looks at none.
 fn three_pages(alloc: Global, turn: &str) -> Result<String, AllocError> {
     format!(in alloc;
-        "phase\nlane 0\nnew 0 0 1\nnew 0 1 3\nnew 0 2 7\nend\nphase\n{turn}\nlane 0\nclear 0 1\nend\ndone\n"
+        "phase\nlane 0\nnew 0 0 1\nnew 0 1 3\nnew 0 2 7\nend\nphase\n{turn}lane 0\nclear 0 1\nend\ndone\n"
     )
 }
 
@@ -192,7 +193,7 @@ fn a_page_leaves_for_frames_that_are_free_again_after_the_phase(
     rt: HostRuntime,
 ) -> Result<(), Fail> {
     let alloc = rt.alloc();
-    for (turn, departures, free) in [("turn", 0, 2), ("turn -2", 0, 2), ("turn -3", 1, 3)] {
+    for (turn, departures, free) in [("turn\n", 0, 2), ("turn -2\n", 0, 2), ("turn -3\n", 1, 3)] {
         let lines = three_pages(alloc, turn)?;
         let left = run_budgeted(&rt, alloc, SIX_FRAMES, &lines)?;
         assert_eq!(rt; left.status, Status::Done);
@@ -224,5 +225,77 @@ fn a_heap_that_is_too_small_ends_with_the_frames_of_its_turn(rt: HostRuntime) ->
         assert!(rt; left.written.as_slice() == output.as_bytes());
         assert_eq!(rt; left.page_frames, Some(page_frames));
     }
+    Ok(())
+}
+
+/// The turns of a trace's last phase, as the engine lists them, and how many answers to its notices there are.
+fn turns_listed<R: Threads + Sync>(
+    rt: &R,
+    alloc: Global,
+    numbers: [u32; 7],
+    lines: &str,
+) -> Result<(Vec<Opened>, usize), AllocError> {
+    let input = trace_in(alloc, 3, numbers, lines)?.into_bytes();
+    let mut source = MemSource::new(input, 4096, Vec::new(alloc));
+    let mut sink = Paper::new(alloc);
+    let outcome = run_between(rt, alloc, &["run"], &mut source, &mut sink, &OpenGate);
+    match &outcome.heap {
+        Some(engine) => Ok((engine.opened().to_vec(alloc)?, engine.answers().len())),
+        None => Ok((Vec::new(alloc), 0)),
+    }
+}
+
+/// A phase of one turn is listed with the frames of its line, and those of the phase before are gone.
+#[test]
+fn the_engine_lists_the_turns_of_the_latest_phase(rt: HostRuntime) -> Result<(), Fail> {
+    let alloc = rt.alloc();
+    for (turn, withheld) in [
+        ("", 0),
+        ("turn 0\n", 0),
+        ("turn -1\n", 1),
+        ("turn -2 7\n", 2),
+    ] {
+        let lines = three_pages(alloc, turn)?;
+        let (opened, _) = turns_listed(&rt, alloc, SIX_FRAMES, &lines)?;
+        assert!(rt; opened.as_slice() == [Opened { withheld, marks: 0 }].as_slice());
+    }
+    Ok(())
+}
+
+/// Shows that the turns of this trace's last phase use two lines by turns, of which the first withholds two frames, and the second one and has a
+/// notice: each turn of the lanes with an even number of turns before it has two, and every second turn an answer. It gives how many turns were
+/// mark turns.
+fn marks_in_turn<R: Threads + Sync + Abort>(
+    rt: &R,
+    alloc: Global,
+    lines: &str,
+) -> Result<u64, AllocError> {
+    let (opened, answers) = turns_listed(rt, alloc, FOUR_FRAMES, lines)?;
+    let mut turns = 0u64;
+    let mut marks = 0u64;
+    for turn in &opened {
+        let withheld = if turns % 2 == 0 { 2 } else { 1 };
+        assert_eq!(rt; turn.withheld, withheld);
+        turns = turns.saturating_add(turn.marks).saturating_add(1);
+        marks = marks.saturating_add(turn.marks);
+    }
+    assert!(rt; turns > 1);
+    assert_eq!(rt; answers as u64, turns / 2);
+    Ok(marks)
+}
+
+/// Turns of the lanes use the lines in order in a phase that is done, and so do the mark turns of one that ends where the heap is too small.
+#[test]
+fn turns_of_lanes_and_of_marks_use_the_lines_in_order(rt: HostRuntime) -> Result<(), Fail> {
+    let alloc = rt.alloc();
+    let turns = "turn -2\nturn +1 0\n";
+    let lines = chain(alloc, turns)?;
+    marks_in_turn(&rt, alloc, &lines)?;
+    let news = links(alloc, 6000)?;
+    let lines = format!(in alloc;
+        "phase\n{turns}lane 0\nnew 0 0 1\ncopy 0 0 0 1\n{news}end\ndone\n"
+    )?;
+    let marks = marks_in_turn(&rt, alloc, &lines)?;
+    assert!(rt; marks > 0);
     Ok(())
 }

@@ -1,14 +1,21 @@
 //! Domains that are frozen: what every lane reads and none writes, where a freeze is no word, and images with frozen domains.
 
-use super::gates::run_past;
+ghost use Rattle.std.specs.Prelude.{◌≤◌};
+
+use super::gates::{run_marked, run_past};
+use super::heaps::linked;
 use super::rows::GIVEN;
 use super::saving::{MAGIC, bytes_of, ended, followed, saved};
-use super::saving_phases::goes_on_over;
-use super::{run_over, shows, trace_in};
+use super::saving_phases::{followed_to_the_end, goes_on_over};
+use super::{repeated, run_over, shows, trace_in};
 use bc_cli::{OpenGate, Status};
+use bc_engine::Pacing;
 use bc_image::ImageCause;
 use bc_trace::Cause;
+use std::alloc::{AllocError, Global};
+use std::process::Abort;
 use std::test::Fail;
+use std::thread::Threads;
 
 /// Two lanes with a domain each, of two slots.
 const TWO: [u32; 7] = [2, 2, 2, 2, 1, 4, 4];
@@ -68,9 +75,9 @@ fn of_gives_and_freezes_of_a_domain_the_last_one_holds(rt: HostRuntime) -> Resul
     Ok(())
 }
 
-/// Where each turn is to be at a table, those with a frozen domain aren't, and print the same.
+/// Where each turn is at a table, and each lane on a thread, it prints the same.
 #[test]
-fn turns_with_a_frozen_domain_print_the_same_beside_turns_at_tables(
+fn a_frozen_domain_prints_the_same_where_each_turn_is_at_a_table(
     rt: HostRuntime,
 ) -> Result<(), Fail> {
     let text = trace_in(rt.alloc(), 2, TWO, FROZEN)?;
@@ -79,6 +86,78 @@ fn turns_with_a_frozen_domain_print_the_same_beside_turns_at_tables(
     let output = format!(in rt.alloc(); "{first}{second}{third}done\n")?;
     assert_eq!(rt; passed.status, Status::Done);
     assert_eq!(rt; passed.written.as_slice(), output.as_bytes());
+    Ok(())
+}
+
+/// How many objects a chain has that lies on six pages.
+const CHAIN: u32 = 1_500;
+
+/// A phase in which lane 0 makes a chain in a domain that is frozen then, one of no operations, and one in which both lanes follow the chain from
+/// its newest object to its end. The phases after the first have these lines of turns.
+fn frozen_chain(alloc: Global, turns: &str) -> Result<String, AllocError> {
+    let news = repeated(
+        alloc,
+        "new 2 1 1\nlink 2 1 0 2 0\ncopy 2 1 2 0\n",
+        CHAIN - 1,
+    )?;
+    let first = repeated(alloc, "load 0 0 0 0 0\n", CHAIN)?;
+    let second = repeated(alloc, "load 1 0 0 1 0\n", CHAIN)?;
+    format!(in alloc;
+        "phase\nlane 0\nnew 2 0 1\n{news}lane 1\nfreeze 2\nend\nphase\n{turns}lane 0\nlane 1\nend\nphase\n{turns}lane 0\ncopy 2 0 0 0\n{first}lane 1\ncopy 2 0 1 0\n{second}end\ndone\n"
+    )
+}
+
+/// What they print.
+fn frozen_chain_printed(alloc: Global) -> Result<String, AllocError> {
+    let replies = linked(alloc, CHAIN)?;
+    let loads = followed_to_the_end(alloc, CHAIN)?;
+    format!(in alloc;
+        "phase 1\nlane 0\nobj 0.1\n{replies}lane 1\nphase 2\nlane 0\nlane 1\nphase 3\nlane 0\nok\n{loads}lane 1\nok\n{loads}done\n"
+    )
+}
+
+/// Shows what is printed where each turn is at a table and two frames beside the nurseries' are all for the chain's six pages, which leave for
+/// notices; and that pages come back at tables.
+fn shows_frozen_chain<R: Threads + Sync + Abort>(
+    rt: &R,
+    alloc: Global,
+    workers: u32,
+) -> Result<(), AllocError>
+    requires { (1 ≤ workers) × (workers ≤ 16) }
+{
+    let lines = frozen_chain(alloc, "turn 0 1 2 3 4 5\nturn 5 4\nturn 2\n")?;
+    let text = trace_in(alloc, 2, [2, 3, 2, 2, 1, 4, 4], &lines)?;
+    let passed = run_marked(rt, alloc, &text, workers, Pacing::SideBySide, &OpenGate)?;
+    assert_eq!(rt; passed.status, Status::Done);
+    let output = frozen_chain_printed(alloc)?;
+    assert!(rt; passed.written.as_slice() == output.as_bytes());
+    assert!(rt;
+        passed
+            .counters
+            .is_some_and(|counters| counters.reads.turns > 0)
+    );
+    Ok(())
+}
+
+#[test]
+fn pages_of_a_frozen_domain_that_leave_and_come_back_at_tables_change_no_reply(
+    rt: HostRuntime,
+) -> Result<(), Fail> {
+    shows_frozen_chain(&rt, rt.alloc(), 1)?;
+    shows_frozen_chain(&rt, rt.alloc(), 4)?;
+    Ok(())
+}
+
+/// What the chain prints without notices, and with a frame for each page.
+#[test]
+fn a_frozen_chain_that_stays_in_memory_prints_the_same(rt: HostRuntime) -> Result<(), Fail> {
+    let lines = frozen_chain(rt.alloc(), "")?;
+    let output = frozen_chain_printed(rt.alloc())?;
+    for version in [2, 3] {
+        let input = trace_in(rt.alloc(), version, [2, 3, 2, 2, 1, 4, 10], &lines)?.into_bytes();
+        let end = (Status::Done, true);
+        shows(&rt, rt.alloc(), &["run"], input, end, &output);
+    }
     Ok(())
 }
 

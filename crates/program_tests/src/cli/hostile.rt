@@ -31,6 +31,9 @@ const FIRST_OUTPUT: &str = "phase 1\nlane 0\nobj 0.1\nok\nnum 7\ndone\n";
 /// One lane, one domain, two slots, one superpage.
 const SMALL: [u32; 7] = [1, 1, 2, 1, 1, 4, 3];
 
+/// The first line of a trace in each version of the language.
+const FIRST_LINES: [&str; 3] = ["bc-trace 1\n", "bc-trace 2\n", "bc-trace 3\n"];
+
 /// Changes of the first path: what is replaced where it stands first, what comes in its place, and the line and the cause by which the changed
 /// text is refused.
 const CHANGES: [(&str, &str, u32, Cause); 14] = [
@@ -59,10 +62,14 @@ const CHANGES: [(&str, &str, u32, Cause); 14] = [
 fn each_change_of_the_first_path_is_refused_at_its_line_by_its_cause(
     rt: HostRuntime,
 ) -> Result<(), Fail> {
-    for (old, new, line, cause) in CHANGES {
-        let text = FIRST_PATH.replacen(rt.alloc(), old, new, 1)?;
-        let end = (Status::BadTrace { line, cause }, false);
-        shows(&rt, rt.alloc(), &["run"], text.into_bytes(), end, "");
+    for first in FIRST_LINES {
+        for (old, new, line, cause) in CHANGES {
+            let text = FIRST_PATH
+                .replacen(rt.alloc(), old, new, 1)?
+                .replacen(rt.alloc(), "bc-trace 1\n", first, 1)?;
+            let end = (Status::BadTrace { line, cause }, false);
+            shows(&rt, rt.alloc(), &["run"], text.into_bytes(), end, "");
+        }
     }
     Ok(())
 }

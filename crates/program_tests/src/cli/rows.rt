@@ -14,8 +14,7 @@ fn a_number_is_set_and_loaded_back(rt: HostRuntime) -> Result<(), Fail> {
     let text = trace(rt.alloc(), SMALL, lines)?;
     assert_eq!(rt; text.len(), 137);
     let output = "phase 1\nlane 0\nobj 0.1\nok\nnum 7\ndone\n";
-    let end = (Status::Done, true);
-    shows(&rt, rt.alloc(), &["run"], text.into_bytes(), end, output);
+    shows_done(&rt, rt.alloc(), SMALL, lines, output)?;
     Ok(())
 }
 

@@ -2,14 +2,15 @@
 
 use super::heaps::{linked, links};
 use super::saving::{SMALL, ended, followed, saved};
-use super::{repeated, run_over, trace};
+use super::{repeated, run_over, trace, trace_in};
 use bc_cli::Status;
 use std::alloc::{AllocError, Global};
 use std::process::Abort;
 use std::test::Fail;
 use std::thread::Threads;
 
-/// Shows that a run prints these texts of its phases, and that one that is resumed after some of them prints the others, each number of workers.
+/// Shows that a run prints these texts of its phases, and that one that is resumed after some of them prints the others, in each version of the
+/// language and with each number of workers.
 fn goes_on<R: Threads + Sync + Abort>(
     rt: &R,
     alloc: Global,
@@ -17,11 +18,14 @@ fn goes_on<R: Threads + Sync + Abort>(
     lines: &str,
     texts: &[&str],
 ) -> Result<(), AllocError> {
-    let input = trace(alloc, numbers, lines)?.into_bytes();
-    goes_on_over(rt, alloc, input, texts)
+    for version in 1..=3 {
+        let input = trace_in(alloc, version, numbers, lines)?.into_bytes();
+        goes_on_over(rt, alloc, input, texts)?;
+    }
+    Ok(())
 }
 
-/// The same of the text of a whole trace.
+/// Shows that of the text of a whole trace.
 pub fn goes_on_over<R: Threads + Sync + Abort>(
     rt: &R,
     alloc: Global,
@@ -112,7 +116,7 @@ fn a_trace_without_phases_has_one_image(rt: HostRuntime) -> Result<(), Fail> {
 }
 
 /// The replies to following a chain of so many objects from its newest to its end.
-fn followed_to_the_end(alloc: Global, objects: u32) -> Result<String, AllocError> {
+pub fn followed_to_the_end(alloc: Global, objects: u32) -> Result<String, AllocError> {
     let mut output = repeated(alloc, "ref\n", objects.saturating_sub(1))?;
     output.push_str("nil\n")?;
     Ok(output)
@@ -160,7 +164,8 @@ fn pages_that_left_for_notices_are_in_an_image(rt: HostRuntime) -> Result<(), Fa
     let rest = followed_to_the_end(alloc, 2000)?;
     let third = format!(in alloc; "phase 3\nlane 0\n{rest}obj 0.1\nobj 0.2000\n")?;
     let texts = [first.as_str(), "phase 2\nlane 0\nobj 0.1\n", third.as_str()];
-    goes_on(&rt, alloc, [1, 1, 3, 2, 1, 4, 4], &lines, &texts)?;
+    let input = trace_in(alloc, 2, [1, 1, 3, 2, 1, 4, 4], &lines)?.into_bytes();
+    goes_on_over(&rt, alloc, input, &texts)?;
     Ok(())
 }
 

@@ -1,11 +1,10 @@
 //! A lane that gives a page up for a frame, and reloads it in the same turn.
 
 ghost use Rattle.std.specs.Prelude.{◌≡◌, ◌<◌, []};
-ghost use Rattle.bc_pins.specs.Key.{pages_of, owner};
-ghost use Rattle.bc_pins.specs.Views.{has_role};
-ghost use Rattle.bc_pins.specs.Calls.{key_of, view_of, IsAt, IsFree, IsSameWorker, CountsFetches};
+ghost use Rattle.bc_pins.specs.Key.{pages_of};
+ghost use Rattle.bc_pins.specs.Calls.{key_of, view_of, IsAt, IsFree, IsSameWorker, CountsFetches, MayFetch};
 
-use crate::table::{Table, holds};
+use crate::table::{Table, may_fetch};
 use bc_evict::{claim_frame, free_frame, give_frame, reload};
 use bc_pins::{Pins, Seat};
 
@@ -15,7 +14,7 @@ fn comes_back(pins: &Pins, lane: &mut Seat, page: u32) -> bool
     requires free { IsFree lane.old }
     requires none { (view_of lane.old).rights ≡ [] }
     requires page { page < pages_of (key_of pins.now) }
-    requires own { 0 < has_role (view_of lane.old) (owner (key_of pins.now) page) }
+    requires may { MayFetch (view_of lane.old) page }
     requires counts { CountsFetches lane.old }
     ensures same { IsSameWorker lane.old lane.new }
     ensures free { IsFree lane.new }
@@ -42,9 +41,9 @@ fn comes_back(pins: &Pins, lane: &mut Seat, page: u32) -> bool
 }
 
 impl Table {
-    /// Does a page of the first seat's lane leave and come back?
+    /// Does a page of the first seat's lane, or one of a frozen domain, leave and come back?
     pub(super) fn comes_back(&mut self, page: u32) -> bool {
-        if !holds(&self.pins, &self.first, page) {
+        if !may_fetch(&self.pins, &self.first, page) {
             return false;
         }
         comes_back(&self.pins, &mut self.first, page)

@@ -35,7 +35,9 @@ pub(crate) enum Step {
     Write((Address, Address)),
     /// The first seat's lane writes 7 into the first field of an object, and a pager evicts the page of another one, on threads of their own.
     WriteAndEvict((Address, Address)),
-    /// A page of the first seat's lane leaves for its frame and is reloaded.
+    /// Two lanes take a page of a frozen domain to work on it, the second one first: while it has the page in hand, that is busy for the first one.
+    Read(u32),
+    /// A page of the first seat's lane, or of a frozen domain, leaves for its frame and is reloaded.
     ComeBack(u32),
     /// The mark word and the finished word of this number.
     Look(u32, (u64, u64)),
@@ -76,6 +78,7 @@ fn goes<R: Threads>(
         Step::WriteAndEvict(cells) => Ok(table.are_done(rt, cells)),
         Step::Take(page, refused) => Ok(table.is_refused(page, refused)),
         Step::TakeMeanwhile(page, refused) => Ok(table.is_refused_meanwhile(page, refused)),
+        Step::Read(page) => Ok(table.is_read(page)),
         Step::ComeBack(page) => Ok(table.comes_back(page)),
         Step::Look(word, answer) => Ok(table.looks(word) == Some(answer)),
         _ => Ok(table.shows(step)),

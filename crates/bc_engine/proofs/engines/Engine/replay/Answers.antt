@@ -23,34 +23,34 @@ run_phase-told-requires-clause-births g c κs within = subst (λ (e : EngineView
 pub returns-clause-done : goal.returns-clause-done
 returns-clause-done g c =
     IfOk-weaker c.run_phase-told.result _ _
-    (λ told did. did-answers [] c.run_phase-told.new.answers.items c.take_answers-answers.ensures.same c.keep_answers.ensures did) c.run_phase-told.ensures.done
+    (λ told did. did-answers [] c.run_phase-told.new.log c.take_answers-answers.ensures.same c.keep_turns.ensures did) c.run_phase-told.ensures.done
 
 pub returns-clause-cut : goal.returns-clause-cut
 returns-clause-cut g c =
     ended-weaker c.run_phase-told.result _ _
-    (λ told need cut. cut-answers [] c.run_phase-told.new.answers.items c.take_answers-answers.ensures.same c.keep_answers.ensures told need cut) c.run_phase-told.ensures.cut
+    (λ told need cut. cut-answers [] c.run_phase-told.new.log c.take_answers-answers.ensures.same c.keep_turns.ensures told need cut) c.run_phase-told.ensures.cut
 
 pub returns-clause-turns : goal.returns-clause-turns
 returns-clause-turns g c =
     IfOk-weaker c.run_phase-told.result _ _
-    (λ told had. had-answers c.run_phase-told.new.self [] c.run_phase-told.new.answers.items c.take_answers-answers.ensures.same c.keep_answers.ensures had) c.run_phase-told.ensures.turns
+    (λ told had. had-answers c.run_phase-told.new.self [] c.run_phase-told.new.log c.take_answers-answers.ensures.same c.keep_turns.ensures had) c.run_phase-told.ensures.turns
 
 pub returns-clause-cut_turns : goal.returns-clause-cut_turns
 returns-clause-cut_turns g c =
     ended-weaker c.run_phase-told.result _ _
-    (λ told need had. cut-turns-answers c.run_phase-told.new.self [] c.run_phase-told.new.answers.items c.take_answers-answers.ensures.same c.keep_answers.ensures had) c.run_phase-told.ensures.cut_turns
+    (λ told need had. cut-turns-answers c.run_phase-told.new.self [] c.run_phase-told.new.log c.take_answers-answers.ensures.same c.keep_turns.ensures had) c.run_phase-told.ensures.cut_turns
 
 pub returns-clause-want : goal.returns-clause-want
-returns-clause-want g c = λ no. want-answers c.run_phase-told.new.self [] c.run_phase-told.new.answers.items c.take_answers-answers.ensures.same c.keep_answers.ensures (c.run_phase-told.ensures.want no)
+returns-clause-want g c = λ no. want-answers c.run_phase-told.new.self [] c.run_phase-told.new.log c.take_answers-answers.ensures.same c.keep_turns.ensures (c.run_phase-told.ensures.want no)
 
 pub returns-clause-setup : goal.returns-clause-setup
 returns-clause-setup g c =
     let taken = c.take_answers-answers.ensures.same in
-    let kept = c.keep_answers.ensures in
+    let kept = c.keep_turns.ensures in
     let same = c.run_phase-told.ensures.setup in
     (ap (λ (e : EngineView). e.setup) kept ∙ same.0 ∙ ap (λ (e : EngineView). e.setup) taken, ap (λ (e : EngineView). e.workers) kept ∙ same.1 ∙ ap (λ (e : EngineView). e.workers) taken)
 
 pub returns-clause-births : goal.returns-clause-births
 returns-clause-births g c = λ j.
     let births : (e : EngineView) → ℕ = λ e. get_or e.running.serials j 0 in
-    omega (arith, c.run_phase-told.ensures.births j, ap births c.keep_answers.ensures, ap births c.take_answers-answers.ensures.same)
+    omega (arith, c.run_phase-told.ensures.births j, ap births c.keep_turns.ensures, ap births c.take_answers-answers.ensures.same)

@@ -1,9 +1,9 @@
 use Rattle.std.proofs.Common.{◌≡◌, ℕ, None, Some, refl, sym, subst}
 use Rattle.bc_model.specs.Rows.{lists_of}
 use Rattle.bc_model.specs.declared.traces.Setup.{Setup}
-use Rattle.bc_engine.specs.EngineFacts.{CanRunLanes, IsWorkers, with_answers}
+use Rattle.bc_engine.specs.EngineFacts.{CanRunLanes, IsWorkers}
 use Rattle.bc_engine.specs.Engines.{EngineView}
-use Rattle.bc_engine.specs.Inside.{engine_of, out_of_heap, played}
+use Rattle.bc_engine.specs.Inside.{engine_of, out_of_heap, played, with_log}
 use Rattle.bc_engine.specs.Rounds.{IsTooSmall, RanAll, RanToCut, RanToWant}
 use Rattle.bc_engine.specs.declared.engines.Ended.{Ended}
 use Rattle.bc_engine.specs.declared.engines.Ended.TheVariants.{OutOfHeap}
@@ -59,8 +59,8 @@ returns-in-Ok-clause-turns g c =
     let had = c.in-Ok.ensures.turns in
     rw (← c.self.view_is) (
       had.0,
-      subst (λ (x : EngineView). RanAll lanes lines x c.args.replies.now had.0 (with_answers (engine_of k) c.rounds.new.answers.items) c.rounds.new.replies) (played-at i c.args.answers.now.items going)
-          (subst (λ (x : EngineView). RanAll lanes lines (played i.player c.args.answers.now.items) c.args.replies.now had.0 x c.rounds.new.replies) (played-at k c.rounds.new.answers.items going) had.1),
+      subst (λ (x : EngineView). RanAll lanes lines x c.args.replies.now had.0 (with_log (engine_of k) c.rounds.new.log) c.rounds.new.replies) (played-at i c.args.log.now going)
+          (subst (λ (x : EngineView). RanAll lanes lines (played i.player c.args.log.now) c.args.replies.now had.0 x c.rounds.new.replies) (played-at k c.rounds.new.log going) had.1),
     )
 
 -- they ended where the heap is too small
@@ -86,8 +86,8 @@ pub returns-in-Err-TooSmall-clause-cut : goal.returns-in-Err-TooSmall-clause-cut
 returns-in-Err-TooSmall-clause-cut g c =
     let arm = c.in-Err-TooSmall in
     let lanes = lists_of c.args.lanes.now in
-    let e = played c.self.inside.player c.args.answers.now.items in
-    let f = played c.rounds.new.self c.rounds.new.answers.items in
+    let e = played c.self.inside.player c.args.log.now in
+    let f = played c.rounds.new.self c.rounds.new.log in
     let small = small-at (Unit {0}) arm.field-0 arm.need (λ need. IsTooSmall lanes e c.args.replies.now (out_of_heap need f) c.rounds.new.replies need) arm.field-0-is arm.ensures.cut in
     rw (← c.self.view_is) (record { cause = refl; goes = small.goes; needs = small.needs; above = small.above })
 
@@ -98,12 +98,12 @@ returns-in-Err-TooSmall-clause-cut_turns g c =
     let lanes = lists_of c.args.lanes.now in
     let lines = c.args.lines.now in
     let i = c.self.inside in
-    let e = played i.player c.args.answers.now.items in
-    let f = played c.rounds.new.self c.rounds.new.answers.items in
+    let e = played i.player c.args.log.now in
+    let f = played c.rounds.new.self c.rounds.new.log in
     let had = small-at (Unit {0}) arm.field-0 arm.need (λ need. (turns : ℕ) × RanToCut lanes lines e c.args.replies.now turns (out_of_heap need f) c.rounds.new.replies) arm.field-0-is arm.ensures.cut_turns in
     rw (← c.self.view_is) (
       had.0,
-      subst (λ (x : EngineView). RanToCut lanes lines x c.args.replies.now had.0 (out_of_heap arm.need f) c.rounds.new.replies) (played-at i c.args.answers.now.items going) had.1,
+      subst (λ (x : EngineView). RanToCut lanes lines x c.args.replies.now had.0 (out_of_heap arm.need f) c.rounds.new.replies) (played-at i c.args.log.now going) had.1,
     )
 
 -- or where there was no memory for answers
@@ -117,11 +117,14 @@ returns-clause-want g c =
     let lanes = lists_of c.args.lanes.now in
     let lines = c.args.lines.now in
     let i = c.self.inside in
-    let kept = c.rounds.new.answers in
-    let f = played c.rounds.new.self kept.items in
-    let wants = room-at (Unit {0}) arm.field-0 (RanToWant lanes lines (played i.player c.args.answers.now.items) c.args.replies.now f c.rounds.new.replies kept) arm.field-0-is arm.ensures.want in
+    let kept = c.rounds.new.log in
+    let f = played c.rounds.new.self kept in
+    let wants = room-at (Unit {0}) arm.field-0 (RanToWant lanes lines (played i.player c.args.log.now) c.args.replies.now f c.rounds.new.replies kept.answers) arm.field-0-is arm.ensures.want in
     rw (← c.self.view_is) (
       f,
-      subst (λ (x : EngineView). RanToWant lanes lines x c.args.replies.now f c.rounds.new.replies kept) (played-at i c.args.answers.now.items going) wants,
+      subst (λ (x : EngineView). RanToWant lanes lines x c.args.replies.now f c.rounds.new.replies kept.answers) (played-at i c.args.log.now going) wants,
       refl,
     )
+
+pub returns-in-Err-TooSmall-clause-births : goal.returns-in-Err-TooSmall-clause-births
+returns-in-Err-TooSmall-clause-births g c = rw (← c.self.view_is) c.rounds.ensures.births

@@ -1,15 +1,15 @@
-use Rattle.std.proofs.Common.{◌≡◌, ℕ, Some, get_or, length, ap, sym, subst, ◌∙◌, arith}
+use Rattle.std.proofs.Common.{◌≡◌, ℕ, Some, get_or, length, vec_capacity, ap, sym, subst, ◌∙◌, arith}
 use Rattle.std.proofs.lemmas.List.{take_at}
 use Rattle.std.specs.List.{AllByRecursion}
 use Rattle.bc_model.specs.Lists.{PhaseLists}
 use Rattle.bc_model.specs.Rows.{lists_of}
 use Rattle.bc_model.specs.Run.{after_changes}
 use Rattle.bc_model.specs.WellFormed.{FitsFrames}
-use Rattle.bc_engine.specs.EngineFacts.{with_answers}
+use Rattle.bc_engine.specs.Inside.{with_log}
 use Rattle.bc_engine.specs.Engines.{EngineView, EngineStands, HasEmptyChunks}
 use Rattle.bc_engine.specs.Rounds.{IsTooSmall, RanToCut, RanToWant}
 use Rattle.bc_engine.specs.declared.engines.Ended.TheVariants.{NoMemory}
-use Rattle.bc_engine.proofs.PhaseLemmas.{births-lent, cut-lent, did-lent, underway-lent}
+use Rattle.bc_engine.proofs.PhaseLemmas.{births-lent, cut-lent, did-lent, turns-lent, underway-lent}
 use Rattle.bc_engine.proofs.RoundLemmas.{room-at, small-at}
 use Rattle.bc_engine.proofs.TurnLemmas.{cut-turns-lent, had-lent, want-lent}
 use Rattle.bc_engine.proofs.engines.Engine.run_phase.Goals as goal
@@ -25,6 +25,11 @@ rounds-requires-clause-underway g c κs within =
 pub rounds-requires-clause-budgets : goal.rounds-requires-clause-budgets
 rounds-requires-clause-budgets g c κs within =
     subst (AllByRecursion (FitsFrames c.args.self.now.setup)) (sym (c.deref-2.ensures.value ∙ ap (λ (p : PhaseLists). p.turns) c.phase.view_is)) c.requires.budgets
+
+pub rounds-requires-clause-room : goal.rounds-requires-clause-room
+rounds-requires-clause-room g c κs within =
+    turns-lent c.args.phase.now (lists_of c.deref.result.now) c.deref_mut.result.now c.args.replies.items (vec_capacity c.args.log.now.opened) c.args.log.now.opened.items c.requires.room
+    (ap lists_of c.deref.ensures.value ∙ ap (λ (p : PhaseLists). p.lanes) c.phase.view_is) c.deref_mut.ensures.value c.requires.none.1 c.requires.turns
 
 pub room_facts-requires-clause-empty : goal.room_facts-requires-clause-empty
 room_facts-requires-clause-empty g c = subst (λ (e : EngineView). HasEmptyChunks e.running.heap) (sym c.change_all.ensures.same) c.in-Ok.ensures.through.empty
@@ -56,7 +61,7 @@ returns-in-Ok-clause-turns g c =
     let same = c.rounds.auto.replies in
     let lent = ap length c.deref_mut.ensures.value in
     let len = c.deref_mut.ensures.len in
-    had-lent c.args.self.now c.rounds.new.self c.change_all.new.self phase c.args.answers.now.items c.rounds.new.answers.items (lists_of c.deref.result.now) c.deref-2.result.now c.deref_mut.result.now c.args.replies.items c.rounds.new.replies _ c.requires.none c.requires.room
+    had-lent c.args.self.now c.rounds.new.self c.change_all.new.self phase c.args.log.now c.rounds.new.log (lists_of c.deref.result.now) c.deref-2.result.now c.deref_mut.result.now c.args.replies.items c.rounds.new.replies _ c.requires.none c.requires.room
     (ap lists_of c.deref.ensures.value ∙ ap (λ (p : PhaseLists). p.lanes) c.phase.view_is)
     (c.deref-2.ensures.value ∙ ap (λ (p : PhaseLists). p.turns) c.phase.view_is) c.deref_mut.ensures.value
     (take_at c.rounds.new.replies _ c.args.replies.len (omega arith)) c.in-Ok.ensures.turns c.change_all.ensures.same
@@ -85,9 +90,9 @@ returns-in-Err-TooSmall-clause-cut_turns g c =
     let arm = c.in-Err-TooSmall in
     let os = lists_of c.deref.result.now in
     let ls = c.deref-2.result.now in
-    let e = with_answers c.args.self.now c.args.answers.now.items in
-    let f = with_answers c.rounds.new.self c.rounds.new.answers.items in
-    cut-turns-lent c.args.self.now c.rounds.new.self c.args.phase.now c.args.answers.now.items c.rounds.new.answers.items os ls c.deref_mut.result.now c.args.replies.items c.rounds.new.replies _ c.requires.none c.requires.room
+    let e = with_log c.args.self.now c.args.log.now in
+    let f = with_log c.rounds.new.self c.rounds.new.log in
+    cut-turns-lent c.args.self.now c.rounds.new.self c.args.phase.now c.args.log.now c.rounds.new.log os ls c.deref_mut.result.now c.args.replies.items c.rounds.new.replies _ c.requires.none c.requires.room
     (ap lists_of c.deref.ensures.value ∙ ap (λ (p : PhaseLists). p.lanes) c.phase.view_is)
     (c.deref-2.ensures.value ∙ ap (λ (p : PhaseLists). p.turns) c.phase.view_is) c.deref_mut.ensures.value
     (take_at c.rounds.new.replies _ c.args.replies.len (omega arith))
@@ -104,12 +109,12 @@ returns-in-Err-NoRoom-clause-want g c = λ no.
     let arm = c.in-Err-NoRoom in
     let os = lists_of c.deref.result.now in
     let ls = c.deref-2.result.now in
-    let kept = c.rounds.new.answers in
-    let e = with_answers c.args.self.now c.args.answers.now.items in
-    want-lent c.args.self.now c.rounds.new.self c.args.phase.now c.args.answers.now.items kept os ls c.deref_mut.result.now c.args.replies.items c.rounds.new.replies c.requires.none c.requires.room
+    let kept = c.rounds.new.log in
+    let e = with_log c.args.self.now c.args.log.now in
+    want-lent c.args.self.now c.rounds.new.self c.args.phase.now c.args.log.now kept os ls c.deref_mut.result.now c.args.replies.items c.rounds.new.replies c.requires.none c.requires.room
     (ap lists_of c.deref.ensures.value ∙ ap (λ (p : PhaseLists). p.lanes) c.phase.view_is)
     (c.deref-2.ensures.value ∙ ap (λ (p : PhaseLists). p.turns) c.phase.view_is) c.deref_mut.ensures.value
-    (room-at (Unit {0}) arm.field-0 ((last : EngineView) × RanToWant os ls e c.deref_mut.result.now last c.rounds.new.replies kept × (with_answers c.rounds.new.self kept.items ≡ record last { ended = Some NoMemory })) arm.field-0-is arm.ensures.want)
+    (room-at (Unit {0}) arm.field-0 ((last : EngineView) × RanToWant os ls e c.deref_mut.result.now last c.rounds.new.replies kept.answers × (with_log c.rounds.new.self kept ≡ record last { ended = Some NoMemory })) arm.field-0-is arm.ensures.want)
 
 pub returns-in-Err-NoRoom-clause-births : goal.returns-in-Err-NoRoom-clause-births
 returns-in-Err-NoRoom-clause-births g c =

@@ -1,4 +1,4 @@
-use Rattle.std.proofs.Common.{◌≡◌, ℕ, ◌+◌, ◌*◌, Bool, length, refl, sym, ap, subst, ◌∙◌, arith}
+use Rattle.std.proofs.Common.{◌≡◌, ℕ, ◌+◌, ◌*◌, Bool, List, length, refl, sym, ap, subst, ◌∙◌, arith}
 use Rattle.std.proofs.lemmas.Result.{err_from_is_err_and}
 use Rattle.std.specs.List.{AllByRecursion}
 use Rattle.bc_marking.specs.Lines.{hints_at}
@@ -6,10 +6,13 @@ use Rattle.bc_model.specs.Rows.{lists_of}
 use Rattle.bc_model.specs.TurnLines.{hints_in}
 use Rattle.bc_model.specs.WellFormed.{FitsFrames}
 use Rattle.bc_model.specs.declared.traces.Setup.{Setup}
-use Rattle.bc_engine.specs.EngineFacts.{CanRunLanes}
+use Rattle.bc_pager.specs.declared.answers.Answer.{Answer}
+use Rattle.bc_engine.specs.EngineFacts.{CanRunLanes, with_turns}
 use Rattle.bc_engine.specs.Inside.{out_of_heap, played}
 use Rattle.bc_engine.specs.Lanes.{IsUnderway}
 use Rattle.bc_engine.specs.Rounds.{CutRound, HasNoRoomFor, IsTooSmall, RanToCut, RanToWant, longest_of}
+use Rattle.bc_engine.specs.declared.opened.Opened.{Opened}
+use Rattle.bc_engine.specs.declared.opened.TurnLog.{TurnLog}
 use Rattle.bc_engine.specs.declared.players.Player.{Player}
 use Rattle.bc_engine.proofs.RoundLemmas.{room-both, small-then, small-weaker}
 use Rattle.bc_engine.proofs.RunLemmas.{runs-same, runs-then}
@@ -26,7 +29,8 @@ rounds-init g c = record {
   unrecorded = c.requires.unrecorded;
   budgets = c.requires.budgets;
   kept = c.requires.kept;
-  turns = turns-begun (lists_of c.args.lanes.now) c.args.lines.now (played c.args.self.now c.args.answers.now.items) c.args.replies.now;
+  room = c.requires.room;
+  turns = turns-begun (lists_of c.args.lanes.now) c.args.lines.now (played c.args.self.now c.args.log.now) c.args.replies.now;
 }
 
 pub rounds-preserved : goal.rounds-preserved
@@ -42,7 +46,8 @@ rounds-preserved g c =
       unrecorded = c.in_ok-round.ensures.unrecorded;
       budgets = subst (λ (s : Setup). AllByRecursion (FitsFrames s) c.args.lines.now) (sym round.same.1) before.budgets;
       kept = c.in_ok-round.ensures.kept;
-      turns = turns-more (played c.round.new.self c.round.new.answers.items) c.round.new.replies c.round.new.next before.turns (c.in_ok-round.ensures.turn c.if-branch.false);
+      room = c.in_ok-round.ensures.room c.if-branch.false;
+      turns = turns-more (played c.round.new.self c.round.new.log) c.round.new.replies c.round.new.next before.turns (c.in_ok-round.ensures.turn c.if-branch.false);
     }
 
 pub round-requires-clause-longest : goal.round-requires-clause-longest
@@ -68,7 +73,7 @@ returns-in_err-round-clause-counted g c = λ sum. c.round.ensures.counted (c.rou
 
 pub returns-then-branch-clause-turns : goal.returns-then-branch-clause-turns
 returns-then-branch-clause-turns g c =
-    turns-all (played c.round.new.self c.round.new.answers.items) c.round.new.replies c.rounds.invariant.turns (c.in_ok-round.ensures.last_turn c.if-branch.true)
+    turns-all (played c.round.new.self c.round.new.log) c.round.new.replies c.rounds.invariant.turns (c.in_ok-round.ensures.last_turn c.if-branch.true)
 
 pub returns-in_err-round-clause-ready : goal.returns-in_err-round-clause-ready
 returns-in_err-round-clause-ready g c =
@@ -82,9 +87,9 @@ pub returns-in_err-round-clause-cut : goal.returns-in_err-round-clause-cut
 returns-in_err-round-clause-cut g c =
     let p = err_from_is_err_and c.from_residual.result c.from_residual.ensures.1 in
     let lanes = lists_of c.args.lanes.now in
-    let e = played c.args.self.now c.args.answers.now.items in
-    let m = played c.rounds.self c.rounds.answers.items in
-    let f = played c.round.new.self c.round.new.answers.items in
+    let e = played c.args.self.now c.args.log.now in
+    let m = played c.rounds.self c.rounds.log in
+    let f = played c.round.new.self c.round.new.log in
     rw p.1
     (rw p.2
     (small-weaker Bool (Unit {0}) _ (λ need. IsTooSmall lanes m c.rounds.replies (out_of_heap need f) c.round.new.replies need) (λ need. IsTooSmall lanes e c.args.replies.now (out_of_heap need f) c.round.new.replies need)
@@ -95,23 +100,32 @@ returns-in_err-round-clause-cut_turns g c =
     let p = err_from_is_err_and c.from_residual.result c.from_residual.ensures.1 in
     let lanes = lists_of c.args.lanes.now in
     let lines = c.args.lines.now in
-    let f = played c.round.new.self c.round.new.answers.items in
+    let f = played c.round.new.self c.round.new.log in
     rw p.1
     (rw p.2
-    (small-weaker Bool (Unit {0}) _ (λ need. CutRound lanes lines (played c.rounds.self c.rounds.answers.items) c.rounds.replies c.rounds.next (out_of_heap need f) c.round.new.replies)
-    (λ need. (turns : ℕ) × RanToCut lanes lines (played c.args.self.now c.args.answers.now.items) c.args.replies.now turns (out_of_heap need f) c.round.new.replies)
+    (small-weaker Bool (Unit {0}) _ (λ need. CutRound lanes lines (played c.rounds.self c.rounds.log) c.rounds.replies c.rounds.next (out_of_heap need f) c.round.new.replies)
+    (λ need. (turns : ℕ) × RanToCut lanes lines (played c.args.self.now c.args.log.now) c.args.replies.now turns (out_of_heap need f) c.round.new.replies)
     (λ need cut. turns-cut (out_of_heap need f) c.round.new.replies c.rounds.invariant.turns cut) c.in_err-round.ensures.cut_turn))
+
+-- a player with lists that have the same items is played on as the same engine
+played-same : {p q : Player} (a b : TurnLog) → p ≡ q → a.answers.items ≡ b.answers.items → a.opened.items ≡ b.opened.items → played p a ≡ played q b
+played-same {p} {q} a b same answers opened =
+    ap (λ (x : Player). played x a) same
+    ∙ (ap (λ (x : List Answer). with_turns (played q a) x a.opened.items) answers ∙ ap (λ (x : List Opened). with_turns (played q a) b.answers.items x) opened)
 
 pub returns-in_err-round-clause-want : goal.returns-in_err-round-clause-want
 returns-in_err-round-clause-want g c =
     let p = err_from_is_err_and c.from_residual.result c.from_residual.ensures.1 in
     let lanes = lists_of c.args.lanes.now in
     let lines = c.args.lines.now in
-    let f = played c.round.new.self c.round.new.answers.items in
+    let f = played c.round.new.self c.round.new.log in
     rw p.1
     (rw p.2
-    (room-both Bool (Unit {0}) _ (HasNoRoomFor c.round.new.answers (length (hints_at (hints_in lines) c.rounds.next) + 2 * longest_of (hints_in lines)))
-    ((c.round.new.self ≡ c.rounds.self) × (c.round.new.replies ≡ c.rounds.replies) × (c.round.new.answers.items ≡ c.rounds.answers.items))
-    (RanToWant lanes lines (played c.args.self.now c.args.answers.now.items) c.args.replies.now f c.round.new.replies c.round.new.answers)
-    (λ wants same. turns-want f c.round.new.replies c.round.new.answers c.rounds.invariant.turns (ap (λ (x : Player). played x c.round.new.answers.items) same.0 ∙ ap (played c.rounds.self) same.2) same.1 wants)
+    (room-both Bool (Unit {0}) _ (HasNoRoomFor c.round.new.log.answers (length (hints_at (hints_in lines) c.rounds.next) + 2 * longest_of (hints_in lines)))
+    ((c.round.new.self ≡ c.rounds.self) × (c.round.new.replies ≡ c.rounds.replies) × (c.round.new.log.answers.items ≡ c.rounds.log.answers.items) × (c.round.new.log.opened.items ≡ c.rounds.log.opened.items))
+    (RanToWant lanes lines (played c.args.self.now c.args.log.now) c.args.replies.now f c.round.new.replies c.round.new.log.answers)
+    (λ wants same. turns-want f c.round.new.replies c.round.new.log.answers c.rounds.invariant.turns (played-same c.round.new.log c.rounds.log same.0 same.2 same.3) same.1 wants)
     c.in_err-round.ensures.no_room c.in_err-round.ensures.undone))
+
+pub rounds-smaller : goal.rounds-smaller
+rounds-smaller g c = c.in_ok-round.ensures.fewer c.if-branch.false

@@ -1,4 +1,4 @@
-use Rattle.std.proofs.Common.{◌≡◌}
+use Rattle.std.proofs.Common.{◌≡◌, ◌+◌, ◌≤◌, length, vec_capacity}
 use Rattle.std.specs.List.{AllByRecursion}
 use Rattle.bc_model.specs.Rows.{lists_of}
 use Rattle.bc_model.specs.WellFormed.{FitsFrames}
@@ -20,7 +20,8 @@ invariant-rounds g l = record {
   unrecorded : IsUnrecorded l.self.running.heap;
   budgets : AllByRecursion (FitsFrames l.self.setup) l.lines;
   kept : IsRoomKept l.self.running.holders l.self.running.heap.roots.slots (lists_of l.lanes) (lists_of l.replies) l.room;
-  turns : IsAtTurn (lists_of l.lanes) l.lines (played l.initial.self l.initial.answers.items) l.initial.replies (played l.self l.answers.items) l.replies l.next;
+  room : length l.log.opened.items + left (lists_of l.lanes) (lists_of l.replies) + 1 ≤ vec_capacity l.log.opened;
+  turns : IsAtTurn (lists_of l.lanes) l.lines (played l.initial.self l.initial.log) l.initial.replies (played l.self l.log) l.replies l.next;
 }
 
 abbrev pub decreases-rounds : goal.decreases-rounds

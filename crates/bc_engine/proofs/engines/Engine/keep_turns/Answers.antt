@@ -1,4 +1,4 @@
-use Rattle.bc_engine.proofs.engines.Engine.keep_answers.Goals as goal
+use Rattle.bc_engine.proofs.engines.Engine.keep_turns.Goals as goal
 
 pub invariant_of-self : goal.invariant_of-self
 invariant_of-self c = record {
