@@ -21,10 +21,12 @@ LONGEST = 120
 
 @dataclass
 class Run:
-    """A run of the program: its name, its words, its input, and once it ran its status, output and standard error."""
+    """A run of the program: its name, its words, its input, whether its turns are to start threads, and once it ran its status, output and
+    standard error."""
     name: str
     words: list
     text: bytes = b''
+    is_racing: bool = False
     status: int = 0
     out: bytes = b''
     err: bytes = b''
@@ -84,12 +86,14 @@ def example(name):
     return (TOP / 'examples' / f'{name}.trace').read_bytes()
 
 
-def racing(lanes, size):
-    """The two traces of `bench/races` with so many lanes and at most so many bytes each, by name."""
+def racing(lanes=4, size=1_200_000):
+    """Runs of the two traces of `bench/races`, with so many lanes and at most so many bytes each. Each of them starts threads for its turns,
+    where these aren't refused; `is_racing` says that it is to."""
     spec = spec_from_loader('races', SourceFileLoader('races', str(HERE / 'races')))
     races = module_from_spec(spec)
     spec.loader.exec_module(races)
-    return {f'{mix}-mix-{lanes}-lanes': text.encode() for mix, text in races.traces_of(lanes, size, small=1)}
+    for mix, text in races.traces_of(lanes, size, small=1):
+        yield Run(f'{mix}-mix-{lanes}-lanes, 4 workers', ['run', '--workers', '4'], text.encode(), is_racing=True)
 
 
 def runs_of(names, operations):

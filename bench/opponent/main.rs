@@ -12,12 +12,12 @@
 //! bookmark collections before pages had to leave, `lane_reads` the pages that operations read, and the other reads those of collections. It
 //! has `sweeps` and `sweep_reads` of mark-and-sweep, `evictions` and `discards` of pages with and without objects, but for those in a fail-safe,
 //! and `nanoseconds` of processor time. With `fewest` the last line has `fewest`, the reads of the best choice of pages
-//! for what operations and placing touched. With `steps` there is a line for each emptying of the nurseries as well: the operations before it,
-//! its kind (promotion, early, collection, sweep or fail-safe), the pages that it read, how many are home, gone and absent after it, the frames
-//! that are withheld, and the pages that were read so far (`all_reads`).
+//! for what operations and placing touched, within all frames, as if none were withheld. With `steps` there is a line for each emptying of the
+//! nurseries as well: the operations before it, its kind (promotion, early, collection, sweep or fail-safe), the pages that it read, how many are
+//! home, gone and absent after it, the frames that are withheld, and the pages that were read so far (`all_reads`).
 
 use bc_gates::OpenGate;
-use bc_marking::{MarkPace, line_after, line_at};
+use bc_marking::{Cursor, MarkPace, line_after, line_at};
 use bc_model::{Holder, Op, Reply, TurnLine};
 use bc_pager::{Answer, answer_all};
 use bc_superpages::{PageState, Space};
@@ -65,16 +65,16 @@ struct Play {
     steps: Option<(u64, u64)>,
 }
 
-/// The lines of a phase's turns, and the number of the next one.
+/// The lines of a phase's turns, and which one is next.
 struct Lines<'a> {
     lines: &'a [TurnLine],
-    next: usize,
+    next: Cursor,
 }
 
 impl Lines<'_> {
     /// How many frames are withheld in a turn that uses the next line.
     fn withheld(&self) -> u32 {
-        self.lines.get(self.next).map_or(0, |line| line.withheld)
+        self.lines.get(self.next.line).map_or(0, |line| line.withheld)
     }
 }
 
@@ -137,8 +137,8 @@ impl Play {
 
     /// Answers the notices of the next line.
     fn serve(&mut self, at: &mut Lines) {
-        answer_all(&mut self.heap.space, line_at(at.lines, at.next), &mut self.answers);
-        at.next = line_after(at.lines, at.next);
+        answer_all(&mut self.heap.space, line_at(at.lines, at.next.line), &mut self.answers);
+        at.next = Cursor::at(line_after(at.lines, at.next.line));
         bc_bookmarks::settle(&mut self.heap.space);
     }
 
@@ -230,7 +230,7 @@ impl Play {
 
     /// Plays the rounds of a phase. The need, where the heap is too small.
     fn rounds(&mut self, phase: &Phase, lanes: &mut [Progress]) -> Option<u64> {
-        let mut at = Lines { lines: &phase.turns, next: 0 };
+        let mut at = Lines { lines: &phase.turns, next: Cursor::at(0) };
         self.answers.clear();
         loop {
             bc_bookmarks::withhold(&mut self.heap.space, self.nurseries, at.withheld());
