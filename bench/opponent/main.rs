@@ -16,7 +16,7 @@
 //! nurseries as well: the operations before it, its kind (promotion, early, collection, sweep or fail-safe), the pages that it read, how many are
 //! home, gone and absent after it, the frames that are withheld, and the pages that were read so far (`all_reads`).
 
-use bc_gates::OpenGate;
+use bc_gates::{Host, OpenGate};
 use bc_marking::{Cursor, MarkPace, line_after, line_at};
 use bc_model::{Holder, Op, Reply, TurnLine};
 use bc_pager::{Answer, answer_all};
@@ -25,6 +25,9 @@ use pages::all_left;
 use shim::{Alone, Global};
 use std::io::Read;
 use trace::{Phase, Trace};
+
+/// What the heap works with: this thread alone.
+static HOST: Host<Alone, OpenGate> = Host { threads: &Alone, alloc: Global, gate: &OpenGate };
 
 #[derive(Clone, Copy, PartialEq, Eq)]
 enum Collector {
@@ -151,7 +154,7 @@ impl Play {
         }
         let (before, reads) = (bc_running::pressure::pages_with_objects(&self.heap.space), self.reads());
         let Lines { lines, next } = at;
-        self.heap.collect(&Alone, Global, 1, &mut self.pace, lines, next, &mut self.answers, 0, &OpenGate).unwrap();
+        self.heap.collect(&HOST, 1, &mut self.pace, lines, next, &mut self.answers, 0).unwrap();
         self.pressure.note(before, &self.heap.space);
         self.counts.early += 1;
         self.counts.collection_reads += self.reads() - reads;
@@ -194,7 +197,7 @@ impl Play {
                 let Lines { lines, next } = at;
                 let (pace, answers) = (&mut self.pace, &mut self.answers);
                 bc_cycle::collecting::prepare_again(
-                    &Alone, Global, space, roots, chunks, buffers, 1, pace, lines, next, answers, 0, &OpenGate,
+                    &HOST, space, roots, chunks, buffers, 1, pace, lines, next, answers, 0,
                 )
             }
             Collector::MarkSweep => marking::sweep_whole(space, roots, chunks) && bc_promotion::promise_marked(space, chunks),

@@ -24,7 +24,7 @@ use crate::phases::run_phase;
 use crate::status::Status;
 use bc_churn::{Counts, churn_room, generate, put_churn};
 use bc_engine::Engine;
-use bc_gates::Gate;
+use bc_gates::{Gate, Host};
 use bc_io::{Sink, write_all};
 use bc_model::Trace;
 use std::alloc::{AllocError, Global};
@@ -41,13 +41,11 @@ struct Workload {
 /// Replays the workload of a starting number and so many drawn operations for each lane, and writes how many replies of each
 /// kind there were. The whole text is made before any of it is written.
 pub(crate) fn churn<R, K, G>(
-    rt: &R,
-    alloc: Global,
+    host: &Host<R, G>,
     start: u64,
     ops: u32,
     workers: u32,
     sink: &mut K,
-    gate: &G,
 ) -> Outcome
 where
     R: Threads + Sync,
@@ -66,10 +64,10 @@ where
     ensures workers { IfSome result.heap (λ engine. engine.workers ≡ workers) }
     ensures account { IfSome result.heap KeepsAccount }
 {
-    let Ok(mut workload) = draw(alloc, start, ops, workers) else {
+    let Ok(mut workload) = draw(host.alloc, start, ops, workers) else {
         return Outcome::without_heap(Status::NoMemory);
     };
-    let Ok(()) = replay(rt, alloc, &mut workload, start, ops, gate) else {
+    let Ok(()) = replay(host, &mut workload, start, ops) else {
         return Outcome::without_heap(Status::NoMemory);
     };
     match write_all(sink, &workload.text) {
@@ -101,12 +99,10 @@ fn draw(alloc: Global, start: u64, ops: u32, workers: u32) -> Result<Workload, A
 /// Replays the workload, and makes the text of its counts in the room that it has. Where it doesn't, the engine has run out of memory
 /// itself.
 fn replay<R, G>(
-    rt: &R,
-    alloc: Global,
+    host: &Host<R, G>,
     workload: &mut Workload,
     start: u64,
     ops: u32,
-    gate: &G,
 ) -> Result<(), AllocError>
 where
     R: Threads + Sync,
@@ -121,7 +117,7 @@ where
     ensures no_memory { IsErr result → workload.new.engine.ended ≡ Some Ended.NoMemory }
     ensures workers { workload.new.engine.workers ≡ workload.old.engine.workers }
 {
-    let counts = count_phases(rt, alloc, &mut workload.engine, &workload.trace, gate)?;
+    let counts = count_phases(host, &mut workload.engine, &workload.trace)?;
     put_churn(&mut workload.text, start, ops, &counts);
     Ok(())
 }
@@ -129,11 +125,9 @@ where
 /// Runs the phases of a trace whose states all fit, and counts the replies. Where it answers no counts the engine has run out of memory
 /// itself.
 fn count_phases<R, G>(
-    rt: &R,
-    alloc: Global,
+    host: &Host<R, G>,
     engine: &mut Engine,
     trace: &Trace,
-    gate: &G,
 ) -> Result<Counts, AllocError>
 where
     R: Threads + Sync,
@@ -149,20 +143,18 @@ where
 {
     let mut counts = Counts::new();
     for index in 0..trace.phases.len() {
-        count_phase(rt, alloc, engine, trace, index, &mut counts, gate)?;
+        count_phase(host, engine, trace, index, &mut counts)?;
     }
     Ok(counts)
 }
 
 /// Runs the phase of this index, and counts its replies too. Where it doesn't, the engine has run out of memory itself.
 fn count_phase<R, G>(
-    rt: &R,
-    alloc: Global,
+    host: &Host<R, G>,
     engine: &mut Engine,
     trace: &Trace,
     index: usize,
     counts: &mut Counts,
-    gate: &G,
 ) -> Result<(), AllocError>
 where
     R: Threads + Sync,
@@ -178,7 +170,7 @@ where
     ensures no_memory { IsErr result → engine.new.ended ≡ Some Ended.NoMemory }
     ensures workers { engine.new.workers ≡ engine.old.workers }
 {
-    let end = run_phase(rt, alloc, engine, trace, 0, index, gate)?;
+    let end = run_phase(host, engine, trace, 0, index)?;
     match end.need {
         Some(_) => unreachable!(),
         None => counts.add(&end.replies),

@@ -43,7 +43,7 @@ mod status;
 mod texts;
 pub mod top;
 
-pub use bc_gates::{Gate, OpenGate};
+pub use bc_gates::{Gate, Host, OpenGate};
 pub use input::{longest_input, read_trace};
 pub use laws::{law_output, law_resumed, law_whole_course};
 pub use outcome::Outcome;

@@ -18,10 +18,10 @@ ghost use Rattle.bc_cli.specs.BetweenPhases.{HasRun, HasPhaseRoom, PhaseEnded, R
 use crate::status::Ending;
 use crate::texts::{put_texts, texts_room, write_texts};
 use bc_engine::{Engine, PhaseError};
-use bc_gates::Gate;
+use bc_gates::{Gate, Host};
 use bc_io::Sink;
 use bc_model::{Phase, Replies, Trace};
-use std::alloc::{AllocError, Global};
+use std::alloc::AllocError;
 use std::thread::Threads;
 
 /// How a phase ended: its replies, and the need where the heap was too small.
@@ -34,13 +34,11 @@ pub(crate) struct PhaseEnd {
 /// Runs the phases after the first ones, and writes the text of each as soon as it has run. What it ensures holds of each state
 /// that the engine may have stood for before them.
 pub(crate) fn write_phases<R, K, G>(
-    rt: &R,
-    alloc: Global,
+    host: &Host<R, G>,
     engine: &mut Engine,
     trace: &Trace,
     first: usize,
     sink: &mut K,
-    gate: &G,
 ) -> Result<(), Ending>
 where
     R: Threads + Sync,
@@ -71,7 +69,7 @@ where
     ensures workers { engine.new.workers ≡ engine.old.workers }
 {
     for index in 0..trace.phases.len() - first {
-        write_phase(rt, alloc, engine, trace, first, index, sink, gate)?;
+        write_phase(host, engine, trace, first, index, sink)?;
     }
     Ok(())
 }
@@ -79,14 +77,12 @@ where
 /// Runs the phase of this index, counted from the first one, and writes its texts. Room for them is taken first, and once the phase has
 /// run nothing takes memory.
 fn write_phase<R, K, G>(
-    rt: &R,
-    alloc: Global,
+    host: &Host<R, G>,
     engine: &mut Engine,
     trace: &Trace,
     first: usize,
     index: usize,
     sink: &mut K,
-    gate: &G,
 ) -> Result<(), Ending>
 where
     R: Threads + Sync,
@@ -122,8 +118,8 @@ where
     ensures firm { ¬ IsErrOf result Ending.WriteFault → K.faults sink.new ≡ K.faults sink.old }
     ensures workers { engine.new.workers ≡ engine.old.workers }
 {
-    let mut texts = texts_room(alloc, &trace.phases[index + first])?;
-    let end = run_phase(rt, alloc, engine, trace, first, index, gate)?;
+    let mut texts = texts_room(host.alloc, &trace.phases[index + first])?;
+    let end = run_phase(host, engine, trace, first, index)?;
     put_texts(
         &mut texts,
         (index + first) as u32 + 1,
@@ -140,13 +136,11 @@ where
 /// Runs the phase of this index, counted from the first one. What it ensures holds of each state that the engine may have stood for
 /// before the first one. Where it answers no end the engine has run out of memory itself.
 pub(crate) fn run_phase<R, G>(
-    rt: &R,
-    alloc: Global,
+    host: &Host<R, G>,
     engine: &mut Engine,
     trace: &Trace,
     first: usize,
     index: usize,
-    gate: &G,
 ) -> Result<PhaseEnd, AllocError>
 where
     R: Threads + Sync,
@@ -160,16 +154,14 @@ where
     ensures no_memory { IsErr result → engine.new.ended ≡ Some Ended.NoMemory }
 {
     let phase = &trace.phases[index + first];
-    play_phase(rt, alloc, engine, phase, gate)
+    play_phase(host, engine, phase)
 }
 
 /// Runs a phase. Where it answers no end the engine has run out of memory itself.
 fn play_phase<R, G>(
-    rt: &R,
-    alloc: Global,
+    host: &Host<R, G>,
     engine: &mut Engine,
     phase: &Phase,
-    gate: &G,
 ) -> Result<PhaseEnd, AllocError>
 where
     R: Threads + Sync,
@@ -184,7 +176,7 @@ where
     ensures births { (n : ℕ) → HasRoomForOps engine.old phase.now.lanes n → HasRoomForBirths engine.new n }
     ensures no_memory { IsErr result → engine.new.ended ≡ Some Ended.NoMemory }
 {
-    match engine.phase(rt, alloc, phase, gate) {
+    match engine.phase(host.threads, host.alloc, phase, host.gate) {
         Ok(replies) => Ok(PhaseEnd {
             replies,
             need: None,

@@ -27,7 +27,7 @@ ghost use Rattle.bc_cli.specs.Resumes.{FaultyAfterImage, GoesWith, HasRoomToResu
 use crate::outcome::Outcome;
 use crate::run::replay_on;
 use crate::status::Status;
-use bc_gates::Gate;
+use bc_gates::{Gate, Host};
 use bc_image::{Listing, law_pictured, scan};
 use bc_io::{Sink, Source, read_all};
 use bc_model::Trace;
@@ -49,12 +49,10 @@ pub(crate) struct Resumable {
 /// Reads an image and the trace after it from the source, replays the phases of the trace that the image says aren't done, and writes
 /// their texts to the sink.
 pub(crate) fn resume<R, S, K, G>(
-    rt: &R,
-    alloc: Global,
+    host: &Host<R, G>,
     workers: u32,
     source: &mut S,
     sink: &mut K,
-    gate: &G,
 ) -> Outcome
 where
     R: Threads + Sync,
@@ -109,10 +107,10 @@ where
         S.left source.old ≡ Some bytes → longest_resumed < length bytes →
         ¬ Rose (S.faults source.old) (S.faults source.new) → IsOrNoMemory result.status Status.TooLong }
 {
-    match read_resumable(alloc, source) {
+    match read_resumable(host.alloc, source) {
         Ok(found) => {
             let Resumable { listing, trace } = found;
-            resume_trace(rt, alloc, listing, &trace, workers, sink, gate)
+            resume_trace(host, listing, &trace, workers, sink)
         }
         Err(status) => Outcome::without_heap(status),
     }
@@ -204,13 +202,11 @@ fn phases_done(listing: &Listing) -> u32
 /// Replays the phases of a trace that the image says aren't done, on the heap that the image lists. The list of
 /// the image's objects is let go before.
 fn resume_trace<R, K, G>(
-    rt: &R,
-    alloc: Global,
+    host: &Host<R, G>,
     listing: Listing,
     trace: &Trace,
     workers: u32,
     sink: &mut K,
-    gate: &G,
 ) -> Outcome
 where
     R: Threads + Sync,
@@ -237,10 +233,10 @@ where
     ensures account { IfSome result.heap KeepsAccount }
 {
     law_pictured();
-    let Ok(engine) = adopt_listing(alloc, &listing, workers) else {
+    let Ok(engine) = adopt_listing(host.alloc, &listing, workers) else {
         return Outcome::without_heap(Status::NoMemory);
     };
     let first = phases_done(&listing) as usize;
     drop(listing);
-    replay_on(rt, alloc, engine, trace, first, sink, gate)
+    replay_on(host, engine, trace, first, sink)
 }

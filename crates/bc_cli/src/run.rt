@@ -19,7 +19,7 @@ use crate::outcome::Outcome;
 use crate::phases::write_phases;
 use crate::status::{Ending, Status};
 use bc_engine::{Engine, Pacing};
-use bc_gates::Gate;
+use bc_gates::{Gate, Host};
 use bc_io::{Sink, write_all};
 use bc_model::{Setup, Trace};
 use std::alloc::{AllocError, Global};
@@ -49,13 +49,11 @@ fn open_paced(
 /// Replays a trace on a new heap: writes the text of each phase as soon as it has run, and then the last line. `pacing` says how the turns
 /// of its lanes run.
 pub fn run_trace<R, K, G>(
-    rt: &R,
-    alloc: Global,
+    host: &Host<R, G>,
     trace: &Trace,
     workers: u32,
     pacing: Pacing,
     sink: &mut K,
-    gate: &G,
 ) -> Outcome
 where
     R: Threads + Sync,
@@ -80,22 +78,20 @@ where
     ensures workers { IfSome result.heap (λ engine. engine.workers ≡ workers) }
     ensures account { IfSome result.heap KeepsAccount }
 {
-    let Ok(engine) = open_paced(alloc, &trace.setup, workers, pacing) else {
+    let Ok(engine) = open_paced(host.alloc, &trace.setup, workers, pacing) else {
         return Outcome::without_heap(Status::NoMemory);
     };
-    replay_on(rt, alloc, engine, trace, 0, sink, gate)
+    replay_on(host, engine, trace, 0, sink)
 }
 
 /// Replays the phases of a trace after the first ones on a heap that has run these: writes the text of each phase as soon as it has
 /// run, and then the last line. What it ensures holds of each state that the heap may stand for.
 pub(crate) fn replay_on<R, K, G>(
-    rt: &R,
-    alloc: Global,
+    host: &Host<R, G>,
     mut engine: Engine,
     trace: &Trace,
     first: usize,
     sink: &mut K,
-    gate: &G,
 ) -> Outcome
 where
     R: Threads + Sync,
@@ -121,7 +117,7 @@ where
     ensures workers { IfSome result.heap (λ heap. heap.workers ≡ engine.workers) }
     ensures account { IfSome result.heap KeepsAccount }
 {
-    match write_phases(rt, alloc, &mut engine, trace, first, sink, gate) {
+    match write_phases(host, &mut engine, trace, first, sink) {
         Ok(()) => match write_all(sink, DONE) {
             Ok(()) => Outcome::with_heap(Status::Done, engine),
             Err(_) => Outcome::with_heap(Status::WriteFault, engine),

@@ -29,24 +29,22 @@ use crate::outcome::Outcome;
 use crate::phases::run_phase;
 use crate::status::Status;
 use bc_engine::{Engine, Parts};
-use bc_gates::Gate;
+use bc_gates::{Gate, Host};
 use bc_io::{Sink, Source, WriteFault};
 use bc_model::laws::law_first_version;
 use bc_model::{Setup, Trace};
 use bc_picture::write;
 use bc_saving::law_writable;
-use std::alloc::{AllocError, Global};
+use std::alloc::AllocError;
 use std::thread::Threads;
 
 /// Reads a trace from the source, replays its first phases, so many, and writes the image of the heap after them to the sink.
 pub(crate) fn save<R, S, K, G>(
-    rt: &R,
-    alloc: Global,
+    host: &Host<R, G>,
     count: u64,
     workers: u32,
     source: &mut S,
     sink: &mut K,
-    gate: &G,
 ) -> Outcome
 where
     R: Threads + Sync,
@@ -94,21 +92,19 @@ where
         S.left source.old ≡ Some bytes → longest_trace < length bytes →
         ¬ Rose (S.faults source.old) (S.faults source.new) → IsOrNoMemory result.status Status.TooLong }
 {
-    match read_trace(alloc, source) {
-        Ok(trace) => save_trace(rt, alloc, &trace, count, workers, sink, gate),
+    match read_trace(host.alloc, source) {
+        Ok(trace) => save_trace(host, &trace, count, workers, sink),
         Err(status) => Outcome::without_heap(status),
     }
 }
 
 /// Replays the first phases of a trace, so many, and writes the image of the heap after them.
 fn save_trace<R, K, G>(
-    rt: &R,
-    alloc: Global,
+    host: &Host<R, G>,
     trace: &Trace,
     count: u64,
     workers: u32,
     sink: &mut K,
-    gate: &G,
 ) -> Outcome
 where
     R: Threads + Sync,
@@ -140,10 +136,10 @@ where
     }
     // In version 1 no domain is ever frozen, and no image of it says so of one.
     law_first_version();
-    let Ok(mut engine) = Engine::open(alloc, &trace.setup, workers) else {
+    let Ok(mut engine) = Engine::open(host.alloc, &trace.setup, workers) else {
         return Outcome::without_heap(Status::NoMemory);
     };
-    match run_first(rt, alloc, &mut engine, trace, count as usize, gate) {
+    match run_first(host, &mut engine, trace, count as usize) {
         Ok(None) => {
             let parts = engine.split();
             match put_image(sink, trace.version, &trace.setup, count as u32, parts) {
@@ -192,12 +188,10 @@ fn put_image<K: Sink>(
 /// Runs so many of the first phases of a trace. Where the heap is too small for one of them it answers the need. Room for all that
 /// comes after them was taken before, so where it refuses, the engine has run out of memory itself.
 pub(crate) fn run_first<R, G>(
-    rt: &R,
-    alloc: Global,
+    host: &Host<R, G>,
     engine: &mut Engine,
     trace: &Trace,
     count: usize,
-    gate: &G,
 ) -> Result<Option<u64>, AllocError>
 where
     R: Threads + Sync,
@@ -213,7 +207,7 @@ where
     ensures workers { engine.new.workers ≡ engine.old.workers }
 {
     for index in 0..count {
-        let need = run_one(rt, alloc, engine, trace, index, gate)?;
+        let need = run_one(host, engine, trace, index)?;
         if need.is_some() {
             return Ok(need);
         }
@@ -223,12 +217,10 @@ where
 
 /// Runs the phase of this index. Where the heap is too small for it, it answers the need.
 fn run_one<R, G>(
-    rt: &R,
-    alloc: Global,
+    host: &Host<R, G>,
     engine: &mut Engine,
     trace: &Trace,
     index: usize,
-    gate: &G,
 ) -> Result<Option<u64>, AllocError>
 where
     R: Threads + Sync,
@@ -243,6 +235,6 @@ where
         result ≡ Ok None → HasRoomForBirths engine.new (sum_by ops_of (drop (index + 1) trace.now.phases) + n) }
     ensures workers { engine.new.workers ≡ engine.old.workers }
 {
-    let end = run_phase(rt, alloc, engine, trace, 0, index, gate)?;
+    let end = run_phase(host, engine, trace, 0, index)?;
     Ok(end.need)
 }

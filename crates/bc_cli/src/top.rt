@@ -34,7 +34,7 @@ use crate::run::run_trace;
 use crate::save::save;
 use crate::status::Status;
 use bc_engine::Pacing;
-use bc_gates::Gate;
+use bc_gates::{Gate, Host};
 use bc_io::{Sink, Source};
 use bc_words::{Command, command_of};
 use std::alloc::Global;
@@ -326,9 +326,14 @@ where
     let Ok(found) = command_of(alloc, words) else {
         return Outcome::without_heap(Status::NoMemory);
     };
+    let host = Host {
+        threads: rt,
+        alloc,
+        gate,
+    };
     match found {
         Some(Command::Run { workers }) => match read_trace(alloc, source) {
-            Ok(trace) => run_trace(rt, alloc, &trace, workers, Pacing::Learned, sink, gate),
+            Ok(trace) => run_trace(&host, &trace, workers, Pacing::Learned, sink),
             Err(status) => Outcome::without_heap(status),
         },
         Some(
@@ -337,11 +342,9 @@ where
                 ops,
                 workers,
             },
-        ) => churn(rt, alloc, start, ops, workers, sink, gate),
-        Some(Command::Save { phases, workers }) => save(
-            rt, alloc, phases, workers, source, sink, gate,
-        ),
-        Some(Command::Resume { workers }) => resume(rt, alloc, workers, source, sink, gate),
+        ) => churn(&host, start, ops, workers, sink),
+        Some(Command::Save { phases, workers }) => save(&host, phases, workers, source, sink),
+        Some(Command::Resume { workers }) => resume(&host, workers, source, sink),
         None => Outcome::without_heap(Status::BadWords),
     }
 }

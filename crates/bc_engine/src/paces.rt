@@ -123,11 +123,13 @@ pub(crate) fn replies_told(replies: &[Vec<Reply>]) -> u64 {
 
 /// How the turn runs. A turn to which notices came has a table, so that a pager works beside the lanes. One to which none came has a table
 /// where it is likely to be long, and the first turn of a phase where it has some operations for what a table looks at. No turn has one
-/// while tables of its kind are waited with, since they didn't pay. Lanes at a table have threads where these are likely to pay. `pace`
-/// then knows of the turn what it needs to learn whether its table pays.
+/// while tables of its kind are waited with, since they didn't pay; nor where pages have to leave for those that come back (`crowded`) and
+/// one lane or the pager alone has work: on the heap its clock chooses which leave. Lanes at a table have threads where these are likely to
+/// pay. `pace` then knows of the turn what it needs to learn whether its table pays.
 pub(crate) fn way_of_turn(
     setup: &Setup,
     pace: &mut Pace,
+    crowded: bool,
     lanes: &[Vec<Op>],
     replies: &[Vec<Reply>],
     hints: &[u32],
@@ -142,6 +144,9 @@ pub(crate) fn way_of_turn(
     }
     let ahead = all_ahead(setup, lanes, replies);
     let threads = threads_cost(lanes, replies, hints);
+    if crowded && threads == 0 {
+        return TurnWay::Plain;
+    }
     let is_wide = ahead > threads;
     let kind = if !hints.is_empty() {
         TurnKind::Asked

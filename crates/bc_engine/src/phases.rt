@@ -20,7 +20,7 @@ use crate::engines::{Ended, Engine};
 use crate::opened::{Opened, TurnLog, room_for_turns};
 use crate::rounds::RoundsError;
 use bc_failsafe::law_room;
-use bc_gates::Gate;
+use bc_gates::{Gate, Host};
 use bc_model::{Change, Op, Phase, Replies, Reply, TurnLine};
 use bc_turn::TurnRoom;
 use std::alloc::{AllocError, Global};
@@ -94,7 +94,14 @@ impl Engine {
             Some(Ended::NoMemory) => return Err(PhaseError::NoMemory),
         }
         match room_for_phase(alloc, &phase.lanes) {
-            Ok(room) => self.replay(rt, alloc, phase, room.replies, room.opened, gate),
+            Ok(room) => {
+                let host = Host {
+                    threads: rt,
+                    alloc,
+                    gate,
+                };
+                self.replay(&host, phase, room.replies, room.opened)
+            }
             Err(_) => {
                 self.end_for_want();
                 Err(PhaseError::NoMemory)
@@ -112,12 +119,10 @@ impl Engine {
     /// Does a phase on an engine that hasn't ended, with room for the reply to each operation, and to note the turns.
     fn replay<R, G>(
         &mut self,
-        rt: &R,
-        alloc: Global,
+        host: &Host<R, G>,
         phase: &Phase,
         replies: Vec<Vec<Reply>>,
         opened: Vec<Opened>,
-        gate: &G,
     ) -> Result<Replies, PhaseError>
     where
         R: Threads + Sync,
@@ -138,9 +143,9 @@ impl Engine {
         ensures want { IsNoMemory result → HadTurnsToWant self.old phase.now self.new }
         ensures births { (j : ℕ) → slice_index self.new.running.serials j ≤ slice_index self.old.running.serials j + length (of_lane phase.now.lanes j) }
     {
-        let answers = self.take_answers(alloc);
+        let answers = self.take_answers(host.alloc);
         let mut log = TurnLog { answers, opened };
-        let told = self.run_phase(rt, alloc, phase, replies, &mut log, gate);
+        let told = self.run_phase(host, phase, replies, &mut log);
         self.keep_turns(log);
         told
     }
@@ -148,12 +153,10 @@ impl Engine {
     /// Does such a phase, and keeps its turns and what became of its notices in these lists, in which there is nothing yet.
     fn run_phase<R, G>(
         &mut self,
-        rt: &R,
-        alloc: Global,
+        host: &Host<R, G>,
         phase: &Phase,
         mut replies: Vec<Vec<Reply>>,
         log: &mut TurnLog,
-        gate: &G,
     ) -> Result<Replies, PhaseError>
     where
         R: Threads + Sync,
@@ -175,15 +178,7 @@ impl Engine {
         ensures births { (j : ℕ) → slice_index self.new.running.serials j ≤ slice_index self.old.running.serials j + length (of_lane phase.now.lanes j) }
     {
         self.facts();
-        match self.rounds(
-            rt,
-            alloc,
-            &phase.lanes,
-            &phase.turns,
-            &mut replies,
-            log,
-            gate,
-        ) {
+        match self.rounds(host, &phase.lanes, &phase.turns, &mut replies, log) {
             Ok(()) => {
                 self.facts();
                 self.change_all(&phase.gives);
@@ -202,13 +197,11 @@ impl Engine {
     /// Runs the rounds of a phase (`Player::rounds`), and ends the engine where they end before all lanes are at their ends.
     fn rounds<R, G>(
         &mut self,
-        rt: &R,
-        alloc: Global,
+        host: &Host<R, G>,
         lanes: &[Vec<Op>],
         lines: &[TurnLine],
         replies: &mut [Vec<Reply>],
         log: &mut TurnLog,
-        gate: &G,
     ) -> Result<(), RoundsError>
     where
         R: Threads + Sync,
@@ -230,10 +223,10 @@ impl Engine {
             (with_log self.old log.old) replies.old last replies.new log.new.answers
             × (with_log self.new log.new ≡ record last { ended = Some Ended.NoMemory })) }
     {
-        let mut room = TurnRoom::new(alloc);
+        let mut room = TurnRoom::new(host.alloc);
         match self
             .player
-            .rounds(rt, alloc, &mut room, lanes, lines, replies, log, gate)
+            .rounds(host, &mut room, lanes, lines, replies, log)
         {
             Ok(()) => Ok(()),
             Err(RoundsError::TooSmall { need }) => {

@@ -9,12 +9,11 @@ ghost use Rattle.bc_turn.specs.Taking.{IsRoomKept};
 
 use crate::lanes::run_lanes;
 use crate::paces::{Pace, TurnWay, way_of_turn};
-use bc_gates::Gate;
+use bc_gates::{Gate, Host};
 use bc_model::{Op, Reply, Setup};
 use bc_pager::Answer;
 use bc_running::Running;
 use bc_turn::TurnRoom;
-use std::alloc::Global;
 use std::thread::Threads;
 
 /// A turn of the lanes: each does operations until it is at its end or stops, the notices with these hints are answered, and the heap is
@@ -23,17 +22,15 @@ use std::thread::Threads;
 /// there is room. `room` is what turns take for the lanes, and `pace` says how tables of earlier turns paid. A turn takes memory and can't
 /// be refused for lack of it.
 pub(crate) fn lane_turn<R, G>(
+    host: &Host<R, G>,
     running: &mut Running,
     setup: &Setup,
-    rt: &R,
-    alloc: Global,
     room: &mut TurnRoom,
     pace: &mut Pace,
     lanes: &[Vec<Op>],
     replies: &mut [Vec<Reply>],
     hints: &[u32],
     answers: &mut Vec<Answer>,
-    gate: &G,
 )
 where
     R: Threads + Sync,
@@ -46,16 +43,21 @@ where
     ensures capacity { vec_capacity answers.old ≤ vec_capacity answers.new }
     ensures kept { IsRoomKept running.old.holders running.old.heap.roots.slots (lists_of lanes.now) (lists_of replies.new) room.new }
 {
-    let threads = match way_of_turn(setup, pace, lanes, replies, hints) {
+    let crowded = is_crowded(running);
+    let threads = match way_of_turn(setup, pace, crowded, lanes, replies, hints) {
         TurnWay::AtTable(threads) => threads,
         TurnWay::Plain => return turn_alone(running, lanes, replies, hints, answers),
     };
-    match running.take_turn(
-        rt, alloc, room, lanes, replies, hints, answers, threads, gate,
-    ) {
+    match running.take_turn(host, room, lanes, replies, hints, answers, threads) {
         Ok(()) => running.settle(),
         Err(_) => turn_alone(running, lanes, replies, hints, answers),
     }
+}
+
+/// Are there more pages with content than frames for them? Then one that comes back may have to wait until another leaves.
+fn is_crowded(running: &Running) -> bool {
+    let space = &running.heap().space;
+    space.pages_with_content() > space.page_frames()
 }
 
 /// The same where nothing works beside another: one lane after another, and then the notices.

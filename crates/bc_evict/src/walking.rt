@@ -8,7 +8,7 @@ ghost use Rattle.bc_evict.specs.Looking.{steps_behind};
 ghost use Rattle.bc_evict.specs.Taking.{IsOfKind, first_page, HasTried, HasTriedAll, IsTakenFor, HasTakenFirst};
 ghost use Rattle.bc_evict.specs.Victims.{FindsNoVictim, HasTakenAny};
 
-use bc_classes::PAGE_WORDS;
+use bc_classes::{PAGE_WORDS, SUPERPAGE_PAGES};
 use bc_pins::{Held, Pins, Seat, Want};
 
 /// What lies on a page.
@@ -114,8 +114,8 @@ pub(crate) fn kind_of(pins: &Pins, page: u32) -> Kind
     ensures kind { IsOfKind (key_of pins.now) result page }
 {
     pins.facts();
-    let header = pins.header(page / 4);
-    if header.holds_cell(page % 4) {
+    let header = pins.header(page / SUPERPAGE_PAGES);
+    if header.holds_cell(page % SUPERPAGE_PAGES) {
         Kind::Filled
     } else {
         Kind::Bare

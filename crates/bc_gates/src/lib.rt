@@ -1,4 +1,5 @@
-// Gates: places inside the threads of a turn where a test may look on or hold a thread up.
+// Gates: places inside the threads of a turn where a test may look on or hold a thread up. And the host: threads, memory and a gate,
+// as a program gives them.
 //
 // A worker (a lane, a marker or a pager) passes its gate at the points that docs/ARCHITECTURE.md
 // lists. A gate gets the worker's number and the point's, and returns: no contract sees what it
@@ -9,6 +10,19 @@
 // They stand below the table of a turn (`bc_pins`, which passes them on), since collector, engine and
 // program hand a gate down and need nothing else of a turn.
 #![tactic(auto)]
+
+use std::alloc::Global;
+
+/// What a program gives a heap that works on threads: they travel together down to the turns.
+#[derive(Drop)]
+pub struct Host<'h, R, G> {
+    /// Threads to work on.
+    pub threads: &'h R,
+    /// Memory.
+    pub alloc: Global,
+    /// The gate that lanes, markers and pagers pass.
+    pub gate: &'h G,
+}
 
 /// A place where a test may look on. A call returns and changes nothing that a clause sees.
 pub trait Gate {

@@ -17,7 +17,6 @@ use Rattle.bc_superpages.proofs.MoveLemmas.{memory-allocated}
 use Rattle.bc_bookmarks.specs.Summarised.{gone_in, HasNoBookmarks}
 use Rattle.bc_bookmarks.proofs.SummaryLemmas.{SummarisedOn-none}
 use Rattle.bc_bookmarks.proofs.StateLemmas.{gone-put}
-use Rattle.bc_model.specs.declared.values.Holder.TheVariants as holder
 use Rattle.bc_pins.specs.declared.key.Role.{Role}
 use Rattle.bc_pins.specs.declared.pins.Pins.{Pins}
 use Rattle.bc_pins.specs.declared.pins.Seat.{Seat}
@@ -27,7 +26,7 @@ use Rattle.bc_pins.specs.declared.taking.Want.TheVariants.{Work, Victim}
 use Rattle.bc_pins.specs.declared.views.Hand.{Hand}
 use Rattle.bc_pins.specs.declared.views.View.{View}
 use Rattle.bc_pins.specs.declared.views.Lodged.TheVariants.{Nothing}
-use Rattle.bc_pins.specs.Key.{Key, pages_of, owner, role_number, lane_role, owner_role}
+use Rattle.bc_pins.specs.Key.{Key, pages_of, owner, role_number}
 use Rattle.bc_pins.specs.Totals.{times}
 use Rattle.bc_pins.specs.Tidy.{IsTidy}
 use Rattle.bc_pins.specs.Contents.{IsContent, RefersYoung}
@@ -305,17 +304,3 @@ none_like n f y t states bits counters long =
       bits = λ q b lt. ap (λ (bs : List (List ℕ)). has (set_of bs q) b) bits ∙ old.bits q b (omega arith);
       counters = λ q lt. ap (λ (cs : List ℕ). slice_index cs q) counters ∙ old.counters q (omega arith);
     }
-
--- the lane of a page's domain, where lane l holds domain l
-pub lane_has : (k : Key) (v : View) (page lane : ℕ) → k.owners ≡ map owner_role (holder.Lane 0 ∷ holder.Lane 1 ∷ []) → slice_index k.opening.domains (page / 4) ≡ lane → lane < 2 → ((r : ℕ) → has_role v r ≡ times r (lane_role lane ∷ [])) → 0 < has_role v (owner k page)
-lane_has k v page lane owners domain lt roles =
-    let own : owner k page ≡ lane_role lane = ap (λ (l : List ℕ). slice_index l (slice_index k.opening.domains (page / 4))) owners ∙ ap (slice_index (map owner_role (holder.Lane 0 ∷ holder.Lane 1 ∷ []))) domain ∙ each lane lt in
-    let one = one_same (lane_role lane) in
-    let r : has_role v (owner k page) ≡ has_role v (lane_role lane) = ap (has_role v) own in
-    let z = roles (lane_role lane) in
-    omega arith
-  where
-    each : (l : ℕ) → l < 2 → slice_index (map owner_role (holder.Lane 0 ∷ holder.Lane 1 ∷ [])) l ≡ lane_role l
-    each zero lt = refl
-    each (suc zero) lt = refl
-    each (suc (suc l)) lt = absurd (omega arith)

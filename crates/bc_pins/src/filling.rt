@@ -7,9 +7,10 @@ ghost use Rattle.bc_pins.specs.Views.{state_word};
 ghost use Rattle.bc_pins.specs.Key.{Key, table_words};
 ghost use Rattle.bc_pins.specs.Filling.{Extends, AddsFrames, AddsStates, IsSized, IsFilled, HasMarkWords, set_in};
 
-use crate::key::{Turn, frame_entry};
+use crate::key::{PAGE_ENTRIES, PAGES, SET_WORDS, Turn, bit_words, frame_entry};
+use crate::words::word_of;
 use bc_frames::FramePool;
-use bc_superpages::{Header, PageState};
+use bc_superpages::Header;
 
 /// Sets of cells that a table has words for.
 #[derive(Clone, Copy, PartialEq, Eq, Debug)]
@@ -17,19 +18,6 @@ pub(crate) enum CellSet {
     Bookmarks,
     Marks,
     Finished,
-}
-
-/// The word of a page in this state.
-fn word_of(state: PageState) -> u64
-    ensures word { result ≡ state_word state }
-{
-    match state {
-        PageState::Absent => 0,
-        PageState::Home => 1,
-        PageState::Remembered => 2,
-        PageState::Held => 3,
-        PageState::Gone => 4,
-    }
 }
 
 /// A word of a set of the header.
@@ -49,7 +37,7 @@ fn page_word(header: &Header, place: usize) -> u64
     requires { place < 16 }
     ensures word { result ≡ (if nat_lt place 4 then state_word (slice_index_or header.now.pages place Absent) else 0) }
 {
-    if place < 4 {
+    if place < PAGES {
         word_of(header.pages[place])
     } else {
         0
@@ -64,8 +52,8 @@ pub(crate) fn push_states(words: &mut Vec<u64>, headers: &[Header], superpages: 
     ensures added { AddsStates headers.now words.old.items words.new.items superpages }
     ensures room { vec_capacity words.new ≡ vec_capacity words.old }
 {
-    for entry in 0..16 * superpages {
-        words.push_reserved(page_word(&headers[entry / 16], entry % 16));
+    for entry in 0..PAGE_ENTRIES * superpages {
+        words.push_reserved(page_word(&headers[entry / PAGE_ENTRIES], entry % PAGE_ENTRIES));
     }
 }
 
@@ -89,8 +77,8 @@ pub(crate) fn push_sets(words: &mut Vec<u64>, headers: &[Header], superpages: us
     ensures added { Extends words.old.items words.new.items (16 * superpages) (λ w. slice_index (set_in set (slice_index_or headers.now (w / 16) unused_header)) (w % 16)) }
     ensures room { vec_capacity words.new ≡ vec_capacity words.old }
 {
-    for word in 0..16 * superpages {
-        words.push_reserved(set_word(&headers[word / 16], set, word % 16));
+    for word in 0..SET_WORDS * superpages {
+        words.push_reserved(set_word(&headers[word / SET_WORDS], set, word % SET_WORDS));
     }
 }
 
@@ -122,10 +110,10 @@ pub(crate) fn word_count(superpages: usize, frames: usize, turn: Turn) -> usize
     requires { (superpages ≤ 4096) × (frames < 2 ^ 32) }
     ensures { result ≡ table_words superpages frames turn }
 {
-    let lanes = frame_entry((frames + 63) / 64, superpages) + 1;
+    let lanes = frame_entry(bit_words(frames), superpages) + 1;
     match turn {
         Turn::Lanes => lanes,
-        Turn::Mark => lanes + (32 * superpages + (4 * superpages + 63) / 64),
+        Turn::Mark => lanes + (2 * SET_WORDS * superpages + bit_words(PAGES * superpages)),
     }
 }
 
@@ -146,7 +134,7 @@ pub(crate) fn fill_words(
     push_states(words, headers, superpages);
     push_counters(words, headers, superpages);
     push_sets(words, headers, superpages, CellSet::Bookmarks);
-    push_frames(words, pool, (frames + 63) / 64);
+    push_frames(words, pool, bit_words(frames));
     push_zeros(words, 1);
     match turn {
         Turn::Lanes => {}
@@ -162,5 +150,5 @@ fn fill_marks(words: &mut Vec<u64>, headers: &[Header], superpages: usize)
 {
     push_sets(words, headers, superpages, CellSet::Marks);
     push_sets(words, headers, superpages, CellSet::Finished);
-    push_zeros(words, (4 * superpages + 63) / 64);
+    push_zeros(words, bit_words(PAGES * superpages));
 }

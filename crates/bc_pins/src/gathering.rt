@@ -9,16 +9,16 @@ ghost use Rattle.bc_superpages.specs.Kept.{IsCellSet};
 ghost use Rattle.bc_superpages.specs.Parts.{AreParts};
 ghost use Rattle.bc_pins.specs.Key.{page_at};
 ghost use Rattle.bc_pins.specs.Totals.{times};
-ghost use Rattle.bc_pins.specs.Views.{state_word};
 ghost use Rattle.bc_pins.specs.Closing.{AreBack, Gathered, StatesSet, SummarySet, SummariesSet, MarksSet, MarksBelow, LaysMarks, PoolSet, fetches_of};
 
-use crate::key::{About, bookmark_entry, counter_entry, page_entry};
+use crate::key::{About, PAGES, SET_WORDS, bit_words, bookmark_entry, counter_entry, page_entry};
 use crate::pins::Seat;
 use crate::rule::{TurnRule, Unite};
 use crate::views::{Lodged, View};
+use crate::words::state_of;
 use atomic_table::{Closed, Shared};
 use bc_frames::{FramePool, Store};
-use bc_superpages::{Header, PageState, SpaceParts};
+use bc_superpages::{Header, SpaceParts};
 use std::alloc::Global;
 
 type Board = Shared<Lodged, View, About, TurnRule>;
@@ -73,20 +73,6 @@ pub(crate) fn drain(closed: &mut Closed<Lodged, Global>, into: &mut Vec<Lodged>)
     }
 }
 
-/// The state that a page's word stands for.
-fn state_of(word: u64) -> PageState
-    requires { word ≤ 4 }
-    ensures state { state_word result ≡ word }
-{
-    match word {
-        0 => PageState::Absent,
-        1 => PageState::Home,
-        2 => PageState::Remembered,
-        3 => PageState::Held,
-        _ => PageState::Gone,
-    }
-}
-
 /// Writes into the headers what the words of so many pages say.
 pub(crate) fn set_states(headers: &mut Vec<Header>, closed: &Closed<Lodged, Global>, pages: usize)
     requires pages { (pages ≤ 4 * length headers.old.items) × (pages < 2 ^ 32) }
@@ -96,7 +82,7 @@ pub(crate) fn set_states(headers: &mut Vec<Header>, closed: &Closed<Lodged, Glob
     ensures set { StatesSet headers.old.items headers.new.items pages (slots_items closed.now.words) }
 {
     for page in 0..pages {
-        headers[page / 4].pages[page % 4] = state_of(closed.word(page_entry(page)));
+        headers[page / PAGES].pages[page % PAGES] = state_of(closed.word(page_entry(page)));
     }
 }
 
@@ -113,8 +99,9 @@ fn set_summary(
     ensures set { SummarySet header.old header.new superpage superpages (slots_items closed.now.words) 16 }
 {
     header.incoming = closed.word(counter_entry(superpage, superpages));
-    for word in 0..16 {
-        header.bookmarks[word] = closed.word(bookmark_entry(16 * superpage + word, superpages));
+    let first = SET_WORDS * superpage;
+    for word in 0..SET_WORDS {
+        header.bookmarks[word] = closed.word(bookmark_entry(first + word, superpages));
     }
 }
 
@@ -147,9 +134,10 @@ fn set_header_marks(
     requires sixteen { IsCellSet header.old.marks × IsCellSet header.old.finished }
     ensures set { MarksSet header.old header.new superpage superpages start (slots_items closed.now.words) 16 }
 {
-    for word in 0..16 {
-        header.marks[word] = closed.word(start + (16 * superpage + word));
-        header.finished[word] = closed.word(start + (16 * superpages + (16 * superpage + word)));
+    let first = SET_WORDS * superpage;
+    for word in 0..SET_WORDS {
+        header.marks[word] = closed.word(start + (first + word));
+        header.finished[word] = closed.word(start + (SET_WORDS * superpages + (first + word)));
     }
 }
 
@@ -208,7 +196,7 @@ pub(crate) fn put_frames(pool: &mut FramePool, closed: &Closed<Lodged, Global>, 
     requires words { IsFull closed.now.words × (start + (length pool.old + 63) / 64 ≤ slots_len closed.now.words) }
     ensures set { PoolSet pool.old pool.new (length pool.old) start (slots_items closed.now.words) }
 {
-    let count = (pool.frames() as usize + 63) / 64;
+    let count = bit_words(pool.frames() as usize);
     for word in 0..count {
         put_frame_word(pool, word as u32, closed.word(start + word));
     }

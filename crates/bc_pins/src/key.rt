@@ -1,8 +1,9 @@
-//! What a table is made from, once.
+//! What a table is made from, once, and where its words and slots lie.
 
-ghost use Rattle.std.specs.Prelude.{◌≡◌, ◌+◌, ◌*◌, ◌<◌, ◌^◌};
+ghost use Rattle.std.specs.Prelude.{◌≡◌, ◌+◌, ◌*◌, ◌/◌, ◌<◌, ◌^◌};
 ghost use Rattle.bc_pins.specs.Key.{page_at, home_slot};
 
+use bc_classes::SUPERPAGE_PAGES;
 use bc_frames::{Frame, FramePool};
 use bc_model::Holder;
 use bc_superpages::Space;
@@ -45,12 +46,33 @@ pub struct About {
     pub nursery: Snapshot<Vec<Frame>>,
 }
 
+/// The pages of a superpage.
+pub(crate) const PAGES: usize = SUPERPAGE_PAGES as usize;
+
+/// The words that a superpage's pages have in a table: one for each page, then twelve that nobody uses.
+pub(crate) const PAGE_ENTRIES: usize = 16;
+
+/// The words of a set of a superpage's cells: those bookmarked, marked, or finished.
+pub(crate) const SET_WORDS: usize = 16;
+
+/// The slots that a superpage's pages have in a table: two for each page.
+pub(crate) const PAGE_SLOTS: usize = 2 * PAGES;
+
+/// How many words a table has before the counters, for each superpage.
+const COUNTERS: usize = PAGE_ENTRIES;
+
+/// How many it has before the bookmark words: each superpage has one counter.
+const BOOKMARKS: usize = COUNTERS + 1;
+
+/// How many it has before the frame words.
+const FRAMES: usize = BOOKMARKS + SET_WORDS;
+
 /// Where a page's word lies among the words of a table.
 pub(crate) fn page_entry(page: usize) -> usize
     requires { page < 2 ^ 32 }
     ensures { result ≡ page_at page }
 {
-    16 * (page / 4) + page % 4
+    PAGE_ENTRIES * (page / PAGES) + page % PAGES
 }
 
 /// Where a superpage's counter lies among the words of a table of so many superpages.
@@ -58,7 +80,7 @@ pub(crate) fn counter_entry(superpage: usize, superpages: usize) -> usize
     requires { (superpage < 2 ^ 32) × (superpages < 2 ^ 32) }
     ensures { result ≡ 16 * superpages + superpage }
 {
-    16 * superpages + superpage
+    COUNTERS * superpages + superpage
 }
 
 /// Where a bookmark word lies among the words of a table of so many superpages, each of which has sixteen.
@@ -66,7 +88,7 @@ pub(crate) fn bookmark_entry(word: usize, superpages: usize) -> usize
     requires { (word < 2 ^ 32) × (superpages < 2 ^ 32) }
     ensures { result ≡ 17 * superpages + word }
 {
-    17 * superpages + word
+    BOOKMARKS * superpages + word
 }
 
 /// Where a word of frames lies among the words of a table of so many superpages.
@@ -74,7 +96,7 @@ pub(crate) fn frame_entry(word: usize, superpages: usize) -> usize
     requires { (word < 2 ^ 32) × (superpages < 2 ^ 32) }
     ensures { result ≡ 33 * superpages + word }
 {
-    33 * superpages + word
+    FRAMES * superpages + word
 }
 
 /// Where a mark word lies among the words of a table of so many superpages and frame words, in a mark turn.
@@ -82,7 +104,7 @@ pub(crate) fn mark_entry(word: usize, superpages: usize, frame_words: usize) -> 
     requires { (word < 2 ^ 32) × (superpages < 2 ^ 32) × (frame_words < 2 ^ 32) }
     ensures { result ≡ 33 * superpages + frame_words + 1 + word }
 {
-    33 * superpages + frame_words + 1 + word
+    FRAMES * superpages + frame_words + 1 + word
 }
 
 /// Where a finished word lies among them.
@@ -90,15 +112,22 @@ pub(crate) fn finished_entry(word: usize, superpages: usize, frame_words: usize)
     requires { (word < 2 ^ 32) × (superpages < 2 ^ 32) × (frame_words < 2 ^ 32) }
     ensures { result ≡ 49 * superpages + frame_words + 1 + word }
 {
-    49 * superpages + frame_words + 1 + word
+    (FRAMES + SET_WORDS) * superpages + frame_words + 1 + word
 }
 
-/// Where the slot for a page's frame lies among the slots of a table; the one for its place in the store is four after.
+/// How many words so many bits take.
+pub(crate) fn bit_words(bits: usize) -> usize
+    ensures { result ≡ (bits + 63) / 64 }
+{
+    bits.div_ceil(u64::BITS as usize)
+}
+
+/// Where the slot for a page's frame lies among the slots of a table.
 pub(crate) fn home_entry(page: usize) -> usize
     requires { page < 2 ^ 32 }
     ensures { result ≡ home_slot page }
 {
-    8 * (page / 4) + page % 4
+    PAGE_SLOTS * (page / PAGES) + page % PAGES
 }
 
 /// Where the slot for a page's place in the store lies among the slots of a table.
@@ -106,7 +135,7 @@ pub(crate) fn store_entry(page: usize) -> usize
     requires { page < 2 ^ 32 }
     ensures { result ≡ home_slot page + 4 }
 {
-    home_entry(page) + 4
+    home_entry(page) + PAGES
 }
 
 impl Model for About {

@@ -45,10 +45,11 @@
 // cells have words of their own, so a page is put back by `put` alone. A page may leave only where the seat knows its targets to be
 // marked. No content changes in a mark turn, so what refers to what is the opening's.
 //
-// Where things are: `pins` the table and a seat, `key` what a table is made from, `views` slots and views, `rule` the rule and what
-// steps say, `taking` the calls on pages, `giving` the steps by which one is given up, `reloading` those by which one comes back,
-// `marking` those of a mark turn, `holding` a page in hand, `reading` what everybody may read; `opening` with `room`, `filling`, `lodging`
-// and `rest`; `closing` with `gathering`. Gates, where a test may look on, are passed on from `bc_gates`.
+// Where things are: `pins` the table and a seat, `key` what a table is made from and where its words and slots lie, `words` which word
+// each state of a page has, `views` slots and views, `rule` the rule and what steps say, `taking` the calls on pages, `giving` the steps
+// by which one is given up, `reloading` those by which one comes back, `marking` those of a mark turn, `holding` a page in hand,
+// `reading` what everybody may read; `opening` with `room`, `filling`, `lodging` and `rest`; `closing` with `gathering`. Gates, where a
+// test may look on, are passed on from `bc_gates`.
 #![tactic(auto)]
 
 mod closing;
@@ -69,6 +70,7 @@ mod room;
 mod rule;
 mod taking;
 mod views;
+mod words;
 
 pub use bc_gates::{Gate, OpenGate};
 pub use holding::Held;
@@ -78,3 +80,4 @@ pub use pins::{Pins, Seat};
 pub use rest::Rest;
 pub use taking::{TakeError, Want};
 pub use views::{Hand, Lodged, View};
+pub use words::{ABSENT, GONE, HELD, HOME, REMEMBERED};

@@ -6,7 +6,7 @@ ghost use Rattle.bc_pins.specs.declared.views.Lodged.TheVariants.{Nothing};
 ghost use Rattle.bc_pins.specs.Key.{home_slot};
 ghost use Rattle.bc_pins.specs.Lodging.{Replaced, AreOut, LiesOnce, home_of, away_of, box_of, place_of};
 
-use crate::key::{home_entry, store_entry};
+use crate::key::{PAGE_SLOTS, PAGES, home_entry, store_entry};
 use crate::views::Lodged;
 use bc_frames::Store;
 use bc_superpages::Homed;
@@ -61,11 +61,11 @@ pub(crate) fn lodge_pages(
     ensures store { store.new ≡ record store.old { places = store.new.places } }
 {
     for entry in 0..2 * pages {
-        let page = 4 * (entry / 8) + entry % 4;
-        if entry % 8 < 4 {
+        let page = PAGES * (entry / PAGE_SLOTS) + entry % PAGES;
+        if entry % PAGE_SLOTS < PAGES {
             slots.push_reserved(lodge(boxes[page].take()));
         } else {
-            let away = lift(store, page, &slots[entry - 4]);
+            let away = lift(store, page, &slots[entry - PAGES]);
             slots.push_reserved(away);
         }
     }

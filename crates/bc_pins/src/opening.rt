@@ -7,11 +7,12 @@ ghost use Rattle.bc_pins.specs.Opening.{IsOpenable, IsMarkable, key_for};
 ghost use Rattle.bc_pins.specs.Opened.{IsKeyOf, Opened};
 
 use crate::filling::{fill_words, word_count};
-use crate::key::{About, Role, Turn};
+use crate::key::{About, PAGE_SLOTS, PAGES, Role, Turn, bit_words};
 use crate::pins::{Pins, Seat};
 use crate::rest::{Rest, lodge_all, restore};
 use crate::room::{Room, deal_all, take_room};
 use atomic_table::{Refused, Table};
+use bc_classes::SUPERPAGE_PAGES;
 use bc_model::Holder;
 use bc_superpages::{Space, SpaceParts};
 use std::alloc::{AllocError, Global};
@@ -61,9 +62,9 @@ impl Pins {
     {
         let opening = Snapshot::of(&space);
         let parts = space.open_up();
-        let superpages = ((parts.end + 3) / 4) as usize;
+        let superpages = ((parts.end + (SUPERPAGE_PAGES - 1)) / SUPERPAGE_PAGES) as usize;
         let words = word_count(superpages, parts.pool.frames() as usize, turn);
-        let Ok(room) = take_room(alloc, words, 8 * superpages, holders, roles) else {
+        let Ok(room) = take_room(alloc, words, PAGE_SLOTS * superpages, holders, roles) else {
             return Err((Space::close_up(parts), AllocError));
         };
         let Ok(seats) = Vec::with_capacity(alloc, roles.len()) else {
@@ -106,7 +107,7 @@ impl Pins {
             roles,
         } = room;
         let whole = Snapshot::of(&parts);
-        let pages = 4 * superpages;
+        let pages = PAGES * superpages;
         let frames = parts.pool.frames() as usize;
         fill_words(
             &mut words,
@@ -128,7 +129,7 @@ impl Pins {
                     },
                     superpages,
                     turn,
-                    frame_words: ((frames + 63) / 64) as u32,
+                    frame_words: bit_words(frames) as u32,
                     spare,
                 };
                 Ok((pins, seats))

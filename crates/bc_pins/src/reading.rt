@@ -13,6 +13,7 @@ ghost use Rattle.bc_pins.specs.Calls.{key_of};
 
 use crate::key::Turn;
 use crate::pins::Pins;
+use bc_classes::{SUPERPAGE_PAGES, SUPERPAGE_WORDS};
 use bc_superpages::Header;
 
 impl Pins {
@@ -42,14 +43,14 @@ impl Pins {
     pub fn end(&self) -> u32
         ensures end { result ≡ 2048 * superpages (key_of self.now).opening }
     {
-        2048 * self.rest.parts.headers.len() as u32
+        SUPERPAGE_WORDS * self.rest.parts.headers.len() as u32
     }
 
     /// How many pages the table has: four for each superpage up to the last that had a page which wasn't Absent.
     pub fn pages(&self) -> u32
         ensures pages { result ≡ pages_of (key_of self.now) }
     {
-        4 * self.superpages as u32
+        SUPERPAGE_PAGES * self.superpages as u32
     }
 
     /// How many frames the heap has.

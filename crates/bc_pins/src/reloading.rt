@@ -14,12 +14,8 @@ use crate::key::{counter_entry, frame_entry, page_entry, store_entry};
 use crate::pins::{Pins, Seat};
 use crate::rule::{CounterSub, FrameClaim, TakeGone};
 use crate::views::Lodged;
+use crate::words::{GONE, HELD};
 use bc_frames::{Page, Shut};
-
-/// The words of a page that are named here.
-const HELD: u64 = 3;
-
-const GONE: u64 = 4;
 
 impl Pins {
     /// Tries to take an own page from Gone, or one of a frozen domain, for which the seat has the right to a frame, and to no other: the frame is the page's

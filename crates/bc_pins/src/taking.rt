@@ -2,7 +2,7 @@
 
 ghost use Rattle.std.specs.Prelude.{◌≡◌, ◌≢◌, ◌<◌, ◌≤◌, ◌==◌, true, IfOk, IfErr};
 ghost use Rattle.bc_pins.specs.Key.{pages_of};
-ghost use Rattle.bc_pins.specs.Views.{state_word, home_word};
+ghost use Rattle.bc_pins.specs.Views.{state_word};
 ghost use Rattle.bc_pins.specs.Steps.{having_read, ReadsWord, Takes};
 ghost use Rattle.bc_pins.specs.declared.taking.TakeError.TheVariants.{Busy};
 ghost use Rattle.bc_pins.specs.Calls.{key_of, view_of, IsAt, IsSameSeat, IsFree, HoldsPage, Grasps, MayWork, MayPut, tried, IsPlainVictim, IsTakeRefused, WasSeen, put_back};
@@ -12,14 +12,8 @@ use crate::key::{home_entry, page_entry};
 use crate::pins::{Pins, Seat};
 use crate::rule::{Look, Release, Take};
 use crate::views::Lodged;
+use crate::words::{ABSENT, HELD, HOME, REMEMBERED, state_of, word_at_home};
 use bc_superpages::PageState;
-
-/// The words of a page that are named here.
-const HOME: u64 = 1;
-
-const REMEMBERED: u64 = 2;
-
-const HELD: u64 = 3;
 
 /// What a page is taken for.
 #[derive(Clone, Copy, PartialEq, Eq, Debug)]
@@ -64,7 +58,7 @@ impl Pins {
                 Want::Victim => Err(TakeError::Remembered),
             },
             Err(HELD) => Err(TakeError::Busy),
-            Err(0) => Err(TakeError::Absent),
+            Err(ABSENT) => Err(TakeError::Absent),
             Err(_) => Err(TakeError::Gone),
         }
     }
@@ -156,19 +150,6 @@ impl Pins {
             .table
             .shared
             .load::<Look>(&mut seat.inner, page_entry(page as usize));
-        match found {
-            0 => PageState::Absent,
-            HOME => PageState::Home,
-            REMEMBERED => PageState::Remembered,
-            HELD => PageState::Held,
-            _ => PageState::Gone,
-        }
+        state_of(found)
     }
-}
-
-/// The word of a page at home.
-fn word_at_home(remembered: bool) -> u64
-    ensures { result ≡ home_word remembered }
-{
-    if remembered { REMEMBERED } else { HOME }
 }

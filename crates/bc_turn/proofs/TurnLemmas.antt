@@ -1,5 +1,5 @@
 -- A turn put together: what its steps say makes the lanes' begin, their runs, and what they lay back.
-use Rattle.std.proofs.Common.{◌≡◌, ℕ, ◌+◌, ◌-◌, ◌*◌, ◌^◌, ◌<◌, ◌≤◌, ◌==◌, true, false, List, [], ◌∷◌, ◌++◌, length, map, get_or, None, Vec, vec_capacity, inl, inr, refl, ap, sym, subst, ◌∙◌, arith}
+use Rattle.std.proofs.Common.{◌≡◌, ℕ, ◌+◌, ◌-◌, ◌*◌, ◌<◌, ◌≤◌, ◌==◌, true, false, List, [], ◌∷◌, ◌++◌, length, map, get_or, None, Vec, vec_capacity, inl, inr, refl, ap, sym, subst, ◌∙◌, arith}
 use Prim.Native.Nat.{zero, suc}
 use Rattle.std.specs.declared.alloc.Global.{Global}
 use Rattle.std.specs.List.{AllByRecursion}
@@ -12,24 +12,20 @@ use Rattle.bc_lane.specs.declared.stops.Stop.{Stop}
 use Rattle.bc_lane.specs.declared.stops.Stop.TheVariants as stop
 use Rattle.bc_lane.specs.Turns.{AreStarts, LaneRan, SlotsOf}
 use Rattle.bc_model.specs.Rows.{lists_of}
-use Rattle.bc_model.specs.State.{State, holder_of}
+use Rattle.bc_model.specs.State.{holder_of}
 use Rattle.bc_model.specs.declared.operations.Op.{Op}
 use Rattle.bc_model.specs.declared.operations.Reply.{Reply}
 use Rattle.bc_model.specs.declared.values.Holder.{Holder}
 use Rattle.bc_model.specs.declared.values.Holder.TheVariants as holder
-use Rattle.bc_mutator.specs.Objects.{AreWhole}
 use Rattle.bc_mutator.specs.Operations.{IsOpOf}
-use Rattle.bc_pager.specs.Answering.{AreAnswered}
 use Rattle.bc_pager.specs.declared.answers.Answer.{Answer}
 use Rattle.bc_pins.specs.Calls.{key_of, view_of}
 use Rattle.bc_pins.specs.Closing.{AreBack, Closed}
 use Rattle.bc_pins.specs.Key.{role_number}
-use Rattle.bc_pins.specs.Opened.{Opened}
 use Rattle.bc_pins.specs.Seating.{IsDealt}
 use Rattle.bc_pins.specs.Steps.{fresh}
 use Rattle.bc_pins.specs.declared.key.Role.{Role}
 use Rattle.bc_pins.specs.declared.key.Role.TheVariants.{Lane, Pager}
-use Rattle.bc_pins.specs.declared.key.Turn.TheVariants.{Lanes}
 use Rattle.bc_pins.specs.declared.pins.Pins.{Pins}
 use Rattle.bc_pins.specs.declared.pins.Seat.{Seat}
 use Rattle.bc_reach.specs.Distinct.{Has}
@@ -40,13 +36,15 @@ use Rattle.bc_superpages.specs.RootWords.{RootWords}
 use Rattle.bc_pager.specs.declared.paging.Paging.{Paging}
 use Rattle.bc_turn.specs.declared.rooms.TurnRoom.{TurnRoom}
 use Rattle.bc_turn.specs.declared.runs.Run.{Run}
+use Rattle.bc_turn.specs.declared.turns.OpenTurn.{OpenTurn}
+use Rattle.bc_turn.specs.UnderWay.{IsTurnUnderWay}
 use Rattle.bc_turn.specs.Answered.{AnsweredBeside}
 use Rattle.bc_turn.specs.Looked.{HadInTurn, IsLookedAtInTurn}
 use Rattle.bc_turn.specs.Begun.{AllRan, AreBegun, AreBusyLanes, IsBegunLane, RanLane, of_lane}
 use Rattle.bc_turn.specs.Beside.{RanBeside}
 use Rattle.bc_turn.specs.Laying.{AreLaidBack}
-use Rattle.bc_pager.specs.Paging.{HasPaged}
-use Rattle.bc_turn.specs.Taking.{AreHeldDomains, AreRunsOf, AreSparesOf, AreTaken, CanRun, HasBusyAmong, HasReplyRoom, HasRoomForLane, LaneHasRun, IsRoomKept, LiesRight, running_lanes, seat_at, spare_lanes, turn_at, turn_roles}
+use Rattle.bc_pager.specs.Paging.{HasPaged, IsPagerReady}
+use Rattle.bc_turn.specs.Taking.{AreHeldDomains, AreRunsOf, AreSparesOf, AreTaken, CanAllRun, CanRun, FitsLanes, HasBusyAmong, HasReplyRoom, HasRoomForLane, LaneHasRun, IsRoomKept, LiesRight, running_lanes, seat_at, spare_lanes, turn_at, turn_roles}
 use Rattle.bc_turn.proofs.AnsweredLemmas.{AreMoved, answered}
 use Rattle.bc_turn.proofs.BegunLemmas.{IsPagerBack, all-fetched, all-homes, all-put, are-back, are-moved, are-recorded, begun-lane, gathered, may-operate, ops-each, own-fetched, own-returned, paged-back, pager-logged}
 use Rattle.bc_turn.proofs.BesideLemmas.{ran-beside, turn-table}
@@ -54,8 +52,6 @@ use Rattle.bc_turn.proofs.LayingLemmas.{laid-space}
 use Rattle.bc_turn.proofs.RoomLemmas.{beside-longer, busy-among, busy-later, same-numbers}
 use Rattle.bc_turn.proofs.TableLemmas.{IsTurnTable}
 use Rattle.bc_whole_heap.specs.Heaps.{HeapView, end_of}
-use Rattle.bc_whole_heap.specs.LaneStates.{StandsAs}
-use Rattle.bc_whole_heap.specs.Running.{IsRunning}
 use Rattle.bc_pager.proofs.HomeLemmas.{declined-beside}
 
 -- a list has an element
@@ -100,33 +96,65 @@ lane-role-at busy i lt =
 pager-role : (busy : List ℕ) → get_or (turn_roles busy) (length busy) (Lane 0) ≡ Pager 0
 pager-role busy = get_or_push (map (λ (l : ℕ). Lane l) busy) (Pager 0) (Lane 0) (length busy) (length-map busy (λ (l : ℕ). Lane l))
 
--- a turn whose lanes have taken along what is their own, at a table that was opened for them and a pager. `s` is the space that stood in the
--- heap's meanwhile
-pub record Setting (h : HeapView) (hs : List Holder) (serials : List ℕ) (lanes : List (List Op)) (before : List (Vec Reply Global)) (busy : List ℕ) (s : Layout) (pins : Pins) (seats : List Seat) (pager : Seat) (k : HeapView) (after : List (Vec Reply Global)) (runs : List Run) : Type 0 where
-  pub running : IsRunning h hs
-  pub state : State
-  pub stands : StandsAs h hs serials state
-  pub layout : IsLayout h.space
-  pub whole : AreWhole h.chunks
-  pub domains : h.roots.domains ≤ 64
-  pub long : length h.roots.words ≡ h.roots.domains * h.roots.slots
-  pub sizes : length lanes ≡ length h.chunks
-  pub ops : AllByRecursion (AllByRecursion (IsOpOf h.roots)) lanes
-  pub births : (j : ℕ) → get_or serials j 0 + (length (of_lane lanes j) - length (of_lane (lists_of before) j)) < 2 ^ 32
-  pub busy_are : AreBusyLanes lanes (lists_of before) busy
-  pub opened : Opened h.space Lanes hs (turn_roles busy) pins (seats ++ pager ∷ [])
-  pub taken : AreTaken (record h { space = s }) hs serials lanes before busy seats k after runs
+-- room that came back is kept for the next turn
+room-returned : (hs : List Holder) (slots : ℕ) (lanes : List (List Op)) (h : HeapView) (serials : List ℕ) (before : List (List Reply)) (k : HeapView) (nexts : List ℕ) (after : List (List Reply)) (busy : List ℕ) (room : TurnRoom)
+    → AreSparesOf hs slots room.spares.items → spare_lanes room.spares.items ≡ busy → AreBusyLanes lanes before busy → length before ≡ length lanes → RanBeside hs lanes h serials before k nexts after → IsRoomKept hs slots lanes after room
+room-returned hs slots lanes h serials before k nexts after busy room spares lanes_are busy_are sizes ran =
+    inr (
+      spares,
+      subst (HasBusyAmong lanes after) (sym lanes_are)
+          (busy-later lanes before after busy (beside-longer hs lanes h serials before k nexts after sizes ran) (busy-among lanes before busy busy_are)),
+    )
 
-module _ (h : HeapView) (hs : List Holder) (serials : List ℕ) (lanes : List (List Op)) (before : List (Vec Reply Global)) (busy : List ℕ) (s : Layout) (pins : Pins) (seats : List Seat) (pager : Seat) (k : HeapView) (after : List (Vec Reply Global)) (runs : List Run)
-    (set : Setting h hs serials lanes before busy s pins seats pager k after runs) where
+-- answers to the same notices, after the same ones
+pub answers-same : (IsLooked : ℕ → Type 0) (Had : ℕ → List ℕ → Type 0) (s : Layout) (hints asked : List ℕ) (before kept after : List Answer) (t : Layout) → hints ≡ asked → before ≡ kept
+    → AnsweredBeside IsLooked Had s hints before after t → AnsweredBeside IsLooked Had s asked kept after t
+answers-same IsLooked Had s hints asked before kept after t hints_are kept_are answered_before =
+    subst (λ (xs : List ℕ). AnsweredBeside IsLooked Had s xs kept after t) hints_are (subst (λ (ks : List Answer). AnsweredBeside IsLooked Had s hints ks after t) kept_are answered_before)
+
+-- a turn under way
+module _ (hs : List Holder) (lanes : List (List Op)) (h : HeapView) (serials : List ℕ) (before : List (Vec Reply Global)) (turn : OpenTurn) (k : HeapView) (after : List (Vec Reply Global)) (set : IsTurnUnderWay hs lanes h serials before turn k after) where
+  abbrev pins : Pins
+  pins = turn.pins
+
+  abbrev busy : List ℕ
+  busy = set.busy
+
+  abbrev seats : List Seat
+  seats = set.seats
+
+  abbrev pager : Seat
+  pager = turn.paging.seat
+
+  abbrev runs : List Run
+  runs = turn.runs.items
+
   busy_are : AreBusyLanes lanes (lists_of before) busy
   busy_are = set.busy_are
 
-  taken : AreTaken (record h { space = s }) hs serials lanes before busy seats k after runs
+  taken : AreTaken (record h { space = set.hollow }) hs serials lanes before busy seats k after runs
   taken = set.taken
 
   sizes : length lanes ≡ length h.chunks
-  sizes = set.sizes
+  sizes = sym set.fits.chunks
+
+  -- as many lists as lanes stand in the heap meanwhile
+  pub fits-meanwhile : FitsLanes (length lanes) k (length serials) (length after)
+  fits-meanwhile =
+      let away = taken.away in
+      let a = length-map after (λ (v : Vec Reply Global). v.items) in
+      let b = length-map before (λ (v : Vec Reply Global). v.items) in
+      record { chunks = away.chunks_long ∙ set.fits.chunks; buffers = away.buffers_long ∙ set.fits.buffers; births = set.fits.births; told = sym a ∙ away.replies_long ∙ b ∙ set.fits.told }
+
+  roots-same : k.roots ≡ h.roots
+  roots-same = ap (λ (v : HeapView). v.roots) taken.away.same
+
+  -- some lane runs
+  pub some-runs : 0 < length runs
+  some-runs = let all = taken.long in let some = set.some in omega arith
+
+  some-run : Run
+  some-run = first-of runs some-runs
 
   table : IsTurnTable (key_of pins) h.space hs busy
   table = turn-table h.space hs busy pins (seats ++ pager ∷ []) set.opened
@@ -135,12 +163,16 @@ module _ (h : HeapView) (hs : List Holder) (serials : List ℕ) (lanes : List (L
   lane-seats = let all = set.opened.seats_are.long in let roles = roles-long busy in let long = length_push seats pager in omega arith
 
   -- the pager's seat, which is the last
-  pub pager-dealt : IsDealt pins.table.shared.table_id (key_of pins) (Pager 0) pager
+  pager-dealt : IsDealt pins.table.shared.table_id (key_of pins) (Pager 0) pager
   pager-dealt =
       let roles = roles-long busy in
       let there = set.opened.seats_are.each (length busy) (omega arith) pager in
       subst (λ (r : Role). IsDealt pins.table.shared.table_id (key_of pins) r pager) (pager-role busy)
       (subst (IsDealt pins.table.shared.table_id (key_of pins) (get_or (turn_roles busy) (length busy) (Lane 0))) (get_or_push seats pager pager (length busy) lane-seats) there)
+
+  -- it is ready to work
+  pub pager-ready : IsPagerReady pins turn.paging
+  pager-ready = record { seat = pager-dealt; given = set.given; room = set.enough }
 
   dealt : (i : ℕ) → i < length busy → (d : Run) → IsDealt pins.table.shared.table_id (key_of pins) (Lane (get_or busy i 0)) (seat_at d runs i)
   dealt i lt d =
@@ -162,7 +194,7 @@ module _ (h : HeapView) (hs : List Holder) (serials : List ℕ) (lanes : List (L
       begun-lane pins h hs serials lanes (lists_of before) busy t.roots t.told (turn_at d runs i) (seat_at d runs i) lane set.layout set.long (may-operate h hs lane set.running set.layout set.domains set.whole (omega arith)) (set.state, set.stands) table set.opened.lanes
       (dealt i lt d) (record { rising = t.domains.rising; all = t.domains.all; long = t.words.long; each = t.words.each; packed = t.words.packed }) t.told_are t.prepared within (omega arith) (set.births lane)
 
-  pub begun : (d : Run) → AreBegun pins h hs serials lanes (lists_of before) busy (turn_at d runs) (seat_at d runs)
+  begun : (d : Run) → AreBegun pins h hs serials lanes (lists_of before) busy (turn_at d runs) (seat_at d runs)
   begun d = record {
     busy_are = busy_are;
     each = λ i lt. begun-at i lt d;
@@ -172,13 +204,17 @@ module _ (h : HeapView) (hs : List Holder) (serials : List ℕ) (lanes : List (L
   ops-at : (i : ℕ) → i < length busy → (d : Run) → AllByRecursion (IsOpOf h.roots) (of_lane lanes (turn_at d runs i).part.lane)
   ops-at i lt d = ops-each h.roots lanes (turn_at d runs i).part.lane (begun-at i lt d).within set.ops
 
-  pub can-run : (r : ℕ) → (d : Run) → r < length runs → CanRun pins lanes h.roots (get_or runs r d)
+  can-run : (r : ℕ) → (d : Run) → r < length runs → CanRun pins lanes h.roots (get_or runs r d)
   can-run r d lt =
       let all = taken.long in
       let i = length runs - (r + 1) in
       let inside : i < length busy = omega arith in
       let b = begun-at i inside d in
       subst (λ (q : ℕ). CanRun pins lanes h.roots (get_or runs q d)) (back-place (length runs) r lt) (record { within = b.within; shares = (taken.each i inside d).prepared.shared_is; going = b.going; heap = heap_back h; whole = b.whole; ops = ops-at i inside d })
+
+  -- all lanes can run
+  pub can-all-run : CanAllRun pins lanes k.roots runs
+  can-all-run r d lt = subst (λ (x : RootWords). CanRun pins lanes x (get_or runs r d)) (sym roots-same) (can-run r d lt)
 
   module _ (new : List Run) (ran : (i : ℕ) → (d : Run) → i < length runs → LaneHasRun lanes (get_or runs i d) (get_or new i d)) (new_long : length new ≡ length runs) where
     has-run : (i : ℕ) → i < length busy → (d : Run) → LaneHasRun lanes (get_or runs (length runs - (i + 1)) d) (get_or new (length new - (i + 1)) d)
@@ -195,7 +231,7 @@ module _ (h : HeapView) (hs : List Holder) (serials : List ℕ) (lanes : List (L
       | inr out ↦ (stop.End, λ lt. absurd (omega arith))
     ]
 
-    pub all-ran : (d : Run) → AllRan lanes busy (turn_at d runs) (seat_at d runs) (turn_at d new) (seat_at d new)
+    all-ran : (d : Run) → AllRan lanes busy (turn_at d runs) (seat_at d runs) (turn_at d new) (seat_at d new)
     all-ran d = record {
       why = λ i. (causes i d).0;
       each = λ i lt. (causes i d).1 lt;
@@ -210,9 +246,6 @@ module _ (h : HeapView) (hs : List Holder) (serials : List ℕ) (lanes : List (L
 
     holders-are : (i : ℕ) → i < length busy → (d : Run) → (turn_at d new i).part.holders.items ≡ hs
     holders-are i lt d = ap (λ (v : Vec Holder Global). v.items) (lane-ran i lt d).same.holders ∙ (taken.each i lt d).prepared.holders_are
-
-    roots-same : k.roots ≡ h.roots
-    roots-same = ap (λ (v : HeapView). v.roots) taken.away.same
 
     lies-right : (i : ℕ) → i < length busy → (d : Run) → LiesRight hs k.roots (turn_at d new i).part
     lies-right i lt d =
@@ -275,8 +308,8 @@ module _ (h : HeapView) (hs : List Holder) (serials : List ℕ) (lanes : List (L
         get_or-map (λ (x : Run). x.turn.part.lane) new r d 0 near ∙ ap (λ (q : ℕ). (get_or new q d).turn.part.lane) (sym place) ∙ (lane-ran i inside d).same.lane
         ∙ ap (λ (q : ℕ). (get_or runs q d).turn.part.lane) old ∙ sym (get_or-map (λ (x : Run). x.turn.part.lane) runs r d 0 (omega arith)))
 
-    pub reply-room : (d : Run) → HasReplyRoom lanes after (running_lanes new)
-    reply-room d = subst (HasReplyRoom lanes after) (sym (same-lanes d)) taken.room
+    pub reply-room : HasReplyRoom lanes after (running_lanes new)
+    reply-room = subst (HasReplyRoom lanes after) (sym (same-lanes some-run)) taken.room
 
     -- what is laid back against the heap that was lent is so against the heap before
     to-busy : (d : Run) (l : ℕ) → Has (running_lanes runs) l → Has busy l
@@ -292,8 +325,14 @@ module _ (h : HeapView) (hs : List Holder) (serials : List ℕ) (lanes : List (L
         ∙ sym (get_or-map (λ (r : Run). r.turn.part.lane) runs p.0 d 0 near) ∙ p.2 in
         subst (Has busy) e (Has-get_or busy i inside)
 
-    module _ (d : Run) (g : HeapView) (nexts : List ℕ) (told : List (List Reply)) (laid : AreLaidBack hs busy (turn_at d new) (length busy) k serials (lists_of after) g nexts told) where
-      pub home : AreLaidBack hs busy (turn_at d new) (length busy) h serials (lists_of before) g nexts told
+    module _ (g : HeapView) (nexts : List ℕ) (told : List (List Reply)) (lays : (r : Run) → AreRunsOf hs busy k new → AreLaidBack hs busy (turn_at r new) (length busy) k serials (lists_of after) g nexts told) where
+      abbrev d : Run
+      d = some-run
+
+      laid : AreLaidBack hs busy (turn_at d new) (length busy) k serials (lists_of after) g nexts told
+      laid = lays d runs-of
+
+      home : AreLaidBack hs busy (turn_at d new) (length busy) h serials (lists_of before) g nexts told
       home =
           let here = subst (λ (v : HeapView). AreLaidBack hs busy (turn_at d new) (length busy) v serials (lists_of after) g nexts told) taken.away.same laid in
           let away = taken.away in
@@ -318,11 +357,11 @@ module _ (h : HeapView) (hs : List Holder) (serials : List ℕ) (lanes : List (L
             written = here.written;
           }
 
-      module _ (old later : Paging) (seat_is : old.seat ≡ pager) (paged : HasPaged pins old later) where
+      module _ (later : Paging) (paged : HasPaged pins turn.paging later) where
         pager-back : IsPagerBack pins later.seat
-        pager-back = paged-back pins old later (subst (IsDealt pins.table.shared.table_id (key_of pins) (Pager 0)) (sym seat_is) pager-dealt) paged
+        pager-back = paged-back pins turn.paging later pager-dealt paged
 
-        module _ (back : List Seat) (back_long : length back ≡ length new) (back_are : (i : ℕ) → (d : Run) → (e : Seat) → i < length new → get_or back i e ≡ seat_at d new i) where
+        module _ (back : List Seat) (back_long : length back ≡ length new) (back_are : (i : ℕ) → (r : Run) → (e : Seat) → i < length new → get_or back i e ≡ seat_at r new i) where
           seats-are : (i : ℕ) → i < length busy → (e : Seat) → get_or back i e ≡ seat_at d new i
           seats-are i lt e = let all = taken.long in back_are i d e (omega arith)
 
@@ -357,11 +396,11 @@ module _ (h : HeapView) (hs : List Holder) (serials : List ℕ) (lanes : List (L
               are-moved pins h hs serials lanes (lists_of before) busy (turn_at d runs) (seat_at d runs) (turn_at d new) (seat_at d new) (begun d) (all-ran d) back later.seat table seats-long seats-are pager-back
               paged.told paged.left paged.emptied
 
-          pub beside : (t : Layout) → 0 < length busy → Closed (key_of pins) whole-list t → IsLayout t → RanBeside hs lanes h serials (lists_of before) (record g { space = t }) nexts told
-          beside t some closed given =
+          pub beside : (t : Layout) → Closed (key_of pins) whole-list t → IsLayout t → RanBeside hs lanes h serials (lists_of before) (record g { space = t }) nexts told
+          beside t closed given =
               ran-beside pins h hs serials lanes (lists_of before) busy (turn_at d runs) (seat_at d runs) (turn_at d new) (seat_at d new) (begun d) (all-ran d) set.state set.stands set.long
               (λ j has. (let p = place_of busy j has in ops-each h.roots lanes j (subst (λ (l : ℕ). l < length lanes) p.2 (busy_are.within p.0 p.1)) set.ops))
-              set.running set.layout set.whole some whole-list table all-long all-are (record g { space = t }) nexts told closed given
+              set.running set.layout set.whole set.some whole-list table all-long all-are (record g { space = t }) nexts told closed given
               (laid-space hs busy (turn_at d new) (length busy) h serials (lists_of before) g nexts told t home)
               (are-recorded pins h hs serials lanes (lists_of before) busy (turn_at d runs) (seat_at d runs) (turn_at d new) (seat_at d new) (begun d) (all-ran d) back later.seat table seats-long seats-are pager-back)
               (own-returned pins h hs serials lanes (lists_of before) busy (turn_at d runs) (seat_at d runs) (turn_at d new) (seat_at d new) (begun d) (all-ran d) back later.seat table seats-long seats-are pager-back)
@@ -369,30 +408,26 @@ module _ (h : HeapView) (hs : List Holder) (serials : List ℕ) (lanes : List (L
           each-fits : (i : ℕ) → i < length busy → AllByRecursion (IsOpOf h.roots) (of_lane lanes (get_or busy i 0))
           each-fits i lt = ops-each h.roots lanes (get_or busy i 0) (busy_are.within i lt) set.ops
 
-          pub answered-beside : (t : Layout) → Closed (key_of pins) whole-list t → IsLayout t → (hints : List ℕ) (kept all : List Answer) → old.notices.hints ≡ hints → old.answers.list ≡ kept → all ≡ later.answers.list
-              → AnsweredBeside (IsLookedAtInTurn hs lanes h serials (lists_of before) told) (HadInTurn hs lanes h serials (lists_of before) told) h.space hints kept all t
-          answered-beside t closed given hints kept all hints_are kept_are all_are =
-              answered (IsLookedAtInTurn hs lanes h serials (lists_of before) told) (HadInTurn hs lanes h serials (lists_of before) told) (key_of pins) h.space t whole-list hints kept all paged.told fetched left emptied (view_of later.seat) set.opened.opening closed set.layout given
-              moved (all_are ∙ paged.kept ∙ ap (λ (list_before : List Answer). list_before ++ paged.told) kept_are)
-              (subst (λ (hs : List ℕ). AreAnswered (key_of pins) hs paged.told (fresh (key_of pins) (role_number (Pager 0) ∷ [])) (view_of later.seat)) hints_are paged.each)
+          pub answered-beside : (t : Layout) → Closed (key_of pins) whole-list t → IsLayout t → (all : List Answer) → all ≡ later.answers.list
+              → AnsweredBeside (IsLookedAtInTurn hs lanes h serials (lists_of before) told) (HadInTurn hs lanes h serials (lists_of before) told) h.space turn.paging.notices.hints turn.paging.answers.list all t
+          answered-beside t closed given all all_are =
+              answered (IsLookedAtInTurn hs lanes h serials (lists_of before) told) (HadInTurn hs lanes h serials (lists_of before) told) (key_of pins) h.space t whole-list turn.paging.notices.hints turn.paging.answers.list all paged.told fetched left emptied (view_of later.seat)
+              set.opened.opening closed set.layout given moved (all_are ∙ paged.kept) paged.each
               (own-fetched pins h hs serials lanes (lists_of before) busy (turn_at d runs) (seat_at d runs) (turn_at d new) (seat_at d new) (begun d) (all-ran d) back later.seat table seats-long seats-are pager-back told home.replies each-fits)
-              (declined-beside (key_of pins) t whole-list old.notices.hints paged.told (fresh (key_of pins) (role_number (Pager 0) ∷ [])) (view_of later.seat)
+              (declined-beside (key_of pins) t whole-list turn.paging.notices.hints paged.told (fresh (key_of pins) (role_number (Pager 0) ∷ [])) (view_of later.seat)
               (IsLookedAtInTurn hs lanes h serials (lists_of before) told) closed given.long.states paged.each
               (pager-logged pins h hs serials lanes (lists_of before) busy (turn_at d runs) (seat_at d runs) (turn_at d new) (seat_at d new) (begun d) (all-ran d) back later.seat table seats-long seats-are pager-back)
               (all-fetched pins h hs serials lanes (lists_of before) busy (turn_at d runs) (seat_at d runs) (turn_at d new) (seat_at d new) (begun d) (all-ran d) back later.seat table seats-long seats-are pager-back told home.replies each-fits)
               (all-homes pins h hs serials lanes (lists_of before) busy (turn_at d runs) (seat_at d runs) (turn_at d new) (seat_at d new) (begun d) (all-ran d) back later.seat table seats-long seats-are pager-back told home.replies each-fits
-              old.notices.hints paged.told paged.each paged.left paged.emptied))
+              turn.paging.notices.hints paged.told paged.each paged.left paged.emptied))
               (all-put pins h hs serials lanes (lists_of before) busy (turn_at d runs) (seat_at d runs) (turn_at d new) (seat_at d new) (begun d) (all-ran d) back later.seat table seats-long seats-are pager-back told home.replies each-fits)
 
--- room that came back is kept for the next turn
-pub room-returned : (hs : List Holder) (slots : ℕ) (lanes : List (List Op)) (h : HeapView) (serials : List ℕ) (before : List (List Reply)) (k : HeapView) (nexts : List ℕ) (after : List (List Reply)) (busy : List ℕ) (room : TurnRoom)
-    → AreSparesOf hs slots room.spares.items → spare_lanes room.spares.items ≡ busy → AreBusyLanes lanes before busy → length before ≡ length lanes → RanBeside hs lanes h serials before k nexts after → IsRoomKept hs slots lanes after room
-room-returned hs slots lanes h serials before k nexts after busy room spares lanes_are busy_are sizes ran =
-    inr (
-      spares,
-      subst (HasBusyAmong lanes after) (sym lanes_are)
-          (busy-later lanes before after busy (beside-longer hs lanes h serials before k nexts after sizes ran) (busy-among lanes before busy busy_are)),
-    )
+          pub room-again : (t : Layout) → Closed (key_of pins) whole-list t → IsLayout t → (room : TurnRoom) → (AreRunsOf hs busy k new → AreSparesOf hs k.roots.slots room.spares.items × (spare_lanes room.spares.items ≡ busy))
+              → IsRoomKept hs h.roots.slots lanes told room
+          room-again t closed given room spares =
+              let again = spares runs-of in
+              room-returned hs h.roots.slots lanes h serials (lists_of before) (record g { space = t }) nexts told busy room (subst (λ (n : ℕ). AreSparesOf hs n room.spares.items) (ap (λ (x : RootWords). x.slots) roots-same) again.0) again.1 busy_are
+              (length-map before (λ (v : Vec Reply Global). v.items) ∙ set.fits.told) (beside t closed given)
 
 -- whether something is left
 pub none-left : (n : ℕ) → (n == 0) ≡ true → n ≡ 0

@@ -10,3 +10,5 @@ pub mod Taking
 pub mod Looked
 -- Notices that were answered beside the lanes
 pub mod Answered
+-- A turn under way: its table is open, and the lanes have what is their own
+pub mod UnderWay

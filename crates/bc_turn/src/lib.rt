@@ -28,10 +28,13 @@
 // read it, or by the next one that it would do; and so is each page that a lane reloaded (`IsLookedAtInTurn`).
 //
 // What takes memory comes first: room for what each lane takes along (`fit_room`), with a chunk, a write buffer and a list of replies
-// without words that stand in the heap's places meanwhile; the roles, the notices and the list of runs; and the table (`open_table`).
+// without words that stand in the heap's places meanwhile; then the roles, the notices, the list of runs and the table (`open_turn`).
 // Where there is none the space is given back, and nothing has changed but the room that is kept. The list of answers has its room from
-// the caller. From then on nothing takes memory, so what has left the heap always comes back (`begin_all`, `run_beside` and `end_all`
-// have no allocator). A slot whose word is as it was isn't written back, since a slot that is written is noted.
+// the caller. From then on nothing takes memory, so what has left the heap always comes back (`begin_all` and `finish_turn` have no
+// allocator). A slot whose word is as it was isn't written back, since a slot that is written is noted.
+//
+// A turn is cut in two where all that leaves the heap has left it (`IsTurnUnderWay`): `begin_turn` opens the table, and the lanes take what is
+// theirs; `finish_turn` runs them, and says what the heap is then by what it was before the turn began.
 //
 // Room is kept from turn to turn (`TurnRoom`), for the lanes of a phase, whose operations don't change. At the end of a turn a lane's
 // room comes back with what stood in the heap's places, in the order of the lanes. The next turn drops that of lanes that are through

@@ -5,7 +5,7 @@ ghost use Rattle.bc_running.specs.RunningFacts.{IsSound};
 ghost use Rattle.bc_whole_heap.specs.HeapFacts.{NoneRemembered};
 
 use super::*;
-use bc_gates::OpenGate;
+use bc_gates::{Host, OpenGate};
 use bc_model::Slot;
 use std::test::Fail;
 
@@ -46,7 +46,12 @@ fn with_three_pages<R: Threads + Sync>(rt: &R, alloc: Global) -> Option<Running>
     if !makes(&mut running, 0, 1) || !makes(&mut running, 1, 3) || !makes(&mut running, 2, 7) {
         return None;
     }
-    match running.empty_nursery(rt, alloc, 1, &OpenGate) {
+    let host = Host {
+        threads: rt,
+        alloc,
+        gate: &OpenGate,
+    };
+    match running.empty_nursery(&host, 1) {
         Ok(_) => Some(running),
         Err(_) => None,
     }

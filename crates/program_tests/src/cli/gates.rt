@@ -4,7 +4,7 @@ ghost use Rattle.std.specs.Prelude.{◌≤◌};
 
 use super::sink::Paper;
 use super::{repeated, trace};
-use bc_cli::{Gate, Outcome, Status, read_trace, run_trace};
+use bc_cli::{Gate, Host, Outcome, Status, read_trace, run_trace};
 use bc_engine::{Answer, Counters, Pacing};
 use bc_io::MemSource;
 use std::alloc::{AllocError, Global};
@@ -66,8 +66,13 @@ pub fn run_marked<R: Threads + Sync, G: Gate + Sync>(
 {
     let mut source = MemSource::new(text.as_bytes().to_vec(alloc)?, 4096, Vec::new(alloc));
     let mut sink = Paper::new(alloc);
+    let host = Host {
+        threads: rt,
+        alloc,
+        gate,
+    };
     let outcome = match read_trace(alloc, &mut source) {
-        Ok(trace) => run_trace(rt, alloc, &trace, workers, pacing, &mut sink, gate),
+        Ok(trace) => run_trace(&host, &trace, workers, pacing, &mut sink),
         Err(status) => Outcome::without_heap(status),
     };
     let answers = match &outcome.heap {

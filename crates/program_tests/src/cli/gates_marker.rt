@@ -1,6 +1,6 @@
 //! A pager works beside the markers of a collection, and answers the notices of its turn: shown by gates that they pass.
 
-use super::gates::{Counting, Patience, run_marked, run_past};
+use super::gates::{Patience, run_marked, run_past};
 use super::gates_pager::{ANSWERED, PAGER, TAKEN};
 use super::{trace, trace_in};
 use bc_cli::{Gate, Status};
@@ -32,12 +32,26 @@ const ONE_WITHHELD: &str =
 /// What they print.
 const PRINTED: &str = "phase 1\nlane 0\nobj 0.1\nobj 0.2\nphase 2\nlane 0\nok\nobj 0.3\ndone\n";
 
-/// Keeps a marker at its first page until the pager has answered, and the pager at its notice until a marker has a page in its hands.
+/// Keeps a marker at its first page until the pager has answered, and the pager at its notice until the marker has a page in its hands. So the
+/// marker finds its page in memory, whichever thread comes first.
 #[derive(Drop)]
 struct Meeting {
     in_hand: AtomicU64,
+    put_back: AtomicU64,
     answered: AtomicU64,
     patience: Patience,
+}
+
+impl Meeting {
+    /// Neither of them has come yet.
+    fn new() -> Meeting {
+        Meeting {
+            in_hand: AtomicU64::new(0),
+            put_back: AtomicU64::new(0),
+            answered: AtomicU64::new(0),
+            patience: Patience::new(),
+        }
+    }
 }
 
 impl Gate for Meeting {
@@ -46,6 +60,9 @@ impl Gate for Meeting {
             (MARKER, IN_HAND) => {
                 self.in_hand.fetch_add(1, Ordering::SeqCst);
                 self.patience.keep_until(&self.answered);
+            }
+            (MARKER, PUT_BACK) => {
+                self.put_back.fetch_add(1, Ordering::SeqCst);
             }
             (PAGER, TAKEN) => self.patience.keep_until(&self.in_hand),
             (PAGER, ANSWERED) => {
@@ -58,11 +75,7 @@ impl Gate for Meeting {
 
 /// Shows that in a run of one of these texts a page leaves beside a marker that has another one in its hands.
 fn one_leaves<R: Threads + Sync + Abort>(rt: &R, alloc: Global, text: &str) -> Result<(), Fail> {
-    let gate = Meeting {
-        in_hand: AtomicU64::new(0),
-        answered: AtomicU64::new(0),
-        patience: Patience::new(),
-    };
+    let gate = Meeting::new();
     let passed = run_past(rt, alloc, text, &gate)?;
     assert_eq!(rt; passed.status, Status::Done);
     assert!(rt; passed.written.as_slice() == PRINTED.as_bytes());
@@ -92,27 +105,13 @@ fn a_page_leaves_beside_a_marker_that_has_another_in_its_hands(
 #[test]
 fn a_marker_puts_each_page_back_that_it_took(rt: HostRuntime) -> Result<(), Fail> {
     let text = trace(rt.alloc(), [1, 1, 2, 2, 1, 4, 3], THREE_CLASSES)?;
-    let taken = Counting {
-        who: MARKER,
-        point: IN_HAND,
-        passes: AtomicU64::new(0),
-    };
-    let put = Counting {
-        who: MARKER,
-        point: PUT_BACK,
-        passes: AtomicU64::new(0),
-    };
-    assert_eq!(rt;
-        run_past(&rt, rt.alloc(), &text, &taken)?.status,
-        Status::Done
-    );
-    assert_eq!(rt;
-        run_past(&rt, rt.alloc(), &text, &put)?.status,
-        Status::Done
-    );
-    let passes = taken.passes.load(Ordering::SeqCst);
-    assert!(rt; passes > 0);
-    assert_eq!(rt; put.passes.load(Ordering::SeqCst), passes);
+    let gate = Meeting::new();
+    let passed = run_past(&rt, rt.alloc(), &text, &gate)?;
+    assert_eq!(rt; passed.status, Status::Done);
+    let taken = gate.in_hand.load(Ordering::SeqCst);
+    assert!(rt; taken > 0);
+    assert_eq!(rt; gate.put_back.load(Ordering::SeqCst), taken);
+    assert_eq!(rt; gate.patience.given_up.load(Ordering::SeqCst), 0);
     Ok(())
 }
 

@@ -1,0 +1,104 @@
+use Rattle.std.proofs.Common.{ap, sym, subst, ◌∙◌, arith}
+use Rattle.bc_cycle.specs.declared.heaps.Heap.{Heap}
+use Rattle.bc_cycle.specs.Emptying.{heap_view}
+use Rattle.bc_model.specs.Rows.{lists_of}
+use Rattle.bc_turn.specs.Beside.{RanBeside}
+use Rattle.bc_turn.proofs.TurnLemmas.{all-back, answered-beside, beside, can-all-run, fits-meanwhile, pager-ready, reply-room, room-again, room-for, runs-of, some-runs}
+use Rattle.bc_turn.proofs.turns.finish_turn.Goals as goal
+use Rattle.bc_whole_heap.specs.Heaps.{HeapView}
+
+pub run_beside-requires-clause-some : goal.run_beside-requires-clause-some
+run_beside-requires-clause-some g c κs within = let b = c.requires.begun in some-runs b.0 (lists_of c.args.lanes.now) b.1 c.args.serials.now b.2 c.args.turn (heap_view c.args.heap.now) c.args.replies.now b.3
+
+pub run_beside-requires-clause-can : goal.run_beside-requires-clause-can
+run_beside-requires-clause-can g c κs within = let b = c.requires.begun in can-all-run b.0 (lists_of c.args.lanes.now) b.1 c.args.serials.now b.2 c.args.turn (heap_view c.args.heap.now) c.args.replies.now b.3
+
+pub run_beside-requires-clause-ready : goal.run_beside-requires-clause-ready
+run_beside-requires-clause-ready g c κs within = let b = c.requires.begun in pager-ready b.0 (lists_of c.args.lanes.now) b.1 c.args.serials.now b.2 c.args.turn (heap_view c.args.heap.now) c.args.replies.now b.3
+
+pub end_all-requires-clause-sizes : goal.end_all-requires-clause-sizes
+end_all-requires-clause-sizes g c = let b = c.requires.begun in (_, fits-meanwhile b.0 (lists_of c.args.lanes.now) b.1 c.args.serials.now b.2 c.args.turn (heap_view c.args.heap.now) c.args.replies.now b.3)
+
+pub end_all-requires-clause-runs : goal.end_all-requires-clause-runs
+end_all-requires-clause-runs g c =
+    let b = c.requires.begun in
+    let ran = c.run_beside.ensures.ran in
+    (b.0, b.3.busy, runs-of b.0 (lists_of c.args.lanes.now) b.1 c.args.serials.now b.2 c.args.turn (heap_view c.args.heap.now) c.args.replies.now b.3 c.run_beside.new.runs.items ran.each ran.long)
+
+pub end_all-requires-clause-seats : goal.end_all-requires-clause-seats
+end_all-requires-clause-seats g c =
+    let seats = c.requires.seats in
+    let most = seats.1 in
+    let long = c.run_beside.ensures.ran.long in (seats.0, omega arith)
+
+pub end_all-requires-clause-spares : goal.end_all-requires-clause-spares
+end_all-requires-clause-spares g c =
+    let spares = c.requires.spares in
+    let most = spares.1 in
+    let long = c.run_beside.ensures.ran.long in (spares.0, omega arith)
+
+pub close_table-requires-clause-lanes : goal.close_table-requires-clause-lanes
+close_table-requires-clause-lanes g c = c.requires.begun.3.opened.lanes
+
+pub close_table-requires-clause-back : goal.close_table-requires-clause-back
+close_table-requires-clause-back g c =
+    let b = c.requires.begun in
+    let ran = c.run_beside.ensures.ran in
+    let ended = c.end_all.ensures in
+    all-back b.0 (lists_of c.args.lanes.now) b.1 c.args.serials.now b.2 c.args.turn (heap_view c.args.heap.now) c.args.replies.now b.3 c.run_beside.new.runs.items ran.each ran.long
+    (heap_view c.end_all.new.heap) c.end_all.new.serials (lists_of c.end_all.new.replies) (ended.back b.0 b.3.busy) c.run_beside.new.paging c.run_beside.ensures.paged c.end_all.new.seats.items ended.seats_long ended.seats
+
+pub close_table-requires-clause-room : goal.close_table-requires-clause-room
+close_table-requires-clause-room g c =
+    let most = c.requires.seats.1 in
+    let long = c.run_beside.ensures.ran.long in
+    let back = c.end_all.ensures.seats_long in
+    let still = c.end_all.ensures.seats_room in
+    omega arith
+
+pub returns-clause-ran : goal.returns-clause-ran
+returns-clause-ran g c = λ holders h before begun.
+    let ran = c.run_beside.ensures.ran in
+    let ended = c.end_all.ensures in
+    let closed = c.close_table.ensures in
+    subst (λ (v : HeapView). RanBeside holders (lists_of c.args.lanes.now) h c.args.serials.now (lists_of before) v c.end_all.new.serials (lists_of c.end_all.new.replies)) (sym (ap heap_view c.close_table.ensures.rest))
+    (beside holders (lists_of c.args.lanes.now) h c.args.serials.now before c.args.turn (heap_view c.args.heap.now) c.args.replies.now begun c.run_beside.new.runs.items ran.each ran.long
+    (heap_view c.end_all.new.heap) c.end_all.new.serials (lists_of c.end_all.new.replies) (ended.back holders begun.busy) c.run_beside.new.paging c.run_beside.ensures.paged c.end_all.new.seats.items ended.seats_long ended.seats
+    c.close_table.new.heap.space closed.closed closed.layout)
+
+pub returns-clause-answered : goal.returns-clause-answered
+returns-clause-answered g c = λ holders h before begun.
+    let ran = c.run_beside.ensures.ran in
+    let ended = c.end_all.ensures in
+    let closed = c.close_table.ensures in
+    answered-beside holders (lists_of c.args.lanes.now) h c.args.serials.now before c.args.turn (heap_view c.args.heap.now) c.args.replies.now begun c.run_beside.new.runs.items ran.each ran.long
+    (heap_view c.end_all.new.heap) c.end_all.new.serials (lists_of c.end_all.new.replies) (ended.back holders begun.busy) c.run_beside.new.paging c.run_beside.ensures.paged c.end_all.new.seats.items ended.seats_long ended.seats
+    c.close_table.new.heap.space closed.closed closed.layout c.close_table.new.answers.items closed.answers
+
+pub returns-clause-kept : goal.returns-clause-kept
+returns-clause-kept g c = λ holders h before begun.
+    let ran = c.run_beside.ensures.ran in
+    let ended = c.end_all.ensures in
+    let closed = c.close_table.ensures in
+    room-again holders (lists_of c.args.lanes.now) h c.args.serials.now before c.args.turn (heap_view c.args.heap.now) c.args.replies.now begun c.run_beside.new.runs.items ran.each ran.long
+    (heap_view c.end_all.new.heap) c.end_all.new.serials (lists_of c.end_all.new.replies) (ended.back holders begun.busy) c.run_beside.new.paging c.run_beside.ensures.paged c.end_all.new.seats.items ended.seats_long ended.seats
+    c.close_table.new.heap.space closed.closed closed.layout (record { spares = c.end_all.new.spares }) (ended.spares holders begun.busy)
+
+pub returns-clause-room : goal.returns-clause-room
+returns-clause-room g c = λ j v lt e.
+    let b = c.requires.begun in
+    let ran = c.run_beside.ensures.ran in
+    c.end_all.ensures.room (lists_of c.args.lanes.now) (reply-room b.0 (lists_of c.args.lanes.now) b.1 c.args.serials.now b.2 c.args.turn (heap_view c.args.heap.now) c.args.replies.now b.3 c.run_beside.new.runs.items ran.each ran.long)
+    (room-for b.0 (lists_of c.args.lanes.now) b.1 c.args.serials.now b.2 c.args.turn (heap_view c.args.heap.now) c.args.replies.now b.3 c.run_beside.new.runs.items ran.each ran.long) j v lt (λ x. x) e
+
+pub returns-clause-capacity : goal.returns-clause-capacity
+returns-clause-capacity g c =
+    let still = c.run_beside.ensures.paged.room in
+    let last = c.close_table.ensures.capacity in
+    omega arith
+
+pub returns-clause-rest : goal.returns-clause-rest
+returns-clause-rest g c =
+    c.close_table.ensures.rest
+    ∙ ap (λ (h : Heap). record h { space = c.close_table.new.heap.space }) c.end_all.ensures.same
+    ∙ ap (λ (h : Heap). record (c.args.heap.now) { space = c.close_table.new.heap.space; roots = h.roots; chunks = h.chunks; buffers = h.buffers }) (sym c.close_table.ensures.rest)
