@@ -14,8 +14,9 @@
 // stops only where no frame is free and no other page can leave. A page of a frozen domain any lane takes and reloads, and puts back as it
 // was. Where one is gone for which no frame is free, or which another lane reloads first, the lane stops too. What the lanes do so is
 // what they do one after another (`RanBeside`), so a turn is a stretch of the phase like any other. Where tables of its kind don't pay
-// (`paces`), or where there is no memory for one, they do run one after another (`lanes`), and then the notices are answered. So a turn
-// takes memory and is never refused for lack of it. An operation that stops has at most moved pages.
+// (`paces`), where pages have to leave and one lane alone has work, or where there is no memory for a table, they do run one after another
+// (`lanes`), and then the notices are answered. So a turn takes memory and is never refused for lack of it. An operation that stops has at
+// most moved pages.
 // Then the heap is settled. The lines of a phase are used in order, one for each turn of the lanes and each mark turn of a
 // collection (`bc_marking`), and from the first one again when they are used up. So the heap gets by with the frames that the setup gives it, and no reply says which pages were away; but what
 // became of each notice is kept, in order (`Engine::answers`). Room for the answers of a round is taken before it, and only where

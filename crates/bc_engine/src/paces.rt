@@ -18,7 +18,8 @@ const OPERATIONS_AHEAD: u64 = 8_192;
 /// How the turns of an engine run. What they reply is the same.
 #[derive(Clone, Copy, PartialEq, Eq, Debug)]
 pub enum Pacing {
-    /// Each as is likely to pay, by what earlier turns cost: at a table or on the heap itself, on threads or on the caller's alone.
+    /// Each as is likely to pay, by what earlier turns cost and by who has work where pages have to leave: at a table or on the heap itself, on
+    /// threads or on the caller's alone.
     Learned,
     /// Each at a table, with a thread for each lane that has operations left, or for each marker, and one for the pager if there are
     /// notices. So a test may hold one of them up until another has come.
@@ -142,11 +143,11 @@ pub(crate) fn way_of_turn(
         Pacing::SideBySide => return TurnWay::AtTable(TurnThreads::Each),
         Pacing::Plain => return TurnWay::Plain,
     }
-    let ahead = all_ahead(setup, lanes, replies);
     let threads = threads_cost(lanes, replies, hints);
     if crowded && threads == 0 {
         return TurnWay::Plain;
     }
+    let ahead = all_ahead(setup, lanes, replies);
     let is_wide = ahead > threads;
     let kind = if !hints.is_empty() {
         TurnKind::Asked

@@ -56,7 +56,7 @@ impl Tree {
         })
     }
 
-    /// A number in a field of the node that a slot holds.
+    /// A number in a field of the node that a slot holds. It passes through the slot `next`.
     fn number<R: Threads + Sync>(&mut self, rt: &R, node: Root, field: u32) -> Result<u64> {
         match self.heap.load(rt, node, field, self.next)? {
             Loaded::Num(number) => Ok(number),

@@ -42,7 +42,7 @@ impl From<AllocError> for OpenError {
 #[derive(Clone, Copy, PartialEq, Eq, Debug, Error)]
 pub enum HeapError {
     /// What is reached from the root slots needs so many superpages, and there are only so many. The heap stands for what it stood for.
-    #[error("out of memory: {need} superpages needed of {superpages}")]
+    #[error("out of heap: {need} superpages needed of {superpages}")]
     OutOfHeap { need: u64, superpages: u32 },
     /// There is no such lane.
     #[error("no such lane")]

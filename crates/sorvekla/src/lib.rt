@@ -18,6 +18,17 @@
 // leave (`evict`), empty the nurseries (`collect_nurseries`), collect the cells without a page read (`collect`), or pack the whole heap
 // (`failsafe`). `counters` and `objects_in_cells` say how it stands.
 //
+// The calls, `rt` left out. All but the last three return a `Result`, with a `HeapError`:
+//
+//     root(lane, domain) -> Root     release(root)          new(into, fields) -> Birth   len(root) -> u32
+//     set(root, field, number)       cut(root, field)       link(root, field, to)        load(root, field, into) -> Loaded
+//     copy(from, into)               clear(root)            who(root) -> Value           same(root, other) -> bool
+//     give(domain, lane)             freeze(domain)         collect_nurseries()          failsafe()
+//     collect()                      evict(hint) -> Answer  counters() -> Counters
+//
+// `Limits::default()` has one lane, one domain of 64 root slots, 256 superpages, 4 nursery pages, a write buffer of 1,024 entries, a frame
+// for each page, and one worker.
+//
 // What is refused is a `HeapError` that says why, and none of them ends the heap. `OutOfHeap` comes only where what the root slots lead to
 // needs more superpages than there are. Nothing is lost then: slots can be cleared, and the heap goes on.
 //
