@@ -13,8 +13,8 @@ use std::test::Fail;
 use std::thread;
 use std::thread::Threads;
 
-/// How often a thread that is kept looks whether the other one has come.
-const LOOKS: u32 = 1_000_000;
+/// How often a thread that is kept looks whether the other one has come: for some ten seconds.
+const LOOKS: u32 = 50_000_000;
 
 /// A lane is about to do an operation.
 pub const BEFORE: u32 = 1;
@@ -145,10 +145,10 @@ impl Patience {
         self.keep_until_above(come, 0);
     }
 
-    /// Keeps the caller until this is above a number, but not for ever.
+    /// Keeps the caller until this is above a number, but not for ever, nor where one was let go already.
     pub fn keep_until_above(&self, come: &AtomicU64, number: u64) {
         for _ in 0..LOOKS {
-            if come.load(Ordering::SeqCst) > number {
+            if come.load(Ordering::SeqCst) > number || self.given_up.load(Ordering::SeqCst) > 0 {
                 return;
             }
             thread::yield_now();
@@ -156,10 +156,12 @@ impl Patience {
         self.given_up.fetch_add(1, Ordering::SeqCst);
     }
 
-    /// Keeps the caller until all of these bits are set, but not for ever.
+    /// Keeps the caller until all of these bits are set, but not for ever, nor where one was let go already.
     pub fn keep_until_all(&self, come: &AtomicU64, bits: u64) {
         for _ in 0..LOOKS {
-            if come.load(Ordering::SeqCst) & bits == bits {
+            if come.load(Ordering::SeqCst) & bits == bits
+                || self.given_up.load(Ordering::SeqCst) > 0
+            {
                 return;
             }
             thread::yield_now();
