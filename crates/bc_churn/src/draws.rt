@@ -52,6 +52,7 @@ fn verb_of(kind: u32) -> Verb
 }
 
 impl Generator {
+    /// A generator that draws from this number on.
     pub fn new(start: u64) -> Generator
         ensures { result ≡ start }
     {
