@@ -1,4 +1,5 @@
 //! An image that was written by hand, and what is wrong with it once it is broken.
+use crate::equal::same;
 use bc_image::{ImageCause, ImageFault, ReadImage, scan};
 
 /// One lane, one domain of two slots, one superpage, after one phase: slot 0 has the object 0.1 of two fields, which lies at
@@ -27,18 +28,18 @@ fn fault_of(rt: HostRuntime, bytes: &[u8; 160], count: usize) -> Option<ImageFau
 fn image_of_first_path(rt: HostRuntime) {
     match scan(rt.alloc(), &FIRST_PATH) {
         Ok((listing, used)) => {
-            assert_eq!(rt; used, 160);
-            assert_eq!(rt; listing.version, 1);
-            assert_eq!(rt; listing.setup.slots, 2);
-            assert_eq!(rt; listing.setup.frames, 3);
-            assert_eq!(rt; listing.phases, 1);
+            same(&rt, used, 160);
+            same(&rt, listing.version, 1);
+            same(&rt, listing.setup.slots, 2);
+            same(&rt, listing.setup.frames, 3);
+            same(&rt, listing.phases, 1);
             assert!(rt; listing.holders.len() == 1 && listing.births.len() == 1);
             assert!(rt;
                 listing.roots.len() == 2 && listing.roots[0] == 2 && listing.roots[1] == 15
             );
-            assert_eq!(rt; listing.cells.len(), 1);
+            assert!(rt; listing.cells.len() == 1);
             let cell = &listing.cells[0];
-            assert_eq!(rt; cell.address.0, 0);
+            same(&rt, cell.address.0, 0);
             assert!(rt; cell.head.serial == 1 && cell.head.fields == 2);
             assert!(rt; cell.fields.len() == 2 && cell.fields[0] == 0 && cell.fields[1] == 15);
         }

@@ -8,10 +8,13 @@
 // - `trace_language` (bc_trace, bc_churn): texts from outside, read and written again, each cause of a fault once, and the counts of replies
 // - `images` (bc_image): an image that was written by hand, and what is wrong with it once it is broken
 // - `pictures` (bc_picture): a heap that is built of an image, and written again
+// - `equal`: whether what is found is what is wanted
 #![tactic(auto)]
 
 #[cfg(test)]
 mod command_words;
+#[cfg(test)]
+mod equal;
 #[cfg(test)]
 mod images;
 #[cfg(test)]

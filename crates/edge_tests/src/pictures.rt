@@ -1,5 +1,6 @@
 //! Heaps that are built of an image, in two frames beside the nursery's, and written again.
 
+use crate::equal::same;
 use bc_image::scan;
 use bc_io::MemSink;
 use bc_picture::{Picture, build, write};
@@ -51,11 +52,11 @@ fn copy<R: Abort>(
     bytes: &[u8],
     failing: Vec<u64>,
 ) -> Result<(bool, MemSink), Fail> {
-    assert_eq!(rt; bytes.len(), 24_704);
+    assert!(rt; bytes.len() == 24_704);
     let Ok((listing, used)) = scan(alloc, bytes) else {
         panic!(rt; "an image");
     };
-    assert_eq!(rt; used, bytes.len());
+    same(rt, used, bytes.len());
     let Picture { roots, mut space } = build(alloc, &listing)?;
     assert!(rt; space.free_frames() == 0 && space.reads() == 0);
     let mut sink = MemSink::new(alloc, bytes.len(), 3000, failing)?;
@@ -91,7 +92,7 @@ fn prefix_at_a_fault(rt: HostRuntime) -> Result<(), Fail> {
     let (done, sink) = copy(&rt, alloc, &bytes, failing)?;
     assert!(rt; !done);
     let held = sink.held();
-    assert_eq!(rt; held.len(), 11_192);
+    same(&rt, held.len(), 11_192);
     assert!(rt; bytes.starts_with(held));
     Ok(())
 }

@@ -1,7 +1,8 @@
 //! Texts from outside, read and written again, and each cause of a fault once.
 
+use crate::equal::same;
 use bc_churn::{Counts, churn_room, generate, put_churn};
-use bc_model::{Birth, Change, Give, Op, Replies, Reply, Slot};
+use bc_model::{Birth, Change, Give, Op, Replies, Reply, Slot, Trace};
 use bc_trace::{
     Cause, ReadTrace, TraceFault, need_room, phase_room, phase_text, put_need, put_phase, read,
     reply_line, write,
@@ -101,15 +102,60 @@ fn fault_of(rt: &impl Abort, alloc: Global, bytes: &[u8]) -> TraceFault {
     }
 }
 
+/// Shows that a text is refused at this line, by this cause. The note says which text it is.
+fn refused(
+    rt: &impl Abort,
+    alloc: Global,
+    bytes: &[u8],
+    (line, cause): (usize, Cause),
+    note: &str,
+) {
+    let fault = fault_of(rt, alloc, bytes);
+    assert_eq!(rt; fault.line as usize, line, "{note}");
+    assert_eq!(rt; fault.cause, cause, "{note}");
+}
+
+/// Shows that lines are refused at this line, by this cause, where line `line` has this text.
+fn refused_with(
+    rt: &impl Abort,
+    alloc: Global,
+    lines: &[&str],
+    (line, text): (usize, &str),
+    fault: (usize, Cause),
+) -> Result<(), AllocError> {
+    let bytes = with_line(alloc, lines, line, text, "")?;
+    refused(rt, alloc, &bytes, fault, text);
+    Ok(())
+}
+
+/// The trace that a text is.
+fn trace_of(rt: &impl Abort, alloc: Global, bytes: &[u8]) -> Trace {
+    assert!(rt; bytes.len() < 10000);
+    match read(alloc, bytes) {
+        Ok(trace) => trace,
+        Err(_) => rt.panic("the text is a trace"),
+    }
+}
+
+/// Shows that a text is a trace, which is written as that text.
+fn is_written_again(rt: &impl Abort, alloc: Global, bytes: &[u8]) -> Result<(), AllocError> {
+    assert!(rt; bytes.len() < 10000);
+    match read(alloc, bytes) {
+        Ok(trace) => same(rt, write(alloc, &trace)?.as_slice(), bytes),
+        Err(_) => rt.panic("the text is a trace"),
+    }
+    Ok(())
+}
+
 #[test]
 fn the_first_path_is_read_with_its_setup_and_its_one_phase(rt: HostRuntime) -> Result<(), Fail> {
     let bytes = changed(rt.alloc(), 0, "", "")?;
-    assert_eq!(rt; bytes.len(), 137);
-    let trace = read(rt.alloc(), &bytes).ok().ok_or("the text is a trace")?;
-    assert_eq!(rt; trace.version, 1);
-    assert_eq!(rt; trace.setup.slots, 2);
-    assert_eq!(rt; trace.setup.frames, 3);
-    assert_eq!(rt; trace.phases.len(), 1);
+    same(&rt, bytes.len(), 137);
+    let trace = trace_of(&rt, rt.alloc(), &bytes);
+    same(&rt, trace.version, 1);
+    same(&rt, trace.setup.slots, 2);
+    same(&rt, trace.setup.frames, 3);
+    same(&rt, trace.phases.len(), 1);
     Ok(())
 }
 
@@ -134,10 +180,8 @@ fn each_spoilt_line_is_refused_at_its_number_and_with_its_cause(
         (12, "set 0 0 1 99999999999999999999", Cause::Number),
         (14, "freeze 0", Cause::Word),
     ] {
-        let bytes = changed(rt.alloc(), line, text, "")?;
-        let fault = fault_of(&rt, rt.alloc(), &bytes);
-        assert_eq!(rt; fault.line as usize, line, "{text}");
-        assert_eq!(rt; fault.cause, cause, "{text}");
+        let fault = (line, cause);
+        refused_with(&rt, rt.alloc(), &FIRST_PATH, (line, text), fault)?;
     }
     Ok(())
 }
@@ -146,16 +190,16 @@ fn each_spoilt_line_is_refused_at_its_number_and_with_its_cause(
 fn gives_and_freezes_are_read_in_their_order(rt: HostRuntime) -> Result<(), Fail> {
     let text =
         b"bc-trace 2\nlanes 2\ndomains 2\nslots 1\nsuperpages 1\nnursery 1\nbuffer 4\nframes 4\nphase\nlane 0\nlane 1\ngive 1 0\nfreeze 0\ngive 0 1\nfreeze 1\nend\ndone\n";
-    let trace = read(rt.alloc(), text).ok().ok_or("the text is a trace")?;
-    assert_eq!(rt; trace.version, 2);
-    assert_eq!(rt; trace.phases.len(), 1);
+    let trace = trace_of(&rt, rt.alloc(), text);
+    same(&rt, trace.version, 2);
+    assert!(rt; trace.phases.len() == 1);
     let changes = &trace.phases[0].gives;
     assert!(rt; changes.len() == 4);
     assert!(rt; changes[0] == Change::Give(Give { domain: 1, lane: 0 }));
     assert!(rt; changes[1] == Change::Freeze(0));
     assert!(rt; changes[2] == Change::Give(Give { domain: 0, lane: 1 }));
     assert!(rt; changes[3] == Change::Freeze(1));
-    assert_eq!(rt; write(rt.alloc(), &trace)?.as_slice(), text.as_slice());
+    is_written_again(&rt, rt.alloc(), text)?;
     Ok(())
 }
 
@@ -172,14 +216,11 @@ fn a_freeze_is_refused_in_version_1_and_where_a_give_would_be(rt: HostRuntime) -
         (14, "freeze 2", 14, Cause::Range),
         (17, "freeze 0", 17, Cause::Order),
     ] {
-        let bytes = with_line(rt.alloc(), &FROZEN, line, text, "")?;
-        let found = fault_of(&rt, rt.alloc(), &bytes);
-        assert_eq!(rt; found.line as usize, fault, "{text}");
-        assert_eq!(rt; found.cause, cause, "{text}");
+        let fault = (fault, cause);
+        refused_with(&rt, rt.alloc(), &FROZEN, (line, text), fault)?;
     }
     let bytes = with_line(rt.alloc(), &FROZEN, 14, "freeze 1", "")?;
-    assert!(rt; bytes.len() < 10000);
-    assert!(rt; read(rt.alloc(), &bytes).is_ok());
+    trace_of(&rt, rt.alloc(), &bytes);
     Ok(())
 }
 
@@ -206,10 +247,8 @@ fn a_turn_is_refused_whose_frames_cannot_be_withheld_or_returned(
         (1, "bc-trace 2", 10, Cause::Number),
         (1, "bc-trace 1", 10, Cause::Number),
     ] {
-        let bytes = with_line(rt.alloc(), &WITHHELD, line, text, "")?;
-        let found = fault_of(&rt, rt.alloc(), &bytes);
-        assert_eq!(rt; found.line as usize, fault, "{text}");
-        assert_eq!(rt; found.cause, cause, "{text}");
+        let fault = (fault, cause);
+        refused_with(&rt, rt.alloc(), &WITHHELD, (line, text), fault)?;
     }
     Ok(())
 }
@@ -220,18 +259,12 @@ fn the_operand_with_a_sign_is_no_hint_from_version_3_on(rt: HostRuntime) -> Resu
         "turn -2 0 1 2 3 4 5 6 7 8 9 0 1 2 3 4 5 6 7 8 9 0 1 2 3 4 5 6 7 8 9 0 1 2 3 4 5 6 7 8 9 0 1 2 3 4 5 6 7 8 9 0 1 2 3 4 5 6 7 8 9 0 1 2 3";
     let more = format!(in rt.alloc(); "{hints} 4")?;
     let bytes = with_line(rt.alloc(), &WITHHELD, 10, hints, "")?;
-    assert!(rt; bytes.len() < 10000);
-    assert!(rt; read(rt.alloc(), &bytes).is_ok());
-    let bytes = with_line(rt.alloc(), &WITHHELD, 10, &more, "")?;
-    let found = fault_of(&rt, rt.alloc(), &bytes);
-    assert_eq!(rt; found.line, 10);
-    assert_eq!(rt; found.cause, Cause::Form);
+    trace_of(&rt, rt.alloc(), &bytes);
+    let fault = (10, Cause::Form);
+    refused_with(&rt, rt.alloc(), &WITHHELD, (10, &more), fault)?;
     let mut lines = WITHHELD;
     lines[0] = "bc-trace 2";
-    let bytes = with_line(rt.alloc(), &lines, 10, hints, "")?;
-    let found = fault_of(&rt, rt.alloc(), &bytes);
-    assert_eq!(rt; found.line, 10);
-    assert_eq!(rt; found.cause, Cause::Form);
+    refused_with(&rt, rt.alloc(), &lines, (10, hints), fault)?;
     Ok(())
 }
 
@@ -240,16 +273,15 @@ fn each_turn_line_is_read_with_the_frames_that_are_withheld_in_its_turn(
     rt: HostRuntime,
 ) -> Result<(), Fail> {
     let bytes = with_line(rt.alloc(), &WITHHELD, 0, "", "")?;
-    assert!(rt; bytes.len() < 10000);
-    let trace = read(rt.alloc(), &bytes).ok().ok_or("the text is a trace")?;
-    assert_eq!(rt; trace.version, 3);
-    assert_eq!(rt; trace.phases.len(), 1);
+    let trace = trace_of(&rt, rt.alloc(), &bytes);
+    same(&rt, trace.version, 3);
+    assert!(rt; trace.phases.len() == 1);
     let turns = &trace.phases[0].turns;
-    assert_eq!(rt; turns.len(), 2);
-    assert_eq!(rt; turns[0].withheld, 2);
-    assert_eq!(rt; turns[0].hints.len(), 0);
-    assert_eq!(rt; turns[1].withheld, 1);
-    assert_eq!(rt; turns[1].hints.len(), 1);
+    assert!(rt; turns.len() == 2);
+    same(&rt, turns[0].withheld, 2);
+    same(&rt, turns[0].hints.len(), 0);
+    same(&rt, turns[1].withheld, 1);
+    same(&rt, turns[1].hints.len(), 1);
     Ok(())
 }
 
@@ -268,9 +300,7 @@ fn what_goes_on_behind_done_or_stops_before_it_is_refused(rt: HostRuntime) -> Re
         (b"".as_slice(), 0, Cause::End),
         (b"aaaa".as_slice(), 1, Cause::End),
     ] {
-        let fault = fault_of(&rt, rt.alloc(), bytes);
-        assert_eq!(rt; fault.line, line);
-        assert_eq!(rt; fault.cause, cause);
+        refused(&rt, rt.alloc(), bytes, (line, cause), "");
     }
     Ok(())
 }
@@ -279,23 +309,18 @@ fn what_goes_on_behind_done_or_stops_before_it_is_refused(rt: HostRuntime) -> Re
 fn a_trace_without_done_is_refused_at_its_last_line(rt: HostRuntime) {
     let text =
         b"bc-trace 1\nlanes 1\ndomains 1\nslots 2\nsuperpages 1\nnursery 1\nbuffer 4\nframes 3\nphase\nlane 0\nend\n";
-    let fault = fault_of(&rt, rt.alloc(), text);
-    assert_eq!(rt; fault.line, 11);
-    assert_eq!(rt; fault.cause, Cause::End);
+    refused(&rt, rt.alloc(), text, (11, Cause::End), "");
 }
 
 #[test]
 fn frames_3_and_5_are_read_and_2_and_6_are_refused(rt: HostRuntime) -> Result<(), Fail> {
     for frames in ["frames 2", "frames 6"] {
-        let bytes = changed(rt.alloc(), 8, frames, "")?;
-        let fault = fault_of(&rt, rt.alloc(), &bytes);
-        assert_eq!(rt; fault.line, 8);
-        assert_eq!(rt; fault.cause, Cause::Frames);
+        let fault = (8, Cause::Frames);
+        refused_with(&rt, rt.alloc(), &FIRST_PATH, (8, frames), fault)?;
     }
     for frames in ["frames 3", "frames 5"] {
         let bytes = changed(rt.alloc(), 8, frames, "")?;
-        assert!(rt; bytes.len() < 10000);
-        assert!(rt; read(rt.alloc(), &bytes).is_ok());
+        trace_of(&rt, rt.alloc(), &bytes);
     }
     Ok(())
 }
@@ -303,19 +328,17 @@ fn frames_3_and_5_are_read_and_2_and_6_are_refused(rt: HostRuntime) -> Result<()
 #[test]
 fn the_number_2_to_the_63_is_refused_and_one_less_is_read(rt: HostRuntime) -> Result<(), Fail> {
     let bytes = changed(rt.alloc(), 12, "set 0 0 0 9223372036854775807", "")?;
-    assert!(rt; bytes.len() < 10000);
-    let trace = read(rt.alloc(), &bytes).ok().ok_or("the text is a trace")?;
-    assert_eq!(rt; trace.phases.len(), 1);
+    let trace = trace_of(&rt, rt.alloc(), &bytes);
+    assert!(rt; trace.phases.len() == 1);
     let phase = &trace.phases[0];
-    assert_eq!(rt; phase.lanes.len(), 1);
+    assert!(rt; phase.lanes.len() == 1);
     let ops = &phase.lanes[0];
     let slot = Slot { domain: 0, slot: 0 };
     assert!(rt; ops.len() == 3);
     assert!(rt; ops[1] == Op::Set(slot, 0, 9_223_372_036_854_775_807));
-    let greater = changed(rt.alloc(), 12, "set 0 0 0 9223372036854775808", "")?;
-    let fault = fault_of(&rt, rt.alloc(), &greater);
-    assert_eq!(rt; fault.line, 12);
-    assert_eq!(rt; fault.cause, Cause::Number);
+    let greater = "set 0 0 0 9223372036854775808";
+    let fault = (12, Cause::Number);
+    refused_with(&rt, rt.alloc(), &FIRST_PATH, (12, greater), fault)?;
     Ok(())
 }
 
@@ -323,9 +346,7 @@ fn the_number_2_to_the_63_is_refused_and_one_less_is_read(rt: HostRuntime) -> Re
 fn objects_of_0_1_and_127_fields_are_read_and_one_of_128_is_refused(rt: HostRuntime) {
     let text =
         b"bc-trace 1\nlanes 1\ndomains 1\nslots 3\nsuperpages 2\nnursery 1\nbuffer 4\nframes 3\nphase\nlane 0\nnew 0 0 0\nnew 0 1 1\nnew 0 2 127\nnew 0 0 128\nend\ndone\n";
-    let fault = fault_of(&rt, rt.alloc(), text);
-    assert_eq!(rt; fault.line, 14);
-    assert_eq!(rt; fault.cause, Cause::Range);
+    refused(&rt, rt.alloc(), text, (14, Cause::Range), "");
 }
 
 #[test]
@@ -350,9 +371,7 @@ fn what_is_read_is_written_again_byte_for_byte(rt: HostRuntime) -> Result<(), Fa
         version_2.as_slice(),
         version_3.as_slice(),
     ] {
-        assert!(rt; text.len() < 10000);
-        let trace = read(rt.alloc(), text).ok().ok_or("the text is a trace")?;
-        assert_eq!(rt; write(rt.alloc(), &trace)?.as_slice(), text);
+        is_written_again(&rt, rt.alloc(), text)?;
     }
     Ok(())
 }
@@ -385,17 +404,18 @@ fn every_reply_is_written_on_a_line_of_its_own(rt: HostRuntime) -> Result<(), Fa
     put_phase(&mut text, 600, &replies);
     let wanted =
         b"phase 600\nlane 0\nobj 15.10000\nok\nnil\nnum 9223372036854775807\nref\nlen 127\nyes\nno\nnotobj\nrange\nforeign\nfrozen\nlane 1\n";
-    assert_eq!(rt; text.as_slice(), wanted.as_slice());
+    same(&rt, text.as_slice(), wanted.as_slice());
     let text = phase_text(rt.alloc(), 600, &replies)?;
-    assert_eq!(rt; text.as_slice(), wanted.as_slice());
+    same(&rt, text.as_slice(), wanted.as_slice());
     let mut last = need_room(rt.alloc())?;
     put_need(&mut last, 18_446_744_073_709_551_615);
-    assert_eq!(rt;
+    same(
+        &rt,
         last.as_slice(),
-        b"out of heap 18446744073709551615\n".as_slice()
+        b"out of heap 18446744073709551615\n".as_slice(),
     );
     let line = reply_line(rt.alloc(), &Reply::Len(0))?;
-    assert_eq!(rt; line.as_slice(), b"len 0\n".as_slice());
+    same(&rt, line.as_slice(), b"len 0\n".as_slice());
     Ok(())
 }
 
@@ -405,10 +425,8 @@ fn the_trace_of_churn_is_written_as_its_text_and_read_again(rt: HostRuntime) -> 
         b"bc-trace 1\nlanes 2\ndomains 4\nslots 8\nsuperpages 32\nnursery 2\nbuffer 64\nframes 24\nphase\nturn 94 63 49\nturn 17 105 3\nlane 0\nclear 0 0\nclear 0 1\nclear 0 2\nclear 0 3\nclear 0 4\nclear 0 5\nclear 0 6\nclear 0 7\nclear 2 0\nclear 2 1\nclear 2 2\nclear 2 3\nclear 2 4\nclear 2 5\nclear 2 6\nclear 2 7\nnew 0 3 6\nload 3 0 0 1 2\nnew 3 4 7\nlane 1\nclear 1 0\nclear 1 1\nclear 1 2\nclear 1 3\nclear 1 4\nclear 1 5\nclear 1 6\nclear 1 7\nclear 3 0\nclear 3 1\nclear 3 2\nclear 3 3\nclear 3 4\nclear 3 5\nclear 3 6\nclear 3 7\nload 1 6 2 1 0\nnew 1 5 0\nlink 1 6 3 1 3\ngive 1 1\nend\ndone\n";
     let trace = generate(rt.alloc(), 7, 3)?;
     let text = write(rt.alloc(), &trace)?;
-    assert_eq!(rt; text.as_slice(), wanted.as_slice());
-    assert!(rt; text.len() < 10000);
-    let again = read(rt.alloc(), &text).ok().ok_or("the text is a trace")?;
-    assert_eq!(rt; write(rt.alloc(), &again)?.as_slice(), text.as_slice());
+    same(&rt, text.as_slice(), wanted.as_slice());
+    is_written_again(&rt, rt.alloc(), &text)?;
     Ok(())
 }
 
@@ -418,7 +436,7 @@ fn the_operations_of_churn_go_on_in_a_phase_more_past_each_thousand(
 ) -> Result<(), Fail> {
     for (ops, phases) in [(0, 0), (1, 1), (1000, 1), (1001, 2), (2000, 2)] {
         let trace = generate(rt.alloc(), 1, ops)?;
-        assert_eq!(rt; trace.phases.len(), phases);
+        same(&rt, trace.phases.len(), phases);
     }
     Ok(())
 }
@@ -429,8 +447,8 @@ fn a_churn_of_no_operations_has_eleven_counts_of_0(rt: HostRuntime) -> Result<()
     put_churn(&mut text, 7, 0, &Counts::new());
     let wanted =
         b"churn 7 0\nobj 0\nok 0\nnil 0\nnum 0\nref 0\nlen 0\nyes 0\nno 0\nnotobj 0\nrange 0\nforeign 0\ndone\n";
-    assert_eq!(rt; wanted.len(), 88);
-    assert_eq!(rt; text.as_slice(), wanted.as_slice());
+    same(&rt, wanted.len(), 88);
+    same(&rt, text.as_slice(), wanted.as_slice());
     Ok(())
 }
 
@@ -449,7 +467,7 @@ fn replies_are_counted_by_their_kinds(rt: HostRuntime) -> Result<(), Fail> {
     put_churn(&mut text, 0, 12, &counts);
     let wanted =
         b"churn 0 12\nobj 0\nok 2\nnil 0\nnum 2\nref 0\nlen 1\nyes 0\nno 1\nnotobj 0\nrange 0\nforeign 1\ndone\n";
-    assert_eq!(rt; text.as_slice(), wanted.as_slice());
+    same(&rt, text.as_slice(), wanted.as_slice());
     Ok(())
 }
 
@@ -464,7 +482,7 @@ fn each_cause_is_written_as_its_word(rt: HostRuntime) -> Result<(), Fail> {
         (Cause::Frames, "frames"),
         (Cause::End, "end"),
     ] {
-        assert_eq!(rt; format!(in rt.alloc(); "{cause}")?.as_str(), text);
+        same(&rt, format!(in rt.alloc(); "{cause}")?.as_str(), text);
     }
     Ok(())
 }

@@ -20,6 +20,7 @@ mod saving_phases;
 mod sink;
 mod words;
 
+use crate::equal::same;
 use bc_cli::top::top;
 use bc_cli::{Gate, OpenGate, Outcome, Status};
 use bc_io::{MemSource, Source};
@@ -71,8 +72,8 @@ pub fn shows<R: Threads + Sync + Abort>(
     output: &str,
 ) {
     let ran = run_over(rt, alloc, words, input);
-    assert_eq!(rt; ran.status, status);
-    assert_eq!(rt; ran.has_heap, has_heap);
+    same(rt, ran.status, status);
+    same(rt, ran.has_heap, has_heap);
     assert!(rt;
         ran.written.as_slice() == output.as_bytes(),
         "in place of {output}"

@@ -1,5 +1,6 @@
 //! Views over devices in memory: what is answered, and what is refused.
 
+use crate::equal::same;
 use bc_heapview::ViewStatus;
 use bc_heapview::view::view;
 use bc_image::ImageCause;
@@ -89,7 +90,7 @@ fn shows<R: Abort>(
 ) {
     let mut source = MemSource::new(input, 4096, Vec::new(alloc));
     let mut sink = Paper::new(alloc);
-    assert_eq!(rt; view(alloc, words, &mut source, &mut sink), status);
+    same(rt, view(alloc, words, &mut source, &mut sink), status);
     assert!(rt;
         sink.into_bytes().as_slice() == output.as_bytes(),
         "in place of {output}"
@@ -288,9 +289,10 @@ fn what_nothing_reaches_is_not_counted(rt: HostRuntime) -> Result<(), Fail> {
 fn shows_bad_words<R: Abort>(rt: &R, alloc: Global, words: &[&str]) -> Result<(), AllocError> {
     let mut source = MemSource::new(Vec::new(alloc), 4096, vec![in alloc; 1]?);
     let mut sink = Paper::new(alloc);
-    assert_eq!(rt;
+    same(
+        rt,
         view(alloc, words, &mut source, &mut sink),
-        ViewStatus::BadWords
+        ViewStatus::BadWords,
     );
     assert!(rt; sink.into_bytes().is_empty());
     Ok(())
@@ -321,9 +323,10 @@ fn a_read_that_fails_is_told(rt: HostRuntime) -> Result<(), Fail> {
     let alloc = rt.alloc();
     let mut source = MemSource::new(bytes_of(alloc, &SMALL)?, 100, vec![in alloc; 2]?);
     let mut sink = Paper::new(alloc);
-    assert_eq!(&rt;
+    same(
+        &rt,
         view(alloc, &["counts"], &mut source, &mut sink),
-        ViewStatus::ReadFault
+        ViewStatus::ReadFault,
     );
     assert!(&rt; sink.into_bytes().is_empty());
     Ok(())

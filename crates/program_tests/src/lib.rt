@@ -5,9 +5,12 @@
 //
 // - `cli` (bc_cli): runs and draws of all kinds, on devices in memory
 // - `heapview` (bc_heapview): questions about an image
+// - `equal`: whether what is found is what is wanted
 #![tactic(auto)]
 
 #[cfg(test)]
 mod cli;
+#[cfg(test)]
+mod equal;
 #[cfg(test)]
 mod heapview;

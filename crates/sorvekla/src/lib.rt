@@ -60,6 +60,3 @@ pub use heaps::Heap;
 pub use limits::Limits;
 pub use replies::Loaded;
 pub use roots::Root;
-
-#[cfg(test)]
-mod tests;

@@ -1,5 +1,6 @@
 //! Tests of sets of bits in words.
 
+use crate::equal::same;
 use bc_bits::{contains, count, first_outside, insert, is_empty, remove};
 
 #[test]
@@ -13,14 +14,14 @@ fn set_and_cleared_bits_leave_their_neighbours(rt: HostRuntime) {
     assert!(rt; contains(&set, 63));
     assert!(rt; !contains(&set, 62));
     assert!(rt; !is_empty(&set));
-    assert_eq!(rt; count(&set, 1024), 4);
-    assert_eq!(rt; count(&set, 64), 2);
+    same(&rt, count(&set, 1024), 4);
+    same(&rt, count(&set, 64), 2);
     remove(&mut set, 63);
     assert!(rt; !contains(&set, 63));
     assert!(rt; contains(&set, 64));
-    assert_eq!(rt; set[0], 1);
-    assert_eq!(rt; set[1], 1);
-    assert_eq!(rt; set[15], 9223372036854775808);
+    same(&rt, set[0], 1);
+    same(&rt, set[1], 1);
+    same(&rt, set[15], 9223372036854775808);
 }
 
 #[test]
@@ -32,10 +33,10 @@ fn first_bit_that_another_set_lacks(rt: HostRuntime) {
     insert(&mut set, 201);
     insert(&mut other, 3);
     insert(&mut other, 200);
-    assert_eq!(rt; first_outside(&set, &other, 0, 1024), Some(201));
-    assert_eq!(rt; first_outside(&set, &other, 0, 201), None);
-    assert_eq!(rt; first_outside(&set, &other, 202, 1024), None);
+    same(&rt, first_outside(&set, &other, 0, 1024), Some(201));
+    same(&rt, first_outside(&set, &other, 0, 201), None);
+    same(&rt, first_outside(&set, &other, 202, 1024), None);
     remove(&mut other, 3);
-    assert_eq!(rt; first_outside(&set, &other, 0, 1024), Some(3));
-    assert_eq!(rt; first_outside(&set, &other, 4, 1024), Some(201));
+    same(&rt, first_outside(&set, &other, 0, 1024), Some(3));
+    same(&rt, first_outside(&set, &other, 4, 1024), Some(201));
 }

@@ -1,5 +1,6 @@
 //! The table of size classes, compared with numbers written out by hand.
 
+use crate::equal::same;
 use bc_classes::{MAX_FIELDS, cap, class_of};
 
 #[test]
@@ -21,13 +22,13 @@ fn fields_and_capacities_of_the_seven_classes(rt: HostRuntime) {
         (127, 128),
     ] {
         assert!(rt; fields <= MAX_FIELDS);
-        assert_eq!(rt; class_of(fields), words);
+        same(&rt, class_of(fields), words);
     }
-    assert_eq!(rt; cap(2), 1024);
-    assert_eq!(rt; cap(4), 512);
-    assert_eq!(rt; cap(8), 256);
-    assert_eq!(rt; cap(16), 128);
-    assert_eq!(rt; cap(32), 64);
-    assert_eq!(rt; cap(64), 32);
-    assert_eq!(rt; cap(128), 16);
+    same(&rt, cap(2), 1024);
+    same(&rt, cap(4), 512);
+    same(&rt, cap(8), 256);
+    same(&rt, cap(16), 128);
+    same(&rt, cap(32), 64);
+    same(&rt, cap(64), 32);
+    same(&rt, cap(128), 16);
 }

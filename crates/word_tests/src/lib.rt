@@ -7,12 +7,15 @@
 // - `classes` (bc_classes): size classes
 // - `word` (bc_word): words and heads
 // - `frames` (bc_frames): frames and pages
+// - `equal`: whether what is found is what is wanted
 #![tactic(auto)]
 
 #[cfg(test)]
 mod bits;
 #[cfg(test)]
 mod classes;
+#[cfg(test)]
+mod equal;
 #[cfg(test)]
 mod frames;
 #[cfg(test)]

@@ -1,6 +1,7 @@
 //! Emptyings of nurseries whose survivors don't fit: dead cells in memory are freed for them, and no page is read back. The fail-safe
 //! would read each page that is gone, and free all that is dead.
 
+use super::Step::{Collect, Counted, Does, Empty, Follow, Object, ObjectsInCells, Paged, Reads};
 use super::*;
 
 /// One superpage of four pages, of which two are in memory. A page has room for four objects of 127 fields.
@@ -61,8 +62,7 @@ fn cycles_that_are_dropped_make_room_for_others_and_nothing_is_read_back(
         pair(&rt, &mut workshop, 1 + 2 * round);
         workshop = emptied(&rt, workshop);
     }
-    counted(&rt, &workshop, 1, 16);
-    paged(&rt, &workshop, 0, 2, 0);
+    workshop = take(&rt, workshop, &[Counted(1, 16), Paged(0, 2, 0)]);
     for round in 8..20 {
         pair(&rt, &mut workshop, 1 + 2 * round);
         workshop = emptied(&rt, workshop);
@@ -70,8 +70,11 @@ fn cycles_that_are_dropped_make_room_for_others_and_nothing_is_read_back(
         counted(&rt, &workshop, 1, 10 + 2 * (round % 4));
         paged(&rt, &workshop, 0, 2, 0);
     }
-    expect(&rt, &mut workshop, Op::Load(A, 0, A), Reply::Ref);
-    expect(&rt, &mut workshop, Op::Who(A), object(40));
+    take(
+        &rt,
+        workshop,
+        &[Does(Op::Load(A, 0, A), Reply::Ref), Object(Op::Who(A), 40)],
+    );
     Ok(())
 }
 
@@ -86,18 +89,24 @@ fn a_collection_by_hand_frees_what_is_dead_in_memory_and_reads_nothing_back(
     for page in 10..12 {
         workshop = page_of_list(&rt, workshop, C, 1 + 4 * page);
     }
-    expect(&rt, &mut workshop, Op::Clear(C), Reply::Done);
-    expect(&rt, &mut workshop, Op::New(D, 127), object(49));
-    // The chunk has an object.
-    assert_eq!(rt; workshop.collect(&rt, rt.alloc()), false);
-    counted(&rt, &workshop, 3, 48);
-    workshop = emptied(&rt, workshop);
-    counted(&rt, &workshop, 3, 41);
-    expect(&rt, &mut workshop, Op::Clear(D), Reply::Done);
-    assert_eq!(rt; workshop.collect(&rt, rt.alloc()), true);
-    counted(&rt, &workshop, 3, 40);
-    assert_eq!(rt; workshop.space().reads(), 0);
-    follow(&rt, &mut workshop, 40);
+    take(
+        &rt,
+        workshop,
+        &[
+            Does(Op::Clear(C), Reply::Done),
+            Object(Op::New(D, 127), 49),
+            // The chunk has an object.
+            Collect(false),
+            Counted(3, 48),
+            Empty,
+            Counted(3, 41),
+            Does(Op::Clear(D), Reply::Done),
+            Collect(true),
+            Counted(3, 40),
+            Reads(0),
+            Follow(40),
+        ],
+    );
     Ok(())
 }
 
@@ -112,16 +121,22 @@ fn where_most_of_the_heap_is_gone_what_is_dead_in_memory_is_freed_and_the_rest_k
     for page in 10..12 {
         workshop = page_of_list(&rt, workshop, C, 1 + 4 * page);
     }
-    counted(&rt, &workshop, 3, 48);
-    paged(&rt, &workshop, 0, 10, 0);
-    // What is dropped fills the two pages in memory, and the heap is full.
-    expect(&rt, &mut workshop, Op::Clear(C), Reply::Done);
-    expect(&rt, &mut workshop, Op::New(D, 127), object(49));
-    workshop = emptied(&rt, workshop);
-    assert_eq!(rt; objects_in_cells(workshop.space()), 41);
-    assert_eq!(rt; workshop.space().reads(), 0);
-    follow(&rt, &mut workshop, 40);
-    expect(&rt, &mut workshop, Op::Who(D), object(49));
+    take(
+        &rt,
+        workshop,
+        &[
+            Counted(3, 48),
+            Paged(0, 10, 0),
+            // What is dropped fills the two pages in memory, and the heap is full.
+            Does(Op::Clear(C), Reply::Done),
+            Object(Op::New(D, 127), 49),
+            Empty,
+            ObjectsInCells(41),
+            Reads(0),
+            Follow(40),
+            Object(Op::Who(D), 49),
+        ],
+    );
     Ok(())
 }
 
@@ -152,15 +167,21 @@ fn cells_of_two_superpages_come_together_for_an_object_of_another_class_and_noth
     for page in 9..12 {
         workshop = page_of_list(&rt, workshop, D, 1 + 4 * page);
     }
-    counted(&rt, &workshop, 3, 48);
-    paged(&rt, &workshop, 0, 4, 0);
-    // Of the second superpage and of the third one four objects are left. An object of another class wants a superpage.
-    expect(&rt, &mut workshop, Op::Clear(D), Reply::Done);
-    expect(&rt, &mut workshop, Op::New(D, 1), object(49));
-    workshop = emptied(&rt, workshop);
-    counted(&rt, &workshop, 3, 25);
-    paged(&rt, &workshop, 0, 4, 0);
-    expect(&rt, &mut workshop, Op::Who(D), object(49));
+    workshop = take(
+        &rt,
+        workshop,
+        &[
+            Counted(3, 48),
+            Paged(0, 4, 0),
+            // Of the second superpage and of the third one four objects are left. An object of another class wants a superpage.
+            Does(Op::Clear(D), Reply::Done),
+            Object(Op::New(D, 1), 49),
+            Empty,
+            Counted(3, 25),
+            Paged(0, 4, 0),
+            Object(Op::Who(D), 49),
+        ],
+    );
     for passed in 0..4 {
         expect(&rt, &mut workshop, Op::Who(C), object(36 - passed));
         expect(&rt, &mut workshop, Op::Load(C, 0, C), Reply::Ref);
@@ -169,7 +190,6 @@ fn cells_of_two_superpages_come_together_for_an_object_of_another_class_and_noth
         expect(&rt, &mut workshop, Op::Who(C), object(20 - passed));
         expect(&rt, &mut workshop, Op::Load(C, 0, C), Reply::Ref);
     }
-    expect(&rt, &mut workshop, Op::Who(C), object(17));
-    follow(&rt, &mut workshop, 16);
+    take(&rt, workshop, &[Object(Op::Who(C), 17), Follow(16)]);
     Ok(())
 }

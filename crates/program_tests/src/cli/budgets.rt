@@ -6,8 +6,9 @@ use super::heaps::{linked, links};
 use super::saving_phases::goes_on_over;
 use super::sink::Paper;
 use super::{repeated, run_between, shows, trace_in};
-use bc_cli::{OpenGate, Status};
-use bc_engine::Opened;
+use crate::equal::same;
+use bc_cli::{OpenGate, Outcome, Status};
+use bc_engine::{Engine, Opened};
 use bc_io::MemSource;
 use bc_trace::Cause;
 use std::alloc::{AllocError, Global};
@@ -52,7 +53,7 @@ fn it_prints_the_same_where_each_turn_is_at_a_table(rt: HostRuntime) -> Result<(
     let lines = chain(alloc, "turn -2\nturn +1 0\n")?;
     let text = trace_in(alloc, 3, FOUR_FRAMES, &lines)?;
     let passed = run_past(&rt, alloc, &text, &OpenGate)?;
-    assert_eq!(rt; passed.status, Status::Done);
+    same(&rt, passed.status, Status::Done);
     let output = chain_printed(alloc)?;
     assert!(rt; passed.written.as_slice() == output.as_bytes());
     Ok(())
@@ -107,16 +108,11 @@ fn shows_line<R: Threads + Sync + Abort>(
 ) -> Result<(), AllocError> {
     let lines = format!(in alloc; "phase\n{turn}\nlane 0\nend\ndone\n")?;
     let input = trace_in(alloc, version, FOUR_FRAMES, &lines)?.into_bytes();
-    match cause {
-        Some(cause) => {
-            let end = (Status::BadTrace { line: 10, cause }, false);
-            shows(rt, alloc, &["run"], input, end, "");
-        }
-        None => {
-            let end = (Status::Done, true);
-            shows(rt, alloc, &["run"], input, end, "phase 1\nlane 0\ndone\n");
-        }
-    }
+    let (end, output) = match cause {
+        Some(cause) => ((Status::BadTrace { line: 10, cause }, false), ""),
+        None => ((Status::Done, true), "phase 1\nlane 0\ndone\n"),
+    };
+    shows(rt, alloc, &["run"], input, end, output);
     Ok(())
 }
 
@@ -161,20 +157,27 @@ fn run_budgeted<R: Threads + Sync>(
     let mut source = MemSource::new(input, 4096, Vec::new(alloc));
     let mut sink = Paper::new(alloc);
     let outcome = run_between(rt, alloc, &["run"], &mut source, &mut sink, &OpenGate);
-    let mut left = Left {
+    let (page_frames, free, departures) = match &outcome.heap {
+        Some(engine) => frames_of(engine),
+        None => (None, 0, 0),
+    };
+    Ok(Left {
         status: outcome.status,
         written: sink.into_bytes(),
-        page_frames: None,
-        free: 0,
-        departures: 0,
-    };
-    if let Some(engine) = &outcome.heap {
-        let space = &engine.heap().space;
-        left.page_frames = Some(space.page_frames());
-        left.free = space.free_frames();
-        left.departures = space.departures();
-    }
-    Ok(left)
+        page_frames,
+        free,
+        departures,
+    })
+}
+
+/// How many frames the pages of a heap may use, how many of them are free, and how many pages left.
+fn frames_of(engine: &Engine) -> (Option<u32>, u32, u64) {
+    let space = &engine.heap().space;
+    (
+        Some(space.page_frames()),
+        space.free_frames(),
+        space.departures(),
+    )
 }
 
 /// Objects on three pages, of five that may be in memory. Then, with this line or with none, a turn that looks at none.
@@ -196,10 +199,10 @@ fn a_page_leaves_for_frames_that_are_free_again_after_the_phase(
     for (turn, departures, free) in [("turn\n", 0, 2), ("turn -2\n", 0, 2), ("turn -3\n", 1, 3)] {
         let lines = three_pages(alloc, turn)?;
         let left = run_budgeted(&rt, alloc, SIX_FRAMES, &lines)?;
-        assert_eq!(rt; left.status, Status::Done);
-        assert_eq!(rt; left.departures, departures);
-        assert_eq!(rt; left.free, free);
-        assert_eq!(rt; left.page_frames, Some(5));
+        same(&rt, left.status, Status::Done);
+        same(&rt, left.departures, departures);
+        same(&rt, left.free, free);
+        same(&rt, left.page_frames, Some(5));
         assert!(rt;
             left.written
                 .as_slice()
@@ -221,9 +224,9 @@ fn a_heap_that_is_too_small_ends_with_the_frames_of_its_turn(rt: HostRuntime) ->
             "phase\n{turn}\nlane 0\nnew 0 0 1\ncopy 0 0 0 1\n{news}end\ndone\n"
         )?;
         let left = run_budgeted(&rt, alloc, [1, 1, 2, 1, 1, 4, 5], &lines)?;
-        assert_eq!(rt; left.status, Status::OutOfHeap { need: 2 });
+        same(&rt, left.status, Status::OutOfHeap { need: 2 });
         assert!(rt; left.written.as_slice() == output.as_bytes());
-        assert_eq!(rt; left.page_frames, Some(page_frames));
+        same(&rt, left.page_frames, Some(page_frames));
     }
     Ok(())
 }
@@ -239,8 +242,16 @@ fn turns_listed<R: Threads + Sync>(
     let mut source = MemSource::new(input, 4096, Vec::new(alloc));
     let mut sink = Paper::new(alloc);
     let outcome = run_between(rt, alloc, &["run"], &mut source, &mut sink, &OpenGate);
+    turns_of(alloc, &outcome)
+}
+
+/// The same of a run that ended.
+fn turns_of(alloc: Global, outcome: &Outcome) -> Result<(Vec<Opened>, usize), AllocError> {
     match &outcome.heap {
-        Some(engine) => Ok((engine.opened().to_vec(alloc)?, engine.answers().len())),
+        Some(engine) => {
+            let opened = engine.opened().to_vec(alloc)?;
+            Ok((opened, engine.answers().len()))
+        }
         None => Ok((Vec::new(alloc), 0)),
     }
 }
@@ -275,12 +286,12 @@ fn marks_in_turn<R: Threads + Sync + Abort>(
     let mut marks = 0u64;
     for turn in &opened {
         let withheld = if turns % 2 == 0 { 2 } else { 1 };
-        assert_eq!(rt; turn.withheld, withheld);
+        same(rt, turn.withheld, withheld);
         turns = turns.saturating_add(turn.marks).saturating_add(1);
         marks = marks.saturating_add(turn.marks);
     }
     assert!(rt; turns > 1);
-    assert_eq!(rt; answers as u64, turns / 2);
+    same(rt, answers as u64, turns / 2);
     Ok(marks)
 }
 

@@ -2,6 +2,7 @@
 
 use super::gates::run_paced;
 use super::trace;
+use crate::equal::same;
 use bc_cli::OpenGate;
 use bc_engine::{Engine, Pacing};
 use bc_model::{Birth, Op, Reply, Setup, Slot};
@@ -26,7 +27,7 @@ fn after_a_give_the_new_holder_makes_an_object(rt: HostRuntime) -> Result<(), Fa
     engine.facts();
     let slot = Slot { domain: 1, slot: 0 };
     let reply = engine.serial(0, &Op::New(slot, 1));
-    assert_eq!(rt; reply, Reply::Obj(Birth { lane: 0, serial: 1 }));
+    same(&rt, reply, Reply::Obj(Birth { lane: 0, serial: 1 }));
     assert!(rt; engine.log().is_empty(), "only phases are written down");
     Ok(())
 }
@@ -40,9 +41,9 @@ fn after_a_freeze_another_lane_reads_and_the_old_holder_writes_no_more(
     engine.facts();
     let slot = Slot { domain: 1, slot: 0 };
     let other = engine.serial(0, &Op::Who(slot));
-    assert_eq!(rt; other, Reply::Nil);
+    same(&rt, other, Reply::Nil);
     let holder = engine.serial(1, &Op::New(slot, 1));
-    assert_eq!(rt; holder, Reply::Frozen);
+    same(&rt, holder, Reply::Frozen);
     Ok(())
 }
 
@@ -59,27 +60,30 @@ fn counters_tell_turns_minor_collections_and_reads(rt: HostRuntime) -> Result<()
         assert!(rt; false, "no heap is handed back");
         return Ok(());
     };
-    assert_eq!(rt; (counters.turns, counters.early), (5, 0));
-    assert_eq!(rt;
+    same(&rt, (counters.turns, counters.early), (5, 0));
+    same(
+        &rt,
         (
             counters.promotions,
             counters.collections,
-            counters.failsafes
+            counters.failsafes,
         ),
-        (5, 0, 0)
+        (5, 0, 0),
     );
-    assert_eq!(rt;
+    same(
+        &rt,
         (
             counters.reads.turns,
             counters.reads.alone,
-            counters.reads.collections
+            counters.reads.collections,
         ),
-        (3, 1, 0)
+        (3, 1, 0),
     );
     let left = counters.departures;
-    assert_eq!(rt;
+    same(
+        &rt,
         (left.turns, left.alone, left.collections, left.notices),
-        (2, 1, 1, 2)
+        (2, 1, 1, 2),
     );
     Ok(())
 }

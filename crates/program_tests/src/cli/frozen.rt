@@ -8,6 +8,7 @@ use super::rows::GIVEN;
 use super::saving::{MAGIC, bytes_of, ended, followed, saved};
 use super::saving_phases::{followed_to_the_end, goes_on_over};
 use super::{repeated, run_over, shows, trace_in};
+use crate::equal::same;
 use bc_cli::{OpenGate, Status};
 use bc_engine::Pacing;
 use bc_image::ImageCause;
@@ -84,8 +85,8 @@ fn a_frozen_domain_prints_the_same_where_each_turn_is_at_a_table(
     let passed = run_past(&rt, rt.alloc(), &text, &OpenGate)?;
     let [first, second, third] = READ;
     let output = format!(in rt.alloc(); "{first}{second}{third}done\n")?;
-    assert_eq!(rt; passed.status, Status::Done);
-    assert_eq!(rt; passed.written.as_slice(), output.as_bytes());
+    same(&rt, passed.status, Status::Done);
+    same(&rt, passed.written.as_slice(), output.as_bytes());
     Ok(())
 }
 
@@ -128,7 +129,7 @@ fn shows_frozen_chain<R: Threads + Sync + Abort>(
     let lines = frozen_chain(alloc, "turn 0 1 2 3 4 5\nturn 5 4\nturn 2\n")?;
     let text = trace_in(alloc, 2, [2, 3, 2, 2, 1, 4, 4], &lines)?;
     let passed = run_marked(rt, alloc, &text, workers, Pacing::SideBySide, &OpenGate)?;
-    assert_eq!(rt; passed.status, Status::Done);
+    same(rt, passed.status, Status::Done);
     let output = frozen_chain_printed(alloc)?;
     assert!(rt; passed.written.as_slice() == output.as_bytes());
     assert!(rt;

@@ -4,6 +4,7 @@ ghost use Rattle.std.specs.Prelude.{◌≤◌};
 
 use super::sink::Paper;
 use super::{repeated, trace};
+use crate::equal::same;
 use bc_cli::{Gate, Host, Outcome, Status, read_trace, run_trace};
 use bc_engine::{Answer, Counters, Pacing};
 use bc_io::MemSource;
@@ -66,29 +67,45 @@ pub fn run_marked<R: Threads + Sync, G: Gate + Sync>(
 {
     let mut source = MemSource::new(text.as_bytes().to_vec(alloc)?, 4096, Vec::new(alloc));
     let mut sink = Paper::new(alloc);
+    let outcome = run_read(rt, alloc, gate, &mut source, &mut sink, workers, pacing);
+    passed_by(alloc, &outcome, sink.into_bytes())
+}
+
+/// What a run ended with, of which this was written.
+fn passed_by(alloc: Global, outcome: &Outcome, written: Vec<u8>) -> Result<Passed, AllocError> {
+    let (answers, counters) = match &outcome.heap {
+        Some(engine) => (engine.answers().to_vec(alloc)?, Some(engine.counters())),
+        None => (Vec::new(alloc), None),
+    };
+    Ok(Passed {
+        status: outcome.status,
+        written,
+        answers,
+        counters,
+    })
+}
+
+/// Reads a trace and runs it, without what `run_trace` promises of that: so no test carries it along.
+fn run_read<R: Threads + Sync, G: Gate + Sync>(
+    rt: &R,
+    alloc: Global,
+    gate: &G,
+    source: &mut MemSource,
+    sink: &mut Paper,
+    workers: u32,
+    pacing: Pacing,
+) -> Outcome
+    requires { (1 ≤ workers) × (workers ≤ 16) }
+{
     let host = Host {
         threads: rt,
         alloc,
         gate,
     };
-    let outcome = match read_trace(alloc, &mut source) {
-        Ok(trace) => run_trace(&host, &trace, workers, pacing, &mut sink),
+    match read_trace(alloc, source) {
+        Ok(trace) => run_trace(&host, &trace, workers, pacing, sink),
         Err(status) => Outcome::without_heap(status),
-    };
-    let answers = match &outcome.heap {
-        Some(engine) => engine.answers().to_vec(alloc)?,
-        None => Vec::new(alloc),
-    };
-    let counters = match &outcome.heap {
-        Some(engine) => Some(engine.counters()),
-        None => None,
-    };
-    Ok(Passed {
-        status: outcome.status,
-        written: sink.into_bytes(),
-        answers,
-        counters,
-    })
+    }
 }
 
 /// Counts how often a worker passes a point.
@@ -120,9 +137,9 @@ fn all_operations_but_those_that_find_the_chunk_full_are_done_in_turns(
         passes: AtomicU64::new(0),
     };
     let passed = run_past(&rt, rt.alloc(), &text, &gate)?;
-    assert_eq!(rt; passed.status, Status::Done);
+    same(&rt, passed.status, Status::Done);
     assert!(rt; passed.written.as_slice().ends_with(b"obj 0.10000\ndone\n"));
-    assert_eq!(rt; gate.passes.load(Ordering::SeqCst), 9_961);
+    same(&rt, gate.passes.load(Ordering::SeqCst), 9_961);
     Ok(())
 }
 
@@ -212,11 +229,11 @@ fn two_lanes_that_wait_for_each_other_in_both_orders_both_come_through(
         patience: Patience::new(),
     };
     let passed = run_past(&rt, rt.alloc(), &text, &gate)?;
-    assert_eq!(rt; passed.status, Status::Done);
+    same(&rt, passed.status, Status::Done);
     let output = "phase 1\nlane 0\nobj 0.1\nlane 1\nobj 1.1\nobj 1.1\ndone\n";
     assert!(rt; passed.written.as_slice() == output.as_bytes());
-    assert_eq!(rt; gate.done_by_0.load(Ordering::SeqCst), 1);
-    assert_eq!(rt; gate.done_by_1.load(Ordering::SeqCst), 2);
-    assert_eq!(rt; gate.patience.given_up.load(Ordering::SeqCst), 0);
+    same(&rt, gate.done_by_0.load(Ordering::SeqCst), 1);
+    same(&rt, gate.done_by_1.load(Ordering::SeqCst), 2);
+    same(&rt, gate.patience.given_up.load(Ordering::SeqCst), 0);
     Ok(())
 }

@@ -4,6 +4,7 @@ use super::gates::{AFTER, Counting};
 use super::saving::followed;
 use super::sink::Paper;
 use super::{repeated, run_between, trace};
+use crate::equal::same;
 use bc_cli::Status;
 use bc_io::MemSource;
 use std::alloc::{AllocError, Global};
@@ -28,8 +29,8 @@ fn passes<R: Threads + Sync + Abort>(
     let mut source = MemSource::new(input.to_vec(alloc)?, 4096, Vec::new(alloc));
     let mut sink = Paper::new(alloc);
     let outcome = run_between(rt, alloc, words, &mut source, &mut sink, &gate);
-    assert_eq!(rt; outcome.status, Status::Done);
-    assert_eq!(rt; gate.passes.load(Ordering::SeqCst), wanted);
+    same(rt, outcome.status, Status::Done);
+    same(rt, gate.passes.load(Ordering::SeqCst), wanted);
     Ok(sink.into_bytes())
 }
 

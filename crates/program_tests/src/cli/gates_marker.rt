@@ -3,6 +3,7 @@
 use super::gates::{Patience, run_marked, run_past};
 use super::gates_pager::{ANSWERED, PAGER, TAKEN};
 use super::{trace, trace_in};
+use crate::equal::same;
 use bc_cli::{Gate, Status};
 use bc_engine::{Answer, Pacing};
 use std::alloc::Global;
@@ -77,17 +78,17 @@ impl Gate for Meeting {
 fn one_leaves<R: Threads + Sync + Abort>(rt: &R, alloc: Global, text: &str) -> Result<(), Fail> {
     let gate = Meeting::new();
     let passed = run_past(rt, alloc, text, &gate)?;
-    assert_eq!(rt; passed.status, Status::Done);
+    same(rt, passed.status, Status::Done);
     assert!(rt; passed.written.as_slice() == PRINTED.as_bytes());
     // The first object's page is in the marker's hands, so the notice with its number is answered with the other one.
     assert!(rt; passed.answers.as_slice() == [Answer::Evicted(4)].as_slice());
-    assert_eq!(rt; gate.answered.load(Ordering::SeqCst), 1);
-    assert_eq!(rt; gate.patience.given_up.load(Ordering::SeqCst), 0);
+    same(rt, gate.answered.load(Ordering::SeqCst), 1);
+    same(rt, gate.patience.given_up.load(Ordering::SeqCst), 0);
     let Some(counters) = passed.counters else {
         assert!(rt; false, "no heap is handed back");
         return Ok(());
     };
-    assert_eq!(rt; counters.departures.notices, 1);
+    same(rt, counters.departures.notices, 1);
     Ok(())
 }
 
@@ -107,11 +108,11 @@ fn a_marker_puts_each_page_back_that_it_took(rt: HostRuntime) -> Result<(), Fail
     let text = trace(rt.alloc(), [1, 1, 2, 2, 1, 4, 3], THREE_CLASSES)?;
     let gate = Meeting::new();
     let passed = run_past(&rt, rt.alloc(), &text, &gate)?;
-    assert_eq!(rt; passed.status, Status::Done);
+    same(&rt, passed.status, Status::Done);
     let taken = gate.in_hand.load(Ordering::SeqCst);
     assert!(rt; taken > 0);
-    assert_eq!(rt; gate.put_back.load(Ordering::SeqCst), taken);
-    assert_eq!(rt; gate.patience.given_up.load(Ordering::SeqCst), 0);
+    same(&rt, gate.put_back.load(Ordering::SeqCst), taken);
+    same(&rt, gate.patience.given_up.load(Ordering::SeqCst), 0);
     Ok(())
 }
 
@@ -152,10 +153,10 @@ fn two_markers_have_a_page_each_in_their_hands(rt: HostRuntime) -> Result<(), Fa
         patience: Patience::new(),
     };
     let passed = run_marked(&rt, rt.alloc(), &text, 2, Pacing::SideBySide, &gate)?;
-    assert_eq!(rt; passed.status, Status::Done);
+    same(&rt, passed.status, Status::Done);
     assert!(rt; passed.written.as_slice().ends_with(b"obj 0.4\ndone\n"));
     assert!(rt; gate.first.load(Ordering::SeqCst) > 0);
     assert!(rt; gate.second.load(Ordering::SeqCst) > 0);
-    assert_eq!(rt; gate.patience.given_up.load(Ordering::SeqCst), 0);
+    same(&rt, gate.patience.given_up.load(Ordering::SeqCst), 0);
     Ok(())
 }

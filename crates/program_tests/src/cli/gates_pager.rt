@@ -2,6 +2,7 @@
 
 use super::gates::{BEFORE, Counting, Patience, run_past};
 use super::trace;
+use crate::equal::same;
 use bc_cli::{Gate, OpenGate, Status};
 use bc_engine::Answer;
 use std::sync::atomic::{AtomicU64, Ordering};
@@ -52,13 +53,13 @@ fn a_lane_and_a_pager_that_wait_for_each_other_both_come_through(
         patience: Patience::new(),
     };
     let passed = run_past(&rt, rt.alloc(), &text, &gate)?;
-    assert_eq!(rt; passed.status, Status::Done);
+    same(&rt, passed.status, Status::Done);
     let output = "phase 1\nlane 0\nobj 0.1\nlane 1\nobj 1.1\nobj 1.1\ndone\n";
     assert!(rt; passed.written.as_slice() == output.as_bytes());
     assert!(rt; passed.answers.as_slice() == [Answer::Declined].as_slice());
-    assert_eq!(rt; gate.begun_by_0.load(Ordering::SeqCst), 1);
-    assert_eq!(rt; gate.answered.load(Ordering::SeqCst), 1);
-    assert_eq!(rt; gate.patience.given_up.load(Ordering::SeqCst), 0);
+    same(&rt, gate.begun_by_0.load(Ordering::SeqCst), 1);
+    same(&rt, gate.answered.load(Ordering::SeqCst), 1);
+    same(&rt, gate.patience.given_up.load(Ordering::SeqCst), 0);
     Ok(())
 }
 
@@ -74,10 +75,10 @@ fn eight_notices_are_answered_by_the_pager_and_declined_while_every_page_is_abse
         passes: AtomicU64::new(0),
     };
     let passed = run_past(&rt, rt.alloc(), &text, &gate)?;
-    assert_eq!(rt; passed.status, Status::Done);
+    same(&rt, passed.status, Status::Done);
     assert!(rt; passed.written.as_slice() == b"phase 1\nlane 0\nobj 0.1\ndone\n".as_slice());
     assert!(rt; passed.answers.as_slice() == [Answer::Declined; 8].as_slice());
-    assert_eq!(rt; gate.passes.load(Ordering::SeqCst), 8);
+    same(&rt, gate.passes.load(Ordering::SeqCst), 8);
     Ok(())
 }
 
@@ -88,7 +89,7 @@ fn a_pager_that_is_alone_evicts_a_page_with_an_object_and_then_declines(
     let lines = "phase\nlane 0\nnew 0 0 0\nend\nphase\nturn 3 0\nlane 0\nend\ndone\n";
     let text = trace(rt.alloc(), [1, 1, 2, 1, 1, 4, 3], lines)?;
     let passed = run_past(&rt, rt.alloc(), &text, &OpenGate)?;
-    assert_eq!(rt; passed.status, Status::Done);
+    same(&rt, passed.status, Status::Done);
     let output = "phase 1\nlane 0\nobj 0.1\nphase 2\nlane 0\ndone\n";
     assert!(rt; passed.written.as_slice() == output.as_bytes());
     assert!(rt; passed.answers.as_slice() == [Answer::Evicted(0), Answer::Declined].as_slice());

@@ -5,6 +5,7 @@ use super::gates_pager::{ANSWERED, PAGER};
 use super::gates_shapes::{big_objects, first_births};
 use super::heaps::{linked, links};
 use super::{repeated, shows_done, trace};
+use crate::equal::same;
 use bc_cli::{Gate, Status};
 use bc_engine::Answer;
 use std::alloc::{AllocError, Global};
@@ -53,12 +54,12 @@ fn a_page_that_a_pager_evicted_comes_back_in_the_same_turn(rt: HostRuntime) -> R
         patience: Patience::new(),
     };
     let passed = run_past(&rt, rt.alloc(), &text, &gate)?;
-    assert_eq!(rt; passed.status, Status::Done);
+    same(&rt, passed.status, Status::Done);
     let output = "phase 1\nlane 0\nobj 0.1\nphase 2\nlane 0\nlen 1\nobj 0.1\ndone\n";
     assert!(rt; passed.written.as_slice() == output.as_bytes());
     assert!(rt; passed.answers.as_slice() == [Answer::Evicted(0)].as_slice());
-    assert_eq!(rt; gate.done.load(Ordering::SeqCst), 3);
-    assert_eq!(rt; gate.patience.given_up.load(Ordering::SeqCst), 0);
+    same(&rt, gate.done.load(Ordering::SeqCst), 3);
+    same(&rt, gate.patience.given_up.load(Ordering::SeqCst), 0);
     Ok(())
 }
 
@@ -108,11 +109,11 @@ fn all_operations_on_a_chain_but_those_that_find_the_chunk_full_are_done_in_turn
         passes: AtomicU64::new(0),
     };
     let passed = run_past(&rt, rt.alloc(), &text, &gate)?;
-    assert_eq!(rt; passed.status, Status::Done);
+    same(&rt, passed.status, Status::Done);
     let output = chain_printed(rt.alloc())?;
     assert!(rt; passed.written.as_slice() == output.as_bytes());
     // A chunk holds 256 such objects, and each one after so many is made between the turns.
-    assert_eq!(rt; gate.passes.load(Ordering::SeqCst), 19_981);
+    same(&rt, gate.passes.load(Ordering::SeqCst), 19_981);
     Ok(())
 }
 
@@ -132,13 +133,13 @@ fn a_lane_stops_at_a_page_that_is_gone_while_every_page_in_memory_is_remembered(
         passes: AtomicU64::new(0),
     };
     let passed = run_past(&rt, rt.alloc(), &text, &gate)?;
-    assert_eq!(rt; passed.status, Status::Done);
+    same(&rt, passed.status, Status::Done);
     let births = first_births(rt.alloc(), 0, 9)?;
     let output = format!(in rt.alloc();
         "phase 1\nlane 0\n{births}phase 2\nlane 0\nobj 0.10\nok\nok\nobj 0.9\ndone\n"
     )?;
     assert!(rt; passed.written.as_slice() == output.as_bytes());
     // Between the turns are made the two objects that find the chunk full, and there the last operation is done.
-    assert_eq!(rt; gate.passes.load(Ordering::SeqCst), 10);
+    same(&rt, gate.passes.load(Ordering::SeqCst), 10);
     Ok(())
 }

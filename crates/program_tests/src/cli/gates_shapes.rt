@@ -5,7 +5,7 @@ use super::gates::{AFTER, BEFORE, Counting, Patience, run_past};
 use super::gates_pager::{ANSWERED, PAGER, TAKEN};
 use super::sink::Paper;
 use super::{repeated, trace};
-use bc_cli::top::top;
+use crate::equal::same;
 use bc_cli::{Gate, Status};
 use bc_engine::Answer;
 use bc_io::MemSource;
@@ -79,10 +79,10 @@ fn sixteen_lanes_that_wait_for_one_another_in_a_ring_all_come_through(
         patience: Patience::new(),
     };
     let passed = run_past(&rt, rt.alloc(), &text, &gate)?;
-    assert_eq!(rt; passed.status, Status::Done);
+    same(&rt, passed.status, Status::Done);
     assert!(rt; passed.written.as_slice() == output.as_bytes());
-    assert_eq!(rt; gate.passes.load(Ordering::SeqCst), 32);
-    assert_eq!(rt; gate.patience.given_up.load(Ordering::SeqCst), 0);
+    same(&rt, gate.passes.load(Ordering::SeqCst), 32);
+    same(&rt, gate.patience.given_up.load(Ordering::SeqCst), 0);
     Ok(())
 }
 
@@ -160,7 +160,7 @@ fn a_lane_and_a_pager_meet_in_the_second_turn_of_the_second_phase_twice(
         patience: Patience::new(),
     };
     let passed = run_past(&rt, rt.alloc(), &text, &gate)?;
-    assert_eq!(rt; passed.status, Status::Done);
+    same(&rt, passed.status, Status::Done);
     let first = first_births(rt.alloc(), 1, 12)?;
     let second = first_births(rt.alloc(), 0, 8)?;
     let output = format!(in rt.alloc();
@@ -169,10 +169,10 @@ fn a_lane_and_a_pager_meet_in_the_second_turn_of_the_second_phase_twice(
     assert!(rt; passed.written.as_slice() == output.as_bytes());
     let answers = [Answer::Evicted(0), Answer::Evicted(1), Answer::Evicted(2)];
     assert!(rt; passed.answers.as_slice() == answers.as_slice());
-    assert_eq!(rt; gate.come.load(Ordering::SeqCst), 8);
-    assert_eq!(rt; gate.done.load(Ordering::SeqCst), 7);
-    assert_eq!(rt; gate.answered.load(Ordering::SeqCst), 3);
-    assert_eq!(rt; gate.patience.given_up.load(Ordering::SeqCst), 0);
+    same(&rt, gate.come.load(Ordering::SeqCst), 8);
+    same(&rt, gate.done.load(Ordering::SeqCst), 7);
+    same(&rt, gate.answered.load(Ordering::SeqCst), 3);
+    same(&rt, gate.patience.given_up.load(Ordering::SeqCst), 0);
     Ok(())
 }
 
@@ -211,12 +211,12 @@ fn a_page_in_a_lanes_hands_is_declined(rt: HostRuntime) -> Result<(), Fail> {
         patience: Patience::new(),
     };
     let passed = run_past(&rt, rt.alloc(), &text, &gate)?;
-    assert_eq!(rt; passed.status, Status::Done);
+    same(&rt, passed.status, Status::Done);
     let output = "phase 1\nlane 0\nobj 0.1\nphase 2\nlane 0\nlen 1\nobj 0.1\ndone\n";
     assert!(rt; passed.written.as_slice() == output.as_bytes());
     assert!(rt; passed.answers.as_slice() == [Answer::Declined].as_slice());
-    assert_eq!(rt; gate.in_hand.load(Ordering::SeqCst), 1);
-    assert_eq!(rt; gate.patience.given_up.load(Ordering::SeqCst), 0);
+    same(&rt, gate.in_hand.load(Ordering::SeqCst), 1);
+    same(&rt, gate.patience.given_up.load(Ordering::SeqCst), 0);
     Ok(())
 }
 
@@ -238,14 +238,14 @@ fn lines_of_9_and_of_64_notices_are_answered_turn_by_turn_beside_two_lanes(
         passes: AtomicU64::new(0),
     };
     let passed = run_past(&rt, rt.alloc(), &text, &gate)?;
-    assert_eq!(rt; passed.status, Status::Done);
+    same(&rt, passed.status, Status::Done);
     let first = first_births(rt.alloc(), 0, 10)?;
     let second = first_births(rt.alloc(), 1, 10)?;
     let output = format!(in rt.alloc(); "phase 1\nlane 0\n{first}lane 1\n{second}done\n")?;
     assert!(rt; passed.written.as_slice() == output.as_bytes());
     // Three turns, of which the third has the first line again.
-    assert_eq!(rt; passed.answers.len(), 82);
-    assert_eq!(rt; gate.passes.load(Ordering::SeqCst), 82);
+    same(&rt, passed.answers.len(), 82);
+    same(&rt, gate.passes.load(Ordering::SeqCst), 82);
     Ok(())
 }
 
@@ -259,7 +259,7 @@ fn run_as_pays<R: Threads + Sync, G: Gate + Sync>(
 ) -> Result<(Status, Vec<u8>), AllocError> {
     let mut source = MemSource::new(text.as_bytes().to_vec(alloc)?, 4096, Vec::new(alloc));
     let mut sink = Paper::new(alloc);
-    let outcome = top(rt, alloc, &["run"], &mut source, &mut sink, gate);
+    let outcome = super::run_between(rt, alloc, &["run"], &mut source, &mut sink, gate);
     Ok((outcome.status, sink.into_bytes()))
 }
 
@@ -304,11 +304,11 @@ fn in_a_long_turn_a_pager_answers_nine_notices_beside_the_lane(
         patience: Patience::new(),
     };
     let (status, written) = run_as_pays(&rt, rt.alloc(), &text, &gate)?;
-    assert_eq!(rt; status, Status::Done);
+    same(&rt, status, Status::Done);
     assert!(rt; written.as_slice().ends_with(b"obj 0.1\nobj 0.1\ndone\n"));
-    assert_eq!(rt; gate.come.load(Ordering::SeqCst), 6_001);
-    assert_eq!(rt; gate.answered.load(Ordering::SeqCst), 9);
-    assert_eq!(rt; gate.patience.given_up.load(Ordering::SeqCst), 0);
+    same(&rt, gate.come.load(Ordering::SeqCst), 6_001);
+    same(&rt, gate.answered.load(Ordering::SeqCst), 9);
+    same(&rt, gate.patience.given_up.load(Ordering::SeqCst), 0);
     Ok(())
 }
 
@@ -357,15 +357,15 @@ fn in_a_long_second_turn_of_a_phase_two_lanes_wait_for_each_other(
         patience: Patience::new(),
     };
     let (status, written) = run_as_pays(&rt, rt.alloc(), &text, &gate)?;
-    assert_eq!(rt; status, Status::Done);
+    same(&rt, status, Status::Done);
     assert!(rt;
         written
             .as_slice()
             .ends_with(b"obj 1.300\nobj 1.300\ndone\n")
     );
     // A chunk holds 256 such objects: the first turn ends there, and the object after them is made between the turns.
-    assert_eq!(rt; gate.done_by_0.load(Ordering::SeqCst), 6_299);
-    assert_eq!(rt; gate.done_by_1.load(Ordering::SeqCst), 6_299);
-    assert_eq!(rt; gate.patience.given_up.load(Ordering::SeqCst), 0);
+    same(&rt, gate.done_by_0.load(Ordering::SeqCst), 6_299);
+    same(&rt, gate.done_by_1.load(Ordering::SeqCst), 6_299);
+    same(&rt, gate.patience.given_up.load(Ordering::SeqCst), 0);
     Ok(())
 }

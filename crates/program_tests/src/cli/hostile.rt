@@ -6,10 +6,10 @@ ghost use Rattle.bc_engine.specs.Lanes.{of_lane};
 ghost use Rattle.bc_model.specs.WellFormed.{FitsFrames, IsPhase};
 
 use super::gates::run_past;
-use super::sink::Torn;
+use super::sink::Paper;
 use super::{repeated, shows, shows_done, trace};
+use crate::equal::same;
 use bc_bits::count;
-use bc_cli::top::top;
 use bc_cli::{OpenGate, Status};
 use bc_engine::{Answer, Engine, PhaseError};
 use bc_io::MemSource;
@@ -94,8 +94,8 @@ fn run_between<R: Threads + Sync>(
     requires writes { 0 < writes.0 }
 {
     let mut source = MemSource::new(trace.to_vec(alloc)?, reads.0, vec![in alloc; reads.1]?);
-    let mut sink = Torn::new(alloc, writes.0, writes.1);
-    let outcome = top(rt, alloc, &["run"], &mut source, &mut sink, &OpenGate);
+    let mut sink = Paper::torn(alloc, writes.0, writes.1);
+    let outcome = super::run_between(rt, alloc, &["run"], &mut source, &mut sink, &OpenGate);
     Ok(Left {
         status: outcome.status,
         heap: outcome.heap,
@@ -124,8 +124,8 @@ fn first_path_leaves<R: Threads + Sync + Abort>(
         "at read {}, write {}",
         reads.1, writes.1
     );
-    assert_eq!(rt; left.heap.is_some(), has_heap);
-    assert_eq!(rt; left.held.as_slice(), &FIRST_OUTPUT.as_bytes()[..held]);
+    same(rt, left.heap.is_some(), has_heap);
+    same(rt, left.held.as_slice(), &FIRST_OUTPUT.as_bytes()[..held]);
     Ok(())
 }
 
@@ -189,14 +189,14 @@ fn a_write_that_fails_after_an_object_too_many_leaves_the_heap_of_the_stopped_st
     let bytes = text.as_bytes();
     for number in 1..=2 {
         let left = run_between(&rt, alloc, bytes, (65_536, 0), (65_536, number))?;
-        assert_eq!(rt; left.status, Status::WriteFault);
+        same(&rt, left.status, Status::WriteFault);
         assert!(rt; output.as_bytes().starts_with(&left.held));
-        assert_eq!(rt; left.held.is_empty(), number == 1);
+        same(&rt, left.held.is_empty(), number == 1);
         let Some(engine) = &left.heap else {
             return Err(Fail::new("no heap was handed back"));
         };
-        assert_eq!(rt; objects_in_cells(&engine.heap().space), 1024);
-        assert_eq!(rt; words_left(engine), 510);
+        same(&rt, objects_in_cells(&engine.heap().space), 1024);
+        same(&rt, words_left(engine), 510);
     }
     Ok(())
 }
@@ -265,16 +265,18 @@ fn a_second_turn_of_the_lanes_in_a_phase_has_the_same_hints_again(
     let lines = format!(in alloc; "phase\nturn 0 4294967295 3 2\nlane 0\n{news}end\ndone\n")?;
     let text = trace(alloc, SMALL, &lines)?;
     let passed = run_past(&rt, alloc, &text, &OpenGate)?;
-    assert_eq!(rt; passed.status, Status::Done);
-    assert_eq!(rt; passed.answers.len(), 8);
-    assert_eq!(rt;
+    same(&rt, passed.status, Status::Done);
+    assert!(rt; passed.answers.len() == 8);
+    same(
+        &rt,
         &passed.answers.as_slice()[..4],
-        [Answer::Declined; 4].as_slice()
+        [Answer::Declined; 4].as_slice(),
     );
-    assert_eq!(rt; passed.answers.as_slice()[4], Answer::Evicted(0));
-    assert_eq!(rt;
+    same(&rt, passed.answers.as_slice()[4], Answer::Evicted(0));
+    same(
+        &rt,
         &passed.answers.as_slice()[5..],
-        [Answer::Declined; 3].as_slice()
+        [Answer::Declined; 3].as_slice(),
     );
     Ok(())
 }
@@ -341,24 +343,26 @@ fn a_phase_after_one_that_was_refused_answers_the_same_alone_and_changes_nothing
     let second = end_of(engine.phase(&rt, rt.alloc(), &phase, &OpenGate));
     let after = (objects_in_cells(&engine.heap().space), words_left(&engine));
     if first == PhaseEnd::NoMemory {
-        assert_eq!(rt; second, PhaseEnd::NoMemory);
+        same(&rt, second, PhaseEnd::NoMemory);
     } else {
-        assert_eq!(rt;
+        same(
+            &rt,
             first,
             PhaseEnd::OutOfHeap {
                 need: 2,
-                replies: 2
-            }
+                replies: 2,
+            },
         );
-        assert_eq!(rt;
+        same(
+            &rt,
             second,
             PhaseEnd::OutOfHeap {
                 need: 2,
-                replies: 0
-            }
+                replies: 0,
+            },
         );
     }
-    assert_eq!(rt; after, before);
+    same(&rt, after, before);
     assert!(rt; engine.answers().is_empty());
     Ok(())
 }

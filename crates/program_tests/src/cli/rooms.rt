@@ -2,6 +2,7 @@
 
 use super::saving::{SMALL, ended, followed};
 use super::{Ran, trace};
+use crate::equal::same;
 use bc_cli::top::top;
 use bc_cli::{OpenGate, Status, law_output};
 use bc_io::{MemSink, MemSource};
@@ -39,7 +40,7 @@ fn the_room_that_the_law_asks_for_is_enough_for_each_command(rt: HostRuntime) ->
     let output = b"phase 1\nlane 0\nobj 0.1\nphase 2\nlane 0\nobj 0.1\ndone\n";
     ended(&rt, &ran, Status::Done, true, output);
     let image = run_in_room(&rt, alloc, &["save", "1"], text.as_slice().to_vec(alloc)?)?;
-    assert_eq!(&rt; image.status, Status::Done);
+    same(&rt, image.status, Status::Done);
     let input = followed(alloc, image.written.as_slice(), text.as_slice())?;
     let ran = run_in_room(&rt, alloc, &["resume"], input)?;
     ended(
@@ -50,6 +51,6 @@ fn the_room_that_the_law_asks_for_is_enough_for_each_command(rt: HostRuntime) ->
         b"phase 2\nlane 0\nobj 0.1\ndone\n",
     );
     let ran = run_in_room(&rt, alloc, &["churn", "7", "10"], Vec::new(alloc))?;
-    assert_eq!(&rt; ran.status, Status::Done);
+    same(&rt, ran.status, Status::Done);
     Ok(())
 }

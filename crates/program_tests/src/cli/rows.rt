@@ -1,6 +1,7 @@
 //! Traces and what they print.
 
 use super::{repeated, shows, shows_done, shows_fault, trace};
+use crate::equal::same;
 use bc_cli::Status;
 use bc_trace::Cause;
 use std::test::Fail;
@@ -12,7 +13,7 @@ const SMALL: [u32; 7] = [1, 1, 2, 1, 1, 4, 3];
 fn a_number_is_set_and_loaded_back(rt: HostRuntime) -> Result<(), Fail> {
     let lines = "phase\nlane 0\nnew 0 0 2\nset 0 0 1 7\nload 0 0 1 0 1\nend\ndone\n";
     let text = trace(rt.alloc(), SMALL, lines)?;
-    assert_eq!(rt; text.len(), 137);
+    same(&rt, text.len(), 137);
     let output = "phase 1\nlane 0\nobj 0.1\nok\nnum 7\ndone\n";
     shows_done(&rt, rt.alloc(), SMALL, lines, output)?;
     Ok(())

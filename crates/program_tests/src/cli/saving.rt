@@ -2,7 +2,7 @@
 
 use super::sink::Paper;
 use super::{Ran, run_over, trace, trace_in};
-use bc_cli::top::top;
+use crate::equal::same;
 use bc_cli::{OpenGate, Status};
 use bc_image::ImageCause;
 use bc_io::MemSource;
@@ -53,9 +53,9 @@ pub fn followed(alloc: Global, image: &[u8], trace: &[u8]) -> Result<Vec<u8>, Al
 
 /// Shows how a run ended, whether it handed back a heap, and what it wrote.
 pub fn ended<R: Abort>(rt: &R, ran: &Ran, status: Status, has_heap: bool, written: &[u8]) {
-    assert_eq!(rt; ran.status, status);
-    assert_eq!(rt; ran.has_heap, has_heap);
-    assert_eq!(rt; ran.written.as_slice(), written);
+    same(rt, ran.status, status);
+    same(rt, ran.has_heap, has_heap);
+    same(rt, ran.written.as_slice(), written);
 }
 
 /// Shows that these words over this input end so, without a heap, and that nothing is written.
@@ -81,7 +81,7 @@ pub fn saved<R: Threads + Sync + Abort>(
     let number = format!(in alloc; "{phases}")?;
     let words = ["save", number.as_str(), "--workers", workers];
     let ran = run_over(rt, alloc, &words, trace.to_vec(alloc)?);
-    assert_eq!(rt; ran.status, Status::Done);
+    same(rt, ran.status, Status::Done);
     assert!(rt; !ran.has_heap);
     Ok(ran.written)
 }
@@ -93,7 +93,7 @@ fn the_image_of_the_first_trace_has_its_one_object_in_some_cell(
     let alloc = rt.alloc();
     let text = trace(alloc, SMALL, FIRST)?;
     let image = saved(&rt, alloc, 1, "1", text.as_bytes())?;
-    assert_eq!(rt; image.len(), 160);
+    same(&rt, image.len(), 160);
     let mut found = false;
     for cell in 0..512 {
         let mut items = FIRST_IMAGE;
@@ -110,7 +110,8 @@ fn the_image_before_the_first_phase_has_nothing_but_the_setup(rt: HostRuntime) -
     let alloc = rt.alloc();
     let text = trace(alloc, [1, 1, 2, 1, 1, 4, 5], FIRST)?;
     let image = saved(&rt, alloc, 0, "1", text.as_bytes())?;
-    assert_eq!(rt; image, bytes_of(alloc, &OPENING_IMAGE)?);
+    let opening = bytes_of(alloc, &OPENING_IMAGE)?;
+    same(&rt, image.as_slice(), opening.as_slice());
     Ok(())
 }
 
@@ -332,8 +333,8 @@ fn words_that_are_no_command_are_refused_and_nothing_is_read(rt: HostRuntime) ->
     for words in wrong {
         let mut source = MemSource::new(Vec::new(alloc), 4096, vec![in alloc; 1]?);
         let mut sink = Paper::new(alloc);
-        let outcome = top(&rt, alloc, words, &mut source, &mut sink, &OpenGate);
-        assert_eq!(rt; outcome.status, Status::BadWords);
+        let outcome = super::run_between(&rt, alloc, words, &mut source, &mut sink, &OpenGate);
+        same(&rt, outcome.status, Status::BadWords);
         assert!(rt; outcome.heap.is_none());
         assert!(rt; sink.into_bytes().is_empty());
     }

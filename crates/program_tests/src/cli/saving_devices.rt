@@ -1,9 +1,9 @@
 //! Devices that fail while an image is saved or resumed: what comes out, and which bytes the sink holds then.
 
 use super::saving::{FIRST, FIRST_IMAGE, SMALL, bytes_of, ended, followed, front, saved};
-use super::sink::Torn;
+use super::sink::Paper;
 use super::{Ran, run_over, trace};
-use bc_cli::top::top;
+use crate::equal::same;
 use bc_cli::{OpenGate, Status};
 use bc_io::{Failed, MemSource, Source};
 use std::alloc::{AllocError, Global};
@@ -72,8 +72,8 @@ fn written<R: Threads + Sync, S: Source>(
     source: &mut S,
     failing: u64,
 ) -> Ran {
-    let mut sink = Torn::new(alloc, PIECE, failing);
-    let outcome = top(rt, alloc, words, source, &mut sink, &OpenGate);
+    let mut sink = Paper::torn(alloc, PIECE, failing);
+    let outcome = super::run_between(rt, alloc, words, source, &mut sink, &OpenGate);
     Ran {
         status: outcome.status,
         has_heap: outcome.heap.is_some(),
@@ -139,7 +139,7 @@ fn a_write_that_fails_leaves_a_front_of_a_long_image(rt: HostRuntime) -> Result<
     let text = trace(alloc, [1, 1, 200, 1, 1, 4, 3], &lines)?.into_bytes();
     let image = saved(&rt, alloc, 1, "1", &text)?;
     // The header, the setup, holder and births; 200 slots; the superpage, and three items an object.
-    assert_eq!(rt; image.len(), 8 * (12 + 200 + 2 + 600));
+    same(&rt, image.len(), 8 * (12 + 200 + 2 + 600));
     for number in [1, 2, 512, 513, 514, 814] {
         let mut source = MemSource::new(text.as_slice().to_vec(alloc)?, 4096, Vec::new(alloc));
         let ran = written(&rt, alloc, &["save", "1"], &mut source, number);

@@ -1,4 +1,4 @@
-//! Sinks that grow: they report what they hold, and no room.
+//! A sink that grows: it reports what it holds, and no room.
 
 use bc_io::{Failed, Sink};
 use std::alloc::Global;
@@ -7,13 +7,24 @@ use std::alloc::Global;
 pub struct Paper {
     bytes: Vec<u8>,
     faults: u64,
+    piece: usize,
+    // How many more calls there are up to the one that fails, with it. 0: none fails.
+    failing: u64,
 }
 
 impl Paper {
+    /// It takes whatever comes.
     pub fn new(alloc: Global) -> Paper {
+        Paper::torn(alloc, usize::MAX, 0)
+    }
+
+    /// It takes pieces of so many bytes at most, one at least, and the call of this number fails. 0: none fails.
+    pub fn torn(alloc: Global, piece: usize, failing: u64) -> Paper {
         Paper {
             bytes: Vec::new(alloc),
             faults: 0,
+            piece,
+            failing,
         }
     }
 
@@ -28,51 +39,6 @@ impl Sink for Paper {
     ghost held = { λ paper. Some paper.bytes.items };
 
     ghost faults = { λ paper. paper.faults };
-
-    ghost room = { λ _. None };
-
-    fn write(&mut self, bytes: &[u8]) -> Result<usize, Failed> {
-        match self.bytes.extend_from_slice(bytes) {
-            Ok(()) => Ok(bytes.len()),
-            Err(_) => {
-                self.faults = self.faults.saturating_add(1);
-                Err(Failed)
-            }
-        }
-    }
-}
-
-/// A sink that takes pieces of so many bytes at most, one at least, and of which one call fails.
-#[derive(Drop)]
-pub struct Torn {
-    bytes: Vec<u8>,
-    faults: u64,
-    piece: usize,
-    // How many more calls there are up to the one that fails, with it. 0: none fails.
-    failing: u64,
-}
-
-impl Torn {
-    pub fn new(alloc: Global, piece: usize, failing: u64) -> Torn {
-        Torn {
-            bytes: Vec::new(alloc),
-            faults: 0,
-            piece,
-            failing,
-        }
-    }
-
-    pub fn into_bytes(self) -> Vec<u8> {
-        self.bytes
-    }
-}
-
-impl Sink for Torn {
-    ghost use Rattle.std.specs.Prelude.{Some, None};
-
-    ghost held = { λ torn. Some torn.bytes.items };
-
-    ghost faults = { λ torn. torn.faults };
 
     ghost room = { λ _. None };
 

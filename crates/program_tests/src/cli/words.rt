@@ -2,7 +2,7 @@
 
 use super::sink::Paper;
 use super::{shows, trace};
-use bc_cli::top::top;
+use crate::equal::same;
 use bc_cli::{OpenGate, Status};
 use bc_io::MemSource;
 use std::alloc::{AllocError, Global};
@@ -21,8 +21,8 @@ fn shows_bad_words<R: Threads + Sync + Abort>(
 ) -> Result<(), AllocError> {
     let mut source = MemSource::new(Vec::new(alloc), 4096, vec![in alloc; 1]?);
     let mut sink = Paper::new(alloc);
-    let outcome = top(rt, alloc, words, &mut source, &mut sink, &OpenGate);
-    assert_eq!(rt; outcome.status, Status::BadWords);
+    let outcome = super::run_between(rt, alloc, words, &mut source, &mut sink, &OpenGate);
+    same(rt, outcome.status, Status::BadWords);
     assert!(rt; outcome.heap.is_none());
     assert!(rt; sink.into_bytes().is_empty());
     Ok(())
@@ -110,7 +110,7 @@ fn the_counts_of_churn_1_20000_add_up_to_40640_with_any_number_of_workers(
     for count in COUNTS {
         sum = count.saturating_add(sum);
     }
-    assert_eq!(rt; sum, 40_640);
+    same(&rt, sum, 40_640);
     let output = counted(alloc)?;
     shows_churn(&rt, alloc, &["churn", "1", "20000"], &output);
     shows_churn(

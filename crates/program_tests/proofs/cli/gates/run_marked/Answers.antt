@@ -1,9 +1,0 @@
-use Rattle.std.proofs.Common.{rules, ◌≡◌, arith}
-use Rattle.bc_cli.proofs.Bytes.{few-read}
-use Rattle.program_tests.proofs.cli.gates.run_marked.Goals as goal
-
-pub run_trace-outcome-requires-clause-phases : goal.run_trace-outcome-requires-clause-phases
-run_trace-outcome-requires-clause-phases g c κs within = omega (arith, few-read _ _ _ c.in-Ok.ensures.found)
-
-pub run_trace-outcome-requires-clause-ops : goal.run_trace-outcome-requires-clause-ops
-run_trace-outcome-requires-clause-ops g c κs within = omega (arith, few-read _ _ _ c.in-Ok.ensures.found)
