@@ -10,12 +10,13 @@
 
 ghost use Rattle.std.specs.Prelude.{◌≡◌, ◌≢◌, ℕ, IfErr, IfOk, IfSome, map, string_bytes, None};
 ghost use Rattle.std.specs.Process.{exit_status};
-ghost use Rattle.bc_cli.specs.Accounts.{KeepsAccount};
 ghost use Rattle.bc_cli.specs.Churns.{ChurnsDone};
-ghost use Rattle.bc_cli.specs.Outcomes.{IfStatusBadImage, IfBadTrace, IfHeapless, IfStatusOutOfHeap, IsOrNoMemory, RanOutOfHeap, Replayed, longest_of, workers_of};
+ghost use Rattle.bc_cli.specs.Limits.{longest_of, workers_of};
 ghost use Rattle.bc_cli.specs.Resumes.{FaultyInput, ImageFaulty, Resumed};
 ghost use Rattle.bc_cli.specs.Saves.{Saved};
-ghost use Rattle.bc_cli.specs.Statuses.{exit_code_of, fault_of};
+ghost use Rattle.bc_replay.specs.Accounts.{KeepsAccount};
+ghost use Rattle.bc_replay.specs.Outcomes.{IfStatusBadImage, IfBadTrace, IfHeapless, IfStatusOutOfHeap, IsOrNoMemory, RanOutOfHeap, Replayed};
+ghost use Rattle.bc_replay.specs.Statuses.{exit_code_of, fault_of};
 ghost use Rattle.bc_words.specs.Commands.{IsCommandOf};
 ghost use Rattle.bc_words.specs.declared.command.Command.{Command};
 ghost use Rattle.bc_words.specs.declared.command.Command.TheVariants.{Run, Churn, Save, Resume};

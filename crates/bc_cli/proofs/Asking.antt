@@ -4,9 +4,9 @@ use Rattle.std.specs.Prelude.{IfNone, IfSome}
 use Rattle.bc_image.specs.declared.fault.ImageCause.{ImageCause}
 use Rattle.bc_words.specs.declared.command.Command.{Command}
 use Rattle.bc_words.specs.declared.command.Command.TheVariants.{Churn, Save}
-use Rattle.bc_cli.specs.Outcomes.{IfStatusBadImage}
-use Rattle.bc_cli.specs.declared.status.Status.{Status}
-use Rattle.bc_cli.specs.declared.status.Status.TheVariants.{Done, BadWords, BadTrace, TooLong, ReadFault, WriteFault, OutOfHeap, NoMemory, BadImage, Mismatch}
+use Rattle.bc_replay.specs.Outcomes.{IfStatusBadImage}
+use Rattle.bc_replay.specs.declared.status.Status.{Status}
+use Rattle.bc_replay.specs.declared.status.Status.TheVariants.{Done, BadWords, BadTrace, TooLong, ReadFault, WriteFault, OutOfHeap, NoMemory, BadImage, Mismatch}
 
 -- what is said of the command that was found
 pub asked : (P : Command → Type 0) (found : Option Command) (c : Command) → IfSome found P → found ≡ Some c → P c

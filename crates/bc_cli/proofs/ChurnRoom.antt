@@ -11,7 +11,7 @@ use Rattle.bc_churn.specs.Churn.{churn_trace}
 use Rattle.bc_churn.specs.Counts.{churn_line, churn_text, count_line, count_lines, kind_names, run_counts}
 use Rattle.bc_trace.specs.Replies.{done_text}
 use Rattle.bc_churn.proofs.ChurnSums.{counted-churn}
-use Rattle.bc_cli.specs.Output.{summary}
+use Rattle.bc_cli.specs.Churns.{summary}
 
 count_line-short : (name : List ℕ) (n : ℕ) → n < 1000000 → length (count_line name n) ≤ length name + 8
 unfolding count_line

@@ -14,14 +14,14 @@ use Rattle.bc_churn.specs.Churn.{churn_trace}
 use Rattle.bc_churn.specs.Counts.{all_replies, phase_replies, counts, run_counts}
 use Rattle.bc_churn.proofs.ChurnNeed.{need-cut, setup-is}
 use Rattle.bc_churn.proofs.ChurnSums.{counted-once, counted-run, trace-ops}
+use Rattle.bc_replay.specs.Courses.{whole_course}
+use Rattle.bc_replay.specs.Endings.{FitsThroughout}
+use Rattle.bc_replay.specs.BetweenPhases.{HasRun, Ran}
+use Rattle.bc_replay.specs.NeedLine.{replies_before}
+use Rattle.bc_replay.proofs.Finishing.{final-before}
+use Rattle.bc_replay.proofs.PhaseEnds.{cut, did}
+use Rattle.bc_replay.proofs.Pieces.{replies-append}
 use Rattle.bc_cli.specs.Churns.{HasChurned}
-use Rattle.bc_cli.specs.Courses.{whole_course}
-use Rattle.bc_cli.specs.Endings.{FitsThroughout}
-use Rattle.bc_cli.specs.BetweenPhases.{HasRun, Ran}
-use Rattle.bc_cli.specs.NeedLine.{replies_before}
-use Rattle.bc_cli.proofs.Finishing.{final-before}
-use Rattle.bc_cli.proofs.PhaseEnds.{cut, did}
-use Rattle.bc_cli.proofs.Pieces.{replies-append}
 
 -- ---- the replies to the first phases
 

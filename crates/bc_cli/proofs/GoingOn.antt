@@ -10,11 +10,11 @@ use Rattle.bc_model.specs.Lists.{TraceLists}
 use Rattle.bc_model.proofs.RunStates.{OfSetup-before}
 use Rattle.bc_trace.specs.Lines.{Spells}
 use Rattle.bc_trace.proofs.Answered.{same_trace}
-use Rattle.bc_cli.specs.Courses.{before, course_from, whole_course}
-use Rattle.bc_cli.specs.Output.{whole_text}
+use Rattle.bc_replay.specs.Courses.{before, course_from, whole_course}
+use Rattle.bc_replay.specs.Output.{whole_text}
+use Rattle.bc_replay.proofs.Bytes.{may_give-whole}
 use Rattle.bc_cli.specs.Resumes.{Resumed}
 use Rattle.bc_cli.specs.Saves.{IsSaved}
-use Rattle.bc_cli.proofs.Bytes.{may_give-whole}
 
 pub goes-on : (t : TraceLists) (k : ℕ) (l : ListingLists) (text : List ℕ) (left held held' : Option (List ℕ)) (heap : Option EngineView) → IsSaved t k l → Spells text t → Resumed (Some (image_bytes l ++ text)) left held held' heap
     → HeldGrows held held' (whole_text (course_from t (before (whole_course t) k) k))

@@ -11,13 +11,14 @@ use Rattle.bc_image.specs.declared.fault.ReadImage.TheVariants as scans
 use Rattle.bc_trace.specs.Answers.{TellsFault}
 use Rattle.bc_trace.specs.declared.fault.ReadTrace.{ReadTrace}
 use Rattle.bc_trace.specs.declared.fault.ReadTrace.TheVariants as answers
-use Rattle.bc_cli.specs.Outcomes.{IfStatusBadImage, IfBadTrace, IsOrNoMemory, ReadWhole, longest_resumed}
+use Rattle.bc_replay.specs.Outcomes.{IfStatusBadImage, IfBadTrace, IsOrNoMemory, ReadWhole}
+use Rattle.bc_replay.specs.Statuses.{refusal_of, unscanned}
+use Rattle.bc_replay.specs.declared.status.Status.{Status}
+use Rattle.bc_replay.specs.declared.status.Status.TheVariants.{Done, BadWords, BadTrace, TooLong, ReadFault, WriteFault, OutOfHeap, NoMemory, BadImage, Mismatch}
+use Rattle.bc_cli.specs.Limits.{longest_resumed}
 use Rattle.bc_cli.specs.Parsing.{ArePartsApart, IsUnparsed}
 use Rattle.bc_cli.specs.PartEndings.{IsUnresumedStatus}
 use Rattle.bc_cli.specs.Resumes.{FaultyAfterImage, ImageFaulty, ReadsApart}
-use Rattle.bc_cli.specs.Statuses.{refusal_of, unscanned}
-use Rattle.bc_cli.specs.declared.status.Status.{Status}
-use Rattle.bc_cli.specs.declared.status.Status.TheVariants.{Done, BadWords, BadTrace, TooLong, ReadFault, WriteFault, OutOfHeap, NoMemory, BadImage, Mismatch}
 
 -- what follows an image
 pub rest_is : (bytes rest : List ℕ) (l : ListingLists) (n : ℕ) → ImageOf bytes l rest → n ≡ length (image_bytes l) → drop n bytes ≡ rest

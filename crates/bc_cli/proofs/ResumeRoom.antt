@@ -13,13 +13,13 @@ use Rattle.bc_model.specs.StateSizes.{HasSizes}
 use Rattle.bc_model.specs.WellFormed.{IsPhase, IsTrace}
 use Rattle.bc_model.specs.declared.traces.Setup.{Setup}
 use Rattle.bc_trace.specs.Lines.{trace_text, Spells}
-use Rattle.bc_cli.specs.Courses.{course_from}
-use Rattle.bc_cli.specs.Endings.{HasRunRoom}
-use Rattle.bc_cli.specs.Outcomes.{longest_resumed}
+use Rattle.bc_replay.specs.Courses.{course_from}
+use Rattle.bc_replay.specs.Endings.{HasRunRoom}
+use Rattle.bc_replay.proofs.CourseStates.{CanRun}
+use Rattle.bc_replay.proofs.CutRoom.{course_room}
+use Rattle.bc_replay.proofs.Incoming.{length-trace_text}
+use Rattle.bc_cli.specs.Limits.{longest_resumed}
 use Rattle.bc_cli.specs.Resumes.{GoesWith, HasRoomToResume}
-use Rattle.bc_cli.proofs.CourseStates.{CanRun}
-use Rattle.bc_cli.proofs.CutRoom.{course_room}
-use Rattle.bc_cli.proofs.Incoming.{length-trace_text}
 use Rattle.bc_cli.proofs.Resuming.{births-room, ops-after}
 
 -- how many objects a lane has made

@@ -12,15 +12,15 @@ use Rattle.bc_model.specs.Consistent.{IsState}
 use Rattle.bc_model.specs.Lists.{TraceLists}
 use Rattle.bc_model.specs.RunLengths.{all_ops_of, ops_of}
 use Rattle.bc_model.specs.State.{State}
-use Rattle.bc_cli.specs.BetweenPhases.{HasRun}
-use Rattle.bc_cli.specs.Courses.{Course, course_from}
-use Rattle.bc_cli.specs.Endings.{CourseFits, EndsOutOfHeap}
-use Rattle.bc_cli.specs.Outcomes.{IfStatusOutOfHeap, IsOrNoMemory}
-use Rattle.bc_cli.specs.PartEndings.{IsEnding}
+use Rattle.bc_replay.specs.BetweenPhases.{HasRun}
+use Rattle.bc_replay.specs.Courses.{Course, course_from}
+use Rattle.bc_replay.specs.Endings.{CourseFits, EndsOutOfHeap}
+use Rattle.bc_replay.specs.Outcomes.{IfStatusOutOfHeap, IsOrNoMemory}
+use Rattle.bc_replay.specs.PartEndings.{IsEnding}
+use Rattle.bc_replay.specs.declared.status.Status.{Status}
+use Rattle.bc_replay.specs.declared.status.Status.TheVariants.{Done, BadWords, BadTrace, TooLong, ReadFault, WriteFault, OutOfHeap, NoMemory, BadImage, Mismatch}
+use Rattle.bc_replay.proofs.Pieces.{state-none}
 use Rattle.bc_cli.specs.Resumes.{GoesWith, OfEachCourse, ReadTogether, ResumedOutOfHeap}
-use Rattle.bc_cli.specs.declared.status.Status.{Status}
-use Rattle.bc_cli.specs.declared.status.Status.TheVariants.{Done, BadWords, BadTrace, TooLong, ReadFault, WriteFault, OutOfHeap, NoMemory, BadImage, Mismatch}
-use Rattle.bc_cli.proofs.Pieces.{state-none}
 
 -- with as many births as an image may have each lane can do all operations of a trace that may follow it
 pub births-room : (xs : List ℕ) (n : ℕ) → AllByRecursion (λ x. x ≤ 4000000000) xs → n ≤ 150994944 → (j : ℕ) → get_or xs j 0 + n < 2 ^ 32

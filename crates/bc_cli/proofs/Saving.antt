@@ -7,6 +7,7 @@ use Rattle.bc_engine.specs.Engines.{EngineView, EngineStands}
 use Rattle.bc_engine.proofs.Births.{births-opened}
 use Rattle.bc_engine.specs.EngineFacts.{HasRoomForBirths}
 use Rattle.bc_engine.specs.Lanes.{HasRoomForOps}
+use Rattle.bc_engine.specs.declared.engines.Ended.TheVariants as ends
 use Rattle.bc_image.specs.Images.{IsImageListing}
 use Rattle.bc_image.specs.Listings.{ListingLists}
 use Rattle.bc_image.specs.Pictures.{Pictures}
@@ -19,14 +20,14 @@ use Rattle.bc_model.specs.declared.values.Holder.{Holder}
 use Rattle.bc_picture.specs.SpaceListing.{heap_listing}
 use Rattle.bc_superpages.specs.Layout.{Layout}
 use Rattle.bc_superpages.specs.RootWords.{RootWords}
-use Rattle.bc_cli.specs.Courses.{Course, phase_at, whole_course}
-use Rattle.bc_cli.specs.Endings.{FirstFit}
-use Rattle.bc_cli.specs.Outcomes.{IfStatusOutOfHeap, IsOrNoMemory, ReadAsTrace}
+use Rattle.bc_replay.specs.Courses.{Course, phase_at, whole_course}
+use Rattle.bc_replay.specs.Endings.{FirstFit}
+use Rattle.bc_replay.specs.Outcomes.{IfStatusOutOfHeap, IsOrNoMemory, ReadAsTrace}
+use Rattle.bc_replay.specs.declared.status.Status.{Status}
+use Rattle.bc_replay.specs.declared.status.Status.TheVariants.{Done, BadWords, BadTrace, TooLong, ReadFault, WriteFault, OutOfHeap, NoMemory, BadImage, Mismatch}
+use Rattle.bc_replay.proofs.Running.{ops-left, ops-below}
 use Rattle.bc_cli.specs.PartEndings.{IsSaveEnding}
 use Rattle.bc_cli.specs.Saves.{CutOffBelow, IsListingOf, SaveRanOutOfHeap}
-use Rattle.bc_cli.specs.declared.status.Status.{Status}
-use Rattle.bc_cli.specs.declared.status.Status.TheVariants.{Done, BadWords, BadTrace, TooLong, ReadFault, WriteFault, OutOfHeap, NoMemory, BadImage, Mismatch}
-use Rattle.bc_cli.proofs.Running.{ops-left, ops-below}
 
 -- a lane that can make so many objects more has made few
 pub births-few : (xs : List ℕ) → ((j : ℕ) → get_or xs j 0 + 294967295 < 2 ^ 32) → AllByRecursion (λ x. x ≤ 4000000000) xs
@@ -46,6 +47,10 @@ not-some (Some need) e = cc
 -- what a need is that was found
 pub need-told : {X : Type 0} (found wanted : Option ℕ) (r : Result (Option ℕ) X) → r ≡ Ok found → r ≡ Ok wanted → found ≡ wanted
 need-told found wanted r is e = cc
+
+-- a heap that was too small for one of the first phases hasn't run out of memory
+pub cut-alive : (c : Course) (count : ℕ) (e : EngineView) (need : ℕ) → CutOffBelow c count (Some e) need → e.ended ≢ Some ends.NoMemory
+cut-alive c count e need off = λ gone. let told = off.ending.handed.ended in cc
 
 -- where all states of the first phases fit and no write fails the image is written
 pub complete-save : (st : Status) (t : TraceLists) (count : ℕ) (heap : Option EngineView) → IsSaveEnding st → (st ≡ Mismatch → length t.phases < count) → IfStatusOutOfHeap st (CutOffBelow (whole_course t) count heap)

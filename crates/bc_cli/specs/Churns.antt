@@ -1,12 +1,26 @@
 -- In the theorem.
--- How the replay of a workload that was drawn ends: what is written of its summary, and what the heap stands for that it hands back.
+-- What `churn` prints. How the replay of a workload that was drawn ends: what is written of its summary, and what the heap stands for that it
+-- hands back.
 use Rattle.std.specs.Prelude.{ℕ, List, Option, None, IsSomeAnd}
 use Rattle.bc_engine.specs.Engines.{EngineView, HasEmptyChunks}
 use Rattle.bc_io.specs.Told.{HeldGrows}
-use Rattle.bc_model.specs.Run.{final_state}
+use Rattle.bc_model.specs.Run.{final_state, replies_of}
 use Rattle.bc_churn.specs.Churn.{churn_trace}
-use Rattle.bc_cli.specs.Endings.{HandsBack, WritesFront}
-use Rattle.bc_cli.specs.Output.{summary}
+use Rattle.bc_churn.specs.Counts.{churn_text, run_counts}
+use Rattle.bc_replay.specs.Endings.{HandsBack, WritesFront}
+use Rattle.bc_replay.specs.declared.status.Status.{Status}
+use Rattle.bc_replay.specs.declared.status.Status.TheVariants.{Done, WriteFault, NoMemory}
+
+-- the whole output of `churn`: its line, how many replies of each kind the plain heap gives to its trace, and the last line
+abbrev pub summary : ℕ → ℕ → List ℕ
+summary start ops = churn_text start ops (run_counts (replies_of (churn_trace start ops)))
+
+-- how a run of a workload that was drawn can end
+abbrev pub IsChurnEnding : Status → Type 0
+IsChurnEnding Done = Unit {0}
+IsChurnEnding WriteFault = Unit {0}
+IsChurnEnding NoMemory = Unit {0}
+IsChurnEnding _ = ⊥
 
 -- The whole trace was run. The heap that is handed back stands for the state at the end, and its chunks are empty.
 pub record HasChurned (start ops : ℕ) (heap : Option EngineView) : Type 0 where

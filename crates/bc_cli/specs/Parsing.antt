@@ -7,9 +7,9 @@ use Rattle.bc_model.specs.Lists.{TraceLists}
 use Rattle.bc_trace.specs.Faults.{Fault}
 use Rattle.bc_trace.specs.Lines.{Spells}
 use Rattle.bc_trace.specs.declared.fault.Cause.{Cause}
+use Rattle.bc_replay.specs.declared.status.Status.{Status}
+use Rattle.bc_replay.specs.declared.status.Status.TheVariants.{BadTrace, NoMemory, BadImage, Mismatch}
 use Rattle.bc_cli.specs.Resumes.{GoesWith}
-use Rattle.bc_cli.specs.declared.status.Status.{Status}
-use Rattle.bc_cli.specs.declared.status.Status.TheVariants.{BadTrace, NoMemory, BadImage, Mismatch}
 
 -- the bytes are the image of the listing, and after it the text of the trace
 pub record IsParsed (bytes : List ℕ) (l : ListingLists) (t : TraceLists) : Type 0 where

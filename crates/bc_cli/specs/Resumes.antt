@@ -16,9 +16,10 @@ use Rattle.bc_trace.specs.Lines.{Spells}
 use Rattle.bc_trace.specs.declared.fault.Cause.{Cause}
 use Rattle.bc_words.specs.declared.command.Command.{Command}
 use Rattle.bc_words.specs.declared.command.Command.TheVariants.{Resume}
-use Rattle.bc_cli.specs.Courses.{Course, course_from}
-use Rattle.bc_cli.specs.Endings.{EndsDone, EndsOutOfHeap, EndsInFault, StopsBefore, HasRunRoom}
-use Rattle.bc_cli.specs.Outcomes.{Faulty, MayGive, ReadWhole, longest_resumed}
+use Rattle.bc_replay.specs.Courses.{Course, course_from}
+use Rattle.bc_replay.specs.Endings.{EndsDone, EndsOutOfHeap, EndsInFault, StopsBefore, HasRunRoom}
+use Rattle.bc_replay.specs.Outcomes.{Faulty, MayGive, ReadWhole}
+use Rattle.bc_cli.specs.Limits.{longest_resumed}
 
 -- The source was read to its end. Its bytes are the image of this listing, and after it the text of this trace.
 pub record ReadAsResumed (old new : Option (List ℕ)) (l : ListingLists) (t : TraceLists) : Type 0 where

@@ -12,9 +12,9 @@ use Rattle.bc_model.specs.Lists.{TraceLists}
 use Rattle.bc_model.specs.State.{State}
 use Rattle.bc_model.specs.declared.traces.Setup.{Setup}
 use Rattle.bc_trace.specs.Lines.{Spells}
-use Rattle.bc_cli.specs.Courses.{Course, after_cut, before, whole_course}
-use Rattle.bc_cli.specs.Endings.{HandsBack, NeedsFit, NeedsMore, WritesFront}
-use Rattle.bc_cli.specs.Outcomes.{MayGive, ReadAsTrace, longest_trace}
+use Rattle.bc_replay.specs.Courses.{Course, after_cut, before, whole_course}
+use Rattle.bc_replay.specs.Endings.{HandsBack, NeedsFit, NeedsMore, WritesFront}
+use Rattle.bc_replay.specs.Outcomes.{MayGive, ReadAsTrace, longest_trace}
 
 -- The listing is what an image may list. It has this version, the setup and so many phases done, and it pictures the state.
 pub record IsListingOf (language : ℕ) (given : Setup) (done : ℕ) (s : State) (l : ListingLists) : Type 0 where

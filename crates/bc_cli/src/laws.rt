@@ -10,10 +10,12 @@ ghost use Rattle.bc_model.specs.Lists.{TraceLists};
 ghost use Rattle.bc_model.specs.Run as runs;
 ghost use Rattle.bc_trace.specs.Lines.{Spells};
 ghost use Rattle.bc_trace.specs.Replies.{out_of_heap_text};
-ghost use Rattle.bc_cli.specs.Courses.{phase_at, before, after_cut, course_from, replies_of_cut, final_state, whole_course};
-ghost use Rattle.bc_cli.specs.Endings.{NeedsMore};
-ghost use Rattle.bc_cli.specs.Outcomes.{HasRoomFor, longest_resumed, longest_trace};
-ghost use Rattle.bc_cli.specs.Output.{whole_text, cut_text, summary, texts_before};
+ghost use Rattle.bc_replay.specs.Courses.{phase_at, before, after_cut, course_from, replies_of_cut, final_state, whole_course};
+ghost use Rattle.bc_replay.specs.Endings.{NeedsMore};
+ghost use Rattle.bc_replay.specs.Outcomes.{HasRoomFor, longest_trace};
+ghost use Rattle.bc_replay.specs.Output.{whole_text, cut_text, texts_before};
+ghost use Rattle.bc_cli.specs.Limits.{longest_resumed};
+ghost use Rattle.bc_cli.specs.Churns.{summary};
 ghost use Rattle.bc_cli.specs.Resumes.{HasRoomToResume, Resumed};
 ghost use Rattle.bc_cli.specs.Saves.{HasRoomToSave, IsSaved};
 

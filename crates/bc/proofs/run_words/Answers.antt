@@ -1,8 +1,8 @@
 use Rattle.std.proofs.Common.{◌≡◌, ◌∙◌, ℕ, None, ap, List, map, string_bytes, subst, sym}
-use Rattle.bc_cli.specs.Outcomes.{IfBadTrace}
+use Rattle.bc_replay.specs.Outcomes.{IfBadTrace}
 use Rattle.bc_cli.specs.Resumes.{FaultyInput}
-use Rattle.bc_cli.specs.declared.status.Status.{Status}
-use Rattle.bc_cli.specs.declared.status.Status.TheVariants.{Done, BadWords, BadTrace, TooLong, ReadFault, WriteFault, OutOfHeap, NoMemory, BadImage, Mismatch}
+use Rattle.bc_replay.specs.declared.status.Status.{Status}
+use Rattle.bc_replay.specs.declared.status.Status.TheVariants.{Done, BadWords, BadTrace, TooLong, ReadFault, WriteFault, OutOfHeap, NoMemory, BadImage, Mismatch}
 use Rattle.bc_trace.specs.declared.fault.Cause.{Cause}
 use Rattle.bc_words.specs.Commands.{Word, IsCommandOf}
 use Rattle.bc_words.specs.declared.command.Command.{Command}

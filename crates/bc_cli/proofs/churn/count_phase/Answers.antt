@@ -1,7 +1,7 @@
 use Rattle.bc_model.specs.Run.{opening}
-use Rattle.bc_cli.specs.NeedLine.{replies_before}
+use Rattle.bc_replay.specs.NeedLine.{replies_before}
+use Rattle.bc_replay.proofs.PhaseEnds.{ran-on}
 use Rattle.bc_cli.proofs.Counted.{no-cut, counts-room, counts-next}
-use Rattle.bc_cli.proofs.PhaseEnds.{ran-on}
 use Rattle.bc_cli.proofs.churn.count_phase.Goals as goal
 
 pub run_phase-requires-clause-opened : goal.run_phase-requires-clause-opened

@@ -1,8 +1,8 @@
 use Rattle.std.proofs.Common.{◌≡◌}
 use Rattle.bc_churn.specs.Counts.{run_counts}
-use Rattle.bc_cli.specs.BetweenPhases.{HasRun}
-use Rattle.bc_cli.specs.Courses.{whole_course}
-use Rattle.bc_cli.specs.NeedLine.{replies_before}
+use Rattle.bc_replay.specs.BetweenPhases.{HasRun}
+use Rattle.bc_replay.specs.Courses.{whole_course}
+use Rattle.bc_replay.specs.NeedLine.{replies_before}
 use Rattle.bc_cli.proofs.churn.count_phases.Given as goal
 
 abbrev pub invariant-loop-index : goal.invariant-loop-index

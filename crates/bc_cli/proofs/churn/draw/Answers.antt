@@ -1,8 +1,8 @@
 use Rattle.std.proofs.Common.{◌<◌, ◌^◌, ap, sym, subst}
 use Rattle.bc_model.specs.Lists.{TraceLists}
 use Rattle.bc_model.specs.RunLengths.{all_ops_of}
+use Rattle.bc_replay.proofs.Finishing.{HasRun-opened}
 use Rattle.bc_cli.proofs.Counted.{churn-small}
-use Rattle.bc_cli.proofs.Finishing.{HasRun-opened}
 use Rattle.bc_cli.proofs.churn.draw.Goals as goal
 
 pub returns-clause-opened : goal.returns-clause-opened

@@ -3,7 +3,7 @@ use Rattle.bc_model.specs.Lists.{TraceLists}
 use Rattle.bc_model.specs.RunLengths.{all_ops_of}
 use Rattle.bc_model.specs.WellFormed.{IsTrace}
 use Rattle.bc_churn.proofs.Formed.{churn-formed}
-use Rattle.bc_cli.specs.Endings.{FitsThroughout}
+use Rattle.bc_replay.specs.Endings.{FitsThroughout}
 use Rattle.bc_cli.proofs.Counted.{churn-fits, churn-small}
 use Rattle.bc_cli.proofs.churn.replay.Goals as goal
 

@@ -1,7 +1,7 @@
+use Rattle.bc_replay.proofs.CutRoom.{cut_short, room_ample, room_enough}
+use Rattle.bc_replay.proofs.Room.{output_short}
 use Rattle.bc_cli.proofs.ChurnRoom.{summary-short}
-use Rattle.bc_cli.proofs.CutRoom.{cut_short, room_ample, room_enough}
 use Rattle.bc_cli.proofs.ResumeRoom.{resume_ample, resume_enough}
-use Rattle.bc_cli.proofs.Room.{output_short}
 use Rattle.bc_cli.proofs.SaveRoom.{save_ample}
 use Rattle.bc_cli.proofs.laws.law_output.Goals as goal
 

@@ -2,9 +2,9 @@ use Rattle.std.proofs.Common.{◌≡◌, ℕ, ◌+◌, List, ◌++◌, take, dro
 use Rattle.bc_model.specs.Run.{opening, after_phases}
 use Rattle.bc_model.specs.State.{State}
 use Rattle.bc_trace.specs.Replies.{done_text}
-use Rattle.bc_cli.proofs.Pieces.{texts-split}
+use Rattle.bc_replay.proofs.Pieces.{texts-split}
+use Rattle.bc_replay.specs.Output.{texts_from}
 use Rattle.bc_cli.proofs.GoingOn.{goes-on}
-use Rattle.bc_cli.specs.Output.{texts_from}
 use Rattle.bc_cli.proofs.laws.law_resumed.Goals as goal
 
 pub returns : goal.returns

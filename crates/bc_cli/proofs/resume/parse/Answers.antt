@@ -4,8 +4,8 @@ use Rattle.std.proofs.lemmas.Result.{err_from_is_err_and}
 use Rattle.bc_trace.specs.Answers.{TellsFault}
 use Rattle.bc_trace.specs.Faults.{Fault}
 use Rattle.bc_trace.specs.Lines.{Spells}
-use Rattle.bc_cli.specs.Statuses.{refusal_of}
-use Rattle.bc_cli.proofs.Bytes.{refused_so}
+use Rattle.bc_replay.specs.Statuses.{refusal_of}
+use Rattle.bc_replay.proofs.Bytes.{refused_so}
 use Rattle.bc_cli.proofs.ParseLemmas.{rest_is, unparsed-trace}
 use Rattle.bc_cli.proofs.resume.parse.Goals as goal
 

@@ -1,6 +1,6 @@
 use Rattle.std.proofs.Common.{ap, Err, inr}
 use Rattle.std.proofs.lemmas.Result.{err_from_is_err_and}
-use Rattle.bc_cli.proofs.Bytes.{not_longer, unread-short, unread-firm}
+use Rattle.bc_replay.proofs.Bytes.{not_longer, unread-short, unread-firm}
 use Rattle.bc_cli.proofs.resume.read_resumable.Goals as goal
 
 -- ---- the bytes weren't read

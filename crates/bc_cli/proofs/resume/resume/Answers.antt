@@ -1,5 +1,5 @@
 use Rattle.std.proofs.Common.{◌≡◌, inl, inr, subst, sym}
-use Rattle.bc_cli.proofs.Bytes.{may_give-whole, told_or_no_memory}
+use Rattle.bc_replay.proofs.Bytes.{may_give-whole, told_or_no_memory}
 use Rattle.bc_cli.proofs.Resuming.{complete-resumed, need-resumed, same-resumed}
 use Rattle.bc_cli.proofs.resume.resume.Goals as goal
 

@@ -1,8 +1,8 @@
 use Rattle.std.proofs.Common.{ℕ, arith, inr, subst, sym}
-use Rattle.bc_cli.specs.BetweenPhases.{HasRun}
-use Rattle.bc_cli.specs.Courses.{course_from}
-use Rattle.bc_cli.specs.Endings.{EndsDone, EndsInFault, EndsOutOfHeap, HasRunRoom, StopsBefore}
-use Rattle.bc_cli.specs.Outcomes.{IfStatusOutOfHeap}
+use Rattle.bc_replay.specs.BetweenPhases.{HasRun}
+use Rattle.bc_replay.specs.Courses.{course_from}
+use Rattle.bc_replay.specs.Endings.{EndsDone, EndsInFault, EndsOutOfHeap, HasRunRoom, StopsBefore}
+use Rattle.bc_replay.specs.Outcomes.{IfStatusOutOfHeap}
 use Rattle.bc_cli.proofs.Resuming.{HasRun-adopted, each-course}
 use Rattle.bc_cli.proofs.resume.resume_trace.Goals as goal
 

@@ -3,8 +3,8 @@ use Rattle.bc_image.specs.Images.{image_bytes}
 use Rattle.bc_io.specs.Told.{HasRoom, HeldGrows}
 use Rattle.bc_model.specs.declared.values.Holder.{Holder}
 use Rattle.bc_picture.specs.SpaceListing.{heap_listing}
-use Rattle.bc_cli.specs.Endings.{WritesFront}
-use Rattle.bc_cli.proofs.Pieces.{front-taken}
+use Rattle.bc_replay.specs.Endings.{WritesFront}
+use Rattle.bc_replay.proofs.Pieces.{front-taken}
 use Rattle.bc_cli.proofs.Saving.{ok-more, error-more, listing-of}
 use Rattle.bc_cli.proofs.save.put_image.Goals as goal
 

@@ -2,8 +2,8 @@ use Rattle.std.proofs.Common.{◌≡◌, ℕ, ◌+◌, drop}
 use Rattle.std.specs.Prelude.{sum_by}
 use Rattle.bc_engine.specs.EngineFacts.{HasRoomForBirths}
 use Rattle.bc_model.specs.RunLengths.{ops_of}
-use Rattle.bc_cli.specs.BetweenPhases.{HasRun}
-use Rattle.bc_cli.specs.Courses.{whole_course}
+use Rattle.bc_replay.specs.BetweenPhases.{HasRun}
+use Rattle.bc_replay.specs.Courses.{whole_course}
 use Rattle.bc_cli.proofs.save.run_first.Given as goal
 
 abbrev pub invariant-loop-index : goal.invariant-loop-index

@@ -1,7 +1,7 @@
 use Rattle.std.proofs.Common.{refl}
 use Rattle.bc_model.specs.Run.{opening}
-use Rattle.bc_cli.specs.Courses.{phase_at, whole_course}
-use Rattle.bc_cli.proofs.PhaseEnds.{ran-on, cut}
+use Rattle.bc_replay.specs.Courses.{phase_at, whole_course}
+use Rattle.bc_replay.proofs.PhaseEnds.{ran-on, cut}
 use Rattle.bc_cli.proofs.Saving.{births-more, need-told}
 use Rattle.bc_cli.proofs.save.run_one.Goals as goal
 

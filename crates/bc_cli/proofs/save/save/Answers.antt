@@ -1,6 +1,6 @@
 use Rattle.std.proofs.Common.{◌≡◌, ◌<◌, inl, inr, length, subst, sym, arith}
 use Rattle.bc_model.specs.Lists.{TraceLists}
-use Rattle.bc_cli.proofs.Bytes.{few-read, may_give-whole, told_or_no_memory}
+use Rattle.bc_replay.proofs.Bytes.{few-read, may_give-whole, told_or_no_memory}
 use Rattle.bc_cli.proofs.Saving.{complete-save, fewer-save, need-alone, need-saved, same-saved}
 use Rattle.bc_cli.proofs.save.save.Goals as goal
 

@@ -5,12 +5,11 @@ use Rattle.bc_engine.specs.Parts.{CanAdopt, PartsStand}
 use Rattle.bc_model.specs.Lists.{TraceLists}
 use Rattle.bc_model.specs.State.{NoneFrozen}
 use Rattle.bc_model.specs.declared.traces.Setup.{Setup}
-use Rattle.bc_cli.specs.BetweenPhases.{HasRun}
-use Rattle.bc_cli.specs.Courses.{before, whole_course}
+use Rattle.bc_replay.specs.BetweenPhases.{HasRun}
+use Rattle.bc_replay.specs.Courses.{before, whole_course}
+use Rattle.bc_replay.proofs.Finishing.{HasRun-opened}
 use Rattle.bc_cli.specs.Saves.{CutOffBelow}
-use Rattle.bc_cli.proofs.Alive.{cut-alive}
-use Rattle.bc_cli.proofs.Finishing.{HasRun-opened}
-use Rattle.bc_cli.proofs.Saving.{births-saved, need-of, of-trace}
+use Rattle.bc_cli.proofs.Saving.{cut-alive, births-saved, need-of, of-trace}
 use Rattle.bc_cli.proofs.save.save_trace.Goals as goal
 
 pub run_first-requires-clause-opened : goal.run_first-requires-clause-opened

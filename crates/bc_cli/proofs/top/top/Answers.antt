@@ -3,17 +3,18 @@ use Rattle.std.specs.Prelude.{IfSome}
 use Rattle.bc_words.specs.Commands.{IsCommandOf}
 use Rattle.bc_words.specs.declared.command.Command.{Command}
 use Rattle.bc_words.specs.declared.command.Command.TheVariants.{Run, Churn, Save, Resume}
+use Rattle.bc_replay.specs.Endings.{FirstFit, FitsThroughout}
+use Rattle.bc_replay.specs.Courses.{whole_course}
+use Rattle.bc_replay.specs.Outcomes.{IfBadTrace, IfStatusOutOfHeap}
+use Rattle.bc_replay.specs.declared.status.Status.TheVariants.{TooLong}
 use Rattle.bc_cli.specs.Churns.{ChurnsDone, ChurnsInFault}
-use Rattle.bc_cli.specs.Endings.{FirstFit, FitsThroughout}
-use Rattle.bc_cli.specs.Courses.{whole_course}
-use Rattle.bc_cli.specs.Outcomes.{IfBadTrace, IfStatusOutOfHeap, longest_of, workers_of}
+use Rattle.bc_cli.specs.Limits.{longest_of, workers_of}
 use Rattle.bc_cli.specs.Resumes.{FaultyInput, ImageFaulty}
 use Rattle.bc_cli.specs.Saves.{HasFewerPhases, Saved, SavedInPart, SaveRanOutOfHeap}
-use Rattle.bc_cli.specs.declared.status.Status.TheVariants.{TooLong}
 use Rattle.bc_io.specs.Told.{GivesAtMost, GivesExactly}
+use Rattle.bc_replay.proofs.Bytes.{few-read, may_give-whole, told_or_no_memory}
+use Rattle.bc_replay.proofs.Finishing.{complete-ending}
 use Rattle.bc_cli.proofs.Asking.{asked, none-asked, only-image, same-asked, same-churn, same-save}
-use Rattle.bc_cli.proofs.Bytes.{few-read, may_give-whole, told_or_no_memory}
-use Rattle.bc_cli.proofs.Finishing.{complete-ending}
 use Rattle.bc_cli.proofs.top.top.Goals as goal
 
 -- ---- run

@@ -1,5 +1,5 @@
 use Rattle.std.proofs.Common.{rules, ◌≡◌, arith}
-use Rattle.bc_cli.proofs.Bytes.{few-read}
+use Rattle.bc_replay.proofs.Bytes.{few-read}
 use Rattle.program_tests.proofs.cli.gates.run_read.Goals as goal
 
 pub run_trace-requires-clause-phases : goal.run_trace-requires-clause-phases

@@ -1,0 +1,192 @@
+//! The phases of a trace: each is run, and what it prints is written.
+
+ghost use Rattle.std.specs.Prelude.{◌≡◌, ◌⊎◌, ℕ, ◌+◌, ◌^◌, ◌<◌, ◌≤◌, List, Option, Some, None, length, OnOk, IfOk, IsErr, IsErrOf};
+ghost use Rattle.std.specs.List.{AllByRecursion};
+ghost use Rattle.bc_engine.specs.EngineFacts.{HasRoomForBirths};
+ghost use Rattle.bc_engine.specs.Lanes.{HasRoomForOps};
+ghost use Rattle.bc_engine.specs.declared.engines.Ended.{Ended};
+ghost use Rattle.bc_io.specs.Faults.{Rose};
+ghost use Rattle.bc_io.specs.Told.{HeldGrows};
+ghost use Rattle.bc_io.specs.Pieces.{RoomFalls};
+ghost use Rattle.bc_model.specs.WellFormed.{FitsFrames, IsPhase, IsTrace};
+ghost use Rattle.bc_model.specs.State.{State};
+ghost use Rattle.bc_replay.specs.Courses.{course_from};
+ghost use Rattle.bc_replay.specs.Output.{texts_before, all_texts};
+ghost use Rattle.bc_replay.specs.Endings.{EndsOutOfHeap, EndsInFault, HasRunRoom};
+ghost use Rattle.bc_replay.specs.BetweenPhases.{HasRun, HasPhaseRoom, PhaseEnded, Ran, RunsOut};
+
+use crate::status::Ending;
+use crate::texts::{put_texts, texts_room, write_texts};
+use bc_engine::{Engine, PhaseError};
+use bc_gates::{Gate, Host};
+use bc_io::Sink;
+use bc_model::{Phase, Replies, Trace};
+use std::alloc::AllocError;
+use std::thread::Threads;
+
+/// How a phase ended: its replies, and the need where the heap was too small.
+#[derive(Drop)]
+pub struct PhaseEnd {
+    /// What each lane was answered, up to the cut where the heap was too small.
+    pub replies: Replies,
+    /// How many superpages what is reached there needs: more than the setup has.
+    pub need: Option<u64>,
+}
+
+/// Runs the phases after the first ones, and writes the text of each as soon as it has run. What it ensures holds of each state
+/// that the engine may have stood for before them.
+pub(crate) fn write_phases<R, K, G>(
+    host: &Host<R, G>,
+    engine: &mut Engine,
+    trace: &Trace,
+    first: usize,
+    sink: &mut K,
+) -> Result<(), Ending>
+where
+    R: Threads + Sync,
+    K: Sink,
+    G: Gate + Sync,
+    requires trace { IsTrace trace.now }
+    requires few { length trace.now.phases < 2 ^ 32 }
+    requires first { first ≤ length trace.now.phases }
+    requires opened { (s : State) × HasRun (course_from trace.now s first) 0 engine.old
+        × HasRunRoom (K.room sink.old) (course_from trace.now s first) }
+    ensures run { (s : State) → HasRun (course_from trace.now s first) 0 engine.old →
+        OnOk result (HasRun (course_from trace.now s first) (length (course_from trace.now s first).phases) engine.new) }
+    ensures written { (s : State) → HasRun (course_from trace.now s first) 0 engine.old →
+        OnOk result (HeldGrows (K.held sink.old) (K.held sink.new) (all_texts (course_from trace.now s first))) }
+    ensures filled { (s : State) → HasRun (course_from trace.now s first) 0 engine.old → OnOk result
+        (RoomFalls (K.room sink.old) (K.room sink.new) (length (all_texts (course_from trace.now s first)))) }
+    ensures cause { IsErrOf result Ending.WriteFault → Rose (K.faults sink.old) (K.faults sink.new) }
+    ensures write_fault { (s : State) → HasRun (course_from trace.now s first) 0 engine.old →
+        IsErrOf result Ending.WriteFault →
+        EndsInFault (course_from trace.now s first) (K.held sink.old) (K.held sink.new) (Some engine.new) }
+    ensures out_of_heap { (s : State) → HasRun (course_from trace.now s first) 0 engine.old →
+        (need : ℕ) → IsErrOf result (Ending.OutOfHeap need) →
+        EndsOutOfHeap (course_from trace.now s first) (K.held sink.old) (K.held sink.new) (Some engine.new) need }
+    ensures no_memory { (s : State) → HasRun (course_from trace.now s first) 0 engine.old →
+        IsErrOf result Ending.NoMemory →
+        RunsOut (course_from trace.now s first) (K.held sink.old) (K.held sink.new) engine.new }
+    ensures firm { ¬ IsErrOf result Ending.WriteFault → K.faults sink.new ≡ K.faults sink.old }
+    ensures workers { engine.new.workers ≡ engine.old.workers }
+{
+    for index in 0..trace.phases.len() - first {
+        write_phase(host, engine, trace, first, index, sink)?;
+    }
+    Ok(())
+}
+
+/// Runs the phase of this index, counted from the first one, and writes its texts. Room for them is taken first, and once the phase has
+/// run nothing takes memory.
+fn write_phase<R, K, G>(
+    host: &Host<R, G>,
+    engine: &mut Engine,
+    trace: &Trace,
+    first: usize,
+    index: usize,
+    sink: &mut K,
+) -> Result<(), Ending>
+where
+    R: Threads + Sync,
+    K: Sink,
+    G: Gate + Sync,
+    requires trace { IsTrace trace.now }
+    requires few { length trace.now.phases < 2 ^ 32 }
+    requires index { index + first < length trace.now.phases }
+    requires opened { (s : State) × HasRun (course_from trace.now s first) index engine.old
+        × HasPhaseRoom (K.room sink.old) (course_from trace.now s first) index }
+    ensures run { (s : State) → HasRun (course_from trace.now s first) index engine.old →
+        OnOk result (HasRun (course_from trace.now s first) (index + 1) engine.new) }
+    ensures written { (s : State) → HasRun (course_from trace.now s first) index engine.old →
+        OnOk result ((start : Option (List ℕ)) →
+        HeldGrows start (K.held sink.old) (texts_before (course_from trace.now s first) index) →
+        HeldGrows start (K.held sink.new) (texts_before (course_from trace.now s first) (index + 1))) }
+    ensures filled { (s : State) → HasRun (course_from trace.now s first) index engine.old →
+        OnOk result ((start : Option ℕ) →
+        RoomFalls start (K.room sink.old) (length (texts_before (course_from trace.now s first) index)) →
+        RoomFalls start (K.room sink.new) (length (texts_before (course_from trace.now s first) (index + 1)))) }
+    ensures cause { IsErrOf result Ending.WriteFault → Rose (K.faults sink.old) (K.faults sink.new) }
+    ensures write_fault { (s : State) → HasRun (course_from trace.now s first) index engine.old →
+        IsErrOf result Ending.WriteFault → (start : Option (List ℕ)) →
+        HeldGrows start (K.held sink.old) (texts_before (course_from trace.now s first) index) →
+        EndsInFault (course_from trace.now s first) start (K.held sink.new) (Some engine.new) }
+    ensures out_of_heap { (s : State) → HasRun (course_from trace.now s first) index engine.old →
+        (need : ℕ) → IsErrOf result (Ending.OutOfHeap need) → (start : Option (List ℕ)) →
+        HeldGrows start (K.held sink.old) (texts_before (course_from trace.now s first) index) →
+        EndsOutOfHeap (course_from trace.now s first) start (K.held sink.new) (Some engine.new) need }
+    // Memory runs out before the phase is run, or in the engine: never in place of its replies or its need.
+    ensures no_memory { IsErrOf result Ending.NoMemory → (sink.new ≡ sink.old)
+        × ((engine.new ≡ engine.old) ⊎ (engine.new.ended ≡ Some Ended.NoMemory)) }
+    ensures firm { ¬ IsErrOf result Ending.WriteFault → K.faults sink.new ≡ K.faults sink.old }
+    ensures workers { engine.new.workers ≡ engine.old.workers }
+{
+    let mut texts = texts_room(host.alloc, &trace.phases[index + first])?;
+    let end = run_phase(host, engine, trace, first, index)?;
+    put_texts(
+        &mut texts,
+        (index + first) as u32 + 1,
+        &end.replies,
+        end.need,
+    );
+    write_texts(sink, &texts)?;
+    match end.need {
+        Some(need) => Err(Ending::OutOfHeap { need }),
+        None => Ok(()),
+    }
+}
+
+/// Runs the phase of this index, counted from the first one. What it ensures holds of each state that the engine may have stood for
+/// before the first one. Where it answers no end the engine has run out of memory itself.
+pub fn run_phase<R, G>(
+    host: &Host<R, G>,
+    engine: &mut Engine,
+    trace: &Trace,
+    first: usize,
+    index: usize,
+) -> Result<PhaseEnd, AllocError>
+where
+    R: Threads + Sync,
+    G: Gate + Sync,
+    requires trace { IsTrace trace.now }
+    requires index { index + first < length trace.now.phases }
+    requires opened { (s : State) × HasRun (course_from trace.now s first) index engine.old }
+    ensures ran { (s : State) → HasRun (course_from trace.now s first) index engine.old →
+        IfOk result (λ end. Ran (course_from trace.now s first) index engine.old engine.new end.replies end.need) }
+    ensures workers { engine.new.workers ≡ engine.old.workers }
+    ensures no_memory { IsErr result → engine.new.ended ≡ Some Ended.NoMemory }
+{
+    let phase = &trace.phases[index + first];
+    play_phase(host, engine, phase)
+}
+
+/// Runs a phase. Where it answers no end the engine has run out of memory itself.
+fn play_phase<R, G>(
+    host: &Host<R, G>,
+    engine: &mut Engine,
+    phase: &Phase,
+) -> Result<PhaseEnd, AllocError>
+where
+    R: Threads + Sync,
+    G: Gate + Sync,
+    requires going { engine.old.ended ≡ None }
+    requires phase { IsPhase engine.old.setup phase.now }
+    requires budgets { AllByRecursion (FitsFrames engine.old.setup) phase.now.turns }
+    requires births { HasRoomForOps engine.old phase.now.lanes 0 }
+    ensures ended { IfOk result (λ end. PhaseEnded engine.old phase.now engine.new end.replies end.need) }
+    ensures setup { engine.new.setup ≡ engine.old.setup }
+    ensures workers { engine.new.workers ≡ engine.old.workers }
+    ensures births { (n : ℕ) → HasRoomForOps engine.old phase.now.lanes n → HasRoomForBirths engine.new n }
+    ensures no_memory { IsErr result → engine.new.ended ≡ Some Ended.NoMemory }
+{
+    match engine.phase(host.threads, host.alloc, phase, host.gate) {
+        Ok(replies) => Ok(PhaseEnd {
+            replies,
+            need: None,
+        }),
+        Err(PhaseError::OutOfHeap { replies, need }) => {
+            let need = Some(need);
+            Ok(PhaseEnd { replies, need })
+        }
+        Err(PhaseError::NoMemory) => Err(AllocError),
+    }
+}
