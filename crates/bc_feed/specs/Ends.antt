@@ -1,27 +1,27 @@
--- The line and its ends, as contracts see them: which line an end is of, what was handed in, and what was taken.
+-- The channel and its ends, as contracts see them: which channel an end is of, what was handed in, and what was taken.
 use Rattle.std.specs.Prelude.{◌≡◌, ℕ, List, ◌++◌}
 use Rattle.atomic_table.specs.Seated.{TableId}
 use Rattle.crossbeam_queue.specs.Passes.{view}
 use Rattle.bc_feed.specs.declared.ends.BothEnds.{BothEnds}
 use Rattle.bc_feed.specs.declared.ends.Feeder.{Feeder}
-use Rattle.bc_feed.specs.declared.ends.Line.{Line}
+use Rattle.bc_feed.specs.declared.ends.Channel.{Channel}
 use Rattle.bc_feed.specs.declared.ends.Taker.{Taker}
 
--- which line it is
-abbrev pub line_id : Line → TableId
-line_id l = l.queue.table.shared.table_id
+-- which channel it is
+abbrev pub channel_id : Channel → TableId
+channel_id l = l.queue.table.shared.table_id
 
--- the line of both ends
-abbrev pub both_line : BothEnds → TableId
-both_line b = b.pass.table_id
+-- the channel of both ends
+abbrev pub both_channel : BothEnds → TableId
+both_channel b = b.pass.table_id
 
--- the line of a feeder
-abbrev pub feeder_line : Feeder → TableId
-feeder_line f = f.pass.table_id
+-- the channel of a feeder
+abbrev pub feeder_channel : Feeder → TableId
+feeder_channel f = f.pass.table_id
 
--- the line of a taker
-abbrev pub taker_line : Taker → TableId
-taker_line t = t.pass.table_id
+-- the channel of a taker
+abbrev pub taker_channel : Taker → TableId
+taker_channel t = t.pass.table_id
 
 -- how many hints are handed in at most: of both ends
 abbrev pub both_most : BothEnds → ℕ

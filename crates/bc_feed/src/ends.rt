@@ -1,4 +1,4 @@
-//! The line between a feeder and a taker, and its ends.
+//! The channel between a feeder and a taker, and its ends.
 
 ghost use Rattle.std.specs.Prelude.{◌≡◌, ◌≤◌, [], ◌++◌, length, vec_capacity};
 ghost use Rattle.crossbeam_queue.specs.Passes.{view, ruled_capacity};
@@ -11,16 +11,16 @@ use std::thread::Parker;
 
 /// The queue, and what tells the feeder that the run has ended. Both ends borrow it.
 #[derive(Drop)]
-pub struct Line {
+pub struct Channel {
     pub(crate) queue: HintQueue,
     /// Whether the run has ended.
     pub(crate) ended: AtomicBool,
-    /// Where the feeder sleeps while the queue is full.
+    /// Where the feeder sleeps while the queue has no place.
     pub(crate) parker: Parker,
     ghost places: { ruled_capacity queue ≡ 64 },
 }
 
-/// Both ends of a line before the first hint, and the three lists with their room.
+/// Both ends of a channel before the first hint, and the three lists with their room.
 #[derive(Drop)]
 pub struct BothEnds {
     pub(crate) pass: Pass<u32, Account>,

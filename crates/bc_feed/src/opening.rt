@@ -1,11 +1,11 @@
-//! A new line, which is filled before its ends are parted.
+//! A new channel, which is filled before its ends are parted.
 
 ghost use Rattle.std.specs.Prelude.{◌≡◌, ◌≤◌, [], ◌++◌, length, min, vec_capacity, IfOk};
 ghost use Rattle.crossbeam_queue.specs.Passes.{view, IsPassOf, IsSamePass};
 ghost use Rattle.bc_feed.specs.Accounts.{untold_account, whole_account};
-ghost use Rattle.bc_feed.specs.Ends.{line_id, both_line, both_most, feeder_line, feeder_most, handed_of, known_of, taken_of, taker_line, taker_most};
+ghost use Rattle.bc_feed.specs.Ends.{channel_id, both_channel, both_most, feeder_channel, feeder_most, handed_of, known_of, taken_of, taker_channel, taker_most};
 
-use crate::ends::{BothEnds, Feeder, Line, Taker};
+use crate::ends::{BothEnds, Channel, Feeder, Taker};
 use crate::feed::Feed;
 use crate::rule::{Account, HintCount, HintQueue, Parts, Sends, Tells};
 use crossbeam_queue::Pass;
@@ -32,13 +32,13 @@ fn tell<N: HintCount>(queue: &HintQueue, pass: &mut Pass<u32, Account>, most: us
 /// Pushes the next `count` hints of the feed, or all that it has, on a queue that holds none and that nobody else uses.
 fn push_first<W: Wait, F: Feed>(
     wait: &W,
-    line: &Line,
+    channel: &Channel,
     pass: &mut Pass<u32, Account>,
     feed: &mut F,
     count: usize,
     handed: &mut Vec<u32>,
 )
-    requires of { IsPassOf line.now.queue pass.old }
+    requires of { IsPassOf channel.now.queue pass.old }
     requires new { view pass.old ≡ whole_account (view pass.old).most [] [] }
     requires none { handed.old.items ≡ [] }
     requires count { (count ≤ 64) × (count ≤ (view pass.old).most) × (count ≤ vec_capacity handed.old) }
@@ -52,17 +52,17 @@ fn push_first<W: Wait, F: Feed>(
         let Some(hint) = feed.next() else {
             return;
         };
-        match line.queue.push_as::<Sends, W>(wait, pass, hint) {
+        match channel.queue.push_as::<Sends, W>(wait, pass, hint) {
             Ok(()) => handed.push_reserved(hint),
             Err(_) => unreachable!(),
         }
     }
 }
 
-/// A line for `most` hints at most, which were not handed in yet, with its queue of 64 places and room for `most` hints in each list. All
+/// A channel for `most` hints at most, which were not handed in yet, with its queue of 64 places and room for `most` hints in each list. All
 /// memory is taken here.
-pub fn open(alloc: Global, most: usize) -> Result<(Line, BothEnds), AllocError>
-    ensures of { IfOk result (λ made. both_line made.1 ≡ line_id made.0) }
+pub fn open(alloc: Global, most: usize) -> Result<(Channel, BothEnds), AllocError>
+    ensures of { IfOk result (λ made. both_channel made.1 ≡ channel_id made.0) }
     ensures most { IfOk result (λ made. both_most made.1 ≡ most) }
 {
     let handed = Vec::with_capacity(alloc, most)?;
@@ -70,13 +70,13 @@ pub fn open(alloc: Global, most: usize) -> Result<(Line, BothEnds), AllocError>
     let left = Vec::with_capacity(alloc, most)?;
     let (queue, mut pass) = HintQueue::ruled(alloc, PLACES)?;
     tell::<Brand>(&queue, &mut pass, most);
-    let line = Line {
+    let channel = Channel {
         queue,
         ended: AtomicBool::new(false),
         parker: Parker::new(),
     };
     Ok((
-        line,
+        channel,
         BothEnds {
             pass,
             most,
@@ -92,9 +92,14 @@ impl BothEnds {
     /// of all of them.
     ///
     /// It doesn't wait for anyone: nobody else has an end.
-    pub fn fill<W: Wait, F: Feed>(self, wait: &W, line: &Line, feed: &mut F) -> (Feeder, Taker)
-        requires of { both_line self ≡ line_id line.now }
-        ensures of { (feeder_line result.0 ≡ line_id line.now) × (taker_line result.1 ≡ line_id line.now) }
+    pub fn fill<W: Wait, F: Feed>(
+        self,
+        wait: &W,
+        channel: &Channel,
+        feed: &mut F,
+    ) -> (Feeder, Taker)
+        requires of { both_channel self ≡ channel_id channel.now }
+        ensures of { (feeder_channel result.0 ≡ channel_id channel.now) × (taker_channel result.1 ≡ channel_id channel.now) }
         ensures most { (feeder_most result.0 ≡ both_most self) × (taker_most result.1 ≡ both_most self) }
         ensures fed { handed_of result.0 ++ F.coming feed.new ≡ F.coming feed.old }
         ensures many { length (handed_of result.0) ≡ min (min (both_most self) 64) (length (F.coming feed.old)) }
@@ -108,8 +113,15 @@ impl BothEnds {
             taken,
             left,
         } = self;
-        push_first(wait, line, &mut pass, feed, most.min(PLACES), &mut handed);
-        let taker_pass = line.queue.another::<Parts>(&mut pass);
+        push_first(
+            wait,
+            channel,
+            &mut pass,
+            feed,
+            most.min(PLACES),
+            &mut handed,
+        );
+        let taker_pass = channel.queue.another::<Parts>(&mut pass);
         let feeder = Feeder {
             pass,
             most,

@@ -74,7 +74,7 @@ impl Join<Account> for Parts {
     ghost spent = { spent_account };
 }
 
-/// A hint is pushed, or the queue is full.
+/// A hint is pushed, or the queue has no place for it yet.
 pub struct Sends;
 
 impl Outcome<u32, Account> for Sends {

@@ -1,16 +1,16 @@
-//! Tests of a line: each call, and a feeder on a thread beside a run.
+//! Tests of a channel: each call, and a feeder on a thread beside a run.
 
 ghost use Rattle.std.specs.Prelude.{◌≡◌, ◌≤◌, ◌++◌, length, min, IfErr, IfOk};
-ghost use Rattle.bc_feed.specs.Ends.{line_id, taker_line};
+ghost use Rattle.bc_feed.specs.Ends.{channel_id, taker_channel};
 
-use crate::{DrawFeed, Feed, Line, Passed, Taker, feed_beside, open};
+use crate::{Channel, DrawFeed, Feed, Passed, Taker, feed_beside, open};
 use std::alloc::{AllocError, Global};
 use std::sync::Wait;
 use std::test::*;
 use std::thread;
 use std::thread::Threads;
 
-/// A line for `most` hints, and a run that first idles, and then takes hints until it has `enough` or has asked `tries` times.
+/// A channel for `most` hints, and a run that first idles, and then takes hints until it has `enough` or has asked `tries` times.
 struct Plan {
     most: usize,
     idle: u32,
@@ -19,9 +19,9 @@ struct Plan {
 }
 
 /// The run: it takes what the plan says.
-fn take_some<W: Wait>(wait: &W, line: &Line, taker: &mut Taker, plan: &Plan)
-    requires of { taker_line taker.old ≡ line_id line.now }
-    ensures of { taker_line taker.new ≡ taker_line taker.old }
+fn take_some<W: Wait>(wait: &W, channel: &Channel, taker: &mut Taker, plan: &Plan)
+    requires of { taker_channel taker.old ≡ channel_id channel.now }
+    ensures of { taker_channel taker.new ≡ taker_channel taker.old }
 {
     for _ in 0..plan.idle {
         thread::yield_now();
@@ -30,7 +30,7 @@ fn take_some<W: Wait>(wait: &W, line: &Line, taker: &mut Taker, plan: &Plan)
         if taker.taken().len() >= plan.enough {
             return;
         }
-        if taker.take(wait, line).is_none() {
+        if taker.take(wait, channel).is_none() {
             thread::yield_now();
         }
     }
@@ -51,20 +51,20 @@ fn pass_on<R: Threads, W: Wait + Sync, F: Feed + Send>(
     ensures refused { IfErr result (λ _. feed.new ≡ feed.old) }
 {
     let (opened, ends) = open(alloc, plan.most)?;
-    let line = &opened;
-    let (mut feeder, mut taker) = ends.fill(wait, line, feed);
+    let channel = &opened;
+    let (mut feeder, mut taker) = ends.fill(wait, channel, feed);
     feed_beside(
         threads,
         wait,
-        line,
+        channel,
         &mut feeder,
         feed,
         &mut ||
-            requires { taker_line taker ≡ line_id line.now }
-            ensures { taker_line taker.exit ≡ taker_line taker.entry }
-        { take_some(wait, line, &mut taker, plan) },
+            requires { taker_channel taker ≡ channel_id channel.now }
+            ensures { taker_channel taker.exit ≡ taker_channel taker.entry }
+        { take_some(wait, channel, &mut taker, plan) },
     );
-    Ok(line.close(wait, feeder, taker))
+    Ok(channel.close(wait, feeder, taker))
 }
 
 #[test]
@@ -162,11 +162,11 @@ fn a_line_for_no_hints_leaves_the_feed_as_it_is(rt: HostRuntime) -> Result<(), F
 #[test]
 fn hints_are_handed_in_before_the_run_until_the_queue_is_full(rt: HostRuntime) -> Result<(), Fail> {
     let mut feed = DrawFeed::new(1, 100);
-    let (line, ends) = open(rt.alloc(), 100)?;
-    let (feeder, mut taker) = ends.fill(&rt, &line, &mut feed);
-    let first = taker.take(&rt, &line);
+    let (channel, ends) = open(rt.alloc(), 100)?;
+    let (feeder, mut taker) = ends.fill(&rt, &channel, &mut feed);
+    let first = taker.take(&rt, &channel);
     assert_eq!(rt; taker.taken().first().copied(), first);
-    let passed = line.close(&rt, feeder, taker);
+    let passed = channel.close(&rt, feeder, taker);
     assert_eq!(rt; (passed.handed.len(), passed.left.len()), (64, 63));
     Ok(())
 }

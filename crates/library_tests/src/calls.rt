@@ -109,6 +109,7 @@ fn limits_that_are_refused_say_which(rt: HostRuntime) {
     assert!(rt; Heap::open(rt.alloc(), &idle).err() == Some(OpenError::Workers));
 }
 
+/// `NoBirthLeft` isn't among them: it comes after 4,294,967,295 objects of a lane.
 #[test]
 fn what_is_refused_says_why(rt: HostRuntime) -> Result<(), Fail> {
     assert!(rt; FIRST.of_lane(1) == FIRST_FOR_1);
@@ -126,6 +127,11 @@ fn what_is_refused_says_why(rt: HostRuntime) -> Result<(), Fail> {
             New(FIRST_FOR_1, 1, Err(HeapError::Foreign)),
             Copy(FIRST, OTHER, Err(HeapError::Foreign)),
             Clear(FAR, Err(HeapError::NoSlot)),
+            HandOut(0, 0, Ok(SECOND)),
+            HandOut(0, 0, Err(HeapError::NoRootLeft)),
+            New(FIRST, 2, Ok(BIRTH)),
+            Set(FIRST, 2, 1, Err(HeapError::NoField)),
+            Load(FIRST, 2, SECOND, Err(HeapError::NoField)),
             Give(1, 0, Ok(())),
             Copy(FIRST, OTHER, Ok(())),
         ],

@@ -18,13 +18,14 @@
 // leave (`evict`), empty the nurseries (`collect_nurseries`), collect the cells without a page read (`collect`), or pack the whole heap
 // (`failsafe`). `counters` and `objects_in_cells` say how it stands.
 //
-// The calls, `rt` left out. All but the last three return a `Result`, with a `HeapError`:
+// The calls, `rt` left out. All but the last four return a `Result`, with a `HeapError`:
 //
 //     root(lane, domain) -> Root     release(root)          new(into, fields) -> Birth   len(root) -> u32
 //     set(root, field, number)       cut(root, field)       link(root, field, to)        load(root, field, into) -> Loaded
 //     copy(from, into)               clear(root)            who(root) -> Value           same(root, other) -> bool
-//     give(domain, lane)             freeze(domain)         collect_nurseries()          failsafe()
-//     collect()                      evict(hint) -> Answer  counters() -> Counters
+//     operate(lane, op) -> Reply     give(domain, lane)     freeze(domain)               collect_nurseries()
+//     failsafe()                     collect()              evict(hint) -> Answer        counters() -> Counters
+//     objects_in_cells(domain, class) -> u32
 //
 // `Limits::default()` has one lane, one domain of 64 root slots, 256 superpages, 4 nursery pages, a write buffer of 1,024 entries, a frame
 // for each page, and one worker.

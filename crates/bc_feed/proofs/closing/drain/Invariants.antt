@@ -1,9 +1,9 @@
-use Rattle.std.proofs.Common.{◌≡◌, ◌++◌, true, vec_capacity}
+use Rattle.std.proofs.Common.{◌≡◌, ◌-◌, ◌++◌, ◌≤◌, length, true, vec_capacity}
 use Rattle.crossbeam_queue.specs.Passes.{view, IsPassOf}
 use Rattle.bc_feed.proofs.closing.drain.Given as goal
 
-abbrev pub invariant-loop : goal.invariant-loop
-invariant-loop g l = record {
+abbrev pub invariant-loop-hint : goal.invariant-loop-hint
+invariant-loop-hint g l = record {
   of : IsPassOf l.queue l.pass;
   pushes : (view l.pass).pushes ≡ true;
   pops : (view l.pass).pops ≡ true;
@@ -12,3 +12,6 @@ invariant-loop g l = record {
   got : (view l.pass).got ≡ (view l.initial.pass).got ++ l.left.items;
   room : vec_capacity l.left ≡ vec_capacity l.initial.left;
 }
+
+abbrev pub decreases-loop-hint : goal.decreases-loop-hint
+decreases-loop-hint g l = (view l.pass).most - length (view l.pass).got
