@@ -10,10 +10,7 @@ use Rattle.bc_marking.proofs.LineLemmas.{told-one, told-then}
 use Rattle.bc_marking.specs.Lines.{HasTold, cursor_along, cursor_at, hints_along, hints_at, line_along, line_behind}
 use Rattle.bc_marking.specs.declared.lines.Cursor.{Cursor}
 use Rattle.bc_pager.specs.Alone.{ArePlainAnswers}
-use Rattle.bc_pager.specs.Answering.{AreAnswered}
 use Rattle.bc_pager.specs.declared.answers.Answer.{Answer}
-use Rattle.bc_pins.specs.Key.{Key}
-use Rattle.bc_pins.specs.declared.views.View.{View}
 use Rattle.bc_running.specs.Running.{RunningView}
 use Rattle.bc_superpages.specs.Layout.{Layout}
 use Rattle.bc_engine.specs.EngineFacts.{without_turns}
@@ -47,13 +44,7 @@ along-then lines from n at m to before mid after told more same first second =
     told-anew lines from from before (n + m) there after (told ++ more) refl
     (told-then lines from n here m there before mid after told more first (told-anew lines here at mid m to after more (sym same) second))
 
--- beside the lanes, and where nobody works beside
-beside-long : (k : Key) (hints : List ℕ) (answers : List Answer) (v w : View) → AreAnswered k hints answers v w → length answers ≡ length hints
-beside-long k [] [] v w told = refl
-beside-long k [] (answer ∷ answers) v w told = absurd told
-beside-long k (hint ∷ hints) [] v w told = absurd told
-beside-long k (hint ∷ hints) (answer ∷ answers) v w told = omega (arith, beside-long k hints answers told.0 w told.2)
-
+-- where nobody works beside
 plain-long : (s t : Layout) (hints : List ℕ) (answers : List Answer) → ArePlainAnswers s hints answers t → length answers ≡ length hints
 plain-long s t [] [] told = refl
 plain-long s t [] (answer ∷ answers) told = absurd told
@@ -66,7 +57,7 @@ turn-told : (lines : List (List ℕ)) (line : ℕ) {lanes : List (List Op)} {r q
 turn-told lines line {lanes} {r} {q} {before} {after} {asked} {answers} turn = elim turn.way [
   | inl beside ↦
       let b = beside.1 in
-      (b.told, told-one lines (cursor_at line) (cursor_along lines (cursor_at line) 1) asked answers b.told b.kept refl (beside-long b.key (hints_at lines line) b.told _ b.end b.each))
+      (b.told, told-one lines (cursor_at line) (cursor_along lines (cursor_at line) 1) asked answers b.told b.kept refl b.shared.long)
   | inr alone ↦
       let a = alone.2.1 in
       (a.0, told-one lines (cursor_at line) (cursor_along lines (cursor_at line) 1) asked answers a.0 a.1 refl (plain-long _ alone.2.0 (hints_at lines line) a.0 a.2))

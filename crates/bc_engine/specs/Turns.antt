@@ -27,7 +27,7 @@ line_of lines turn = line_along (hints_in lines) 0 turn
 abbrev pub hints_of : List TurnLists → ℕ → List ℕ
 hints_of lines turn = hints_at (hints_in lines) (line_of lines turn)
 
--- the lanes ran side by side, and beside them a pager answered the notices with these hints. Each stop has a cause of that way. Then the
+-- the lanes ran side by side, and beside them pagers answered the notices with these hints. Each stop has a cause of that way. Then the
 -- heap was settled
 abbrev pub RanTogether : List (List Op) → RunningView → List (Vec Reply Global) → List Answer → List ℕ → RunningView → RunningView → List (Vec Reply Global) → List Answer → Type 0
 RanTogether lanes r before kept hints mid q after told =
@@ -43,7 +43,7 @@ RanAlone lanes r before kept hints mid q after told =
     × ((u : Layout) × AnsweredAlone mid.heap.space hints kept told u × Settled u q.heap.space)
 
 -- the lanes ran until each was at its end or stopped, the notices with these hints were answered, each once, after the answers
--- that were kept before, and the heap was settled: side by side, lanes and a pager, or one lane after another, and then the
+-- that were kept before, and the heap was settled: side by side, lanes and pagers, or one lane after another, and then the
 -- notices
 pub record RanTurn (lanes : List (List Op)) (r : RunningView) (before : List (Vec Reply Global)) (kept : List Answer) (hints : List ℕ) (q : RunningView) (after : List (Vec Reply Global)) (told : List Answer) : Type 0 where
   pub mid : RunningView

@@ -8,8 +8,8 @@
 //
 // A phase (`phases`) begins by taking room for the replies to all its operations. Then it goes in rounds (`rounds`), on a `Player`. A round
 // begins with a turn of the lanes (`turns`): each does operations until it is at its end or one stops. The lanes run side by
-// side, each on a thread of its own where these pay, over a table of the heap's pages (`bc_turn`), and beside them a pager answers the
-// notices of the turn's line, for each of which it gives up a page if it gets one (`bc_pager`). A lane stops where its chunk or its write
+// side, each on a thread of its own where these pay, over a table of the heap's pages (`bc_turn`), and beside them pagers, at most four,
+// claim the notices of the turn's line and give up a page for each, if they get one (`bc_pager`). A lane stops where its chunk or its write
 // buffer is full, and where it looks at an object in a cell whose page is in another's hands. One whose page is gone reloads it, and
 // stops only where no frame is free and no other page can leave. A page of a frozen domain any lane takes and reloads, and puts back as it
 // was. Where one is gone for which no frame is free, or which another lane reloads first, the lane stops too. What the lanes do so is

@@ -12,6 +12,9 @@ const OPERATIONS_A_TABLE: u64 = 128;
 /// To start a thread and to end it takes a fraction of the time that so many operations take.
 const OPERATIONS_A_THREAD: u64 = 4_096;
 
+/// To answer so many notices takes longer than to start a thread for each of four pagers.
+const NOTICES_FOR_THREADS: usize = 32;
+
 /// No lane is looked further ahead than so many operations.
 const OPERATIONS_AHEAD: u64 = 8_192;
 
@@ -21,9 +24,11 @@ pub enum Pacing {
     /// Each as is likely to pay, by what earlier turns cost and by who has work where pages have to leave: at a table or on the heap itself, on
     /// threads or on the caller's alone.
     Learned,
-    /// Each at a table, with a thread for each lane that has operations left, or for each marker, and one for the pager if there are
-    /// notices. So a test may hold one of them up until another has come.
+    /// Each at a table, with a thread for each lane that has operations left, or for each marker, and one for each pager. So a test may hold
+    /// one of them up until another has come.
     SideBySide,
+    /// Each turn of the lanes at a table, on the caller's thread alone, and markings without one. So a bench tells what threads save.
+    OneThread,
     /// Each without a table: one lane after another on the heap itself, and then the notices; and markings on the caller's thread. So a bench
     /// reads the same pages at each run.
     Plain,
@@ -85,7 +90,7 @@ impl Pace {
         self.marks = match pacing {
             Pacing::Learned => MarkPace::new(),
             Pacing::SideBySide => MarkPace::side_by_side(),
-            Pacing::Plain => MarkPace::alone(),
+            Pacing::OneThread | Pacing::Plain => MarkPace::alone(),
         };
     }
 
@@ -122,11 +127,12 @@ pub(crate) fn replies_told(replies: &[Vec<Reply>]) -> u64 {
     told
 }
 
-/// How the turn runs. A turn to which notices came has a table, so that a pager works beside the lanes. One to which none came has a table
+/// How the turn runs. A turn to which notices came has a table, so that pagers work beside the lanes. One to which none came has a table
 /// where it is likely to be long, and the first turn of a phase where it has some operations for what a table looks at. No turn has one
 /// while tables of its kind are waited with, since they didn't pay; nor where pages have to leave for those that come back (`crowded`) and
-/// one lane or the pager alone has work: on the heap its clock chooses which leave. Lanes at a table have threads where these are likely to
-/// pay. `pace` then knows of the turn what it needs to learn whether its table pays.
+/// one lane or the pagers alone have work: on the heap its clock chooses which leave. Lanes at a table have threads where these are likely to
+/// pay, and pagers one together, or, where there are notices enough, one each. `pace` then knows of the turn what it needs to learn whether
+/// its table pays.
 pub(crate) fn way_of_turn(
     setup: &Setup,
     pace: &mut Pace,
@@ -141,6 +147,7 @@ pub(crate) fn way_of_turn(
     match pace.pacing {
         Pacing::Learned => {}
         Pacing::SideBySide => return TurnWay::AtTable(TurnThreads::Each),
+        Pacing::OneThread => return TurnWay::AtTable(TurnThreads::One),
         Pacing::Plain => return TurnWay::Plain,
     }
     let threads = threads_cost(lanes, replies, hints);
@@ -164,10 +171,19 @@ pub(crate) fn way_of_turn(
     let costs = looked_at(setup).saturating_add(OPERATIONS_A_TABLE);
     if is_wide {
         pace.costs = costs.saturating_add(threads);
-        TurnWay::AtTable(TurnThreads::Each)
+        TurnWay::AtTable(threads_for(hints))
     } else {
         pace.costs = costs;
         TurnWay::AtTable(TurnThreads::One)
+    }
+}
+
+/// The threads of a turn whose lanes have one each.
+fn threads_for(hints: &[u32]) -> TurnThreads {
+    if hints.len() < NOTICES_FOR_THREADS {
+        TurnThreads::Lanes
+    } else {
+        TurnThreads::Each
     }
 }
 
@@ -183,8 +199,8 @@ fn all_ahead(setup: &Setup, lanes: &[Vec<Op>], replies: &[Vec<Reply>]) -> u64
     ahead
 }
 
-/// What the threads of a turn cost, as so many operations: one for each lane that has operations left, and one for the pager where notices
-/// came; one of them all is the caller's.
+/// What the threads of a turn cost, as so many operations: one for each lane that has operations left, and one for the pagers where notices
+/// came; one of them all is the caller's. Threads that pagers have besides are paid by their notices (`NOTICES_FOR_THREADS`).
 fn threads_cost(lanes: &[Vec<Op>], replies: &[Vec<Reply>], hints: &[u32]) -> u64
     requires { length replies.now ≡ length lanes.now }
 {

@@ -17,7 +17,7 @@ use bc_turn::TurnRoom;
 use std::thread::Threads;
 
 /// A turn of the lanes: each does operations until it is at its end or stops, the notices with these hints are answered, and the heap is
-/// settled. Lanes and a pager work at a table, side by side where threads pay, or, where a table doesn't pay or there is no memory for
+/// settled. Lanes and pagers work at a table, side by side where threads pay, or, where a table doesn't pay or there is no memory for
 /// one, one lane after another on the heap itself, and then the notices are answered. Answers are kept after those that there are, for which
 /// there is room. `room` is what turns take for the lanes, and `pace` says how tables of earlier turns paid. A turn takes memory and can't
 /// be refused for lack of it.

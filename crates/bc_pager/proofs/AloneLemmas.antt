@@ -1,5 +1,5 @@
 -- Notices that are answered where nobody works beside.
-use Rattle.std.proofs.Common.{◌≡◌, ℕ, ◌+◌, ◌*◌, ◌<◌, ◌≤◌, Bool, true, false, List, [], ◌∷◌, ◌++◌, length, take, get_or, Some, inl, inr, refl, sym, ap, subst, ◌∙◌, arith, append_assoc, append-nil}
+use Rattle.std.proofs.Common.{◌≡◌, ℕ, ◌+◌, ◌*◌, ◌<◌, ◌≤◌, true, false, List, [], ◌∷◌, ◌++◌, length, take, get_or, Some, inl, inr, refl, sym, ap, subst, ◌∙◌, arith, append_assoc, append-nil}
 use Prim.Native.Nat.{suc}
 use Rattle.std.proofs.lemmas.List.{take_all, take_more}
 use Rattle.bc_bookmarks.specs.Choices.{EligibleNamesCells, GivenUp}
@@ -17,8 +17,7 @@ use Rattle.bc_pager.specs.declared.answers.Answer.{Answer}
 use Rattle.bc_pager.specs.declared.answers.Answer.TheVariants.{Discarded, Evicted}
 use Rattle.bc_pins.specs.Contents.{IsYoung, RefersYoung, field_bits}
 use Rattle.bc_pins.specs.Opening.{IsOpenable}
-use Rattle.bc_superpages.specs.Calls.{CanName, IsClosed, IsTaken, fields_at}
-use Rattle.bc_superpages.specs.declared.headers.PageState.{PageState}
+use Rattle.bc_superpages.specs.Calls.{CanName, IsClosed, fields_at}
 use Rattle.bc_superpages.specs.declared.headers.PageState.TheVariants.{Absent, Gone, Home}
 use Rattle.bc_superpages.specs.Headers.{is_resident}
 use Rattle.bc_superpages.specs.Kept.{IsLayout}
@@ -27,9 +26,8 @@ use Rattle.bc_superpages.specs.LayoutAt.{IsAllocated, state_at}
 use Rattle.bc_superpages.proofs.MemoryLemmas.{memory_of-cell}
 use Rattle.bc_superpages.proofs.MoveLemmas.{memory-allocated}
 use Rattle.bc_word.specs.Addresses.{offset_of, page_of}
-use Rattle.bc_word.specs.declared.addresses.Address.{Address}
 use Rattle.bc_word.specs.declared.words.Word.{Word}
-use Rattle.bc_word.specs.declared.words.Word.TheVariants.{Nil, Num, Ref}
+use Rattle.bc_word.specs.declared.words.Word.TheVariants.{Nil, Ref}
 use Rattle.bc_word.specs.Words.{word_of_bits}
 use Rattle.bc_word.proofs.WordsLemmas.{get_or-words_from, length-words_from}
 

@@ -1,18 +1,19 @@
--- What a pager's log of page words says of a notice that was declined.
-use Rattle.std.proofs.Common.{◌≡◌, ℕ, ◌+◌, ◌*◌, ◌/◌, ◌<◌, ◌≤◌, ◌==◌, List, [], ◌∷◌, ◌++◌, inl, inr, ◌⊎◌, ap, sym, ◌∙◌, arith}
+-- What the log of page words of a pager that shares notices says of one that it declined.
+use Rattle.std.proofs.Common.{◌≡◌, ℕ, ◌+◌, ◌<◌, ◌≤◌, ◌==◌, List, [], ◌∷◌, ◌++◌, slice_index, inl, inr, ap, sym, arith}
 use Rattle.std.proofs.lemmas.Bool.{cases_eq, eq-eqb}
 use Rattle.bc_bits.specs.Counting.{one_if}
-use Rattle.bc_pager.specs.Answering.{AreAnswered, IsAnswer, TookAfter, says_declined, says_discarded, says_evicted}
+use Rattle.bc_pager.specs.Answering.{IsAnswer, TookAfter, says_declined, says_discarded, says_evicted}
 use Rattle.bc_evict.specs.Looking.{IsAccountedFor, MayStay, all_pages}
+use Rattle.bc_pager.specs.Claiming.{AreAnsweredAsClaimed}
 use Rattle.bc_pager.specs.declared.answers.Answer.{Answer}
 use Rattle.bc_pager.specs.declared.answers.Answer.TheVariants.{Declined, Discarded, Evicted}
 use Rattle.bc_pins.specs.Key.{Key, page_at, pages_of}
+use Rattle.bc_pins.specs.Steps.{taking_notice}
 use Rattle.bc_pins.specs.Totals.{times, total}
 use Rattle.bc_pins.specs.Views.{reads_at}
 use Rattle.bc_pins.specs.declared.views.View.{View}
 use Rattle.bc_pins.proofs.LogLemmas.{pages-else, reads-here, times-reads}
 use Rattle.bc_pins.proofs.TotalLemmas.{one_other}
-use Rattle.bc_superpages.specs.declared.headers.PageState.TheVariants.{Home}
 
 -- how often a page's word was read as Home in an answer: where it was given up, and else not
 took-home : (k : Key) (v : View) (looks : List (ℕ × ℕ)) (page : ℕ) (w : View) → TookAfter k v looks page w → (p : ℕ) → p < pages_of k → times 1 (reads_at p w.read) ≡ one_if (page == p) + times 1 (reads_at p v.read)
@@ -44,14 +45,15 @@ answer-home k v hint Declined w is p near =
     let none = is.none p near in
     omega arith
 
-pub answers-home : (k : Key) (hints : List ℕ) (told : List Answer) (v w : View) → AreAnswered k hints told v w → (p : ℕ) → p < pages_of k
+pub shared-home : (k : Key) (hints ns : List ℕ) (told : List Answer) (v w : View) → AreAnsweredAsClaimed k hints ns told v w → (p : ℕ) → p < pages_of k
     → times 1 (reads_at p w.read) ≡ (total (says_evicted p) told + total (says_discarded p) told) + times 1 (reads_at p v.read)
-answers-home k [] [] v w is p near = let same = ap (λ (x : View). times 1 (reads_at p x.read)) is in omega arith
-answers-home k [] (answer ∷ told) v w is p near = absurd is
-answers-home k (hint ∷ hints) [] v w is p near = absurd is
-answers-home k (hint ∷ hints) (answer ∷ told) v w is p near =
-    let one = answer-home k v hint answer is.0 is.1 p near in
-    let rest = answers-home k hints told is.0 w is.2 p near in
+shared-home k hints [] [] v w (inl is) p near = let same = ap (λ (x : View). times 1 (reads_at p x.read)) is in omega arith
+shared-home k hints [] [] v w (inr past) p near = let same = ap (λ (x : View). times 1 (reads_at p x.read)) past.2 in omega arith
+shared-home k hints [] (answer ∷ told) v w is p near = absurd is
+shared-home k hints (n ∷ ns) [] v w is p near = absurd is
+shared-home k hints (n ∷ ns) (answer ∷ told) v w is p near =
+    let one = answer-home k (taking_notice v n) (slice_index hints n) answer is.1 is.2 p near in
+    let rest = shared-home k hints ns told is.1 w is.3 p near in
     omega arith
 
 -- what was read stays in the log
@@ -69,13 +71,14 @@ answer-more k v hint Declined w is p n =
     let both = times-reads n (page_at p) is.looks v.read in
     omega arith
 
-answers-more : (k : Key) (hints : List ℕ) (told : List Answer) (v w : View) → AreAnswered k hints told v w → (p n : ℕ) → times n (reads_at p v.read) ≤ times n (reads_at p w.read)
-answers-more k [] [] v w is p n = let same = ap (λ (x : View). times n (reads_at p x.read)) is in omega arith
-answers-more k [] (answer ∷ told) v w is p n = absurd is
-answers-more k (hint ∷ hints) [] v w is p n = absurd is
-answers-more k (hint ∷ hints) (answer ∷ told) v w is p n =
-    let one = answer-more k v hint answer is.0 is.1 p n in
-    let rest = answers-more k hints told is.0 w is.2 p n in
+shared-more : (k : Key) (hints ns : List ℕ) (told : List Answer) (v w : View) → AreAnsweredAsClaimed k hints ns told v w → (p n : ℕ) → times n (reads_at p v.read) ≤ times n (reads_at p w.read)
+shared-more k hints [] [] v w (inl is) p n = let same = ap (λ (x : View). times n (reads_at p x.read)) is in omega arith
+shared-more k hints [] [] v w (inr past) p n = let same = ap (λ (x : View). times n (reads_at p x.read)) past.2 in omega arith
+shared-more k hints [] (answer ∷ told) v w is p n = absurd is
+shared-more k hints (m ∷ ns) [] v w is p n = absurd is
+shared-more k hints (m ∷ ns) (answer ∷ told) v w is p n =
+    let one = answer-more k (taking_notice v m) (slice_index hints m) answer is.1 is.2 p n in
+    let rest = shared-more k hints ns told is.1 w is.3 p n in
     omega arith
 
 -- where a notice was declined, each page was looked at, and what was found is in the log
@@ -84,18 +87,18 @@ pub record LooksFound (k : Key) (w : View) : Type 0 where
   pub each : (q : ℕ) → q < all_pages k → IsAccountedFor k looks q MayStay
   pub more : (q n : ℕ) → times n (reads_at q looks) ≤ times n (reads_at q w.read)
 
-pub declined-looks : (k : Key) (hints : List ℕ) (told : List Answer) (v w : View) → AreAnswered k hints told v w → 0 < total says_declined told → LooksFound k w
-declined-looks k [] [] v w is some = absurd (omega arith)
-declined-looks k [] (answer ∷ told) v w is some = absurd is
-declined-looks k (hint ∷ hints) [] v w is some = absurd is
-declined-looks k (hint ∷ hints) (Discarded page ∷ told) v w is some = declined-looks k hints told is.0 w is.2 (omega arith)
-declined-looks k (hint ∷ hints) (Evicted page ∷ told) v w is some = declined-looks k hints told is.0 w is.2 (omega arith)
-declined-looks k (hint ∷ hints) (Declined ∷ told) v w is some = record {
-  looks = is.1.looks;
-  each = is.1.each;
+pub shared-looks : (k : Key) (hints ns : List ℕ) (told : List Answer) (v w : View) → AreAnsweredAsClaimed k hints ns told v w → 0 < total says_declined told → LooksFound k w
+shared-looks k hints [] [] v w is some = absurd (omega arith)
+shared-looks k hints [] (answer ∷ told) v w is some = absurd is
+shared-looks k hints (m ∷ ns) [] v w is some = absurd is
+shared-looks k hints (m ∷ ns) (Discarded page ∷ told) v w is some = shared-looks k hints ns told is.1 w is.3 (omega arith)
+shared-looks k hints (m ∷ ns) (Evicted page ∷ told) v w is some = shared-looks k hints ns told is.1 w is.3 (omega arith)
+shared-looks k hints (m ∷ ns) (Declined ∷ told) v w is some = record {
+  looks = is.2.looks;
+  each = is.2.each;
   more = λ q n.
-      let whole = ap (λ (x : View). times n (reads_at q x.read)) is.1.view in
-      let both = times-reads n (page_at q) is.1.looks v.read in
-      let rest = answers-more k hints told is.0 w is.2 q n in
+      let whole = ap (λ (x : View). times n (reads_at q x.read)) is.2.view in
+      let both = times-reads n (page_at q) is.2.looks v.read in
+      let rest = shared-more k hints ns told is.1 w is.3 q n in
       omega arith;
 }

@@ -1,7 +1,6 @@
 -- Pages that are taken and given up.
-use Rattle.std.proofs.Common.{◌≡◌, ℕ, ◌+◌, ◌-◌, ◌*◌, ◌/◌, ◌<◌, ◌≤◌, ◌⊎◌, Bool, true, false, if◌then◌else◌, List, [], ◌∷◌, ◌++◌, length, inl, inr, Option, Some, None, refl, ap, sym, subst, ◌∙◌, arith, append_assoc, length-append}
+use Rattle.std.proofs.Common.{◌≡◌, ℕ, ◌+◌, ◌-◌, ◌*◌, ◌/◌, ◌<◌, ◌≤◌, ◌⊎◌, Bool, true, false, if◌then◌else◌, List, [], ◌∷◌, ◌++◌, inl, inr, Option, None, ap, sym, subst, ◌∙◌, arith, append_assoc}
 use Rattle.std.proofs.lemmas.Bool.{cases_lt, cases_Bool}
-use Rattle.std.proofs.lemmas.Option.{same_Some}
 use Rattle.bc_bits.specs.Counting.{any_below}
 use Rattle.bc_bits.proofs.AnyLemmas.{any_below-some, any_below-at}
 use Rattle.bc_word.specs.Addresses.{page_of}
@@ -11,7 +10,6 @@ use Rattle.bc_superpages.specs.LayoutAt.{IsAllocated}
 use Rattle.bc_bookmarks.specs.Targets.{HasCell}
 use Rattle.bc_evict.specs.Evicting.{MayBookmark, MayDiscard, HasGiven, given_up, discarded}
 use Rattle.bc_evict.specs.Marking.{HasBookmarked, ReadsNoPage}
-use Rattle.bc_evict.proofs.BookmarkLemmas.{may-bookmark}
 use Rattle.bc_evict.proofs.RightLemmas.{rights-gone}
 use Rattle.bc_pins.specs.declared.holding.Held.{Held}
 use Rattle.bc_pins.specs.declared.pins.Seat.{Seat}
@@ -20,10 +18,7 @@ use Rattle.bc_pins.specs.declared.views.View.{View}
 use Rattle.bc_pins.specs.Key.{Key, pages_of, page_at, frame_at}
 use Rattle.bc_pins.specs.Contents.{IsBarePage}
 use Rattle.bc_pins.specs.Views.{reads_of, opened_state}
-use Rattle.bc_pins.specs.Steps.{Takes}
 use Rattle.bc_pins.specs.Calls.{view_of, HoldsPage}
-use Rattle.bc_pins.proofs.LogLemmas.{reads-append}
-use Rattle.bc_pins.proofs.VisitLemmas.{holds_taken, may_put_taken}
 use Rattle.bc_evict.specs.declared.walking.Kind.{Kind}
 use Rattle.bc_evict.specs.declared.walking.Kind.TheVariants.{Bare, Filled}
 use Rattle.bc_evict.specs.Looking.{MayStay, MayStayBare, MayStayFilled}

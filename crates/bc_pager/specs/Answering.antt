@@ -53,22 +53,27 @@ IsAnswer k v hint (Discarded page) w = HasDiscarded k v page w
 IsAnswer k v hint (Evicted page) w = HasEvicted k v hint page w
 IsAnswer k v hint Declined w = HasDeclined k v w
 
--- each notice has one answer, in order, and each begins where the one before it ended
+-- the view may have claimed notices since, and did nothing else
+abbrev pub ButClaims : View → View → Type 0
+ButClaims v w = w ≡ record v { notices = w.notices }
+
+-- each notice has one answer, in order, and each begins where the one before it ended, but for claims of notices
 abbrev pub AreAnswered : Key → List ℕ → List Answer → View → View → Type 0
-AreAnswered k [] [] v w = w ≡ v
+AreAnswered k [] [] v w = ButClaims v w
 AreAnswered k [] (answer ∷ answers) v w = ⊥
 AreAnswered k (hint ∷ hints) [] v w = ⊥
-AreAnswered k (hint ∷ hints) (answer ∷ answers) v w = (u : View) × IsAnswer k v hint answer u × AreAnswered k hints answers u w
+AreAnswered k (hint ∷ hints) (answer ∷ answers) v w =
+    (given u : View) × ButClaims v given × IsAnswer k given hint answer u × AreAnswered k hints answers u w
 
--- each answer begins at the view at which its notice was given, where the one before it ended
+-- each answer begins at the view at which its notice was given, where the one before it ended, but for claims of notices
 abbrev pub AreAnsweredSince : Key → List ℕ → List Answer → List View → View → View → Type 0
-AreAnsweredSince k [] [] [] v w = w ≡ v
+AreAnsweredSince k [] [] [] v w = ButClaims v w
 AreAnsweredSince k [] [] (given ∷ views) v w = ⊥
 AreAnsweredSince k [] (answer ∷ answers) views v w = ⊥
 AreAnsweredSince k (hint ∷ hints) [] views v w = ⊥
 AreAnsweredSince k (hint ∷ hints) (answer ∷ answers) [] v w = ⊥
 AreAnsweredSince k (hint ∷ hints) (answer ∷ answers) (given ∷ views) v w =
-    (given ≡ v) × (u : View) × IsAnswer k given hint answer u × AreAnsweredSince k hints answers views u w
+    ButClaims v given × (u : View) × IsAnswer k given hint answer u × AreAnsweredSince k hints answers views u w
 
 -- the answer says that the page was made Gone: 1 if it does, else 0
 abbrev pub says_evicted : ℕ → Answer → ℕ

@@ -14,60 +14,54 @@ pub enum Answer {
     Declined,
 }
 
-/// Answers in the order of their notices, with room for so many.
+/// Answers in the order in which their notices were taken, each with the number of its notice, and with room for so many.
 #[derive(Drop)]
 pub struct Answers {
     list: Vec<Answer>,
+    numbers: Vec<usize>,
     room: usize,
 }
 
 impl Model for Answers {
-    ghost use Rattle.std.specs.Prelude.{◌≤◌, length, vec_capacity};
+    ghost use Rattle.std.specs.Prelude.{◌≡◌, ◌≤◌, length, vec_capacity};
     ghost use Rattle.bc_pager.specs.Serving.{KeptAnswers};
 
     ghost Value = { KeptAnswers };
 
-    ghost view = { λ a. record { list = a.list.items; room = a.room } };
+    ghost view = { λ a. record { list = a.list.items; numbers = a.numbers.items; room = a.room } };
 
-    ghost invariant = { λ a. (length a.list.items ≤ a.room) × (a.room ≤ vec_capacity a.list) };
+    ghost invariant = { λ a. (length a.list.items ≤ a.room) × (length a.numbers.items ≡ length a.list.items) × (a.room ≤ vec_capacity a.list) × (a.room ≤ vec_capacity a.numbers) };
 }
 
 impl Answers {
-    ghost use Rattle.std.specs.Prelude.{◌≡◌, ◌+◌, ◌<◌, ◌≤◌, [], ◌∷◌, ◌++◌, length, vec_capacity, IfOk};
-    ghost use Rattle.bc_pager.specs.Serving.{KeptAnswers};
+    ghost use Rattle.std.specs.Prelude.{◌≡◌, ◌+◌, ◌<◌, ◌≤◌, [], ◌∷◌, ◌++◌, length, IfOk};
+    ghost use Rattle.bc_pager.specs.Serving.{KeptAnswers, no_answers};
 
     /// No answer, with room for so many.
     pub fn new(alloc: Global, room: usize) -> Result<Answers, AllocError>
-        ensures new { IfOk result (λ answers. answers ≡ record { list = []; room = room }) }
+        ensures new { IfOk result (λ answers. answers ≡ no_answers room) }
     {
         Ok(Answers {
             list: Vec::with_capacity(alloc, room)?,
+            numbers: Vec::with_capacity(alloc, room)?,
             room,
         })
-    }
-
-    /// Answers that are in a list, which has room for so many. It takes no memory.
-    pub fn of(list: Vec<Answer>, room: usize) -> Answers
-        requires kept { length list.items ≤ room }
-        requires room { room ≤ vec_capacity list }
-        ensures of { result ≡ record { list = list.items; room = room } }
-    {
-        Answers { list, room }
-    }
-
-    /// The list of them. It takes no memory.
-    pub fn into_list(self) -> Vec<Answer>
-        ensures list { result.items ≡ self.list }
-        ensures room { self.room ≤ vec_capacity result }
-    {
-        self.list
     }
 
     /// The answers in order.
     pub fn list(&self) -> &[Answer]
         ensures list { result.now ≡ self.now.list }
+        ensures long { length self.now.numbers ≡ length self.now.list }
     {
         self.list.as_slice()
+    }
+
+    /// The numbers of their notices, in the same order.
+    pub fn numbers(&self) -> &[usize]
+        ensures numbers { result.now ≡ self.now.numbers }
+        ensures long { length self.now.numbers ≡ length self.now.list }
+    {
+        self.numbers.as_slice()
     }
 
     /// For how many answers there is still room.
@@ -77,11 +71,12 @@ impl Answers {
         self.room - self.list.len()
     }
 
-    /// Keeps an answer after the others.
-    pub(crate) fn keep(&mut self, answer: Answer)
+    /// Keeps an answer after the others, with the number of its notice.
+    pub(crate) fn keep(&mut self, answer: Answer, number: usize)
         requires room { length self.old.list < self.old.room }
-        ensures kept { self.new ≡ record self.old { list = self.old.list ++ answer ∷ [] } }
+        ensures kept { self.new ≡ record self.old { list = self.old.list ++ answer ∷ []; numbers = self.old.numbers ++ number ∷ [] } }
     {
         self.list.push_reserved(answer);
+        self.numbers.push_reserved(number);
     }
 }

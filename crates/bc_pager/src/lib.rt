@@ -1,6 +1,7 @@
-// The pager of a turn: it answers notices that frames are wanted, while lanes or markers work.
+// The pagers of a turn: they answer notices that frames are wanted, while lanes or markers work.
 //
-// A notice names a page, its hint. The pager answers each with a page that it gave up, or declines it:
+// A notice names a page, its hint, and has a number, counted from 0 in its list. A pager answers each notice that it takes with a page
+// that it gave up, or declines it:
 //
 //     Discarded(p)   p had no allocated cell, and is Absent
 //     Evicted(p)     p had an allocated cell, was bookmarked, and is Gone: the first that could be taken, going round from the hint,
@@ -17,16 +18,26 @@
 // begins where its notice was given: a source of notices may know the views that the seat had then (`Notices`), and each answer begins
 // at its own (`AreAnsweredSince`). `serve` ends where no notice is left or no room for an answer is (`ended`).
 //
+// A turn has as many pagers as notices, at most four (`pagers_for`), and they share its list. A pager that wants a notice claims the next
+// number by one step at the table (`Pins::claim_notice`), and has the notice of that number (`SharedNotices`); where the number is past
+// the list there is none. The claims stand in the seat's view (`specs/Claiming.antt`), and each answer begins at the view that claimed its
+// number, so nothing that was read before counts for it (`AreAnsweredAsClaimed`). While the pagers work none can know what the others
+// claimed. When the table is closed, each number below their count was claimed once; so each notice was answered by one pager, and none
+// twice, and each answer stands in the turn's list at the number of its notice (`AnsweredByPagers`). That is `law_answered_by_pagers`.
+//
 // How the pieces work together: `serving` takes notices and keeps answers; `bc_evict::take_first` goes round the pages and takes the
-// first of a kind that can be taken; `leaving` gives it up, with its frame. `notices` has the trait by which notices come, and a list of
-// them; `answers` what is kept. `paging` has the pager of a turn, which takes the caller's list of answers with it to its thread and
-// answers all notices of a list. Pages after the table are Absent for the whole turn, and none of them is tried.
+// first of a kind that can be taken; `leaving` gives it up, with its frame. `notices` has the trait by which notices come, a list of
+// them for one pager, and a list that pagers share; `answers` what is kept, each answer with its notice's number. `paging` has the pagers
+// of a turn: their roles, seats and rooms for answers, and how they run, on one thread or on threads of their own. `placing` ends them:
+// their seats go back to the others, and their answers are laid by number. Pages after the table are Absent for the whole turn, and none
+// of them is tried.
 //
 // Where nobody works beside, notices are answered on the space itself (`answer_all`): each by the first page that can be discarded,
 // going round from the hint, else by the first that can be evicted, else it is declined, and nothing changes (`AnsweredAlone`).
 //
-// A notice costs two looks at each page's header at most, and a try at each page of the kind; one page is given up for it. Nothing but
-// `ListNotices::new` and `Answers::new` takes memory.
+// A notice costs two looks at each page's header at most, and a try at each page of the kind; one page is given up for it. Each pager has
+// room for answers to all notices of the turn, since it may come to claim them all. Nothing but `ListNotices::new`, `Answers::new` and
+// `pager_rooms` takes memory.
 #![tactic(auto)]
 
 mod alone;
@@ -34,10 +45,14 @@ mod answers;
 mod leaving;
 mod notices;
 mod paging;
+mod placing;
 mod serving;
 
 pub use alone::{answer_all, answer_one};
 pub use answers::{Answer, Answers};
-pub use notices::{ListNotices, Notice, Notices};
-pub use paging::{Paging, seat_pager, serve_all};
+pub use notices::{ListNotices, Notice, Notices, SharedNotices};
+pub use paging::{
+    Paging, pager_rooms, pagers_for, push_pagers, seat_pagers, serve_each, serve_shared,
+};
+pub use placing::{end_pagers, law_answered_by_pagers};
 pub use serving::serve;

@@ -3,10 +3,11 @@
 ghost use Rattle.std.specs.Prelude.{◌≡◌, ℕ, List, [], ◌∷◌, ◌++◌, ◌↔◌, length, Option, Some, IfOk, IfSome, IfNone, IsNone, take};
 ghost use Rattle.bc_frames.specs.Places.{one_more};
 ghost use Rattle.bc_pins.specs.declared.views.View.{View};
-ghost use Rattle.bc_pins.specs.Calls.{view_of};
-ghost use Rattle.bc_pager.specs.Serving.{HintList, untold, told_with};
+ghost use Rattle.bc_pins.specs.Calls.{slots_of, view_of, IsSameSeat};
+ghost use Rattle.bc_pager.specs.Claiming.{ClaimsNotice, IsSeatOf, Sharing, shared_by, unshared};
+ghost use Rattle.bc_pager.specs.Serving.{HintList, given_of, told_with, unlisted, untold};
 
-use bc_pins::Seat;
+use bc_pins::{Pins, Seat};
 use std::alloc::{AllocError, Global};
 use std::marker::Model;
 
@@ -15,12 +16,16 @@ use std::marker::Model;
 pub struct Notice {
     /// A page's number; one past the heap's last page is taken modulo their number.
     pub hint: u32,
+    /// The notice's own number, counted from 0 in its list.
+    pub number: usize,
 }
 
 /// Where notices come from.
 pub trait Notices {
-    // The hints of the notices that were given, in order.
-    ghost taken: { Self → List ℕ };
+    ghost use Rattle.bc_pager.specs.declared.notices.Notice.{Notice};
+
+    // The notices that were given, in order, where they are known.
+    ghost taken: { Self → Option (List Notice) };
 
     // How many calls answered that there is none. The count stays at the last value of 64 bits.
     ghost ends: { Self → ℕ };
@@ -31,12 +36,19 @@ pub trait Notices {
     // The views that the seat had when the notices were given, in order, where they are known.
     ghost since: { Self → Option (List View) };
 
-    /// The next notice, or none. It makes no step with the seat.
+    // The table at which notices are claimed, and the hints out of which they are, where several pagers share them. They never change.
+    ghost shared: { Self → Option Sharing };
+
+    /// The next notice, or none. It makes no step with the seat but the claim of a notice, where notices are shared.
     fn next(&mut self, seat: &mut Seat) -> Option<Notice>
-        ensures some { IfSome result (λ notice. (taken self.new ≡ taken self.old ++ notice.hint ∷ []) × (ends self.new ≡ ends self.old) × (since self.new ≡ told_with (since self.old) (view_of seat.old ∷ []))) }
+        requires seat { IsSeatOf (shared self.old) seat.old }
+        ensures some { IfSome result (λ notice. (taken self.new ≡ told_with (taken self.old) (notice ∷ [])) × (ends self.new ≡ ends self.old) × (since self.new ≡ told_with (since self.old) (view_of seat.new ∷ []))) }
         ensures none { IfNone result ((taken self.new ≡ taken self.old) × (ends self.new ≡ one_more (ends self.old)) × (since self.new ≡ since self.old)) }
+        ensures claim { ClaimsNotice (shared self.old) result (view_of seat.old) (view_of seat.new) }
         ensures told { told self.new ≡ told self.old }
-        ensures seat { seat.new ≡ seat.old };
+        ensures shared { shared self.new ≡ shared self.old }
+        ensures same { IsSameSeat seat.old seat.new }
+        ensures slots { slots_of seat.new ≡ slots_of seat.old };
 }
 
 /// Notices of a list of hints, each once and in order.
@@ -59,7 +71,7 @@ impl Model for ListNotices {
 }
 
 impl ListNotices {
-    ghost use Rattle.std.specs.Prelude.{◌≡◌, ◌<◌, ◌≤◌, length, IfOk};
+    ghost use Rattle.std.specs.Prelude.{◌≡◌, ◌<◌, ◌≤◌, [], length, IfOk};
 
     /// Notices of these hints, of which none was given.
     pub fn new(alloc: Global, hints: &[u32]) -> Result<ListNotices, AllocError>
@@ -70,6 +82,17 @@ impl ListNotices {
             given: 0,
             ends: 0,
         })
+    }
+
+    /// No notices. It takes no memory.
+    pub fn none(alloc: Global) -> ListNotices
+        ensures none { result ≡ record { hints = []; given = 0; ends = 0 } }
+    {
+        ListNotices {
+            hints: Vec::new(alloc),
+            given: 0,
+            ends: 0,
+        }
     }
 
     /// How many notices were given: all, where it answered that there is no more.
@@ -83,7 +106,7 @@ impl ListNotices {
 }
 
 impl Notices for ListNotices {
-    ghost taken = { λ n. take n.given n.hints };
+    ghost taken = { λ n. Some (given_of n) };
 
     ghost ends = { λ n. n.ends };
 
@@ -91,21 +114,84 @@ impl Notices for ListNotices {
 
     ghost since = { λ n. untold };
 
-    fn next(&mut self, _seat: &mut Seat) -> Option<Notice>
-        ensures some { IfSome result (λ notice. (take self.new.given self.new.hints ≡ take self.old.given self.old.hints ++ notice.hint ∷ []) × (self.new.ends ≡ self.old.ends) × (untold ≡ told_with untold (view_of _seat.old ∷ []))) }
-        ensures none { IfNone result ((take self.new.given self.new.hints ≡ take self.old.given self.old.hints) × (self.new.ends ≡ one_more self.old.ends) × (untold ≡ untold)) }
-        ensures told { Some self.new.hints ≡ Some self.old.hints }
-        ensures seat { _seat.new ≡ _seat.old }
+    ghost shared = { λ n. unshared };
 
-        // There is none exactly where all were given.
+    fn next(&mut self, _seat: &mut Seat) -> Option<Notice>
+        ensures some { IfSome result (λ notice. (Some (given_of self.new) ≡ told_with (Some (given_of self.old)) (notice ∷ [])) × (self.new.ends ≡ self.old.ends) × (untold ≡ told_with untold (view_of _seat.new ∷ []))) }
+        ensures none { IfNone result ((Some (given_of self.new) ≡ Some (given_of self.old)) × (self.new.ends ≡ one_more self.old.ends) × (untold ≡ untold)) }
+        ensures claim { ClaimsNotice unshared result (view_of _seat.old) (view_of _seat.new) }
+        ensures told { Some self.new.hints ≡ Some self.old.hints }
+        ensures shared { unshared ≡ unshared }
+        ensures same { IsSameSeat _seat.old _seat.new }
+        ensures slots { slots_of _seat.new ≡ slots_of _seat.old }
+
+        // The seat is as it was, and there is none exactly where all were given.
+        ensures seat { _seat.new ≡ _seat.old }
         ensures used_up { IsNone result ↔ (self.old.given ≡ length self.old.hints) }
     {
         if self.given == self.hints.len() {
             self.ends = self.ends.saturating_add(1);
             return None;
         }
-        let hint = self.hints[self.given];
+        let number = self.given;
+        let hint = self.hints[number];
         self.given += 1;
-        Some(Notice { hint })
+        Some(Notice { hint, number })
+    }
+}
+
+/// Notices of a list of hints that several pagers share: each claims the next number at the table, and has the notice of that number.
+#[derive(Drop)]
+pub struct SharedNotices<'a> {
+    pins: &'a Pins,
+    hints: &'a [u32],
+    ends: u64,
+}
+
+impl<'a> Model for SharedNotices<'a> {
+    ghost use Rattle.bc_pager.specs.Claiming.{SharedHints, sharing_of};
+
+    ghost Value = { SharedHints };
+
+    ghost view = { λ n. record { sharing = sharing_of n.pins.now n.hints.now; ends = n.ends } };
+}
+
+impl<'a> SharedNotices<'a> {
+    ghost use Rattle.std.specs.Prelude.{◌≡◌};
+    ghost use Rattle.bc_pager.specs.Claiming.{sharing_of};
+
+    /// Notices of these hints, which pagers share at this table. It takes no memory.
+    pub fn new(pins: &'a Pins, hints: &'a [u32]) -> SharedNotices<'a>
+        ensures new { result ≡ record { sharing = sharing_of pins.now hints.now; ends = 0 } }
+    {
+        SharedNotices {
+            pins,
+            hints,
+            ends: 0,
+        }
+    }
+}
+
+impl<'a> Notices for SharedNotices<'a> {
+    // What pagers took is told by their claims: a list of it would take memory.
+    ghost taken = { λ n. unlisted };
+
+    ghost ends = { λ n. n.ends };
+
+    ghost told = { λ n. Some n.sharing.hints };
+
+    ghost since = { λ n. untold };
+
+    ghost shared = { λ n. shared_by n.sharing };
+
+    fn next(&mut self, seat: &mut Seat) -> Option<Notice> {
+        let number = self.pins.claim_notice(seat);
+        if number >= self.hints.len() as u64 {
+            self.ends = self.ends.saturating_add(1);
+            return None;
+        }
+        let number = number as usize;
+        let hint = self.hints[number];
+        Some(Notice { hint, number })
     }
 }

@@ -14,8 +14,9 @@ use Rattle.bc_pins.specs.Key.{Key, bookmark_at, frame_at, frame_words}
 use Rattle.bc_pins.specs.Totals.{times}
 use Rattle.bc_pins.specs.Views.{frame_in_hand, has_role}
 use Rattle.bc_pins.specs.Facts.{Table, word, frame_bit, is_clear, Frames}
-use Rattle.bc_pins.specs.Rule.{Rule}
+use Rattle.bc_pins.specs.Rule.{Rule, Ruled}
 use Rattle.bc_pins.specs.Steps.{Mine, clear_frames, claiming, Claimed}
+use Rattle.bc_pins.proofs.NoticeLemmas.{claims_aside}
 use Rattle.bc_pins.proofs.TotalLemmas.{total_set, times_append, one_other}
 use Rattle.bc_pins.proofs.TallyLemmas.{bit_few}
 use Rattle.bc_pins.proofs.MarkedLemmas.{targets_kept}
@@ -168,19 +169,22 @@ module _ (k : Key) (s : Table) (r : Rule k s) (id role : ℕ) (v : View) (at : g
 
 -- whatever the table is, a claim keeps the rule
 pub claims_frames : (k : Key) (slots id role : ℕ) (me : Mine) (w i : ℕ) → i ≡ frame_at k w → w < frame_words k → me.0.about ≡ k → 0 < has_role me.0 role
-    → Allows (Rule k) slots id me i (λ m. bit_or m all_bits) (Claimed (step slots i all_bits 0 maybe.none) me)
+    → Allows (Ruled k) slots id me i (λ m. bit_or m all_bits) (Claimed (step slots i all_bits 0 maybe.none) me)
 claims_frames k slots id role me w i is lt about some_role s r size at fits = (
   claiming me.0 w (word s i),
   keeps,
   tt,
-  subst (λ (j : ℕ). Rule k (aside s j (bit_or (word s j) all_bits) id (claiming me.0 w (word s j)))) (sym is) (claim_rule k s r id role me.0 at about some_role w lt),
+  record {
+    facts = subst (λ (j : ℕ). Rule k (aside s j (bit_or (word s j) all_bits) id (claiming me.0 w (word s j)))) (sym is) (claim_rule k s r.facts id role me.0 at about some_role w lt);
+    claims = claims_aside k s _ _ id _ _ _ at (λ e. omega arith) refl r.claims;
+  },
   record {
     view = λ c e.
         let word_is : w ≡ c = (let a : frame_at me.0.about c ≡ frame_at k c = ap (λ (z : Key). frame_at z c) about in omega arith) in
         ap (λ (m : ℕ). (claiming me.0 m (word s i), me.1)) word_is;
     frames = λ c b e few off.
         let word_is : w ≡ c = (let a : frame_at me.0.about c ≡ frame_at k c = ap (λ (z : Key). frame_at z c) about in omega arith) in
-        let near = frame_near k s r id role me.0 at about some_role w lt b few (subst (λ (j : ℕ). bit_at (word s j) b ≡ 0) is off) in
+        let near = frame_near k s r.facts id role me.0 at about some_role w lt b few (subst (λ (j : ℕ). bit_at (word s j) b ≡ 0) is off) in
         let same : me.0.about.frames ≡ k.frames = ap (λ (z : Key). z.frames) about in
         omega arith;
   },

@@ -1,5 +1,5 @@
 -- What a table leaves when it is closed by a seat into which all others were joined.
-use Rattle.std.proofs.Common.{◌≡◌, ℕ, ◌+◌, ◌<◌, ◌*◌, ◌≢◌, ◌==◌, ◌⊎◌, if◌then◌else◌, List, [], ◌∷◌, length, map, None, inl, inr, refl, ap, sym, subst, ◌∙◌, arith, ◌/◌, ◌%◌}
+use Rattle.std.proofs.Common.{◌≡◌, ℕ, ◌+◌, ◌<◌, ◌*◌, ◌≢◌, ◌==◌, ◌⊎◌, ◌^◌, nat_lt, if◌then◌else◌, List, [], ◌∷◌, length, map, None, inl, inr, refl, ap, sym, subst, ◌∙◌, arith, ◌/◌, ◌%◌}
 use Prim.Native.Nat.{zero, suc}
 use mathlib.Core.Option.{some, some-injective}
 use mathlib.Core.Option as maybe
@@ -16,7 +16,8 @@ use Rattle.bc_pins.specs.Contents.{IsContent, RefersYoung}
 use Rattle.bc_pins.specs.Views.{grips, grips_remembered, frame_in_hand, counted_for, sets_bit, has_role, withholds, reads_at, reads_as, opened_content, record_of}
 use Rattle.bc_pins.specs.Facts.{Table, Slot, word, Lies, Summary, Frames, frame_lodged, points, adds_to, Bits, IsIdle, page_word, remembered_now, IsBitOfTarget, fetched_ever, puts_with}
 use Rattle.bc_pins.specs.Tracing.{tells}
-use Rattle.bc_pins.specs.Rule.{Rule}
+use Rattle.bc_pins.specs.Rule.{Rule, Ruled}
+use Rattle.bc_pins.specs.Claims.{Claims}
 use Rattle.bc_pins.specs.Opening.{ClosesPage, HasClosed}
 use Rattle.bc_pins.proofs.TotalLemmas.{total_at, total_only, total_two, one_same}
 use Rattle.bc_pins.proofs.WithholdLemmas.{foreign_none}
@@ -56,7 +57,7 @@ all_home (h ∷ hs) (x ∷ xs) size home out =
     both_same a b l m e f = cc
 
 module _ (k : Key) (s : Table) (r : Rule k s) (id : ℕ) (v : View) (at : get_elem? s.views id ≡ some v) (about : v.about ≡ k) (nothing : v.hand ≡ None) (all_roles : (n : ℕ) → times n v.roles ≡ times n k.roles)
-    (xs : List Lodged) (size : length s.homes ≡ length xs) (out : (i : ℕ) (y : Lodged) → get_elem? s.homes i ≡ some (some y) → get_elem? xs i ≡ some y) where
+    (claims : Claims k s) (xs : List Lodged) (size : length s.homes ≡ length xs) (out : (i : ℕ) (y : Lodged) → get_elem? s.homes i ≡ some (some y) → get_elem? xs i ≡ some y) where
   no_role : (j : ℕ) (u : View) → j ≢ id → get_elem? s.views j ≡ some u → (n : ℕ) → has_role u n ≡ 0
   no_role j u ne is n =
       let two = total_two (λ (z : View). times n z.roles) s.views j id u v ne is at in
@@ -212,6 +213,12 @@ module _ (k : Key) (s : Table) (r : Rule k s) (id : ℕ) (v : View) (at : get_el
     pages = λ p lt four. inl four;
   }
 
+  claims_closed : length v.notices < 2 ^ 64 → (n : ℕ) → times n v.notices ≡ one_if (nat_lt n (length v.notices))
+  claims_closed few n =
+      let made = only (λ u. length u.notices) (λ u i. ap length i.notices) in
+      let each = only (λ u. times n u.notices) (λ u i. ap (times n) i.notices) in
+      sym each ∙ claims.once (omega arith) n ∙ ap (λ (m : ℕ). one_if (nat_lt n m)) (claims.next (omega arith) ∙ made)
+
   pub closed : HasClosed k v s.words xs
   closed = record {
     words_long = r.words;
@@ -232,9 +239,10 @@ module _ (k : Key) (s : Table) (r : Rule k s) (id : ℕ) (v : View) (at : get_el
     };
     unfetched = λ turn p. let all = all_roles (owner k p) in let none = r.unheld turn p in (r.seats id v at).records.unfetched p (omega arith) (λ frozen. absurd (let e = sym turn ∙ frozen.0 in cc));
     gone = λ p lt. let saw = (r.seats id v at).saw.gone p lt in (saw.0, saw.2);
+    claims = claims_closed;
   }
 
 pub ends : (k : Key) (id : ℕ) (v : View) (ws : List ℕ) (xs : List Lodged) → v.about ≡ k → v.hand ≡ None → ((n : ℕ) → times n v.roles ≡ times n k.roles)
-    → Final (Seen (Rule k) id v) ws xs → HasClosed k v ws xs
+    → Final (Seen (Ruled k) id v) ws xs → HasClosed k v ws xs
 ends k id v ws xs about nothing all_roles f =
-    subst (λ (w : List ℕ). HasClosed k v w xs) f.2 (closed k f.0 f.1.0 id v f.1.1 about nothing all_roles xs f.3 f.4)
+    subst (λ (w : List ℕ). HasClosed k v w xs) f.2 (closed k f.0 f.1.0.facts id v f.1.1 about nothing all_roles f.1.0.claims xs f.3 f.4)

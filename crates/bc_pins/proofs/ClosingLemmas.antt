@@ -15,7 +15,7 @@ use Rattle.bc_pins.proofs.TracingLemmas.{there_is, cell_is, is_set}
 use Rattle.bc_pins.proofs.ShadeSteps.{same_address}
 use Rattle.bc_pins.proofs.MarkSteps.{target_cell}
 use Rattle.bc_pins.proofs.SpaceLemmas.{cell_near}
-use Rattle.std.proofs.Common.{◌≡◌, ℕ, ◌+◌, ◌-◌, ◌*◌, ◌/◌, ◌%◌, ◌^◌, ◌<◌, ◌≤◌, ◌≢◌, ◌==◌, ◌⊎◌, List, [], length, vec_capacity, map, get_or, slice_index, min, Option, Some, None, refl, ap, sym, subst, ◌∙◌, arith, inl, inr, true, false, Bool, ◌&&◌, ◌∷◌, if◌then◌else◌}
+use Rattle.std.proofs.Common.{◌≡◌, ℕ, ◌+◌, ◌-◌, ◌*◌, ◌/◌, ◌%◌, ◌^◌, ◌<◌, ◌≤◌, ◌≢◌, ◌==◌, ◌⊎◌, nat_lt, List, [], length, vec_capacity, map, get_or, slice_index, min, Option, Some, None, refl, ap, sym, subst, ◌∙◌, arith, inl, inr, true, false, Bool, ◌&&◌, ◌∷◌, if◌then◌else◌}
 use mathlib.Core.Option as maybe
 use Rattle.std.proofs.lemmas.Bool.{cases_lt, cases_Bool, eqb-true, eq-eqb, and_from}
 use Rattle.std.proofs.lemmas.List.{length-map, get_or-map, get_or_past}
@@ -55,12 +55,12 @@ use Rattle.bc_pins.specs.Key.{Key, pages_of, owner, frame_at, page_at, mark_at, 
 use Rattle.bc_pins.specs.Contents.{IsContent, RefersYoung, objects_in}
 use Rattle.bc_pins.specs.Totals.{total, times}
 use Rattle.bc_pins.specs.Views.{grips_remembered, state_word, opened_state, opened_word, opened_content, record_of, reads_as, sets_bit, sets_for}
-use Rattle.bc_pins.specs.Rule.{Rule}
+use Rattle.bc_pins.specs.Rule.{Ruled}
 use Rattle.bc_pins.specs.Lodging.{Replaced, box_of, place_of}
 use Rattle.bc_pins.specs.Opening.{HasClosed, IsRest}
 use Rattle.bc_pins.specs.Resting.{RestView}
 use Rattle.bc_pins.specs.Calls.{view_of}
-use Rattle.bc_pins.specs.Closing.{Gathered, StatesSet, SummariesSet, HeadersSet, PoolSet, fetches_of, ClosedState, ClosedBit, Closed, IsOfPageLeft}
+use Rattle.bc_pins.specs.Closing.{Gathered, StatesSet, SummariesSet, HeadersSet, PoolSet, claims_of, fetches_of, HaveClaimed, ClosedState, ClosedBit, Closed, IsOfPageLeft}
 use Rattle.bc_pins.proofs.TallyLemmas.{objects_at, GoneBy, gone_word, tally, none_behind, target_in, set_bit, bit_set, bit_in, in_bit, bit_few, few_bits, number_few}
 use Rattle.bc_pins.proofs.TotalLemmas.{one_is, total_in}
 use Rattle.bc_pins.proofs.WithholdLemmas.{foreign_none}
@@ -103,8 +103,17 @@ clash : false ≡ true → ⊥
 clash e = cc
 
 -- what a table leaves, where all its seats were joined into one
-pub gathered_ends : (id : TableId) (k : Key) (all : List Seat) (root : Worker Lodged View) (ws : List ℕ) (xs : List Lodged) → Gathered id k all [] root → Final (Seen (Rule k) root.id root.me.0) ws xs → HasClosed k root.me.0 ws xs
+pub gathered_ends : (id : TableId) (k : Key) (all : List Seat) (root : Worker Lodged View) (ws : List ℕ) (xs : List Lodged) → Gathered id k all [] root → Final (Seen (Ruled k) root.id root.me.0) ws xs → HasClosed k root.me.0 ws xs
 gathered_ends id k all root ws xs g f = ends k root.id root.me.0 ws xs g.about g.hand (λ r. let a = g.roles r in omega arith) f
+
+-- so each number that the seats claimed was claimed once
+pub gathered_claims : (id : TableId) (k : Key) (all : List Seat) (root : Worker Lodged View) (ws : List ℕ) (xs : List Lodged) → Gathered id k all [] root → HasClosed k root.me.0 ws xs → HaveClaimed all
+gathered_claims id k all root ws xs g closed few n =
+    let size = g.claimed in
+    let each = g.notices n in
+    let once = closed.claims (omega arith) n in
+    let same : one_if (nat_lt n (length root.me.0.notices)) ≡ one_if (nat_lt n (claims_of all)) = (let e : length root.me.0.notices ≡ claims_of all = omega arith in ap (λ (m : ℕ). one_if (nat_lt n m)) e) in
+    omega arith
 
 pub words_few : (k : Key) (v : View) (ws : List ℕ) (xs : List Lodged) → HasClosed k v ws xs → (p : ℕ) → p < pages_of k → get_or ws (page_at p) 0 ≤ 4
 words_few k v ws xs c p lt = lies_few _ _ _ _ (c.pages p lt).lies
@@ -596,7 +605,7 @@ module _ (id : TableId) (k : Key) (all : List Seat) (root : Worker Lodged View) 
 -- it is known from what each step of a closing says
 pub ended_from : (id : TableId) (k : Key) (all : List Seat) (root : Worker Lodged View) (r : RestView) (whole parts : SpaceParts) (n : ℕ) (ws told : List ℕ) (xs out : List Lodged) (middle headers : List Header) (sup start : ℕ) (now : List Bool) (st : StoreView) (boxes : List (Option Homed)) (places : List (Option (List ℕ)))
     → whole ≡ r.whole → n ≡ r.pages → IsRest whole parts n → r.pages ≡ pages_of k → parts_layout r.whole ≡ k.opening → r.whole.pool ≡ k.pool → r.whole.nursery.items ≡ k.nursery → k.frames ≡ length k.pool
-    → Gathered id k all [] root → Final (Seen (Rule k) root.id root.me.0) ws xs → told ≡ ws → out ≡ xs → StatesSet parts.headers.items middle n told → sup ≡ k.supers → SummariesSet middle headers sup told → start ≡ frame_at k 0 → PoolSet parts.pool now (length parts.pool) start told → st.places ≡ parts.store.places
+    → Gathered id k all [] root → Final (Seen (Ruled k) root.id root.me.0) ws xs → told ≡ ws → out ≡ xs → StatesSet parts.headers.items middle n told → sup ≡ k.supers → SummariesSet middle headers sup told → start ≡ frame_at k 0 → PoolSet parts.pool now (length parts.pool) start told → st.places ≡ parts.store.places
     → Replaced None parts.boxes.items boxes n (λ p. box_of (get_or out (home_slot p) Nothing)) → Replaced None st.places places n (λ p. place_of (get_or out (home_slot p + 4) Nothing))
     → Ended id k all root whole parts ws xs headers boxes places now
 ended_from id k all root r whole parts n ws told xs out middle headers sup start now st boxes places is count rest paged layout pool nursery frames gathered final words slots set supers summed starts freed stored box place =

@@ -9,7 +9,7 @@ use Rattle.bc_pins.specs.declared.key.Role.TheVariants.{Lane}
 use Rattle.bc_pins.specs.declared.pins.Seat.{Seat}
 use Rattle.bc_pins.specs.declared.views.View.{View}
 use Rattle.bc_pins.specs.Key.{Key, role_number}
-use Rattle.bc_pins.specs.Rule.{Rule}
+use Rattle.bc_pins.specs.Rule.{Ruled}
 use Rattle.bc_pins.specs.Steps.{Mine, fresh, dealer, dealt}
 use Rattle.bc_pins.specs.Seating.{IsDealt, AreDealt}
 use Rattle.bc_pins.proofs.SeatLemmas.{deals}
@@ -37,10 +37,10 @@ last_left (x ∷ []) zero e = refl
 last_left (x ∷ (y ∷ ys)) zero e = absurd (omega arith)
 last_left (x ∷ xs) (suc n) e = last_left xs n (omega arith)
 
-pub deals_from : (k : Key) (id : ℕ) (me : Mine) (rs : List ℕ) → me ≡ (fresh k rs, []) → Splits (Rule k) id me.0 (dealer me.0) (dealt me.0)
+pub deals_from : (k : Key) (id : ℕ) (me : Mine) (rs : List ℕ) → me ≡ (fresh k rs, []) → Splits (Ruled k) id me.0 (dealer me.0) (dealt me.0)
 deals_from k id me rs e =
-    subst (λ (v : View). Splits (Rule k) id v (dealer v) (dealt v)) (sym (ap (λ (m : Mine). m.0) e))
-    (deals k id (fresh k rs) (record { hand = refl; rights = refl; recorded = refl; left = refl; emptied = refl; returned = refl; fetched = refl; bookmarked = refl; won = refl; known = refl; finished = refl; read = refl }) refl refl refl)
+    subst (λ (v : View). Splits (Ruled k) id v (dealer v) (dealt v)) (sym (ap (λ (m : Mine). m.0) e))
+    (deals k id (fresh k rs) (record { hand = refl; rights = refl; recorded = refl; left = refl; emptied = refl; returned = refl; fetched = refl; bookmarked = refl; won = refl; known = refl; finished = refl; read = refl; notices = refl }) refl refl refl)
 
 -- the two seats after a split
 pub rest_is : (k : Key) (roles : List Role) (n : ℕ) (me new : Mine) → n < length roles → me ≡ (fresh k (map role_number (drop n roles)), []) → new ≡ (dealer me.0, me.1)

@@ -15,12 +15,13 @@ use Rattle.bc_pins.specs.declared.pins.Seat.{Seat}
 use Rattle.bc_pins.specs.declared.views.Lodged.{Lodged}
 use Rattle.bc_pins.specs.Key.{Key, pages_of, owner_role, role_number}
 use Rattle.bc_pins.specs.Totals.{times}
-use Rattle.bc_pins.specs.Rule.{Rule}
+use Rattle.bc_pins.specs.Rule.{Ruled}
 use Rattle.bc_pins.specs.Filling.{IsSized, IsFilled}
-use Rattle.bc_pins.specs.Opening.{opened, AreLodged, IsMarkable}
+use Rattle.bc_pins.specs.Opening.{opened, AreLodged, IsMarkable, MayOpen}
 use Rattle.bc_pins.specs.Seating.{AreDealt}
 use Rattle.bc_pins.specs.Opened.{IsKeyOf, Opened}
 use Rattle.bc_pins.proofs.TotalLemmas.{one_other}
+use Rattle.bc_pins.proofs.NoticeLemmas.{claims_opened}
 use Rattle.bc_pins.proofs.OpenLemmas.{starts}
 use Rattle.bc_pins.proofs.OpenableLemmas.{openable_ready}
 use Rattle.bc_pins.proofs.MayOpenLemmas.{may_open}
@@ -60,17 +61,18 @@ module _ (k : Key) (parts : SpaceParts) (supers : ℕ) (turn : Turn) (holders : 
       let none_holds : k.owners ≡ [] = ap (λ (a : Key). a.owners) drawn.key ∙ ap (map owner_role) (drawn.unheld (sym (ap (λ (a : Key). a.lanes) drawn.key) ∙ mark)) in
       ap (λ (l : List ℕ). times (slice_index l (slice_index k.opening.domains (page / 4))) k.roles) none_holds ∙ ap (times 0) roles_are ∙ nobody_has roles
 
-  pub drawn_rule : (words : List ℕ) (slots : List Lodged) → IsFilled k parts.headers.items words → AreLodged parts (4 * supers) slots → Rule k (opened k words slots)
+  pub drawn_rule : (words : List ℕ) (slots : List Lodged) → IsFilled k parts.headers.items words → AreLodged parts (4 * supers) slots → Ruled k (opened k words slots)
   drawn_rule words slots filled lodged =
       let size = supers_is in
       let within = drawn.within in
       let layout : IsLayout k.opening = subst IsLayout drawn.layout (IsLayout-kept parts.headers.items parts.boxes.items parts.pool parts.nursery.items parts.store.places _ _ _ _ drawn.kept.kept) in
       let l : AreLodged parts (pages_of k) slots = subst (λ (n : ℕ). AreLodged parts (4 * n) slots) (sym supers_is) lodged in
-      starts k words slots (may_open k parts drawn.kept drawn.layout (sym pool_is) (sym (ap (λ (a : Key). a.nursery) drawn.key)) (frames_are ∙ ap length (sym pool_is))
+      let may : MayOpen k words slots = may_open k parts drawn.kept drawn.layout (sym pool_is) (sym (ap (λ (a : Key). a.nursery) drawn.key)) (frames_are ∙ ap length (sym pool_is))
       (omega arith) (λ p le. drawn.behind p (omega arith)) (openable_ready k.opening layout drawn.openable) drawn.openable
       (λ r. subst (λ (rs : List ℕ). times r rs ≤ 1) (sym roles_are) (drawn.apart r))
       (ap (times 0) roles_are ∙ nobody_has roles) drawn_unheld (λ turn. drawn.markable (sym (ap (λ (a : Key). a.lanes) drawn.key) ∙ turn))
-      words filled slots l)
+      words filled slots l in
+      record { facts = starts k words slots may; claims = claims_opened k words slots may }
 
   pub drawn_markable : k.lanes ≡ false → IsMarkable k.opening
   drawn_markable mark = drawn.markable (sym (ap (λ (a : Key). a.lanes) drawn.key) ∙ mark)

@@ -20,8 +20,9 @@ use Rattle.bc_pins.specs.Totals.{total, times}
 use Rattle.bc_pins.specs.Contents.{IsContent, RefersYoung, objects_in}
 use Rattle.bc_pins.specs.Views.{grips, grips_remembered, frame_in_hand, counted_for, grips_foreign, withholds, marked_for, has_role, opened_content, opened_word, record_of}
 use Rattle.bc_pins.specs.Facts.{Table, slot, IsAway, Lies, remembered_now, RecordsContent, Saw, Marking, frame_lodged, points, page_word}
-use Rattle.bc_pins.specs.Rule.{Rule}
+use Rattle.bc_pins.specs.Rule.{Rule, Ruled}
 use Rattle.bc_pins.specs.Steps.{Mine, both_slots, fetching, without, named_below, having_read, ReadsWord, Fetches, Fetched}
+use Rattle.bc_pins.proofs.NoticeLemmas.{claims_aside}
 use Rattle.bc_pins.proofs.TotalLemmas.{total_set, total_at, one_same, one_other, one_is, one_few}
 use Rattle.bc_pins.proofs.LogLemmas.{reads-else, reads-here, reads-more, pages-else}
 use Rattle.bc_pins.proofs.MarkedLemmas.{targets_kept}
@@ -322,20 +323,20 @@ module _ (k : Key) (s : Table) (r : Rule k s) (p id frame role : ℕ) (v : View)
 
 -- whatever the table is, a try to take a page from Gone keeps the rule and says what it found
 pub fetched : (k : Key) (slots p id frame role : ℕ) (v : View) → p < pages_of k → v.about ≡ k → v.hand ≡ None → 0 < has_role v role → (0 < has_role v (owner k p)) ⊎ IsFrozenIn k p → v.rights ≡ frame ∷ []
-    → Allows (Rule k) slots id (v, []) (page_at p) (λ n. either (n == 4) 3 n) (Fetched (step slots (page_at p) 4 3 maybe.none) (v, []))
+    → Allows (Ruled k) slots id (v, []) (page_at p) (λ n. either (n == 4) 3 n) (Fetched (step slots (page_at p) 4 3 maybe.none) (v, []))
 fetched k slots p id frame role v near about nothing some_role may right s r size at fits =
     exchanged (page_word s p) 4 3
-    (λ n. (w : View) × (a : Act Lodged) × Valid s.homes [] a × Rule k (stepped s (page_at p) n id [] w a) × Fetched (step slots (page_at p) 4 3 maybe.none) (v, []) (page_word s p) (w, carried_after [] a))
+    (λ n. (w : View) × (a : Act Lodged) × Valid s.homes [] a × Ruled k (stepped s (page_at p) n id [] w a) × Fetched (step slots (page_at p) 4 3 maybe.none) (v, []) (page_word s p) (w, carried_after [] a))
     (λ e.
-    let away = lies k s r p id frame role v at near e about nothing some_role may right in (
-      fetching v p (r.rec p) frame,
-      chain (takes (store_slot k p) (Away (r.rec p))) (takes (frame_slot k p) Nothing),
+    let away = lies k s r.facts p id frame role v at near e about nothing some_role may right in (
+      fetching v p (r.facts.rec p) frame,
+      chain (takes (store_slot k p) (Away (r.facts.rec p))) (takes (frame_slot k p) Nothing),
       (away.1, set_else s.homes (store_slot k p) (frame_slot k p) maybe.none (λ x. omega arith) ∙ away.0),
-      fetch_rule k s r p id frame role v at near e about nothing some_role may right,
+      record { facts = fetch_rule k s r.facts p id frame role v at near e about nothing some_role may right; claims = claims_aside k s _ _ id _ _ _ at (λ e. omega arith) refl r.claims },
       record {
         hit = λ q f is one _. subst
-            (λ (n : ℕ). (x : List ℕ) × ◌≡◌ {A = Mine} (fetching v p (r.rec p) frame, both_slots k p Nothing (Away (r.rec p))) (fetching v n x f, both_slots v.about n Nothing (Away x)) × Fetches v n x) (same_page p q is)
-            (r.rec p, ap (λ (j : ℕ). (fetching v p (r.rec p) j, both_slots k p Nothing (Away (r.rec p)))) (same_frame frame f (sym right ∙ one)) ∙ ap (λ (a : Key). (fetching v p (r.rec p) f, both_slots a p Nothing (Away (r.rec p)))) (sym about), fetch_told k s r p id frame role v at near e about nothing some_role may right);
+            (λ (n : ℕ). (x : List ℕ) × ◌≡◌ {A = Mine} (fetching v p (r.facts.rec p) frame, both_slots k p Nothing (Away (r.facts.rec p))) (fetching v n x f, both_slots v.about n Nothing (Away x)) × Fetches v n x) (same_page p q is)
+            (r.facts.rec p, ap (λ (j : ℕ). (fetching v p (r.facts.rec p) j, both_slots k p Nothing (Away (r.facts.rec p)))) (same_frame frame f (sym right ∙ one)) ∙ ap (λ (a : Key). (fetching v p (r.facts.rec p) f, both_slots a p Nothing (Away (r.facts.rec p)))) (sym about), fetch_told k s r.facts p id frame role v at near e about nothing some_role may right);
         miss = λ q is ne. absurd (ne e);
       },
     ))
@@ -343,12 +344,12 @@ fetched k slots p id frame role v near about nothing some_role may right s r siz
       having_read v p (page_word s p),
       keeps,
       tt,
-      look_step k s r p id role v at near about some_role,
+      record { facts = look_step k s r.facts p id role v at near about some_role; claims = claims_aside k s _ _ id _ _ _ at (λ e. omega arith) refl r.claims },
       record {
         hit = λ q f is one e. absurd (ne e);
         miss = λ q is _. (
           ap (λ (n : ℕ). (having_read v n (page_word s p), [])) (same_page p q is),
-          subst (λ (n : ℕ). ReadsWord v n (page_word s p)) (same_page p q is) (reads k s r p id v near at about),
+          subst (λ (n : ℕ). ReadsWord v n (page_word s p)) (same_page p q is) (reads k s r.facts p id v near at about),
         );
       },
     ))
@@ -357,8 +358,8 @@ fetched k slots p id frame role v near about nothing some_role may right s r siz
     same_frame a b e = cc
 
 pub fetches_from : (k : Key) (slots p i id frame role : ℕ) (me : Mine) → i ≡ page_at p → p < pages_of k → me.0.about ≡ k → me.0.hand ≡ None → 0 < has_role me.0 role → (0 < has_role me.0 (owner k p)) ⊎ IsFrozenIn k p → me.0.rights ≡ frame ∷ [] → me.1 ≡ []
-    → Allows (Rule k) slots id me i (λ n. either (n == 4) 3 n) (Fetched (step slots i 4 3 maybe.none) me)
+    → Allows (Ruled k) slots id me i (λ n. either (n == 4) 3 n) (Fetched (step slots i 4 3 maybe.none) me)
 fetches_from k slots p i id frame role me is near about nothing some_role may right free =
-    subst (λ (j : ℕ). Allows (Rule k) slots id me j (λ n. either (n == 4) 3 n) (Fetched (step slots j 4 3 maybe.none) me)) (sym is)
-    (subst (λ (l : List (ℕ × Lodged)). Allows (Rule k) slots id (me.0, l) (page_at p) (λ n. either (n == 4) 3 n) (Fetched (step slots (page_at p) 4 3 maybe.none) (me.0, l))) (sym free)
+    subst (λ (j : ℕ). Allows (Ruled k) slots id me j (λ n. either (n == 4) 3 n) (Fetched (step slots j 4 3 maybe.none) me)) (sym is)
+    (subst (λ (l : List (ℕ × Lodged)). Allows (Ruled k) slots id (me.0, l) (page_at p) (λ n. either (n == 4) 3 n) (Fetched (step slots (page_at p) 4 3 maybe.none) (me.0, l))) (sym free)
     (fetched k slots p id frame role me.0 near about nothing some_role may right))

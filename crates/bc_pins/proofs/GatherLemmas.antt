@@ -14,7 +14,7 @@ use Rattle.bc_pins.specs.Views.{has_role, sets_bit, reads_of, entries, look_up, 
 use Rattle.bc_pins.specs.Steps.{Mine, united}
 use Rattle.bc_pins.specs.Tracing.{tells}
 use Rattle.bc_pins.specs.Calls.{view_of, CountsFetches}
-use Rattle.bc_pins.specs.Closing.{IsBack, AreBack, Gathered, fetches_of}
+use Rattle.bc_pins.specs.Closing.{IsBack, AreBack, Gathered, claims_of, fetches_of}
 use Rattle.bc_pins.proofs.TotalLemmas.{total_append, times_append}
 use Rattle.bc_pins.proofs.LogLemmas.{times-reads}
 use Rattle.bc_pins.proofs.TracingLemmas.{tells_append}
@@ -123,6 +123,8 @@ module _ (id : TableId) (k : Key) (apart : (r : ℕ) → times r k.roles ≤ 1) 
         busy = λ p. first_moved (λ v. v.busy) front seat p ∙ ap (total (λ (s : Seat). times p (view_of s).busy)) (sym is);
         put = λ p w b. first_put k front seat p w b ∙ ap (total (λ (s : Seat). puts_with k p w b (view_of s).changed)) (sym is);
         read = λ i n. first_moved (λ v. reads_of i v.read) front seat n ∙ ap (total (λ (s : Seat). times n (reads_of i (view_of s).read))) (sym is);
+        claimed = (let b = total_append (λ (s : Seat). length (view_of s).notices) front (seat ∷ []) in let c = ap claims_of is in omega arith);
+        notices = λ n. first_moved (λ v. v.notices) front seat n ∙ ap (total (λ (s : Seat). times n (view_of s).notices)) (sym is);
         mine = λ j le lt d p has.
             let e : get_or all j d ≡ seat = (let z : j ≡ length front = omega arith in ap (λ (i : ℕ). get_or all i d) z ∙ here d) in
             (subst (λ (s : Seat). 0 < has_role (view_of s) (owner k p)) e has, sym (ap (λ (s : Seat). record_of (view_of s) p) e));
@@ -175,6 +177,13 @@ module _ (id : TableId) (k : Key) (apart : (r : ℕ) → times r k.roles ≤ 1) 
         busy = λ p. ap (λ (u : View). times p u.busy + total (λ (s : Seat). times p (view_of s).busy) front) view ∙ moved (λ u. u.busy) v front seat p _ (g.busy p);
         put = λ p x b. ap (λ (u : View). puts_with k p x b u.changed + total (λ (s : Seat). puts_with k p x b (view_of s).changed) front) view ∙ put_moved k v front seat p x b _ (g.put p x b);
         read = λ i n. ap (λ (u : View). times n (reads_of i u.read) + total (λ (s : Seat). times n (reads_of i (view_of s).read)) front) view ∙ read_moved v front seat i n _ (g.read i n);
+        claimed =
+            (let a = length-append v.notices w.notices in
+            let c = total_append (λ (s : Seat). length (view_of s).notices) front (seat ∷ []) in
+            let e : length new.me.0.notices ≡ length (v.notices ++ w.notices) = ap (λ (u : View). length u.notices) view in
+            let old = g.claimed in
+            omega arith);
+        notices = λ n. ap (λ (u : View). times n u.notices + total (λ (s : Seat). times n (view_of s).notices) front) view ∙ moved (λ u. u.notices) v front seat n _ (g.notices n);
         mine = λ j le lt d p has.
             let sum = times_append (owner k p) v.roles w.roles in
             let one = one_has (owner k p) in

@@ -19,8 +19,9 @@ use Rattle.bc_pins.specs.Contents.{IsContent, RefersYoung}
 use Rattle.bc_pins.specs.Views.{grips, grips_remembered, frame_in_hand, counted_for, marked_for, has_role, withholds, entries, look_up, opened_content}
 use Rattle.bc_pins.specs.Facts.{Table, fetched_ever, slot, IsHomed, Lies, RecordsContent, Marking, frame_lodged, points, page_word, IsBitOfTarget, MarksTargets, has_bit_of, puts_with}
 use Rattle.bc_pins.specs.Tidy.{IsTidy}
-use Rattle.bc_pins.specs.Rule.{Rule}
+use Rattle.bc_pins.specs.Rule.{Rule, Ruled}
 use Rattle.bc_pins.specs.Steps.{Mine, owns, both_slots, released, Gave}
+use Rattle.bc_pins.proofs.NoticeLemmas.{claims_aside}
 use Rattle.bc_pins.proofs.TotalLemmas.{total_set, total_at, one_same, one_other, one_is}
 use Rattle.bc_pins.proofs.WithholdLemmas.{foreign_few, foreign_own}
 use Rattle.bc_pins.proofs.PageSteps.{after, sets_marked, left_gone, PageStep, page_step}
@@ -423,13 +424,16 @@ first_homed p q a b l m e = home_is a b (ap second e)
 pub gave : (k : Key) (slots id x role : ℕ) (v : View) (g : Hand) (h : Homed) → 1 ≤ x → x ≤ 2 → v.about ≡ k → v.hand ≡ Some g → 0 < has_role v role → h.frame ≡ g.frame
     → IsContent k.opening g.page h.page → (RefersYoung k.opening g.page h.page → x ≡ 2) → (g.remembered ≡ true → x ≡ 2)
     → (has_role v (owner k g.page) ≡ 0 → (h.page ≡ g.content) × (x ≡ 2 → g.remembered ≡ true)) → g.counted ≡ [] → g.marked ≡ []
-    → Allows (Rule k) slots id (v, both_slots k g.page (Home h) Nothing) (page_at g.page) (λ _. x)
+    → Allows (Ruled k) slots id (v, both_slots k g.page (Home h) Nothing) (page_at g.page) (λ _. x)
     (λ _. Gave (step slots (page_at g.page) x 0 maybe.none) (v, both_slots k g.page (Home h) Nothing))
 gave k slots id x role v g h lo hi about has some_role frame fixed young flag others uncounted unmarked s r size at fits = (
   released v g.page (x == 2) h.page,
   chain gives gives,
   (tt, tt),
-  give_rule k s r id x role v g h at lo hi about has some_role frame fixed young flag others uncounted unmarked,
+  record {
+    facts = give_rule k s r.facts id x role v g h at lo hi about has some_role frame fixed young flag others uncounted unmarked;
+    claims = let near = ((r.facts.seats id v at).records.in_hand g has).0 in claims_aside k s _ _ id _ _ _ at (λ e. omega arith) refl r.claims;
+  },
   record {
     slots = refl;
     view = λ q z is e. ap (λ (y : Homed). released v g.page (x == 2) y.page) (first_homed (home_slot g.page) (home_slot q) h z _ _ e) ∙ ap (λ (n : ℕ). released v n (x == 2) z.page) (same_page g.page q is);
@@ -440,11 +444,11 @@ pub gives_from : (k : Key) (slots id x role : ℕ) (me : Mine) (v : View) (g : H
     → v.about ≡ k → v.hand ≡ Some g → 0 < has_role v role → h.frame ≡ g.frame
     → IsContent v.about.opening p h.page → (RefersYoung v.about.opening p h.page → x ≡ 2) → (g.remembered ≡ true → x ≡ 2)
     → (has_role v (owner v.about p) ≡ 0 → (h.page ≡ g.content) × (x ≡ 2 → g.remembered ≡ true)) → g.counted ≡ [] → g.marked ≡ []
-    → Allows (Rule k) slots id me i (λ _. x) (λ _. Gave (step slots i x 0 maybe.none) me)
+    → Allows (Ruled k) slots id me i (λ _. x) (λ _. Gave (step slots i x 0 maybe.none) me)
 gives_from k slots id x role me v g h p i entry is page lo hi about has some_role frame fixed young flag others uncounted unmarked =
-    subst (λ (j : ℕ). Allows (Rule k) slots id me j (λ _. x) (λ _. Gave (step slots j x 0 maybe.none) me)) (sym entry)
-    (subst (λ (m : Mine). Allows (Rule k) slots id m (page_at p) (λ _. x) (λ _. Gave (step slots (page_at p) x 0 maybe.none) m)) (sym is)
-    (subst (λ (q : ℕ). Allows (Rule k) slots id (v, both_slots k q (Home h) Nothing) (page_at q) (λ _. x) (λ _. Gave (step slots (page_at q) x 0 maybe.none) (v, both_slots k q (Home h) Nothing))) page
+    subst (λ (j : ℕ). Allows (Ruled k) slots id me j (λ _. x) (λ _. Gave (step slots j x 0 maybe.none) me)) (sym entry)
+    (subst (λ (m : Mine). Allows (Ruled k) slots id m (page_at p) (λ _. x) (λ _. Gave (step slots (page_at p) x 0 maybe.none) m)) (sym is)
+    (subst (λ (q : ℕ). Allows (Ruled k) slots id (v, both_slots k q (Home h) Nothing) (page_at q) (λ _. x) (λ _. Gave (step slots (page_at q) x 0 maybe.none) (v, both_slots k q (Home h) Nothing))) page
     (gave k slots id x role v g h lo hi about has some_role frame
     (subst (λ (q : ℕ). IsContent k.opening q h.page) (sym page) (subst (λ (a : Key). IsContent a.opening p h.page) about fixed))
     (λ y. young (subst (λ (a : Key). RefersYoung a.opening p h.page) (sym about) (subst (λ (q : ℕ). RefersYoung k.opening q h.page) page y)))

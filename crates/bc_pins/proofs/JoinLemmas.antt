@@ -1,5 +1,5 @@
 -- A seat is joined into another, which takes over all that it kept.
-use Rattle.std.proofs.Common.{◌≡◌, ℕ, ◌+◌, ◌<◌, ◌≤◌, ◌==◌, Bool, true, false, List, [], ◌∷◌, ◌++◌, set, None, if◌then◌else◌, inl, inr, refl, ap, sym, subst, ◌∙◌, arith}
+use Rattle.std.proofs.Common.{◌≡◌, ℕ, ◌+◌, ◌<◌, ◌≤◌, ◌==◌, Bool, true, false, List, [], ◌∷◌, ◌++◌, length, set, None, if◌then◌else◌, inl, inr, refl, ap, sym, subst, ◌∙◌, arith, length-append}
 use mathlib.Core.Option.{some}
 use lib.ListN.{get_elem?}
 use Rattle.std.proofs.lemmas.Bool.{cases_lt, cases_Bool}
@@ -12,11 +12,13 @@ use Rattle.bc_pins.specs.Totals.{total, times}
 use Rattle.bc_pins.specs.Views.{grips, grips_remembered, frame_in_hand, counted_for, sets_bit, marked_for, has_role, withholds, reads_as, entries, look_up, opened_content, record_of, sets_for}
 use Rattle.bc_pins.specs.Facts.{Table, has_bit_of, puts_with}
 use Rattle.bc_pins.specs.Tracing.{tells}
-use Rattle.bc_pins.specs.Rule.{SeatFacts, Rule}
+use Rattle.bc_pins.specs.Rule.{SeatFacts, Rule, Ruled}
+use Rattle.bc_pins.specs.Claims.{Claims}
 use Rattle.bc_pins.specs.Steps.{united, nobody}
 use Rattle.bc_pins.proofs.TotalLemmas.{total_set, total_two, times_append}
 use Rattle.bc_pins.proofs.WithholdLemmas.{foreign_none}
 use Rattle.bc_pins.proofs.LogLemmas.{times-reads}
+use Rattle.bc_pins.proofs.NoticeLemmas.{claims_same}
 use Rattle.bc_pins.proofs.TracingLemmas.{tells_append, knows_none, knows_both}
 use Rattle.bc_pins.proofs.SeatLemmas.{with_views, SameSums, now_same, same_words, views_step, seat_kept, no_hand, no_marking, no_targets}
 
@@ -189,6 +191,7 @@ module _ (k : Key) (s : Table) (r : Rule k s) (id other : ℕ) (v w : View) (at 
             known = ap (λ (l : List (ℕ × ℕ)). l ++ w.known) a.known ∙ b.known;
             finished = ap (λ (l : List (ℕ × ℕ)). l ++ w.finished) a.finished ∙ b.finished;
             read = ap (λ (l : List (ℕ × ℕ)). l ++ w.read) a.read ∙ b.read;
+            notices = none_of v.notices w.notices a.notices b.notices;
           };
     };
     records = record {
@@ -279,7 +282,7 @@ module _ (k : Key) (s : Table) (r : Rule k s) (id other : ℕ) (v w : View) (at 
 
   spent : SeatFacts k (with_views s views) r.rec nobody
   spent = record {
-    seated = record { about = λ e. absurd (not_alive e); idle = λ _. record { hand = refl; rights = refl; recorded = refl; left = refl; emptied = refl; returned = refl; fetched = refl; bookmarked = refl; won = refl; known = refl; finished = refl; read = refl } };
+    seated = record { about = λ e. absurd (not_alive e); idle = λ _. record { hand = refl; rights = refl; recorded = refl; left = refl; emptied = refl; returned = refl; fetched = refl; bookmarked = refl; won = refl; known = refl; finished = refl; read = refl; notices = refl } };
     records = record { mine = λ p lt. absurd (omega arith); others = λ p _. refl; unrecorded = λ p _. refl; unfetched = λ p _ _. refl; in_hand = λ h e. absurd (no_hand h e) };
     saw = record { seen = λ p lt. absurd (omega arith); gone = λ p lt. absurd (omega arith); busy = λ p lt. absurd (omega arith); taken = λ p lt. absurd (omega arith) };
     marking = no_marking nobody refl refl;
@@ -299,5 +302,11 @@ module _ (k : Key) (s : Table) (r : Rule k s) (id other : ℕ) (v w : View) (at 
   pub join_rule : Rule k (with_views s views)
   join_rule = views_step k s r views sums seat_each
 
-pub unites : (k : Key) (id other : ℕ) (v w : View) → v.about ≡ k → w.about ≡ k → v.hand ≡ None → w.hand ≡ None → Joins (Rule k) id v other w (united v w) nobody
-unites k id other v w about same_about free nothing s r at ne there = join_rule k s r id other v w at ne there about same_about free nothing
+  pub join_claims : Claims k s → Claims k (with_views s views)
+  join_claims old = claims_same k s (with_views s views) refl (sum_of (λ u. length u.notices) refl (length-append v.notices w.notices)) (λ n. sum_of (λ u. times n u.notices) refl (times_append n v.notices w.notices)) old
+
+pub unites : (k : Key) (id other : ℕ) (v w : View) → v.about ≡ k → w.about ≡ k → v.hand ≡ None → w.hand ≡ None → Joins (Ruled k) id v other w (united v w) nobody
+unites k id other v w about same_about free nothing s r at ne there = record {
+  facts = join_rule k s r.facts id other v w at ne there about same_about free nothing;
+  claims = join_claims k s r.facts id other v w at ne there about same_about free nothing r.claims;
+}

@@ -61,6 +61,9 @@ pub mod FetchSteps
 pub mod UncountSteps
 -- Claiming all free frames of a frame word
 pub mod ClaimSteps
+-- The claims of notices, and the step of one
+pub mod NoticeLemmas
+pub mod NoticeSteps
 -- Boxes that went into slots, and came back.
 pub mod RestLemmas
 -- The space at the opening: its cells lie on pages of the table

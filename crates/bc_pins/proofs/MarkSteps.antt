@@ -31,8 +31,9 @@ use Rattle.bc_pins.specs.Totals.{times}
 use Rattle.bc_pins.specs.Contents.{IsContent, IsFieldOn, NamesFixed, field_bits, objects_in}
 use Rattle.bc_pins.specs.Views.{grips, grips_remembered, frame_in_hand, counted_for, sets_bit, marked_for, has_role, entries, look_up, opened_content, sets_for}
 use Rattle.bc_pins.specs.Facts.{Table, word, RecordsContent, Seated, Marking, points, adds_to, Counters, bookmark_bit, ever_set, cell_bit, Bits, page_word, IsBitOfTarget, MarksTargets, had_with, has_bit_of, puts_with}
-use Rattle.bc_pins.specs.Rule.{Rule}
+use Rattle.bc_pins.specs.Rule.{Rule, Ruled}
 use Rattle.bc_pins.specs.Steps.{Mine, bookmarking, counting, AreTargets, SetBits, Counted}
+use Rattle.bc_pins.proofs.NoticeLemmas.{claims_aside}
 use Rattle.bc_pins.proofs.TotalLemmas.{total_set, total_less_at, one_same, one_other, one_few}
 use Rattle.bc_pins.proofs.SumLemmas.{sum_few_below, sum_one}
 use Rattle.bc_pins.proofs.TakeLemmas.{some_hand}
@@ -417,12 +418,15 @@ module _ (k : Key) (s : Table) (r : Rule k s) (id role : ℕ) (v : View) (h : Ha
 
 -- whatever the table is, both keep the rule, and the view is as it says
 pub marks_from : (k : Key) (slots id role : ℕ) (me : Mine) (h : Hand) (w bits i : ℕ) → i ≡ bookmark_at k w → w < 16 * k.supers → k.supers ≤ superpages k.opening → me.0.about ≡ k → me.0.hand ≡ Some h → 0 < has_role me.0 role
-    → AreTargets k h w bits → Allows (Rule k) slots id me i (λ n. bit_or n bits) (SetBits (step slots i bits 0 maybe.none) me)
+    → AreTargets k h w bits → Allows (Ruled k) slots id me i (λ n. bit_or n bits) (SetBits (step slots i bits 0 maybe.none) me)
 marks_from k slots id role me h w bits i is lt within about has_one some_role targets s r size at fits = (
   bookmarking me.0 h w bits (word s i),
   keeps,
   tt,
-  subst (λ (j : ℕ). Rule k (aside s j (bit_or (word s j) bits) id (bookmarking me.0 h w bits (word s i)))) (sym is) (mark_rule k s r id role me.0 h at about has_one some_role w bits (word s i) lt targets within),
+  record {
+    facts = subst (λ (j : ℕ). Rule k (aside s j (bit_or (word s j) bits) id (bookmarking me.0 h w bits (word s i)))) (sym is) (mark_rule k s r.facts id role me.0 h at about has_one some_role w bits (word s i) lt targets within);
+    claims = claims_aside k s _ _ id _ _ _ at (λ e. omega arith) refl r.claims;
+  },
   record {
     view = λ g x e f.
         let same = some_hand h g (sym has_one ∙ e) in
@@ -432,12 +436,15 @@ marks_from k slots id role me h w bits i is lt within about has_one some_role ta
 )
 
 pub counts_from : (k : Key) (slots id role : ℕ) (me : Mine) (h : Hand) (q i : ℕ) → i ≡ counter_at k q → q < k.supers → me.0.about ≡ k → me.0.hand ≡ Some h → 0 < has_role me.0 role → times q h.counted ≡ 0
-    → Allows (Rule k) slots id me i (λ n. (n + 1) % 2 ^ 64) (Counted (step slots i 1 0 maybe.none) me)
+    → Allows (Ruled k) slots id me i (λ n. (n + 1) % 2 ^ 64) (Counted (step slots i 1 0 maybe.none) me)
 counts_from k slots id role me h q i is lt about has_one some_role uncounted s r size at fits = (
   counting me.0 h q (word s i),
   keeps,
   tt,
-  subst (λ (j : ℕ). Rule k (aside s j ((word s j + 1) % 2 ^ 64) id (counting me.0 h q (word s i)))) (sym is) (count_rule k s r id role me.0 h at about has_one some_role q (word s i) lt uncounted),
+  record {
+    facts = subst (λ (j : ℕ). Rule k (aside s j ((word s j + 1) % 2 ^ 64) id (counting me.0 h q (word s i)))) (sym is) (count_rule k s r.facts id role me.0 h at about has_one some_role q (word s i) lt uncounted);
+    claims = claims_aside k s _ _ id _ _ _ at (λ e. omega arith) refl r.claims;
+  },
   record {
     view = λ g x e f.
         let same = some_hand h g (sym has_one ∙ e) in

@@ -300,5 +300,6 @@ module _ (k : Key) (whole : SpaceParts) (kept : AreParts whole) (layout : parts_
     frames = frames_open;
     counters = counters_open;
     bits = bits_open;
+    notice = filled.notice;
     tracing = tracing_open;
   }

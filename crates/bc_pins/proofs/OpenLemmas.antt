@@ -51,7 +51,7 @@ starts k words slots may =
           let none_is : one_if (page_word s p == 0) ≡ one_if (opened_word k p == 0) = ap (λ (n : ℕ). one_if (n == 0)) page.word in
           record { remembered = λ lt. omega arith; recorded = λ lt. omega arith; as_opened = λ turn lt. one_is (opened_word k p) 2 (omega arith); gone = omega arith; absent = omega arith; busy = λ lt. absurd (omega arith); held = λ lt. absurd (omega arith); away = λ lt. absurd (omega arith) };
       seats = λ id v at. subst (SeatFacts k s (opened_content k)) (one_view first v id at) record {
-        seated = record { about = λ _. refl; idle = λ _. record { hand = refl; rights = refl; recorded = refl; left = refl; emptied = refl; returned = refl; fetched = refl; bookmarked = refl; won = refl; known = refl; finished = refl; read = refl } };
+        seated = record { about = λ _. refl; idle = λ _. record { hand = refl; rights = refl; recorded = refl; left = refl; emptied = refl; returned = refl; fetched = refl; bookmarked = refl; won = refl; known = refl; finished = refl; read = refl; notices = refl } };
         records = record { mine = λ p _. refl; others = λ p _. refl; unrecorded = λ p _. refl; unfetched = λ p _ _. refl; in_hand = λ h e. absurd (no_hand h e) };
         saw = record { seen = λ p lt. absurd (omega arith); gone = λ p lt. absurd (omega arith); busy = λ p lt. absurd (omega arith); taken = λ p lt. absurd (omega arith) };
         marking = no_marking first refl refl;

@@ -1,10 +1,9 @@
 -- Which frames of the pool are free once a table's words were put into it, and the account of frames after it.
-use Rattle.std.proofs.Common.{◌≡◌, ℕ, ◌+◌, ◌/◌, ◌%◌, ◌<◌, ◌≤◌, ◌*◌, ◌≢◌, ◌==◌, min, not, Bool, true, false, List, [], ◌∷◌, length, set, get_or, Option, None, is_some, count_by, nat_lt, inl, inr, refl, ap, sym, ◌∙◌, arith, get_or-set_same, get_or-set_other}
+use Rattle.std.proofs.Common.{◌≡◌, ℕ, ◌+◌, ◌/◌, ◌%◌, ◌<◌, ◌≤◌, ◌*◌, ◌≢◌, ◌==◌, min, Bool, false, List, length, get_or, Option, None, is_some, count_by, nat_lt, inl, inr, refl, ap, sym, ◌∙◌, arith}
 use Prim.Native.Nat.{zero, suc}
 use Rattle.std.specs.Int.{bit_at}
-use Rattle.std.proofs.lemmas.Bool.{cases_eq, cases_Bool, eq-eqb, ne_eqb, lt-ltb}
-use Rattle.std.proofs.lemmas.List.{get_or_past, length-set}
-use Rattle.bc_bits.specs.Bits.{has}
+use Rattle.std.proofs.lemmas.Bool.{cases_eq, lt-ltb}
+use Rattle.std.proofs.lemmas.List.{get_or_past}
 use Rattle.bc_bits.specs.Counting.{one_if}
 use Rattle.bc_frames.specs.Pool.{is_free, free_count}
 use Rattle.bc_superpages.specs.declared.spaces.Homed.{Homed}
@@ -13,7 +12,7 @@ use Rattle.bc_pins.specs.Totals.{total, sum_to}
 use Rattle.bc_pins.specs.Closing.{PoolSet}
 use Rattle.bc_pins.proofs.SumLemmas.{sum_same, count_total, total_sum}
 use Rattle.bc_pins.proofs.BoxLemmas.{sum_plus, boxes_sum}
-use Rattle.bc_pins.proofs.TallyLemmas.{bit_few, bit_in, ge-nat_lt, in_bit}
+use Rattle.bc_pins.proofs.TallyLemmas.{ge-nat_lt}
 
 pub pool_none : (o : List Bool) (start : ℕ) (ws : List ℕ) → PoolSet o o 0 start ws
 pool_none o start ws = record { long = refl; near = λ f lt. absurd (omega arith); far = λ f _. refl }

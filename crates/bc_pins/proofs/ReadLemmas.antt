@@ -16,8 +16,9 @@ use Rattle.bc_pins.specs.Totals.{total, times}
 use Rattle.bc_pins.specs.Contents.{IsBarePage}
 use Rattle.bc_pins.specs.Views.{is_empty_handed, grips, grips_remembered, has_role, reads_as}
 use Rattle.bc_pins.specs.Facts.{Table, Lies, remembered_now, fetched_ever, Saw, page_word}
-use Rattle.bc_pins.specs.Rule.{Rule}
+use Rattle.bc_pins.specs.Rule.{Rule, Ruled}
 use Rattle.bc_pins.specs.Steps.{Mine, owns, having_read, ReadsWord, Looked}
+use Rattle.bc_pins.proofs.NoticeLemmas.{claims_aside}
 use Rattle.bc_pins.proofs.TotalLemmas.{total_set, one_other, one_is, total_less}
 use Rattle.bc_pins.proofs.WithholdLemmas.{added_other, noted_busy}
 use Rattle.bc_pins.proofs.MarkedLemmas.{targets_kept}
@@ -262,17 +263,17 @@ look_step k s r p id role v at near about some_role =
     }
 
 -- whatever the table is, a look keeps the rule and says what it found
-looks : (k : Key) (slots p id role : ℕ) (me : Mine) → p < pages_of k → me.0.about ≡ k → 0 < has_role me.0 role → Allows (Rule k) slots id me (page_at p) (λ n. n) (Looked (step slots (page_at p) 0 0 maybe.none) me)
+looks : (k : Key) (slots p id role : ℕ) (me : Mine) → p < pages_of k → me.0.about ≡ k → 0 < has_role me.0 role → Allows (Ruled k) slots id me (page_at p) (λ n. n) (Looked (step slots (page_at p) 0 0 maybe.none) me)
 looks k slots p id role me near about some_role s r size at fits = (
   having_read me.0 p (page_word s p),
   keeps,
   tt,
-  look_step k s r p id role me.0 at near about some_role,
+  record { facts = look_step k s r.facts p id role me.0 at near about some_role; claims = claims_aside k s _ _ id _ _ _ at (λ e. omega arith) refl r.claims },
   record {
     view = λ q e. ap (λ (n : ℕ). (having_read me.0 n (page_word s p), me.1)) (same_page p q e);
-    reads = λ q e. subst (λ (n : ℕ). ReadsWord me.0 n (page_word s p)) (same_page p q e) (reads k s r p id me.0 near at about);
+    reads = λ q e. subst (λ (n : ℕ). ReadsWord me.0 n (page_word s p)) (same_page p q e) (reads k s r.facts p id me.0 near at about);
   },
 )
 
-pub looked : (k : Key) (slots p i id role : ℕ) (me : Mine) → i ≡ page_at p → p < pages_of k → me.0.about ≡ k → 0 < has_role me.0 role → Allows (Rule k) slots id me i (λ n. n) (Looked (step slots i 0 0 maybe.none) me)
-looked k slots p i id role me is near about some_role = subst (λ (j : ℕ). Allows (Rule k) slots id me j (λ n. n) (Looked (step slots j 0 0 maybe.none) me)) (sym is) (looks k slots p id role me near about some_role)
+pub looked : (k : Key) (slots p i id role : ℕ) (me : Mine) → i ≡ page_at p → p < pages_of k → me.0.about ≡ k → 0 < has_role me.0 role → Allows (Ruled k) slots id me i (λ n. n) (Looked (step slots i 0 0 maybe.none) me)
+looked k slots p i id role me is near about some_role = subst (λ (j : ℕ). Allows (Ruled k) slots id me j (λ n. n) (Looked (step slots j 0 0 maybe.none) me)) (sym is) (looks k slots p id role me near about some_role)

@@ -1,5 +1,5 @@
 -- Only views change: no word and no slot does, and what the views have together stays. So a seat is split off.
-use Rattle.std.proofs.Common.{◌≡◌, ℕ, ◌+◌, ◌<◌, ◌⊎◌, List, [], ◌∷◌, ◌++◌, take, drop, set, Some, None, inl, inr, refl, ap, sym, subst, ◌∙◌, arith}
+use Rattle.std.proofs.Common.{◌≡◌, ℕ, ◌+◌, ◌<◌, ◌⊎◌, List, [], ◌∷◌, ◌++◌, length, take, drop, set, Some, None, inl, inr, refl, ap, sym, subst, ◌∙◌, arith}
 use mathlib.Core.Option.{some}
 use lib.ListN.{get_elem?}
 use Rattle.atomic_table.specs.Table.{Splits}
@@ -11,12 +11,13 @@ use Rattle.bc_pins.specs.Totals.{total, times}
 use Rattle.bc_pins.specs.Views.{grips, grips_remembered, frame_in_hand, counted_for, sets_bit, withholds, reads_as, marked_for, entries, look_up, opened_content, sets_for}
 use Rattle.bc_pins.specs.Facts.{IsIdle, Table, page_word, remembered_now, adds_to, Marking, MarksTargets, fetched_ever, puts_with}
 use Rattle.bc_pins.specs.Tracing.{tells}
-use Rattle.bc_pins.specs.Rule.{SeatFacts, Rule}
+use Rattle.bc_pins.specs.Rule.{SeatFacts, Rule, Ruled}
 use Rattle.bc_pins.specs.Steps.{dealer, dealt}
 use Rattle.bc_pins.proofs.TotalLemmas.{total_set, total_append}
 use Rattle.bc_pins.proofs.MarkedLemmas.{targets_more}
 use Rattle.bc_pins.proofs.SumLemmas.{sum_same}
 use Rattle.bc_pins.proofs.WithholdLemmas.{foreign_none}
+use Rattle.bc_pins.proofs.NoticeLemmas.{claims_same}
 use Rattle.bc_pins.proofs.TracingLemmas.{KeepsMarks, KeepsSet, tracing_kept, knows_stay, knows_read, knows_none}
 
 -- the table with other views
@@ -204,7 +205,7 @@ module _ (k : Key) (s : Table) (r : Rule k s) (id : ℕ) (v : View) (at : get_el
   }
 
   idle_rest : IsIdle (dealer v)
-  idle_rest = record { hand = unused.hand; rights = unused.rights; recorded = unused.recorded; left = unused.left; emptied = unused.emptied; returned = unused.returned; fetched = unused.fetched; bookmarked = unused.bookmarked; won = unused.won; known = unused.known; finished = unused.finished; read = unused.read }
+  idle_rest = record { hand = unused.hand; rights = unused.rights; recorded = unused.recorded; left = unused.left; emptied = unused.emptied; returned = unused.returned; fetched = unused.fetched; bookmarked = unused.bookmarked; won = unused.won; known = unused.known; finished = unused.finished; read = unused.read; notices = unused.notices }
 
   keeps_rest : SeatFacts k (with_views s views) r.rec (dealer v)
   keeps_rest = record {
@@ -229,7 +230,7 @@ module _ (k : Key) (s : Table) (r : Rule k s) (id : ℕ) (v : View) (at : get_el
 
   has_first : SeatFacts k (with_views s views) r.rec (dealt v)
   has_first = record {
-    seated = record { about = facts.seated.about; idle = λ _. record { hand = refl; rights = refl; recorded = refl; left = refl; emptied = refl; returned = refl; fetched = refl; bookmarked = refl; won = refl; known = refl; finished = refl; read = refl } };
+    seated = record { about = facts.seated.about; idle = λ _. record { hand = refl; rights = refl; recorded = refl; left = refl; emptied = refl; returned = refl; fetched = refl; bookmarked = refl; won = refl; known = refl; finished = refl; read = refl; notices = refl } };
     records = record {
       mine = λ p lt. let c = cut_times (owner k p) v.roles in facts.records.mine p (omega arith) ∙ ap (λ (l : List (ℕ × List ℕ)). look_up p l (opened_content v.about p)) no_change;
       others = λ p _. refl;
@@ -255,5 +256,10 @@ module _ (k : Key) (s : Table) (r : Rule k s) (id : ℕ) (v : View) (at : get_el
   pub split_rule : Rule k (with_views s views)
   split_rule = views_step k s r views sums seat_each
 
-pub deals : (k : Key) (id : ℕ) (v : View) → IsIdle v → v.changed ≡ [] → v.gone ≡ [] → v.busy ≡ [] → Splits (Rule k) id v (dealer v) (dealt v)
-deals k id v unused no_change no_gone no_busy s r at = split_rule k s r id v at unused no_change no_gone no_busy
+pub deals : (k : Key) (id : ℕ) (v : View) → IsIdle v → v.changed ≡ [] → v.gone ≡ [] → v.busy ≡ [] → Splits (Ruled k) id v (dealer v) (dealt v)
+deals k id v unused no_change no_gone no_busy s r at = record {
+  facts = split_rule k s r.facts id v at unused no_change no_gone no_busy;
+  claims = claims_same k s (with_views s (set s.views id (dealer v) ++ dealt v ∷ [])) refl
+      (split_sum (λ (u : View). length u.notices) s.views id v (dealer v) (dealt v) at (omega arith))
+      (λ n. split_sum (λ (u : View). times n u.notices) s.views id v (dealer v) (dealt v) at (omega arith)) r.claims;
+}

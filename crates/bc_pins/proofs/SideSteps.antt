@@ -254,7 +254,7 @@ frames_same k s r i x id v w at other same f =
     record { used = omega (arith, ap one_if clear); past = λ le lt. ap (λ (n : ℕ). bit_at n (f % 64)) (word_is (omega arith)) ∙ old.past le lt }
 
 -- and marks, where it lies before them
-pub keeps_aside : (k : Key) (s : Table) (i x id : ℕ) (v w : View) → get_elem? s.views id ≡ some v → pages_end k ≤ i → i < notice_at k → KeepsBits k s.words (aside s i x id w).words → w.won ≡ v.won → w.finished ≡ v.finished → KeepsMarks k s (aside s i x id w)
+pub keeps_aside : (k : Key) (s : Table) (i x id : ℕ) (v w : View) → get_elem? s.views id ≡ some v → pages_end k ≤ i → i ≤ notice_at k → KeepsBits k s.words (aside s i x id w).words → w.won ≡ v.won → w.finished ≡ v.finished → KeepsMarks k s (aside s i x id w)
 keeps_aside k s i x id v w at far low set won finished = record {
   marks = λ j lt. get_or-set_other s.words i (mark_at k j) x 0 (λ e. omega arith);
   ends = λ j lt. get_or-set_other s.words i (finished_at k j) x 0 (λ e. omega arith);

@@ -19,8 +19,9 @@ use Rattle.bc_pins.specs.Totals.{total, times}
 use Rattle.bc_pins.specs.Contents.{IsContent, RefersYoung}
 use Rattle.bc_pins.specs.Views.{grips, grips_remembered, frame_in_hand, counted_for, marked_for, has_role, reads_as, opened_content, opened_word}
 use Rattle.bc_pins.specs.Facts.{Table, slot, IsHomed, Lies, remembered_now, RecordsContent, Seated, Marking, frame_lodged, points, page_word}
-use Rattle.bc_pins.specs.Rule.{Rule}
+use Rattle.bc_pins.specs.Rule.{Rule, Ruled}
 use Rattle.bc_pins.specs.Steps.{Mine, both_slots, gripping, having_read, ReadsWord, Takes, Took}
+use Rattle.bc_pins.proofs.NoticeLemmas.{claims_aside}
 use Rattle.bc_pins.proofs.TotalLemmas.{total_set, total_at, total_none, total_only, total_two, one_same, one_other, one_is}
 use Rattle.bc_pins.proofs.WithholdLemmas.{foreign_none}
 use Rattle.bc_pins.proofs.MarkedLemmas.{targets_kept}
@@ -303,22 +304,22 @@ module _ (k : Key) (s : Table) (r : Rule k s) (p id old role : ℕ) (v : View) (
 
 -- whatever the table is, a try to take keeps the rule and says what it found
 pub taken : (k : Key) (slots p id old role : ℕ) (v : View) → p < pages_of k → 1 ≤ old → old ≤ 2 → v.about ≡ k → v.hand ≡ None → 0 < has_role v role
-    → Allows (Rule k) slots id (v, []) (page_at p) (λ n. either (n == old) 3 n) (Took (step slots (page_at p) old 3 maybe.none) (v, []))
+    → Allows (Ruled k) slots id (v, []) (page_at p) (λ n. either (n == old) 3 n) (Took (step slots (page_at p) old 3 maybe.none) (v, []))
 taken k slots p id old role v near lo hi about nothing some_role s r size at fits =
     exchanged (page_word s p) old 3
-    (λ n. (w : View) × (a : Act Lodged) × Valid s.homes [] a × Rule k (stepped s (page_at p) n id [] w a) × Took (step slots (page_at p) old 3 maybe.none) (v, []) (page_word s p) (w, carried_after [] a))
+    (λ n. (w : View) × (a : Act Lodged) × Valid s.homes [] a × Ruled k (stepped s (page_at p) n id [] w a) × Took (step slots (page_at p) old 3 maybe.none) (v, []) (page_word s p) (w, carried_after [] a))
     (λ e.
-    let place = (r.place p near).lies in
+    let place = (r.facts.place p near).lies in
     let homed = homed_lies (page_word s p) _ _ _ (omega arith) (omega arith) place in
     let h = homed.0 in
-    let rule = hit_rule k s r p id old role v at near lo hi e about nothing some_role h homed.1 homed.2 homed.3 in (
+    let rule = hit_rule k s r.facts p id old role v at near lo hi e about nothing some_role h homed.1 homed.2 homed.3 in (
       gripping v p (old == 2) h,
       chain (takes (store_slot k p) Nothing) (takes (frame_slot k p) (Home h)),
       (homed.2, set_else s.homes (store_slot k p) (frame_slot k p) maybe.none (λ x. omega arith) ∙ homed.1),
-      rule,
+      record { facts = rule; claims = claims_aside k s _ _ id _ _ _ at (λ e. omega arith) refl r.claims },
       record {
         hit = λ q is _. subst (λ (n : ℕ). (x : Homed) × ◌≡◌ {A = Mine} (gripping v p (old == 2) h, both_slots k p (Home h) Nothing) (gripping v n (old == 2) x, both_slots v.about n (Home x) Nothing) × Takes v n (old == 2) x) (same_page p q is)
-            (h, ap (λ (a : Key). (gripping v p (old == 2) h, both_slots a p (Home h) Nothing)) (sym about), hit_told k s r p id old role v at near lo hi e about nothing some_role h homed.1 homed.2 homed.3);
+            (h, ap (λ (a : Key). (gripping v p (old == 2) h, both_slots a p (Home h) Nothing)) (sym about), hit_told k s r.facts p id old role v at near lo hi e about nothing some_role h homed.1 homed.2 homed.3);
         miss = λ q is ne. absurd (ne e);
       },
     ))
@@ -326,19 +327,19 @@ taken k slots p id old role v near lo hi about nothing some_role s r size at fit
       having_read v p (page_word s p),
       keeps,
       tt,
-      look_step k s r p id role v at near about some_role,
+      record { facts = look_step k s r.facts p id role v at near about some_role; claims = claims_aside k s _ _ id _ _ _ at (λ e. omega arith) refl r.claims },
       record {
         hit = λ q is e. absurd (ne e);
         miss = λ q is _. (
           ap (λ (n : ℕ). (having_read v n (page_word s p), [])) (same_page p q is),
-          subst (λ (n : ℕ). ReadsWord v n (page_word s p)) (same_page p q is) (reads k s r p id v near at about),
+          subst (λ (n : ℕ). ReadsWord v n (page_word s p)) (same_page p q is) (reads k s r.facts p id v near at about),
         );
       },
     ))
 
 pub takes_from : (k : Key) (slots p i id old role : ℕ) (me : Mine) → i ≡ page_at p → p < pages_of k → 1 ≤ old → old ≤ 2 → me.0.about ≡ k → me.0.hand ≡ None → 0 < has_role me.0 role → me.1 ≡ []
-    → Allows (Rule k) slots id me i (λ n. either (n == old) 3 n) (Took (step slots i old 3 maybe.none) me)
+    → Allows (Ruled k) slots id me i (λ n. either (n == old) 3 n) (Took (step slots i old 3 maybe.none) me)
 takes_from k slots p i id old role me is near lo hi about nothing some_role free =
-    subst (λ (j : ℕ). Allows (Rule k) slots id me j (λ n. either (n == old) 3 n) (Took (step slots j old 3 maybe.none) me)) (sym is)
-    (subst (λ (l : List (ℕ × Lodged)). Allows (Rule k) slots id (me.0, l) (page_at p) (λ n. either (n == old) 3 n) (Took (step slots (page_at p) old 3 maybe.none) (me.0, l))) (sym free)
+    subst (λ (j : ℕ). Allows (Ruled k) slots id me j (λ n. either (n == old) 3 n) (Took (step slots j old 3 maybe.none) me)) (sym is)
+    (subst (λ (l : List (ℕ × Lodged)). Allows (Ruled k) slots id (me.0, l) (page_at p) (λ n. either (n == old) 3 n) (Took (step slots (page_at p) old 3 maybe.none) (me.0, l))) (sym free)
     (taken k slots p id old role me.0 near lo hi about nothing some_role))

@@ -13,8 +13,9 @@ use Rattle.bc_pins.specs.Key.{Key, pages_of, counter_at, bookmark_at, page_at}
 use Rattle.bc_pins.specs.Totals.{times}
 use Rattle.bc_pins.specs.Views.{grips, grips_remembered, frame_in_hand, counted_for, marked_for, has_role}
 use Rattle.bc_pins.specs.Facts.{Table, word, points, adds_to, Counters, Marking, page_word}
-use Rattle.bc_pins.specs.Rule.{Rule}
+use Rattle.bc_pins.specs.Rule.{Rule, Ruled}
 use Rattle.bc_pins.specs.Steps.{Mine, discounting, without, Discounted}
+use Rattle.bc_pins.proofs.NoticeLemmas.{claims_aside}
 use Rattle.bc_pins.proofs.TotalLemmas.{total_set}
 use Rattle.bc_pins.proofs.SumLemmas.{sum_one}
 use Rattle.bc_pins.proofs.MarkedLemmas.{targets_kept}
@@ -139,13 +140,16 @@ module _ (k : Key) (s : Table) (r : Rule k s) (id role : ℕ) (v : View) (h : Ha
   uncount_rule = side_step k s r i x id v u at uncount_step
 
 pub uncounts_from : (k : Key) (slots id role : ℕ) (me : Mine) (h : Hand) (q i : ℕ) → i ≡ counter_at k q → q < k.supers → me.0.about ≡ k → me.0.hand ≡ Some h → 0 < has_role me.0 role → 0 < times q h.counted
-    → Allows (Rule k) slots id me i (λ n. (n + (2 ^ 64 - 1)) % 2 ^ 64) (Discounted (step slots i 1 0 maybe.none) me)
+    → Allows (Ruled k) slots id me i (λ n. (n + (2 ^ 64 - 1)) % 2 ^ 64) (Discounted (step slots i 1 0 maybe.none) me)
 uncounts_from k slots id role me h q i is lt about has_one some_role counted s r size at fits = (
   discounting me.0 h q (word s i),
   keeps,
   tt,
-  subst (λ (j : ℕ). Rule k (aside s j ((word s j + (2 ^ 64 - 1)) % 2 ^ 64) id (discounting me.0 h q (word s i)))) (sym is)
-      (uncount_rule k s r id role me.0 h at about has_one some_role q (word s i) lt counted (subst (λ (j : ℕ). word s j < 2 ^ 64) is fits)),
+  record {
+    facts = subst (λ (j : ℕ). Rule k (aside s j ((word s j + (2 ^ 64 - 1)) % 2 ^ 64) id (discounting me.0 h q (word s i)))) (sym is)
+        (uncount_rule k s r.facts id role me.0 h at about has_one some_role q (word s i) lt counted (subst (λ (j : ℕ). word s j < 2 ^ 64) is fits));
+    claims = claims_aside k s _ _ id _ _ _ at (λ e. omega arith) refl r.claims;
+  },
   record {
     view = λ g x e f.
         let same = some_hand h g (sym has_one ∙ e) in

@@ -1,5 +1,5 @@
 -- What closing a table requires, and what it gives.
-use Rattle.std.specs.Prelude.{◌≡◌, ℕ, ◌+◌, ◌-◌, ◌*◌, ◌/◌, ◌%◌, ◌^◌, ◌<◌, ◌≤◌, ◌≢◌, ◌==◌, ◌⊎◌, Bool, true, false, List, [], length, min, None, slice_index, slice_index_or}
+use Rattle.std.specs.Prelude.{◌≡◌, ℕ, ◌+◌, ◌-◌, ◌*◌, ◌/◌, ◌%◌, ◌^◌, ◌<◌, ◌≤◌, ◌≢◌, ◌==◌, ◌⊎◌, Bool, true, false, nat_lt, List, [], length, min, None, slice_index, slice_index_or}
 use Rattle.atomic_table.specs.declared.shared.Seat.{Seat as Worker}
 use Rattle.atomic_table.specs.Seated.{TableId}
 use Rattle.bc_bits.specs.Counting.{one_if}
@@ -50,6 +50,15 @@ pub record AreBack (id : TableId) (k : Key) (seats : List Seat) : Type 0 where
   pub each : (j : ℕ) → j < length seats → (d : Seat) → IsBack id k (slice_index_or seats j d)
   pub roles : (r : ℕ) → total (λ (seat : Seat). has_role (view_of seat) r) seats ≡ times r k.roles
 
+-- how many numbers of notices the seats claimed
+abbrev pub claims_of : List Seat → ℕ
+claims_of seats = total (λ (seat : Seat). length (view_of seat).notices) seats
+
+-- each number below as many as the seats claimed was claimed by one of them, once, and no other number by any. The word from which they
+-- are claimed counts to 2 ^ 64 alone
+abbrev pub HaveClaimed : List Seat → Type 0
+HaveClaimed seats = claims_of seats < 2 ^ 64 → (n : ℕ) → total (λ (seat : Seat). times n (view_of seat).notices) seats ≡ one_if (nat_lt n (claims_of seats))
+
 -- a seat into which those from a place on were joined: it has all that they had
 pub record Gathered (id : TableId) (k : Key) (all front : List Seat) (root : Worker Lodged View) : Type 0 where
   pub table : root.table_id ≡ id
@@ -73,6 +82,8 @@ pub record Gathered (id : TableId) (k : Key) (all front : List Seat) (root : Wor
   pub busy : (p : ℕ) → times p root.me.0.busy + total (λ (seat : Seat). times p (view_of seat).busy) front ≡ total (λ (seat : Seat). times p (view_of seat).busy) all
   pub put : (p w b : ℕ) → puts_with k p w b root.me.0.changed + total (λ (seat : Seat). puts_with k p w b (view_of seat).changed) front ≡ total (λ (seat : Seat). puts_with k p w b (view_of seat).changed) all
   pub read : (i n : ℕ) → times n (reads_of i root.me.0.read) + total (λ (seat : Seat). times n (reads_of i (view_of seat).read)) front ≡ total (λ (seat : Seat). times n (reads_of i (view_of seat).read)) all
+  pub claimed : length root.me.0.notices + claims_of front ≡ claims_of all
+  pub notices : (n : ℕ) → times n root.me.0.notices + total (λ (seat : Seat). times n (view_of seat).notices) front ≡ total (λ (seat : Seat). times n (view_of seat).notices) all
   pub mine : (j : ℕ) → length front ≤ j → j < length all → (d : Seat) (p : ℕ) → 0 < has_role (view_of (slice_index_or all j d)) (owner k p)
       → (0 < has_role root.me.0 (owner k p)) × (record_of root.me.0 p ≡ record_of (view_of (slice_index_or all j d)) p)
 

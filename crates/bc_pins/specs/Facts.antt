@@ -177,6 +177,7 @@ pub record IsIdle (v : View) : Type 0 where
   pub known : v.known ≡ []
   pub finished : v.finished ≡ []
   pub read : v.read ≡ []
+  pub notices : v.notices ≡ []
 
 -- a seat has the key of its table, and one without a role has done nothing
 pub record Seated (k : Key) (v : View) : Type 0 where

@@ -4,7 +4,7 @@ use Rattle.bc_superpages.specs.declared.headers.Header.{Header}
 use Rattle.bc_superpages.specs.Headers.{unused_header}
 use Rattle.bc_superpages.specs.Parts.{state_in}
 use Rattle.bc_pins.specs.declared.key.Turn.{Turn}
-use Rattle.bc_pins.specs.Key.{Key, is_lanes, pages_of, page_at, counter_at, bookmark_at, frame_at, frame_words, mark_at, finished_at, all_words}
+use Rattle.bc_pins.specs.Key.{Key, is_lanes, pages_of, page_at, counter_at, bookmark_at, frame_at, frame_words, notice_at, mark_at, finished_at, all_words}
 use Rattle.std.specs.Int.{bit_at}
 use Rattle.bc_bits.specs.Counting.{one_if}
 use Rattle.bc_frames.specs.Pool.{is_free}
@@ -73,5 +73,6 @@ pub record IsFilled (k : Key) (headers : List Header) (words : List ℕ) : Type 
   pub counters : (q : ℕ) → q < k.supers → slice_index words (counter_at k q) ≡ (header_in headers q).incoming
   pub bookmarks : (w : ℕ) → w < 16 * k.supers → slice_index words (bookmark_at k w) ≡ set_word Bookmarks headers w
   pub frames : (f : ℕ) → f < 64 * frame_words k → bit_at (slice_index words (frame_at k (f / 64))) (f % 64) ≡ in_use k.pool f
+  pub notice : slice_index words (notice_at k) ≡ 0
   pub marks : (w : ℕ) → k.lanes ≡ false → w < 16 * k.supers → slice_index words (mark_at k w) ≡ set_word Marks headers w
   pub finished : (w : ℕ) → k.lanes ≡ false → w < 16 * k.supers → slice_index words (finished_at k w) ≡ set_word Finished headers w

@@ -10,6 +10,8 @@ pub mod Views
 pub mod Facts
 -- The mark facts, which hold besides in a mark turn
 pub mod Tracing
+-- What the notice word says of the numbers that were claimed
+pub mod Claims
 -- The rule
 pub mod Rule
 -- The steps, and what is known by each

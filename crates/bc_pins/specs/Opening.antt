@@ -1,5 +1,5 @@
 -- What a table needs when it is opened, and what it leaves when it is closed.
-use Rattle.std.specs.Prelude.{◌≡◌, ◌≢◌, ℕ, ◌+◌, ◌*◌, ◌^◌, ◌<◌, ◌≤◌, ◌==◌, if◌then◌else◌, true, false, List, [], ◌∷◌, length, vec_capacity, map, slice_index, slice_index_or, Bool, None}
+use Rattle.std.specs.Prelude.{◌≡◌, ◌≢◌, ℕ, ◌+◌, ◌*◌, ◌^◌, ◌<◌, ◌≤◌, ◌==◌, if◌then◌else◌, true, false, nat_lt, List, [], ◌∷◌, length, vec_capacity, map, slice_index, slice_index_or, Bool, None}
 use mathlib.Core.Option.{some}
 use lib.ListN.{get_elem?}
 use Rattle.atomic_table.specs.Table.{opening}
@@ -10,6 +10,7 @@ use Rattle.bc_superpages.specs.LayoutAt.{state_at, IsAllocated}
 use Rattle.bc_superpages.specs.Collecting.{is_marked, is_finished}
 use Rattle.bc_superpages.specs.Calls.{IsClosed}
 use Rattle.bc_superpages.specs.Parts.{state_in, AreParts}
+use Rattle.bc_bits.specs.Counting.{one_if}
 use Rattle.bc_bookmarks.specs.Summarised.{IsSummarised}
 use Rattle.bc_model.specs.declared.values.Holder.{Holder}
 use Rattle.bc_pins.specs.Lodging.{Replaced, home_of, away_of}
@@ -18,7 +19,7 @@ use Rattle.bc_pins.specs.declared.key.Role.{Role}
 use Rattle.bc_pins.specs.declared.views.Lodged.{Lodged}
 use Rattle.bc_pins.specs.declared.views.Lodged.TheVariants.{Nothing}
 use Rattle.bc_pins.specs.declared.views.View.{View}
-use Rattle.bc_pins.specs.Key.{Key, pages_of, page_at, counter_at, all_words, is_lanes, owner_role, role_number, home_slot, frame_slot, store_slot}
+use Rattle.bc_pins.specs.Key.{Key, pages_of, page_at, counter_at, notice_at, all_words, is_lanes, owner_role, role_number, home_slot, frame_slot, store_slot}
 use Rattle.bc_pins.specs.Totals.{times, sum_to}
 use Rattle.bc_pins.specs.Contents.{IsContent, RefersYoung, IsBarePage}
 use Rattle.bc_pins.specs.Views.{marked_for, opened_content, opened_word, record_of}
@@ -58,6 +59,7 @@ pub record MayOpen (k : Key) (words : List ℕ) (slots : List Lodged) : Type 0 w
   pub frames : (f : ℕ) → Frames k (opened k words slots) f
   pub counters : (q : ℕ) → q < k.supers → Counters k (opened k words slots) (opened_content k) q
   pub bits : (w b : ℕ) → w < 16 * k.supers → b < 64 → Bits k (opened k words slots) w b
+  pub notice : slice_index words (notice_at k) ≡ 0
   pub tracing : k.lanes ≡ false → Tracing k (opened k words slots)
 
 -- a page of a table that is closed, where v is the view that all others were joined into: its box lies as its word says, with the
@@ -86,6 +88,8 @@ pub record HasClosed (k : Key) (v : View) (words : List ℕ) (slots : List Lodge
   -- in a mark turn no page was taken from Gone
   pub unfetched : k.lanes ≡ false → (p : ℕ) → times p v.fetched ≡ 0
   pub gone : (p : ℕ) → 0 < times p v.gone → (p < pages_of k) × (slice_index words (page_at p) ≡ 4)
+  -- each number below as many as were claimed was claimed once, and no other
+  pub claims : length v.notices < 2 ^ 64 → (n : ℕ) → times n v.notices ≡ one_if (nat_lt n (length v.notices))
 
 -- a space over which a table may be opened: it is summarised and closed, no cell is promised, and no page that is Home refers
 -- to a nursery. A closed table gives back such a one

@@ -1,4 +1,4 @@
--- The rule of a table: the turn facts of every page, seat and frame.
+-- The rule of a table: the turn facts of every page, seat and frame, and the claims of notices.
 use Rattle.std.specs.Prelude.{◌≡◌, ℕ, ◌+◌, ◌*◌, ◌^◌, ◌<◌, false, List, length}
 use mathlib.Core.Option.{some}
 use lib.ListN.{get_elem?}
@@ -8,6 +8,7 @@ use Rattle.bc_pins.specs.Totals.{times}
 use Rattle.bc_pins.specs.Views.{opened_content}
 use Rattle.bc_pins.specs.Facts.{Table, Place, Content, Standing, RecordsContent, Saw, Seated, Marking, MarksTargets, IsUnheld, Roles, Frames, Counters, Bits}
 use Rattle.bc_pins.specs.Tracing.{Tracing, Knows}
+use Rattle.bc_pins.specs.Claims.{Claims}
 
 -- what holds of one seat
 pub record SeatFacts (k : Key) (s : Table) (rec : ℕ → List ℕ) (v : View) : Type 0 where
@@ -38,3 +39,8 @@ pub record Rule (k : Key) (s : Table) : Type 0 where
   pub bits : (w b : ℕ) → w < 16 * k.supers → b < 64 → Bits k s w b
   -- in a mark turn
   pub tracing : k.lanes ≡ false → Tracing k s
+
+-- the rule of a table: the facts, and that each notice's number was claimed once
+pub record Ruled (k : Key) (s : Table) : Type 0 where
+  pub facts : Rule k s
+  pub claims : Claims k s

@@ -13,7 +13,7 @@ use Rattle.bc_pins.specs.declared.views.Lodged.{Lodged}
 use Rattle.bc_pins.specs.declared.views.Lodged.TheVariants.{Nothing, Home, Away}
 use Rattle.bc_pins.specs.declared.views.Hand.{Hand}
 use Rattle.bc_pins.specs.declared.views.View.{View}
-use Rattle.bc_pins.specs.Key.{Key, owner, page_at, counter_at, bookmark_at, frame_at, mark_at, finished_at, home_slot, frame_slot, store_slot}
+use Rattle.bc_pins.specs.Key.{Key, owner, page_at, counter_at, bookmark_at, frame_at, mark_at, finished_at, notice_at, home_slot, frame_slot, store_slot}
 use Rattle.bc_pins.specs.Totals.{times}
 use Rattle.bc_pins.specs.Contents.{IsContent, RefersYoung, IsBarePage, objects_in}
 use Rattle.bc_pins.specs.Facts.{IsBitOfTarget, points}
@@ -356,6 +356,14 @@ pub record MayFinish (k : Key) (v : View) (w b : ℕ) : Type 0 where
 -- each of these bits of finished word w may be set
 abbrev pub MayFinishAll : Key → View → ℕ → ℕ → Type 0
 MayFinishAll k v w bits = (b : ℕ) → b < 64 → 0 < bit_at bits b → MayFinish k v w b
+
+-- the view after a number was claimed: it is the number of a notice, or past the last
+abbrev pub taking_notice : View → ℕ → View
+taking_notice v found = record v { notices = found ∷ v.notices }
+
+-- claim of a notice: the view has the number that was found
+pub record TookNotice (st : Step Lodged) (m : Mine) (found : ℕ) (m' : Mine) : Type 0 where
+  pub view : st.word ≡ notice_at m.0.about → m' ≡ (taking_notice m.0 found, m.1)
 
 -- shade: the view has the bits of the mark word set
 pub record Shaded (st : Step Lodged) (m : Mine) (found : ℕ) (m' : Mine) : Type 0 where

@@ -5,7 +5,7 @@ ghost use Rattle.std.specs.Prelude.{◌≡◌, ℕ, ◌+◌, ◌*◌, ◌^◌, �
 ghost use Rattle.core.specs.Mem.Slots.{slots_items, slots_filled, slots_len, IsFull};
 ghost use Rattle.bc_superpages.specs.Parts.{AreParts, parts_layout};
 ghost use Rattle.bc_pins.specs.Key.{is_lanes};
-ghost use Rattle.bc_pins.specs.Closing.{AreBack, Closed, ClosedMarks, LaidSpace};
+ghost use Rattle.bc_pins.specs.Closing.{AreBack, Closed, ClosedMarks, HaveClaimed, LaidSpace};
 
 use crate::gathering::{drain, lay_marks, put_frames, set_states, set_summaries, unite_all};
 use crate::key::{Turn, frame_entry, mark_entry};
@@ -22,6 +22,7 @@ impl Pins {
         requires back { AreBack self.table.shared.table_id (key_of self) seats.items }
         ensures closed { (key_of self).lanes ≡ true → Closed (key_of self) seats.items result }
         ensures marked { (key_of self).lanes ≡ false → ClosedMarks (key_of self) seats.items result }
+        ensures claims { HaveClaimed seats.items }
     {
         let Pins {
             table,

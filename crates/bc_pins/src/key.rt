@@ -99,6 +99,14 @@ pub(crate) fn frame_entry(word: usize, superpages: usize) -> usize
     FRAMES * superpages + word
 }
 
+/// Where the word of the next notice lies among them: behind the frame words.
+pub(crate) fn notice_entry(superpages: usize, frame_words: usize) -> usize
+    requires { (superpages < 2 ^ 32) × (frame_words < 2 ^ 32) }
+    ensures { result ≡ 33 * superpages + frame_words }
+{
+    frame_entry(frame_words, superpages)
+}
+
 /// Where a mark word lies among the words of a table of so many superpages and frame words, in a mark turn.
 pub(crate) fn mark_entry(word: usize, superpages: usize, frame_words: usize) -> usize
     requires { (word < 2 ^ 32) × (superpages < 2 ^ 32) × (frame_words < 2 ^ 32) }

@@ -17,7 +17,7 @@
 // another's hands, or that one put it back, or made it Gone or Absent; what was read as Absent, Remembered or Gone isn't Home; a
 // Gone page is summarised by the table's bookmark bits; counters count Gone pages and what is counted for those in hand; each role
 // is in one view; each frame is in one place, so that at most as many are in use as there are, less those that no page may use
-// (`law_frames_in_use`).
+// (`law_frames_in_use`); each number of a notice below the notice word was claimed by one view, once (`specs/Claims.antt`).
 // `proofs/PageSteps.antt` has the one lemma by which every step on a page's word keeps it, and `proofs/SideSteps.antt` the one for a step
 // on another word.
 //
@@ -28,8 +28,13 @@
 // `open` makes words and slots out of a space's headers and lists, and deals a seat for each role. `close` joins all seats into
 // one, puts the boxes back and makes states, counters and bookmarks of the words: the space is as it was opened, but that each
 // page has its record, Gone pages are summarised, and frames that were given back are free. The frame words are the pool's own: a
-// bit for each frame, set where it is in use. Words for notices and, in a mark turn, for queues have their places too
-// (`specs/Key.antt`); no step changes them.
+// bit for each frame, set where it is in use. In a mark turn words for queues have their places too (`specs/Key.antt`); no step
+// changes them.
+//
+// Pagers share the notices of a turn: they are numbered from 0 on, and the notice word has the number of the next. `claim_notice`
+// claims it in one step, so no two seats have one number and none is passed over. The table doesn't know how many notices there are:
+// a seat that claims a number past the last has come to their end. `close` says of all seats together that each number below as many
+// as they claimed was claimed by one of them, once (`HaveClaimed`).
 //
 // In a turn of lanes a page comes back from Gone by the lane that holds its domain, or by any where that is frozen, which has the right to one frame: `take_gone`,
 // after which the frame is the page's and the page is counted in each superpage that has a target of it; `store_out`, which opens
@@ -47,9 +52,9 @@
 //
 // Where things are: `pins` the table and a seat, `key` what a table is made from and where its words and slots lie, `words` which word
 // each state of a page has, `views` slots and views, `rule` the rule and what steps say, `taking` the calls on pages, `giving` the steps
-// by which one is given up, `reloading` those by which one comes back, `marking` those of a mark turn, `holding` a page in hand,
-// `reading` what everybody may read; `opening` with `room`, `filling`, `lodging` and `rest`; `closing` with `gathering`. Gates, where a
-// test may look on, are passed on from `bc_gates`.
+// by which one is given up, `reloading` those by which one comes back, `noticing` the claim of a notice, `marking` the steps of a mark
+// turn, `holding` a page in hand, `reading` what everybody may read; `opening` with `room`, `filling`, `lodging` and `rest`; `closing`
+// with `gathering`. Gates, where a test may look on, are passed on from `bc_gates`.
 #![tactic(auto)]
 
 mod closing;
@@ -61,6 +66,7 @@ mod key;
 mod laws;
 mod lodging;
 mod marking;
+mod noticing;
 mod opening;
 mod pins;
 mod reading;

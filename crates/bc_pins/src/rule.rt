@@ -4,14 +4,14 @@ use crate::key::About;
 use crate::views::{Lodged, View};
 use atomic_table::{Join, Play, Split, TableRule};
 
-/// The turn facts.
+/// The turn facts, and the claims of notices.
 pub struct TurnRule;
 
 impl TableRule<Lodged, View, About> for TurnRule {
-    ghost use Rattle.bc_pins.specs.Rule.{Rule};
+    ghost use Rattle.bc_pins.specs.Rule.{Ruled};
     ghost use Rattle.bc_pins.specs.Steps.{fresh};
 
-    ghost holds = { Rule };
+    ghost holds = { Ruled };
 
     ghost first = { λ k. fresh k k.roles };
 }
@@ -140,6 +140,15 @@ impl Play<Lodged, View> for FrameClaim {
     ghost use Rattle.bc_pins.specs.Steps.{Claimed};
 
     ghost then = { Claimed };
+}
+
+/// The number of the next notice is claimed.
+pub struct ClaimNotice;
+
+impl Play<Lodged, View> for ClaimNotice {
+    ghost use Rattle.bc_pins.specs.Steps.{TookNotice};
+
+    ghost then = { TookNotice };
 }
 
 /// A page's word is read.

@@ -1,27 +1,27 @@
--- What a closed table makes of the pages that a pager's answers name, and of those that lanes moved.
+-- What a closed table makes of the pages that pagers' answers name, and of those that lanes moved.
 use Rattle.std.proofs.Common.{◌≡◌, ℕ, ◌+◌, ◌-◌, ◌*◌, ◌^◌, ◌<◌, ◌≤◌, ◌==◌, true, min, List, [], ◌∷◌, ◌++◌, length, inl, inr, refl, ap, sym, subst, ◌∙◌, arith}
 use Rattle.std.proofs.lemmas.Bool.{cases_lt}
 use Rattle.bc_bits.specs.Counting.{one_if}
-use Rattle.bc_pager.specs.Answering.{AreAnswered, says_declined, says_discarded, says_evicted}
+use Rattle.bc_pager.specs.Answering.{says_declined, says_discarded, says_evicted}
+use Rattle.bc_pager.specs.Placing.{AnsweredByPagers, Paged}
 use Rattle.bc_pager.specs.declared.answers.Answer.{Answer}
 use Rattle.bc_pins.specs.Calls.{view_of}
 use Rattle.bc_pins.specs.Closing.{Closed, fetches_of}
 use Rattle.bc_pins.specs.Facts.{has_bit_of, puts_with}
-use Rattle.bc_pins.specs.Key.{Key, pages_of, role_number}
-use Rattle.bc_pins.specs.Steps.{fresh, no_key}
+use Rattle.bc_pins.specs.Key.{Key, pages_of}
+use Rattle.bc_pins.specs.Steps.{no_key}
 use Rattle.bc_pins.specs.Totals.{times, total}
 use Rattle.bc_pins.specs.Views.{opened_state, state_word}
-use Rattle.bc_pins.specs.declared.key.Role.TheVariants.{Pager}
 use Rattle.bc_pins.specs.declared.pins.Seat.{Seat}
-use Rattle.bc_pins.specs.declared.views.View.{View}
 use Rattle.bc_superpages.specs.declared.headers.PageState.{PageState}
 use Rattle.bc_superpages.specs.declared.headers.PageState.TheVariants.{Absent, Gone, Held, Home, Remembered}
 use Rattle.bc_superpages.specs.Kept.{IsLayout}
 use Rattle.bc_superpages.specs.Layout.{Layout, superpages}
 use Rattle.bc_superpages.specs.LayoutAt.{state_at}
 use Rattle.bc_turn.proofs.NewBitLemmas.{bits-none, new-bits}
+use Rattle.bc_pins.proofs.TallyLemmas.{ge-nat_lt}
 use Rattle.bc_pager.proofs.HomeLemmas.{state-behind}
-use Rattle.bc_pager.proofs.PagerLemmas.{name-none}
+use Rattle.bc_pager.proofs.ToldLemmas.{told-none}
 use Rattle.bc_turn.specs.Answered.{AnsweredBeside, is_in}
 
 -- a state by its word
@@ -90,18 +90,18 @@ module _ (k : Key) (s t : Layout) (seats : List Seat) (opening : k.opening ≡ s
     ]
 
 -- the notices were answered beside the lanes
-pub answered : (IsLooked : ℕ → Type 0) (Had : ℕ → List ℕ → Type 0) (k : Key) (s t : Layout) (seats : List Seat) (hints : List ℕ) (kept after : List Answer) (told : List Answer) (fetched left emptied : List ℕ) (end : View) → k.opening ≡ s → Closed k seats t → IsLayout s → IsLayout t
-    → AreMoved k seats told fetched left emptied → after ≡ kept ++ told → AreAnswered k hints told (fresh k (role_number (Pager 0) ∷ [])) end
+pub answered : (IsLooked : ℕ → Type 0) (Had : ℕ → List ℕ → Type 0) (k : Key) (s t : Layout) (seats : List Seat) (hints : List ℕ) (kept after : List Answer) (pagers : List Paged) (told : List Answer) (fetched left emptied : List ℕ) → k.opening ≡ s → Closed k seats t → IsLayout s → IsLayout t
+    → AreMoved k seats told fetched left emptied → after ≡ kept ++ told → AnsweredByPagers k hints pagers told
     → ((p : ℕ) → 0 < times p fetched → IsLooked p) → (0 < total says_declined told → (p : ℕ) → state_at t.states p ≡ Home → IsLooked p) → ((p w b : ℕ) → 0 < total (λ (seat : Seat). puts_with k p w b (view_of seat).changed) seats → (content : List ℕ) × Had p content × (has_bit_of k p content w b ≡ true)) → AnsweredBeside IsLooked Had s hints kept after t
-answered IsLooked Had k s t seats hints kept after told fetched left emptied end opening closed before layout moved is each own declined put =
-    let none = name-none k hints told (fresh k (role_number (Pager 0) ∷ [])) end each in
+answered IsLooked Had k s t seats hints kept after pagers told fetched left emptied opening closed before layout moved is shared own declined put =
+    let none = told-none k hints pagers told shared in
     record {
       key = k;
       opening = opening;
-      end = end;
+      pagers = pagers;
       told = told;
       kept = is;
-      each = each;
+      shared = shared;
       fetched = fetched;
       left = left;
       emptied = emptied;
@@ -133,11 +133,10 @@ pub answered-none : (IsLooked : ℕ → Type 0) (Had : ℕ → List ℕ → Type
 answered-none IsLooked Had s hints kept small none = record {
   key = record no_key { opening = s };
   opening = refl;
-  end = fresh (record no_key { opening = s }) (role_number (Pager 0) ∷ []);
+  pagers = [];
   told = [];
   kept = append-nil kept;
-  each = subst (λ (hs : List ℕ). AreAnswered (record no_key { opening = s }) hs [] (fresh (record no_key { opening = s }) (role_number (Pager 0) ∷ [])) (fresh (record no_key { opening = s }) (role_number (Pager 0) ∷ [])))
-      (sym (no-hints hints none)) refl;
+  shared = subst (λ (hs : List ℕ). AnsweredByPagers (record no_key { opening = s }) hs [] []) (sym (no-hints hints none)) (record { few = refl; each = λ i lt. absurd (omega arith); once = λ n. sym (ap one_if (ge-nat_lt n 0 (omega arith))); long = refl; placed = tt });
   fetched = [];
   left = [];
   emptied = [];
@@ -155,10 +154,10 @@ pub answered-lanes : (IsLooked : ℕ → Type 0) (Had : ℕ → List ℕ → Typ
 answered-lanes IsLooked Had s hints kept after t is = record {
   key = is.key;
   opening = is.opening;
-  end = is.end;
+  pagers = is.pagers;
   told = is.told;
   kept = is.kept;
-  each = is.each;
+  shared = is.shared;
   fetched = is.fetched;
   left = is.left;
   emptied = is.emptied;

@@ -43,11 +43,11 @@ use Rattle.bc_whole_heap.specs.LaneStates.{StandsAs}
 use Rattle.bc_whole_heap.specs.Running.{IsRunning}
 
 -- a table that was opened for the lanes
-pub turn-table : (s : Layout) (hs : List Holder) (busy : List ℕ) (pins : Pins) (seats : List Seat) → Opened s Lanes hs (turn_roles busy) pins seats → IsTurnTable (key_of pins) s hs busy
-turn-table s hs busy pins seats opened = record {
+pub turn-table : (s : Layout) (hs : List Holder) (busy : List ℕ) (pagers : ℕ) (pins : Pins) (seats : List Seat) → Opened s Lanes hs (turn_roles busy pagers) pins seats → IsTurnTable (key_of pins) s hs busy pagers
+turn-table s hs busy pagers pins seats opened = record {
   opening = opened.opening;
   owners = opened.owners;
-  roles = opened.roles_are ∙ role-numbers busy;
+  roles = opened.roles_are ∙ role-numbers busy pagers;
   behind = opened.behind;
 }
 
@@ -55,7 +55,7 @@ module _ (pins : Pins) (h : HeapView) (hs : List Holder) (serials : List ℕ) (l
     (begun : AreBegun pins h hs serials lanes before busy old seat) (ran : AllRan lanes busy old seat new after) (state : State) (stands : StandsAs h hs serials state)
     (words : length h.roots.words ≡ h.roots.domains * h.roots.slots) (ops : (j : ℕ) → Has busy j → AllByRecursion (IsOpOf h.roots) (of_lane lanes j))
     (running : IsRunning h hs) (layout : IsLayout h.space) (whole : AreWhole h.chunks) (some : 0 < length busy)
-    (seats : List Seat) (table : IsTurnTable (key_of pins) h.space hs busy) (seats_long : length seats ≡ length busy + 1) (seats_are : (i : ℕ) → i < length busy → (d : Seat) → get_or seats i d ≡ after i)
+    (seats : List Seat) (pagers : ℕ) (table : IsTurnTable (key_of pins) h.space hs busy pagers) (seats_long : length busy ≤ length seats) (seats_are : (i : ℕ) → i < length busy → (d : Seat) → get_or seats i d ≡ after i)
     (k : HeapView) (nexts : List ℕ) (told : List (List Reply)) (closed : Closed (key_of pins) seats k.space) (given : IsLayout k.space)
     (laid : AreLaidBack hs busy new (length busy) h serials before k nexts told) (recorded : AreRecorded (key_of pins) busy after seats) (kept : (p : ℕ) → owner (key_of pins) p ≢ 0 → total (λ (seat : Seat). times p (view_of seat).returned) seats ≡ 0) where
   stands_back : StandsAs (heap_back h) hs serials state
@@ -102,7 +102,7 @@ module _ (pins : Pins) (h : HeapView) (hs : List Holder) (serials : List ℕ) (l
 
   lies : LiesBack (at count).space k.space
   lies =
-      lies-back (key_of pins) h (at count) hs busy after seats k.space table back (stage count).passes closed given (done-all 0 some).ready.layout
+      lies-back (key_of pins) h (at count) hs busy pagers after seats k.space table back (stage count).passes closed given (done-all 0 some).ready.layout
       (openable h hs layout whole running)
 
   laid-all : IsLaidBack (at count) k
@@ -135,7 +135,7 @@ module _ (h : HeapView) (hs : List Holder) (serials : List ℕ) (lanes : List (L
     | inr le ↦ le
   ]
 
-  -- a pager may have been alone at a table
+  -- pagers may have been alone at a table
   module _ (t : Layout) (lies : LiesBack h.space t) where
     abbrev after-all : HeapView
     after-all = record h { space = t }

@@ -18,6 +18,12 @@ pub mod TableLemmas
 pub mod HeapLemmas
 -- Lanes side by side are lanes one after another
 pub mod BesideLemmas
+-- What seats have between them
+pub mod SumLemmas
+-- The numbers of pagers
+pub mod PagersLemmas
+-- The seats of an opened turn
+pub mod SeatedLemmas
 -- A lane at the beginning of a turn, and all seats when they are back
 pub mod BegunLemmas
 -- What lanes took into a turn, laid back
@@ -38,7 +44,7 @@ pub mod AnsweredLemmas
 pub mod AwayLemmas
 -- Room that is kept from turn to turn
 pub mod RoomLemmas
--- A pager alone at a table
+-- Pagers alone at a table
 pub mod AloneLemmas
 -- A turn put together
 pub mod TurnLemmas

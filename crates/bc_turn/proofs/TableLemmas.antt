@@ -1,7 +1,8 @@
 -- What a closed table gives back is what the lanes' operations made, one lane after another.
-use Rattle.std.proofs.Common.{◌≡◌, ℕ, ◌+◌, ◌*◌, ◌/◌, ◌<◌, ◌≤◌, ◌==◌, List, [], ◌∷◌, ◌++◌, length, map, get_or, inl, inr, refl, ap, sym, subst, ◌∙◌, arith}
+use Rattle.std.proofs.Common.{◌≡◌, ◌≢◌, ℕ, ◌+◌, ◌*◌, ◌/◌, ◌<◌, ◌≤◌, ◌==◌, List, [], ◌∷◌, ◌++◌, length, map, get_or, inl, inr, refl, ap, sym, subst, ◌∙◌, arith}
 use Rattle.std.proofs.lemmas.Bool.{cases_lt}
-use Rattle.std.proofs.lemmas.List.{ext_get_or}
+use Prim.Native.Nat.{zero, suc}
+use Rattle.std.proofs.lemmas.List.{ext_get_or, map-append}
 use Rattle.bc_bits.specs.Counting.{one_if}
 use Rattle.bc_lane.specs.Back.{back_state, heap_back}
 use Rattle.bc_lane.specs.Shown.{IsOwnPage, ShowsPage}
@@ -27,6 +28,7 @@ use Rattle.bc_superpages.specs.declared.headers.PageState.TheVariants.{Absent, R
 use Rattle.bc_superpages.specs.Kept.{IsLayout}
 use Rattle.bc_superpages.specs.Layout.{Layout, content_at, superpages}
 use Rattle.bc_superpages.specs.LayoutAt.{state_at}
+use Rattle.bc_pager.specs.Paging.{pager_roles}
 use Rattle.bc_pager.proofs.HomeLemmas.{state-behind}
 use Rattle.bc_turn.proofs.HolderLemmas.{NoneHolds, find-holder, owner-of}
 use Rattle.bc_turn.proofs.PassLemmas.{IsOthersPage, Passes}
@@ -34,19 +36,28 @@ use Rattle.bc_turn.specs.Beside.{LiesBack}
 use Rattle.bc_turn.specs.Taking.{turn_roles}
 use Rattle.bc_whole_heap.specs.Heaps.{HeapView}
 
--- the numbers of the roles of a turn: these lanes, and a pager
-abbrev pub turn_numbers : List ℕ → List ℕ
-turn_numbers busy = map lane_role busy ++ role_number (Pager 0) ∷ []
+-- the numbers of the roles of a turn: these lanes, and so many pagers
+abbrev pub pager_numbers : ℕ → List ℕ
+pager_numbers pagers = map role_number (pager_roles pagers)
 
-pub role-numbers : (busy : List ℕ) → map role_number (turn_roles busy) ≡ turn_numbers busy
-role-numbers [] = refl
-role-numbers (x ∷ xs) = ap (λ (rs : List ℕ). lane_role x ∷ rs) (role-numbers xs)
+abbrev pub turn_numbers : List ℕ → ℕ → List ℕ
+turn_numbers busy pagers = map lane_role busy ++ pager_numbers pagers
 
--- the table is over this space, for lanes who hold the domains so, and has a role for each of these lanes and one for a pager
-pub record IsTurnTable (k : Key) (s : Layout) (hs : List Holder) (busy : List ℕ) : Type 0 where
+pub role-numbers : (busy : List ℕ) (pagers : ℕ) → map role_number (turn_roles busy pagers) ≡ turn_numbers busy pagers
+role-numbers [] pagers = refl
+role-numbers (x ∷ xs) pagers = ap (λ (rs : List ℕ). lane_role x ∷ rs) (role-numbers xs pagers)
+
+pub numbers-more : (n r : ℕ) → times r (pager_numbers (suc n)) ≡ times r (pager_numbers n) + one_if (role_number (Pager n) == r)
+numbers-more n r =
+    let split = ap (times r) (map-append role_number (pager_roles n) (Pager n ∷ [])) in
+    let both = times_append r (pager_numbers n) (role_number (Pager n) ∷ []) in
+    omega arith
+
+-- the table is over this space, for lanes who hold the domains so, and has a role for each of these lanes and for so many pagers
+pub record IsTurnTable (k : Key) (s : Layout) (hs : List Holder) (busy : List ℕ) (pagers : ℕ) : Type 0 where
   pub opening : k.opening ≡ s
   pub owners : k.owners ≡ map owner_role hs
-  pub roles : k.roles ≡ turn_numbers busy
+  pub roles : k.roles ≡ turn_numbers busy pagers
   pub behind : (p : ℕ) → pages_of k ≤ p → state_at s.states p ≡ Absent
 
 -- which pages the seats put back as Remembered: each page of a lane that has a seat was put back so by that seat alone, and no other
@@ -57,7 +68,7 @@ pub record AreRecorded (k : Key) (busy : List ℕ) (seat : ℕ → Seat) (seats 
 
 -- the seats when they are back, the lanes' first. What each lane's says of its pages is so in this heap
 pub record AreSeatsBack (k : Key) (hs : List Holder) (busy : List ℕ) (m : HeapView) (seat : ℕ → Seat) (seats : List Seat) : Type 0 where
-  pub long : length seats ≡ length busy + 1
+  pub long : length busy ≤ length seats
   pub same : (i : ℕ) → i < length busy → (d : Seat) → get_or seats i d ≡ seat i
   pub about : (i : ℕ) → i < length busy → (view_of (seat i)).about ≡ k
   pub roles : (i : ℕ) → i < length busy → (view_of (seat i)).roles ≡ lane_role (get_or busy i 0) ∷ []
@@ -83,28 +94,37 @@ nobody-role (x ∷ xs) =
     let rest = nobody-role xs in
     omega arith
 
--- nor was it a pager's, and a pager holds no domain
-no-lane : (busy : List ℕ) (l : ℕ) → (Has busy l → ⊥) → times (lane_role l) (turn_numbers busy) ≡ 0
-no-lane busy l none =
-    let both = times_append (lane_role l) (map lane_role busy) (role_number (Pager 0) ∷ []) in
-    let lanes = no-role busy l none in
-    let pager = one_other (role_number (Pager 0)) (lane_role l) (λ e. absurd (omega arith)) in
+-- a number that no pager has
+pub no-pager : (n r : ℕ) → ((i : ℕ) → i < n → role_number (Pager i) ≢ r) → times r (pager_numbers n) ≡ 0
+no-pager zero r none = refl
+no-pager (suc n) r none =
+    let all = numbers-more n r in
+    let here = one_other (role_number (Pager n)) r (none n (omega arith)) in
+    let rest = no-pager n r (λ i lt. none i (omega arith)) in
     omega arith
 
-pub no-owner : (busy : List ℕ) → times 0 (turn_numbers busy) ≡ 0
-no-owner busy =
-    let both = times_append 0 (map lane_role busy) (role_number (Pager 0) ∷ []) in
+-- nor was it a pager's, and a pager holds no domain
+no-lane : (busy : List ℕ) (pagers l : ℕ) → (Has busy l → ⊥) → times (lane_role l) (turn_numbers busy pagers) ≡ 0
+no-lane busy pagers l none =
+    let both = times_append (lane_role l) (map lane_role busy) (pager_numbers pagers) in
+    let lanes = no-role busy l none in
+    let pager = no-pager pagers (lane_role l) (λ i lt e. absurd (omega arith)) in
+    omega arith
+
+pub no-owner : (busy : List ℕ) (pagers : ℕ) → times 0 (turn_numbers busy pagers) ≡ 0
+no-owner busy pagers =
+    let both = times_append 0 (map lane_role busy) (pager_numbers pagers) in
     let lanes = nobody-role busy in
-    let pager = one_other (role_number (Pager 0)) 0 (λ e. absurd (omega arith)) in
+    let pager = no-pager pagers 0 (λ i lt e. absurd (omega arith)) in
     omega arith
 
 -- nobody is there whose is what none of the lanes holds
-no-holder : (busy : List ℕ) (x : Holder) → NoneHolds (Has busy) x → times (owner_role x) (turn_numbers busy) ≡ 0
-no-holder busy (Lane l) off = no-lane busy l (off l refl)
-no-holder busy Frozen off = no-owner busy
+no-holder : (busy : List ℕ) (pagers : ℕ) (x : Holder) → NoneHolds (Has busy) x → times (owner_role x) (turn_numbers busy pagers) ≡ 0
+no-holder busy pagers (Lane l) off = no-lane busy pagers l (off l refl)
+no-holder busy pagers Frozen off = no-owner busy pagers
 
-module _ (k : Key) (h m : HeapView) (hs : List Holder) (busy : List ℕ) (seat : ℕ → Seat) (seats : List Seat) (t : Layout)
-    (table : IsTurnTable k h.space hs busy) (back : AreSeatsBack k hs busy m seat seats) (passes : Passes hs (Has busy) (heap_back h) m) (closed : Closed k seats t) where
+module _ (k : Key) (h m : HeapView) (hs : List Holder) (busy : List ℕ) (pagers : ℕ) (seat : ℕ → Seat) (seats : List Seat) (t : Layout)
+    (table : IsTurnTable k h.space hs busy pagers) (back : AreSeatsBack k hs busy m seat seats) (passes : Passes hs (Has busy) (heap_back h) m) (closed : Closed k seats t) where
   abbrev view : ℕ → View
   view i = view_of (seat i)
 
@@ -171,8 +191,8 @@ module _ (k : Key) (h m : HeapView) (hs : List Holder) (busy : List ℕ) (seat :
     unowned : times (owner k p) k.roles ≡ 0
     unowned =
         subst (λ (rs : List ℕ). times (owner k p) rs ≡ 0) (sym table.roles)
-        (subst (λ (r : ℕ). times r (turn_numbers busy) ≡ 0) (sym (ap (λ (l : List ℕ). get_or l (domain p) 0) table.owners ∙ owner-of hs (domain p)))
-        (no-holder busy (holder_of hs (domain p)) off))
+        (subst (λ (r : ℕ). times r (turn_numbers busy pagers) ≡ 0) (sym (ap (λ (l : List ℕ). get_or l (domain p) 0) table.owners ∙ owner-of hs (domain p)))
+        (no-holder busy pagers (holder_of hs (domain p)) off))
 
     opened-same : content_at m.space.pages p ≡ opened_content k p
     opened-same = (passes.pages p off-h).0 ∙ ap (λ (s : Layout). content_at s.pages p) (sym table.opening)

@@ -1,11 +1,10 @@
 -- A turn put together: what its steps say makes the lanes' begin, their runs, and what they lay back.
-use Rattle.std.proofs.Common.{◌≡◌, ℕ, ◌+◌, ◌-◌, ◌*◌, ◌<◌, ◌≤◌, ◌==◌, true, false, List, [], ◌∷◌, ◌++◌, length, map, get_or, None, Vec, vec_capacity, inl, inr, refl, ap, sym, subst, ◌∙◌, arith}
+use Rattle.std.proofs.Common.{◌≡◌, ℕ, ◌+◌, ◌-◌, ◌*◌, ◌<◌, ◌≤◌, ◌==◌, true, false, List, ◌++◌, length, length-append, map, get_or, None, Vec, vec_capacity, inl, inr, refl, ap, sym, subst, ◌∙◌, arith}
 use Prim.Native.Nat.{zero, suc}
 use Rattle.std.specs.declared.alloc.Global.{Global}
 use Rattle.std.specs.List.{AllByRecursion}
-use Rattle.std.proofs.Math.ListN as list
 use Rattle.std.proofs.lemmas.Bool.{cases_lt, eq-eqb, eqb-true}
-use Rattle.std.proofs.lemmas.List.{get_or-map, get_or_append_left, get_or_push, length-map, length_push}
+use Rattle.std.proofs.lemmas.List.{get_or-map, get_or_append_left, length-map}
 use Rattle.bc_lane.specs.Back.{heap_back}
 use Rattle.bc_lane.specs.declared.parts.LanePart.{LanePart}
 use Rattle.bc_lane.specs.declared.stops.Stop.{Stop}
@@ -21,11 +20,8 @@ use Rattle.bc_mutator.specs.Operations.{IsOpOf}
 use Rattle.bc_pager.specs.declared.answers.Answer.{Answer}
 use Rattle.bc_pins.specs.Calls.{key_of, view_of}
 use Rattle.bc_pins.specs.Closing.{AreBack, Closed}
-use Rattle.bc_pins.specs.Key.{role_number}
 use Rattle.bc_pins.specs.Seating.{IsDealt}
-use Rattle.bc_pins.specs.Steps.{fresh}
-use Rattle.bc_pins.specs.declared.key.Role.{Role}
-use Rattle.bc_pins.specs.declared.key.Role.TheVariants.{Lane, Pager}
+use Rattle.bc_pins.specs.declared.key.Role.TheVariants.{Lane}
 use Rattle.bc_pins.specs.declared.pins.Pins.{Pins}
 use Rattle.bc_pins.specs.declared.pins.Seat.{Seat}
 use Rattle.bc_reach.specs.Distinct.{Has}
@@ -43,21 +39,20 @@ use Rattle.bc_turn.specs.Looked.{HadInTurn, IsLookedAtInTurn}
 use Rattle.bc_turn.specs.Begun.{AllRan, AreBegun, AreBusyLanes, IsBegunLane, RanLane, of_lane}
 use Rattle.bc_turn.specs.Beside.{RanBeside}
 use Rattle.bc_turn.specs.Laying.{AreLaidBack}
-use Rattle.bc_pager.specs.Paging.{HasPaged, IsPagerReady}
-use Rattle.bc_turn.specs.Taking.{AreHeldDomains, AreRunsOf, AreSparesOf, AreTaken, CanAllRun, CanRun, FitsLanes, HasBusyAmong, HasReplyRoom, HasRoomForLane, LaneHasRun, IsRoomKept, LiesRight, running_lanes, seat_at, spare_lanes, turn_at, turn_roles}
+use Rattle.bc_pager.specs.Paging.{AllPagersReady, HaveAllPaged, seats_of}
+use Rattle.bc_pager.specs.Placing.{AnsweredByPagers, ClaimAsMany, paged_of}
+use Rattle.bc_turn.specs.Taking.{AreHeldDomains, AreRunsOf, AreSparesOf, AreTaken, CanAllRun, CanRun, FitsLanes, HasBusyAmong, HasReplyRoom, HasRoomForLane, LaneHasRun, IsRoomKept, LiesRight, running_lanes, seat_at, spare_lanes, turn_at}
 use Rattle.bc_turn.proofs.AnsweredLemmas.{AreMoved, answered}
-use Rattle.bc_turn.proofs.BegunLemmas.{IsPagerBack, all-fetched, all-homes, all-put, are-back, are-moved, are-recorded, begun-lane, gathered, may-operate, ops-each, own-fetched, own-returned, paged-back, pager-logged}
+use Rattle.bc_turn.proofs.BegunLemmas.{all-claims, all-fetched, all-homes, all-put, are-back, are-moved, are-recorded, begun-lane, may-operate, ops-each, own-fetched, own-returned}
 use Rattle.bc_turn.proofs.BesideLemmas.{ran-beside, turn-table}
 use Rattle.bc_turn.proofs.LayingLemmas.{laid-space}
+use Rattle.bc_pager.proofs.SeatedLemmas.{ArePagersBack, ArePagersTold, first-of, pagers-back, pagers-logged, pagers-told, seats-long}
+use Rattle.bc_turn.proofs.SeatedLemmas.{lane-dealt, pagers-dealt, pagers-ready}
+use Rattle.bc_turn.proofs.SumLemmas.{gathered}
 use Rattle.bc_turn.proofs.RoomLemmas.{beside-longer, busy-among, busy-later, same-numbers}
 use Rattle.bc_turn.proofs.TableLemmas.{IsTurnTable}
 use Rattle.bc_whole_heap.specs.Heaps.{HeapView, end_of}
 use Rattle.bc_pager.proofs.HomeLemmas.{declined-beside}
-
--- a list has an element
-pub first-of : {X : Type 0} (xs : List X) → 0 < length xs → X
-first-of [] lt = absurd (omega arith)
-first-of (x ∷ xs) lt = x
 
 -- there are words for all slots of the lane's domains
 pub words-enough : (hs : List Holder) (part : LanePart) (r : RootWords) → SlotsOf part r → part.holders.items ≡ hs → AreHeldDomains hs part.lane part.domains.items → AreStarts part.domains.items part.slots (length hs) part.starts.items
@@ -84,18 +79,6 @@ words-enough hs part r shows holders domains starts = by-count (length part.doma
 back-place : (n i : ℕ) → i < n → n - (n - (i + 1) + 1) ≡ i
 back-place n i lt = omega arith
 
--- the roles of a turn: each lane's, and the pager's after them
-pub roles-long : (busy : List ℕ) → length (turn_roles busy) ≡ length busy + 1
-roles-long busy = length_push (map (λ (l : ℕ). Lane l) busy) (Pager 0) ∙ ap (λ (n : ℕ). n + 1) (length-map busy (λ (l : ℕ). Lane l))
-
-lane-role-at : (busy : List ℕ) (i : ℕ) → i < length busy → get_or (turn_roles busy) i (Lane 0) ≡ Lane (get_or busy i 0)
-lane-role-at busy i lt =
-    let count = length-map busy (λ (l : ℕ). Lane l) in
-    get_or_append_left (map (λ (l : ℕ). Lane l) busy) (Pager 0 ∷ []) (Lane 0) i (omega arith) ∙ list.get_or-map (λ (l : ℕ). Lane l) busy i 0
-
-pager-role : (busy : List ℕ) → get_or (turn_roles busy) (length busy) (Lane 0) ≡ Pager 0
-pager-role busy = get_or_push (map (λ (l : ℕ). Lane l) busy) (Pager 0) (Lane 0) (length busy) (length-map busy (λ (l : ℕ). Lane l))
-
 -- room that came back is kept for the next turn
 room-returned : (hs : List Holder) (slots : ℕ) (lanes : List (List Op)) (h : HeapView) (serials : List ℕ) (before : List (List Reply)) (k : HeapView) (nexts : List ℕ) (after : List (List Reply)) (busy : List ℕ) (room : TurnRoom)
     → AreSparesOf hs slots room.spares.items → spare_lanes room.spares.items ≡ busy → AreBusyLanes lanes before busy → length before ≡ length lanes → RanBeside hs lanes h serials before k nexts after → IsRoomKept hs slots lanes after room
@@ -106,14 +89,8 @@ room-returned hs slots lanes h serials before k nexts after busy room spares lan
           (busy-later lanes before after busy (beside-longer hs lanes h serials before k nexts after sizes ran) (busy-among lanes before busy busy_are)),
     )
 
--- answers to the same notices, after the same ones
-pub answers-same : (IsLooked : ℕ → Type 0) (Had : ℕ → List ℕ → Type 0) (s : Layout) (hints asked : List ℕ) (before kept after : List Answer) (t : Layout) → hints ≡ asked → before ≡ kept
-    → AnsweredBeside IsLooked Had s hints before after t → AnsweredBeside IsLooked Had s asked kept after t
-answers-same IsLooked Had s hints asked before kept after t hints_are kept_are answered_before =
-    subst (λ (xs : List ℕ). AnsweredBeside IsLooked Had s xs kept after t) hints_are (subst (λ (ks : List Answer). AnsweredBeside IsLooked Had s hints ks after t) kept_are answered_before)
-
 -- a turn under way
-module _ (hs : List Holder) (lanes : List (List Op)) (h : HeapView) (serials : List ℕ) (before : List (Vec Reply Global)) (turn : OpenTurn) (k : HeapView) (after : List (Vec Reply Global)) (set : IsTurnUnderWay hs lanes h serials before turn k after) where
+module _ (hs : List Holder) (lanes : List (List Op)) (h : HeapView) (serials : List ℕ) (before : List (Vec Reply Global)) (hints : List ℕ) (turn : OpenTurn) (k : HeapView) (after : List (Vec Reply Global)) (set : IsTurnUnderWay hs lanes h serials before (length hints) turn k after) where
   abbrev pins : Pins
   pins = turn.pins
 
@@ -123,8 +100,8 @@ module _ (hs : List Holder) (lanes : List (List Op)) (h : HeapView) (serials : L
   abbrev seats : List Seat
   seats = set.seats
 
-  abbrev pager : Seat
-  pager = turn.paging.seat
+  abbrev pagers : List Paging
+  pagers = turn.pagers.items
 
   abbrev runs : List Run
   runs = turn.runs.items
@@ -156,32 +133,17 @@ module _ (hs : List Holder) (lanes : List (List Op)) (h : HeapView) (serials : L
   some-run : Run
   some-run = first-of runs some-runs
 
-  table : IsTurnTable (key_of pins) h.space hs busy
-  table = turn-table h.space hs busy pins (seats ++ pager ∷ []) set.opened
+  table : IsTurnTable (key_of pins) h.space hs busy (length pagers)
+  table = turn-table h.space hs busy (length pagers) pins (seats ++ seats_of pagers) set.opened
 
-  lane-seats : length seats ≡ length busy
-  lane-seats = let all = set.opened.seats_are.long in let roles = roles-long busy in let long = length_push seats pager in omega arith
-
-  -- the pager's seat, which is the last
-  pager-dealt : IsDealt pins.table.shared.table_id (key_of pins) (Pager 0) pager
-  pager-dealt =
-      let roles = roles-long busy in
-      let there = set.opened.seats_are.each (length busy) (omega arith) pager in
-      subst (λ (r : Role). IsDealt pins.table.shared.table_id (key_of pins) r pager) (pager-role busy)
-      (subst (IsDealt pins.table.shared.table_id (key_of pins) (get_or (turn_roles busy) (length busy) (Lane 0))) (get_or_push seats pager pager (length busy) lane-seats) there)
-
-  -- it is ready to work
-  pub pager-ready : IsPagerReady pins turn.paging
-  pager-ready = record { seat = pager-dealt; given = set.given; room = set.enough }
+  -- the pagers are ready to work
+  pub all-ready : AllPagersReady pins hints pagers
+  all-ready = pagers-ready pins h.space hs busy seats pagers set.opened hints set.rooms
 
   dealt : (i : ℕ) → i < length busy → (d : Run) → IsDealt pins.table.shared.table_id (key_of pins) (Lane (get_or busy i 0)) (seat_at d runs i)
   dealt i lt d =
       let e = seat_at d runs i in
-      let count = roles-long busy in
-      let long = lane-seats in
-      let there = set.opened.seats_are.each i (omega arith) e in
-      subst (IsDealt pins.table.shared.table_id (key_of pins) (Lane (get_or busy i 0))) (get_or_append_left seats (pager ∷ []) e i (omega arith) ∙ sym (taken.seats_are i lt d e))
-      (subst (λ (r : Role). IsDealt pins.table.shared.table_id (key_of pins) r (get_or (seats ++ pager ∷ []) i e)) (lane-role-at busy i lt) there)
+      subst (IsDealt pins.table.shared.table_id (key_of pins) (Lane (get_or busy i 0))) (sym (taken.seats_are i lt d e)) (lane-dealt pins h.space hs busy seats pagers set.opened i lt e)
 
   begun-at : (i : ℕ) → i < length busy → (d : Run) → IsBegunLane pins h hs serials lanes (lists_of before) (turn_at d runs i) (seat_at d runs i)
   begun-at i lt d =
@@ -191,7 +153,7 @@ module _ (hs : List Holder) (lanes : List (List Op)) (h : HeapView) (serials : L
       let many = set.stands.lanes in
       let most = set.stands.consistent.lanes in
       let long_lanes = sizes in
-      begun-lane pins h hs serials lanes (lists_of before) busy t.roots t.told (turn_at d runs i) (seat_at d runs i) lane set.layout set.long (may-operate h hs lane set.running set.layout set.domains set.whole (omega arith)) (set.state, set.stands) table set.opened.lanes
+      begun-lane pins h hs serials lanes (lists_of before) busy t.roots t.told (turn_at d runs i) (seat_at d runs i) lane set.layout set.long (may-operate h hs lane set.running set.layout set.domains set.whole (omega arith)) (set.state, set.stands) (length pagers) table set.opened.lanes
       (dealt i lt d) (record { rising = t.domains.rising; all = t.domains.all; long = t.words.long; each = t.words.each; packed = t.words.packed }) t.told_are t.prepared within (omega arith) (set.births lane)
 
   begun : (d : Run) → AreBegun pins h hs serials lanes (lists_of before) busy (turn_at d runs) (seat_at d runs)
@@ -357,70 +319,80 @@ module _ (hs : List Holder) (lanes : List (List Op)) (h : HeapView) (serials : L
             written = here.written;
           }
 
-      module _ (later : Paging) (paged : HasPaged pins turn.paging later) where
-        pager-back : IsPagerBack pins later.seat
-        pager-back = paged-back pins turn.paging later pager-dealt paged
+      module _ (later : List Paging) (paged : HaveAllPaged pins hints pagers later) where
+        later-long : length (seats_of later) ≡ length pagers
+        later-long = seats-long later ∙ paged.long
+
+        back-pagers : ArePagersBack pins (seats_of later)
+        back-pagers = pagers-back pins hints pagers later (pagers-dealt pins h.space hs busy seats pagers set.opened) paged
+
+        table-later : IsTurnTable (key_of pins) h.space hs busy (length (seats_of later))
+        table-later = subst (IsTurnTable (key_of pins) h.space hs busy) (sym later-long) table
 
         module _ (back : List Seat) (back_long : length back ≡ length new) (back_are : (i : ℕ) → (r : Run) → (e : Seat) → i < length new → get_or back i e ≡ seat_at r new i) where
           seats-are : (i : ℕ) → i < length busy → (e : Seat) → get_or back i e ≡ seat_at d new i
           seats-are i lt e = let all = taken.long in back_are i d e (omega arith)
 
-          seats-long : length back ≡ length busy
-          seats-long = back_long ∙ new_long ∙ taken.long
+          back-lanes : length back ≡ length busy
+          back-lanes = back_long ∙ new_long ∙ taken.long
 
           abbrev whole-list : List Seat
-          whole-list = back ++ later.seat ∷ []
+          whole-list = back ++ seats_of later
 
           all-are : (i : ℕ) → i < length busy → (e : Seat) → get_or whole-list i e ≡ seat_at d new i
-          all-are i lt e = let long = seats-long in get_or_append_left back (later.seat ∷ []) e i (omega arith) ∙ seats-are i lt e
+          all-are i lt e = let long = back-lanes in get_or_append_left back (seats_of later) e i (omega arith) ∙ seats-are i lt e
 
-          all-long : length whole-list ≡ length busy + 1
-          all-long = length_push back later.seat ∙ ap (λ (n : ℕ). n + 1) seats-long
+          all-long : length busy ≤ length whole-list
+          all-long = let long = back-lanes in let both = length-append back (seats_of later) in omega arith
 
           pub all-back : AreBack pins.table.shared.table_id (key_of pins) whole-list
           all-back =
-              are-back pins h hs serials lanes (lists_of before) busy (turn_at d runs) (seat_at d runs) (turn_at d new) (seat_at d new) (begun d) (all-ran d) back later.seat table seats-long seats-are pager-back
-              (λ i lt. (seat_at d new i).tidy)
-
-          abbrev fetched : List ℕ
-          fetched = gathered (λ s. (view_of s).fetched) back
-
-          abbrev left : List ℕ
-          left = gathered (λ s. (view_of s).left) back
-
-          abbrev emptied : List ℕ
-          emptied = gathered (λ s. (view_of s).emptied) back
-
-          moved : AreMoved (key_of pins) whole-list paged.told fetched left emptied
-          moved =
-              are-moved pins h hs serials lanes (lists_of before) busy (turn_at d runs) (seat_at d runs) (turn_at d new) (seat_at d new) (begun d) (all-ran d) back later.seat table seats-long seats-are pager-back
-              paged.told paged.left paged.emptied
+              are-back pins h hs serials lanes (lists_of before) busy (turn_at d runs) (seat_at d runs) (turn_at d new) (seat_at d new) (begun d) (all-ran d) back (seats_of later) table-later back-lanes seats-are back-pagers
+              (let some = set.some in omega arith) (λ i lt. (seat_at d new i).tidy)
 
           pub beside : (t : Layout) → Closed (key_of pins) whole-list t → IsLayout t → RanBeside hs lanes h serials (lists_of before) (record g { space = t }) nexts told
           beside t closed given =
               ran-beside pins h hs serials lanes (lists_of before) busy (turn_at d runs) (seat_at d runs) (turn_at d new) (seat_at d new) (begun d) (all-ran d) set.state set.stands set.long
               (λ j has. (let p = place_of busy j has in ops-each h.roots lanes j (subst (λ (l : ℕ). l < length lanes) p.2 (busy_are.within p.0 p.1)) set.ops))
-              set.running set.layout set.whole set.some whole-list table all-long all-are (record g { space = t }) nexts told closed given
+              set.running set.layout set.whole set.some whole-list (length (seats_of later)) table-later all-long all-are (record g { space = t }) nexts told closed given
               (laid-space hs busy (turn_at d new) (length busy) h serials (lists_of before) g nexts told t home)
-              (are-recorded pins h hs serials lanes (lists_of before) busy (turn_at d runs) (seat_at d runs) (turn_at d new) (seat_at d new) (begun d) (all-ran d) back later.seat table seats-long seats-are pager-back)
-              (own-returned pins h hs serials lanes (lists_of before) busy (turn_at d runs) (seat_at d runs) (turn_at d new) (seat_at d new) (begun d) (all-ran d) back later.seat table seats-long seats-are pager-back)
+              (are-recorded pins h hs serials lanes (lists_of before) busy (turn_at d runs) (seat_at d runs) (turn_at d new) (seat_at d new) (begun d) (all-ran d) back (seats_of later) table-later back-lanes seats-are back-pagers)
+              (own-returned pins h hs serials lanes (lists_of before) busy (turn_at d runs) (seat_at d runs) (turn_at d new) (seat_at d new) (begun d) (all-ran d) back (seats_of later) table-later back-lanes seats-are back-pagers)
 
           each-fits : (i : ℕ) → i < length busy → AllByRecursion (IsOpOf h.roots) (of_lane lanes (get_or busy i 0))
           each-fits i lt = ops-each h.roots lanes (get_or busy i 0) (busy_are.within i lt) set.ops
 
-          pub answered-beside : (t : Layout) → Closed (key_of pins) whole-list t → IsLayout t → (all : List Answer) → all ≡ later.answers.list
-              → AnsweredBeside (IsLookedAtInTurn hs lanes h serials (lists_of before) told) (HadInTurn hs lanes h serials (lists_of before) told) h.space turn.paging.notices.hints turn.paging.answers.list all t
-          answered-beside t closed given all all_are =
-              answered (IsLookedAtInTurn hs lanes h serials (lists_of before) told) (HadInTurn hs lanes h serials (lists_of before) told) (key_of pins) h.space t whole-list turn.paging.notices.hints turn.paging.answers.list all paged.told fetched left emptied (view_of later.seat)
-              set.opened.opening closed set.layout given moved (all_are ∙ paged.kept) paged.each
-              (own-fetched pins h hs serials lanes (lists_of before) busy (turn_at d runs) (seat_at d runs) (turn_at d new) (seat_at d new) (begun d) (all-ran d) back later.seat table seats-long seats-are pager-back told home.replies each-fits)
-              (declined-beside (key_of pins) t whole-list turn.paging.notices.hints paged.told (fresh (key_of pins) (role_number (Pager 0) ∷ [])) (view_of later.seat)
-              (IsLookedAtInTurn hs lanes h serials (lists_of before) told) closed given.long.states paged.each
-              (pager-logged pins h hs serials lanes (lists_of before) busy (turn_at d runs) (seat_at d runs) (turn_at d new) (seat_at d new) (begun d) (all-ran d) back later.seat table seats-long seats-are pager-back)
-              (all-fetched pins h hs serials lanes (lists_of before) busy (turn_at d runs) (seat_at d runs) (turn_at d new) (seat_at d new) (begun d) (all-ran d) back later.seat table seats-long seats-are pager-back told home.replies each-fits)
-              (all-homes pins h hs serials lanes (lists_of before) busy (turn_at d runs) (seat_at d runs) (turn_at d new) (seat_at d new) (begun d) (all-ran d) back later.seat table seats-long seats-are pager-back told home.replies each-fits
-              turn.paging.notices.hints paged.told paged.each paged.left paged.emptied))
-              (all-put pins h hs serials lanes (lists_of before) busy (turn_at d runs) (seat_at d runs) (turn_at d new) (seat_at d new) (begun d) (all-ran d) back later.seat table seats-long seats-are pager-back told home.replies each-fits)
+          -- all seats claimed what the pagers did
+          pub as-many : ClaimAsMany whole-list (seats_of later)
+          as-many =
+              all-claims pins h hs serials lanes (lists_of before) busy (turn_at d runs) (seat_at d runs) (turn_at d new) (seat_at d new) (begun d) (all-ran d) back (seats_of later) table-later back-lanes seats-are back-pagers
+
+          -- the answers, in their places
+          module _ (answers : List Answer) (shared : AnsweredByPagers (key_of pins) hints (map paged_of later) answers) where
+            are-told : ArePagersTold pins (seats_of later) answers
+            are-told = pagers-told pins hints pagers later answers paged shared
+
+            moved : AreMoved (key_of pins) whole-list answers (gathered (λ s. (view_of s).fetched) back) (gathered (λ s. (view_of s).left) back) (gathered (λ s. (view_of s).emptied) back)
+            moved =
+                are-moved pins h hs serials lanes (lists_of before) busy (turn_at d runs) (seat_at d runs) (turn_at d new) (seat_at d new) (begun d) (all-ran d) back (seats_of later) table-later back-lanes seats-are back-pagers
+                answers are-told
+
+            abbrev Looked : ℕ → Type 0
+            Looked = IsLookedAtInTurn hs lanes h serials (lists_of before) told
+
+            abbrev Had : ℕ → List ℕ → Type 0
+            Had = HadInTurn hs lanes h serials (lists_of before) told
+
+            pub answered-beside : (t : Layout) → Closed (key_of pins) whole-list t → IsLayout t → (kept all : List Answer) → all ≡ kept ++ answers → AnsweredBeside Looked Had h.space hints kept all t
+            answered-beside t closed given kept all all_are =
+                answered Looked Had (key_of pins) h.space t whole-list hints kept all (map paged_of later) answers (gathered (λ s. (view_of s).fetched) back) (gathered (λ s. (view_of s).left) back) (gathered (λ s. (view_of s).emptied) back)
+                set.opened.opening closed set.layout given moved all_are shared
+                (own-fetched pins h hs serials lanes (lists_of before) busy (turn_at d runs) (seat_at d runs) (turn_at d new) (seat_at d new) (begun d) (all-ran d) back (seats_of later) table-later back-lanes seats-are back-pagers told home.replies each-fits)
+                (declined-beside (key_of pins) t whole-list hints (map paged_of later) answers Looked closed given.long.states shared (pagers-logged back later)
+                (all-fetched pins h hs serials lanes (lists_of before) busy (turn_at d runs) (seat_at d runs) (turn_at d new) (seat_at d new) (begun d) (all-ran d) back (seats_of later) table-later back-lanes seats-are back-pagers told home.replies each-fits)
+                (all-homes pins h hs serials lanes (lists_of before) busy (turn_at d runs) (seat_at d runs) (turn_at d new) (seat_at d new) (begun d) (all-ran d) back (seats_of later) table-later back-lanes seats-are back-pagers told home.replies each-fits
+                answers are-told))
+                (all-put pins h hs serials lanes (lists_of before) busy (turn_at d runs) (seat_at d runs) (turn_at d new) (seat_at d new) (begun d) (all-ran d) back (seats_of later) table-later back-lanes seats-are back-pagers told home.replies each-fits)
 
           pub room-again : (t : Layout) → Closed (key_of pins) whole-list t → IsLayout t → (room : TurnRoom) → (AreRunsOf hs busy k new → AreSparesOf hs k.roots.slots room.spares.items × (spare_lanes room.spares.items ≡ busy))
               → IsRoomKept hs h.roots.slots lanes told room

@@ -1,19 +1,17 @@
--- Notices that a pager answered beside the lanes of a turn, and pages that lanes reloaded, said of the space before the turn and
+-- Notices that pagers answered beside the lanes of a turn, and pages that lanes reloaded, said of the space before the turn and
 -- after it.
-use Rattle.std.specs.Prelude.{◌≡◌, ◌⊎◌, ℕ, ◌+◌, ◌-◌, ◌^◌, ◌<◌, ◌≤◌, ◌==◌, true, false, List, [], ◌∷◌, ◌++◌, length, min}
+use Rattle.std.specs.Prelude.{◌≡◌, ◌⊎◌, ℕ, ◌+◌, ◌-◌, ◌^◌, ◌<◌, ◌≤◌, ◌==◌, true, false, List, ◌++◌, length, min}
 use Rattle.bc_bits.specs.Bits.{has}
 use Rattle.bc_bits.specs.Counting.{one_if}
 use Rattle.bc_bookmarks.specs.Summarised.{gone_in}
 use Rattle.bc_bookmarks.specs.Targets.{has_target_at}
-use Rattle.bc_pager.specs.Answering.{AreAnswered, says_declined, says_discarded, says_evicted}
+use Rattle.bc_pager.specs.Answering.{says_declined, says_discarded, says_evicted}
+use Rattle.bc_pager.specs.Placing.{AnsweredByPagers, Paged}
 use Rattle.bc_pager.specs.declared.answers.Answer.{Answer}
 use Rattle.bc_pins.specs.Contents.{has_target_with}
-use Rattle.bc_pins.specs.Key.{Key, role_number}
-use Rattle.bc_pins.specs.Steps.{fresh}
+use Rattle.bc_pins.specs.Key.{Key}
 use Rattle.bc_pins.specs.Totals.{times, total}
 use Rattle.bc_pins.specs.Views.{state_word}
-use Rattle.bc_pins.specs.declared.key.Role.TheVariants.{Pager}
-use Rattle.bc_pins.specs.declared.views.View.{View}
 use Rattle.bc_superpages.specs.declared.headers.PageState.{PageState}
 use Rattle.bc_superpages.specs.declared.headers.PageState.TheVariants.{Absent, Gone, Home}
 use Rattle.bc_superpages.specs.Layout.{Layout, content_at, set_of}
@@ -38,8 +36,9 @@ pub record BookmarksBeside (Had : ℕ → List ℕ → Type 0) (s t : Layout) (t
 abbrev pub is_in : PageState → Layout → ℕ → ℕ
 is_in state s page = one_if (state_word (state_at s.states page) == state_word state)
 
--- the notices with these hints were answered by a pager that worked beside the lanes at a table that was opened over a space, and closed
--- to another one. Each has one answer, in order, by what the pager did and read; after the answers that were kept before. Besides, lanes
+-- the notices with these hints were answered by pagers that worked beside the lanes at a table that was opened over a space, and closed
+-- to another one. There are as many pagers as notices, at most four. Each notice was claimed by one of them and has one answer, by what
+-- that pager did and read since; the answers stand in the order of the notices, after those that were kept before. Besides, lanes
 -- reloaded pages, each one that is looked at in the turn, and for their frames made pages Gone or Absent, no more than they reloaded.
 -- By these lists and the answers each page is accounted for: how often it is Gone or Absent afterwards. A notice was declined only where
 -- each page that is Home afterwards is looked at in the turn. Pages were read as often as lanes reloaded one. A page had other contents
@@ -47,10 +46,11 @@ is_in state s page = one_if (state_word (state_at s.states page) == state_word s
 pub record AnsweredBeside (IsLooked : ℕ → Type 0) (Had : ℕ → List ℕ → Type 0) (s : Layout) (hints : List ℕ) (before after : List Answer) (t : Layout) : Type 0 where
   pub key : Key
   pub opening : key.opening ≡ s
-  pub end : View
+  -- what each pager claimed, answered and read
+  pub pagers : List Paged
   pub told : List Answer
   pub kept : after ≡ before ++ told
-  pub each : AreAnswered key hints told (fresh key (role_number (Pager 0) ∷ [])) end
+  pub shared : AnsweredByPagers key hints pagers told
   -- the pages that lanes reloaded, made Gone, and made Absent
   pub fetched : List ℕ
   pub left : List ℕ

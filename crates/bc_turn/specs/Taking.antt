@@ -1,5 +1,5 @@
 -- What a lane takes into a turn out of the heap, and what stands in its places meanwhile.
-use Rattle.std.specs.Prelude.{◌≡◌, ◌≢◌, ◌⊎◌, ℕ, ◌+◌, ◌-◌, ◌*◌, ◌<◌, ◌≤◌, List, [], ◌∷◌, ◌++◌, length, map, Vec, vec_capacity, None, slice_index, slice_index_or}
+use Rattle.std.specs.Prelude.{◌≡◌, ◌≢◌, ◌⊎◌, ℕ, ◌+◌, ◌-◌, ◌*◌, ◌<◌, ◌≤◌, List, [], ◌++◌, length, map, Vec, vec_capacity, None, slice_index, slice_index_or}
 use Rattle.std.specs.List.{AllByRecursion}
 use Rattle.std.specs.declared.alloc.Global.{Global}
 use Rattle.bc_lane.specs.declared.parts.LanePart.{LanePart}
@@ -15,6 +15,7 @@ use Rattle.bc_model.specs.declared.values.Holder.{Holder}
 use Rattle.bc_model.specs.declared.values.Holder.TheVariants.{Lane}
 use Rattle.bc_mutator.specs.Objects.{own_chunk}
 use Rattle.bc_mutator.specs.Operations.{IsOpOf}
+use Rattle.bc_pager.specs.Paging.{pager_roles}
 use Rattle.bc_pins.specs.Calls.{view_of}
 use Rattle.bc_pins.specs.declared.key.Role.{Role}
 use Rattle.bc_pins.specs.declared.key.Role.TheVariants as role
@@ -85,9 +86,9 @@ abbrev pub IsRoomKept : List Holder → ℕ → List (List Op) → List (List Re
 IsRoomKept holders slots lanes replies room =
     (room.spares.items ≡ []) ⊎ (AreSparesOf holders slots room.spares.items × HasBusyAmong lanes replies (spare_lanes room.spares.items))
 
--- the roles of a turn: these lanes, in their order, and a pager
-abbrev pub turn_roles : List ℕ → List Role
-turn_roles busy = map (λ (lane : ℕ). role.Lane lane) busy ++ role.Pager 0 ∷ []
+-- the roles of a turn: these lanes, in their order, and so many pagers
+abbrev pub turn_roles : List ℕ → ℕ → List Role
+turn_roles busy pagers = map (λ (lane : ℕ). role.Lane lane) busy ++ pager_roles pagers
 
 -- what a lane takes into a turn: the words of its domains' root slots, its chunk, its write buffer, its births and its replies. The heap's root
 -- words it shares

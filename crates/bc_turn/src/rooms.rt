@@ -10,6 +10,7 @@ ghost use Rattle.bc_turn.specs.Taking.{AreHeldDomains, AreSparesOf, IsRoomKept, 
 use bc_lane::{LaneRoom, LaneRoots};
 use bc_model::{Holder, Op, Reply};
 use bc_nursery::{Chunk, WriteBuffer};
+use bc_pager::push_pagers;
 use bc_pins::Role;
 use bc_word::Address;
 use std::alloc::{AllocError, Global};
@@ -155,14 +156,19 @@ fn held_domains(alloc: Global, lane: u32, holders: &[Holder]) -> Result<Vec<u32>
     Ok(domains)
 }
 
-/// The roles of a turn: the lanes that have room for it, in their order, and a pager.
-pub(crate) fn roles_of(alloc: Global, spares: &[Spare]) -> Result<Vec<Role>, AllocError>
-    ensures roles { IfOk result (λ roles. roles.items ≡ turn_roles (spare_lanes spares.now)) }
+/// The roles of a turn: the lanes that have room for it, in their order, and so many pagers.
+pub(crate) fn roles_of(
+    alloc: Global,
+    spares: &[Spare],
+    pagers: u32,
+) -> Result<Vec<Role>, AllocError>
+    requires few { pagers ≤ 4 }
+    ensures roles { IfOk result (λ roles. roles.items ≡ turn_roles (spare_lanes spares.now) pagers) }
 {
-    let mut roles = Vec::with_capacity(alloc, spares.len() + 1)?;
+    let mut roles = Vec::with_capacity(alloc, spares.len() + pagers as usize)?;
     for spare in spares {
         roles.push_reserved(Role::Lane(spare.lane));
     }
-    roles.push_reserved(Role::Pager(0));
+    push_pagers(&mut roles, pagers);
     Ok(roles)
 }

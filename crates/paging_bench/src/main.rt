@@ -20,6 +20,8 @@
 //
 //     plain        in each turn lanes run one after another on the heap itself, and then notices are answered. So each count is the same at
 //                  each run. Without it turns have a table and threads where these are likely to pay, as in `bc run`
+//     beside       each turn has a table, with a thread for each lane that has operations left and for each pager
+//     one-thread   each turn has a table, on one thread
 //     steps        a line of the engine's log for each step comes before the phase's: `step` says what it was, `operations`, `reads` and `left`
 //                  what was done in it, and the others how it left the heap: pages with a frame (`home`), those of nurseries not among them,
 //                  pages that are gone, cells that are allocated, and superpages in use. A step is a turn of the lanes (`turn`), a bookmark
@@ -65,9 +67,11 @@ fn words_of(rt: &HostRuntime) -> Result<Asked> {
     for word in env::args(rt)?.skip(1) {
         match word.as_str() {
             "plain" => asked.pacing = Pacing::Plain,
+            "beside" => asked.pacing = Pacing::SideBySide,
+            "one-thread" => asked.pacing = Pacing::OneThread,
             "steps" => asked.steps = true,
             "clock" => asked.clock = true,
-            _ => bail!("the words are plain, steps and clock"),
+            _ => bail!("the words are plain, beside, one-thread, steps and clock"),
         }
     }
     Ok(asked)

@@ -17,15 +17,14 @@ mod rows;
 mod saving;
 mod saving_devices;
 mod saving_phases;
-mod sink;
 mod words;
 
 use crate::equal::same;
+use crate::sink::Paper;
 use bc_cli::top::top;
 use bc_cli::{Gate, OpenGate, Outcome, Status};
 use bc_io::{MemSource, Source};
 use bc_trace::Cause;
-use sink::Paper;
 use std::alloc::{AllocError, Global};
 use std::process::Abort;
 use std::thread::Threads;
@@ -50,16 +49,26 @@ pub struct Ran {
     pub written: Vec<u8>,
 }
 
-/// Runs the words over these bytes.
-pub fn run_over<R: Threads + Sync>(rt: &R, alloc: Global, words: &[&str], input: Vec<u8>) -> Ran {
-    let mut source = MemSource::new(input, 4096, Vec::new(alloc));
-    let mut sink = Paper::new(alloc);
-    let outcome = run_between(rt, alloc, words, &mut source, &mut sink, &OpenGate);
+/// Runs the words over this source and this sink.
+pub fn run_on<R: Threads + Sync, S: Source>(
+    rt: &R,
+    alloc: Global,
+    words: &[&str],
+    source: &mut S,
+    mut sink: Paper,
+) -> Ran {
+    let outcome = run_between(rt, alloc, words, source, &mut sink, &OpenGate);
     Ran {
         status: outcome.status,
         has_heap: outcome.heap.is_some(),
         written: sink.into_bytes(),
     }
+}
+
+/// Runs the words over these bytes.
+pub fn run_over<R: Threads + Sync>(rt: &R, alloc: Global, words: &[&str], input: Vec<u8>) -> Ran {
+    let mut source = MemSource::new(input, 4096, Vec::new(alloc));
+    run_on(rt, alloc, words, &mut source, Paper::new(alloc))
 }
 
 /// Shows that the words over these bytes end so, with a heap that is handed back or none, and what they write.

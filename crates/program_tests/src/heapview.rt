@@ -1,6 +1,7 @@
 //! Views over devices in memory: what is answered, and what is refused.
 
 use crate::equal::same;
+use crate::sink::Paper;
 use bc_heapview::ViewStatus;
 use bc_heapview::view::view;
 use bc_image::ImageCause;
@@ -8,10 +9,6 @@ use bc_io::MemSource;
 use std::alloc::{AllocError, Global};
 use std::process::Abort;
 use std::test::Fail;
-
-mod sink;
-
-use sink::Paper;
 
 /// A heap of one lane, one domain and two slots after a phase of `new 0 0 1`, `new 0 1 1`, `link 0 1 0 0 0`, `clear 0 0`: slot 1
 /// refers to object 0.2, whose field refers to 0.1.

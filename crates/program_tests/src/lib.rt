@@ -3,9 +3,10 @@
 // The gate proves a crate that has tests twice, with them and without. So those of dear crates stand here, above them.
 // Nothing here is for others to call.
 //
-// - `cli` (bc_cli): runs and draws of all kinds, on devices in memory
+// - `cli` (bc_cli, bc_replay): runs, workloads and images, on devices in memory
 // - `heapview` (bc_heapview): questions about an image
 // - `equal`: whether what is found is what is wanted
+// - `sink`: what is written
 #![tactic(auto)]
 
 #[cfg(test)]
@@ -14,3 +15,5 @@ mod cli;
 mod equal;
 #[cfg(test)]
 mod heapview;
+#[cfg(test)]
+mod sink;

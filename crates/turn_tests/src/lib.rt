@@ -7,7 +7,7 @@
 // - `pins` (bc_pins): tables
 // - `pager` (bc_pager): notices that are answered at a table
 // - `lane` (bc_lane): what a lane takes into a turn and gives back
-// - `markers` (bc_mark_turn, bc_marking): mark turns, and whole markings with a pager beside the markers
+// - `markers` (bc_mark_turn, bc_marking): mark turns, and whole markings with pagers beside the markers
 //
 // A test at a table is a case (`cases`) of three lists of steps: how its space is made (`furnished`), what is done at the table and what is returned
 // there (`table`), and what is found in the space once the table is closed (`findings`). The calls stand once. A table keeps the conditions of its

@@ -2,9 +2,10 @@
 
 ghost use Rattle.std.specs.Prelude.{◌<◌, ◌≤◌, length};
 
-use super::sink::Paper;
+use super::{Ran, run_on};
 use crate::equal::same;
-use bc_cli::{OpenGate, Status};
+use crate::sink::Paper;
+use bc_cli::Status;
 use bc_io::MemSource;
 use std::alloc::{AllocError, Global};
 use std::process::Abort;
@@ -31,45 +32,21 @@ const CUT_OUTPUT: &[u8; 158] =
 const NOTHING_DRAWN: &[u8; 88] =
     b"churn 7 0\nobj 0\nok 0\nnil 0\nnum 0\nref 0\nlen 0\nyes 0\nno 0\nnotobj 0\nrange 0\nforeign 0\ndone\n";
 
-/// What a run over these devices ended with, whether it handed back a heap, and what the sink holds.
-#[derive(Drop)]
-struct Left {
-    status: Status,
-    has_heap: bool,
-    held: Vec<u8>,
-}
-
-/// What the words do over these devices.
-fn run_between<R: Threads + Sync>(
-    rt: &R,
-    alloc: Global,
-    words: &[&str],
-    mut source: MemSource,
-    mut sink: Paper,
-) -> Left {
-    let outcome = super::run_between(rt, alloc, words, &mut source, &mut sink, &OpenGate);
-    Left {
-        status: outcome.status,
-        has_heap: outcome.heap.is_some(),
-        held: sink.into_bytes(),
-    }
-}
-
 /// A run over devices that give and take pieces. The one read and the one write of these numbers fail.
-fn run_over<R: Threads + Sync>(
+fn run_pieces<R: Threads + Sync>(
     rt: &R,
     alloc: Global,
     trace: &[u8],
     reads: (usize, u64),
     writes: (usize, u64),
-) -> Result<Left, AllocError>
+) -> Result<Ran, AllocError>
     requires trace { length trace.now ≤ 277 }
     requires reads { 0 < reads.0 }
     requires writes { 0 < writes.0 }
 {
-    let source = MemSource::new(trace.to_vec(alloc)?, reads.0, vec![in alloc; reads.1]?);
+    let mut source = MemSource::new(trace.to_vec(alloc)?, reads.0, vec![in alloc; reads.1]?);
     let sink = Paper::torn(alloc, writes.0, writes.1);
-    Ok(run_between(rt, alloc, &["run"], source, sink))
+    Ok(run_on(rt, alloc, &["run"], &mut source, sink))
 }
 
 /// Shows how a run over such devices ends, with a heap that is handed back or none, and what it leaves.
@@ -86,7 +63,7 @@ fn leaves<R: Threads + Sync + Abort>(
     requires reads { 0 < reads.0 }
     requires writes { 0 < writes.0 }
 {
-    let left = run_over(rt, alloc, trace, reads, writes)?;
+    let left = run_pieces(rt, alloc, trace, reads, writes)?;
     shows(rt, &left, end, held, (reads.1, writes.1));
     Ok(())
 }
@@ -94,14 +71,18 @@ fn leaves<R: Threads + Sync + Abort>(
 /// Shows what was left where the read and the write of these numbers failed.
 fn shows<R: Abort>(
     rt: &R,
-    left: &Left,
+    left: &Ran,
     (status, has_heap): (Status, bool),
     held: &[u8],
     (read, write): (u64, u64),
 ) {
     assert_eq!(rt; left.status, status, "at read {read}, write {write}");
     same(rt, left.has_heap, has_heap);
-    assert_eq!(rt; left.held.as_slice(), held, "at read {read}, write {write}");
+    assert_eq!(rt;
+        left.written.as_slice(),
+        held,
+        "at read {read}, write {write}"
+    );
 }
 
 /// Shows that the run stops at the write of this number, of so many bytes at most, and leaves this prefix of the output.
@@ -194,9 +175,9 @@ fn churn_leaves<R: Threads + Sync + Abort>(
 ) -> Result<(), AllocError>
     requires write { 0 < write.0 }
 {
-    let source = MemSource::new(Vec::new(alloc), 4096, vec![in alloc; 1]?);
+    let mut source = MemSource::new(Vec::new(alloc), 4096, vec![in alloc; 1]?);
     let sink = Paper::torn(alloc, write.0, write.1);
-    let left = run_between(rt, alloc, &["churn", "7", "0"], source, sink);
+    let left = run_on(rt, alloc, &["churn", "7", "0"], &mut source, sink);
     shows(rt, &left, (status, true), held, (1, write.1));
     Ok(())
 }

@@ -2,9 +2,9 @@
 
 ghost use Rattle.std.specs.Prelude.{◌≤◌};
 
-use super::sink::Paper;
 use super::{repeated, trace};
 use crate::equal::same;
+use crate::sink::Paper;
 use bc_cli::{Gate, Host, Outcome, Status, read_trace, run_trace};
 use bc_engine::{Answer, Counters, Pacing};
 use bc_io::MemSource;
@@ -32,7 +32,7 @@ pub struct Passed {
     pub counters: Option<Counters>,
 }
 
-/// Runs the trace with this text, past a gate: each turn at a table, its lanes and its pager on threads of their own.
+/// Runs the trace with this text, past a gate: each turn at a table, its lanes and its pagers on threads of their own.
 pub fn run_past<R: Threads + Sync, G: Gate + Sync>(
     rt: &R,
     alloc: Global,

@@ -2,9 +2,9 @@
 
 use super::gates::{AFTER, Counting};
 use super::saving::followed;
-use super::sink::Paper;
 use super::{repeated, run_between, trace};
 use crate::equal::same;
+use crate::sink::Paper;
 use bc_cli::Status;
 use bc_io::MemSource;
 use std::alloc::{AllocError, Global};

@@ -1,7 +1,7 @@
-//! A pager works beside the markers of a collection, and answers the notices of its turn: shown by gates that they pass.
+//! Pagers work beside the markers of a collection, and answer the notices of its turn: shown by gates that they pass.
 
 use super::gates::{Patience, run_marked, run_past};
-use super::gates_pager::{ANSWERED, PAGER, TAKEN};
+use super::gates_pager::{ANSWERED, FOUR, PAGER, TAKEN, Together};
 use super::{trace, trace_in};
 use crate::equal::same;
 use bc_cli::{Gate, Status};
@@ -74,7 +74,8 @@ impl Gate for Meeting {
     }
 }
 
-/// Shows that in a run of one of these texts a page leaves beside a marker that has another one in its hands.
+/// Shows that in a run of one of these texts a page leaves beside a marker that has another one in its hands, and that the marker puts its
+/// pages back.
 fn one_leaves<R: Threads + Sync + Abort>(rt: &R, alloc: Global, text: &str) -> Result<(), Fail> {
     let gate = Meeting::new();
     let passed = run_past(rt, alloc, text, &gate)?;
@@ -83,6 +84,10 @@ fn one_leaves<R: Threads + Sync + Abort>(rt: &R, alloc: Global, text: &str) -> R
     // The first object's page is in the marker's hands, so the notice with its number is answered with the other one.
     assert!(rt; passed.answers.as_slice() == [Answer::Evicted(4)].as_slice());
     same(rt, gate.answered.load(Ordering::SeqCst), 1);
+    // The marker puts each page back that it took.
+    let taken = gate.in_hand.load(Ordering::SeqCst);
+    assert!(rt; taken > 0);
+    same(rt, gate.put_back.load(Ordering::SeqCst), taken);
     same(rt, gate.patience.given_up.load(Ordering::SeqCst), 0);
     let Some(counters) = passed.counters else {
         assert!(rt; false, "no heap is handed back");
@@ -103,15 +108,22 @@ fn a_page_leaves_beside_a_marker_that_has_another_in_its_hands(
     one_leaves(&rt, rt.alloc(), &text)
 }
 
+/// The same as the first with eight notices.
+const EIGHT_NOTICES: &str =
+    "phase\nlane 0\nnew 0 0 1\nnew 0 1 2\nend\nphase\nturn\nturn 0 1 2 3 4 5 6 7\nlane 0\nclear 0 1\nnew 0 1 8\nend\ndone\n";
+
 #[test]
-fn a_marker_puts_each_page_back_that_it_took(rt: HostRuntime) -> Result<(), Fail> {
-    let text = trace(rt.alloc(), [1, 1, 2, 2, 1, 4, 3], THREE_CLASSES)?;
-    let gate = Meeting::new();
-    let passed = run_past(&rt, rt.alloc(), &text, &gate)?;
+fn four_pagers_answer_eight_notices_beside_two_markers(rt: HostRuntime) -> Result<(), Fail> {
+    let text = trace(rt.alloc(), [1, 1, 2, 2, 1, 4, 3], EIGHT_NOTICES)?;
+    let gate = Together::of(FOUR);
+    let passed = run_marked(&rt, rt.alloc(), &text, 2, Pacing::SideBySide, &gate)?;
     same(&rt, passed.status, Status::Done);
-    let taken = gate.in_hand.load(Ordering::SeqCst);
-    assert!(rt; taken > 0);
-    same(&rt, gate.put_back.load(Ordering::SeqCst), taken);
+    assert!(rt; passed.written.as_slice() == PRINTED.as_bytes());
+    // There may be a mark turn more, which has the line again.
+    let answers = passed.answers.len();
+    assert!(rt; answers > 0 && answers % 8 == 0);
+    same(&rt, gate.answered.load(Ordering::SeqCst), answers as u64);
+    same(&rt, gate.come.load(Ordering::SeqCst), gate.all);
     same(&rt, gate.patience.given_up.load(Ordering::SeqCst), 0);
     Ok(())
 }

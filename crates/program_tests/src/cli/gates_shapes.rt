@@ -1,11 +1,11 @@
-//! Lanes and a pager meet in other shapes: sixteen lanes at once, in the second turn of the second phase, with a page in a lane's hands, and
+//! Lanes and pagers meet in other shapes: sixteen lanes at once, in the second turn of the second phase, with a page in a lane's hands, and
 //! in long turns that the program itself runs side by side. Shown by gates that they pass.
 
-use super::gates::{AFTER, BEFORE, Counting, Patience, run_past};
-use super::gates_pager::{ANSWERED, PAGER, TAKEN};
-use super::sink::Paper;
+use super::gates::{AFTER, BEFORE, Patience, run_past};
+use super::gates_pager::{ANSWERED, FOUR, PAGER, TAKEN, Together};
 use super::{repeated, trace};
 use crate::equal::same;
+use crate::sink::Paper;
 use bc_cli::{Gate, Status};
 use bc_engine::Answer;
 use bc_io::MemSource;
@@ -86,9 +86,9 @@ fn sixteen_lanes_that_wait_for_one_another_in_a_ring_all_come_through(
     Ok(())
 }
 
-/// In the second turn of lane 0: keeps it before its first operation until the pager has answered the first of that turn's two notices,
-/// and before its second one until the other is answered; and the pager at the first notice until lane 0 has come before that
-/// operation, and at the other until it has done it. The first turn has one notice, and five operations of which the last isn't done.
+/// In the second turn of lane 0: keeps it before its first operation until a pager has answered one of that turn's two notices, and before its
+/// second one until the other is answered; and the pager that takes a notice first until lane 0 has come before that operation, and the one
+/// that takes the other until it has done it. The first turn has one notice, and five operations of which the last isn't done.
 #[derive(Drop)]
 struct SecondTurn {
     come: AtomicU64,
@@ -100,7 +100,7 @@ struct SecondTurn {
 
 impl Gate for SecondTurn {
     fn at(&self, who: u32, point: u32) {
-        match (who, point) {
+        match (who.min(PAGER), point) {
             (0, BEFORE) => match self.come.fetch_add(1, Ordering::SeqCst) {
                 5 => self.patience.keep_until_above(&self.answered, 1),
                 6 => self.patience.keep_until_above(&self.answered, 2),
@@ -143,7 +143,7 @@ pub fn first_births(alloc: Global, lane: u32, objects: u32) -> Result<String, Al
 }
 
 #[test]
-fn a_lane_and_a_pager_meet_in_the_second_turn_of_the_second_phase_twice(
+fn a_lane_and_two_pagers_meet_in_the_second_turn_of_the_second_phase(
     rt: HostRuntime,
 ) -> Result<(), Fail> {
     let old = big_objects(rt.alloc(), 1, 12)?;
@@ -232,11 +232,7 @@ fn lines_of_9_and_of_64_notices_are_answered_turn_by_turn_beside_two_lanes(
         "phase\nturn{nine}\nturn{most}\nlane 0\n{zero}lane 1\n{one}end\ndone\n"
     )?;
     let text = trace(rt.alloc(), [2, 2, 1, 2, 1, 4, 6], &lines)?;
-    let gate = Counting {
-        who: PAGER,
-        point: ANSWERED,
-        passes: AtomicU64::new(0),
-    };
+    let gate = Together::of(FOUR);
     let passed = run_past(&rt, rt.alloc(), &text, &gate)?;
     same(&rt, passed.status, Status::Done);
     let first = first_births(rt.alloc(), 0, 10)?;
@@ -245,7 +241,9 @@ fn lines_of_9_and_of_64_notices_are_answered_turn_by_turn_beside_two_lanes(
     assert!(rt; passed.written.as_slice() == output.as_bytes());
     // Three turns, of which the third has the first line again.
     same(&rt, passed.answers.len(), 82);
-    same(&rt, gate.passes.load(Ordering::SeqCst), 82);
+    same(&rt, gate.answered.load(Ordering::SeqCst), 82);
+    same(&rt, gate.come.load(Ordering::SeqCst), gate.all);
+    same(&rt, gate.patience.given_up.load(Ordering::SeqCst), 0);
     Ok(())
 }
 
@@ -263,7 +261,7 @@ fn run_as_pays<R: Threads + Sync, G: Gate + Sync>(
     Ok((outcome.status, sink.into_bytes()))
 }
 
-/// Keeps lane 0 before its second operation until the pager has answered, and the pager at each notice until lane 0 has come there.
+/// Keeps lane 0 before its second operation until a pager has answered, and each pager with each notice until lane 0 has come there.
 #[derive(Drop)]
 struct Beside {
     come: AtomicU64,
@@ -273,7 +271,7 @@ struct Beside {
 
 impl Gate for Beside {
     fn at(&self, who: u32, point: u32) {
-        match (who, point) {
+        match (who.min(PAGER), point) {
             (0, BEFORE) => {
                 if self.come.fetch_add(1, Ordering::SeqCst) == 1 {
                     self.patience.keep_until(&self.answered);
@@ -289,9 +287,7 @@ impl Gate for Beside {
 }
 
 #[test]
-fn in_a_long_turn_a_pager_answers_nine_notices_beside_the_lane(
-    rt: HostRuntime,
-) -> Result<(), Fail> {
+fn in_a_long_turn_pagers_answer_nine_notices_beside_the_lane(rt: HostRuntime) -> Result<(), Fail> {
     let hints = repeated(rt.alloc(), " 0", 9)?;
     let looks = repeated(rt.alloc(), "who 0 0\n", 6_000)?;
     let lines = format!(in rt.alloc();

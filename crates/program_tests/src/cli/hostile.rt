@@ -6,9 +6,9 @@ ghost use Rattle.bc_engine.specs.Lanes.{of_lane};
 ghost use Rattle.bc_model.specs.WellFormed.{FitsFrames, IsPhase};
 
 use super::gates::run_past;
-use super::sink::Paper;
 use super::{repeated, shows, shows_done, trace};
 use crate::equal::same;
+use crate::sink::Paper;
 use bc_bits::count;
 use bc_cli::{OpenGate, Status};
 use bc_engine::{Answer, Engine, PhaseError};
@@ -83,7 +83,7 @@ struct Left {
 }
 
 /// A run over devices that give and take pieces of these sizes. The one read and the one write of these numbers fail.
-fn run_between<R: Threads + Sync>(
+fn run_pieces<R: Threads + Sync>(
     rt: &R,
     alloc: Global,
     trace: &[u8],
@@ -117,7 +117,7 @@ fn first_path_leaves<R: Threads + Sync + Abort>(
     requires held { held ≤ 37 }
 {
     let (status, has_heap) = end;
-    let left = run_between(rt, alloc, FIRST_PATH.as_bytes(), reads, writes)?;
+    let left = run_pieces(rt, alloc, FIRST_PATH.as_bytes(), reads, writes)?;
     assert_eq!(rt;
         left.status,
         status,
@@ -188,7 +188,7 @@ fn a_write_that_fails_after_an_object_too_many_leaves_the_heap_of_the_stopped_st
     let output = chained(alloc)?;
     let bytes = text.as_bytes();
     for number in 1..=2 {
-        let left = run_between(&rt, alloc, bytes, (65_536, 0), (65_536, number))?;
+        let left = run_pieces(&rt, alloc, bytes, (65_536, 0), (65_536, number))?;
         same(&rt, left.status, Status::WriteFault);
         assert!(rt; output.as_bytes().starts_with(&left.held));
         same(&rt, left.held.is_empty(), number == 1);
@@ -222,11 +222,16 @@ fn hints_of_no_page_and_of_absent_pages_change_no_reply(rt: HostRuntime) -> Resu
     Ok(())
 }
 
+/// How many turns the lane's phase has at most: each turn does one of its four operations at least.
+const MOST_TURNS: u64 = 5;
+
 /// Are there four answers for each of so many turns of the lanes, of a page that left or of none? There is one turn where the lane finds its
-/// pages, and one more each time that the pager has the lane's page in hand. Page 1 has an object where page 0 had left as the first turn ended.
+/// pages, and one more each time that a pager has the lane's page in hand. Page 1 has an object where page 0 had left as the first turn ended.
 fn are_answers(answers: &[Answer], turns: u64) -> bool {
     let may_be = |answer: &Answer| matches!(answer, Answer::Declined | Answer::Evicted(0 | 1));
-    turns > 0 && answers.len() as u64 == turns.saturating_mul(4) && answers.iter().all(may_be)
+    (1..=MOST_TURNS).contains(&turns)
+        && answers.len() as u64 == turns.saturating_mul(4)
+        && answers.iter().all(may_be)
 }
 
 #[test]
@@ -234,7 +239,7 @@ fn each_hint_of_each_turn_has_an_answer_though_it_names_no_page(
     rt: HostRuntime,
 ) -> Result<(), Fail> {
     let text = trace(rt.alloc(), SMALL, REMEMBERED[0].0)?;
-    let left = run_between(&rt, rt.alloc(), text.as_bytes(), (4096, 0), (4096, 0))?;
+    let left = run_pieces(&rt, rt.alloc(), text.as_bytes(), (4096, 0), (4096, 0))?;
     assert!(rt;
         left.heap.is_some_and(|engine| are_answers(engine.answers(), engine.opened().len() as u64))
     );
@@ -242,7 +247,7 @@ fn each_hint_of_each_turn_has_an_answer_though_it_names_no_page(
 }
 
 #[test]
-fn each_hint_of_each_turn_has_an_answer_where_a_pager_works_beside_the_lane(
+fn each_hint_of_each_turn_has_an_answer_where_pagers_work_beside_the_lane(
     rt: HostRuntime,
 ) -> Result<(), Fail> {
     let text = trace(rt.alloc(), SMALL, REMEMBERED[0].0)?;
@@ -254,6 +259,11 @@ fn each_hint_of_each_turn_has_an_answer_where_a_pager_works_beside_the_lane(
     // The first phase has one turn, without a notice.
     assert!(rt; are_answers(&passed.answers, counters.turns.saturating_sub(1)));
     Ok(())
+}
+
+/// How many answers are this one.
+fn answered_so(answers: &[Answer], one: Answer) -> usize {
+    answers.iter().filter(|answer| **answer == one).count()
 }
 
 #[test]
@@ -272,12 +282,10 @@ fn a_second_turn_of_the_lanes_in_a_phase_has_the_same_hints_again(
         &passed.answers.as_slice()[..4],
         [Answer::Declined; 4].as_slice(),
     );
-    same(&rt, passed.answers.as_slice()[4], Answer::Evicted(0));
-    same(
-        &rt,
-        &passed.answers.as_slice()[5..],
-        [Answer::Declined; 3].as_slice(),
-    );
+    // In the second turn page 0 has an object. One of four pagers evicts it, whichever comes first.
+    let later = &passed.answers.as_slice()[4..];
+    same(&rt, answered_so(later, Answer::Evicted(0)), 1);
+    same(&rt, answered_so(later, Answer::Declined), 3);
     Ok(())
 }
 

@@ -1,8 +1,8 @@
 //! Images: what `save` writes, what `resume` prints after it, and what both refuse.
 
-use super::sink::Paper;
 use super::{Ran, run_over, trace, trace_in};
 use crate::equal::same;
+use crate::sink::Paper;
 use bc_cli::{OpenGate, Status};
 use bc_image::ImageCause;
 use bc_io::MemSource;

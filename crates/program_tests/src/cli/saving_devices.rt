@@ -1,10 +1,10 @@
 //! Devices that fail while an image is saved or resumed: what comes out, and which bytes the sink holds then.
 
 use super::saving::{FIRST, FIRST_IMAGE, SMALL, bytes_of, ended, followed, front, saved};
-use super::sink::Paper;
-use super::{Ran, run_over, trace};
+use super::{run_on, run_over, trace};
 use crate::equal::same;
-use bc_cli::{OpenGate, Status};
+use crate::sink::Paper;
+use bc_cli::Status;
 use bc_io::{Failed, MemSource, Source};
 use std::alloc::{AllocError, Global};
 use std::process::Abort;
@@ -59,26 +59,14 @@ fn fails_at_read<R: Threads + Sync + Abort>(
     number: u64,
 ) -> Result<(), AllocError> {
     let mut source = MemSource::new(input.to_vec(alloc)?, 16, vec![in alloc; number]?);
-    let ran = written(rt, alloc, words, &mut source, 0);
+    let ran = run_on(rt, alloc, words, &mut source, failing(alloc, 0));
     ended(rt, &ran, Status::ReadFault, false, b"");
     Ok(())
 }
 
-/// What the words do over this source, and a sink of which the write of this number fails.
-fn written<R: Threads + Sync, S: Source>(
-    rt: &R,
-    alloc: Global,
-    words: &[&str],
-    source: &mut S,
-    failing: u64,
-) -> Ran {
-    let mut sink = Paper::torn(alloc, PIECE, failing);
-    let outcome = super::run_between(rt, alloc, words, source, &mut sink, &OpenGate);
-    Ran {
-        status: outcome.status,
-        has_heap: outcome.heap.is_some(),
-        written: sink.into_bytes(),
-    }
+/// A sink of which the write of this number fails. 0: none fails.
+fn failing(alloc: Global, number: u64) -> Paper {
+    Paper::torn(alloc, PIECE, number)
 }
 
 /// Each of the nine reads that give 137 bytes may fail, and the one that finds the end.
@@ -116,12 +104,18 @@ fn a_write_that_fails_leaves_a_front_of_the_image(rt: HostRuntime) -> Result<(),
     let image = saved(&rt, alloc, 1, "1", &text)?;
     for number in 1..=20 {
         let mut source = MemSource::new(text.as_slice().to_vec(alloc)?, 4096, Vec::new(alloc));
-        let ran = written(&rt, alloc, &["save", "1"], &mut source, number);
+        let ran = run_on(
+            &rt,
+            alloc,
+            &["save", "1"],
+            &mut source,
+            failing(alloc, number),
+        );
         let held = (number as usize).saturating_sub(1).saturating_mul(PIECE);
         ended(&rt, &ran, Status::WriteFault, false, front(&image, held));
     }
     let mut source = MemSource::new(text, 4096, Vec::new(alloc));
-    let ran = written(&rt, alloc, &["save", "1"], &mut source, 21);
+    let ran = run_on(&rt, alloc, &["save", "1"], &mut source, failing(alloc, 21));
     ended(&rt, &ran, Status::Done, false, &image);
     Ok(())
 }
@@ -142,7 +136,13 @@ fn a_write_that_fails_leaves_a_front_of_a_long_image(rt: HostRuntime) -> Result<
     same(&rt, image.len(), 8 * (12 + 200 + 2 + 600));
     for number in [1, 2, 512, 513, 514, 814] {
         let mut source = MemSource::new(text.as_slice().to_vec(alloc)?, 4096, Vec::new(alloc));
-        let ran = written(&rt, alloc, &["save", "1"], &mut source, number);
+        let ran = run_on(
+            &rt,
+            alloc,
+            &["save", "1"],
+            &mut source,
+            failing(alloc, number),
+        );
         let held = (number as usize).saturating_sub(1).saturating_mul(PIECE);
         ended(&rt, &ran, Status::WriteFault, false, front(&image, held));
     }
@@ -160,7 +160,7 @@ fn a_write_that_fails_after_resuming_leaves_a_front_of_the_texts(
     let input = followed(alloc, &image, &text)?;
     for number in 1..=11 {
         let mut source = MemSource::new(input.as_slice().to_vec(alloc)?, 4096, Vec::new(alloc));
-        let ran = written(&rt, alloc, &["resume"], &mut source, number);
+        let ran = run_on(&rt, alloc, &["resume"], &mut source, failing(alloc, number));
         let before = (number as usize).saturating_sub(1).saturating_mul(PIECE);
         let held = if number < 10 {
             before
@@ -170,7 +170,7 @@ fn a_write_that_fails_after_resuming_leaves_a_front_of_the_texts(
         ended(&rt, &ran, Status::WriteFault, true, front(CUT_OUTPUT, held));
     }
     let mut source = MemSource::new(input, 4096, Vec::new(alloc));
-    let ran = written(&rt, alloc, &["resume"], &mut source, 12);
+    let ran = run_on(&rt, alloc, &["resume"], &mut source, failing(alloc, 12));
     ended(&rt, &ran, Status::OutOfHeap { need: 3 }, true, CUT_OUTPUT);
     Ok(())
 }
@@ -190,7 +190,7 @@ fn a_heap_that_is_too_small_writes_no_image(rt: HostRuntime) -> Result<(), Fail>
 fn an_input_of_save_has_16777216_bytes_at_most(rt: HostRuntime) -> Result<(), Fail> {
     let alloc = rt.alloc();
     let mut source = Letters { left: 16_777_217 };
-    let ran = written(&rt, alloc, &["save", "0"], &mut source, 0);
+    let ran = run_on(&rt, alloc, &["save", "0"], &mut source, failing(alloc, 0));
     ended(&rt, &ran, Status::TooLong, false, b"");
     Ok(())
 }

@@ -1,8 +1,8 @@
 //! Words, and what is done for them.
 
-use super::sink::Paper;
 use super::{shows, trace};
 use crate::equal::same;
+use crate::sink::Paper;
 use bc_cli::{OpenGate, Status};
 use bc_io::MemSource;
 use std::alloc::{AllocError, Global};

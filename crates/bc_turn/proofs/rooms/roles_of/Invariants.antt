@@ -6,5 +6,5 @@ use Rattle.bc_turn.proofs.rooms.roles_of.Given as goal
 abbrev pub invariant-loop-spare : goal.invariant-loop-spare
 invariant-loop-spare l = record {
   roles : l.roles.items ≡ map Lane (spare_lanes (take l.spare-index l.spares));
-  room : length l.spares + 1 ≤ vec_capacity l.roles;
+  room : length l.spares + l.pagers ≤ vec_capacity l.roles;
 }

@@ -7,7 +7,6 @@ use Rattle.bc_model.specs.Rows.{lists_of}
 use Rattle.bc_model.specs.declared.operations.Op.{Op}
 use Rattle.bc_nursery.specs.Nurseries.{Nursery}
 use Rattle.bc_nursery.specs.Objects.{IsChunk}
-use Rattle.bc_pager.specs.Serving.{HintList, KeptAnswers}
 use Rattle.bc_superpages.specs.Layout.{Layout}
 use Rattle.bc_superpages.specs.RootWords.{RootWords}
 use Rattle.bc_turn.specs.declared.rooms.Spare.{Spare}
@@ -45,12 +44,6 @@ returns-clause-begun c =
     let lanes = length-map c.args.lanes.now (λ (v : Vec Op Global). v.items) ∙ sizes.1 in
     let spares = length-map c.args.room.now.spares.items (λ (s : Spare). s.lane) in
     let some = c.requires.some in
-    let notices = c.in_ok-turn.ensures.notices in
-    let answers = c.in_ok-turn.ensures.answers in
-    let hints = ap (λ (n : HintList). length n.hints) notices in
-    let list = ap (λ (a : KeptAnswers). length a.list) answers in
-    let room = ap (λ (a : KeptAnswers). a.room) answers in
-    let asked = c.requires.answers in
     record {
       running = c.requires.running;
       state = c.requires.stands.0;
@@ -70,12 +63,10 @@ returns-clause-begun c =
       opened = c.in_ok-turn.ensures.opened;
       taken = subst (λ (v : HeapView). AreTaken v c.args.holders.now c.args.serials.now (lists_of c.args.lanes.now) c.args.replies.now (spare_lanes c.args.room.now.spares.items) c.in_ok-turn.turn.seats.items (heap_view c.begin_all.new.heap) c.begin_all.new.replies c.begin_all.new.runs.items)
           (ap heap_view c.in_ok-turn.ensures.rest) (c.begin_all.ensures.taken c.args.holders.now (subst (λ (r : RootWords). AreSparesOf c.args.holders.now r.slots c.args.room.now.spares.items) (sym (ap (λ (h : Heap). h.roots) c.in_ok-turn.ensures.rest)) c.requires.spares));
-      given = ap (λ (n : HintList). n.given) notices;
-      enough = omega arith;
+      count = c.in_ok-turn.ensures.count;
+      rooms = c.in_ok-turn.ensures.rooms;
+      few = c.in_ok-turn.ensures.few;
     }
-
-pub returns-clause-hints : goal.returns-clause-hints
-returns-clause-hints c = ap (λ (n : HintList). n.hints) c.in_ok-turn.ensures.notices
 
 pub returns-clause-seats : goal.returns-clause-seats
 returns-clause-seats c =

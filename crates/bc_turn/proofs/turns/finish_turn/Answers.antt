@@ -1,29 +1,32 @@
-use Rattle.std.proofs.Common.{ap, sym, subst, ◌∙◌, arith}
+use Rattle.std.proofs.Common.{◌++◌, ap, sym, subst, ◌∙◌, arith}
 use Rattle.bc_cycle.specs.declared.heaps.Heap.{Heap}
 use Rattle.bc_cycle.specs.Emptying.{heap_view}
 use Rattle.bc_model.specs.Rows.{lists_of}
 use Rattle.bc_turn.specs.Beside.{RanBeside}
-use Rattle.bc_turn.proofs.TurnLemmas.{all-back, answered-beside, beside, can-all-run, fits-meanwhile, pager-ready, reply-room, room-again, room-for, runs-of, some-runs}
+use Rattle.bc_pager.specs.Paging.{seats_of}
+use Rattle.bc_pager.proofs.SeatedLemmas.{paged-below}
+use Rattle.bc_turn.proofs.SeatedLemmas.{pagers-dealt}
+use Rattle.bc_turn.proofs.TurnLemmas.{all-back, all-ready, answered-beside, as-many, beside, can-all-run, fits-meanwhile, reply-room, room-again, room-for, runs-of, some-runs}
 use Rattle.bc_turn.proofs.turns.finish_turn.Goals as goal
 use Rattle.bc_whole_heap.specs.Heaps.{HeapView}
 
 pub run_beside-requires-clause-some : goal.run_beside-requires-clause-some
-run_beside-requires-clause-some g c κs within = let b = c.requires.begun in some-runs b.0 (lists_of c.args.lanes.now) b.1 c.args.serials.now b.2 c.args.turn (heap_view c.args.heap.now) c.args.replies.now b.3
+run_beside-requires-clause-some g c κs within = let b = c.requires.begun in some-runs b.0 (lists_of c.args.lanes.now) b.1 c.args.serials.now b.2 c.args.hints.now c.args.turn (heap_view c.args.heap.now) c.args.replies.now b.3
 
 pub run_beside-requires-clause-can : goal.run_beside-requires-clause-can
-run_beside-requires-clause-can g c κs within = let b = c.requires.begun in can-all-run b.0 (lists_of c.args.lanes.now) b.1 c.args.serials.now b.2 c.args.turn (heap_view c.args.heap.now) c.args.replies.now b.3
+run_beside-requires-clause-can g c κs within = let b = c.requires.begun in can-all-run b.0 (lists_of c.args.lanes.now) b.1 c.args.serials.now b.2 c.args.hints.now c.args.turn (heap_view c.args.heap.now) c.args.replies.now b.3
 
 pub run_beside-requires-clause-ready : goal.run_beside-requires-clause-ready
-run_beside-requires-clause-ready g c κs within = let b = c.requires.begun in pager-ready b.0 (lists_of c.args.lanes.now) b.1 c.args.serials.now b.2 c.args.turn (heap_view c.args.heap.now) c.args.replies.now b.3
+run_beside-requires-clause-ready g c κs within = let b = c.requires.begun in all-ready b.0 (lists_of c.args.lanes.now) b.1 c.args.serials.now b.2 c.args.hints.now c.args.turn (heap_view c.args.heap.now) c.args.replies.now b.3
 
 pub end_all-requires-clause-sizes : goal.end_all-requires-clause-sizes
-end_all-requires-clause-sizes g c = let b = c.requires.begun in (_, fits-meanwhile b.0 (lists_of c.args.lanes.now) b.1 c.args.serials.now b.2 c.args.turn (heap_view c.args.heap.now) c.args.replies.now b.3)
+end_all-requires-clause-sizes g c = let b = c.requires.begun in (_, fits-meanwhile b.0 (lists_of c.args.lanes.now) b.1 c.args.serials.now b.2 c.args.hints.now c.args.turn (heap_view c.args.heap.now) c.args.replies.now b.3)
 
 pub end_all-requires-clause-runs : goal.end_all-requires-clause-runs
 end_all-requires-clause-runs g c =
     let b = c.requires.begun in
     let ran = c.run_beside.ensures.ran in
-    (b.0, b.3.busy, runs-of b.0 (lists_of c.args.lanes.now) b.1 c.args.serials.now b.2 c.args.turn (heap_view c.args.heap.now) c.args.replies.now b.3 c.run_beside.new.runs.items ran.each ran.long)
+    (b.0, b.3.busy, runs-of b.0 (lists_of c.args.lanes.now) b.1 c.args.serials.now b.2 c.args.hints.now c.args.turn (heap_view c.args.heap.now) c.args.replies.now b.3 c.run_beside.new.runs.items ran.each ran.long)
 
 pub end_all-requires-clause-seats : goal.end_all-requires-clause-seats
 end_all-requires-clause-seats g c =
@@ -37,21 +40,25 @@ end_all-requires-clause-spares g c =
     let most = spares.1 in
     let long = c.run_beside.ensures.ran.long in (spares.0, omega arith)
 
-pub close_table-requires-clause-lanes : goal.close_table-requires-clause-lanes
-close_table-requires-clause-lanes g c = c.requires.begun.3.opened.lanes
+pub close_turn-requires-clause-lanes : goal.close_turn-requires-clause-lanes
+close_turn-requires-clause-lanes g c = c.requires.begun.3.opened.lanes
 
-pub close_table-requires-clause-back : goal.close_table-requires-clause-back
-close_table-requires-clause-back g c =
+pub close_turn-requires-clause-back : goal.close_turn-requires-clause-back
+close_turn-requires-clause-back g c =
     let b = c.requires.begun in
     let ran = c.run_beside.ensures.ran in
     let ended = c.end_all.ensures in
-    all-back b.0 (lists_of c.args.lanes.now) b.1 c.args.serials.now b.2 c.args.turn (heap_view c.args.heap.now) c.args.replies.now b.3 c.run_beside.new.runs.items ran.each ran.long
-    (heap_view c.end_all.new.heap) c.end_all.new.serials (lists_of c.end_all.new.replies) (ended.back b.0 b.3.busy) c.run_beside.new.paging c.run_beside.ensures.paged c.end_all.new.seats.items ended.seats_long ended.seats
+    all-back b.0 (lists_of c.args.lanes.now) b.1 c.args.serials.now b.2 c.args.hints.now c.args.turn (heap_view c.args.heap.now) c.args.replies.now b.3 c.run_beside.new.runs.items ran.each ran.long
+    (heap_view c.end_all.new.heap) c.end_all.new.serials (lists_of c.end_all.new.replies) (ended.back b.0 b.3.busy) c.run_beside.new.pagers.items c.run_beside.ensures.paged c.end_all.new.seats.items ended.seats_long ended.seats
 
-pub close_table-requires-clause-room : goal.close_table-requires-clause-room
-close_table-requires-clause-room g c =
+pub close_turn-requires-clause-numbers : goal.close_turn-requires-clause-numbers
+close_turn-requires-clause-numbers g c = paged-below c.args.turn.pins c.args.hints.now c.args.turn.pagers.items c.run_beside.new.pagers.items c.run_beside.ensures.paged
+
+pub close_turn-requires-clause-seats : goal.close_turn-requires-clause-seats
+close_turn-requires-clause-seats g c =
     let most = c.requires.seats.1 in
     let long = c.run_beside.ensures.ran.long in
+    let pagers = c.run_beside.ensures.paged.long in
     let back = c.end_all.ensures.seats_long in
     let still = c.end_all.ensures.seats_room in
     omega arith
@@ -60,45 +67,47 @@ pub returns-clause-ran : goal.returns-clause-ran
 returns-clause-ran g c = λ holders h before begun.
     let ran = c.run_beside.ensures.ran in
     let ended = c.end_all.ensures in
-    let closed = c.close_table.ensures in
-    subst (λ (v : HeapView). RanBeside holders (lists_of c.args.lanes.now) h c.args.serials.now (lists_of before) v c.end_all.new.serials (lists_of c.end_all.new.replies)) (sym (ap heap_view c.close_table.ensures.rest))
-    (beside holders (lists_of c.args.lanes.now) h c.args.serials.now before c.args.turn (heap_view c.args.heap.now) c.args.replies.now begun c.run_beside.new.runs.items ran.each ran.long
-    (heap_view c.end_all.new.heap) c.end_all.new.serials (lists_of c.end_all.new.replies) (ended.back holders begun.busy) c.run_beside.new.paging c.run_beside.ensures.paged c.end_all.new.seats.items ended.seats_long ended.seats
-    c.close_table.new.heap.space closed.closed closed.layout)
+    let closed = c.close_turn.ensures in
+    subst (λ (v : HeapView). RanBeside holders (lists_of c.args.lanes.now) h c.args.serials.now (lists_of before) v c.end_all.new.serials (lists_of c.end_all.new.replies)) (sym (ap heap_view c.close_turn.ensures.rest))
+    (beside holders (lists_of c.args.lanes.now) h c.args.serials.now before c.args.hints.now c.args.turn (heap_view c.args.heap.now) c.args.replies.now begun c.run_beside.new.runs.items ran.each ran.long
+    (heap_view c.end_all.new.heap) c.end_all.new.serials (lists_of c.end_all.new.replies) (ended.back holders begun.busy) c.run_beside.new.pagers.items c.run_beside.ensures.paged c.end_all.new.seats.items ended.seats_long ended.seats
+    c.close_turn.new.heap.space closed.closed closed.layout)
 
 pub returns-clause-answered : goal.returns-clause-answered
 returns-clause-answered g c = λ holders h before begun.
     let ran = c.run_beside.ensures.ran in
+    let paged = c.run_beside.ensures.paged in
     let ended = c.end_all.ensures in
-    let closed = c.close_table.ensures in
-    answered-beside holders (lists_of c.args.lanes.now) h c.args.serials.now before c.args.turn (heap_view c.args.heap.now) c.args.replies.now begun c.run_beside.new.runs.items ran.each ran.long
-    (heap_view c.end_all.new.heap) c.end_all.new.serials (lists_of c.end_all.new.replies) (ended.back holders begun.busy) c.run_beside.new.paging c.run_beside.ensures.paged c.end_all.new.seats.items ended.seats_long ended.seats
-    c.close_table.new.heap.space closed.closed closed.layout c.close_table.new.answers.items closed.answers
+    let closed = c.close_turn.ensures in
+    let pagers = c.run_beside.new.pagers.items in
+    let seats = c.end_all.new.seats.items in
+    let placed = closed.placed in
+    let dealt = pagers-dealt c.args.turn.pins h.space holders begun.busy begun.seats c.args.turn.pagers.items begun.opened in
+    let many = as-many holders (lists_of c.args.lanes.now) h c.args.serials.now before c.args.hints.now c.args.turn (heap_view c.args.heap.now) c.args.replies.now begun c.run_beside.new.runs.items ran.each ran.long
+    (heap_view c.end_all.new.heap) c.end_all.new.serials (lists_of c.end_all.new.replies) (ended.back holders begun.busy) pagers paged seats ended.seats_long ended.seats in
+    answered-beside holders (lists_of c.args.lanes.now) h c.args.serials.now before c.args.hints.now c.args.turn (heap_view c.args.heap.now) c.args.replies.now begun c.run_beside.new.runs.items ran.each ran.long
+    (heap_view c.end_all.new.heap) c.end_all.new.serials (lists_of c.end_all.new.replies) (ended.back holders begun.busy) pagers paged seats ended.seats_long ended.seats placed.0
+    (c.law_answered_by_pagers.ensures.answered c.args.turn.pins c.args.hints.now c.args.turn.pagers.items pagers (seats ++ seats_of pagers) placed.0 begun.count begun.few dealt paged closed.claims many placed.2 placed.3)
+    c.close_turn.new.heap.space closed.closed closed.layout c.args.answers.now.items c.close_turn.new.answers.items placed.1
 
 pub returns-clause-kept : goal.returns-clause-kept
 returns-clause-kept g c = λ holders h before begun.
     let ran = c.run_beside.ensures.ran in
     let ended = c.end_all.ensures in
-    let closed = c.close_table.ensures in
-    room-again holders (lists_of c.args.lanes.now) h c.args.serials.now before c.args.turn (heap_view c.args.heap.now) c.args.replies.now begun c.run_beside.new.runs.items ran.each ran.long
-    (heap_view c.end_all.new.heap) c.end_all.new.serials (lists_of c.end_all.new.replies) (ended.back holders begun.busy) c.run_beside.new.paging c.run_beside.ensures.paged c.end_all.new.seats.items ended.seats_long ended.seats
-    c.close_table.new.heap.space closed.closed closed.layout (record { spares = c.end_all.new.spares }) (ended.spares holders begun.busy)
+    let closed = c.close_turn.ensures in
+    room-again holders (lists_of c.args.lanes.now) h c.args.serials.now before c.args.hints.now c.args.turn (heap_view c.args.heap.now) c.args.replies.now begun c.run_beside.new.runs.items ran.each ran.long
+    (heap_view c.end_all.new.heap) c.end_all.new.serials (lists_of c.end_all.new.replies) (ended.back holders begun.busy) c.run_beside.new.pagers.items c.run_beside.ensures.paged c.end_all.new.seats.items ended.seats_long ended.seats
+    c.close_turn.new.heap.space closed.closed closed.layout (record { spares = c.end_all.new.spares }) (ended.spares holders begun.busy)
 
 pub returns-clause-room : goal.returns-clause-room
 returns-clause-room g c = λ j v lt e.
     let b = c.requires.begun in
     let ran = c.run_beside.ensures.ran in
-    c.end_all.ensures.room (lists_of c.args.lanes.now) (reply-room b.0 (lists_of c.args.lanes.now) b.1 c.args.serials.now b.2 c.args.turn (heap_view c.args.heap.now) c.args.replies.now b.3 c.run_beside.new.runs.items ran.each ran.long)
-    (room-for b.0 (lists_of c.args.lanes.now) b.1 c.args.serials.now b.2 c.args.turn (heap_view c.args.heap.now) c.args.replies.now b.3 c.run_beside.new.runs.items ran.each ran.long) j v lt (λ x. x) e
-
-pub returns-clause-capacity : goal.returns-clause-capacity
-returns-clause-capacity g c =
-    let still = c.run_beside.ensures.paged.room in
-    let last = c.close_table.ensures.capacity in
-    omega arith
+    c.end_all.ensures.room (lists_of c.args.lanes.now) (reply-room b.0 (lists_of c.args.lanes.now) b.1 c.args.serials.now b.2 c.args.hints.now c.args.turn (heap_view c.args.heap.now) c.args.replies.now b.3 c.run_beside.new.runs.items ran.each ran.long)
+    (room-for b.0 (lists_of c.args.lanes.now) b.1 c.args.serials.now b.2 c.args.hints.now c.args.turn (heap_view c.args.heap.now) c.args.replies.now b.3 c.run_beside.new.runs.items ran.each ran.long) j v lt (λ x. x) e
 
 pub returns-clause-rest : goal.returns-clause-rest
 returns-clause-rest g c =
-    c.close_table.ensures.rest
-    ∙ ap (λ (h : Heap). record h { space = c.close_table.new.heap.space }) c.end_all.ensures.same
-    ∙ ap (λ (h : Heap). record (c.args.heap.now) { space = c.close_table.new.heap.space; roots = h.roots; chunks = h.chunks; buffers = h.buffers }) (sym c.close_table.ensures.rest)
+    c.close_turn.ensures.rest
+    ∙ ap (λ (h : Heap). record h { space = c.close_turn.new.heap.space }) c.end_all.ensures.same
+    ∙ ap (λ (h : Heap). record (c.args.heap.now) { space = c.close_turn.new.heap.space; roots = h.roots; chunks = h.chunks; buffers = h.buffers }) (sym c.close_turn.ensures.rest)

@@ -5,7 +5,7 @@ use Rattle.bc_superpages.specs.declared.parts.SpaceParts.{SpaceParts}
 use Rattle.bc_pins.specs.Key.{Key, pages_of, page_at, all_words, notice_at, queue_words}
 use Rattle.bc_pins.specs.Resting.{RestView}
 use Rattle.bc_pins.proofs.HeaderLemmas.{sets_are, four_states}
-use Rattle.bc_pins.proofs.ClosingLemmas.{gathered_ends, words_few, ended_from, ended_parts, ended_space, ended_marks}
+use Rattle.bc_pins.proofs.ClosingLemmas.{gathered_ends, gathered_claims, words_few, ended_from, ended_parts, ended_space, ended_marks}
 use Rattle.bc_pins.proofs.pins.Pins.close.Goals as goal
 
 pub set_states-requires-clause-few : goal.set_states-requires-clause-few
@@ -151,3 +151,8 @@ returns-clause-marked c = λ turn.
       end = ap (λ (p : SpaceParts). p.end) back.same ∙ out.end;
     })
     turn self.unheld (self.markable turn) (ap slots_items c.drain.ensures.words) self.counted (let entry = c.mark_entry-start.ensures in let many = self.counted in let framed = self.framed in omega arith) (c.put_together.ensures.marks (self.turned ∙ turn))
+
+pub returns-clause-claims : goal.returns-clause-claims
+returns-clause-claims c =
+    let gathered = c.unite_all-root.ensures.gathered in
+    gathered_claims _ _ _ _ _ _ gathered (gathered_ends _ _ _ _ _ _ gathered c.close_with-closed.ensures.values.2)

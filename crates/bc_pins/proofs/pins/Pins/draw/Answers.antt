@@ -6,7 +6,7 @@ use Rattle.bc_superpages.specs.Parts.{parts_layout}
 use Rattle.bc_pins.specs.Key.{Key}
 use Rattle.bc_pins.specs.Facts.{IsUnheld}
 use Rattle.bc_pins.specs.Totals.{times}
-use Rattle.bc_pins.specs.Rule.{Rule}
+use Rattle.bc_pins.specs.Rule.{Ruled}
 use Rattle.bc_pins.specs.Opening.{opened, IsMarkable}
 use Rattle.bc_superpages.specs.declared.headers.Header.{Header}
 use Rattle.bc_pins.specs.Filling.{IsFilled}
@@ -17,7 +17,7 @@ pub new-requires : goal.new-requires
 new-requires c =
     let drawn = c.requires.drawn in
     let size = sized _ _ _ _ _ _ drawn in
-    subst (λ (words : List ℕ). Rule c.args.about (opened c.args.about words c.lodge_all.new.slots.items)) (sym c.as_slice-2.ensures.value)
+    subst (λ (words : List ℕ). Ruled c.args.about (opened c.args.about words c.lodge_all.new.slots.items)) (sym c.as_slice-2.ensures.value)
     (drawn_rule c.args.about c.args.parts c.args.superpages c.args.turn c.args.room.holders.items c.args.room.roles.items drawn _ _
     (subst (λ (hs : List Header). IsFilled c.args.about hs c.fill_words.new.words.items) c.as_slice.ensures.value (c.fill_words.ensures.filled c.args.about size))
     c.lodge_all.ensures.slots)
