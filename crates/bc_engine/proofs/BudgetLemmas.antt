@@ -16,6 +16,7 @@ use Rattle.bc_model.specs.declared.traces.Setup.{Setup}
 use Rattle.bc_pager.specs.Alone.{ArePlainAnswers, IsPlainAnswer}
 use Rattle.bc_pager.specs.declared.answers.Answer.{Answer}
 use Rattle.bc_pager.specs.declared.answers.Answer.TheVariants.{Declined, Discarded, Evicted}
+use Rattle.bc_pager.specs.declared.notices.Notice.{Notice}
 use Rattle.bc_promotion.specs.Promises.{HasDomainsBelow}
 use Rattle.bc_running.specs.Running.{HasEmptyChunks, RunningStands, RunningView}
 use Rattle.bc_running.specs.RunningFacts.{IsSound, with_space}
@@ -125,7 +126,7 @@ answers-unused s t [] (answer ∷ answers) told = absurd told
 answers-unused s t (hint ∷ hints) [] told = absurd told
 answers-unused s t (hint ∷ hints) (answer ∷ answers) told = answers-unused told.0 t hints answers told.2 ∙ plain-unused s told.0 hint answer told.1
 
-turn-unused : {lanes : List (List Op)} {r q : RunningView} {before after : List (Vec Reply Global)} {asked answers : List Answer} (hints : List ℕ) → RanTurn lanes r before asked hints q after answers → q.heap.space.nursery ≡ r.heap.space.nursery
+turn-unused : {lanes : List (List Op)} {r q : RunningView} {before after : List (Vec Reply Global)} {asked answers lived live : List Answer} {fed : List Notice} (hints : List ℕ) → RanTurn lanes r before asked hints q after answers lived fed live → q.heap.space.nursery ≡ r.heap.space.nursery
 turn-unused {r = r} {q = q} hints turn =
     let left : turn.mid.heap.space.nursery ≡ r.heap.space.nursery = ap (λ (l : Layout). l.nursery) turn.leaves.space in
     elim turn.way [
@@ -135,7 +136,7 @@ turn-unused {r = r} {q = q} hints turn =
           ap (λ (l : Layout). l.nursery) alone.2.2.same ∙ answers-unused turn.mid.heap.space alone.2.0 hints a.0 a.2 ∙ left
     ]
 
-had-unused : {lanes : List (List Op)} {unused : ℕ} {r q : RunningView} {before after : List (Vec Reply Global)} {asked answers : List Answer} (hints : List ℕ) {c d : Counters} → (t : HadTurn lanes unused r before asked hints q after answers c d)
+had-unused : {lanes : List (List Op)} {unused : ℕ} {r q : RunningView} {before after : List (Vec Reply Global)} {asked answers lived live : List Answer} {fed : List Notice} (hints : List ℕ) {c d : Counters} → (t : HadTurn lanes unused r before asked hints q after answers c d lived fed live)
     → (t.began.heap.space.nursery ≡ unused) × (q.heap.space.nursery ≡ unused)
 had-unused {unused = unused} {r = r} hints t =
     let first : t.began.heap.space.nursery ≡ unused = withheld-unused unused r.heap.space t.began.heap.space t.withheld in
@@ -149,42 +150,42 @@ collects-unused collects = elim collects.way [
 
 -- so has each round its number
 module _ (lanes : List (List Op)) (lines : List TurnLists) (e f : EngineView) (before after : List (Vec Reply Global)) (line : ℕ) where
-  pub round-budget : (next : ℕ) → (r : RanRound lanes lines e before line f after next) → HasBudget (unused_in e.setup lines line) r.turn.began r.turned r.empties.collected r.emptied
-  round-budget next r =
+  pub round-budget : (next : ℕ) → (fed : List Notice) → (r : RanRound lanes lines e before line f after next fed) → HasBudget (unused_in e.setup lines line) r.turn.began r.turned r.empties.collected r.emptied
+  round-budget next fed r =
       let had = had-unused _ r.turn in
       let early = collects-unused r.empties.collects ∙ had.1 in
       record { first = had.0; lanes = had.1; early = early; late = r.empties.next.emptied.sizes.nursery ∙ early }
 
-  pub last-budget : (r : LastRound lanes lines e before line f after) → HasBudget (unused_in e.setup lines line) r.turn.began r.turned r.empties.collected r.emptied
-  last-budget r =
+  pub last-budget : (fed : List Notice) → (r : LastRound lanes lines e before line f after fed) → HasBudget (unused_in e.setup lines line) r.turn.began r.turned r.empties.collected r.emptied
+  last-budget fed r =
       let had = had-unused _ r.turn in
       let early = collects-unused r.empties.collects ∙ had.1 in
       record { first = had.0; lanes = had.1; early = early; late = r.empties.next.emptied.sizes.nursery ∙ early }
 
-  pub cut-budget : (r : CutRound lanes lines e before line f after) → HasBudget (unused_in e.setup lines line) r.turn.began r.turned r.leaves.collected f.running
-  cut-budget r =
+  pub cut-budget : (fed : List Notice) → (r : CutRound lanes lines e before line f after fed) → HasBudget (unused_in e.setup lines line) r.turn.began r.turned r.leaves.collected f.running
+  cut-budget fed r =
       let had = had-unused _ r.turn in
       let early = collects-unused r.leaves.collects ∙ had.1 in
       record { first = had.0; lanes = had.1; early = early; late = r.leaves.next.meaning.sizes.nursery ∙ early }
 
 -- rounds leave the setup
-rounds-setup : (lanes : List (List Op)) (lines : List TurnLists) (e : EngineView) (before : List (Vec Reply Global)) (n turns : ℕ) (f : EngineView) (after : List (Vec Reply Global)) → RanRounds lanes lines e before n turns f after → f.setup ≡ e.setup
-rounds-setup lanes lines e before zero turns f after ran = ap (λ (x : EngineView). x.setup) ran.0
-rounds-setup lanes lines e before (suc n) turns f after ran =
-    ap (λ (x : EngineView). x.setup) ran.5.rest ∙ rounds-setup lanes lines e before n ran.2 ran.0 ran.1 ran.4
+rounds-setup : (lanes : List (List Op)) (lines : List TurnLists) (e : EngineView) (before : List (Vec Reply Global)) (n turns : ℕ) (f : EngineView) (after : List (Vec Reply Global)) (fed : List Notice) → RanRounds lanes lines e before n turns f after fed → f.setup ≡ e.setup
+rounds-setup lanes lines e before zero turns f after fed ran = ap (λ (x : EngineView). x.setup) ran.0
+rounds-setup lanes lines e before (suc n) turns f after fed ran =
+    ap (λ (x : EngineView). x.setup) ran.7.rest ∙ rounds-setup lanes lines e before n ran.2 ran.0 ran.1 ran.4 ran.6
 
 -- after a phase that was done no frame is withheld
-pub done-returned : (e f : EngineView) (p : PhaseLists) (replies : List (List Reply)) → HadTurns e p f replies → NoneWithheld e.setup f.running.heap
-done-returned e f p replies had =
+pub done-returned : (e f : EngineView) (p : PhaseLists) (replies : List (List Reply)) (fed : List Notice) → HadTurns e p f replies fed → NoneWithheld e.setup f.running.heap
+done-returned e f p replies fed had =
     let all = had.rounds in
     let mid : EngineView = all.2 in
-    let setup : mid.setup ≡ e.setup = rounds-setup p.lanes p.turns _ had.room all.0 all.1 mid all.3 all.4 in
-    ap (λ (x : EngineView). x.running.heap.space.nursery) had.given ∙ ap (λ (x : RunningView). x.heap.space.nursery) all.5.returned ∙ ap (λ (s : Setup). s.lanes * s.nursery) setup
+    let setup : mid.setup ≡ e.setup = rounds-setup p.lanes p.turns _ had.room all.0 all.1 mid all.3 all.4 all.6 in
+    ap (λ (x : EngineView). x.running.heap.space.nursery) had.given ∙ ap (λ (x : RunningView). x.heap.space.nursery) all.7.returned ∙ ap (λ (s : Setup). s.lanes * s.nursery) setup
 
 -- after one that was cut as many are withheld as the line of its latest turn of the lanes says
-pub cut-kept : (e f : EngineView) (p : PhaseLists) (replies : List (List Reply)) → (had : HadTurnsToCut e p f replies) → f.running.heap.space.nursery ≡ unused_in e.setup p.turns (line_of p.turns had.rounds.1)
-cut-kept e f p replies had =
+pub cut-kept : (e f : EngineView) (p : PhaseLists) (replies : List (List Reply)) (fed : List Notice) → (had : HadTurnsToCut e p f replies fed) → f.running.heap.space.nursery ≡ unused_in e.setup p.turns (line_of p.turns had.rounds.1)
+cut-kept e f p replies fed had =
     let all = had.rounds in
     let mid : EngineView = all.2 in
-    let setup : mid.setup ≡ e.setup = rounds-setup p.lanes p.turns _ had.room all.0 all.1 mid all.3 all.4 in
-    (cut-budget p.lanes p.turns mid f all.3 had.told (line_of p.turns all.1) all.5).late ∙ ap (λ (s : Setup). unused_in s p.turns (line_of p.turns all.1)) setup
+    let setup : mid.setup ≡ e.setup = rounds-setup p.lanes p.turns _ had.room all.0 all.1 mid all.3 all.4 all.6 in
+    (cut-budget p.lanes p.turns mid f all.3 had.told (line_of p.turns all.1) all.5 all.7).late ∙ ap (λ (s : Setup). unused_in s p.turns (line_of p.turns all.1)) setup

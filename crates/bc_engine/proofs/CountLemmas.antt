@@ -1,5 +1,5 @@
 -- Counts that go on as the heap's do add up to it.
-use Rattle.std.proofs.Common.{◌≡◌, ℕ, ◌+◌, ◌%◌, ◌^◌, ◌<◌, ◌≤◌, Bool, true, false, inl, inr, List, length, get_or, sym, ap, subst, ◌∙◌, arith}
+use Rattle.std.proofs.Common.{◌≡◌, ℕ, ◌+◌, ◌%◌, ◌^◌, ◌<◌, ◌≤◌, Bool, true, false, inl, inr, List, length, get_or, refl, sym, ap, subst, ◌∙◌, arith}
 use Rattle.std.proofs.lemmas.List.{at_drop_all}
 use Rattle.std.proofs.lemmas.List.Sums.{sum_by-drop_more}
 use Rattle.std.specs.Prelude.{sum_by}
@@ -47,6 +47,12 @@ emptying-counted kind c d before after noticed lt le counts is =
 pub turn-counts : (c d : Counters) {b a n : ℕ} (before after noticed : ℕ) → b ≡ before → a ≡ after → n ≡ noticed → CountsTurn c b a n d → CountsTurn c before after noticed d
 turn-counts c d {b} {a} {n} before after noticed from to since counts =
     subst (λ (x : ℕ). CountsTurn c x after noticed d) from (subst (λ (x : ℕ). CountsTurn c b x noticed d) to (subst (λ (x : ℕ). CountsTurn c b a x d) since counts))
+
+-- of two counts of pages, added up
+pub both-counts : (c d : Counters) {b a n : ℕ} (before after one other : ℕ) → b ≡ before → a ≡ after → n ≡ (one + other) % 2 ^ 64 → CountsTurn c b a n d → CountsTurn c before after (one + other) d
+both-counts c d {b} {a} {n} before after one other from to since counts =
+    let here = turn-counts c d before after n from to refl counts in
+    (here.0, omega (arith, here.1, since))
 
 pub alone-counts : (c d : Counters) {b a : ℕ} (before after : ℕ) → b ≡ before → a ≡ after → CountsAlone c b a d → CountsAlone c before after d
 alone-counts c d {b} {a} before after from to counts =

@@ -9,6 +9,7 @@ use Rattle.bc_model.specs.Lists.{PhaseLists, TurnLists}
 use Rattle.bc_model.specs.TurnLines.{budget_at}
 use Rattle.bc_model.specs.declared.operations.Op.{Op}
 use Rattle.bc_model.specs.declared.operations.Reply.{Reply}
+use Rattle.bc_pager.specs.declared.notices.Notice.{Notice}
 use Rattle.bc_engine.specs.Budgets.{AreTurns, HaveBudgets, budget_of, marks_in, turns_with}
 use Rattle.bc_engine.specs.EngineFacts.{without_turns}
 use Rattle.bc_engine.specs.Engines.{EngineView}
@@ -63,41 +64,41 @@ noted-none lines turns opened none sum = record {
 }
 
 -- the rounds of a phase
-rounds-noted : (lanes : List (List Op)) (lines : List TurnLists) (e : EngineView) (before : List (Vec Reply Global)) (n turns : ℕ) (f : EngineView) (after : List (Vec Reply Global)) → e.opened ≡ [] → RanRounds lanes lines e before n turns f after → AreNoted lines turns n f.opened
-rounds-noted lanes lines e before zero turns f after none ran = noted-none lines turns f.opened (ap (λ (x : EngineView). x.opened) ran.0 ∙ none) ran.2
-rounds-noted lanes lines e before (suc n) turns f after none ran =
-    let r = ran.5 in
-    noted-more lines ran.2 n (r.empties.collects.turns + r.empties.next.beside.turns) turns ran.0.opened f.opened r.marks (rounds-noted lanes lines e before n ran.2 ran.0 ran.1 none ran.4)
-    (ap (λ (x : Cursor). x.turns) (round-marks r).1.next) r.noted ran.6
+rounds-noted : (lanes : List (List Op)) (lines : List TurnLists) (e : EngineView) (before : List (Vec Reply Global)) (n turns : ℕ) (f : EngineView) (after : List (Vec Reply Global)) (fed : List Notice) → e.opened ≡ [] → RanRounds lanes lines e before n turns f after fed → AreNoted lines turns n f.opened
+rounds-noted lanes lines e before zero turns f after fed none ran = noted-none lines turns f.opened (ap (λ (x : EngineView). x.opened) ran.0 ∙ none) ran.2
+rounds-noted lanes lines e before (suc n) turns f after fed none ran =
+    let r = ran.7 in
+    noted-more lines ran.2 n (r.empties.collects.turns + r.empties.next.beside.turns) turns ran.0.opened f.opened r.marks (rounds-noted lanes lines e before n ran.2 ran.0 ran.1 ran.4 none ran.6)
+    (ap (λ (x : Cursor). x.turns) (round-marks r).1.next) r.noted ran.8
 
 -- to its end
-done-noted : (e f : EngineView) (p : PhaseLists) (replies : List (List Reply)) (had : HadTurns e p f replies) → AreNoted p.turns had.turns (suc had.rounds.0) f.opened
-done-noted e f p replies had =
+done-noted : (e f : EngineView) (p : PhaseLists) (replies : List (List Reply)) (fed : List Notice) (had : HadTurns e p f replies fed) → AreNoted p.turns had.turns (suc had.rounds.0) f.opened
+done-noted e f p replies fed had =
     let all = had.rounds in
-    let r = all.5 in
+    let r = all.7 in
     subst (AreNoted p.turns had.turns (suc all.0)) (sym (ap (λ (x : EngineView). x.opened) had.given))
     (noted-more p.turns all.1 all.0 (r.empties.collects.turns + r.empties.next.beside.turns) had.turns all.2.opened had.last.opened r.marks
-    (rounds-noted p.lanes p.turns (without_turns e) had.room all.0 all.1 all.2 all.3 refl all.4) (ap (λ (x : Cursor). x.turns) (last-marks r).1.next) r.noted all.6)
+    (rounds-noted p.lanes p.turns (without_turns e) had.room all.0 all.1 all.2 all.3 all.4 refl all.6) (ap (λ (x : Cursor). x.turns) (last-marks r).1.next) r.noted all.8)
 
 -- and to its cut
-cut-noted : (e f : EngineView) (p : PhaseLists) (replies : List (List Reply)) (had : HadTurnsToCut e p f replies) → AreNoted p.turns had.turns (suc had.rounds.0) f.opened
-cut-noted e f p replies had =
+cut-noted : (e f : EngineView) (p : PhaseLists) (replies : List (List Reply)) (fed : List Notice) (had : HadTurnsToCut e p f replies fed) → AreNoted p.turns had.turns (suc had.rounds.0) f.opened
+cut-noted e f p replies fed had =
     let all = had.rounds in
-    let r = all.5 in
+    let r = all.7 in
     noted-more p.turns all.1 all.0 (r.leaves.collects.turns + r.leaves.next.stays.turns) had.turns all.2.opened f.opened r.marks
-    (rounds-noted p.lanes p.turns (without_turns e) had.room all.0 all.1 all.2 all.3 refl all.4) (ap (λ (x : Cursor). x.turns) (cut-marks r).1.next) r.noted all.6
+    (rounds-noted p.lanes p.turns (without_turns e) had.room all.0 all.1 all.2 all.3 all.4 refl all.6) (ap (λ (x : Cursor). x.turns) (cut-marks r).1.next) r.noted all.8
 
-pub done-turns : (e f : EngineView) (p : PhaseLists) (replies : List (List Reply)) (had : HadTurns e p f replies) → AreTurns p.turns had.turns f.opened
-done-turns e f p replies had = (done-noted e f p replies had).are
+pub done-turns : (e f : EngineView) (p : PhaseLists) (replies : List (List Reply)) (fed : List Notice) (had : HadTurns e p f replies fed) → AreTurns p.turns had.turns f.opened
+done-turns e f p replies fed had = (done-noted e f p replies fed had).are
 
-pub cut-turns : (e f : EngineView) (p : PhaseLists) (replies : List (List Reply)) (had : HadTurnsToCut e p f replies) → AreTurns p.turns had.turns f.opened
-cut-turns e f p replies had = (cut-noted e f p replies had).are
+pub cut-turns : (e f : EngineView) (p : PhaseLists) (replies : List (List Reply)) (fed : List Notice) (had : HadTurnsToCut e p f replies fed) → AreTurns p.turns had.turns f.opened
+cut-turns e f p replies fed had = (cut-noted e f p replies fed had).are
 
-pub done-rounds : (e f : EngineView) (p : PhaseLists) (replies : List (List Reply)) (had : HadTurns e p f replies) → length f.opened ≡ had.rounds.0 + 1
-done-rounds e f p replies had = let long = (done-noted e f p replies had).long in omega arith
+pub done-rounds : (e f : EngineView) (p : PhaseLists) (replies : List (List Reply)) (fed : List Notice) (had : HadTurns e p f replies fed) → length f.opened ≡ had.rounds.0 + 1
+done-rounds e f p replies fed had = let long = (done-noted e f p replies fed had).long in omega arith
 
-pub cut-rounds : (e f : EngineView) (p : PhaseLists) (replies : List (List Reply)) (had : HadTurnsToCut e p f replies) → length f.opened ≡ had.rounds.0 + 1
-cut-rounds e f p replies had = let long = (cut-noted e f p replies had).long in omega arith
+pub cut-rounds : (e f : EngineView) (p : PhaseLists) (replies : List (List Reply)) (fed : List Notice) (had : HadTurnsToCut e p f replies fed) → length f.opened ≡ had.rounds.0 + 1
+cut-rounds e f p replies fed had = let long = (cut-noted e f p replies fed had).long in omega arith
 
 -- what the items say is exact where no number is at its end
 marks-exact : (lines : List TurnLists) (turn : ℕ) (marks : List ℕ) (opened : List Opened) → HaveBudgets lines turn marks opened → turns_with marks < 2 ^ 64 → marks ≡ marks_in opened
@@ -115,10 +116,10 @@ turns-counted lines turns opened are few =
     (subst (λ (ms : List ℕ). HaveBudgets lines 0 ms opened) exact are.budgets, are.all ∙ ap turns_with exact)
 
 -- the answers are those to the notices of these turns
-pub done-answers : (e f : EngineView) (p : PhaseLists) (replies : List (List Reply)) (had : HadTurns e p f replies) → had.turns < 2 ^ 64 → length f.answers ≡ hints_before p.turns (turns_with (marks_in f.opened))
-done-answers e f p replies had few =
-    done-answered e f p replies had ∙ ap (hints_before p.turns) (turns-counted p.turns had.turns f.opened (done-turns e f p replies had) few).1
+pub done-answers : (e f : EngineView) (p : PhaseLists) (replies : List (List Reply)) (fed : List Notice) (had : HadTurns e p f replies fed) → had.turns < 2 ^ 64 → length f.answers ≡ hints_before p.turns (turns_with (marks_in f.opened))
+done-answers e f p replies fed had few =
+    done-answered e f p replies fed had ∙ ap (hints_before p.turns) (turns-counted p.turns had.turns f.opened (done-turns e f p replies fed had) few).1
 
-pub cut-answers : (e f : EngineView) (p : PhaseLists) (replies : List (List Reply)) (had : HadTurnsToCut e p f replies) → had.turns < 2 ^ 64 → length f.answers ≡ hints_before p.turns (turns_with (marks_in f.opened))
-cut-answers e f p replies had few =
-    cut-answered e f p replies had ∙ ap (hints_before p.turns) (turns-counted p.turns had.turns f.opened (cut-turns e f p replies had) few).1
+pub cut-answers : (e f : EngineView) (p : PhaseLists) (replies : List (List Reply)) (fed : List Notice) (had : HadTurnsToCut e p f replies fed) → had.turns < 2 ^ 64 → length f.answers ≡ hints_before p.turns (turns_with (marks_in f.opened))
+cut-answers e f p replies fed had few =
+    cut-answered e f p replies fed had ∙ ap (hints_before p.turns) (turns-counted p.turns had.turns f.opened (cut-turns e f p replies fed had) few).1

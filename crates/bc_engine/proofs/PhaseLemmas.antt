@@ -7,7 +7,6 @@ use Rattle.std.proofs.lemmas.List.Sums.{sum_by-cons}
 use Rattle.std.specs.List.{AllByRecursion}
 use Rattle.bc_whole_heap.specs.LaneChunks.{chunk_of}
 use Rattle.bc_whole_heap.specs.Heaps.{heap_memory, object_in, root_words}
-use Rattle.bc_pager.specs.declared.answers.Answer.{Answer}
 use Rattle.bc_running.specs.Running.{RunningView, RunningStands}
 use Rattle.bc_model.specs.StateSizes.{sizes_of}
 use Rattle.bc_model.specs.Interleaving.{replies_by, ops_by}
@@ -27,12 +26,10 @@ use Rattle.bc_superpages.specs.Layout.{Layout, superpages}
 use Rattle.bc_word.specs.declared.words.Word.{Word}
 use Rattle.bc_engine.specs.Answers.{IfPhaseOutOfHeap}
 use Rattle.bc_engine.specs.Engines.{EngineView, EngineStands, HasEmptyChunks}
-use Rattle.bc_engine.specs.EngineFacts.{with_answers, with_holders, CanRunLanes, HasRoomForBirths, IsEngine}
-use Rattle.bc_engine.specs.Inside.{with_log}
+use Rattle.bc_engine.specs.EngineFacts.{with_holders, without_turns, CanRunLanes, HasRoomForBirths, IsEngine}
 use Rattle.bc_engine.specs.Lanes.{of_lane, AreDone, BirthsWithin, LanesWentOn, HasSerialsLeft, HasRoomForOps, left}
 use Rattle.bc_engine.specs.Phases.{CutPhase, DidPhase}
 use Rattle.bc_engine.specs.declared.opened.Opened.{Opened}
-use Rattle.bc_engine.specs.declared.opened.TurnLog.{TurnLog}
 use Rattle.bc_engine.specs.declared.phases.PhaseError.{PhaseError}
 use Rattle.bc_engine.specs.declared.phases.PhaseError.TheVariants.{OutOfHeap, NoMemory}
 use Rattle.bc_engine.specs.Rounds.{RoundsWentOn, IsRoomFor, IsThrough, IsTooSmall, IsUnderwayOn}
@@ -200,16 +197,18 @@ pub births-lent : (e f : EngineView) (p : PhaseLists) (os : List (List Op)) (us 
 births-lent e f p os us ws lanes births j =
     omega (arith, births j, ap (λ (ls : List (List Op)). length (of_lane ls j)) lanes)
 
--- with the list of answers taken out before, and put back after
-pub did-answers : {e x f y : EngineView} {p : PhaseLists} {replies : List (List Reply)} (asked : List Answer) (answers : TurnLog) → x ≡ with_answers e asked → f ≡ with_log y answers → DidPhase x p y replies → DidPhase e p f replies
-did-answers {e} {x} {f} {y} {p} {replies} asked answers taken kept did =
-    let did = subst (λ (z : EngineView). DidPhase z p y replies) taken did in
-    subst (λ (z : EngineView). DidPhase e p z replies) (sym kept) (record { going = did.going; empty = did.empty; stands = did.stands; need = did.need })
+-- of engines that differ in their lists of turns and answers alone
+pub did-again : {e x f g : EngineView} {p : PhaseLists} {replies : List (List Reply)} → without_turns x ≡ without_turns e → without_turns f ≡ without_turns g → DidPhase x p g replies → DidPhase e p f replies
+did-again {e} {x} {f} {g} {p} {replies} before after did =
+    let bare : DidPhase (without_turns x) p (without_turns g) replies = record { going = did.going; empty = did.empty; stands = did.stands; need = did.need } in
+    let had : DidPhase (without_turns e) p (without_turns f) replies = subst (λ (z : EngineView). DidPhase (without_turns e) p z replies) (sym after) (subst (λ (z : EngineView). DidPhase z p (without_turns g) replies) before bare) in
+    record { going = had.going; empty = had.empty; stands = had.stands; need = had.need }
 
-pub cut-answers : {e x f y : EngineView} {p : PhaseLists} (asked : List Answer) (answers : TurnLog) → x ≡ with_answers e asked → f ≡ with_log y answers → (replies : List (List Reply)) (need : ℕ) → CutPhase x p y replies need → CutPhase e p f replies need
-cut-answers {e} {x} {f} {y} {p} asked answers taken kept replies need cut =
-    let cut = subst (λ (z : EngineView). CutPhase z p y replies need) taken cut in
-    subst (λ (z : EngineView). CutPhase e p z replies need) (sym kept) (record { cause = cut.cause; stands = cut.stands; above = cut.above })
+pub cut-again : {e x f g : EngineView} {p : PhaseLists} → without_turns x ≡ without_turns e → without_turns f ≡ without_turns g → (replies : List (List Reply)) (need : ℕ) → CutPhase x p g replies need → CutPhase e p f replies need
+cut-again {e} {x} {f} {g} {p} before after replies need cut =
+    let bare : CutPhase (without_turns x) p (without_turns g) replies need = record { cause = cut.cause; stands = cut.stands; above = cut.above } in
+    let had : CutPhase (without_turns e) p (without_turns f) replies need = subst (λ (z : EngineView). CutPhase (without_turns e) p z replies need) (sym after) (subst (λ (z : EngineView). CutPhase z p (without_turns g) replies need) before bare) in
+    record { cause = had.cause; stands = had.stands; above = had.above }
 
 -- what is said of a phase that ended in the middle
 pub ended-weaker : {T : Type 0} (x : Result T PhaseError) (P Q : List (List Reply) → ℕ → Type 0) → ((replies : List (List Reply)) (need : ℕ) → P replies need → Q replies need) → IfPhaseOutOfHeap x P → IfPhaseOutOfHeap x Q

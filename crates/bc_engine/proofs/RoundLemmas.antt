@@ -15,6 +15,7 @@ use Rattle.bc_model.specs.declared.traces.Setup.{Setup}
 use Rattle.bc_model.specs.declared.operations.Op.{Op}
 use Rattle.bc_model.specs.declared.operations.Reply.{Reply}
 use Rattle.bc_pager.specs.declared.answers.Answer.{Answer}
+use Rattle.bc_pager.specs.declared.notices.Notice.{Notice}
 use Rattle.bc_superpages.specs.Layout.{superpages}
 use Rattle.bc_engine.specs.Answers.{IfNoRoom, IfTooSmall}
 use Rattle.bc_engine.specs.Budgets.{wanted_behind}
@@ -95,11 +96,12 @@ pub lanes-then : (r q x : RunningView) → SameLanes r q → SameLanes q x → S
 lanes-then r q x first second = (second.0 ∙ first.0, second.1 ∙ first.1)
 
 -- a turn, of the answers that there were, and of the hints and the frames of its line
-pub had-hints : {lanes : List (List Op)} {few unused : ℕ} {r q : RunningView} {told replies : List (Vec Reply Global)} {asked kept answers : List Answer} {hints line : List ℕ} {c d : Counters} → few ≡ unused → kept ≡ asked → hints ≡ line → HadTurn lanes few r told kept hints q replies answers c d → HadTurn lanes unused r told asked line q replies answers c d
-had-hints {lanes} {few} {unused} {r} {q} {told} {replies} {asked} {kept} {answers} {hints} {line} {c} {d} frames list same had =
-    subst (λ (n : ℕ). HadTurn lanes n r told asked line q replies answers c d) frames
-    (subst (λ (hs : List ℕ). HadTurn lanes few r told asked hs q replies answers c d) same
-    (subst (λ (xs : List Answer). HadTurn lanes few r told xs hints q replies answers c d) list had))
+pub had-hints : {lanes : List (List Op)} {few unused : ℕ} {r q : RunningView} {told replies : List (Vec Reply Global)} {asked kept answers lived before live : List Answer} {hints line : List ℕ} {c d : Counters} {fed : List Notice} → few ≡ unused → kept ≡ asked → hints ≡ line → before ≡ lived → HadTurn lanes few r told kept hints q replies answers c d before fed live → HadTurn lanes unused r told asked line q replies answers c d lived fed live
+had-hints {lanes} {few} {unused} {r} {q} {told} {replies} {asked} {kept} {answers} {lived} {before} {live} {hints} {line} {c} {d} {fed} frames list same there had =
+    subst (λ (n : ℕ). HadTurn lanes n r told asked line q replies answers c d lived fed live) frames
+    (subst (λ (hs : List ℕ). HadTurn lanes few r told asked hs q replies answers c d lived fed live) same
+    (subst (λ (xs : List Answer). HadTurn lanes few r told xs hints q replies answers c d lived fed live) list
+    (subst (λ (xs : List Answer). HadTurn lanes few r told kept hints q replies answers c d xs fed live) there had)))
 
 -- as many frames are wanted then, on a heap of the same setup
 pub wanted-is : (s t : Setup) (lines : List TurnLists) (line from now more : ℕ) → t ≡ s → from ≡ line_behind (hints_in lines) line → now ≡ budget_at lines line → more ≡ budget_at lines from - now → t.lanes * t.nursery + more ≡ wanted_behind s lines line
@@ -117,20 +119,20 @@ minor-from {Then} {few} {wanted} {lines} {r} {q} {from} {line} {to} {before} {af
 -- the engine that plays, as contracts see it, where it hasn't ended
 pub played-at : (i : Inside) (log : TurnLog) → i.ended ≡ None → played i.player log ≡ with_log (engine_of i) log
 played-at i log going =
-    ap (λ (x : Option Ended). record { running = i.player.running; setup = i.player.setup; workers = i.player.workers; ended = x; answers = log.answers.items; opened = log.opened.items; counters = i.player.counters }) (sym going)
+    ap (λ (x : Option Ended). record { running = i.player.running; setup = i.player.setup; workers = i.player.workers; ended = x; answers = log.answers.items; opened = log.opened.items; live = log.live.items; counters = i.player.counters }) (sym going)
 
 -- engines that are alike in each part
-alike : (r : RunningView) (s t : Setup) (v w : ℕ) (x y : Option Ended) (answers : List Answer) (opened : List Opened) (c : Counters) → s ≡ t → v ≡ w → x ≡ y
-    → let e : EngineView = record { running = r; setup = s; workers = v; ended = x; answers = answers; opened = opened; counters = c } in
-    let f : EngineView = record { running = r; setup = t; workers = w; ended = y; answers = answers; opened = opened; counters = c } in e ≡ f
-alike r s t v w x y answers opened c setup workers ended = cc
+alike : (r : RunningView) (s t : Setup) (v w : ℕ) (x y : Option Ended) (answers : List Answer) (opened : List Opened) (live : List Answer) (c : Counters) → s ≡ t → v ≡ w → x ≡ y
+    → let e : EngineView = record { running = r; setup = s; workers = v; ended = x; answers = answers; opened = opened; live = live; counters = c } in
+    let f : EngineView = record { running = r; setup = t; workers = w; ended = y; answers = answers; opened = opened; live = live; counters = c } in e ≡ f
+alike r s t v w x y answers opened live c setup workers ended = cc
 
 -- an engine of which only the heap, the answers and the counts are others, or besides how it ended
-pub rest-of : (e f : EngineView) → f.setup ≡ e.setup → f.workers ≡ e.workers → f.ended ≡ e.ended → f ≡ record e { running = f.running; answers = f.answers; opened = f.opened; counters = f.counters }
-rest-of e f setup workers ended = alike f.running f.setup e.setup f.workers e.workers f.ended e.ended f.answers f.opened f.counters setup workers ended
+pub rest-of : (e f : EngineView) → f.setup ≡ e.setup → f.workers ≡ e.workers → f.ended ≡ e.ended → f ≡ record e { running = f.running; answers = f.answers; opened = f.opened; live = f.live; counters = f.counters }
+rest-of e f setup workers ended = alike f.running f.setup e.setup f.workers e.workers f.ended e.ended f.answers f.opened f.live f.counters setup workers ended
 
-pub left-from : (e f : EngineView) → f.setup ≡ e.setup → f.workers ≡ e.workers → f ≡ record e { running = f.running; ended = f.ended; answers = f.answers; opened = f.opened; counters = f.counters }
-left-from e f setup workers = alike f.running f.setup e.setup f.workers e.workers f.ended f.ended f.answers f.opened f.counters setup workers refl
+pub left-from : (e f : EngineView) → f.setup ≡ e.setup → f.workers ≡ e.workers → f ≡ record e { running = f.running; ended = f.ended; answers = f.answers; opened = f.opened; live = f.live; counters = f.counters }
+left-from e f setup workers = alike f.running f.setup e.setup f.workers e.workers f.ended f.ended f.answers f.opened f.live f.counters setup workers refl
 
 -- the item of a turn says what its line does
 pub noted-as : (lines : List TurnLists) (line marks : ℕ) (before : List Opened) {withheld : ℕ} {after : List Opened} → after ≡ before ++ record { withheld = withheld; marks = marks } ∷ [] → withheld ≡ budget_at lines line → after ≡ before ++ record { withheld = budget_at lines line; marks = marks } ∷ []

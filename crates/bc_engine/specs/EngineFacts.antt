@@ -22,7 +22,7 @@ use Rattle.bc_engine.specs.Engines.{EngineView}
 -- the engine that a run of this setup begins with: a new heap, no answer and no turn of any phase, and nothing counted
 abbrev pub new_engine : Setup → ℕ → EngineView
 new_engine setup workers =
-    record { running = new_running setup; setup = setup; workers = workers; ended = None; answers = []; opened = []; counters = no_counts }
+    record { running = new_running setup; setup = setup; workers = workers; ended = None; answers = []; opened = []; live = []; counters = no_counts }
 
 -- the engine with these holders of the domains
 abbrev pub with_holders : EngineView → List Holder → EngineView
@@ -32,13 +32,17 @@ with_holders e holders = record e { running = record (e.running) { holders = hol
 abbrev pub with_answers : EngineView → List Answer → EngineView
 with_answers e answers = record e { answers = answers }
 
--- the engine with these answers to notices, and these turns
-abbrev pub with_turns : EngineView → List Answer → List Opened → EngineView
-with_turns e answers opened = record e { answers = answers; opened = opened }
+-- the engine with these answers to the notices that live pagers took
+abbrev pub with_live : EngineView → List Answer → EngineView
+with_live e live = record e { live = live }
+
+-- the engine with these answers to notices, these turns, and these answers to the notices of live pagers
+abbrev pub with_turns : EngineView → List Answer → List Opened → List Answer → EngineView
+with_turns e answers opened live = record e { answers = answers; opened = opened; live = live }
 
 -- the engine as a phase begins on it: no answers and no turns
 abbrev pub without_turns : EngineView → EngineView
-without_turns e = with_turns e [] []
+without_turns e = with_turns e [] [] []
 
 -- the heap has the setup's superpages, root slots, chunks, buffers and frames. Superpages are in use for the setup's domains. Of the frames no page
 -- uses those of the nurseries and those that are withheld, and two are left besides

@@ -22,6 +22,8 @@ pub record EngineView : Type 0 where
   pub answers : List Answer
   -- the turns of the latest phase: those of the lanes, each with the mark turns after it
   pub opened : List Opened
+  -- what became of the notices that its live pagers took in the latest phase
+  pub live : List Answer
   -- what it did since it was opened
   pub counters : Counters
 

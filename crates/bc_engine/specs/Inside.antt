@@ -16,6 +16,7 @@ engine_of e = record {
   ended = e.ended;
   answers = e.answers.items;
   opened = e.opened.items;
+  live = e.live.items;
   counters = e.player.counters;
 }
 
@@ -28,12 +29,13 @@ played p log = record {
   ended = None;
   answers = log.answers.items;
   opened = log.opened.items;
+  live = log.live.items;
   counters = p.counters;
 }
 
 -- the engine with the answers and turns of this log
 abbrev pub with_log : EngineView → TurnLog → EngineView
-with_log e log = with_turns e log.answers.items log.opened.items
+with_log e log = with_turns e log.answers.items log.opened.items log.live.items
 
 -- the engine that ended, since what it stands for needs so many superpages
 abbrev pub out_of_heap : ℕ → EngineView → EngineView

@@ -83,5 +83,6 @@ adopted_engine setup workers holders serials roots s = record {
   ended = None;
   answers = [];
   opened = [];
+  live = [];
   counters = counts_from s.reads;
 }

@@ -1,5 +1,5 @@
 -- The rounds of a phase: the lanes go on until each is at its end or stops, and then the nurseries are emptied.
-use Rattle.std.specs.Prelude.{◌≡◌, ◌⊎◌, ℕ, ◌+◌, ◌*◌, ◌<◌, ◌≤◌, true, false, List, [], ◌∷◌, ◌++◌, length, max, Some, None, Vec, vec_capacity, slice_index_or}
+use Rattle.std.specs.Prelude.{◌≡◌, ◌⊎◌, ℕ, ◌+◌, ◌*◌, ◌<◌, ◌≤◌, Bool, true, false, List, [], ◌∷◌, ◌++◌, length, max, Some, None, Vec, vec_capacity, slice_index_or}
 use Prim.Native.Nat.{zero, suc}
 use Rattle.std.specs.declared.alloc.Global.{Global}
 use Rattle.bc_bookmarks.specs.Withholding.{Withheld}
@@ -15,7 +15,9 @@ use Rattle.bc_model.specs.Rows.{lists_of}
 use Rattle.bc_model.specs.TurnLines.{budget_at, hints_in}
 use Rattle.bc_model.specs.declared.operations.Op.{Op}
 use Rattle.bc_model.specs.declared.operations.Reply.{Reply}
+use Rattle.bc_pager.specs.Feeding.{live_room}
 use Rattle.bc_pager.specs.declared.answers.Answer.{Answer}
+use Rattle.bc_pager.specs.declared.notices.Notice.{Notice}
 use Rattle.bc_superpages.specs.Layout.{superpages}
 use Rattle.bc_engine.specs.Attempts.{RanByAttempts}
 use Rattle.bc_engine.specs.Budgets.{ReturnsFrames, unused_in, wanted_behind}
@@ -102,13 +104,14 @@ pub record CollectsAnd (Then : List (List ℕ) → RunningView → Cursor → Li
   pub next : Then lines collected mid answers q to after begun d
 
 -- the turn of a round. So many frames were kept from pages before it, for which pages were given up where frames were wanting, and nothing else
--- changed. From there on the lanes ran, and the notices with these hints were answered. What was counted is of both
-pub record HadTurn (lanes : List (List Op)) (unused : ℕ) (r : RunningView) (before : List (Vec Reply Global)) (asked : List Answer) (hints : List ℕ) (q : RunningView) (after : List (Vec Reply Global)) (answers : List Answer) (c d : Counters) : Type 0 where
+-- changed. From there on the lanes ran, and the notices with these hints were answered, and those that the live pager took. What was counted is of
+-- all of it
+pub record HadTurn (lanes : List (List Op)) (unused : ℕ) (r : RunningView) (before : List (Vec Reply Global)) (asked : List Answer) (hints : List ℕ) (q : RunningView) (after : List (Vec Reply Global)) (answers : List Answer) (c d : Counters) (lived : List Answer) (fed : List Notice) (live : List Answer) : Type 0 where
   pub began : RunningView
   pub withheld : Withheld unused r.heap.space began.heap.space
   pub rest : began ≡ with_space r began.heap.space
-  pub turn : RanTurn lanes began before asked hints q after answers
-  pub counts : CountsTurn c r.heap.space.reads q.heap.space.reads (left_since (length asked) answers) d
+  pub turn : RanTurn lanes began before asked hints q after answers lived fed live
+  pub counts : CountsTurn c r.heap.space.reads q.heap.space.reads (left_since (length asked) answers + left_since (length lived) live) d
 
 -- each lane that wasn't at its end did one operation more, and nothing else was done. Its reads are counted
 pub record HadSteps (lanes : List (List Op)) (r : RunningView) (before : List (Vec Reply Global)) (q : RunningView) (after : List (Vec Reply Global)) (c d : Counters) : Type 0 where
@@ -120,14 +123,14 @@ pub record HadSteps (lanes : List (List Op)) (r : RunningView) (before : List (V
 
 -- a round: the lanes had their turn, in which as many frames were withheld as this line says and its notices were answered, a bookmark collection
 -- may have come, and the nurseries were emptied. Some lane wasn't at its end, and each such lane did one operation more. Each turn of the round, that of the lanes and those of
--- marks, used one line. The answers to their notices, one to each, in the order of the turns, came after those that there were. The answers and
--- the counts are the engine's
-pub record RanRound (lanes : List (List Op)) (lines : List TurnLists) (e : EngineView) (before : List (Vec Reply Global)) (line : ℕ) (f : EngineView) (after : List (Vec Reply Global)) (next : ℕ) : Type 0 where
+-- marks, used one line. The answers to their notices, one to each, in the order of the turns, came after those that there were, and so did those
+-- to the notices that the live pager took. The answers and the counts are the engine's
+pub record RanRound (lanes : List (List Op)) (lines : List TurnLists) (e : EngineView) (before : List (Vec Reply Global)) (line : ℕ) (f : EngineView) (after : List (Vec Reply Global)) (next : ℕ) (fed : List Notice) : Type 0 where
   pub turned : RunningView
   pub told : List (Vec Reply Global)
   pub answers : List Answer
   pub counted : Counters
-  pub turn : HadTurn lanes (unused_in e.setup lines line) e.running before e.answers (hints_at (hints_in lines) line) turned told answers e.counters counted
+  pub turn : HadTurn lanes (unused_in e.setup lines line) e.running before e.answers (hints_at (hints_in lines) line) turned told answers e.counters counted e.live fed f.live
   pub emptied : RunningView
   pub begun : Counters
   pub marks : ℕ
@@ -135,19 +138,19 @@ pub record RanRound (lanes : List (List Op)) (lines : List TurnLists) (e : Engin
   pub more : HasMore lanes (lists_of told)
   pub steps : HadSteps lanes emptied told f.running after begun f.counters
   pub noted : f.opened ≡ e.opened ++ record { withheld = budget_at lines line; marks = marks } ∷ []
-  pub rest : f ≡ record e { running = f.running; answers = f.answers; opened = f.opened; counters = f.counters }
+  pub rest : f ≡ record e { running = f.running; answers = f.answers; opened = f.opened; live = f.live; counters = f.counters }
 
 -- how many turns a round had: that of the lanes, and mark turns
-abbrev pub turns_of_round : {lanes : List (List Op)} {lines : List TurnLists} {e f : EngineView} {before after : List (Vec Reply Global)} {line next : ℕ} → RanRound lanes lines e before line f after next → ℕ
+abbrev pub turns_of_round : {lanes : List (List Op)} {lines : List TurnLists} {e f : EngineView} {before after : List (Vec Reply Global)} {line next : ℕ} {fed : List Notice} → RanRound lanes lines e before line f after next fed → ℕ
 turns_of_round r = suc (r.empties.collects.turns + r.empties.next.beside.turns)
 
 -- the last round: in their turn all lanes came to their ends, a bookmark collection may have come, and the nurseries were emptied. Then the frames
 -- that were withheld were returned
-pub record LastRound (lanes : List (List Op)) (lines : List TurnLists) (e : EngineView) (before : List (Vec Reply Global)) (line : ℕ) (f : EngineView) (after : List (Vec Reply Global)) : Type 0 where
+pub record LastRound (lanes : List (List Op)) (lines : List TurnLists) (e : EngineView) (before : List (Vec Reply Global)) (line : ℕ) (f : EngineView) (after : List (Vec Reply Global)) (fed : List Notice) : Type 0 where
   pub turned : RunningView
   pub answers : List Answer
   pub counted : Counters
-  pub turn : HadTurn lanes (unused_in e.setup lines line) e.running before e.answers (hints_at (hints_in lines) line) turned after answers e.counters counted
+  pub turn : HadTurn lanes (unused_in e.setup lines line) e.running before e.answers (hints_at (hints_in lines) line) turned after answers e.counters counted e.live fed f.live
   pub done : AreDone lanes (lists_of after)
   pub emptied : RunningView
   pub next : ℕ
@@ -155,47 +158,48 @@ pub record LastRound (lanes : List (List Op)) (lines : List TurnLists) (e : Engi
   pub empties : CollectsAnd EmptiesNurseries (wanted_behind e.setup lines line) (hints_in lines) turned (cursor_at (line_behind (hints_in lines) line)) answers emptied (record { line = next; turns = marks }) f.answers counted f.counters
   pub returned : ReturnsFrames (e.setup.lanes * e.setup.nursery) emptied f.running
   pub noted : f.opened ≡ e.opened ++ record { withheld = budget_at lines line; marks = marks } ∷ []
-  pub rest : f ≡ record e { running = f.running; answers = f.answers; opened = f.opened; counters = f.counters }
+  pub rest : f ≡ record e { running = f.running; answers = f.answers; opened = f.opened; live = f.live; counters = f.counters }
 
 -- how many turns the last round had
-abbrev pub turns_of_last : {lanes : List (List Op)} {lines : List TurnLists} {e f : EngineView} {before after : List (Vec Reply Global)} {line : ℕ} → LastRound lanes lines e before line f after → ℕ
+abbrev pub turns_of_last : {lanes : List (List Op)} {lines : List TurnLists} {e f : EngineView} {before after : List (Vec Reply Global)} {line : ℕ} {fed : List Notice} → LastRound lanes lines e before line f after fed → ℕ
 turns_of_last r = suc (r.empties.collects.turns + r.empties.next.beside.turns)
 
 -- a round that was cut: the lanes had their turn, a bookmark collection may have come, and the nurseries couldn't be emptied. The frames stay
 -- withheld
-pub record CutRound (lanes : List (List Op)) (lines : List TurnLists) (e : EngineView) (before : List (Vec Reply Global)) (line : ℕ) (f : EngineView) (after : List (Vec Reply Global)) : Type 0 where
+pub record CutRound (lanes : List (List Op)) (lines : List TurnLists) (e : EngineView) (before : List (Vec Reply Global)) (line : ℕ) (f : EngineView) (after : List (Vec Reply Global)) (fed : List Notice) : Type 0 where
   pub turned : RunningView
   pub answers : List Answer
   pub counted : Counters
-  pub turn : HadTurn lanes (unused_in e.setup lines line) e.running before e.answers (hints_at (hints_in lines) line) turned after answers e.counters counted
+  pub turn : HadTurn lanes (unused_in e.setup lines line) e.running before e.answers (hints_at (hints_in lines) line) turned after answers e.counters counted e.live fed f.live
   pub next : ℕ
   pub marks : ℕ
   pub leaves : CollectsAnd LeavesNurseries (wanted_behind e.setup lines line) (hints_in lines) turned (cursor_at (line_behind (hints_in lines) line)) answers f.running (record { line = next; turns = marks }) f.answers counted f.counters
   pub noted : f.opened ≡ e.opened ++ record { withheld = budget_at lines line; marks = marks } ∷ []
-  pub rest : f ≡ record e { running = f.running; ended = f.ended; answers = f.answers; opened = f.opened; counters = f.counters }
+  pub rest : f ≡ record e { running = f.running; ended = f.ended; answers = f.answers; opened = f.opened; live = f.live; counters = f.counters }
 
 -- how many turns a round had that was cut
-abbrev pub turns_of_cut : {lanes : List (List Op)} {lines : List TurnLists} {e f : EngineView} {before after : List (Vec Reply Global)} {line : ℕ} → CutRound lanes lines e before line f after → ℕ
+abbrev pub turns_of_cut : {lanes : List (List Op)} {lines : List TurnLists} {e f : EngineView} {before after : List (Vec Reply Global)} {line : ℕ} {fed : List Notice} → CutRound lanes lines e before line f after fed → ℕ
 turns_of_cut r = suc (r.leaves.collects.turns + r.leaves.next.stays.turns)
 
--- a number of rounds with others to come were run, one after another, in this many turns. Each turn of the phase uses its line
-abbrev pub RanRounds : List (List Op) → List TurnLists → EngineView → List (Vec Reply Global) → ℕ → ℕ → EngineView → List (Vec Reply Global) → Type 0
-RanRounds lanes lines e before zero turns f after = (f ≡ e) × (after ≡ before) × (turns ≡ 0)
-RanRounds lanes lines e before (suc n) turns f after =
-    (mid : EngineView) × (told : List (Vec Reply Global)) × (used : ℕ) × (next : ℕ) × RanRounds lanes lines e before n used mid told
-    × (r : RanRound lanes lines mid told (line_of lines used) f after next) × (turns ≡ used + turns_of_round r)
+-- a number of rounds with others to come were run, one after another, in this many turns. Each turn of the phase uses its line. Live pagers
+-- took these notices
+abbrev pub RanRounds : List (List Op) → List TurnLists → EngineView → List (Vec Reply Global) → ℕ → ℕ → EngineView → List (Vec Reply Global) → List Notice → Type 0
+RanRounds lanes lines e before zero turns f after fed = (f ≡ e) × (after ≡ before) × (turns ≡ 0) × (fed ≡ [])
+RanRounds lanes lines e before (suc n) turns f after fed =
+    (mid : EngineView) × (told : List (Vec Reply Global)) × (used : ℕ) × (next : ℕ) × (first more : List Notice) × RanRounds lanes lines e before n used mid told first
+    × (r : RanRound lanes lines mid told (line_of lines used) f after next more) × (turns ≡ used + turns_of_round r) × (fed ≡ first ++ more)
 
 -- the rounds of a phase from its first turn on, in this many turns: so many as have others to come, and the last one
-abbrev pub RanAll : List (List Op) → List TurnLists → EngineView → List (Vec Reply Global) → ℕ → EngineView → List (Vec Reply Global) → Type 0
-RanAll lanes lines e before turns f after =
-    (n : ℕ) × (used : ℕ) × (mid : EngineView) × (told : List (Vec Reply Global)) × RanRounds lanes lines e before n used mid told
-    × (r : LastRound lanes lines mid told (line_of lines used) f after) × (turns ≡ used + turns_of_last r)
+abbrev pub RanAll : List (List Op) → List TurnLists → EngineView → List (Vec Reply Global) → ℕ → EngineView → List (Vec Reply Global) → List Notice → Type 0
+RanAll lanes lines e before turns f after fed =
+    (n : ℕ) × (used : ℕ) × (mid : EngineView) × (told : List (Vec Reply Global)) × (first more : List Notice) × RanRounds lanes lines e before n used mid told first
+    × (r : LastRound lanes lines mid told (line_of lines used) f after more) × (turns ≡ used + turns_of_last r) × (fed ≡ first ++ more)
 
 -- the rounds of a phase from its first turn on, in this many turns, up to one that was cut
-abbrev pub RanToCut : List (List Op) → List TurnLists → EngineView → List (Vec Reply Global) → ℕ → EngineView → List (Vec Reply Global) → Type 0
-RanToCut lanes lines e before turns f after =
-    (n : ℕ) × (used : ℕ) × (mid : EngineView) × (told : List (Vec Reply Global)) × RanRounds lanes lines e before n used mid told
-    × (r : CutRound lanes lines mid told (line_of lines used) f after) × (turns ≡ used + turns_of_cut r)
+abbrev pub RanToCut : List (List Op) → List TurnLists → EngineView → List (Vec Reply Global) → ℕ → EngineView → List (Vec Reply Global) → List Notice → Type 0
+RanToCut lanes lines e before turns f after fed =
+    (n : ℕ) × (used : ℕ) × (mid : EngineView) × (told : List (Vec Reply Global)) × (first more : List Notice) × RanRounds lanes lines e before n used mid told first
+    × (r : CutRound lanes lines mid told (line_of lines used) f after more) × (turns ≡ used + turns_of_cut r) × (fed ≡ first ++ more)
 
 -- how many notices the longest line has
 abbrev pub longest_of : List (List ℕ) → ℕ
@@ -206,8 +210,12 @@ longest_of (line ∷ lines) = max (length line) (longest_of lines)
 abbrev pub HasNoRoomFor : Vec Answer Global → ℕ → Type 0
 HasNoRoomFor kept more = vec_capacity kept < length kept.items + more
 
--- the rounds of a phase from its first turn on, up to one for whose answers the list has no room: those of its lanes' line, and of as many as
--- the longest line has, twice
-abbrev pub RanToWant : List (List Op) → List TurnLists → EngineView → List (Vec Reply Global) → EngineView → List (Vec Reply Global) → Vec Answer Global → Type 0
-RanToWant lanes lines e before f after kept =
-    (n : ℕ) × (used : ℕ) × RanRounds lanes lines e before n used f after × HasNoRoomFor kept (length (hints_of lines used) + 2 * longest_of (hints_in lines))
+-- the list has no room for so many answers more; or one notice more may come from the feed, and the other list has none for those of a turn
+abbrev pub WantsRoom : Vec Answer Global → ℕ → Vec Answer Global → Bool → Type 0
+WantsRoom kept more lived coming = HasNoRoomFor kept more ⊎ ((coming ≡ true) × HasNoRoomFor lived live_room)
+
+-- the rounds of a phase from its first turn on, up to one for whose answers a list has no room: those of its lanes' line, and of as many as
+-- the longest line has, twice; or, where one notice more may come from the feed, those of its live pager
+abbrev pub RanToWant : List (List Op) → List TurnLists → EngineView → List (Vec Reply Global) → EngineView → List (Vec Reply Global) → Vec Answer Global → List Notice → Vec Answer Global → Bool → Type 0
+RanToWant lanes lines e before f after kept fed lived coming =
+    (n : ℕ) × (used : ℕ) × RanRounds lanes lines e before n used f after fed × WantsRoom kept (length (hints_of lines used) + 2 * longest_of (hints_in lines)) lived coming

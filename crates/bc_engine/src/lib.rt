@@ -22,6 +22,11 @@
 // became of each notice is kept, in order (`Engine::answers`). Room for the answers of a round is taken before it, and only where
 // there is none does a phase end in the middle, out of memory.
 //
+// A phase may also take notices as it runs, from a feed (`Engine::phase_with`). Where one more may come, a live pager beside the lanes answers those
+// that it takes, up to 64 a turn. What it leaves is there for the next turn. These answers stand in a list of their own (`Engine::live_answers`), and
+// room for those of a turn is taken before its round too. Where there is no memory for the turn's table no notice is taken. `Engine::phase` is the
+// same over no notices, and then no list but that of the lines grows.
+//
 // The line of a turn of the lanes also says how many frames are withheld in it (`budgets`): so many beside those of the nurseries no page may use.
 // Before the turn pages are given up where frames are wanting for that. Chunks hold at most one object then, which nothing mature refers to, and
 // no page is remembered, so every page can go. A mark turn leaves the number, and so do operations of a lane alone. When all lanes are at their
@@ -61,10 +66,10 @@
 // apart for: each reference names an allocated cell, no two cells are of one birth, and each birth is one of its lane's (`CanAdopt`). No state is
 // among the conditions. One is made of the space in the proof (`adopted_state`): each birth's object is what its cell holds.
 //
-// The theorem is the contract of `Engine::phase`. Done, the replies are those of the heap that never frees, to every
+// The theorem is the contract of `Engine::phase` and `Engine::phase_with`. Done, the replies are those of the heap that never frees, to every
 // operation, the engine stands for the state after the phase, and its superpages are at least that state's need
 // (`DidPhase`). Refused, out of heap, the replies and the state are those of a cut, and the need that is answered
-// is the need of that state and above the number of superpages (`CutPhase`). `Engine::open`, `give`, `freeze` and `serial`
+// is the need of that state and above the number of superpages (`CutPhase`). Each notice that was taken has its answer, once and in order (`HadTurns`, `law_answers`, `law_fed`). `Engine::open`, `give`, `freeze` and `serial`
 // say the same of the opening state, of one give, of one freeze and of one operation.
 #![tactic(auto)]
 
@@ -86,7 +91,7 @@ pub use bc_pager::Answer;
 pub use bc_running::Parts;
 pub use counters::{Counters, PageCounts, Tally, tally_of};
 pub use engines::Engine;
-pub use laws::{law_answers, law_budgets, law_opened};
+pub use laws::{law_answers, law_budgets, law_fed, law_opened};
 pub use logs::{Standing, Step, StepKind};
 pub use opened::Opened;
 pub use paces::Pacing;

@@ -1,14 +1,15 @@
 //! The notices of a phase: room for their answers, and how many pages left for them.
 
-ghost use Rattle.std.specs.Prelude.{◌≡◌, ◌+◌, ◌*◌, ◌≤◌, length, max, vec_capacity, OnOk};
+ghost use Rattle.std.specs.Prelude.{◌≡◌, ◌+◌, ◌*◌, ◌≤◌, Bool, true, length, max, vec_capacity, OnOk};
 ghost use Rattle.bc_engine.specs.Answers.{IfNoRoom, IfTooSmall};
 ghost use Rattle.bc_engine.specs.Counting.{left_since, names_left as names};
 ghost use Rattle.bc_engine.specs.Rounds.{HasNoRoomFor, longest_of};
 ghost use Rattle.bc_model.specs.TurnLines.{hints_in};
+ghost use Rattle.bc_pager.specs.Feeding.{live_room};
 
 use crate::rounds::RoundsError;
 use bc_model::TurnLine;
-use bc_pager::Answer;
+use bc_pager::{Answer, LIVE_ROOM};
 
 /// How many notices the longest line has.
 pub(crate) fn longest_line(lines: &[TurnLine]) -> usize
@@ -49,6 +50,19 @@ pub(crate) fn take_room(
 {
     let more = longest.saturating_mul(2).saturating_add(line);
     answers.reserve(more)?;
+    Ok(())
+}
+
+/// Takes room for the answers of a turn's live pager, where one notice more may come. Its only error is that of the list.
+pub(crate) fn take_live_room(answers: &mut Vec<Answer>, coming: bool) -> Result<(), RoundsError>
+    ensures same { answers.new.items ≡ answers.old.items }
+    ensures room { OnOk result (coming ≡ true → length answers.new.items + live_room ≤ vec_capacity answers.new) }
+    ensures no_room { IfNoRoom result ((coming ≡ true) × HasNoRoomFor answers.new live_room) }
+    ensures only { IfTooSmall result (λ need. ⊥) }
+{
+    if coming {
+        answers.reserve(LIVE_ROOM)?;
+    }
     Ok(())
 }
 

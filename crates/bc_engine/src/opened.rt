@@ -23,6 +23,8 @@ pub(crate) struct TurnLog {
     pub(crate) answers: Vec<Answer>,
     /// The turns of the lanes, each with the mark turns after it.
     pub(crate) opened: Vec<Opened>,
+    /// What became of the notices that live pagers took, in their order.
+    pub(crate) live: Vec<Answer>,
 }
 
 /// An empty list with room for the turns of the lanes in a phase of these operations. Each of these turns but the last one is followed by an

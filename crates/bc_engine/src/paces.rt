@@ -12,8 +12,9 @@ const OPERATIONS_A_TABLE: u64 = 128;
 /// To start a thread and to end it takes a fraction of the time that so many operations take.
 const OPERATIONS_A_THREAD: u64 = 4_096;
 
-/// To answer so many notices takes longer than to start a thread for each of four pagers.
-const NOTICES_FOR_THREADS: usize = 32;
+/// To answer so many notices takes several times as long as to start a thread for each of four pagers. With 64, four threads took from 0.93 to 1.48
+/// times as long as one.
+const NOTICES_FOR_THREADS: usize = 256;
 
 /// No lane is looked further ahead than so many operations.
 const OPERATIONS_AHEAD: u64 = 8_192;

@@ -1,6 +1,6 @@
 //! A phase: room for the replies is taken, the rounds are run, and domains change hands or are frozen.
 
-ghost use Rattle.std.specs.Prelude.{◌≡◌, ◌≢◌, ◌⊎◌, ℕ, ◌+◌, ◌<◌, ◌≤◌, [], length, Some, None, Result, Ok, Err, sum_by, vec_capacity, IfOk, OnOk, slice_index};
+ghost use Rattle.std.specs.Prelude.{◌≡◌, ◌≢◌, ◌⊎◌, ℕ, ◌+◌, ◌<◌, ◌≤◌, true, false, List, [], length, Some, None, Result, Ok, Err, sum_by, vec_capacity, IfOk, OnOk, slice_index};
 ghost use Rattle.std.specs.List.{AllByRecursion};
 ghost use Rattle.bc_engine.specs.Answers.{IfNoRoom, IfPhaseOutOfHeap, IfTooSmall, IsOutOfHeap, IsNoMemory};
 ghost use Rattle.bc_engine.specs.Engines.{EngineStands, EngineView, HasEmptyChunks};
@@ -15,6 +15,9 @@ ghost use Rattle.bc_model.specs.Need.{IsNeed};
 ghost use Rattle.bc_model.specs.Run.{after_changes};
 ghost use Rattle.bc_model.specs.State.{State, changed};
 ghost use Rattle.bc_model.specs.WellFormed.{FitsChange, FitsFrames, IsPhase};
+ghost use Rattle.bc_pager.specs.Claiming.{unshared};
+ghost use Rattle.bc_pager.specs.Serving.{told_with};
+ghost use Rattle.bc_pager.specs.declared.notices.Notice.{Notice};
 
 use crate::engines::{Ended, Engine};
 use crate::opened::{Opened, TurnLog, room_for_turns};
@@ -22,6 +25,7 @@ use crate::rounds::RoundsError;
 use bc_failsafe::law_room;
 use bc_gates::{Gate, Host};
 use bc_model::{Change, Op, Phase, Replies, Reply, TurnLine};
+use bc_pager::{ListNotices, Notices};
 use bc_turn::TurnRoom;
 use std::alloc::{AllocError, Global};
 use std::thread::Threads;
@@ -69,19 +73,73 @@ impl Engine {
         ensures done { self.old.ended ≡ None → IfOk result (λ replies. DidPhase self.old phase.now self.new replies) }
         ensures cut { self.old.ended ≡ None → IfPhaseOutOfHeap result (λ replies need. CutPhase self.old phase.now self.new replies need) }
         // Notices are answered turn by turn, in the order of the phase's lines, and the answers are the engine's.
-        ensures turns { self.old.ended ≡ None → IfOk result (λ replies. HadTurns self.old phase.now self.new replies) }
-        ensures cut_turns { self.old.ended ≡ None → IfPhaseOutOfHeap result (λ replies need. HadTurnsToCut self.old phase.now self.new replies) }
+        ensures turns { self.old.ended ≡ None → IfOk result (λ replies. HadTurns self.old phase.now self.new replies []) }
+        ensures cut_turns { self.old.ended ≡ None → IfPhaseOutOfHeap result (λ replies need. HadTurnsToCut self.old phase.now self.new replies []) }
         ensures again { (need : ℕ) → self.old.ended ≡ Some (Ended.OutOfHeap need) → IsOutOfHeap result [] need }
         ensures ended { self.old.ended ≢ None → self.new ≡ self.old }
         ensures gone { self.old.ended ≡ Some Ended.NoMemory → IsNoMemory result }
         ensures setup { (self.new.setup ≡ self.old.setup) × (self.new.workers ≡ self.old.workers) }
         ensures no_memory { IsNoMemory result → self.new.ended ≡ Some Ended.NoMemory }
         // Without notices memory runs out before anything is done, and else it may also before a round.
-        ensures undone { IsNoMemory result → HasNoHints phase.now.turns → self.new ≡ record self.old { ended = self.new.ended } }
+        ensures undone { IsNoMemory result → HasNoHints phase.now.turns → self.new ≡ record self.old { ended = self.new.ended; live = self.new.live } }
         ensures want { IsNoMemory result → self.old.ended ≡ None
-            → (self.new ≡ record self.old { ended = self.new.ended }) ⊎ HadTurnsToWant self.old phase.now self.new }
+            → (self.new ≡ record self.old { ended = self.new.ended; live = self.new.live }) ⊎ HadTurnsToWant self.old phase.now self.new [] false }
         ensures births { (j : ℕ) → slice_index self.new.running.serials j ≤ slice_index self.old.running.serials j + length (of_lane phase.now.lanes j) }
         ensures room { (n : ℕ) → HasRoomForOps self.old phase.now.lanes n → HasRoomForBirths self.new n }
+        // No live pager takes any notice.
+        ensures unfed { self.old.ended ≡ None → self.new.live ≡ [] }
+    {
+        let mut none = ListNotices::none(alloc);
+        self.phase_with(rt, alloc, phase, &mut none, gate)
+    }
+
+    /// Does a phase as `phase` does, and in each turn of the lanes a live pager takes notices from `live` and answers them, where one more may
+    /// come: until there is none, or until it answered 64 in the turn. What it leaves is there for the next turn. The answers are those of
+    /// `live_answers`, one to each notice that was taken, in order. No reply depends on them.
+    ///
+    /// Room for them is taken before a round, and only where one more may come; without it the phase ends out of memory, as it does without room for
+    /// the answers to the lines' notices. Where the engine had ended, or there is no memory before anything is done, no notice is taken. A feed from
+    /// which none may come isn't asked.
+    pub fn phase_with<R, N, G>(
+        &mut self,
+        rt: &R,
+        alloc: Global,
+        phase: &Phase,
+        live: &mut N,
+        gate: &G,
+    ) -> Result<Replies, PhaseError>
+    where
+        R: Threads + Sync,
+        N: Notices + Send,
+        G: Gate + Sync,
+        requires unshared { N.shared live.old ≡ unshared }
+        requires phase { IsPhase self.old.setup phase.now }
+        requires budgets { AllByRecursion (FitsFrames self.old.setup) phase.now.turns }
+        requires births { HasRoomForOps self.old phase.now.lanes 0 }
+        ensures done { self.old.ended ≡ None → IfOk result (λ replies. DidPhase self.old phase.now self.new replies) }
+        ensures cut { self.old.ended ≡ None → IfPhaseOutOfHeap result (λ replies need. CutPhase self.old phase.now self.new replies need) }
+        // Notices are answered turn by turn, in the order of the phase's lines, and the answers are the engine's. So are those to the notices that
+        // live pagers took from the feed, each once and in order.
+        ensures turns { self.old.ended ≡ None → IfOk result (λ replies. (fed : List Notice) × (N.taken live.new ≡ told_with (N.taken live.old) fed)
+            × HadTurns self.old phase.now self.new replies fed) }
+        ensures cut_turns { self.old.ended ≡ None → IfPhaseOutOfHeap result (λ replies need. (fed : List Notice) × (N.taken live.new ≡ told_with (N.taken live.old) fed)
+            × HadTurnsToCut self.old phase.now self.new replies fed) }
+        ensures again { (need : ℕ) → self.old.ended ≡ Some (Ended.OutOfHeap need) → IsOutOfHeap result [] need }
+        ensures ended { self.old.ended ≢ None → (self.new ≡ self.old) × (live.new ≡ live.old) }
+        ensures gone { self.old.ended ≡ Some Ended.NoMemory → IsNoMemory result }
+        ensures setup { (self.new.setup ≡ self.old.setup) × (self.new.workers ≡ self.old.workers) }
+        ensures no_memory { IsNoMemory result → self.new.ended ≡ Some Ended.NoMemory }
+        // Without notices memory runs out before anything is done, and else it may also before a round.
+        ensures undone { IsNoMemory result → HasNoHints phase.now.turns → N.coming live.old ≡ false → self.new ≡ record self.old { ended = self.new.ended; live = self.new.live } }
+        ensures want { IsNoMemory result → self.old.ended ≡ None
+            → ((self.new ≡ record self.old { ended = self.new.ended; live = [] }) × (live.new ≡ live.old))
+            ⊎ ((fed : List Notice) × (N.taken live.new ≡ told_with (N.taken live.old) fed) × HadTurnsToWant self.old phase.now self.new fed (N.coming live.new)) }
+        ensures births { (j : ℕ) → slice_index self.new.running.serials j ≤ slice_index self.old.running.serials j + length (of_lane phase.now.lanes j) }
+        ensures room { (n : ℕ) → HasRoomForOps self.old phase.now.lanes n → HasRoomForBirths self.new n }
+        // The feed's hints and bounds stay, and one from which none may come isn't asked.
+        ensures unfed { self.old.ended ≡ None → N.coming live.old ≡ false → self.new.live ≡ [] }
+        ensures feed { (N.shared live.new ≡ N.shared live.old) × (N.told live.new ≡ N.told live.old) × (N.most live.new ≡ N.most live.old) }
+        ensures idle { N.coming live.old ≡ false → live.new ≡ live.old }
     {
         match self.ended {
             None => {}
@@ -93,6 +151,7 @@ impl Engine {
             }
             Some(Ended::NoMemory) => return Err(PhaseError::NoMemory),
         }
+        self.clear_live();
         match room_for_phase(alloc, &phase.lanes) {
             Ok(room) => {
                 let host = Host {
@@ -100,7 +159,7 @@ impl Engine {
                     alloc,
                     gate,
                 };
-                self.replay(&host, phase, room.replies, room.opened)
+                self.replay(&host, phase, room.replies, room.opened, live)
             }
             Err(_) => {
                 self.end_for_want();
@@ -116,17 +175,22 @@ impl Engine {
         self.ended = Some(Ended::NoMemory);
     }
 
-    /// Does a phase on an engine that hasn't ended, with room for the reply to each operation, and to note the turns.
-    fn replay<R, G>(
+    /// Does a phase on an engine that hasn't ended, and that has no answers to notices of live pagers, with room for the reply to each operation, and
+    /// to note the turns.
+    fn replay<R, N, G>(
         &mut self,
         host: &Host<R, G>,
         phase: &Phase,
         replies: Vec<Vec<Reply>>,
         opened: Vec<Opened>,
+        live: &mut N,
     ) -> Result<Replies, PhaseError>
     where
         R: Threads + Sync,
+        N: Notices + Send,
         G: Gate + Sync,
+        requires unshared { N.shared live.old ≡ unshared }
+        requires empty { self.old.live ≡ [] }
         requires going { self.old.ended ≡ None }
         requires phase { IsPhase self.old.setup phase.now }
         requires budgets { AllByRecursion (FitsFrames self.old.setup) phase.now.turns }
@@ -138,47 +202,65 @@ impl Engine {
         ensures done { IfOk result (λ told. DidPhase self.old phase.now self.new told) }
         ensures cut { IfPhaseOutOfHeap result (λ told need. CutPhase self.old phase.now self.new told need) }
         ensures setup { (self.new.setup ≡ self.old.setup) × (self.new.workers ≡ self.old.workers) }
-        ensures turns { IfOk result (λ told. HadTurns self.old phase.now self.new told) }
-        ensures cut_turns { IfPhaseOutOfHeap result (λ told need. HadTurnsToCut self.old phase.now self.new told) }
-        ensures want { IsNoMemory result → HadTurnsToWant self.old phase.now self.new }
+        ensures turns { IfOk result (λ told. (fed : List Notice) × (N.taken live.new ≡ told_with (N.taken live.old) fed)
+            × HadTurns self.old phase.now self.new told fed) }
+        ensures cut_turns { IfPhaseOutOfHeap result (λ told need. (fed : List Notice) × (N.taken live.new ≡ told_with (N.taken live.old) fed)
+            × HadTurnsToCut self.old phase.now self.new told fed) }
+        ensures want { IsNoMemory result → (fed : List Notice) × (N.taken live.new ≡ told_with (N.taken live.old) fed)
+            × HadTurnsToWant self.old phase.now self.new fed (N.coming live.new) }
+        ensures feed { (N.shared live.new ≡ N.shared live.old) × (N.told live.new ≡ N.told live.old) × (N.most live.new ≡ N.most live.old) }
+        ensures idle { N.coming live.old ≡ false → (live.new ≡ live.old) × (self.new.live ≡ []) }
         ensures births { (j : ℕ) → slice_index self.new.running.serials j ≤ slice_index self.old.running.serials j + length (of_lane phase.now.lanes j) }
     {
         let answers = self.take_answers(host.alloc);
-        let mut log = TurnLog { answers, opened };
-        let told = self.run_phase(host, phase, replies, &mut log);
+        let lived = self.take_live(host.alloc);
+        let mut log = TurnLog {
+            answers,
+            opened,
+            live: lived,
+        };
+        let told = self.run_phase(host, phase, replies, live, &mut log);
         self.keep_turns(log);
         told
     }
 
     /// Does such a phase, and keeps its turns and what became of its notices in these lists, in which there is nothing yet.
-    fn run_phase<R, G>(
+    fn run_phase<R, N, G>(
         &mut self,
         host: &Host<R, G>,
         phase: &Phase,
         mut replies: Vec<Vec<Reply>>,
+        live: &mut N,
         log: &mut TurnLog,
     ) -> Result<Replies, PhaseError>
     where
         R: Threads + Sync,
+        N: Notices + Send,
         G: Gate + Sync,
+        requires unshared { N.shared live.old ≡ unshared }
         requires going { self.old.ended ≡ None }
         requires phase { IsPhase self.old.setup phase.now }
         requires budgets { AllByRecursion (FitsFrames self.old.setup) phase.now.turns }
         requires births { HasRoomForOps self.old phase.now.lanes 0 }
         requires long { length replies.items ≡ length phase.now.lanes }
         requires room { IsRoomFor phase.now.lanes replies.items }
-        requires none { (log.old.answers.items ≡ []) × (log.old.opened.items ≡ []) }
+        requires none { (log.old.answers.items ≡ []) × (log.old.opened.items ≡ []) × (log.old.live.items ≡ []) }
         requires turns { sum_by length phase.now.lanes + 1 ≤ vec_capacity log.old.opened }
         ensures done { IfOk result (λ told. DidPhase self.old phase.now self.new told) }
         ensures cut { IfPhaseOutOfHeap result (λ told need. CutPhase self.old phase.now self.new told need) }
         ensures setup { (self.new.setup ≡ self.old.setup) × (self.new.workers ≡ self.old.workers) }
-        ensures turns { IfOk result (λ told. HadTurns self.old phase.now (with_log self.new log.new) told) }
-        ensures cut_turns { IfPhaseOutOfHeap result (λ told need. HadTurnsToCut self.old phase.now (with_log self.new log.new) told) }
-        ensures want { IsNoMemory result → HadTurnsToWant self.old phase.now (with_log self.new log.new) }
+        ensures turns { IfOk result (λ told. (fed : List Notice) × (N.taken live.new ≡ told_with (N.taken live.old) fed)
+            × HadTurns self.old phase.now (with_log self.new log.new) told fed) }
+        ensures cut_turns { IfPhaseOutOfHeap result (λ told need. (fed : List Notice) × (N.taken live.new ≡ told_with (N.taken live.old) fed)
+            × HadTurnsToCut self.old phase.now (with_log self.new log.new) told fed) }
+        ensures want { IsNoMemory result → (fed : List Notice) × (N.taken live.new ≡ told_with (N.taken live.old) fed)
+            × HadTurnsToWant self.old phase.now (with_log self.new log.new) fed (N.coming live.new) }
+        ensures feed { (N.shared live.new ≡ N.shared live.old) × (N.told live.new ≡ N.told live.old) × (N.most live.new ≡ N.most live.old) }
+        ensures idle { N.coming live.old ≡ false → (live.new ≡ live.old) × (log.new.live.items ≡ log.old.live.items) }
         ensures births { (j : ℕ) → slice_index self.new.running.serials j ≤ slice_index self.old.running.serials j + length (of_lane phase.now.lanes j) }
     {
         self.facts();
-        match self.rounds(host, &phase.lanes, &phase.turns, &mut replies, log) {
+        match self.rounds(host, &phase.lanes, &phase.turns, &mut replies, live, log) {
             Ok(()) => {
                 self.facts();
                 self.change_all(&phase.gives);
@@ -195,17 +277,20 @@ impl Engine {
     }
 
     /// Runs the rounds of a phase (`Player::rounds`), and ends the engine where they end before all lanes are at their ends.
-    fn rounds<R, G>(
+    fn rounds<R, N, G>(
         &mut self,
         host: &Host<R, G>,
         lanes: &[Vec<Op>],
         lines: &[TurnLine],
         replies: &mut [Vec<Reply>],
+        live: &mut N,
         log: &mut TurnLog,
     ) -> Result<(), RoundsError>
     where
         R: Threads + Sync,
+        N: Notices + Send,
         G: Gate + Sync,
+        requires unshared { N.shared live.old ≡ unshared }
         requires going { self.old.ended ≡ None }
         requires underway { IsUnderwayOn self.old (lists_of lanes.now) replies.old }
         requires budgets { AllByRecursion (FitsFrames self.old.setup) lines.now }
@@ -214,19 +299,21 @@ impl Engine {
         ensures births { BirthsWithin (lists_of lanes.now) self.old.running.serials (lists_of replies.old) self.new.running.serials (lists_of replies.new) }
         ensures on { OnOk result (RoundsWentOn (lists_of lanes.now) self.old replies.old self.new replies.new) }
         ensures through { OnOk result (IsThrough (lists_of lanes.now) self.new replies.new) }
-        ensures turns { OnOk result ((turns : ℕ) × RanAll (lists_of lanes.now) lines.now
-            (with_log self.old log.old) replies.old turns (with_log self.new log.new) replies.new) }
+        ensures turns { OnOk result ((fed : List Notice) × (N.taken live.new ≡ told_with (N.taken live.old) fed) × (turns : ℕ) × RanAll (lists_of lanes.now) lines.now
+            (with_log self.old log.old) replies.old turns (with_log self.new log.new) replies.new fed) }
         ensures cut { IfTooSmall result (λ need. IsTooSmall (lists_of lanes.now) self.old replies.old self.new replies.new need) }
-        ensures cut_turns { IfTooSmall result (λ need. (turns : ℕ) × RanToCut (lists_of lanes.now) lines.now
-            (with_log self.old log.old) replies.old turns (with_log self.new log.new) replies.new) }
-        ensures want { IfNoRoom result ((last : EngineView) × RanToWant (lists_of lanes.now) lines.now
-            (with_log self.old log.old) replies.old last replies.new log.new.answers
+        ensures cut_turns { IfTooSmall result (λ need. (fed : List Notice) × (N.taken live.new ≡ told_with (N.taken live.old) fed) × (turns : ℕ) × RanToCut (lists_of lanes.now) lines.now
+            (with_log self.old log.old) replies.old turns (with_log self.new log.new) replies.new fed) }
+        ensures want { IfNoRoom result ((fed : List Notice) × (N.taken live.new ≡ told_with (N.taken live.old) fed) × (last : EngineView) × RanToWant (lists_of lanes.now) lines.now
+            (with_log self.old log.old) replies.old last replies.new log.new.answers fed log.new.live (N.coming live.new)
             × (with_log self.new log.new ≡ record last { ended = Some Ended.NoMemory })) }
+        ensures feed { (N.shared live.new ≡ N.shared live.old) × (N.told live.new ≡ N.told live.old) × (N.most live.new ≡ N.most live.old) }
+        ensures idle { N.coming live.old ≡ false → (live.new ≡ live.old) × (log.new.live.items ≡ log.old.live.items) }
     {
         let mut room = TurnRoom::new(host.alloc);
         match self
             .player
-            .rounds(host, &mut room, lanes, lines, replies, log)
+            .rounds(host, &mut room, lanes, lines, replies, live, log)
         {
             Ok(()) => Ok(()),
             Err(RoundsError::TooSmall { need }) => {

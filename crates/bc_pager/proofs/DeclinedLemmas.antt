@@ -2,7 +2,7 @@
 use Rattle.std.proofs.Common.{◌≡◌, ℕ, ◌+◌, ◌<◌, ◌≤◌, ◌==◌, List, [], ◌∷◌, ◌++◌, slice_index, inl, inr, ap, sym, arith}
 use Rattle.std.proofs.lemmas.Bool.{cases_eq, eq-eqb}
 use Rattle.bc_bits.specs.Counting.{one_if}
-use Rattle.bc_pager.specs.Answering.{IsAnswer, TookAfter, says_declined, says_discarded, says_evicted}
+use Rattle.bc_pager.specs.Answering.{HasDeclined, IsAnswer, TookAfter, says_declined, says_discarded, says_evicted}
 use Rattle.bc_evict.specs.Looking.{IsAccountedFor, MayStay, all_pages}
 use Rattle.bc_pager.specs.Claiming.{AreAnsweredAsClaimed}
 use Rattle.bc_pager.specs.declared.answers.Answer.{Answer}
@@ -35,7 +35,7 @@ took-home k v looks page w took p near =
           omega arith
     ]
 
-answer-home : (k : Key) (v : View) (hint : ℕ) (answer : Answer) (w : View) → IsAnswer k v hint answer w → (p : ℕ) → p < pages_of k
+pub answer-home : (k : Key) (v : View) (hint : ℕ) (answer : Answer) (w : View) → IsAnswer k v hint answer w → (p : ℕ) → p < pages_of k
     → times 1 (reads_at p w.read) ≡ (says_evicted p answer + says_discarded p answer) + times 1 (reads_at p v.read)
 answer-home k v hint (Discarded page) w is p near = let took = took-home k v is.looks page w is.took p near in omega arith
 answer-home k v hint (Evicted page) w is p near = let took = took-home k v is.looks page w is.took p near in omega arith
@@ -63,7 +63,7 @@ took-more k v looks page w took p n =
     let all = times-reads n (page_at p) (took.later ++ (page_at page, 1) ∷ looks) v.read in
     omega arith
 
-answer-more : (k : Key) (v : View) (hint : ℕ) (answer : Answer) (w : View) → IsAnswer k v hint answer w → (p n : ℕ) → times n (reads_at p v.read) ≤ times n (reads_at p w.read)
+pub answer-more : (k : Key) (v : View) (hint : ℕ) (answer : Answer) (w : View) → IsAnswer k v hint answer w → (p n : ℕ) → times n (reads_at p v.read) ≤ times n (reads_at p w.read)
 answer-more k v hint (Discarded page) w is p n = took-more k v is.looks page w is.took p n
 answer-more k v hint (Evicted page) w is p n = took-more k v is.looks page w is.took p n
 answer-more k v hint Declined w is p n =
@@ -87,18 +87,22 @@ pub record LooksFound (k : Key) (w : View) : Type 0 where
   pub each : (q : ℕ) → q < all_pages k → IsAccountedFor k looks q MayStay
   pub more : (q n : ℕ) → times n (reads_at q looks) ≤ times n (reads_at q w.read)
 
+-- so it is where one was declined and what was read then is in the log
+pub declined-looks : (k : Key) (v u w : View) → HasDeclined k v u → ((p n : ℕ) → times n (reads_at p u.read) ≤ times n (reads_at p w.read)) → LooksFound k w
+declined-looks k v u w is more = record {
+  looks = is.looks;
+  each = is.each;
+  more = λ q n.
+      let whole = ap (λ (x : View). times n (reads_at q x.read)) is.view in
+      let both = times-reads n (page_at q) is.looks v.read in
+      let rest = more q n in
+      omega arith;
+}
+
 pub shared-looks : (k : Key) (hints ns : List ℕ) (told : List Answer) (v w : View) → AreAnsweredAsClaimed k hints ns told v w → 0 < total says_declined told → LooksFound k w
 shared-looks k hints [] [] v w is some = absurd (omega arith)
 shared-looks k hints [] (answer ∷ told) v w is some = absurd is
 shared-looks k hints (m ∷ ns) [] v w is some = absurd is
 shared-looks k hints (m ∷ ns) (Discarded page ∷ told) v w is some = shared-looks k hints ns told is.1 w is.3 (omega arith)
 shared-looks k hints (m ∷ ns) (Evicted page ∷ told) v w is some = shared-looks k hints ns told is.1 w is.3 (omega arith)
-shared-looks k hints (m ∷ ns) (Declined ∷ told) v w is some = record {
-  looks = is.2.looks;
-  each = is.2.each;
-  more = λ q n.
-      let whole = ap (λ (x : View). times n (reads_at q x.read)) is.2.view in
-      let both = times-reads n (page_at q) is.2.looks v.read in
-      let rest = shared-more k hints ns told is.1 w is.3 q n in
-      omega arith;
-}
+shared-looks k hints (m ∷ ns) (Declined ∷ told) v w is some = declined-looks k (taking_notice v m) is.1 w is.2 (shared-more k hints ns told is.1 w is.3)

@@ -15,6 +15,7 @@ use Rattle.bc_pins.specs.Steps.{fresh}
 use Rattle.bc_pins.specs.Totals.{times, total}
 use Rattle.bc_pins.specs.Views.{reads_as, reads_at, state_word}
 use Rattle.bc_pins.specs.declared.pins.Seat.{Seat}
+use Rattle.bc_pins.specs.declared.views.View.{View}
 use Rattle.bc_superpages.specs.declared.headers.PageState.{PageState}
 use Rattle.bc_superpages.specs.declared.headers.PageState.TheVariants.{Absent, Gone, Held, Home, Remembered}
 use Rattle.bc_superpages.specs.Layout.{Layout, superpages}
@@ -64,36 +65,39 @@ module _ (k : Key) (t : Layout) (seats : List Seat) (IsLooked : ℕ → Type 0) 
         ]
       ]
 
+-- where a seat found each page to be one that can't be taken, and what it read is among what all have read
+module _ (k : Key) (t : Layout) (seats : List Seat) (IsLooked : ℕ → Type 0) (closed : Closed k seats t) (long : length t.states ≡ superpages t)
+    (fetched : (p : ℕ) → 0 < fetches seats p → IsLooked p)
+    (homes : (p : ℕ) → p < pages_of k → 0 < total (λ (seat : Seat). reads_as p 1 (view_of seat)) seats → (0 < leaves seats p) ⊎ IsLooked p)
+    (w : View) (logged : (p n : ℕ) → times n (reads_at p w.read) ≤ total (λ (seat : Seat). reads_as p n (view_of seat)) seats) where
+  found-where : (p : ℕ) (looks : LooksFound k w) (place : PageState) → MayStay place → p < pages_of k → fetches seats p ≡ 0 → state_at t.states p ≡ Home → 0 < times (state_word place) (reads_at p looks.looks) → IsLooked p
+  found-where p looks place may near none home found =
+      let more = looks.more p (state_word place) in
+      let all = logged p (state_word place) in
+      looked-where k t seats IsLooked closed homes p place may near none home (omega arith)
+
+  pub looked-by : LooksFound k w → (p : ℕ) → state_at t.states p ≡ Home → IsLooked p
+  looked-by looks p home =
+      let supers : superpages t ≡ superpages k.opening = ap superpages closed.same in
+      elim (cases_lt p (all_pages k)) [
+        | inl inside ↦ elim (looks.each p inside) [
+          | inl near ↦ elim (cases_lt 0 (fetches seats p)) [
+            | inl some_fetched ↦ fetched p some_fetched
+            | inr none ↦ found-where p looks near.1.place near.1.among near.0 (omega arith) home near.1.read
+          ]
+          | inr far ↦ absurd (absent_home (sym ((closed.behind p far.0 inside).0 ∙ far.1) ∙ home))
+        ]
+        | inr out ↦ absurd (absent_home (sym (state-behind t p long (omega arith)) ∙ home))
+      ]
+
 -- a turn's notices, answered by its pagers
-module _ (k : Key) (t : Layout) (seats : List Seat) (hints : List ℕ) (pagers : List Paged) (told : List Answer) (IsLooked : ℕ → Type 0) (closed : Closed k seats t) (long : length t.states ≡ superpages t) (answered : AnsweredByPagers k hints pagers told)
+pub declined-beside : (k : Key) (t : Layout) (seats : List Seat) (hints : List ℕ) (pagers : List Paged) (told : List Answer) (IsLooked : ℕ → Type 0) (closed : Closed k seats t) (long : length t.states ≡ superpages t) (answered : AnsweredByPagers k hints pagers told)
     (logged : (i : ℕ) → i < length pagers → (d : Paged) → (p n : ℕ) → times n (reads_at p (get_or pagers i d).end.read) ≤ total (λ (seat : Seat). reads_as p n (view_of seat)) seats)
     (fetched : (p : ℕ) → 0 < fetches seats p → IsLooked p)
-    (homes : (p : ℕ) → p < pages_of k → 0 < total (λ (seat : Seat). reads_as p 1 (view_of seat)) seats → (0 < leaves seats p) ⊎ IsLooked p) where
-  -- one of them that declined a notice
-  module _ (i : ℕ) (lt : i < length pagers) (d : Paged) where
-    found-where : (p : ℕ) (looks : LooksFound k (get_or pagers i d).end) (place : PageState) → MayStay place → p < pages_of k → fetches seats p ≡ 0 → state_at t.states p ≡ Home → 0 < times (state_word place) (reads_at p looks.looks) → IsLooked p
-    found-where p looks place may near none home found =
-        let more = looks.more p (state_word place) in
-        let all = logged i lt d p (state_word place) in
-        looked-where k t seats IsLooked closed homes p place may near none home (omega arith)
-
-    looked-by : LooksFound k (get_or pagers i d).end → (p : ℕ) → state_at t.states p ≡ Home → IsLooked p
-    looked-by looks p home =
-        let supers : superpages t ≡ superpages k.opening = ap superpages closed.same in
-        elim (cases_lt p (all_pages k)) [
-          | inl inside ↦ elim (looks.each p inside) [
-            | inl near ↦ elim (cases_lt 0 (fetches seats p)) [
-              | inl some_fetched ↦ fetched p some_fetched
-              | inr none ↦ found-where p looks near.1.place near.1.among near.0 (omega arith) home near.1.read
-            ]
-            | inr far ↦ absurd (absent_home (sym ((closed.behind p far.0 inside).0 ∙ far.1) ∙ home))
-          ]
-          | inr out ↦ absurd (absent_home (sym (state-behind t p long (omega arith)) ∙ home))
-        ]
-
-  pub declined-beside : 0 < total says_declined told → (p : ℕ) → state_at t.states p ≡ Home → IsLooked p
-  declined-beside some p home =
-      let none : Paged = record { numbers = []; answers = []; end = fresh k [] } in
-      let one = told-declined k hints pagers told answered some none in
-      let by : Paged = get_or pagers one.0 none in
-      looked-by one.0 one.1 none (shared-looks k hints by.numbers by.answers _ by.end (answered.each one.0 one.1 none).each one.2) p home
+    (homes : (p : ℕ) → p < pages_of k → 0 < total (λ (seat : Seat). reads_as p 1 (view_of seat)) seats → (0 < leaves seats p) ⊎ IsLooked p)
+    → 0 < total says_declined told → (p : ℕ) → state_at t.states p ≡ Home → IsLooked p
+declined-beside k t seats hints pagers told IsLooked closed long answered logged fetched homes some p home =
+    let none : Paged = record { numbers = []; answers = []; end = fresh k [] } in
+    let one = told-declined k hints pagers told answered some none in
+    let by : Paged = get_or pagers one.0 none in
+    looked-by k t seats IsLooked closed long fetched homes by.end (logged one.0 one.1 none) (shared-looks k hints by.numbers by.answers _ by.end (answered.each one.0 one.1 none).each one.2) p home

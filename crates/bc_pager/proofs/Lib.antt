@@ -24,3 +24,5 @@ pub mod ToldLemmas
 pub mod SeatedLemmas
 -- Pages that are Home once a table is closed
 pub mod HomeLemmas
+-- The answers of a live pager
+pub mod FeedingLemmas

@@ -1,8 +1,8 @@
 -- Notices of a list, which are numbered from 0.
 use Prim.Native.Nat.{zero, suc}
-use Rattle.std.proofs.Common.{◌≡◌, ℕ, ◌+◌, ◌<◌, List, [], ◌∷◌, ◌++◌, length, take, get_or, refl, ap, sym, ◌∙◌, arith}
-use Rattle.std.proofs.lemmas.List.{get_or_default, take_more}
-use Rattle.bc_pager.specs.Serving.{numbered}
+use Rattle.std.proofs.Common.{◌≡◌, ℕ, ◌+◌, ◌<◌, ◌≤◌, List, [], ◌∷◌, ◌++◌, length, take, get_or, refl, ap, sym, ◌∙◌, arith}
+use Rattle.std.proofs.lemmas.List.{get_or_default, length-take, take_more}
+use Rattle.bc_pager.specs.Serving.{HintList, given_of, numbered}
 use Rattle.bc_pager.specs.declared.notices.Notice.{Notice}
 
 numbered-long : (from : ℕ) (hints : List ℕ) → length (numbered from hints) ≡ length hints
@@ -27,3 +27,7 @@ numbered-more hints n hint lt is =
   where
     zero-plus : 0 + n ≡ n
     zero-plus = omega arith
+
+-- no more were given than there are
+pub given-few : (n : HintList) → length (given_of n) ≤ length n.hints
+given-few n = let long = numbered-long 0 n.hints in let first = length-take n.given (numbered 0 n.hints) in omega arith

@@ -43,11 +43,11 @@ since-answered k (first ∷ hints) (other ∷ answers) [] v w none = absurd none
 since-answered k (first ∷ hints) (other ∷ answers) (given ∷ views) v w m = (given, m.1, m.0, m.2, since-answered k hints answers views m.1 w m.3)
 
 -- what is known, with nothing after it, and with some and then more
-told-none : {A : Type 0} (told : Option (List A)) → told ≡ told_with told []
+pub told-none : {A : Type 0} (told : Option (List A)) → told ≡ told_with told []
 told-none None = refl
 told-none (Some before) = ap (λ l. Some l) (sym (append-nil before))
 
-told-more : {A : Type 0} (told : Option (List A)) (some more : List A) → told_with (told_with told some) more ≡ told_with told (some ++ more)
+pub told-more : {A : Type 0} (told : Option (List A)) (some more : List A) → told_with (told_with told some) more ≡ told_with told (some ++ more)
 told-more None some more = refl
 told-more (Some before) some more = ap (λ l. Some l) (append_assoc before some more)
 

@@ -33,7 +33,7 @@ same-records : (v w : View) → w ≡ v → KeepsRecords v w
 same-records v w is = record { changed = ap (λ (x : View). x.changed) is; recorded = ap (λ (x : View). x.recorded) is; fetched = ap (λ (x : View). x.fetched) is; returned = ap (λ (x : View). x.returned) is }
 
 -- an answer
-answer-keeps : (k : Key) (v : View) (hint : ℕ) (answer : Answer) (w : View) → IsAnswer k v hint answer w → KeepsRecords v w
+pub answer-keeps : (k : Key) (v : View) (hint : ℕ) (answer : Answer) (w : View) → IsAnswer k v hint answer w → KeepsRecords v w
 answer-keeps k v hint (Discarded page) w is =
     record { changed = ap (λ (x : View). x.changed) is.view; recorded = ap (λ (x : View). x.recorded) is.view; fetched = ap (λ (x : View). x.fetched) is.view; returned = ap (λ (x : View). x.returned) is.view }
 answer-keeps k v hint (Evicted page) w is =
@@ -55,7 +55,7 @@ shared-keep k hints (n ∷ ns) (answer ∷ told) v w is =
     record { changed = rest.changed ∙ one.changed; recorded = rest.recorded ∙ one.recorded; fetched = rest.fetched ∙ one.fetched; returned = rest.returned ∙ one.returned }
 
 -- an answer names no page past the table
-names-none : (k : Key) (v : View) (hint : ℕ) (answer : Answer) (w : View) → IsAnswer k v hint answer w → (p : ℕ) → pages_of k ≤ p → (says_evicted p answer ≡ 0) × (says_discarded p answer ≡ 0)
+pub names-none : (k : Key) (v : View) (hint : ℕ) (answer : Answer) (w : View) → IsAnswer k v hint answer w → (p : ℕ) → pages_of k ≤ p → (says_evicted p answer ≡ 0) × (says_discarded p answer ≡ 0)
 names-none k v hint (Discarded page) w is p far = (refl, one_other page p (λ e. let near = is.inside in absurd (omega arith)))
 names-none k v hint (Evicted page) w is p far = (one_other page p (λ e. let near = is.inside in absurd (omega arith)), refl)
 names-none k v hint Declined w is p far = (refl, refl)

@@ -12,3 +12,5 @@ pub mod Leaving
 pub mod Paging
 -- The answers of a turn's pagers, in the order of their notices
 pub mod Placing
+-- Notices that come from outside while a turn is under way
+pub mod Feeding

@@ -1,5 +1,7 @@
 //! Answers to notices, and where they are kept.
 
+ghost use Rattle.std.specs.Prelude.{◌≡◌, ◌+◌, ◌≤◌, ◌++◌, length, vec_capacity};
+
 use std::alloc::{AllocError, Global};
 use std::marker::Model;
 
@@ -78,5 +80,16 @@ impl Answers {
     {
         self.list.push_reserved(answer);
         self.numbers.push_reserved(number);
+    }
+}
+
+/// Puts these answers after those that there are. It takes no memory.
+pub fn keep_answers(answers: &mut Vec<Answer>, more: &[Answer])
+    requires room { length answers.old.items + length more.now ≤ vec_capacity answers.old }
+    ensures kept { answers.new.items ≡ answers.old.items ++ more.now }
+    ensures capacity { vec_capacity answers.new ≡ vec_capacity answers.old }
+{
+    for answer in more {
+        answers.push_reserved(*answer);
     }
 }

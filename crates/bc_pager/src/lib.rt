@@ -25,23 +25,30 @@
 // claimed. When the table is closed, each number below their count was claimed once; so each notice was answered by one pager, and none
 // twice, and each answer stands in the turn's list at the number of its notice (`AnsweredByPagers`). That is `law_answered_by_pagers`.
 //
+// Notices may also come from outside while a turn is under way, out of a source that may have more at any time. Such a turn has one pager
+// more, the live one (`serve_live`). It answers at most 64 of them (`LIVE_ROOM`), each from where it was given, and claims none at the
+// table (`HasServedLive`). A source says whether one more may come, and how many it gives at most (`may_come`). The live pager ends where
+// its source has none or its room is used up (`ServedOut`), and its answers stand in a list of their own, in the order in which it took
+// the notices.
+//
 // How the pieces work together: `serving` takes notices and keeps answers; `bc_evict::take_first` goes round the pages and takes the
 // first of a kind that can be taken; `leaving` gives it up, with its frame. `notices` has the trait by which notices come, a list of
 // them for one pager, and a list that pagers share; `answers` what is kept, each answer with its notice's number. `paging` has the pagers
 // of a turn: their roles, seats and rooms for answers, and how they run, on one thread or on threads of their own. `placing` ends them:
-// their seats go back to the others, and their answers are laid by number. Pages after the table are Absent for the whole turn, and none
-// of them is tried.
+// their seats go back to the others, and their answers are laid by number. `feeding` has the live pager: its room, how it runs and how it
+// ends. Pages after the table are Absent for the whole turn, and none of them is tried.
 //
 // Where nobody works beside, notices are answered on the space itself (`answer_all`): each by the first page that can be discarded,
 // going round from the hint, else by the first that can be evicted, else it is declined, and nothing changes (`AnsweredAlone`).
 //
-// A notice costs two looks at each page's header at most, and a try at each page of the kind; one page is given up for it. Each pager has
-// room for answers to all notices of the turn, since it may come to claim them all. Nothing but `ListNotices::new`, `Answers::new` and
-// `pager_rooms` takes memory.
+// A notice costs two looks at each page's header at most, and a try at each page of the kind; one page is given up for it. Each pager that
+// shares notices has room for answers to all of them, since it may come to claim them all. Nothing but `ListNotices::new`, `Answers::new`,
+// `pager_rooms` and `turn_rooms` takes memory.
 #![tactic(auto)]
 
 mod alone;
 mod answers;
+mod feeding;
 mod leaving;
 mod notices;
 mod paging;
@@ -49,7 +56,8 @@ mod placing;
 mod serving;
 
 pub use alone::{answer_all, answer_one};
-pub use answers::{Answer, Answers};
+pub use answers::{Answer, Answers, keep_answers};
+pub use feeding::{LIVE_ROOM, end_live, serve_live, turn_rooms};
 pub use notices::{ListNotices, Notice, Notices, SharedNotices};
 pub use paging::{
     Paging, pager_rooms, pagers_for, push_pagers, seat_pagers, serve_each, serve_shared,

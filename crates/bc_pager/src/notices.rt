@@ -1,6 +1,6 @@
 //! Notices that frames are wanted, and where they come from.
 
-ghost use Rattle.std.specs.Prelude.{◌≡◌, ℕ, List, [], ◌∷◌, ◌++◌, ◌↔◌, length, Option, Some, IfOk, IfSome, IfNone, IsNone, take};
+ghost use Rattle.std.specs.Prelude.{◌≡◌, ℕ, ◌≤◌, Bool, true, false, List, [], ◌∷◌, ◌++◌, ◌↔◌, length, nat_lt, Option, Some, IfOk, IfSome, IfNone, IsNone, take};
 ghost use Rattle.bc_frames.specs.Places.{one_more};
 ghost use Rattle.bc_pins.specs.declared.views.View.{View};
 ghost use Rattle.bc_pins.specs.Calls.{slots_of, view_of, IsSameSeat};
@@ -39,6 +39,12 @@ pub trait Notices {
     // The table at which notices are claimed, and the hints out of which they are, where several pagers share them. They never change.
     ghost shared: { Self → Option Sharing };
 
+    // Whether one more may come.
+    ghost coming: { Self → Bool };
+
+    // How many are given at most. It never changes.
+    ghost most: { Self → ℕ };
+
     /// The next notice, or none. It makes no step with the seat but the claim of a notice, where notices are shared.
     fn next(&mut self, seat: &mut Seat) -> Option<Notice>
         requires seat { IsSeatOf (shared self.old) seat.old }
@@ -47,8 +53,15 @@ pub trait Notices {
         ensures claim { ClaimsNotice (shared self.old) result (view_of seat.old) (view_of seat.new) }
         ensures told { told self.new ≡ told self.old }
         ensures shared { shared self.new ≡ shared self.old }
+        ensures last { coming self.old ≡ false → IsNone result }
+        ensures most { most self.new ≡ most self.old }
         ensures same { IsSameSeat seat.old seat.new }
         ensures slots { slots_of seat.new ≡ slots_of seat.old };
+
+    /// Whether one more may come. Where it says no, none comes.
+    fn may_come(&self) -> bool
+        ensures coming { result ≡ coming self.now }
+        ensures few { IfSome (taken self.now) (λ notices. length notices ≤ most self.now) };
 }
 
 /// Notices of a list of hints, each once and in order.
@@ -116,12 +129,18 @@ impl Notices for ListNotices {
 
     ghost shared = { λ n. unshared };
 
+    ghost coming = { λ n. nat_lt n.given (length n.hints) };
+
+    ghost most = { λ n. length n.hints };
+
     fn next(&mut self, _seat: &mut Seat) -> Option<Notice>
         ensures some { IfSome result (λ notice. (Some (given_of self.new) ≡ told_with (Some (given_of self.old)) (notice ∷ [])) × (self.new.ends ≡ self.old.ends) × (untold ≡ told_with untold (view_of _seat.new ∷ []))) }
         ensures none { IfNone result ((Some (given_of self.new) ≡ Some (given_of self.old)) × (self.new.ends ≡ one_more self.old.ends) × (untold ≡ untold)) }
         ensures claim { ClaimsNotice unshared result (view_of _seat.old) (view_of _seat.new) }
         ensures told { Some self.new.hints ≡ Some self.old.hints }
         ensures shared { unshared ≡ unshared }
+        ensures last { nat_lt self.old.given (length self.old.hints) ≡ false → IsNone result }
+        ensures most { length self.new.hints ≡ length self.old.hints }
         ensures same { IsSameSeat _seat.old _seat.new }
         ensures slots { slots_of _seat.new ≡ slots_of _seat.old }
 
@@ -137,6 +156,10 @@ impl Notices for ListNotices {
         let hint = self.hints[number];
         self.given += 1;
         Some(Notice { hint, number })
+    }
+
+    fn may_come(&self) -> bool {
+        self.given < self.hints.len()
     }
 }
 
@@ -184,6 +207,11 @@ impl<'a> Notices for SharedNotices<'a> {
 
     ghost shared = { λ n. shared_by n.sharing };
 
+    // The others' claims decide it.
+    ghost coming = { λ n. true };
+
+    ghost most = { λ n. length n.sharing.hints };
+
     fn next(&mut self, seat: &mut Seat) -> Option<Notice> {
         let number = self.pins.claim_notice(seat);
         if number >= self.hints.len() as u64 {
@@ -193,5 +221,9 @@ impl<'a> Notices for SharedNotices<'a> {
         let number = number as usize;
         let hint = self.hints[number];
         Some(Notice { hint, number })
+    }
+
+    fn may_come(&self) -> bool {
+        true
     }
 }

@@ -24,3 +24,5 @@ pub mod CutRoom
 pub mod Finishing
 -- A heap that is handed back hasn't run out of memory.
 pub mod Alive
+-- What the phases of a run took of notices that come from outside, and their answers.
+pub mod Feeds

@@ -12,6 +12,8 @@ pub mod Accounts
 pub mod Endings
 -- A replay between its phases
 pub mod BetweenPhases
+-- A run whose notices come from outside
+pub mod Feeding
 -- What each status says of the source, from its left bytes before and after, and of the sink, from its held bytes before and after.
 pub mod Outcomes
 -- With which statuses the parts of a run end

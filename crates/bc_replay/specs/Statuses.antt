@@ -55,14 +55,18 @@ fault_of most NoMemory = Some faults.NoMemory
 fault_of most (BadImage at cause) = Some (faults.BadImage at)
 fault_of most Mismatch = Some faults.Mismatch
 
--- the line of a status on standard error, without its line feed
+-- the line of a status on standard error, after the program's name and without its line feed
+abbrev pub message_text : Fault → List ℕ
+message_text faults.BadWords = codes ": bad command line"
+message_text (faults.BadTrace line cause) = codes ": line " ++ decimal line ++ codes ": " ++ cause_text cause
+message_text (faults.TooLong most) = codes ": input longer than " ++ decimal most ++ codes " bytes"
+message_text faults.ReadFault = codes ": read failed"
+message_text faults.WriteFault = codes ": write failed"
+message_text (faults.OutOfHeap need) = codes ": out of heap, " ++ decimal need ++ codes " superpages needed"
+message_text faults.NoMemory = codes ": out of memory"
+message_text (faults.BadImage at) = codes ": bad image at " ++ decimal at
+message_text faults.Mismatch = codes ": image and trace differ"
+
+-- the line of `bc`
 abbrev pub fault_text : Fault → List ℕ
-fault_text faults.BadWords = codes "bc: bad command line"
-fault_text (faults.BadTrace line cause) = codes "bc: line " ++ decimal line ++ codes ": " ++ cause_text cause
-fault_text (faults.TooLong most) = codes "bc: input longer than " ++ decimal most ++ codes " bytes"
-fault_text faults.ReadFault = codes "bc: read failed"
-fault_text faults.WriteFault = codes "bc: write failed"
-fault_text (faults.OutOfHeap need) = codes "bc: out of heap, " ++ decimal need ++ codes " superpages needed"
-fault_text faults.NoMemory = codes "bc: out of memory"
-fault_text (faults.BadImage at) = codes "bc: bad image at " ++ decimal at
-fault_text faults.Mismatch = codes "bc: image and trace differ"
+fault_text fault = codes "bc" ++ message_text fault

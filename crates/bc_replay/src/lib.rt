@@ -5,7 +5,10 @@
 // nothing, for commands that count its replies or drop them. `Status` is how a run ends, with its exit status and its line on standard
 // error, and `Outcome` a status with the heap as it stands then.
 //
-//     read_trace -> run_trace -> replay_on:  for each phase, texts_room -> run_phase -> put_texts -> write_texts
+//     read_trace -> run_trace_with -> replay_with:  for each phase, texts_room -> run_phase_with -> put_texts -> write_texts
+//
+// Notices may come from outside while a trace is run (`Notices` of bc_pager): `run_trace_with`, `replay_with` and `run_phase_with` take such a
+// source, and a list to which the answers are added phase by phase. `run_trace`, `replay_on` and `run_phase` are these with no notices.
 //
 // A course is phases that are run from a state, and how many stand before them: a whole run is the course of all phases from the opening
 // state, and a run that goes on with an image is one from a state that the image pictures. `run_phase` says what one phase does to a course,
@@ -18,10 +21,11 @@
 // need of what is reached there. They are written, and the run ends. The heap goes back to the caller, who may look at what it stands
 // for.
 //
-// The theorem of a replay is the contract of `run_trace`, and of `replay_on` for every state that the heap may stand for: what is written
-// is exactly the text of the plain heap's replies, all of it or a prefix with its cause. `top` of bc_cli rests on it. The definitions are
-// in `specs/`: `Courses` has what a replay runs, `Output` the texts, `Endings` how a replay ends and what its heap stands for then,
-// `Outcomes` what each status says.
+// The theorem of a replay is the contract of `run_trace_with`, and of `replay_with` for every state that the heap may stand for: what is written
+// is exactly the text of the plain heap's replies, all of it or a prefix with its cause. `top` of bc_cli rests on it, and `live` of bc_live. What the
+// phases took of a source, and that each notice has one answer, in order, is its clause `fed`. The definitions are in `specs/`: `Courses` has what
+// a replay runs, `Output` the texts, `Endings` how a replay ends and what its heap stands for then, `Outcomes` what each status says, `Feeding`
+// what was taken of a source.
 #![tactic(auto)]
 
 mod input;
@@ -33,6 +37,6 @@ mod texts;
 
 pub use input::{LONGEST_TRACE, read_trace};
 pub use outcome::Outcome;
-pub use phases::{PhaseEnd, run_phase};
-pub use run::{replay_on, run_trace};
-pub use status::{Fault, Status};
+pub use phases::{PhaseEnd, run_phase, run_phase_with};
+pub use run::{replay_on, replay_with, run_trace, run_trace_with};
+pub use status::{Fault, NamedFault, Status};

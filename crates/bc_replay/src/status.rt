@@ -135,16 +135,41 @@ impl fmt::Display for Fault {
     ghost output = { λ fault. Some (fault_text fault) };
 
     fn fmt<W: fmt::Write>(&self, f: &mut fmt::Formatter<W>) -> fmt::Result {
-        match *self {
-            Fault::BadWords => write!(f, "bc: bad command line"),
-            Fault::BadTrace { line, cause } => write!(f, "bc: line {line}: {cause}"),
-            Fault::TooLong { most } => write!(f, "bc: input longer than {most} bytes"),
-            Fault::ReadFault => write!(f, "bc: read failed"),
-            Fault::WriteFault => write!(f, "bc: write failed"),
-            Fault::OutOfHeap { need } => write!(f, "bc: out of heap, {need} superpages needed"),
-            Fault::NoMemory => write!(f, "bc: out of memory"),
-            Fault::BadImage { at } => write!(f, "bc: bad image at {at}"),
-            Fault::Mismatch => write!(f, "bc: image and trace differ"),
+        let named = NamedFault {
+            program: "bc",
+            fault: *self,
+        };
+        write!(f, "{named}")
+    }
+}
+
+/// The line on standard error of a program of this name.
+#[derive(Clone, Copy, Debug)]
+pub struct NamedFault<'a> {
+    pub program: &'a str,
+    pub fault: Fault,
+}
+
+impl<'a> fmt::Display for NamedFault<'a> {
+    ghost use Rattle.std.specs.Prelude.{Some, ◌++◌};
+    ghost use Rattle.bc_replay.specs.Statuses.{message_text};
+
+    ghost output = { λ named. Some (named.program.now ++ message_text named.fault) };
+
+    fn fmt<W: fmt::Write>(&self, f: &mut fmt::Formatter<W>) -> fmt::Result {
+        let program = self.program;
+        match self.fault {
+            Fault::BadWords => write!(f, "{program}: bad command line"),
+            Fault::BadTrace { line, cause } => write!(f, "{program}: line {line}: {cause}"),
+            Fault::TooLong { most } => write!(f, "{program}: input longer than {most} bytes"),
+            Fault::ReadFault => write!(f, "{program}: read failed"),
+            Fault::WriteFault => write!(f, "{program}: write failed"),
+            Fault::OutOfHeap { need } => {
+                write!(f, "{program}: out of heap, {need} superpages needed")
+            }
+            Fault::NoMemory => write!(f, "{program}: out of memory"),
+            Fault::BadImage { at } => write!(f, "{program}: bad image at {at}"),
+            Fault::Mismatch => write!(f, "{program}: image and trace differ"),
         }
     }
 }

@@ -14,7 +14,8 @@
 // to leave. Where none can it stops, and is done after the nurseries were emptied: then no page is Remembered, and each can leave. What is
 // answered `frozen` or `foreign` looks at no page: the holders of the slots and of the object's superpage tell it.
 // Which pages move is stated exactly (`BringsHome`), and so is when it stops (`LooksAtGone`).
-// In a turn (`take_turn`) the lanes run side by side, also in frozen domains, and pagers answer notices beside them (`bc_turn`). Where
+// In a turn (`take_turn`) the lanes run side by side, also in frozen domains, and pagers answer notices beside them (`bc_turn`), those that
+// come meanwhile too. Where
 // there is no table, notices are answered on the heap itself (`answer`), and after a turn the space is settled (`settle`).
 // Between turns frames can be withheld from pages, and returned (`withhold`): pages are given up for those that are wanting.
 //

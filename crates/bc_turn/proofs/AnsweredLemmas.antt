@@ -5,6 +5,7 @@ use Rattle.bc_bits.specs.Counting.{one_if}
 use Rattle.bc_pager.specs.Answering.{says_declined, says_discarded, says_evicted}
 use Rattle.bc_pager.specs.Placing.{AnsweredByPagers, Paged}
 use Rattle.bc_pager.specs.declared.answers.Answer.{Answer}
+use Rattle.bc_pager.specs.declared.notices.Notice.{Notice}
 use Rattle.bc_pins.specs.Calls.{view_of}
 use Rattle.bc_pins.specs.Closing.{Closed, fetches_of}
 use Rattle.bc_pins.specs.Facts.{has_bit_of, puts_with}
@@ -22,7 +23,9 @@ use Rattle.bc_turn.proofs.NewBitLemmas.{bits-none, new-bits}
 use Rattle.bc_pins.proofs.TallyLemmas.{ge-nat_lt}
 use Rattle.bc_pager.proofs.HomeLemmas.{state-behind}
 use Rattle.bc_pager.proofs.ToldLemmas.{told-none}
+use Rattle.bc_pins.proofs.TotalLemmas.{total_append}
 use Rattle.bc_turn.specs.Answered.{AnsweredBeside, is_in}
+use Rattle.bc_turn.proofs.LiveLemmas.{AnsweredLive, live-absent, live-far}
 
 -- a state by its word
 pub is-gone : (st : PageState) → 0 < one_if (state_word st == 4) → st ≡ Gone
@@ -90,11 +93,22 @@ module _ (k : Key) (s t : Layout) (seats : List Seat) (opening : k.opening ≡ s
     ]
 
 -- the notices were answered beside the lanes
-pub answered : (IsLooked : ℕ → Type 0) (Had : ℕ → List ℕ → Type 0) (k : Key) (s t : Layout) (seats : List Seat) (hints : List ℕ) (kept after : List Answer) (pagers : List Paged) (told : List Answer) (fetched left emptied : List ℕ) → k.opening ≡ s → Closed k seats t → IsLayout s → IsLayout t
-    → AreMoved k seats told fetched left emptied → after ≡ kept ++ told → AnsweredByPagers k hints pagers told
-    → ((p : ℕ) → 0 < times p fetched → IsLooked p) → (0 < total says_declined told → (p : ℕ) → state_at t.states p ≡ Home → IsLooked p) → ((p w b : ℕ) → 0 < total (λ (seat : Seat). puts_with k p w b (view_of seat).changed) seats → (content : List ℕ) × Had p content × (has_bit_of k p content w b ≡ true)) → AnsweredBeside IsLooked Had s hints kept after t
-answered IsLooked Had k s t seats hints kept after pagers told fetched left emptied opening closed before layout moved is shared own declined put =
-    let none = told-none k hints pagers told shared in
+pub answered : (IsLooked : ℕ → Type 0) (Had : ℕ → List ℕ → Type 0) (k : Key) (s t : Layout) (seats : List Seat) (hints : List ℕ) (kept after : List Answer) (pagers : List Paged) (told : List Answer) (lived : List Answer) (fed : List Notice) (live : List Answer) (live_told : List Answer) (fetched left emptied : List ℕ)
+    → k.opening ≡ s → Closed k seats t → IsLayout s → IsLayout t
+    → AreMoved k seats (told ++ live_told) fetched left emptied → after ≡ kept ++ told → AnsweredByPagers k hints pagers told → live ≡ lived ++ live_told → AnsweredLive k (length pagers) fed live_told
+    → ((p : ℕ) → 0 < times p fetched → IsLooked p) → (0 < total says_declined (told ++ live_told) → (p : ℕ) → state_at t.states p ≡ Home → IsLooked p) → ((p w b : ℕ) → 0 < total (λ (seat : Seat). puts_with k p w b (view_of seat).changed) seats → (content : List ℕ) × Had p content × (has_bit_of k p content w b ≡ true)) → AnsweredBeside IsLooked Had s hints kept after t lived fed live
+answered IsLooked Had k s t seats hints kept after pagers told lived fed live live_told fetched left emptied opening closed before layout moved is shared live_is lives own declined put =
+    let none : (p : ℕ) → pages_of k ≤ p → (total (says_evicted p) (told ++ live_told) ≡ 0) × (total (says_discarded p) (told ++ live_told) ≡ 0) =
+    λ p far.
+    let others = told-none k hints pagers told shared p far in
+    let last = live-far k (length pagers) fed live_told lives p far in
+    let gone = total_append (says_evicted p) told live_told in
+    let absent = total_append (says_discarded p) told live_told in
+    let a = others.0 in
+    let b = others.1 in
+    let c = last.0 in
+    let d = last.1 in (omega arith, omega arith)
+    in
     record {
       key = k;
       opening = opening;
@@ -102,15 +116,21 @@ answered IsLooked Had k s t seats hints kept after pagers told fetched left empt
       told = told;
       kept = is;
       shared = shared;
+      live_told = live_told;
+      live_end = lives.end;
+      live_kept = live_is;
+      live_each = lives.each;
+      live_unclaimed = lives.unclaimed;
+      live_few = lives.few;
       fetched = fetched;
       left = left;
       emptied = emptied;
       few = moved.few;
       own = own;
-      gone = gone-count k s t seats opening closed before layout told fetched left emptied moved none;
-      absent = absent-count k s t seats opening closed before layout told fetched left emptied moved none;
+      gone = gone-count k s t seats opening closed before layout (told ++ live_told) fetched left emptied moved none;
+      absent = absent-count k s t seats opening closed before layout (told ++ live_told) fetched left emptied moved none;
       declined = declined;
-      bookmarks = new-bits k s t seats told left fetched opening closed before layout moved.fetched_are moved.left_are Had put;
+      bookmarks = new-bits k s t seats (told ++ live_told) left fetched opening closed before layout moved.fetched_are moved.left_are Had put;
       reads = (
           let all = closed.reads in
           let same = ap (λ (x : Layout). x.reads) opening in
@@ -128,36 +148,52 @@ no-hints : (hints : List ℕ) → length hints ≡ 0 → hints ≡ []
 no-hints [] none = refl
 no-hints (h ∷ hints) none = absurd (omega arith)
 
--- where there are no notices, none is answered
-pub answered-none : (IsLooked : ℕ → Type 0) (Had : ℕ → List ℕ → Type 0) (s : Layout) (hints : List ℕ) (kept : List Answer) → s.reads < 2 ^ 64 → length hints ≡ 0 → AnsweredBeside IsLooked Had s hints kept kept s
-answered-none IsLooked Had s hints kept small none = record {
-  key = record no_key { opening = s };
-  opening = refl;
-  pagers = [];
-  told = [];
-  kept = append-nil kept;
-  shared = subst (λ (hs : List ℕ). AnsweredByPagers (record no_key { opening = s }) hs [] []) (sym (no-hints hints none)) (record { few = refl; each = λ i lt. absurd (omega arith); once = λ n. sym (ap one_if (ge-nat_lt n 0 (omega arith))); long = refl; placed = tt });
-  fetched = [];
-  left = [];
-  emptied = [];
-  few = omega arith;
-  own = λ p some. absurd (omega arith);
-  gone = λ p. omega arith;
-  absent = λ p. omega arith;
-  declined = λ some. absurd (omega arith);
-  bookmarks = bits-none Had s;
-  reads = (let goal_is : s.reads ≡ min (s.reads + 0) (2 ^ 64 - 1) = omega arith in goal_is);
-}
+-- where there are no notices and no more may come, none is answered
+pub answered-none : (IsLooked : ℕ → Type 0) (Had : ℕ → List ℕ → Type 0) (s : Layout) (hints : List ℕ) (kept lived : List Answer) → s.reads < 2 ^ 64 → length hints ≡ 0 → AnsweredBeside IsLooked Had s hints kept kept s lived [] lived
+answered-none IsLooked Had s hints kept lived small none =
+    let k : Key = record no_key { opening = s } in
+    let lives = live-absent k 0 in
+    record {
+      key = k;
+      opening = refl;
+      pagers = [];
+      told = [];
+      kept = append-nil kept;
+      shared = subst (λ (hs : List ℕ). AnsweredByPagers k hs [] []) (sym (no-hints hints none)) (record { few = refl; each = λ i lt. absurd (omega arith); once = λ n. sym (ap one_if (ge-nat_lt n 0 (omega arith))); long = refl; placed = tt });
+      live_told = [];
+      live_end = lives.end;
+      live_kept = append-nil lived;
+      live_each = lives.each;
+      live_unclaimed = lives.unclaimed;
+      live_few = lives.few;
+      fetched = [];
+      left = [];
+      emptied = [];
+      few = omega arith;
+      own = λ p some. absurd (omega arith);
+      gone = λ p. omega arith;
+      absent = λ p. omega arith;
+      declined = λ some. absurd (omega arith);
+      bookmarks = bits-none Had s;
+      reads = (let goal_is : s.reads ≡ min (s.reads + 0) (2 ^ 64 - 1) = omega arith in goal_is);
+    }
 
 -- where no page is looked at and none had another content, it is so whatever is said of those that are and had
-pub answered-lanes : (IsLooked : ℕ → Type 0) (Had : ℕ → List ℕ → Type 0) (s : Layout) (hints : List ℕ) (kept after : List Answer) (t : Layout) → AnsweredBeside (λ p. ⊥) (λ p content. ⊥) s hints kept after t → AnsweredBeside IsLooked Had s hints kept after t
-answered-lanes IsLooked Had s hints kept after t is = record {
+pub answered-lanes : (IsLooked : ℕ → Type 0) (Had : ℕ → List ℕ → Type 0) (s : Layout) (hints : List ℕ) (kept after : List Answer) (t : Layout) (lived : List Answer) (fed : List Notice) (live : List Answer)
+    → AnsweredBeside (λ p. ⊥) (λ p content. ⊥) s hints kept after t lived fed live → AnsweredBeside IsLooked Had s hints kept after t lived fed live
+answered-lanes IsLooked Had s hints kept after t lived fed live is = record {
   key = is.key;
   opening = is.opening;
   pagers = is.pagers;
   told = is.told;
   kept = is.kept;
   shared = is.shared;
+  live_told = is.live_told;
+  live_end = is.live_end;
+  live_kept = is.live_kept;
+  live_each = is.live_each;
+  live_unclaimed = is.live_unclaimed;
+  live_few = is.live_few;
   fetched = is.fetched;
   left = is.left;
   emptied = is.emptied;

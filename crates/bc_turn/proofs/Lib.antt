@@ -22,6 +22,10 @@ pub mod BesideLemmas
 pub mod SumLemmas
 -- The numbers of pagers
 pub mod PagersLemmas
+-- Pagers may go to another thread
+pub mod SendLemmas
+-- The live pager of a turn
+pub mod LiveLemmas
 -- The seats of an opened turn
 pub mod SeatedLemmas
 -- A lane at the beginning of a turn, and all seats when they are back

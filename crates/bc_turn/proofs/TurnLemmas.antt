@@ -1,6 +1,7 @@
 -- A turn put together: what its steps say makes the lanes' begin, their runs, and what they lay back.
-use Rattle.std.proofs.Common.{◌≡◌, ℕ, ◌+◌, ◌-◌, ◌*◌, ◌<◌, ◌≤◌, ◌==◌, true, false, List, ◌++◌, length, length-append, map, get_or, None, Vec, vec_capacity, inl, inr, refl, ap, sym, subst, ◌∙◌, arith}
+use Rattle.std.proofs.Common.{◌≡◌, ℕ, ◌+◌, ◌-◌, ◌*◌, ◌<◌, ◌≤◌, ◌==◌, Bool, true, false, List, ◌++◌, length, length-append, map, get_or, Option, None, Vec, vec_capacity, inl, inr, refl, ap, sym, subst, ◌∙◌, arith}
 use Prim.Native.Nat.{zero, suc}
+use Rattle.std.specs.Prelude.{IfSome, option_to_list}
 use Rattle.std.specs.declared.alloc.Global.{Global}
 use Rattle.std.specs.List.{AllByRecursion}
 use Rattle.std.proofs.lemmas.Bool.{cases_lt, eq-eqb, eqb-true}
@@ -17,13 +18,17 @@ use Rattle.bc_model.specs.declared.operations.Reply.{Reply}
 use Rattle.bc_model.specs.declared.values.Holder.{Holder}
 use Rattle.bc_model.specs.declared.values.Holder.TheVariants as holder
 use Rattle.bc_mutator.specs.Operations.{IsOpOf}
+use Rattle.bc_pager.specs.Feeding.{IsLivePagerReady, ServesLive, answers_of_live}
+use Rattle.bc_pager.specs.Serving.{told_with}
 use Rattle.bc_pager.specs.declared.answers.Answer.{Answer}
+use Rattle.bc_pager.specs.declared.notices.Notice.{Notice}
 use Rattle.bc_pins.specs.Calls.{key_of, view_of}
 use Rattle.bc_pins.specs.Closing.{AreBack, Closed}
 use Rattle.bc_pins.specs.Seating.{IsDealt}
 use Rattle.bc_pins.specs.declared.key.Role.TheVariants.{Lane}
 use Rattle.bc_pins.specs.declared.pins.Pins.{Pins}
 use Rattle.bc_pins.specs.declared.pins.Seat.{Seat}
+use Rattle.bc_pins.specs.declared.views.View.{View}
 use Rattle.bc_reach.specs.Distinct.{Has}
 use Rattle.bc_reach.proofs.Pushed.{Has-get_or, place_of}
 use Rattle.bc_superpages.specs.Kept.{IsLayout}
@@ -46,13 +51,13 @@ use Rattle.bc_turn.proofs.AnsweredLemmas.{AreMoved, answered}
 use Rattle.bc_turn.proofs.BegunLemmas.{all-claims, all-fetched, all-homes, all-put, are-back, are-moved, are-recorded, begun-lane, may-operate, ops-each, own-fetched, own-returned}
 use Rattle.bc_turn.proofs.BesideLemmas.{ran-beside, turn-table}
 use Rattle.bc_turn.proofs.LayingLemmas.{laid-space}
-use Rattle.bc_pager.proofs.SeatedLemmas.{ArePagersBack, ArePagersTold, first-of, pagers-back, pagers-logged, pagers-told, seats-long}
-use Rattle.bc_turn.proofs.SeatedLemmas.{lane-dealt, pagers-dealt, pagers-ready}
+use Rattle.bc_pager.proofs.SeatedLemmas.{ArePagersBack, ArePagersTold, first-of, pagers-back, pagers-told, seats-long}
+use Rattle.bc_turn.proofs.LiveLemmas.{IsLiveDealt, back-with, claims-with-live, dealt-later, declined-with-live, live-answered, live-long, told-with-live}
+use Rattle.bc_turn.proofs.SeatedLemmas.{lane-dealt, live-dealt, live-ready, pagers-dealt, pagers-ready}
 use Rattle.bc_turn.proofs.SumLemmas.{gathered}
 use Rattle.bc_turn.proofs.RoomLemmas.{beside-longer, busy-among, busy-later, same-numbers}
 use Rattle.bc_turn.proofs.TableLemmas.{IsTurnTable}
 use Rattle.bc_whole_heap.specs.Heaps.{HeapView, end_of}
-use Rattle.bc_pager.proofs.HomeLemmas.{declined-beside}
 
 -- there are words for all slots of the lane's domains
 pub words-enough : (hs : List Holder) (part : LanePart) (r : RootWords) → SlotsOf part r → part.holders.items ≡ hs → AreHeldDomains hs part.lane part.domains.items → AreStarts part.domains.items part.slots (length hs) part.starts.items
@@ -90,7 +95,7 @@ room-returned hs slots lanes h serials before k nexts after busy room spares lan
     )
 
 -- a turn under way
-module _ (hs : List Holder) (lanes : List (List Op)) (h : HeapView) (serials : List ℕ) (before : List (Vec Reply Global)) (hints : List ℕ) (turn : OpenTurn) (k : HeapView) (after : List (Vec Reply Global)) (set : IsTurnUnderWay hs lanes h serials before (length hints) turn k after) where
+module _ (hs : List Holder) (lanes : List (List Op)) (h : HeapView) (serials : List ℕ) (before : List (Vec Reply Global)) (hints : List ℕ) (turn : OpenTurn) (k : HeapView) (after : List (Vec Reply Global)) (coming : Bool) (set : IsTurnUnderWay hs lanes h serials before (length hints) turn k after coming) where
   abbrev pins : Pins
   pins = turn.pins
 
@@ -100,8 +105,9 @@ module _ (hs : List Holder) (lanes : List (List Op)) (h : HeapView) (serials : L
   abbrev seats : List Seat
   seats = set.seats
 
+  -- all pagers: those that share the notices, and after them the live one
   abbrev pagers : List Paging
-  pagers = turn.pagers.items
+  pagers = turn.pagers.items ++ option_to_list turn.live
 
   abbrev runs : List Run
   runs = turn.runs.items
@@ -137,8 +143,11 @@ module _ (hs : List Holder) (lanes : List (List Op)) (h : HeapView) (serials : L
   table = turn-table h.space hs busy (length pagers) pins (seats ++ seats_of pagers) set.opened
 
   -- the pagers are ready to work
-  pub all-ready : AllPagersReady pins hints pagers
-  all-ready = pagers-ready pins h.space hs busy seats pagers set.opened hints set.rooms
+  pub all-ready : AllPagersReady pins hints turn.pagers.items
+  all-ready = pagers-ready pins h.space hs busy seats turn.pagers.items turn.live set.opened hints set.rooms
+
+  pub live-begins : IfSome turn.live (IsLivePagerReady pins)
+  live-begins = live-ready pins h.space hs busy seats turn.pagers.items turn.live set.opened coming set.lives
 
   dealt : (i : ℕ) → i < length busy → (d : Run) → IsDealt pins.table.shared.table_id (key_of pins) (Lane (get_or busy i 0)) (seat_at d runs i)
   dealt i lt d =
@@ -319,14 +328,29 @@ module _ (hs : List Holder) (lanes : List (List Op)) (h : HeapView) (serials : L
             written = here.written;
           }
 
-      module _ (later : List Paging) (paged : HaveAllPaged pins hints pagers later) where
-        later-long : length (seats_of later) ≡ length pagers
-        later-long = seats-long later ∙ paged.long
+      module _ (later : List Paging) (paged : HaveAllPaged pins hints turn.pagers.items later) (taken_old taken_new : Option (List Notice)) (since_old since_new : Option (List View)) (new_live : Option Paging)
+          (serves : ServesLive pins taken_old taken_new since_old since_new turn.live new_live) where
+        abbrev through : List Seat
+        through = seats_of (later ++ option_to_list new_live)
 
-        back-pagers : ArePagersBack pins (seats_of later)
-        back-pagers = pagers-back pins hints pagers later (pagers-dealt pins h.space hs busy seats pagers set.opened) paged
+        later-long : length through ≡ length pagers
+        later-long =
+            let long = seats-long (later ++ option_to_list new_live) in
+            let now = length-append later (option_to_list new_live) in
+            let was = length-append turn.pagers.items (option_to_list turn.live) in
+            let one = live-long pins taken_old taken_new since_old since_new turn.live new_live serves in
+            let same = paged.long in
+            omega arith
 
-        table-later : IsTurnTable (key_of pins) h.space hs busy (length (seats_of later))
+        dealt-live : IsLiveDealt pins (length later) turn.live
+        dealt-live = dealt-later pins turn.pagers.items later turn.live paged.long (live-dealt pins h.space hs busy seats turn.pagers.items turn.live set.opened)
+
+        back-pagers : ArePagersBack pins through
+        back-pagers =
+            back-with pins taken_old taken_new since_old since_new later turn.live new_live serves dealt-live
+            (pagers-back pins hints turn.pagers.items later (pagers-dealt pins h.space hs busy seats turn.pagers.items turn.live set.opened) paged)
+
+        table-later : IsTurnTable (key_of pins) h.space hs busy (length through)
         table-later = subst (IsTurnTable (key_of pins) h.space hs busy) (sym later-long) table
 
         module _ (back : List Seat) (back_long : length back ≡ length new) (back_are : (i : ℕ) → (r : Run) → (e : Seat) → i < length new → get_or back i e ≡ seat_at r new i) where
@@ -337,45 +361,49 @@ module _ (hs : List Holder) (lanes : List (List Op)) (h : HeapView) (serials : L
           back-lanes = back_long ∙ new_long ∙ taken.long
 
           abbrev whole-list : List Seat
-          whole-list = back ++ seats_of later
+          whole-list = back ++ through
 
           all-are : (i : ℕ) → i < length busy → (e : Seat) → get_or whole-list i e ≡ seat_at d new i
-          all-are i lt e = let long = back-lanes in get_or_append_left back (seats_of later) e i (omega arith) ∙ seats-are i lt e
+          all-are i lt e = let long = back-lanes in get_or_append_left back through e i (omega arith) ∙ seats-are i lt e
 
           all-long : length busy ≤ length whole-list
-          all-long = let long = back-lanes in let both = length-append back (seats_of later) in omega arith
+          all-long = let long = back-lanes in let both = length-append back through in omega arith
 
           pub all-back : AreBack pins.table.shared.table_id (key_of pins) whole-list
           all-back =
-              are-back pins h hs serials lanes (lists_of before) busy (turn_at d runs) (seat_at d runs) (turn_at d new) (seat_at d new) (begun d) (all-ran d) back (seats_of later) table-later back-lanes seats-are back-pagers
+              are-back pins h hs serials lanes (lists_of before) busy (turn_at d runs) (seat_at d runs) (turn_at d new) (seat_at d new) (begun d) (all-ran d) back through table-later back-lanes seats-are back-pagers
               (let some = set.some in omega arith) (λ i lt. (seat_at d new i).tidy)
 
           pub beside : (t : Layout) → Closed (key_of pins) whole-list t → IsLayout t → RanBeside hs lanes h serials (lists_of before) (record g { space = t }) nexts told
           beside t closed given =
               ran-beside pins h hs serials lanes (lists_of before) busy (turn_at d runs) (seat_at d runs) (turn_at d new) (seat_at d new) (begun d) (all-ran d) set.state set.stands set.long
               (λ j has. (let p = place_of busy j has in ops-each h.roots lanes j (subst (λ (l : ℕ). l < length lanes) p.2 (busy_are.within p.0 p.1)) set.ops))
-              set.running set.layout set.whole set.some whole-list (length (seats_of later)) table-later all-long all-are (record g { space = t }) nexts told closed given
+              set.running set.layout set.whole set.some whole-list (length through) table-later all-long all-are (record g { space = t }) nexts told closed given
               (laid-space hs busy (turn_at d new) (length busy) h serials (lists_of before) g nexts told t home)
-              (are-recorded pins h hs serials lanes (lists_of before) busy (turn_at d runs) (seat_at d runs) (turn_at d new) (seat_at d new) (begun d) (all-ran d) back (seats_of later) table-later back-lanes seats-are back-pagers)
-              (own-returned pins h hs serials lanes (lists_of before) busy (turn_at d runs) (seat_at d runs) (turn_at d new) (seat_at d new) (begun d) (all-ran d) back (seats_of later) table-later back-lanes seats-are back-pagers)
+              (are-recorded pins h hs serials lanes (lists_of before) busy (turn_at d runs) (seat_at d runs) (turn_at d new) (seat_at d new) (begun d) (all-ran d) back through table-later back-lanes seats-are back-pagers)
+              (own-returned pins h hs serials lanes (lists_of before) busy (turn_at d runs) (seat_at d runs) (turn_at d new) (seat_at d new) (begun d) (all-ran d) back through table-later back-lanes seats-are back-pagers)
 
           each-fits : (i : ℕ) → i < length busy → AllByRecursion (IsOpOf h.roots) (of_lane lanes (get_or busy i 0))
           each-fits i lt = ops-each h.roots lanes (get_or busy i 0) (busy_are.within i lt) set.ops
 
-          -- all seats claimed what the pagers did
+          -- all seats claimed what the pagers that share the notices did
           pub as-many : ClaimAsMany whole-list (seats_of later)
           as-many =
-              all-claims pins h hs serials lanes (lists_of before) busy (turn_at d runs) (seat_at d runs) (turn_at d new) (seat_at d new) (begun d) (all-ran d) back (seats_of later) table-later back-lanes seats-are back-pagers
+              claims-with-live pins taken_old taken_new since_old since_new later turn.live new_live serves whole-list
+              (all-claims pins h hs serials lanes (lists_of before) busy (turn_at d runs) (seat_at d runs) (turn_at d new) (seat_at d new) (begun d) (all-ran d) back through table-later back-lanes seats-are back-pagers)
 
           -- the answers, in their places
           module _ (answers : List Answer) (shared : AnsweredByPagers (key_of pins) hints (map paged_of later) answers) where
-            are-told : ArePagersTold pins (seats_of later) answers
-            are-told = pagers-told pins hints pagers later answers paged shared
+            abbrev both : List Answer
+            both = answers ++ answers_of_live new_live
 
-            moved : AreMoved (key_of pins) whole-list answers (gathered (λ s. (view_of s).fetched) back) (gathered (λ s. (view_of s).left) back) (gathered (λ s. (view_of s).emptied) back)
+            are-told : ArePagersTold pins through both
+            are-told = told-with-live pins taken_old taken_new since_old since_new later turn.live new_live serves answers (pagers-told pins hints turn.pagers.items later answers paged shared)
+
+            moved : AreMoved (key_of pins) whole-list both (gathered (λ s. (view_of s).fetched) back) (gathered (λ s. (view_of s).left) back) (gathered (λ s. (view_of s).emptied) back)
             moved =
-                are-moved pins h hs serials lanes (lists_of before) busy (turn_at d runs) (seat_at d runs) (turn_at d new) (seat_at d new) (begun d) (all-ran d) back (seats_of later) table-later back-lanes seats-are back-pagers
-                answers are-told
+                are-moved pins h hs serials lanes (lists_of before) busy (turn_at d runs) (seat_at d runs) (turn_at d new) (seat_at d new) (begun d) (all-ran d) back through table-later back-lanes seats-are back-pagers
+                both are-told
 
             abbrev Looked : ℕ → Type 0
             Looked = IsLookedAtInTurn hs lanes h serials (lists_of before) told
@@ -383,16 +411,22 @@ module _ (hs : List Holder) (lanes : List (List Op)) (h : HeapView) (serials : L
             abbrev Had : ℕ → List ℕ → Type 0
             Had = HadInTurn hs lanes h serials (lists_of before) told
 
-            pub answered-beside : (t : Layout) → Closed (key_of pins) whole-list t → IsLayout t → (kept all : List Answer) → all ≡ kept ++ answers → AnsweredBeside Looked Had h.space hints kept all t
-            answered-beside t closed given kept all all_are =
-                answered Looked Had (key_of pins) h.space t whole-list hints kept all (map paged_of later) answers (gathered (λ s. (view_of s).fetched) back) (gathered (λ s. (view_of s).left) back) (gathered (λ s. (view_of s).emptied) back)
-                set.opened.opening closed set.layout given moved all_are shared
-                (own-fetched pins h hs serials lanes (lists_of before) busy (turn_at d runs) (seat_at d runs) (turn_at d new) (seat_at d new) (begun d) (all-ran d) back (seats_of later) table-later back-lanes seats-are back-pagers told home.replies each-fits)
-                (declined-beside (key_of pins) t whole-list hints (map paged_of later) answers Looked closed given.long.states shared (pagers-logged back later)
-                (all-fetched pins h hs serials lanes (lists_of before) busy (turn_at d runs) (seat_at d runs) (turn_at d new) (seat_at d new) (begun d) (all-ran d) back (seats_of later) table-later back-lanes seats-are back-pagers told home.replies each-fits)
-                (all-homes pins h hs serials lanes (lists_of before) busy (turn_at d runs) (seat_at d runs) (turn_at d new) (seat_at d new) (begun d) (all-ran d) back (seats_of later) table-later back-lanes seats-are back-pagers told home.replies each-fits
-                answers are-told))
-                (all-put pins h hs serials lanes (lists_of before) busy (turn_at d runs) (seat_at d runs) (turn_at d new) (seat_at d new) (begun d) (all-ran d) back (seats_of later) table-later back-lanes seats-are back-pagers told home.replies each-fits)
+            pub answered-beside : (t : Layout) → Closed (key_of pins) whole-list t → IsLayout t → (kept all : List Answer) → all ≡ kept ++ answers → (lived last : List Answer) → last ≡ lived ++ answers_of_live new_live
+                → (fed : List Notice) × (taken_new ≡ told_with taken_old fed) × AnsweredBeside Looked Had h.space hints kept all t lived fed last
+            answered-beside t closed given kept all all_are lived last last_are =
+                let took =
+                live-answered pins taken_old taken_new since_old since_new (length (map paged_of later)) turn.live new_live (subst (λ (n : ℕ). IsLiveDealt pins n turn.live) (sym (length-map later paged_of)) dealt-live) serves in (
+                  took.0,
+                  took.1,
+                  answered Looked Had (key_of pins) h.space t whole-list hints kept all (map paged_of later) answers lived took.0 last (answers_of_live new_live) (gathered (λ s. (view_of s).fetched) back) (gathered (λ s. (view_of s).left) back) (gathered (λ s. (view_of s).emptied) back)
+                      set.opened.opening closed set.layout given moved all_are shared last_are took.2
+                      (own-fetched pins h hs serials lanes (lists_of before) busy (turn_at d runs) (seat_at d runs) (turn_at d new) (seat_at d new) (begun d) (all-ran d) back through table-later back-lanes seats-are back-pagers told home.replies each-fits)
+                      (declined-with-live pins taken_old taken_new since_old since_new later turn.live new_live serves back hints t answers Looked closed given.long.states shared
+                      (all-fetched pins h hs serials lanes (lists_of before) busy (turn_at d runs) (seat_at d runs) (turn_at d new) (seat_at d new) (begun d) (all-ran d) back through table-later back-lanes seats-are back-pagers told home.replies each-fits)
+                      (all-homes pins h hs serials lanes (lists_of before) busy (turn_at d runs) (seat_at d runs) (turn_at d new) (seat_at d new) (begun d) (all-ran d) back through table-later back-lanes seats-are back-pagers told home.replies each-fits
+                      both are-told))
+                      (all-put pins h hs serials lanes (lists_of before) busy (turn_at d runs) (seat_at d runs) (turn_at d new) (seat_at d new) (begun d) (all-ran d) back through table-later back-lanes seats-are back-pagers told home.replies each-fits),
+                )
 
           pub room-again : (t : Layout) → Closed (key_of pins) whole-list t → IsLayout t → (room : TurnRoom) → (AreRunsOf hs busy k new → AreSparesOf hs k.roots.slots room.spares.items × (spare_lanes room.spares.items ≡ busy))
               → IsRoomKept hs h.roots.slots lanes told room

@@ -1,5 +1,5 @@
 -- A turn under way: its table is open, and the lanes that run have what is their own.
-use Rattle.std.specs.Prelude.{◌≡◌, ℕ, ◌+◌, ◌-◌, ◌*◌, ◌^◌, ◌<◌, ◌≤◌, List, ◌++◌, length, min, Vec, replicate, slice_index}
+use Rattle.std.specs.Prelude.{◌≡◌, ℕ, Bool, ◌+◌, ◌-◌, ◌*◌, ◌^◌, ◌<◌, ◌≤◌, List, ◌++◌, length, min, option_to_list, Vec, replicate, slice_index}
 use Rattle.std.specs.List.{AllByRecursion}
 use Rattle.std.specs.declared.alloc.Global.{Global}
 use Rattle.bc_model.specs.Rows.{lists_of}
@@ -9,6 +9,7 @@ use Rattle.bc_model.specs.declared.operations.Reply.{Reply}
 use Rattle.bc_model.specs.declared.values.Holder.{Holder}
 use Rattle.bc_mutator.specs.Objects.{AreWhole}
 use Rattle.bc_mutator.specs.Operations.{IsOpOf}
+use Rattle.bc_pager.specs.Feeding.{rooms_of_live}
 use Rattle.bc_pager.specs.Paging.{rooms_of, seats_of}
 use Rattle.bc_pager.specs.Serving.{no_answers}
 use Rattle.bc_pins.specs.declared.key.Turn.TheVariants.{Lanes}
@@ -23,10 +24,11 @@ use Rattle.bc_whole_heap.specs.Heaps.{HeapView}
 use Rattle.bc_whole_heap.specs.LaneStates.{StandsAs}
 use Rattle.bc_whole_heap.specs.Running.{IsRunning}
 
--- lanes that can run on this heap began a turn with so many notices, and none has run yet: a table was opened over the heap's space for
--- those that have operations left and for the pagers, and they took along what is their own. `k` and `after` are the heap and the replies
+-- lanes that can run on this heap began a turn with so many notices, in which more may come or not, and none has run yet: a table was
+-- opened over the heap's space for those that have operations left, for the pagers and after them for the live one where more may come,
+-- and they took along what is their own. `k` and `after` are the heap and the replies
 -- that stand meanwhile
-pub record IsTurnUnderWay (holders : List Holder) (lanes : List (List Op)) (h : HeapView) (serials : List ℕ) (before : List (Vec Reply Global)) (notices : ℕ) (turn : OpenTurn) (k : HeapView) (after : List (Vec Reply Global)) : Type 0 where
+pub record IsTurnUnderWay (holders : List Holder) (lanes : List (List Op)) (h : HeapView) (serials : List ℕ) (before : List (Vec Reply Global)) (notices : ℕ) (turn : OpenTurn) (k : HeapView) (after : List (Vec Reply Global)) (live : Bool) : Type 0 where
   -- what holds of the heap and the operations
   pub running : IsRunning h holders
   pub state : State
@@ -44,9 +46,11 @@ pub record IsTurnUnderWay (holders : List Holder) (lanes : List (List Op)) (h : 
   pub some : 0 < length busy
   pub seats : List Seat
   pub hollow : Layout
-  pub opened : Opened h.space Lanes holders (turn_roles busy (length turn.pagers.items)) turn.pins (seats ++ seats_of turn.pagers.items)
+  pub opened : Opened h.space Lanes holders (turn_roles busy (length (turn.pagers.items ++ option_to_list turn.live))) turn.pins (seats ++ seats_of (turn.pagers.items ++ option_to_list turn.live))
   pub taken : AreTaken (record h { space = hollow }) holders serials lanes before busy seats k after turn.runs.items
   -- as many pagers as notices, at most four, each with room for an answer to each notice, and none has answered yet
   pub count : length turn.pagers.items ≡ min notices 4
   pub rooms : rooms_of turn.pagers.items ≡ replicate (length turn.pagers.items) (no_answers notices)
   pub few : notices < 2 ^ 61
+  -- the live pager has room for its answers, and has answered none
+  pub lives : rooms_of (option_to_list turn.live) ≡ rooms_of_live live

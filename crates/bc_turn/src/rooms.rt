@@ -162,7 +162,7 @@ pub(crate) fn roles_of(
     spares: &[Spare],
     pagers: u32,
 ) -> Result<Vec<Role>, AllocError>
-    requires few { pagers ≤ 4 }
+    requires few { pagers ≤ 5 }
     ensures roles { IfOk result (λ roles. roles.items ≡ turn_roles (spare_lanes spares.now) pagers) }
 {
     let mut roles = Vec::with_capacity(alloc, spares.len() + pagers as usize)?;

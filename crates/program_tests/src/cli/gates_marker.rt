@@ -128,10 +128,10 @@ fn four_pagers_answer_eight_notices_beside_two_markers(rt: HostRuntime) -> Resul
     Ok(())
 }
 
-/// Three superpages with an object each, of which the second is garbage, and then one of a fourth class that finds none: so cells are
-/// collected, and each of two markers has a live object on a page of its share.
+/// Three superpages with an object each, of which the third is garbage, and then one of a fourth class that finds none: so cells are
+/// collected, and each of two markers has a live object on a superpage of its share.
 const FOUR_CLASSES: &str =
-    "phase\nlane 0\nnew 0 0 1\nnew 0 1 2\nnew 0 2 8\nend\nphase\nlane 0\nclear 0 1\nnew 0 3 20\nend\ndone\n";
+    "phase\nlane 0\nnew 0 0 1\nnew 0 1 2\nnew 0 2 8\nend\nphase\nlane 0\nclear 0 2\nnew 0 3 20\nend\ndone\n";
 
 /// Keeps each of two markers at its first page until the other one has a page in its hands.
 #[derive(Drop)]

@@ -23,7 +23,7 @@ impl OneNotice {
 }
 
 impl Notices for OneNotice {
-    ghost use Rattle.std.specs.Prelude.{[], ◌∷◌, Some, map, option_to_list};
+    ghost use Rattle.std.specs.Prelude.{[], ◌∷◌, Some, is_none, map, option_to_list};
     ghost use Rattle.bc_pager.specs.Claiming.{unshared};
     ghost use Rattle.bc_pins.specs.Calls.{view_of};
     ghost use Rattle.turn_tests.specs.Telling.{the_notice};
@@ -38,6 +38,10 @@ impl Notices for OneNotice {
 
     ghost shared = { λ n. unshared };
 
+    ghost coming = { λ n. is_none n.given };
+
+    ghost most = { λ n. 1 };
+
     fn next(&mut self, seat: &mut Seat) -> Option<Notice> {
         if self.given.is_some() {
             self.ends = self.ends.saturating_add(1);
@@ -48,5 +52,9 @@ impl Notices for OneNotice {
             hint: self.hint,
             number: 0,
         })
+    }
+
+    fn may_come(&self) -> bool {
+        self.given.is_none()
     }
 }

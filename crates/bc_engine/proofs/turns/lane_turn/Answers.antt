@@ -8,14 +8,17 @@ use Rattle.bc_engine.proofs.Attempts.{ready-sound}
 use Rattle.bc_engine.proofs.BesideLemmas.{RanAbreast, together-leaves, together-runs, together-stopped}
 use Rattle.bc_engine.proofs.RunLemmas.{runs-moved, runs-then}
 use Rattle.bc_engine.proofs.Sizes.{lanes-of_heap}
-use Rattle.bc_engine.proofs.TurnLemmas.{kept-later, turn-same, turn-together}
+use Rattle.bc_engine.proofs.TurnLemmas.{kept-later, turn-same, turn-together, turn-unfed}
 use Rattle.bc_engine.proofs.turns.lane_turn.Given.{Over}
 use Rattle.bc_engine.proofs.turns.lane_turn.Goals as goal
 use Rattle.bc_engine.proofs.turns.lane_turn.Goals.{In-Ok}
 
--- no table was worth while
-pub returns-in-Plain-clause-kept : goal.returns-in-Plain-clause-kept
-returns-in-Plain-clause-kept g c =
+-- no table was worth while, and no notice may come
+pub returns-in-Plain-2-clause-turn : goal.returns-in-Plain-2-clause-turn
+returns-in-Plain-2-clause-turn g c = turn-unfed refl refl (c.turn_alone.ensures.turn c.args.live_answers.now.items)
+
+pub returns-in-Plain-2-clause-kept : goal.returns-in-Plain-2-clause-kept
+returns-in-Plain-2-clause-kept g c =
     kept-later (lists_of c.args.lanes.now) (lists_of c.args.replies.now) (lists_of c.turn_alone.new.replies) c.args.room.now refl refl c.turn_alone.ensures.runs.goes.more c.requires.kept
 
 pub take_turn-requires-clause-sound : goal.take_turn-requires-clause-sound
@@ -42,13 +45,15 @@ returns-in-Ok-clause-turn g c =
     let here = goal.at.returns-in-Ok-clause-turn g c in
     let settled = c.settle.ensures in
     let side = abreast g here.In-Ok in
-    turn-together (together-runs side) (together-leaves side) (together-stopped side) c.in-Ok.ensures.answered settled.settled settled.rest
+    let answered = c.in-Ok.ensures.answered in
+    (answered.0, answered.1, turn-together (together-runs side) (together-leaves side) (together-stopped side) answered.2 settled.settled settled.rest)
 
 -- there was no memory for it, and nothing had changed
 pub returns-in-Err-clause-turn : goal.returns-in-Err-clause-turn
 returns-in-Err-clause-turn g c =
     let same = c.in-Err.ensures.same in
-    turn-same same.0 same.1 (ap (λ (v : Vec Answer Global). v.items) same.2) c.turn_alone-in-Err.ensures.turn
+    turn-unfed (ap (λ x. g.N.Notices.taken x) same.3) (ap (λ (v : Vec Answer Global). v.items) same.4)
+    (turn-same same.0 same.1 (ap (λ (v : Vec Answer Global). v.items) same.2) (c.turn_alone-in-Err.ensures.turn c.args.live_answers.now.items))
 
 pub returns-in-Err-clause-runs : goal.returns-in-Err-clause-runs
 returns-in-Err-clause-runs g c =

@@ -19,8 +19,8 @@ returns-clause-runs c =
     (runs-then (runs-moved lanes c.run_lanes.new.running c.answer.new.self vs (answered.moves, answered.rest)) (runs-moved lanes c.answer.new.self c.settle.new.self vs (settled.moves, settled.rest)))
 
 pub returns-clause-turn : goal.returns-clause-turn
-returns-clause-turn c =
+returns-clause-turn c = λ lived.
     let ran = c.run_lanes.ensures in
     let answered = c.answer.ensures in
     let settled = c.settle.ensures in
-    turn-alone ran.runs ran.leaves ran.attempts (each-stopped c.args.lanes.now ran.stopped) answered.answered answered.rest settled.settled settled.rest
+    turn-alone lived ran.runs ran.leaves ran.attempts (each-stopped c.args.lanes.now ran.stopped) answered.answered answered.rest settled.settled settled.rest

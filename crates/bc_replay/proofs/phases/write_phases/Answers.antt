@@ -7,7 +7,8 @@ use Rattle.bc_replay.specs.BetweenPhases.{HasRun}
 use Rattle.bc_replay.specs.Courses.{course_from}
 use Rattle.bc_replay.specs.Output.{texts_before}
 use Rattle.bc_replay.proofs.Finishing.{phase-room}
-use Rattle.bc_replay.proofs.Running.{within-of}
+use Rattle.bc_replay.proofs.Feeds.{fed-next, fed-none, fed-same}
+use Rattle.bc_replay.proofs.Running.{phase-of, within-of}
 use Rattle.bc_replay.proofs.Pieces.{texts-none, Rose-since}
 use Rattle.bc_replay.proofs.phases.write_phases.Goals as goal
 
@@ -18,17 +19,33 @@ loop-index-init g c = record {
   room = λ s _. rw texts-none (RoomFalls-none _);
   firm = refl;
   workers = refl;
+  fed = fed-none _ _ _ _;
+  feed = (refl, refl, refl);
+  idle = λ _. refl;
+  told = c.requires.told;
+  answers_room = refl;
 }
 
 pub loop-index-preserved : goal.loop-index-preserved
 loop-index-preserved g c =
     let e = c.in_ok-write_phase.ensures in
+    let i = c.loop-index.invariant in
+    let s = c.requires.opened.0 in
+    let lt : c.loop-index.index + c.args.first < length c.args.trace.now.phases = omega (arith, ap (λ (x : TraceLists). length x.phases) c.trace.view_is, c.len.ensures) in
     record {
       run = λ s run. e.run s (c.loop-index.invariant.run s run);
       held = λ s run. e.written s (c.loop-index.invariant.run s run) _ (c.loop-index.invariant.held s run);
       room = λ s run. e.filled s (c.loop-index.invariant.run s run) _ (c.loop-index.invariant.room s run);
       firm = e.firm (λ n. cc) ∙ c.loop-index.invariant.firm;
       workers = e.workers ∙ c.loop-index.invariant.workers;
+      fed = elim e.fed.2 [
+        | inl h ↦ fed-next _ _ _ _ _ _ _ _ _ _ _ _ _ i.fed (within-of c.args.trace.now s c.args.first c.loop-index.index lt) (phase-of c.args.trace.now s c.args.first c.loop-index.index _ refl) h.0 e.fed.1 h.1
+        | inr bad ↦ let clash = bad.0 in cc
+      ];
+      feed = (e.feed.0 ∙ i.feed.0, e.feed.1 ∙ i.feed.1, e.feed.2 ∙ i.feed.2);
+      idle = λ none. e.idle (ap g.N.Notices.coming (i.idle none) ∙ none) ∙ i.idle none;
+      told = e.told;
+      answers_room = e.answers_room ∙ i.answers_room;
     }
 
 pub returns-in_err-write_phase-clause-cause : goal.returns-in_err-write_phase-clause-cause
@@ -79,3 +96,31 @@ returns-in_err-write_phase-clause-no_memory g c =
 
 pub returns-in_err-write_phase-clause-workers : goal.returns-in_err-write_phase-clause-workers
 returns-in_err-write_phase-clause-workers g c = c.in_err-write_phase.ensures.workers ∙ c.loop-index.invariant.workers
+
+pub returns-in_err-write_phase-clause-fed : goal.returns-in_err-write_phase-clause-fed
+returns-in_err-write_phase-clause-fed g c =
+    let e = c.in_err-write_phase.ensures in
+    let i = c.loop-index.invariant in
+    let s = c.requires.opened.0 in
+    let lt : c.loop-index.index + c.args.first < length c.args.trace.now.phases = omega (arith, ap (λ (x : TraceLists). length x.phases) c.trace.view_is, c.len.ensures) in
+    elim e.fed.2 [
+      | inl h ↦ (fed-next _ _ _ _ _ _ _ _ _ _ _ _ _ i.fed (within-of c.args.trace.now s c.args.first c.loop-index.index lt) (phase-of c.args.trace.now s c.args.first c.loop-index.index _ refl) h.0 e.fed.1 h.1).0
+      | inr h ↦ fed-same _ _ _ _ _ _ _ _ _ _ _ i.fed.0 h.1 e.fed.1 h.2 h.3
+    ]
+
+pub returns-in_err-write_phase-clause-feed : goal.returns-in_err-write_phase-clause-feed
+returns-in_err-write_phase-clause-feed g c =
+    let e = c.in_err-write_phase.ensures in
+    let i = c.loop-index.invariant in
+    (e.feed.0 ∙ i.feed.0, e.feed.1 ∙ i.feed.1, e.feed.2 ∙ i.feed.2)
+
+pub returns-in_err-write_phase-clause-idle : goal.returns-in_err-write_phase-clause-idle
+returns-in_err-write_phase-clause-idle g c =
+    let i = c.loop-index.invariant in
+    λ none. c.in_err-write_phase.ensures.idle (ap g.N.Notices.coming (i.idle none) ∙ none) ∙ i.idle none
+
+pub returns-in_err-write_phase-clause-answers_room : goal.returns-in_err-write_phase-clause-answers_room
+returns-in_err-write_phase-clause-answers_room g c = c.in_err-write_phase.ensures.answers_room ∙ c.loop-index.invariant.answers_room
+
+pub returns-clause-fed : goal.returns-clause-fed
+returns-clause-fed g c = c.loop-index.invariant.fed.0

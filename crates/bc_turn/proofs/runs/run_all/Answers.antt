@@ -44,7 +44,7 @@ pub for_each_mut-requires-send-T : goal.for_each_mut-requires-send-T
 for_each_mut-requires-send-T g c κs within = search (sendable, run_send) depth 12
 
 pub for_each_mut-requires-sync-F : goal.for_each_mut-requires-sync-F
-for_each_mut-requires-sync-F g c κs within = param_sync 2 (lts.arg-2-2 g.row.R g.row.G g.R.laws g.G.laws g.R.Threads-dict g.G.Gate-dict κs) (search (sendable, pins_sync, ops_sync, roots_sync) depth 20)
+for_each_mut-requires-sync-F g c κs within = param_sync 2 (lts.arg-3-2 g.row.R g.row.G g.R.laws g.G.laws g.R.Threads-dict g.G.Gate-dict κs) (search (sendable, pins_sync, ops_sync, roots_sync) depth 20)
 
 pub for_each_mut-requires-clause-accepts : goal.for_each_mut-requires-clause-accepts
 for_each_mut-requires-clause-accepts g c κs within i p lt e =

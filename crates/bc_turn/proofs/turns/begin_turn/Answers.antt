@@ -66,6 +66,7 @@ returns-clause-begun c =
       count = c.in_ok-turn.ensures.count;
       rooms = c.in_ok-turn.ensures.rooms;
       few = c.in_ok-turn.ensures.few;
+      lives = c.in_ok-turn.ensures.lives;
     }
 
 pub returns-clause-seats : goal.returns-clause-seats

@@ -1,6 +1,8 @@
-use Rattle.std.proofs.Common.{◌≡◌, ℕ, None, Some, refl, sym, subst}
+use Rattle.std.proofs.Common.{◌≡◌, ℕ, List, None, Some, refl, sym, subst}
 use Rattle.bc_model.specs.Rows.{lists_of}
 use Rattle.bc_model.specs.declared.traces.Setup.{Setup}
+use Rattle.bc_pager.specs.Serving.{told_with}
+use Rattle.bc_pager.specs.declared.notices.Notice.{Notice}
 use Rattle.bc_engine.specs.EngineFacts.{CanRunLanes, IsWorkers}
 use Rattle.bc_engine.specs.Engines.{EngineView}
 use Rattle.bc_engine.specs.Inside.{engine_of, out_of_heap, played, with_log}
@@ -59,8 +61,10 @@ returns-in-Ok-clause-turns g c =
     let had = c.in-Ok.ensures.turns in
     rw (← c.self.view_is) (
       had.0,
-      subst (λ (x : EngineView). RanAll lanes lines x c.args.replies.now had.0 (with_log (engine_of k) c.rounds.new.log) c.rounds.new.replies) (played-at i c.args.log.now going)
-          (subst (λ (x : EngineView). RanAll lanes lines (played i.player c.args.log.now) c.args.replies.now had.0 x c.rounds.new.replies) (played-at k c.rounds.new.log going) had.1),
+      had.1,
+      had.2,
+      subst (λ (x : EngineView). RanAll lanes lines x c.args.replies.now had.2 (with_log (engine_of k) c.rounds.new.log) c.rounds.new.replies had.0) (played-at i c.args.log.now going)
+          (subst (λ (x : EngineView). RanAll lanes lines (played i.player c.args.log.now) c.args.replies.now had.2 x c.rounds.new.replies had.0) (played-at k c.rounds.new.log going) had.3),
     )
 
 -- they ended where the heap is too small
@@ -100,10 +104,12 @@ returns-in-Err-TooSmall-clause-cut_turns g c =
     let i = c.self.inside in
     let e = played i.player c.args.log.now in
     let f = played c.rounds.new.self c.rounds.new.log in
-    let had = small-at (Unit {0}) arm.field-0 arm.need (λ need. (turns : ℕ) × RanToCut lanes lines e c.args.replies.now turns (out_of_heap need f) c.rounds.new.replies) arm.field-0-is arm.ensures.cut_turns in
+    let had = small-at (Unit {0}) arm.field-0 arm.need (λ need. (fed : List Notice) × (g.N.Notices.taken c.rounds.new.live ≡ told_with (g.N.Notices.taken c.args.live.now) fed) × (turns : ℕ) × RanToCut lanes lines e c.args.replies.now turns (out_of_heap need f) c.rounds.new.replies fed) arm.field-0-is arm.ensures.cut_turns in
     rw (← c.self.view_is) (
       had.0,
-      subst (λ (x : EngineView). RanToCut lanes lines x c.args.replies.now had.0 (out_of_heap arm.need f) c.rounds.new.replies) (played-at i c.args.log.now going) had.1,
+      had.1,
+      had.2,
+      subst (λ (x : EngineView). RanToCut lanes lines x c.args.replies.now had.2 (out_of_heap arm.need f) c.rounds.new.replies had.0) (played-at i c.args.log.now going) had.3,
     )
 
 -- or where there was no memory for answers
@@ -119,10 +125,13 @@ returns-clause-want g c =
     let i = c.self.inside in
     let kept = c.rounds.new.log in
     let f = played c.rounds.new.self kept in
-    let wants = room-at (Unit {0}) arm.field-0 (RanToWant lanes lines (played i.player c.args.log.now) c.args.replies.now f c.rounds.new.replies kept.answers) arm.field-0-is arm.ensures.want in
+    let coming = g.N.Notices.coming c.rounds.new.live in
+    let wants = room-at (Unit {0}) arm.field-0 ((fed : List Notice) × (g.N.Notices.taken c.rounds.new.live ≡ told_with (g.N.Notices.taken c.args.live.now) fed) × RanToWant lanes lines (played i.player c.args.log.now) c.args.replies.now f c.rounds.new.replies kept.answers fed kept.live coming) arm.field-0-is arm.ensures.want in
     rw (← c.self.view_is) (
+      wants.0,
+      wants.1,
       f,
-      subst (λ (x : EngineView). RanToWant lanes lines x c.args.replies.now f c.rounds.new.replies kept.answers) (played-at i c.args.log.now going) wants,
+      subst (λ (x : EngineView). RanToWant lanes lines x c.args.replies.now f c.rounds.new.replies kept.answers wants.0 kept.live coming) (played-at i c.args.log.now going) wants.2,
       refl,
     )
 

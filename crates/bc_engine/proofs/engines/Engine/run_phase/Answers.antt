@@ -1,10 +1,12 @@
-use Rattle.std.proofs.Common.{◌≡◌, ℕ, Some, get_or, length, vec_capacity, ap, sym, subst, ◌∙◌, arith}
+use Rattle.std.proofs.Common.{◌≡◌, ℕ, List, Some, get_or, length, vec_capacity, ap, sym, subst, ◌∙◌, arith}
 use Rattle.std.proofs.lemmas.List.{take_at}
 use Rattle.std.specs.List.{AllByRecursion}
 use Rattle.bc_model.specs.Lists.{PhaseLists}
 use Rattle.bc_model.specs.Rows.{lists_of}
 use Rattle.bc_model.specs.Run.{after_changes}
 use Rattle.bc_model.specs.WellFormed.{FitsFrames}
+use Rattle.bc_pager.specs.Serving.{told_with}
+use Rattle.bc_pager.specs.declared.notices.Notice.{Notice}
 use Rattle.bc_engine.specs.Inside.{with_log}
 use Rattle.bc_engine.specs.Engines.{EngineView, EngineStands, HasEmptyChunks}
 use Rattle.bc_engine.specs.Rounds.{IsTooSmall, RanToCut, RanToWant}
@@ -61,7 +63,7 @@ returns-in-Ok-clause-turns g c =
     let same = c.rounds.auto.replies in
     let lent = ap length c.deref_mut.ensures.value in
     let len = c.deref_mut.ensures.len in
-    had-lent c.args.self.now c.rounds.new.self c.change_all.new.self phase c.args.log.now c.rounds.new.log (lists_of c.deref.result.now) c.deref-2.result.now c.deref_mut.result.now c.args.replies.items c.rounds.new.replies _ c.requires.none c.requires.room
+    had-lent c.args.self.now c.rounds.new.self c.change_all.new.self phase c.args.log.now c.rounds.new.log (lists_of c.deref.result.now) c.deref-2.result.now c.deref_mut.result.now c.args.replies.items c.rounds.new.replies _ (g.N.Notices.taken c.args.live.now) (g.N.Notices.taken c.rounds.new.live) c.requires.none c.requires.room
     (ap lists_of c.deref.ensures.value ∙ ap (λ (p : PhaseLists). p.lanes) c.phase.view_is)
     (c.deref-2.ensures.value ∙ ap (λ (p : PhaseLists). p.turns) c.phase.view_is) c.deref_mut.ensures.value
     (take_at c.rounds.new.replies _ c.args.replies.len (omega arith)) c.in-Ok.ensures.turns c.change_all.ensures.same
@@ -92,11 +94,11 @@ returns-in-Err-TooSmall-clause-cut_turns g c =
     let ls = c.deref-2.result.now in
     let e = with_log c.args.self.now c.args.log.now in
     let f = with_log c.rounds.new.self c.rounds.new.log in
-    cut-turns-lent c.args.self.now c.rounds.new.self c.args.phase.now c.args.log.now c.rounds.new.log os ls c.deref_mut.result.now c.args.replies.items c.rounds.new.replies _ c.requires.none c.requires.room
+    cut-turns-lent c.args.self.now c.rounds.new.self c.args.phase.now c.args.log.now c.rounds.new.log os ls c.deref_mut.result.now c.args.replies.items c.rounds.new.replies _ (g.N.Notices.taken c.args.live.now) (g.N.Notices.taken c.rounds.new.live) c.requires.none c.requires.room
     (ap lists_of c.deref.ensures.value ∙ ap (λ (p : PhaseLists). p.lanes) c.phase.view_is)
     (c.deref-2.ensures.value ∙ ap (λ (p : PhaseLists). p.turns) c.phase.view_is) c.deref_mut.ensures.value
     (take_at c.rounds.new.replies _ c.args.replies.len (omega arith))
-    (small-at (Unit {0}) arm.field-0 arm.need (λ need. (turns : ℕ) × RanToCut os ls e c.deref_mut.result.now turns f c.rounds.new.replies) arm.field-0-is arm.ensures.cut_turns)
+    (small-at (Unit {0}) arm.field-0 arm.need (λ need. (fed : List Notice) × (g.N.Notices.taken c.rounds.new.live ≡ told_with (g.N.Notices.taken c.args.live.now) fed) × (turns : ℕ) × RanToCut os ls e c.deref_mut.result.now turns f c.rounds.new.replies fed) arm.field-0-is arm.ensures.cut_turns)
 
 pub returns-in-Err-TooSmall-clause-births : goal.returns-in-Err-TooSmall-clause-births
 returns-in-Err-TooSmall-clause-births g c =
@@ -111,10 +113,11 @@ returns-in-Err-NoRoom-clause-want g c = λ no.
     let ls = c.deref-2.result.now in
     let kept = c.rounds.new.log in
     let e = with_log c.args.self.now c.args.log.now in
-    want-lent c.args.self.now c.rounds.new.self c.args.phase.now c.args.log.now kept os ls c.deref_mut.result.now c.args.replies.items c.rounds.new.replies c.requires.none c.requires.room
+    let coming = g.N.Notices.coming c.rounds.new.live in
+    want-lent c.args.self.now c.rounds.new.self c.args.phase.now c.args.log.now kept os ls c.deref_mut.result.now c.args.replies.items c.rounds.new.replies coming (g.N.Notices.taken c.args.live.now) (g.N.Notices.taken c.rounds.new.live) c.requires.none c.requires.room
     (ap lists_of c.deref.ensures.value ∙ ap (λ (p : PhaseLists). p.lanes) c.phase.view_is)
     (c.deref-2.ensures.value ∙ ap (λ (p : PhaseLists). p.turns) c.phase.view_is) c.deref_mut.ensures.value
-    (room-at (Unit {0}) arm.field-0 ((last : EngineView) × RanToWant os ls e c.deref_mut.result.now last c.rounds.new.replies kept.answers × (with_log c.rounds.new.self kept ≡ record last { ended = Some NoMemory })) arm.field-0-is arm.ensures.want)
+    (room-at (Unit {0}) arm.field-0 ((fed : List Notice) × (g.N.Notices.taken c.rounds.new.live ≡ told_with (g.N.Notices.taken c.args.live.now) fed) × (last : EngineView) × RanToWant os ls e c.deref_mut.result.now last c.rounds.new.replies kept.answers fed kept.live coming × (with_log c.rounds.new.self kept ≡ record last { ended = Some NoMemory })) arm.field-0-is arm.ensures.want)
 
 pub returns-in-Err-NoRoom-clause-births : goal.returns-in-Err-NoRoom-clause-births
 returns-in-Err-NoRoom-clause-births g c =

@@ -6,11 +6,13 @@ use Rattle.bc_model.specs.Rows.{lists_of}
 use Rattle.bc_model.specs.TurnLines.{hints_in}
 use Rattle.bc_model.specs.WellFormed.{FitsFrames}
 use Rattle.bc_model.specs.declared.traces.Setup.{Setup}
+use Rattle.bc_pager.specs.Serving.{told_with}
 use Rattle.bc_pager.specs.declared.answers.Answer.{Answer}
+use Rattle.bc_pager.specs.declared.notices.Notice.{Notice}
 use Rattle.bc_engine.specs.EngineFacts.{CanRunLanes, with_turns}
 use Rattle.bc_engine.specs.Inside.{out_of_heap, played}
 use Rattle.bc_engine.specs.Lanes.{IsUnderway}
-use Rattle.bc_engine.specs.Rounds.{CutRound, HasNoRoomFor, IsTooSmall, RanToCut, RanToWant, longest_of}
+use Rattle.bc_engine.specs.Rounds.{CutRound, IsTooSmall, RanToCut, RanToWant, WantsRoom, longest_of}
 use Rattle.bc_engine.specs.declared.opened.Opened.{Opened}
 use Rattle.bc_engine.specs.declared.opened.TurnLog.{TurnLog}
 use Rattle.bc_engine.specs.declared.players.Player.{Player}
@@ -30,7 +32,9 @@ rounds-init g c = record {
   budgets = c.requires.budgets;
   kept = c.requires.kept;
   room = c.requires.room;
-  turns = turns-begun (lists_of c.args.lanes.now) c.args.lines.now (played c.args.self.now c.args.log.now) c.args.replies.now;
+  turns = turns-begun (lists_of c.args.lanes.now) c.args.lines.now (played c.args.self.now c.args.log.now) c.args.replies.now (g.N.Notices.taken c.args.live.now);
+  feed = (refl, refl, refl);
+  unasked = λ no. (refl, refl);
 }
 
 pub rounds-preserved : goal.rounds-preserved
@@ -47,8 +51,42 @@ rounds-preserved g c =
       budgets = subst (λ (s : Setup). AllByRecursion (FitsFrames s) c.args.lines.now) (sym round.same.1) before.budgets;
       kept = c.in_ok-round.ensures.kept;
       room = c.in_ok-round.ensures.room c.if-branch.false;
-      turns = turns-more (played c.round.new.self c.round.new.log) c.round.new.replies c.round.new.next before.turns (c.in_ok-round.ensures.turn c.if-branch.false);
+      turns = turns-more (played c.round.new.self c.round.new.log) c.round.new.replies c.round.new.next (g.N.Notices.taken c.round.new.live) before.turns (c.in_ok-round.ensures.turn c.if-branch.false);
+      feed = (round.feed.0 ∙ before.feed.0, round.feed.1 ∙ before.feed.1, round.feed.2 ∙ before.feed.2);
+      unasked = λ no.
+          let was = before.unasked no in
+          let is = round.idle (ap (λ x. g.N.Notices.coming x) was.0 ∙ no) in
+          (is.0 ∙ was.0, is.1 ∙ was.1);
     }
+
+-- the feed is one whose notices nobody shares, and its hints and bounds stay
+pub round-requires-clause-unshared : goal.round-requires-clause-unshared
+round-requires-clause-unshared g c κs within = c.rounds.invariant.feed.0 ∙ c.requires.unshared
+
+pub returns-then-branch-clause-feed : goal.returns-then-branch-clause-feed
+returns-then-branch-clause-feed g c =
+    let before = c.rounds.invariant.feed in
+    let round = c.round.ensures.feed in
+    (round.0 ∙ before.0, round.1 ∙ before.1, round.2 ∙ before.2)
+
+pub returns-in_err-round-clause-feed : goal.returns-in_err-round-clause-feed
+returns-in_err-round-clause-feed g c =
+    let before = c.rounds.invariant.feed in
+    let round = c.round.ensures.feed in
+    (round.0 ∙ before.0, round.1 ∙ before.1, round.2 ∙ before.2)
+
+-- one from which none may come isn't asked
+pub returns-then-branch-clause-unasked : goal.returns-then-branch-clause-unasked
+returns-then-branch-clause-unasked g c = λ no.
+    let was = c.rounds.invariant.unasked no in
+    let is = c.round.ensures.idle (ap (λ x. g.N.Notices.coming x) was.0 ∙ no) in
+    (is.0 ∙ was.0, is.1 ∙ was.1)
+
+pub returns-in_err-round-clause-unasked : goal.returns-in_err-round-clause-unasked
+returns-in_err-round-clause-unasked g c = λ no.
+    let was = c.rounds.invariant.unasked no in
+    let is = c.round.ensures.idle (ap (λ x. g.N.Notices.coming x) was.0 ∙ no) in
+    (is.0 ∙ was.0, is.1 ∙ was.1)
 
 pub round-requires-clause-longest : goal.round-requires-clause-longest
 round-requires-clause-longest g c κs within = c.longest_line-longest.ensures
@@ -73,7 +111,7 @@ returns-in_err-round-clause-counted g c = λ sum. c.round.ensures.counted (c.rou
 
 pub returns-then-branch-clause-turns : goal.returns-then-branch-clause-turns
 returns-then-branch-clause-turns g c =
-    turns-all (played c.round.new.self c.round.new.log) c.round.new.replies c.rounds.invariant.turns (c.in_ok-round.ensures.last_turn c.if-branch.true)
+    turns-all (played c.round.new.self c.round.new.log) c.round.new.replies (g.N.Notices.taken c.round.new.live) c.rounds.invariant.turns (c.in_ok-round.ensures.last_turn c.if-branch.true)
 
 pub returns-in_err-round-clause-ready : goal.returns-in_err-round-clause-ready
 returns-in_err-round-clause-ready g c =
@@ -101,17 +139,19 @@ returns-in_err-round-clause-cut_turns g c =
     let lanes = lists_of c.args.lanes.now in
     let lines = c.args.lines.now in
     let f = played c.round.new.self c.round.new.log in
+    let now = g.N.Notices.taken c.round.new.live in
     rw p.1
     (rw p.2
-    (small-weaker Bool (Unit {0}) _ (λ need. CutRound lanes lines (played c.rounds.self c.rounds.log) c.rounds.replies c.rounds.next (out_of_heap need f) c.round.new.replies)
-    (λ need. (turns : ℕ) × RanToCut lanes lines (played c.args.self.now c.args.log.now) c.args.replies.now turns (out_of_heap need f) c.round.new.replies)
-    (λ need cut. turns-cut (out_of_heap need f) c.round.new.replies c.rounds.invariant.turns cut) c.in_err-round.ensures.cut_turn))
+    (small-weaker Bool (Unit {0}) _ (λ need. (fed : List Notice) × (now ≡ told_with (g.N.Notices.taken c.rounds.live) fed) × CutRound lanes lines (played c.rounds.self c.rounds.log) c.rounds.replies c.rounds.next (out_of_heap need f) c.round.new.replies fed)
+    (λ need. (fed : List Notice) × (now ≡ told_with (g.N.Notices.taken c.args.live.now) fed) × (turns : ℕ) × RanToCut lanes lines (played c.args.self.now c.args.log.now) c.args.replies.now turns (out_of_heap need f) c.round.new.replies fed)
+    (λ need cut. turns-cut (out_of_heap need f) c.round.new.replies now c.rounds.invariant.turns cut) c.in_err-round.ensures.cut_turn))
 
 -- a player with lists that have the same items is played on as the same engine
-played-same : {p q : Player} (a b : TurnLog) → p ≡ q → a.answers.items ≡ b.answers.items → a.opened.items ≡ b.opened.items → played p a ≡ played q b
-played-same {p} {q} a b same answers opened =
+played-same : {p q : Player} (a b : TurnLog) → p ≡ q → a.answers.items ≡ b.answers.items → a.opened.items ≡ b.opened.items → a.live.items ≡ b.live.items → played p a ≡ played q b
+played-same {p} {q} a b same answers opened live =
     ap (λ (x : Player). played x a) same
-    ∙ (ap (λ (x : List Answer). with_turns (played q a) x a.opened.items) answers ∙ ap (λ (x : List Opened). with_turns (played q a) b.answers.items x) opened)
+    ∙ (ap (λ (x : List Answer). with_turns (played q a) x a.opened.items a.live.items) answers
+    ∙ (ap (λ (x : List Opened). with_turns (played q a) b.answers.items x a.live.items) opened ∙ ap (λ (x : List Answer). with_turns (played q a) b.answers.items b.opened.items x) live))
 
 pub returns-in_err-round-clause-want : goal.returns-in_err-round-clause-want
 returns-in_err-round-clause-want g c =
@@ -119,12 +159,15 @@ returns-in_err-round-clause-want g c =
     let lanes = lists_of c.args.lanes.now in
     let lines = c.args.lines.now in
     let f = played c.round.new.self c.round.new.log in
+    let kept = c.round.new.log in
+    let now = g.N.Notices.taken c.round.new.live in
+    let coming = g.N.Notices.coming c.round.new.live in
     rw p.1
     (rw p.2
-    (room-both Bool (Unit {0}) _ (HasNoRoomFor c.round.new.log.answers (length (hints_at (hints_in lines) c.rounds.next) + 2 * longest_of (hints_in lines)))
-    ((c.round.new.self ≡ c.rounds.self) × (c.round.new.replies ≡ c.rounds.replies) × (c.round.new.log.answers.items ≡ c.rounds.log.answers.items) × (c.round.new.log.opened.items ≡ c.rounds.log.opened.items))
-    (RanToWant lanes lines (played c.args.self.now c.args.log.now) c.args.replies.now f c.round.new.replies c.round.new.log.answers)
-    (λ wants same. turns-want f c.round.new.replies c.round.new.log.answers c.rounds.invariant.turns (played-same c.round.new.log c.rounds.log same.0 same.2 same.3) same.1 wants)
+    (room-both Bool (Unit {0}) _ (WantsRoom kept.answers (length (hints_at (hints_in lines) c.rounds.next) + 2 * longest_of (hints_in lines)) kept.live coming)
+    ((c.round.new.self ≡ c.rounds.self) × (c.round.new.replies ≡ c.rounds.replies) × (kept.answers.items ≡ c.rounds.log.answers.items) × (kept.opened.items ≡ c.rounds.log.opened.items) × (kept.live.items ≡ c.rounds.log.live.items) × (c.round.new.live ≡ c.rounds.live))
+    ((fed : List Notice) × (now ≡ told_with (g.N.Notices.taken c.args.live.now) fed) × RanToWant lanes lines (played c.args.self.now c.args.log.now) c.args.replies.now f c.round.new.replies kept.answers fed kept.live coming)
+    (λ wants same. turns-want f c.round.new.replies kept.answers kept.live coming now c.rounds.invariant.turns (played-same kept c.rounds.log same.0 same.2 same.3 same.4) same.1 (ap (λ x. g.N.Notices.taken x) same.5) wants)
     c.in_err-round.ensures.no_room c.in_err-round.ensures.undone))
 
 pub rounds-smaller : goal.rounds-smaller

@@ -1,4 +1,4 @@
-use Rattle.std.proofs.Common.{◌≡◌, ◌+◌, ◌≤◌, length, vec_capacity}
+use Rattle.std.proofs.Common.{◌≡◌, ◌+◌, ◌≤◌, false, length, vec_capacity}
 use Rattle.std.specs.List.{AllByRecursion}
 use Rattle.bc_model.specs.Rows.{lists_of}
 use Rattle.bc_model.specs.WellFormed.{FitsFrames}
@@ -21,7 +21,9 @@ invariant-rounds g l = record {
   budgets : AllByRecursion (FitsFrames l.self.setup) l.lines;
   kept : IsRoomKept l.self.running.holders l.self.running.heap.roots.slots (lists_of l.lanes) (lists_of l.replies) l.room;
   room : length l.log.opened.items + left (lists_of l.lanes) (lists_of l.replies) + 1 ≤ vec_capacity l.log.opened;
-  turns : IsAtTurn (lists_of l.lanes) l.lines (played l.initial.self l.initial.log) l.initial.replies (played l.self l.log) l.replies l.next;
+  turns : IsAtTurn (lists_of l.lanes) l.lines (played l.initial.self l.initial.log) l.initial.replies (played l.self l.log) l.replies l.next (g.N.Notices.taken l.initial.live) (g.N.Notices.taken l.live);
+  feed : (g.N.Notices.shared l.live ≡ g.N.Notices.shared l.initial.live) × (g.N.Notices.told l.live ≡ g.N.Notices.told l.initial.live) × (g.N.Notices.most l.live ≡ g.N.Notices.most l.initial.live);
+  unasked : g.N.Notices.coming l.initial.live ≡ false → (l.live ≡ l.initial.live) × (l.log.live.items ≡ l.initial.log.live.items);
 }
 
 abbrev pub decreases-rounds : goal.decreases-rounds
