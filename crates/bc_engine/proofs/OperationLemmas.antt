@@ -1,5 +1,5 @@
 -- How many operations the lanes of a phase have.
-use Rattle.std.proofs.Common.{Vec, Global, vec_len, ◌≡◌, ℕ, ◌+◌, ◌-◌, ◌^◌, ◌<◌, ◌≤◌, length, drop, get_or, List, [], min, sym, ap, ◌∙◌, arith}
+use Rattle.std.proofs.Common.{Vec, Global, vec_len, ◌≡◌, ℕ, ◌+◌, ◌-◌, ◌^◌, ◌<◌, ◌≤◌, length, drop, get_or, List, [], min, arith}
 use Rattle.std.specs.Prelude.{sum_by}
 use Rattle.std.proofs.lemmas.List.{at_drop_all, length-map}
 use Rattle.std.proofs.lemmas.List.Sums.{sum_by-drop_more}
