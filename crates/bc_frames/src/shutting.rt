@@ -1,6 +1,6 @@
 //! Boxes that are shut: one gives no word until it is opened, and each opening is counted.
 
-ghost use Rattle.std.specs.Prelude.{◌≡◌, ℕ, List};
+ghost use Rattle.std.specs.Prelude.{◌≡◌, ℕ, ◌+◌, ◌-◌, ◌^◌, List, min};
 ghost use Rattle.bc_frames.specs.Places.{one_more};
 
 use crate::pages::Page;
@@ -61,6 +61,13 @@ impl Opens {
         ensures none { result ≡ 0 }
     {
         Opens { count: 0 }
+    }
+
+    /// Counts those that another counted besides. The count stays at the last value of 64 bits.
+    pub fn add(&mut self, other: Opens)
+        ensures sum { self.new ≡ min (self.old + other) (2 ^ 64 - 1) }
+    {
+        self.count = self.count.saturating_add(other.spend());
     }
 
     /// How many boxes were opened. That ends the count.
