@@ -1,5 +1,5 @@
 -- What the calls of a table require and return.
-use Rattle.std.specs.Prelude.{◌≡◌, ℕ, ◌-◌, ◌^◌, ◌<◌, ◌⊎◌, length, min, Bool, true, false, if◌then◌else◌, List, [], Some, None}
+use Rattle.std.specs.Prelude.{◌≡◌, ◌≢◌, ℕ, ◌-◌, ◌^◌, ◌<◌, ◌⊎◌, length, min, Bool, true, false, if◌then◌else◌, List, [], Some, None}
 use Rattle.bc_bookmarks.specs.Targets.{HasCell}
 use Rattle.bc_pins.specs.declared.key.Role.{Role}
 use Rattle.bc_pins.specs.declared.key.Role.TheVariants.{Marker}
@@ -17,8 +17,8 @@ use Rattle.bc_pins.specs.declared.taking.TakeError.TheVariants.{Busy, Gone, Reme
 use Rattle.bc_pins.specs.Key.{Key, pages_of, owner, IsFrozenIn, role_number}
 use Rattle.bc_pins.specs.Totals.{times}
 use Rattle.bc_pins.specs.Contents.{IsBarePage, IsContent, RefersYoung}
-use Rattle.bc_pins.specs.Views.{has_role}
-use Rattle.bc_pins.specs.Steps.{both_slots, gripping, having_read, released}
+use Rattle.bc_pins.specs.Views.{has_role, opened_word}
+use Rattle.bc_pins.specs.Steps.{HasAllRoles, both_slots, gripping, having_read, released}
 
 -- the key of a table
 abbrev pub key_of : Pins → Key
@@ -114,8 +114,9 @@ refusal_word Busy = 3
 refusal_word Gone = 4
 
 -- the refusal is what the last step on the page's word read; Remembered comes with Victim alone. What was read as Remembered
--- before is refused as that or as Busy, and what is known to be Gone as Gone. Busy is noted where the seat holds the page's domain.
--- No allocated cell lies on a page that is Absent, and one lies on a page that is Gone
+-- before is refused as that or as Busy, and what is known to be Gone as Gone. Busy is noted where the seat holds the page's domain, and
+-- doesn't come to a seat that has all roles. No allocated cell lies on a page that is Absent, and one lies on a page that is Gone, which
+-- wasn't Remembered at the opening
 pub record IsTakeRefused (v : View) (page : ℕ) (want : Want) (no : TakeError) (w : View) : Type 0 where
   pub read : (w ≡ having_read v page (refusal_word no)) ⊎ ((want ≡ Work) × (w ≡ having_read (having_read v page 2) page (refusal_word no)))
   pub victim : no ≡ Remembered → want ≡ Victim
@@ -124,6 +125,8 @@ pub record IsTakeRefused (v : View) (page : ℕ) (want : Want) (no : TakeError) 
   pub busy : no ≡ Busy → 0 < has_role v (owner v.about page) → 0 < times page w.busy
   pub bare : no ≡ Absent → IsBarePage v.about.opening page
   pub there : no ≡ Gone → HasCell v.about.opening page
+  pub quiet : no ≡ Gone → opened_word v.about page ≢ 2
+  pub alone : HasAllRoles v → no ≢ Busy
 
 -- the seat read the page's word as Remembered
 abbrev pub WasSeen : View → ℕ → Type 0

@@ -17,7 +17,7 @@ use Rattle.bc_pins.specs.Key.{Key, owner, page_at, counter_at, bookmark_at, fram
 use Rattle.bc_pins.specs.Totals.{times}
 use Rattle.bc_pins.specs.Contents.{IsContent, RefersYoung, IsBarePage, objects_in}
 use Rattle.bc_pins.specs.Facts.{IsBitOfTarget, points}
-use Rattle.bc_pins.specs.Tracing.{RefersToCell, KnowsMarked}
+use Rattle.bc_pins.specs.Tracing.{RefersToCell, KnowsMarked, opened_mark, opened_finished, tells}
 use Rattle.bc_pins.specs.Views.{is_empty_handed, has_role, sets_bit, opened_content, opened_word, record_of}
 
 -- what a seat has: its view, and the slots that are out with it
@@ -232,14 +232,21 @@ pub record MayVacate (k : Key) (h : Hand) : Type 0 where
   pub uncounted : h.counted ≡ []
   pub unmarked : h.marked ≡ []
 
+-- the seat has each role that was given out, so no other one works
+abbrev pub HasAllRoles : View → Type 0
+HasAllRoles v = (r : ℕ) → times r v.roles ≡ times r v.about.roles
+
 -- what is known by a word that was read: the page's state, and what was read of it before is still so. No allocated cell lies on
--- a page that is Absent, and one lies on a page that is Gone
+-- a page that is Absent, and one lies on a page that is Gone, which wasn't Remembered at the opening. A seat that has all roles and
+-- nothing in hand reads no page as Held
 pub record ReadsWord (v : View) (page found : ℕ) : Type 0 where
   pub word : found ≤ 4
   pub bare : found ≡ 0 → IsBarePage v.about.opening page
   pub there : found ≡ 4 → HasCell v.about.opening page
   pub seen : 0 < times page v.seen → found ≢ 2 → found ≡ 3
   pub gone : 0 < times page v.gone → found ≡ 4
+  pub quiet : found ≡ 4 → opened_word v.about page ≢ 2
+  pub alone : HasAllRoles v → v.hand ≡ None → found ≢ 3
 
 -- what is known of the box of a page that was taken from Home, or from Home and remembered. Its content is what the lane that
 -- holds the page's domain put back last, and where none does that of the opening. An own page is remembered exactly where it was
@@ -369,17 +376,20 @@ pub record TookNotice (st : Step Lodged) (m : Mine) (found : ℕ) (m' : Mine) : 
 pub record Shaded (st : Step Lodged) (m : Mine) (found : ℕ) (m' : Mine) : Type 0 where
   pub view : (w : ℕ) → st.word ≡ mark_at m.0.about w → m' ≡ (shading m.0 w st.first found, m.1)
 
--- look at marks: the view has what was read of the mark word
+-- look at marks: the view has what was read of the mark word, and that has the marks of the opening and those that the seat won
 pub record SawMarks (st : Step Lodged) (m : Mine) (found : ℕ) (m' : Mine) : Type 0 where
   pub view : (w : ℕ) → st.word ≡ mark_at m.0.about w → m' ≡ (seeing m.0 w found, m.1)
+  pub own : (w b : ℕ) → st.word ≡ mark_at m.0.about w → b < 64 → opened_mark m.0.about w b + tells w b m.0.won ≤ bit_at found b
 
 -- done bit: the view has the bits of the finished word set
 pub record Finished (st : Step Lodged) (m : Mine) (found : ℕ) (m' : Mine) : Type 0 where
   pub view : (w : ℕ) → st.word ≡ finished_at m.0.about w → m' ≡ (finishing m.0 w st.first found, m.1)
 
--- look at what is finished: the view has what was read of the finished word
+-- look at what is finished: the view has what was read of the finished word, and that has the cells which were finished at the opening and
+-- those that the seat finished
 pub record SawFinished (st : Step Lodged) (m : Mine) (found : ℕ) (m' : Mine) : Type 0 where
   pub view : (w : ℕ) → st.word ≡ finished_at m.0.about w → m' ≡ (having_looked m.0 w found, m.1)
+  pub own : (w b : ℕ) → st.word ≡ finished_at m.0.about w → b < 64 → 0 < opened_finished m.0.about w b + tells w b m.0.finished → bit_at found b ≡ 1
 
 -- Frame give
 pub record GaveFrames (st : Step Lodged) (m : Mine) (found : ℕ) (m' : Mine) : Type 0 where

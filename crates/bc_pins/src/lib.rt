@@ -25,6 +25,9 @@
 // `store_in`, and `evict_word`, after which its word says Gone; or `store_in` and `discard_word` where no cell lies on it. The
 // word is the last of them. The right to the page's frame is then in the seat's view, and `frame_give` gives it back.
 //
+// `join` makes two seats one while the table goes on, and `join_all` all of them: that seat has all roles, so what it read of marks and
+// finished cells are all that there are, and no page is in another's hands.
+//
 // `open` makes words and slots out of a space's headers and lists, and deals a seat for each role. `close` joins all seats into
 // one, puts the boxes back and makes states, counters and bookmarks of the words: the space is as it was opened, but that each
 // page has its record, Gone pages are summarised, and frames that were given back are free. The frame words are the pool's own: a
@@ -53,7 +56,7 @@
 // Where things are: `pins` the table and a seat, `key` what a table is made from and where its words and slots lie, `words` which word
 // each state of a page has, `views` slots and views, `rule` the rule and what steps say, `taking` the calls on pages, `giving` the steps
 // by which one is given up, `reloading` those by which one comes back, `noticing` the claim of a notice, `marking` the steps of a mark
-// turn, `holding` a page in hand, `reading` what everybody may read; `opening` with `room`, `filling`, `lodging` and `rest`; `closing`
+// turn, `joining` seats that become one, `holding` a page in hand, `reading` what everybody may read; `opening` with `room`, `filling`, `lodging` and `rest`; `closing`
 // with `gathering`. Gates, where a test may look on, are passed on from `bc_gates`.
 #![tactic(auto)]
 
@@ -62,6 +65,7 @@ mod filling;
 mod gathering;
 mod giving;
 mod holding;
+mod joining;
 mod key;
 mod laws;
 mod lodging;
