@@ -74,6 +74,8 @@ pub mod InsideLemmas
 pub mod DrawLemmas
 -- Seats that are joined one by one
 pub mod GatherLemmas
+-- A seat into which others are joined while the table goes on
+pub mod JoiningLemmas
 -- Slots that are taken out one by one, and states that are written one by one.
 pub mod DrainLemmas
 -- Boxes that come out of slots
