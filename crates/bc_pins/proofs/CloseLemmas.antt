@@ -19,17 +19,13 @@ use Rattle.bc_pins.specs.Tracing.{tells}
 use Rattle.bc_pins.specs.Rule.{Rule, Ruled}
 use Rattle.bc_pins.specs.Claims.{Claims}
 use Rattle.bc_pins.specs.Opening.{ClosesPage, HasClosed}
-use Rattle.bc_pins.proofs.TotalLemmas.{total_at, total_only, total_two, one_same}
+use Rattle.bc_pins.proofs.TotalLemmas.{total_at, total_only}
 use Rattle.bc_pins.proofs.WithholdLemmas.{foreign_none}
 use Rattle.bc_pins.proofs.TracingLemmas.{KeepsMarks, keeps_set, knows_stay, tracing_kept}
 use Rattle.bc_pins.proofs.ReadLemmas.{remembered_word}
+use Rattle.bc_pins.proofs.AloneLemmas.{alone, no_role, none_held}
 use Rattle.bc_pins.proofs.JoinLemmas.{look_none, puts_none}
 use Rattle.bc_pins.proofs.SumLemmas.{sum_same}
-
--- a list in which nothing stands is empty
-pub none_times : (l : List ℕ) → ((r : ℕ) → times r l ≡ 0) → l ≡ []
-none_times [] each = refl
-none_times (x ∷ xs) each = let a = each x in let b = one_same x in absurd (omega arith)
 
 -- a page that isn't Held has both of its slots at home
 lies_home : (n : ℕ) (a b : Slot) (c : List ℕ) → n ≢ 3 → Lies n a b c → ((y : Lodged) × (a ≡ some (some y))) × ((z : Lodged) × (b ≡ some (some z)))
@@ -58,21 +54,11 @@ all_home (h ∷ hs) (x ∷ xs) size home out =
 
 module _ (k : Key) (s : Table) (r : Rule k s) (id : ℕ) (v : View) (at : get_elem? s.views id ≡ some v) (about : v.about ≡ k) (nothing : v.hand ≡ None) (all_roles : (n : ℕ) → times n v.roles ≡ times n k.roles)
     (claims : Claims k s) (xs : List Lodged) (size : length s.homes ≡ length xs) (out : (i : ℕ) (y : Lodged) → get_elem? s.homes i ≡ some (some y) → get_elem? xs i ≡ some y) where
-  no_role : (j : ℕ) (u : View) → j ≢ id → get_elem? s.views j ≡ some u → (n : ℕ) → has_role u n ≡ 0
-  no_role j u ne is n =
-      let two = total_two (λ (z : View). times n z.roles) s.views j id u v ne is at in
-      let each = r.roles.each n in
-      let all = all_roles n in
-      omega arith
-
-  idle_else : (j : ℕ) (u : View) → j ≢ id → get_elem? s.views j ≡ some u → IsIdle u
-  idle_else j u ne is = (r.seats j u is).seated.idle (none_times u.roles (no_role j u ne is))
-
   only_put : (p w b : ℕ) → total (λ (u : View). puts_with k p w b u.changed) s.views ≡ puts_with k p w b v.changed
-  only_put p w b = total_only (λ (u : View). puts_with k p w b u.changed) s.views id v at (λ j u ne is. puts_none k p w b u.changed ((r.seats j u is).records.others p (no_role j u ne is (owner k p))))
+  only_put p w b = total_only (λ (u : View). puts_with k p w b u.changed) s.views id v at (λ j u ne is. puts_none k p w b u.changed ((r.seats j u is).records.others p (no_role k s r id v at all_roles j u ne is (owner k p))))
 
   only : (f : View → ℕ) → ((u : View) → IsIdle u → f u ≡ 0) → total f s.views ≡ f v
-  only f z = total_only f s.views id v at (λ j u ne is. z u (idle_else j u ne is))
+  only = alone k s r id v at all_roles
 
   idle_withholds : (p : ℕ) (u : View) → IsIdle u → withholds k p u ≡ 0
   idle_withholds p u i =
@@ -81,12 +67,7 @@ module _ (k : Key) (s : Table) (r : Rule k s) (id : ℕ) (v : View) (at : get_el
       omega arith
 
   not_held : (p : ℕ) → p < pages_of k → page_word s p ≢ 3
-  not_held p lt e =
-      let held = (r.place p lt).held in
-      let sum = only (λ u. grips p u.hand) (λ u i. ap (grips p) i.hand) in
-      let mine : grips p v.hand ≡ 0 = ap (grips p) nothing in
-      let is : one_if (page_word s p == 3) ≡ 1 = ap (λ (n : ℕ). one_if (n == 3)) e in
-      omega arith
+  not_held = none_held k s r id v at all_roles nothing
 
   record_is : (p : ℕ) → r.rec p ≡ record_of v p
   record_is p =

@@ -86,7 +86,7 @@ read_moved v front seat i n m e =
 pub entries_none : (k : Key) (v : View) (p : ℕ) → IsTidy v → v.about ≡ k → has_role v (owner k p) ≡ 0 → entries p v.changed ≡ 0
 entries_none k v p tidy about z = tidy p (subst (λ (a : Key). has_role v (owner a p) ≡ 0) (sym about) z)
 
-tidy_united : (k : Key) (v w : View) → IsTidy v → IsTidy w → v.about ≡ k → w.about ≡ k → IsTidy (united v w)
+pub tidy_united : (k : Key) (v w : View) → IsTidy v → IsTidy w → v.about ≡ k → w.about ≡ k → IsTidy (united v w)
 tidy_united k v w a b e f p z =
     let both = times_append (owner v.about p) v.roles w.roles in
     let one = a p (omega arith) in

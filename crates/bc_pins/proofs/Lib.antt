@@ -8,6 +8,8 @@ pub mod LogLemmas
 pub mod TracingLemmas
 -- What a step on a page word owes, and that the rule then holds after it.
 pub mod PageSteps
+-- A seat that has all roles
+pub mod AloneLemmas
 -- What was read stays so, through a step on a page word, and a word that is read alone.
 pub mod ReadLemmas
 -- Taking a page, from Home or from Home and remembered.
@@ -72,6 +74,8 @@ pub mod InsideLemmas
 pub mod DrawLemmas
 -- Seats that are joined one by one
 pub mod GatherLemmas
+-- A seat into which others are joined while the table goes on
+pub mod JoiningLemmas
 -- Slots that are taken out one by one, and states that are written one by one.
 pub mod DrainLemmas
 -- Boxes that come out of slots

@@ -14,7 +14,7 @@ use Rattle.bc_pins.specs.declared.views.View.{View}
 use Rattle.bc_pins.specs.Key.{Key, pages_of, owner, page_at}
 use Rattle.bc_pins.specs.Totals.{total, times}
 use Rattle.bc_pins.specs.Contents.{IsBarePage}
-use Rattle.bc_pins.specs.Views.{is_empty_handed, grips, grips_remembered, has_role, reads_as}
+use Rattle.bc_pins.specs.Views.{is_empty_handed, grips, grips_remembered, has_role, opened_word, reads_as}
 use Rattle.bc_pins.specs.Facts.{Table, Lies, remembered_now, fetched_ever, Saw, page_word}
 use Rattle.bc_pins.specs.Rule.{Rule, Ruled}
 use Rattle.bc_pins.specs.Steps.{Mine, owns, having_read, ReadsWord, Looked}
@@ -24,6 +24,7 @@ use Rattle.bc_pins.proofs.WithholdLemmas.{added_other, noted_busy}
 use Rattle.bc_pins.proofs.MarkedLemmas.{targets_kept}
 use Rattle.bc_pins.proofs.LogLemmas.{reads-else, reads-here, reads-more, pages-else, held_read}
 use Rattle.bc_pins.proofs.PageSteps.{after, page_step}
+use Rattle.bc_pins.proofs.AloneLemmas.{none_held}
 
 -- no two pages have one word
 pub same_page : (p q : ℕ) → page_at p ≡ page_at q → p ≡ q
@@ -117,6 +118,11 @@ reads k s r p id v near at about =
         | inr other ↦ absurd (ne (remembered_word k s r p near other (facts.seen p lt).1))
       ];
       gone = λ lt. (facts.gone p lt).2;
+      quiet = λ four two.
+          let opened : one_if (opened_word k p == 2) ≡ 1 = ap (λ (n : ℕ). one_if (n == 2)) (subst (λ (a : Key). opened_word a p ≡ 2) about two) in
+          let now = remembered_word k s r p near (λ x. omega arith) ((r.standing p near).remembered (omega arith)) in
+          omega arith;
+      alone = λ all nothing. none_held k s r id v at (λ n. all n ∙ ap (λ (a : Key). times n a.roles) about) nothing p near;
     }
 
 -- a word that is read and stays

@@ -3,19 +3,18 @@
 ghost use Rattle.std.specs.Prelude.{◌≡◌, ℕ, ◌+◌, ◌-◌, ◌^◌, ◌<◌, ◌≤◌, [], ◌∷◌, ◌++◌, length, min, vec_capacity};
 ghost use Rattle.bc_pins.specs.Steps.{united};
 ghost use Rattle.bc_pins.specs.Calls.{key_of, view_of, slots_of, IsAt, IsFree};
-ghost use Rattle.bc_pins.specs.Closing.{AreBack, Gathered};
+ghost use Rattle.bc_pins.specs.Closing.{AreBack, Gathered, IsBack};
 
 use crate::pins::{Pins, Seat};
 use crate::rule::Unite;
 
 impl Pins {
-    /// Joins another seat into a seat, which has then what both did and read, and the roles of both. The other has no page and no
-    /// right to a frame in hand.
+    /// Joins another seat into a seat, which has then what both did and read, and the roles of both. Neither has a page in hand, and
+    /// the other has no right to a frame.
     pub fn join(&self, seat: &mut Seat, other: Seat)
         requires seat { IsAt self.now seat.old }
-        requires other { IsAt self.now other }
-        requires free { IsFree other }
-        requires rights { (view_of other).rights ≡ [] }
+        requires free { IsFree seat.old }
+        requires other { IsBack self.now.table.shared.table_id (key_of self.now) other }
         ensures view { view_of seat.new ≡ united (view_of seat.old) (view_of other) }
         ensures slots { slots_of seat.new ≡ slots_of seat.old }
         ensures opens { seat.new.opens ≡ min (seat.old.opens + other.opens) (2 ^ 64 - 1) }

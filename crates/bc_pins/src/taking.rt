@@ -72,7 +72,8 @@ impl Pins {
         ensures same { IsSameSeat seat.old seat.new }
         ensures ok { IfOk result (λ held. (held.remembered ≡ true) × Grasps (view_of seat.old) seat.new page held
             × Takes (view_of seat.old) page true held.homed) }
-        ensures err { IfErr result (λ no. (no ≡ Busy) × IsFree seat.new × (view_of seat.new ≡ having_read (view_of seat.old) page 3)) }
+        ensures err { IfErr result (λ no. (no ≡ Busy) × IsFree seat.new × (view_of seat.new ≡ having_read (view_of seat.old) page 3)
+            × ReadsWord (view_of seat.old) page 3) }
     {
         match self.grip(seat, page, REMEMBERED) {
             Ok(held) => Ok(held),
