@@ -10,7 +10,7 @@ use Rattle.bc_pins.specs.Key.{Key, role_number}
 use Rattle.bc_pins.specs.Totals.{times}
 use Rattle.bc_pins.specs.Views.{has_role}
 use Rattle.bc_pins.specs.Steps.{Mine, united}
-use Rattle.bc_pins.specs.Calls.{key_of, view_of, slots_of, IsAt, CountsFetches}
+use Rattle.bc_pins.specs.Calls.{view_of, slots_of, IsAt, CountsFetches}
 use Rattle.bc_pins.specs.Closing.{AreBack, Gathered}
 use Rattle.bc_pins.proofs.TotalLemmas.{times_append}
 use Rattle.bc_pins.proofs.GatherLemmas.{gathered_more, seat_is_back}

@@ -25,8 +25,9 @@
 // `store_in`, and `evict_word`, after which its word says Gone; or `store_in` and `discard_word` where no cell lies on it. The
 // word is the last of them. The right to the page's frame is then in the seat's view, and `frame_give` gives it back.
 //
-// `join` makes two seats one while the table goes on, and `join_all` all of them: that seat has all roles, so what it read of marks and
-// finished cells are all that there are, and no page is in another's hands.
+// `join` makes two seats one while the table goes on, and `join_all` all of them. That seat has all roles then and works alone: no page
+// is in another's hands, so `take` isn't refused as Busy, and what is marked and finished is what was so at the opening and what this seat
+// won and finished (`proofs/AloneLemmas.antt`).
 //
 // `open` makes words and slots out of a space's headers and lists, and deals a seat for each role. `close` joins all seats into
 // one, puts the boxes back and makes states, counters and bookmarks of the words: the space is as it was opened, but that each
@@ -49,15 +50,16 @@
 // and those that the views won, each once; each marked cell is reached from the opening's marks and what is bookmarked now, through
 // pages that aren't Gone now; and what a finished cell refers to, or a cell on a page that went Gone in this turn, is marked.
 // `shade` sets mark bits, of cells to which a marked cell of the page in hand refers or which the seat bookmarked; `look_marks`
-// reads them; `done_bit` finishes cells whose targets the seat knows to be marked, and `look_finished` reads which are. Finished
+// reads them; `done_bit` finishes cells whose targets the seat knows to be marked, and `look_finished` reads which are. What a look reads
+// has what was so at the opening, and what the seat itself won or finished. Finished
 // cells have words of their own, so a page is put back by `put` alone. A page may leave only where the seat knows its targets to be
 // marked. No content changes in a mark turn, so what refers to what is the opening's.
 //
 // Where things are: `pins` the table and a seat, `key` what a table is made from and where its words and slots lie, `words` which word
 // each state of a page has, `views` slots and views, `rule` the rule and what steps say, `taking` the calls on pages, `giving` the steps
 // by which one is given up, `reloading` those by which one comes back, `noticing` the claim of a notice, `marking` the steps of a mark
-// turn, `joining` seats that become one, `holding` a page in hand, `reading` what everybody may read; `opening` with `room`, `filling`, `lodging` and `rest`; `closing`
-// with `gathering`. Gates, where a test may look on, are passed on from `bc_gates`.
+// turn, `joining` seats that become one, `holding` a page in hand, `reading` what everybody may read; `opening` with `room`, `filling`,
+// `lodging` and `rest`; `closing` with `gathering`. Gates, where a test may look on, are passed on from `bc_gates`.
 #![tactic(auto)]
 
 mod closing;
