@@ -19,7 +19,7 @@ use Rattle.bc_pins.specs.Steps.{given_back, giving, AreRights, MayVacate, both_s
 use Rattle.bc_pins.specs.Calls.{key_of, view_of, slots_of, IsAt, HoldsPage}
 use Rattle.bc_pins.proofs.TotalLemmas.{one_other}
 use Rattle.bc_pins.proofs.LogLemmas.{reads-else}
-use Rattle.bc_pins.proofs.CloseLemmas.{none_times}
+use Rattle.bc_pins.proofs.AloneLemmas.{none_times}
 use Rattle.bc_evict.specs.Evicting.{HasGiven, MayDiscard}
 
 -- is the frame's bit one of these?

@@ -12,7 +12,7 @@ use Rattle.bc_pins.specs.Rule.{Rule}
 use Rattle.bc_pins.proofs.TotalLemmas.{total_only, total_two, one_same}
 
 -- a list in which nothing stands is empty
-none_times : (l : List ℕ) → ((r : ℕ) → times r l ≡ 0) → l ≡ []
+pub none_times : (l : List ℕ) → ((r : ℕ) → times r l ≡ 0) → l ≡ []
 none_times [] each = refl
 none_times (x ∷ xs) each = let a = each x in let b = one_same x in absurd (omega arith)
 
