@@ -33,7 +33,7 @@
 // one, puts the boxes back and makes states, counters and bookmarks of the words: the space is as it was opened, but that each
 // page has its record, Gone pages are summarised, and frames that were given back are free. The frame words are the pool's own: a
 // bit for each frame, set where it is in use. In a mark turn words for queues have their places too (`specs/Key.antt`); no step
-// changes them.
+// reads or changes them.
 //
 // Pagers share the notices of a turn: they are numbered from 0 on, and the notice word has the number of the next. `claim_notice`
 // claims it in one step, so no two seats have one number and none is passed over. The table doesn't know how many notices there are:

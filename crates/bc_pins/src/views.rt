@@ -63,7 +63,7 @@ pub struct View {
     pub known: LinkedList<(u32, u64)>,
     pub won: LinkedList<(u32, u64)>,
     pub finished: LinkedList<(u32, u64)>,
-    /// Pages that it owes a queue bit, since it won a mark there, and since it cleared theirs.
+    /// Pages that it owes a queue bit, since it won a mark there, and since it cleared theirs. No step fills these two yet.
     pub owed: LinkedList<u32>,
     pub dequeued: LinkedList<u32>,
     /// The numbers of the notices that it claimed.
