@@ -10,7 +10,7 @@ use Rattle.bc_pins.specs.declared.key.Turn.{Turn}
 use Rattle.bc_pins.specs.declared.key.Turn.TheVariants.{Lanes, Mark}
 use Rattle.bc_pins.specs.Key.{page_at, table_words}
 use Rattle.bc_pins.specs.Views.{state_word}
-use Rattle.bc_pins.specs.Filling.{Extends, AddsFrames, AddsStates, IsFrameWord}
+use Rattle.bc_pins.specs.Filling.{Extends, Adds, AddsStates}
 
 pub front_same : (xs : List ℕ) (y i : ℕ) → i < length xs → get_or (xs ++ y ∷ []) i 0 ≡ get_or xs i 0
 front_same [] y i lt = absurd (omega arith)
@@ -42,19 +42,19 @@ pub words_at_least : (s f : ℕ) (t : Turn) → 33 * s + (f + 63) / 64 + 1 ≤ t
 words_at_least s f Lanes = omega arith
 words_at_least s f Mark = omega arith
 
--- words of frames that are added one by one
-pub frames_none : (pool : List Bool) (o : List ℕ) → AddsFrames pool o o 0
-frames_none pool o = record { long = omega arith; kept = λ i _. refl; added = λ i lt. absurd (omega arith) }
+-- words that are added one by one, of which something is said
+pub adds_none : (Said : ℕ → ℕ → Type 0) (o : List ℕ) → Adds Said o o 0
+adds_none Said o = record { long = omega arith; kept = λ i _. refl; added = λ i lt. absurd (omega arith) }
 
-pub frames_more : (pool : List Bool) (o n : List ℕ) (k v : ℕ) → AddsFrames pool o n k → IsFrameWord pool k v → AddsFrames pool o (n ++ v ∷ []) (k + 1)
-frames_more pool o n k v e is =
+pub adds_more : (Said : ℕ → ℕ → Type 0) (o n : List ℕ) (k v : ℕ) → Adds Said o n k → Said k v → Adds Said o (n ++ v ∷ []) (k + 1)
+adds_more Said o n k v e is =
     let size = e.long in
     record {
       long = length-append n (v ∷ []) ∙ omega arith;
       kept = λ i lt. front_same n v i (omega arith) ∙ e.kept i lt;
       added = λ i lt. elim (cases_eq i k) [
-        | inl same ↦ subst (IsFrameWord pool i) (sym (end_is n v (length o + i) (omega arith))) (subst (λ (j : ℕ). IsFrameWord pool j v) (sym same) is)
-        | inr ne ↦ subst (IsFrameWord pool i) (sym (front_same n v (length o + i) (omega arith))) (e.added i (omega arith))
+        | inl same ↦ subst (Said i) (sym (end_is n v (length o + i) (omega arith))) (subst (λ (j : ℕ). Said j v) (sym same) is)
+        | inr ne ↦ subst (Said i) (sym (front_same n v (length o + i) (omega arith))) (e.added i (omega arith))
       ];
     }
 
