@@ -61,7 +61,7 @@ set_word set headers w = slice_index (set_in set (header_in headers (w / 16))) (
 
 -- the words of a mark turn were added
 pub record HasMarkWords (headers : List Header) (superpages : ℕ) (old new : List ℕ) : Type 0 where
-  pub long : length new ≡ length old + (32 * superpages + (4 * superpages + 63) / 64)
+  pub long : length new ≡ length old + 33 * superpages
   pub kept : (i : ℕ) → i < length old → slice_index new i ≡ slice_index old i
   pub marks : (w : ℕ) → w < 16 * superpages → slice_index new (length old + w) ≡ set_word Marks headers w
   pub finished : (w : ℕ) → w < 16 * superpages → slice_index new (length old + (16 * superpages + w)) ≡ set_word Finished headers w

@@ -113,7 +113,7 @@ pub(crate) fn word_count(superpages: usize, frames: usize, turn: Turn) -> usize
     let lanes = frame_entry(bit_words(frames), superpages) + 1;
     match turn {
         Turn::Lanes => lanes,
-        Turn::Mark => lanes + (2 * SET_WORDS * superpages + bit_words(PAGES * superpages)),
+        Turn::Mark => lanes + (2 * SET_WORDS + 1) * superpages,
     }
 }
 
@@ -145,10 +145,10 @@ pub(crate) fn fill_words(
 /// Adds the words that a mark turn has besides.
 fn fill_marks(words: &mut Vec<u64>, headers: &[Header], superpages: usize)
     requires size { (superpages ≤ 4096) × (superpages ≤ length headers.now) }
-    requires room { length words.old.items + (32 * superpages + (4 * superpages + 63) / 64) ≤ vec_capacity words.old }
+    requires room { length words.old.items + 33 * superpages ≤ vec_capacity words.old }
     ensures filled { HasMarkWords headers.now superpages words.old.items words.new.items }
 {
     push_sets(words, headers, superpages, CellSet::Marks);
     push_sets(words, headers, superpages, CellSet::Finished);
-    push_zeros(words, bit_words(PAGES * superpages));
+    push_zeros(words, superpages);
 }
