@@ -42,7 +42,7 @@ use Rattle.bc_evict.proofs.MarkLemmas.{reads-then, Marks-same}
 pub may-bookmark : (v : View) (seat : Seat) (page : ℕ) (held : Held) → Grasps v seat page held → Takes v page held.remembered held.homed → held.remembered ≡ false → HasCell v.about.opening page → MayBookmark seat held
 may-bookmark v seat page held g t quiet there =
     let was = may_put_taken v seat page held g t in
-    let in_hand : (hand : Hand) → (view_of seat).hand ≡ Some hand → hand ≡ record { page = page; remembered = held.remembered; frame = held.homed.frame; content = held.homed.page; counted = []; marked = []; looked = [] } =
+    let in_hand : (hand : Hand) → (view_of seat).hand ≡ Some hand → hand ≡ record { page = page; remembered = held.remembered; frame = held.homed.frame; content = held.homed.page; counted = []; marked = [] } =
     λ hand had. same_Some _ _ (sym had ∙ ap (λ (w : View). w.hand) g.view) in
     record {
       as_taken = record {

@@ -37,7 +37,7 @@ module _ (k : Key) (kind : Kind) (u : View) (seat : Seat) (held : Held) (t : IsT
   takes = subst (λ (b : Bool). Takes u held.page b held.homed) (sym t.quiet) t.takes
 
   in_hand : (hand : Hand) → (view_of seat).hand ≡ Some hand
-      → hand ≡ record { page = held.page; remembered = held.remembered; frame = held.homed.frame; content = held.homed.page; counted = []; marked = []; looked = [] }
+      → hand ≡ record { page = held.page; remembered = held.remembered; frame = held.homed.frame; content = held.homed.page; counted = []; marked = [] }
   in_hand hand has = same_Some hand _ (sym has ∙ ap (λ (w : View). w.hand) t.grasps.view)
 
   about_now : (view_of seat).about ≡ k

@@ -278,7 +278,7 @@ module _ (v u : View) (seat : Seat) (page frame : ℕ) (held : Held) (f : HasFra
   w = view_of seat
 
   abbrev hand : Hand
-  hand = record { page = page; remembered = false; frame = frame; content = held.homed.page; counted = []; marked = []; looked = [] }
+  hand = record { page = page; remembered = false; frame = frame; content = held.homed.page; counted = []; marked = [] }
 
   abbrev now : View
   now = record v { rights = []; seen = u.seen; gone = w.gone; busy = w.busy; read = (r.looks ++ f.looks) ++ v.read; left = u.left; emptied = u.emptied; bookmarked = u.bookmarked; fetched = page ∷ v.fetched; hand = Some hand }

@@ -1,7 +1,9 @@
 -- Words that are added one by one.
-use Rattle.std.proofs.Common.{◌≡◌, ℕ, ◌+◌, ◌*◌, ◌/◌, ◌%◌, ◌<◌, ◌≤◌, if◌then◌else◌, nat_lt, Bool, List, [], ◌∷◌, ◌++◌, length, get_or, inl, inr, refl, ap, sym, subst, ◌∙◌, arith, length-append}
+use Rattle.std.proofs.Common.{◌≡◌, ℕ, ◌+◌, ◌*◌, ◌/◌, ◌%◌, ◌<◌, ◌≤◌, if◌then◌else◌, nat_lt, bit_and, min, Bool, List, [], ◌∷◌, ◌++◌, length, get_or, inl, inr, refl, ap, sym, subst, ◌∙◌, arith, length-append}
 use Prim.Native.Nat.{zero, suc}
 use Rattle.std.proofs.lemmas.Bool.{cases_eq, lt-ltb}
+use Rattle.std.specs.Int.{bit_at}
+use Rattle.std.proofs.lemmas.Nat.Bits.{bit_at_and, bit_at_ones}
 use Rattle.bc_superpages.specs.declared.headers.Header.{Header}
 use Rattle.bc_superpages.specs.declared.headers.PageState.TheVariants.{Absent}
 use Rattle.bc_superpages.specs.Headers.{unused_header}
@@ -10,7 +12,7 @@ use Rattle.bc_pins.specs.declared.key.Turn.{Turn}
 use Rattle.bc_pins.specs.declared.key.Turn.TheVariants.{Lanes, Mark}
 use Rattle.bc_pins.specs.Key.{page_at, table_words}
 use Rattle.bc_pins.specs.Views.{state_word}
-use Rattle.bc_pins.specs.Filling.{Extends, Adds, AddsStates}
+use Rattle.bc_pins.specs.Filling.{Extends, Adds, AddsStates, HasGrayBit}
 
 pub front_same : (xs : List ℕ) (y i : ℕ) → i < length xs → get_or (xs ++ y ∷ []) i 0 ≡ get_or xs i 0
 front_same [] y i lt = absurd (omega arith)
@@ -72,3 +74,21 @@ filled_at hs p =
 
 pub states_added : (hs : List Header) (o n : List ℕ) (count superpages : ℕ) → count ≡ 16 * superpages → Extends o n count (filled_word hs) → AddsStates hs o n superpages
 states_added hs o n count superpages is e = record { long = e.long ∙ ap (λ (m : ℕ). length o + m) is; kept = e.kept; states = λ p lt. e.added (page_at p) (omega arith) ∙ filled_at hs p }
+
+-- in this word of the header each cell that is marked and allocated is finished
+abbrev pub IsFinishedWord : Header → ℕ → Type 0
+IsFinishedWord h j = bit_and (bit_and (get_or h.marks j 0) (get_or h.cells j 0)) (get_or h.finished j 0) ≡ bit_and (get_or h.marks j 0) (get_or h.cells j 0)
+
+pub none_gray : (h : Header) → ((j : ℕ) → j < 16 → IsFinishedWord h j) → HasGrayBit h → ⊥
+none_gray h each g =
+    let m : ℕ = get_or h.marks g.word 0 in
+    let c : ℕ = get_or h.cells g.word 0 in
+    let f : ℕ = get_or h.finished g.word 0 in
+    let one : bit_at (bit_and m c) g.bit ≡ 1 = bit_at_and m c g.bit ∙ ap (λ (n : ℕ). min n (bit_at c g.bit)) g.marked ∙ ap (λ (n : ℕ). min 1 n) g.allocated in
+    let zero : bit_at (bit_and (bit_and m c) f) g.bit ≡ 0 = bit_at_and (bit_and m c) f g.bit ∙ ap (λ (n : ℕ). min n (bit_at f g.bit)) one ∙ ap (λ (n : ℕ). min 1 n) g.unfinished in
+    let same : bit_at (bit_and (bit_and m c) f) g.bit ≡ bit_at (bit_and m c) g.bit = ap (λ (n : ℕ). bit_at n g.bit) (each g.word g.near) in
+    omega arith
+
+-- a queue word has the bits of all four pages
+pub all_queued : (i : ℕ) → i < 4 → bit_at 15 i ≡ 1
+all_queued i lt = bit_at_ones 4 i lt

@@ -91,7 +91,9 @@ fn queue_word(header: &Header) -> u64
     ensures gray { QueuesGray header.now result }
 {
     for word in 0..SET_WORDS {
-        if header.marks[word] & !header.finished[word] & header.cells[word] != 0 {
+        let marked = header.marks[word] & header.cells[word];
+        let finished = marked & header.finished[word];
+        if finished != marked {
             return ALL_QUEUED;
         }
     }

@@ -75,6 +75,7 @@ mod marking;
 mod noticing;
 mod opening;
 mod pins;
+mod queueing;
 mod reading;
 mod reloading;
 mod rest;

@@ -1,23 +1,21 @@
-use Rattle.std.proofs.Common.{rules, ◌≡◌, ◌+◌, ◌*◌, ◌/◌, ◌%◌, ◌^◌, ◌<◌, ◌≤◌, if◌then◌else◌, nat_lt, [], length, slice_index, slice_index_or, vec_capacity, ℕ, ◌-◌, Bool, true, false, nat_eq, List, ◌∷◌, ◌++◌, slice_set, bit_and, bit_or, Fits, w8, w32, w64, Bor, MutBor}
-use Rattle.bc_superpages.specs.Headers.{unused_header}
-use Rattle.bc_superpages.specs.declared.headers.PageState.TheVariants.{Absent}
-use Rattle.bc_pins.specs.Views.{state_word}
-use Rattle.bc_pins.specs.Key.{Key, table_words}
-use Rattle.bc_pins.specs.Filling.{Extends, AddsFrames, AddsStates, AddsQueues, QueuesGray, IsSized, IsFilled, HasMarkWords, set_in}
+use Rattle.std.proofs.Common.{◌<◌, inl, inr, sym, subst, arith}
+use Rattle.std.proofs.lemmas.Bool.{cases_eq}
+use Rattle.bc_pins.proofs.FillLemmas.{IsFinishedWord, none_gray, all_queued}
 use Rattle.bc_pins.proofs.filling.queue_word.Goals as goal
 
--- src/filling.rt:93:5
 pub loop-word-init : goal.loop-word-init
-loop-word-init c = ?
+loop-word-init c = λ j lt. absurd (omega arith)
 
--- src/filling.rt:95:13
-pub returns-then-header-word-ne0 : goal.returns-then-header-word-ne0
-returns-then-header-word-ne0 c = ?
+pub returns-then-finished-ne-marked : goal.returns-then-finished-ne-marked
+returns-then-finished-ne-marked c = record { gray = λ g i lt. all_queued i lt }
 
--- src/filling.rt:93:5
 pub loop-word-preserved : goal.loop-word-preserved
-loop-word-preserved c = ?
+loop-word-preserved c = λ j lt. elim (cases_eq j c.loop-word.word) [
+  | inl here ↦ subst (IsFinishedWord c.args.header.now) (sym here) c.if-finished-ne-marked.false
+  | inr ne ↦ c.loop-word.invariant j (omega arith)
+]
 
--- src/filling.rt:90:1
 pub returns : goal.returns
-returns c = ?
+returns c =
+    let done = c.loop-word-test.false in
+    record { gray = λ g. absurd (none_gray c.args.header.now (λ j lt. c.loop-word.invariant j (omega arith)) g) }
