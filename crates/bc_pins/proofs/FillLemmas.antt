@@ -12,7 +12,8 @@ use Rattle.bc_pins.specs.declared.key.Turn.{Turn}
 use Rattle.bc_pins.specs.declared.key.Turn.TheVariants.{Lanes, Mark}
 use Rattle.bc_pins.specs.Key.{page_at, table_words}
 use Rattle.bc_pins.specs.Views.{state_word}
-use Rattle.bc_pins.specs.Filling.{Extends, Adds, AddsStates, HasGrayBit}
+use Rattle.bc_pins.specs.Filling.{Extends, Adds, AddsStates, AddsQueues, HasGrayBit, HasMarkWords, QueuesGray, header_in, set_word}
+use Rattle.bc_pins.specs.declared.filling.CellSet.TheVariants.{Marks, Finished}
 
 pub front_same : (xs : List ℕ) (y i : ℕ) → i < length xs → get_or (xs ++ y ∷ []) i 0 ≡ get_or xs i 0
 front_same [] y i lt = absurd (omega arith)
@@ -92,3 +93,27 @@ none_gray h each g =
 -- a queue word has the bits of all four pages
 pub all_queued : (i : ℕ) → i < 4 → bit_at 15 i ≡ 1
 all_queued i lt = bit_at_ones 4 i lt
+
+-- a header that is read, by another default
+pub same_header : (hs : List Header) (i : ℕ) (d : Header) → i < length hs → get_or hs i d ≡ get_or hs i unused_header
+same_header [] i d lt = absurd (omega arith)
+same_header (h ∷ hs) zero d lt = refl
+same_header (h ∷ hs) (suc i) d lt = same_header hs i d (omega arith)
+
+-- the sets and the queue words, one after another
+pub mark_words : (hs : List Header) (n : ℕ) (o a b e : List ℕ) → Extends o a (16 * n) (set_word Marks hs) → Extends a b (16 * n) (set_word Finished hs) → AddsQueues hs b e n → HasMarkWords hs n o e
+mark_words hs n o a b e marks finished queues =
+    let one = marks.long in
+    let two = finished.long in
+    let three = queues.long in
+    record {
+      long = omega arith;
+      kept = λ i lt. queues.kept i (omega arith) ∙ finished.kept i (omega arith) ∙ marks.kept i lt;
+      marks = λ w lt. queues.kept (length o + w) (omega arith) ∙ finished.kept (length o + w) (omega arith) ∙ marks.added w lt;
+      finished = λ w lt.
+          let here : length o + (16 * n + w) ≡ length a + w = omega arith in
+          queues.kept (length o + (16 * n + w)) (omega arith) ∙ ap (λ (i : ℕ). get_or b i 0) here ∙ finished.added w lt;
+      queues = λ q lt.
+          let here : length b + q ≡ length o + (32 * n + q) = omega arith in
+          subst (λ (i : ℕ). QueuesGray (header_in hs q) (get_or e i 0)) here (queues.added q lt);
+    }

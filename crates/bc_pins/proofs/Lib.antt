@@ -8,6 +8,8 @@ pub mod LogLemmas
 pub mod TracingLemmas
 -- What a step on a page word owes, and that the rule then holds after it.
 pub mod PageSteps
+-- Gray cells on pages in memory
+pub mod GrayLemmas
 -- A seat that has all roles
 pub mod AloneLemmas
 -- What was read stays so, through a step on a page word, and a word that is read alone.

@@ -88,7 +88,7 @@ mod words;
 pub use bc_gates::{Gate, OpenGate};
 pub use holding::Held;
 pub use key::{About, Role, Turn};
-pub use laws::law_frames_in_use;
+pub use laws::{law_frames_in_use, law_gray_pages};
 pub use pins::{Pins, Seat};
 pub use rest::Rest;
 pub use taking::{TakeError, Want};

@@ -6,12 +6,12 @@ use Rattle.bc_pins.proofs.filling.queue_word.Goals as goal
 pub loop-word-init : goal.loop-word-init
 loop-word-init c = λ j lt. absurd (omega arith)
 
-pub returns-then-finished-ne-marked : goal.returns-then-finished-ne-marked
-returns-then-finished-ne-marked c = record { gray = λ g i lt. all_queued i lt }
+pub returns-then-finished-marked : goal.returns-then-finished-marked
+returns-then-finished-marked c = record { gray = λ g i lt. all_queued i lt }
 
 pub loop-word-preserved : goal.loop-word-preserved
 loop-word-preserved c = λ j lt. elim (cases_eq j c.loop-word.word) [
-  | inl here ↦ subst (IsFinishedWord c.args.header.now) (sym here) c.if-finished-ne-marked.false
+  | inl here ↦ subst (IsFinishedWord c.args.header.now) (sym here) c.if-finished-marked.false
   | inr ne ↦ c.loop-word.invariant j (omega arith)
 ]
 
