@@ -6,6 +6,8 @@ pub mod WithholdLemmas
 pub mod LogLemmas
 -- The mark facts through a step
 pub mod TracingLemmas
+-- What is owed of gray cells, through a step
+pub mod OwingLemmas
 -- What a step on a page word owes, and that the rule then holds after it.
 pub mod PageSteps
 -- Gray cells on pages in memory
