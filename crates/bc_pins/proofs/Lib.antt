@@ -8,6 +8,8 @@ pub mod LogLemmas
 pub mod TracingLemmas
 -- What is owed of gray cells, through a step
 pub mod OwingLemmas
+-- The pages of marks that a shade won
+pub mod WonLemmas
 -- What a step on a page word owes, and that the rule then holds after it.
 pub mod PageSteps
 -- Gray cells on pages in memory
@@ -58,6 +60,8 @@ pub mod MarkSteps
 pub mod FrameSteps
 -- Steps on mark words and on finished words
 pub mod ShadeSteps
+-- Steps on queue words
+pub mod QueueSteps
 -- A seat's slots while a box goes into its store slot
 pub mod GivingLemmas
 -- Making the page in hand Gone or Absent
