@@ -270,10 +270,6 @@ shades-cell old mid new q n w bits found turn is_w is_bits view queues less =
     clash : false ≡ true → ⊥
     clash e = cc
 
--- no step on queue words
-pub queues-none : (v : View) → OnlyQueues v v
-queues-none v = record { same = refl; less = λ p. omega arith; later = []; grows = refl; apart = λ i lt. refl }
-
 -- in a turn of lanes none is
 pub shades-none : (v : View) (q n : ℕ) → v.about.lanes ≡ true → ShadesTarget v q n v
 shades-none v q n turn = record {

@@ -62,6 +62,8 @@ pub mod FrameSteps
 pub mod ShadeSteps
 -- Steps on queue words
 pub mod QueueSteps
+-- What calls on queue words leave
+pub mod QueueLemmas
 -- A seat's slots while a box goes into its store slot
 pub mod GivingLemmas
 -- Making the page in hand Gone or Absent
