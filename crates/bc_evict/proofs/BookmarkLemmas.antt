@@ -42,7 +42,7 @@ use Rattle.bc_evict.proofs.MarkLemmas.{reads-then, Marks-same}
 pub may-bookmark : (v : View) (seat : Seat) (page : ℕ) (held : Held) → Grasps v seat page held → Takes v page held.remembered held.homed → held.remembered ≡ false → HasCell v.about.opening page → MayBookmark seat held
 may-bookmark v seat page held g t quiet there =
     let was = may_put_taken v seat page held g t in
-    let in_hand : (hand : Hand) → (view_of seat).hand ≡ Some hand → hand ≡ record { page = page; remembered = held.remembered; frame = held.homed.frame; content = held.homed.page; counted = []; marked = []; looked = [] } =
+    let in_hand : (hand : Hand) → (view_of seat).hand ≡ Some hand → hand ≡ record { page = page; remembered = held.remembered; frame = held.homed.frame; content = held.homed.page; counted = []; marked = [] } =
     λ hand had. same_Some _ _ (sym had ∙ ap (λ (w : View). w.hand) g.view) in
     record {
       as_taken = record {
@@ -173,6 +173,9 @@ module _ (pins : Pins) (a b d : Seat) (held : Held) (met : List ℕ) (walked : I
   same_won : w.won ≡ (view_of b).won
   same_won = ap (λ (x : View). x.won) (counts.same h1 has_b).1
 
+  same_owed : w.owed ≡ (view_of b).owed
+  same_owed = ap (λ (x : View). x.owed) (counts.same h1 has_b).1
+
   seat : IsSameSeat a d
   seat = same_after a b d set.seat counts.seat
 
@@ -197,10 +200,11 @@ module _ (pins : Pins) (a b d : Seat) (held : Held) (met : List ℕ) (walked : I
     now = h2;
     same_hand = refl;
     same = (counts.same h1 has_b).1 ∙ ap (λ (x : View). record x { hand = Some h2; read = w.read }) (set.same h walked.holds.has).1
-        ∙ ap (λ (x : View). record v { hand = Some h2; bookmarked = x.bookmarked; known = x.known; won = x.won; read = w.read }) (sym (counts.same h1 has_b).1);
+        ∙ ap (λ (x : View). record v { hand = Some h2; bookmarked = x.bookmarked; known = x.known; won = x.won; owed = x.owed; read = w.read }) (sym (counts.same h1 has_b).1);
     bits = bits;
     knows = knows;
-    unmarked = λ turn. let was = set.unmarked turn in (same_known ∙ was.0, same_won ∙ was.1);
+    unmarked = λ turn. let was = set.unmarked turn in (same_known ∙ was.0, same_won ∙ was.1, same_owed ∙ was.2);
+    less = λ p. let a = set.less p in let e = ap (times p) same_owed in omega arith;
     counted = counted;
     reads = reads-then v (view_of b) w set.seat.about set.reads counts.reads;
   }

@@ -4,6 +4,8 @@ pub mod ContentLemmas
 pub mod PageLemmas
 -- Bookmark bits that a walk sets
 pub mod MarkLemmas
+-- Pages that are queued since a mark was won there
+pub mod QueueLemmas
 -- Superpages that are counted
 pub mod CountLemmas
 -- A page whose targets are bookmarked and counted may be made Gone

@@ -1,6 +1,6 @@
 -- Bookmark bits that a walk sets, and superpages that it meets.
-use Rattle.std.proofs.Common.{◌≡◌, ◌≢◌, ℕ, ◌+◌, ◌*◌, ◌/◌, ◌%◌, ◌^◌, ◌<◌, ◌≤◌, ◌==◌, ◌&&◌, ◌||◌, Bool, true, false, if◌then◌else◌, nat_lt, inl, inr, List, [], ◌∷◌, ◌++◌, length, replicate, slice_index, Option, Some, refl, ap, sym, subst, ◌∙◌, arith, append_assoc}
-use Rattle.std.specs.Int.{bit_at}
+use Rattle.std.proofs.Common.{◌≡◌, ◌≢◌, ℕ, ◌+◌, ◌*◌, ◌/◌, ◌%◌, ◌^◌, ◌<◌, ◌≤◌, ◌==◌, ◌&&◌, ◌||◌, Bool, true, false, if◌then◌else◌, nat_lt, bit_and, inl, inr, List, [], ◌∷◌, ◌++◌, length, replicate, slice_index, Option, Some, refl, ap, sym, subst, ◌∙◌, arith, append_assoc}
+use Rattle.std.specs.Int.{bit_at, bit_not, w64}
 use Rattle.std.proofs.lemmas.Bool.{cases_eq, eq-eqb, ne_eqb, lt-ltb, ltb-true, or_left, and_from}
 use Rattle.std.proofs.lemmas.Nat.{one_shl}
 use Rattle.std.proofs.lemmas.Nat.Bits.{bit_at-pow_same, bit_at-pow_other}
@@ -24,14 +24,15 @@ use Rattle.bc_bookmarks.proofs.ReadingLemmas.{meets-inserted, or_assoc_right}
 use Rattle.bc_pins.specs.declared.views.Hand.{Hand}
 use Rattle.bc_pins.specs.declared.views.View.{View}
 use Rattle.bc_pins.specs.declared.pins.Seat.{Seat}
-use Rattle.bc_pins.specs.Key.{Key, pages_of, page_at, bookmark_at, frame_at, mark_at, notice_at}
+use Rattle.bc_pins.specs.Key.{Key, pages_of, page_at, bookmark_at, frame_at, mark_at, notice_at, queue_at}
+use Rattle.bc_pins.specs.Totals.{times}
 use Rattle.bc_pins.specs.Contents.{objects_in}
 use Rattle.bc_pins.specs.Views.{sets_bit, reads_of}
 use Rattle.bc_pins.specs.Steps.{bookmarking, shading, IsTargetBit, MayShade}
 use Rattle.bc_pins.specs.Tracing.{tells}
-use Rattle.bc_pins.specs.Calls.{view_of, slots_of, IsSameSeat}
+use Rattle.bc_pins.specs.Calls.{view_of, slots_of, IsSameSeat, OnlyQueues}
 use Rattle.bc_pins.proofs.TallyLemmas.{number_few}
-use Rattle.bc_pins.proofs.LogLemmas.{reads-else}
+use Rattle.bc_pins.proofs.LogLemmas.{reads-else, reads-append}
 use Rattle.bc_pins.proofs.VisitLemmas.{same_after}
 use Rattle.bc_evict.specs.Marking.{sets_cell, knows_cell, ReadsNoPage, IsSetCell, ShadesTarget, Marks}
 
@@ -60,7 +61,8 @@ Marks-none a met f none = record {
   same = λ h has. (h.marked, hand-same (view_of a) h has);
   bits = λ q b few. sym (ap (λ (x : Bool). x || sets_cell (view_of a) q b) (none (names_cell (view_of a).about.opening.classes q b)));
   knows = λ turn q b few. sym (ap (λ (x : Bool). x || knows_cell (view_of a) q b) (none (names_cell (view_of a).about.opening.classes q b)));
-  unmarked = λ turn. (refl, refl);
+  unmarked = λ turn. (refl, refl, refl);
+  less = λ p. omega arith;
   meets = λ q. sym (ap (λ (x : Bool). x || has met q) (none (names_in q)));
   reads = record { grows = ([], refl); pages = λ i lt. refl; frames = λ i le lt. refl };
 }
@@ -74,6 +76,7 @@ Marks-same a b met more f g is m = record {
   bits = λ q c few. m.bits q c few ∙ ap (λ (x : Bool). x || sets_cell (view_of a) q c) (is (names_cell (view_of a).about.opening.classes q c));
   knows = λ turn q c few. m.knows turn q c few ∙ ap (λ (x : Bool). x || knows_cell (view_of a) q c) (is (names_cell (view_of a).about.opening.classes q c));
   unmarked = m.unmarked;
+  less = m.less;
   meets = λ q. m.meets q ∙ ap (λ (x : Bool). x || has met q) (is (names_in q));
   reads = m.reads;
 }
@@ -86,7 +89,7 @@ Marks-then a b c met now more f g first next = record {
   same = λ h has.
       let one = first.same h has in
       let two = next.same (record h { marked = one.0 }) (ap (λ (v : View). v.hand) one.1) in
-      (two.0, two.1 ∙ ap (λ (v : View). record v { hand = Some (record h { marked = two.0 }); bookmarked = (view_of c).bookmarked; known = (view_of c).known; won = (view_of c).won; read = (view_of c).read }) one.1);
+      (two.0, two.1 ∙ ap (λ (v : View). record v { hand = Some (record h { marked = two.0 }); bookmarked = (view_of c).bookmarked; known = (view_of c).known; won = (view_of c).won; owed = (view_of c).owed; read = (view_of c).read }) one.1);
   bits = λ q n few.
       next.bits q n few
       ∙ ap (λ (k : Key). g (names_cell k.opening.classes q n) || sets_cell (view_of b) q n) first.seat.about
@@ -97,7 +100,8 @@ Marks-then a b c met now more f g first next = record {
       ∙ ap (λ (k : Key). g (names_cell k.opening.classes q n) || knows_cell (view_of b) q n) first.seat.about
       ∙ ap (λ (x : Bool). g (names_cell (view_of a).about.opening.classes q n) || x) (first.knows turn q n few)
       ∙ or_assoc_right (g (names_cell (view_of a).about.opening.classes q n)) (f (names_cell (view_of a).about.opening.classes q n)) (knows_cell (view_of a) q n);
-  unmarked = λ turn. let two = next.unmarked (ap (λ (k : Key). k.lanes) first.seat.about ∙ turn) in let one = first.unmarked turn in (two.0 ∙ one.0, two.1 ∙ one.1);
+  unmarked = λ turn. let two = next.unmarked (ap (λ (k : Key). k.lanes) first.seat.about ∙ turn) in let one = first.unmarked turn in (two.0 ∙ one.0, two.1 ∙ one.1, two.2 ∙ one.2);
+  less = λ p. let one = first.less p in let two = next.less p in omega arith;
   meets = λ q. next.meets q ∙ ap (λ (x : Bool). g (names_in q) || x) (first.meets q) ∙ or_assoc_right (g (names_in q)) (f (names_in q)) (has met q);
   reads = reads-then (view_of a) (view_of b) (view_of c) first.seat.about first.reads next.reads;
 }
@@ -177,7 +181,8 @@ marks-other a met word none = record {
   same = λ h has_h. (h.marked, hand-same (view_of a) h has_h);
   bits = λ q b few. ap (λ (x : Bool). x || sets_cell (view_of a) q b) (sym (no_cell (view_of a).about.opening.classes q b word none));
   knows = λ turn q b few. ap (λ (x : Bool). x || knows_cell (view_of a) q b) (sym (no_cell (view_of a).about.opening.classes q b word none));
-  unmarked = λ turn. (refl, refl);
+  unmarked = λ turn. (refl, refl, refl);
+  less = λ p. omega arith;
   meets = λ q. ap (λ (x : Bool). x || has met q) (sym (no_superpage q word none));
   reads = record { grows = ([], refl); pages = λ i lt. refl; frames = λ i le lt. refl };
 }
@@ -201,6 +206,7 @@ pub marks-ref : (old mid new : Seat) (met more : List ℕ) (word : Word) (h : Ha
 marks-ref old mid new met more word h q n w bits found a seat slots has_h view seat_then slots_then shades is is_q near is_n few is_w is_bits lt inserted =
     let known : (view_of mid).known ≡ (view_of old).known = ap (λ (v : View). v.known) view in
     let won : (view_of mid).won ≡ (view_of old).won = ap (λ (v : View). v.won) view in
+    let owed : (view_of mid).owed ≡ (view_of old).owed = ap (λ (v : View). v.owed) view in
     let set : (view_of new).bookmarked ≡ (h.page, w, bits) ∷ (view_of old).bookmarked = ap (λ (v : View). v.bookmarked) shades.same ∙ ap (λ (v : View). v.bookmarked) view in
     let lanes : (view_of mid).about.lanes ≡ (view_of old).about.lanes = ap (λ (k : Key). k.lanes) seat.about in
     record {
@@ -208,11 +214,11 @@ marks-ref old mid new met more word h q n w bits found a seat slots has_h view s
       slots = slots_then ∙ slots;
       same = λ g has_g.
           subst (λ (z : Hand). (marked : List (ℕ × ℕ))
-          × (view_of new ≡ record (view_of old) { hand = Some (record z { marked = marked }); bookmarked = (view_of new).bookmarked; known = (view_of new).known; won = (view_of new).won; read = (view_of new).read })) (same_Some h g (sym has_h ∙ has_g)) (
+          × (view_of new ≡ record (view_of old) { hand = Some (record z { marked = marked }); bookmarked = (view_of new).bookmarked; known = (view_of new).known; won = (view_of new).won; owed = (view_of new).owed; read = (view_of new).read })) (same_Some h g (sym has_h ∙ has_g)) (
             (w, bits) ∷ h.marked,
             shades.same
-                ∙ ap (λ (x : View). record x { known = (view_of new).known; won = (view_of new).won; read = (view_of new).read }) view
-                ∙ ap (λ (l : List (ℕ × ℕ × ℕ)). record (view_of old) { hand = Some (record h { marked = (w, bits) ∷ h.marked }); bookmarked = l; known = (view_of new).known; won = (view_of new).won; read = (view_of new).read }) (sym set),
+                ∙ ap (λ (x : View). record x { known = (view_of new).known; won = (view_of new).won; owed = (view_of new).owed; read = (view_of new).read }) view
+                ∙ ap (λ (l : List (ℕ × ℕ × ℕ)). record (view_of old) { hand = Some (record h { marked = (w, bits) ∷ h.marked }); bookmarked = l; known = (view_of new).known; won = (view_of new).won; owed = (view_of new).owed; read = (view_of new).read }) (sym set),
           );
       bits = λ r b small.
           sets-more (view_of old) h.page q n a (view_of new).bookmarked is_q is_n few
@@ -222,7 +228,8 @@ marks-ref old mid new met more word h q n w bits found a seat slots has_h view s
           knows-more (view_of old) q n a (view_of new).known is_q is_n few
           (shades.known (lanes ∙ turn) ∙ ap (λ (l : List (ℕ × ℕ)). (16 * q + n / 64, 1 * 2 ^ (n % 64) % 2 ^ 64) ∷ l) known) r b small
           ∙ sym (ap (λ (v : Word). names_cell (view_of old).about.opening.classes r b v || knows_cell (view_of old) r b) is);
-      unmarked = λ turn. let two = shades.unmarked (lanes ∙ turn) in (two.0 ∙ known, two.1 ∙ won);
+      unmarked = λ turn. let two = shades.unmarked (lanes ∙ turn) in (two.0 ∙ known, two.1 ∙ won, two.2 ∙ owed);
+      less = λ p. let a = shades.less p in let e = ap (times p) owed in omega arith;
       meets = λ r. ap (λ (l : List ℕ). has l r) inserted ∙ meets-inserted met q r lt ∙ ap (λ (j : ℕ). (j == r) || has met r) is_q ∙ sym (ap (λ (v : Word). names_in r v || has met r) is);
       reads = reads-then (view_of old) (view_of mid) (view_of new) seat.about
           (record {
@@ -233,17 +240,32 @@ marks-ref old mid new met more word h q n w bits found a seat slots has_h view s
     }
 
 -- in a mark turn a cell was marked
-pub shades-cell : (old new : View) (q n w bits found : ℕ) → old.about.lanes ≡ false → w ≡ 16 * q + n / 64 → bits ≡ 1 * 2 ^ (n % 64) % 2 ^ 64 → new ≡ shading old w bits found → ShadesTarget old q n new
-shades-cell old new q n w bits found turn is_w is_bits view = record {
-  same = subst (λ (x : View). x ≡ record old { known = x.known; won = x.won; read = x.read }) (sym view) refl;
-  known = λ _. ap (λ (v : View). v.known) view ∙ ap (λ (j : ℕ). (j, bits) ∷ old.known) is_w ∙ ap (λ (j : ℕ). (16 * q + n / 64, j) ∷ old.known) is_bits;
-  unmarked = λ lanes. absurd (clash (sym turn ∙ lanes));
-  reads = record {
-    grows = ((mark_at old.about w, found) ∷ [], ap (λ (v : View). v.read) view);
-    pages = λ p lt. ap (λ (v : View). reads_of (page_at p) v.read) view ∙ reads-else (page_at p) (mark_at old.about w) found old.read (λ e. absurd (omega arith));
-    frames = λ i le lt. ap (λ (v : View). reads_of i v.read) view ∙ reads-else i (mark_at old.about w) found old.read (λ e. absurd (omega arith));
-  };
-}
+pub shades-cell : (old mid new : View) (q n w bits found : ℕ) → old.about.lanes ≡ false → w ≡ 16 * q + n / 64 → bits ≡ 1 * 2 ^ (n % 64) % 2 ^ 64 → mid ≡ shading old w bits found → OnlyQueues mid new
+    → ((p : ℕ) → times p new.owed ≤ times p old.owed) → ShadesTarget old q n new
+shades-cell old mid new q n w bits found turn is_w is_bits view queues less =
+    let known : new.known ≡ (w, bits) ∷ old.known = ap (λ (v : View). v.known) queues.same ∙ ap (λ (v : View). v.known) view in
+    let won : new.won ≡ (w, bit_and bits (bit_not w64 found)) ∷ old.won = ap (λ (v : View). v.won) queues.same ∙ ap (λ (v : View). v.won) view in
+    let about : mid.about ≡ old.about = ap (λ (v : View). v.about) view in
+    let none : (i : ℕ) → i < queue_at old.about 0 → reads_of i new.read ≡ reads_of i mid.read =
+    λ i lt. ap (reads_of i) queues.grows ∙ reads-append i queues.later mid.read ∙ ap (λ (l : List ℕ). l ++ reads_of i mid.read) (queues.apart i (subst (λ (k : Key). i < queue_at k 0) (sym about) lt)) in
+    record {
+      same = queues.same
+          ∙ ap (λ (x : View). record x { owed = new.owed; read = new.read }) view
+          ∙ ap (λ (l : List (ℕ × ℕ)). record old { known = l; won = (w, bit_and bits (bit_not w64 found)) ∷ old.won; owed = new.owed; read = new.read }) (sym known)
+          ∙ ap (λ (l : List (ℕ × ℕ)). record old { known = new.known; won = l; owed = new.owed; read = new.read }) (sym won);
+      known = λ _. known ∙ ap (λ (j : ℕ). (j, bits) ∷ old.known) is_w ∙ ap (λ (j : ℕ). (16 * q + n / 64, j) ∷ old.known) is_bits;
+      unmarked = λ lanes. absurd (clash (sym turn ∙ lanes));
+      less = less;
+      reads = record {
+        grows = (
+          queues.later ++ ((mark_at old.about w, found) ∷ []),
+          queues.grows ∙ ap (λ (v : View). queues.later ++ v.read) view ∙ sym (append_assoc queues.later ((mark_at old.about w, found) ∷ []) old.read),
+        );
+        pages = λ p lt.
+            none (page_at p) (omega arith) ∙ ap (λ (v : View). reads_of (page_at p) v.read) view ∙ reads-else (page_at p) (mark_at old.about w) found old.read (λ e. absurd (omega arith));
+        frames = λ i le lt. none i (omega arith) ∙ ap (λ (v : View). reads_of i v.read) view ∙ reads-else i (mark_at old.about w) found old.read (λ e. absurd (omega arith));
+      };
+    }
   where
     clash : false ≡ true → ⊥
     clash e = cc
@@ -253,7 +275,8 @@ pub shades-none : (v : View) (q n : ℕ) → v.about.lanes ≡ true → ShadesTa
 shades-none v q n turn = record {
   same = refl;
   known = λ mark. absurd (clash (sym mark ∙ turn));
-  unmarked = λ _. (refl, refl);
+  unmarked = λ _. (refl, refl, refl);
+  less = λ p. omega arith;
   reads = record { grows = ([], refl); pages = λ i lt. refl; frames = λ i le lt. refl };
 }
   where
@@ -261,8 +284,8 @@ shades-none v q n turn = record {
     clash e = cc
 
 -- the bit of a cell that was bookmarked may be set in its mark word
-pub shade-bit : (k : Key) (v : View) (q n b : ℕ) → IsSetCell k v q n → b < 64 → 0 < bit_at (1 * 2 ^ (n % 64) % 2 ^ 64) b → MayShade k v (16 * q + n / 64) b
-shade-bit k v q n b c few set =
+pub shade-bit : (k : Key) (v : View) (page q n b : ℕ) → IsSetCell k v page q n → b < 64 → 0 < bit_at (1 * 2 ^ (n % 64) % 2 ^ 64) b → MayShade k v (16 * q + n / 64) b
+shade-bit k v page q n b c few set =
     let shifted = one_shl (n % 64) 64 (omega arith) in
     let bit : 0 < bit_at (2 ^ (n % 64)) b = subst (λ (m : ℕ). 0 < bit_at m b) shifted set in
     let here : b ≡ n % 64 = elim (cases_eq b (n % 64)) [ inl e ↦ e | inr ne ↦ let z = bit_at-pow_other (n % 64) b ne in absurd (omega arith) ] in
@@ -278,14 +301,15 @@ shade-bit k v q n b c few set =
 -- a cell whose bit was set by the step is one whose bookmark bit the view set
 pub set-cell : (k : Key) (old new : View) (h : Hand) (q n w bits found a : ℕ) → old.about ≡ k → IsLayout k.opening → IsAllocated k.opening a → page_of a < pages_of k
     → new ≡ bookmarking old h w bits found → q ≡ superpage_of a → n ≡ cell_number (slice_index k.opening.classes q) a → n < 1024 → w ≡ 16 * q + n / 64 → bits ≡ 1 * 2 ^ (n % 64) % 2 ^ 64
-    → IsSetCell new.about new q n
+    → IsSetCell new.about new (page_of a) q n
 set-cell k old new h q n w bits found a about layout there near view is_q is_n few is_w is_bits =
     let about_new : new.about ≡ k = ap (λ (v : View). v.about) view ∙ about in
     let number : n ≡ cell_number (class_at k.opening a) a = is_n ∙ ap (λ (j : ℕ). cell_number (slice_index k.opening.classes j) a) is_q in
     let few_a : cell_number (class_at k.opening a) a < 1024 = omega arith in
-    subst (λ (x : Key). IsSetCell x new q n) (sym about_new) (record {
+    subst (λ (x : Key). IsSetCell x new (page_of a) q n) (sym about_new) (record {
       address = a;
       there = there;
+      on = refl;
       superpage = is_q;
       number = number;
       bookmarked = record {
@@ -308,7 +332,8 @@ Marks-start a more f is none = record {
   same = λ h has_h. (h.marked, hand-same (view_of a) h has_h);
   bits = λ q b few. sym (ap (λ (x : Bool). x || sets_cell (view_of a) q b) (none (names_cell (view_of a).about.opening.classes q b)));
   knows = λ turn q b few. sym (ap (λ (x : Bool). x || knows_cell (view_of a) q b) (none (names_cell (view_of a).about.opening.classes q b)));
-  unmarked = λ turn. (refl, refl);
+  unmarked = λ turn. (refl, refl, refl);
+  less = λ p. omega arith;
   meets = λ q. ap (λ (l : List ℕ). has l q) is ∙ has-zeros 64 q ∙ sym (ap (λ (x : Bool). x || has [] q) (none (names_in q)) ∙ has-beyond [] q (omega arith));
   reads = record { grows = ([], refl); pages = λ i lt. refl; frames = λ i le lt. refl };
 }

@@ -37,7 +37,7 @@ module _ (k : Key) (kind : Kind) (u : View) (seat : Seat) (held : Held) (t : IsT
   takes = subst (λ (b : Bool). Takes u held.page b held.homed) (sym t.quiet) t.takes
 
   in_hand : (hand : Hand) → (view_of seat).hand ≡ Some hand
-      → hand ≡ record { page = held.page; remembered = held.remembered; frame = held.homed.frame; content = held.homed.page; counted = []; marked = []; looked = [] }
+      → hand ≡ record { page = held.page; remembered = held.remembered; frame = held.homed.frame; content = held.homed.page; counted = []; marked = [] }
   in_hand hand has = same_Some hand _ (sym has ∙ ap (λ (w : View). w.hand) t.grasps.view)
 
   about_now : (view_of seat).about ≡ k
@@ -190,14 +190,14 @@ module _ (k : Key) (v : View) (seat : Seat) (held : Held) (t : HasTakenAny k v s
           looks = (page_at held.page, 1) ∷ t.looks;
           view = subst
               (λ (x : View). x
-              ≡ record v { rights = frame ∷ []; read = (page_at held.page, 1) ∷ (t.looks ++ v.read); seen = x.seen; gone = x.gone; busy = x.busy; left = x.left; emptied = x.emptied; bookmarked = x.bookmarked; known = x.known; won = x.won }) (sym full) refl;
+              ≡ record v { rights = frame ∷ []; read = (page_at held.page, 1) ∷ (t.looks ++ v.read); seen = x.seen; gone = x.gone; busy = x.busy; left = x.left; emptied = x.emptied; bookmarked = x.bookmarked; known = x.known; won = x.won; owed = x.owed }) (sym full) refl;
           within = subst (λ (x : Key). frame < x.frames) (ap (λ (x : View). x.about) full) within;
           page = held.page;
           inside = subst (λ (x : Key). held.page < pages_of x) (sym about) t.inside;
           one = inl (ap (λ (x : View). x.emptied) full, ap (λ (x : View). x.left) full);
           homes = λ p less. homes_once k t.looks held.page p t.looked.none (subst (λ (x : Key). p < pages_of x) about less);
           gone = λ p. subst (λ (l : List ℕ). times p v.gone ≤ times p l) (sym (ap (λ (x : View). x.gone) full)) (t.looked.gone p);
-          unmarked = λ turn. (ap (λ (x : View). x.known) full, ap (λ (x : View). x.won) full);
+          unmarked = λ turn. (ap (λ (x : View). x.known) full, ap (λ (x : View). x.won) full, ap (λ (x : View). x.owed) full);
         }
 
     module _ (hand : Hand) (b : View) (marked : HasBookmarked (view_of seat) hand b) where
@@ -216,14 +216,14 @@ module _ (k : Key) (v : View) (seat : Seat) (held : Held) (t : HasTakenAny k v s
           ∙ sym (append_assoc later ((page_at held.page, 1) ∷ t.looks) v.read)
 
       abbrev leaving_it : View
-      leaving_it = record v { rights = frame ∷ []; read = filled_looks ++ v.read; seen = t.ready.seen; gone = t.ready.gone; busy = t.ready.busy; left = held.page ∷ v.left; bookmarked = b.bookmarked; known = b.known; won = b.won }
+      leaving_it = record v { rights = frame ∷ []; read = filled_looks ++ v.read; seen = t.ready.seen; gone = t.ready.gone; busy = t.ready.busy; left = held.page ∷ v.left; bookmarked = b.bookmarked; known = b.known; won = b.won; owed = b.owed }
 
       left_full : (w : View) → w ≡ given_up b held → w ≡ leaving_it
       left_full w is =
           is
           ∙ ap (λ (x : View). record x { hand = None; left = held.page ∷ x.left; rights = held.homed.frame ∷ x.rights }) marked.same
-          ∙ ap (λ (x : View). record x { hand = None; left = held.page ∷ x.left; rights = held.homed.frame ∷ x.rights; bookmarked = b.bookmarked; known = b.known; won = b.won; read = b.read }) t.grasps.view
-          ∙ ap (λ (x : View). record x { hand = None; left = held.page ∷ x.left; rights = held.homed.frame ∷ x.rights; bookmarked = b.bookmarked; known = b.known; won = b.won; read = b.read }) t.looked.view
+          ∙ ap (λ (x : View). record x { hand = None; left = held.page ∷ x.left; rights = held.homed.frame ∷ x.rights; bookmarked = b.bookmarked; known = b.known; won = b.won; owed = b.owed; read = b.read }) t.grasps.view
+          ∙ ap (λ (x : View). record x { hand = None; left = held.page ∷ x.left; rights = held.homed.frame ∷ x.rights; bookmarked = b.bookmarked; known = b.known; won = b.won; owed = b.owed; read = b.read }) t.looked.view
           ∙ ap (λ (h : Option Hand). record leaving_it { hand = h; rights = held.homed.frame ∷ v.rights; read = b.read }) (sym nothing)
           ∙ ap (λ (l : List ℕ). record leaving_it { rights = l; read = b.read }) right_is
           ∙ ap (λ (l : List (ℕ × ℕ)). record leaving_it { read = l }) reads_are
@@ -247,7 +247,7 @@ module _ (k : Key) (v : View) (seat : Seat) (held : Held) (t : HasTakenAny k v s
             looks = filled_looks;
             view = subst
                 (λ (x : View). x
-                ≡ record v { rights = frame ∷ []; read = filled_looks ++ v.read; seen = x.seen; gone = x.gone; busy = x.busy; left = x.left; emptied = x.emptied; bookmarked = x.bookmarked; known = x.known; won = x.won }) (sym full) refl;
+                ≡ record v { rights = frame ∷ []; read = filled_looks ++ v.read; seen = x.seen; gone = x.gone; busy = x.busy; left = x.left; emptied = x.emptied; bookmarked = x.bookmarked; known = x.known; won = x.won; owed = x.owed }) (sym full) refl;
             within = subst (λ (x : Key). frame < x.frames) (ap (λ (x : View). x.about) full) within;
             page = held.page;
             inside = subst (λ (x : Key). held.page < pages_of x) (sym about) t.inside;
@@ -258,5 +258,6 @@ module _ (k : Key) (v : View) (seat : Seat) (held : Held) (t : HasTakenAny k v s
                 let was = marked.unmarked (ap (λ (x : Key). x.lanes) (seat_about ∙ sym about) ∙ turn) in (
                   ap (λ (x : View). x.known) full ∙ was.0 ∙ ap (λ (x : View). x.known) t.grasps.view ∙ ap (λ (x : View). x.known) t.looked.view,
                   ap (λ (x : View). x.won) full ∙ was.1 ∙ ap (λ (x : View). x.won) t.grasps.view ∙ ap (λ (x : View). x.won) t.looked.view,
+                  ap (λ (x : View). x.owed) full ∙ was.2 ∙ ap (λ (x : View). x.owed) t.grasps.view ∙ ap (λ (x : View). x.owed) t.looked.view,
                 );
           }

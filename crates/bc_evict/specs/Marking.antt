@@ -4,7 +4,7 @@ use Rattle.bc_bits.specs.Bits.{has}
 use Rattle.bc_bits.specs.Counting.{one_if}
 use Rattle.bc_word.specs.declared.words.Word.{Word}
 use Rattle.bc_word.specs.declared.words.Word.TheVariants.{Ref}
-use Rattle.bc_word.specs.Addresses.{superpage_of, cell_number}
+use Rattle.bc_word.specs.Addresses.{superpage_of, page_of, cell_number}
 use Rattle.bc_superpages.specs.LayoutAt.{IsAllocated}
 use Rattle.bc_superpages.specs.Calls.{class_at}
 use Rattle.bc_bookmarks.specs.Targets.{names_in, names_cell, some_on, is_target, HasCell}
@@ -39,16 +39,17 @@ pub record ReadsNoPage (v w : View) : Type 0 where
 
 -- the page in hand was bookmarked. The bits that the view set are those that it had set and those of the page's targets; each
 -- superpage in which the page has a target is counted for it once, and no other. In a mark turn the targets are known to be marked,
--- and in a turn of lanes marks are as they were. Nothing else changed that the view says
+-- and no page is owed that wasn't; in a turn of lanes marks are as they were. Nothing else changed that the view says
 pub record HasBookmarked (v : View) (hand : Hand) (w : View) : Type 0 where
   pub now : Hand
   pub same_hand : now ≡ record hand { counted = now.counted; marked = now.marked }
-  pub same : w ≡ record v { hand = Some now; bookmarked = w.bookmarked; known = w.known; won = w.won; read = w.read }
+  pub same : w ≡ record v { hand = Some now; bookmarked = w.bookmarked; known = w.known; won = w.won; owed = w.owed; read = w.read }
   pub bits : (q b : ℕ) → b < 1024
       → sets_cell w q b ≡ (some_on (names_cell v.about.opening.classes q b) (objects_in v.about.opening hand.content) hand.page || sets_cell v q b)
   pub knows : v.about.lanes ≡ false → (q b : ℕ) → b < 1024
       → knows_cell w q b ≡ (some_on (names_cell v.about.opening.classes q b) (objects_in v.about.opening hand.content) hand.page || knows_cell v q b)
-  pub unmarked : v.about.lanes ≡ true → (w.known ≡ v.known) × (w.won ≡ v.won)
+  pub unmarked : v.about.lanes ≡ true → (w.known ≡ v.known) × (w.won ≡ v.won) × (w.owed ≡ v.owed)
+  pub less : (p : ℕ) → times p w.owed ≤ times p v.owed
   pub counted : (q : ℕ) → q < v.about.supers → times q now.counted ≡ points v.about hand.page hand.content q
   pub reads : ReadsNoPage v w
 
@@ -66,19 +67,22 @@ abbrev pub IsTargetWord : Seat → Word → Type 0
 IsTargetWord seat word = (a : ℕ) → word ≡ Ref (record { 0 = a })
     → IsAllocated (view_of seat).about.opening a × ((h : Hand) × ((view_of seat).hand ≡ Some h) × (is_target (objects_in (view_of seat).about.opening h.content) h.page a ≡ true))
 
--- the allocated cell of a superpage with this number, whose bookmark bit the view set
-pub record IsSetCell (k : Key) (v : View) (q n : ℕ) : Type 0 where
+-- the allocated cell of a superpage with this number, on this page, whose bookmark bit the view set
+pub record IsSetCell (k : Key) (v : View) (page q n : ℕ) : Type 0 where
   pub address : ℕ
   pub there : IsAllocated k.opening address
+  pub on : page ≡ page_of address
   pub superpage : q ≡ superpage_of address
   pub number : n ≡ cell_number (class_at k.opening address) address
   pub bookmarked : IsBookmarkedBy k v address
 
--- in a mark turn this cell was marked, and nothing else changed that the view says but what it won and read
+-- in a mark turn this cell was marked, and nothing else changed that the view says but what it won, owes and read. No page is owed that
+-- wasn't: where the view won the mark, the page of the cell is queued
 pub record ShadesTarget (v : View) (q n : ℕ) (w : View) : Type 0 where
-  pub same : w ≡ record v { known = w.known; won = w.won; read = w.read }
+  pub same : w ≡ record v { known = w.known; won = w.won; owed = w.owed; read = w.read }
   pub known : v.about.lanes ≡ false → w.known ≡ (16 * q + n / 64, 1 * 2 ^ (n % 64) % 2 ^ 64) ∷ v.known
-  pub unmarked : v.about.lanes ≡ true → (w.known ≡ v.known) × (w.won ≡ v.won)
+  pub unmarked : v.about.lanes ≡ true → (w.known ≡ v.known) × (w.won ≡ v.won) × (w.owed ≡ v.owed)
+  pub less : (p : ℕ) → times p w.owed ≤ times p v.owed
   pub reads : ReadsNoPage v w
 
 -- the cells to which some words refer were bookmarked, in a mark turn marked too, and the superpages met in which they lie. The
@@ -88,10 +92,11 @@ pub record Marks (old : Seat) (met : List ℕ) (some : (Word → Bool) → Bool)
   pub slots : slots_of new ≡ slots_of old
   pub same : (h : Hand) → (view_of old).hand ≡ Some h
       → (marked : List (ℕ × ℕ))
-      × (view_of new ≡ record (view_of old) { hand = Some (record h { marked = marked }); bookmarked = (view_of new).bookmarked; known = (view_of new).known; won = (view_of new).won; read = (view_of new).read })
+      × (view_of new ≡ record (view_of old) { hand = Some (record h { marked = marked }); bookmarked = (view_of new).bookmarked; known = (view_of new).known; won = (view_of new).won; owed = (view_of new).owed; read = (view_of new).read })
   pub bits : (q b : ℕ) → b < 1024 → sets_cell (view_of new) q b ≡ (some (names_cell (view_of old).about.opening.classes q b) || sets_cell (view_of old) q b)
   pub knows : (view_of old).about.lanes ≡ false → (q b : ℕ) → b < 1024 → knows_cell (view_of new) q b ≡ (some (names_cell (view_of old).about.opening.classes q b) || knows_cell (view_of old) q b)
-  pub unmarked : (view_of old).about.lanes ≡ true → ((view_of new).known ≡ (view_of old).known) × ((view_of new).won ≡ (view_of old).won)
+  pub unmarked : (view_of old).about.lanes ≡ true → ((view_of new).known ≡ (view_of old).known) × ((view_of new).won ≡ (view_of old).won) × ((view_of new).owed ≡ (view_of old).owed)
+  pub less : (p : ℕ) → times p (view_of new).owed ≤ times p (view_of old).owed
   pub meets : (q : ℕ) → has more q ≡ (some (names_in q) || has met q)
   pub reads : ReadsNoPage (view_of old) (view_of new)
 

@@ -47,7 +47,7 @@ pub record HasReloaded (v : View) (page frame : ℕ) (seat : Seat) (held : Held)
   pub view : view_of seat
       ≡ record v {
         read = looks ++ v.read;
-        hand = Some (record { page = page; remembered = false; frame = frame; content = held.homed.page; counted = []; marked = []; looked = [] });
+        hand = Some (record { page = page; remembered = false; frame = frame; content = held.homed.page; counted = []; marked = [] });
         rights = [];
         gone = without page v.gone;
         busy = without page v.busy;

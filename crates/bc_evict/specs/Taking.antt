@@ -84,6 +84,6 @@ pub record HasVacated (k : Key) (v : View) (page : ℕ) (w : View) : Type 0 wher
 -- the page that was in hand is Gone, and its frame was given back
 pub record HasEvacuated (k : Key) (v : View) (page : ℕ) (w : View) : Type 0 where
   pub reads : ReadNoPage k v w
-  pub view : w ≡ record v { hand = None; left = page ∷ v.left; bookmarked = w.bookmarked; known = w.known; won = w.won; read = w.read }
+  pub view : w ≡ record v { hand = None; left = page ∷ v.left; bookmarked = w.bookmarked; known = w.known; won = w.won; owed = w.owed; read = w.read }
   -- in a turn of lanes marks are as they were
-  pub unmarked : k.lanes ≡ true → (w.known ≡ v.known) × (w.won ≡ v.won)
+  pub unmarked : k.lanes ≡ true → (w.known ≡ v.known) × (w.won ≡ v.won) × (w.owed ≡ v.owed)

@@ -57,6 +57,7 @@ pub record HasFreed (v : View) (frame : ℕ) (w : View) : Type 0 where
         bookmarked = w.bookmarked;
         known = w.known;
         won = w.won;
+        owed = w.owed;
       }
   pub within : frame < v.about.frames
   pub page : ℕ
@@ -64,4 +65,4 @@ pub record HasFreed (v : View) (frame : ℕ) (w : View) : Type 0 where
   pub one : ((w.emptied ≡ page ∷ v.emptied) × (w.left ≡ v.left)) ⊎ ((w.left ≡ page ∷ v.left) × (w.emptied ≡ v.emptied))
   pub homes : (p : ℕ) → p < pages_of v.about → times 1 (reads_at p looks) ≡ one_if (page == p)
   pub gone : (p : ℕ) → times p v.gone ≤ times p w.gone
-  pub unmarked : v.about.lanes ≡ true → (w.known ≡ v.known) × (w.won ≡ v.won)
+  pub unmarked : v.about.lanes ≡ true → (w.known ≡ v.known) × (w.won ≡ v.won) × (w.owed ≡ v.owed)

@@ -6,7 +6,8 @@
 // yet. So the order is what counts here:
 //
 //     take          the page's word says Held: nobody else touches it
-//     bookmark      a bit for each of its targets, in a mark turn a mark too, and then one count in each superpage that has one
+//     bookmark      a bit for each of its targets, in a mark turn a mark too, and the queue bit of the page of each that it marked first;
+//                   then one count in each superpage that has one
 //     evict         the box goes into the store, and last of all the word says Gone
 //     give_frame    the bit of the frame is cleared
 //
@@ -29,7 +30,7 @@
 // this was done (`MayRelinquish`), and `law_gone_pages` says what that is for: whatever steps were made, and whoever makes one
 // next, a page whose word says Gone is summarised.
 //
-// What a call costs: `bookmark` looks at each word of the page once, steps once for each reference on it, in a mark turn twice,
+// What a call costs: `bookmark` looks at each word of the page once, steps once for each reference on it, in a mark turn up to four times,
 // and goes once through a bit for each superpage of the table, 4,096 at most, on the stack. `reload` does so too, and steps for
 // superpages alone. `claim_frame` steps once on each frame word at most and once more, `free_frame` once on each page's word at
 // most before it bookmarks. The others are a few steps each. Nothing takes memory, and nothing waits.

@@ -56,14 +56,15 @@ module _ (v u w : View) (frame : ℕ) (lanes : v.about.lanes ≡ true) (c : Find
   abbrev from : View → View → View
   from x y = record x { rights = frame ∷ []; seen = y.seen; gone = y.gone; busy = y.busy; read = f.looks ++ x.read; left = y.left; emptied = y.emptied; bookmarked = y.bookmarked }
 
-  same-marks : (w.known ≡ u.known) × (w.won ≡ u.won)
+  same-marks : (w.known ≡ u.known) × (w.won ≡ u.won) × (w.owed ≡ u.owed)
   same-marks = f.unmarked (ap (λ (x : View). x.about.lanes) c.view ∙ lanes)
 
   view : w ≡ record v { rights = frame ∷ []; seen = w.seen; gone = w.gone; busy = w.busy; read = looks ++ v.read; left = w.left; emptied = w.emptied; bookmarked = w.bookmarked }
   view =
       f.view
-      ∙ ap (λ (l : List (ℕ × ℕ)). record (from u w) { known = l; won = w.won }) same-marks.0
-      ∙ ap (λ (l : List (ℕ × ℕ)). record (from u w) { won = l }) same-marks.1
+      ∙ ap (λ (l : List (ℕ × ℕ)). record (from u w) { known = l; won = w.won; owed = w.owed }) same-marks.0
+      ∙ ap (λ (l : List (ℕ × ℕ)). record (from u w) { won = l; owed = w.owed }) same-marks.1
+      ∙ ap (λ (l : List ℕ). record (from u w) { owed = l }) same-marks.2
       ∙ ap (λ (x : View). from x w) c.view
       ∙ ap (λ (l : List (ℕ × ℕ)). record (from v w) { read = l }) (sym (append_assoc f.looks c.looks v.read))
 
@@ -278,7 +279,7 @@ module _ (v u : View) (seat : Seat) (page frame : ℕ) (held : Held) (f : HasFra
   w = view_of seat
 
   abbrev hand : Hand
-  hand = record { page = page; remembered = false; frame = frame; content = held.homed.page; counted = []; marked = []; looked = [] }
+  hand = record { page = page; remembered = false; frame = frame; content = held.homed.page; counted = []; marked = [] }
 
   abbrev now : View
   now = record v { rights = []; seen = u.seen; gone = w.gone; busy = w.busy; read = (r.looks ++ f.looks) ++ v.read; left = u.left; emptied = u.emptied; bookmarked = u.bookmarked; fetched = page ∷ v.fetched; hand = Some hand }

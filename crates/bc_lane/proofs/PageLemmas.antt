@@ -249,7 +249,7 @@ grips-held v w p b homed s same put own shown takes own_v = record {
   here = shown.here;
   fixed = subst (λ a. IsContent a.opening p homed.page) (sym same) takes.fixed;
   young = λ y. takes.young (subst (λ a. RefersYoung a.opening p homed.page) same y);
-  hand = record { page = p; remembered = b; frame = homed.frame; content = homed.page; counted = []; marked = []; looked = [] };
+  hand = record { page = p; remembered = b; frame = homed.frame; content = homed.page; counted = []; marked = [] };
   has = refl;
   page_is = refl;
   frame = refl;
@@ -270,7 +270,7 @@ grips-frozen v w p b homed s same roles is none nobody shown takes =
       opened = opened ∙ sym (ap (λ (k : Key). opened_content k p) same);
       fixed = subst (λ a. IsContent a.opening p homed.page) (sym same) takes.fixed;
       young = λ y. takes.young (subst (λ a. RefersYoung a.opening p homed.page) same y);
-      hand = record { page = p; remembered = b; frame = homed.frame; content = homed.page; counted = []; marked = []; looked = [] };
+      hand = record { page = p; remembered = b; frame = homed.frame; content = homed.page; counted = []; marked = [] };
       has = refl;
       page_is = refl;
       frame = refl;

@@ -76,6 +76,7 @@ evacuated k v b u w hand held frame about none marked view is g =
     let bits : w.bookmarked ≡ b.bookmarked = ap (λ (x : View). x.bookmarked) g.same ∙ ap (λ (x : View). x.bookmarked) view in
     let known : w.known ≡ b.known = ap (λ (x : View). x.known) g.same ∙ ap (λ (x : View). x.known) view in
     let won : w.won ≡ b.won = ap (λ (x : View). x.won) g.same ∙ ap (λ (x : View). x.won) view in
+    let owed : w.owed ≡ b.owed = ap (λ (x : View). x.owed) g.same ∙ ap (λ (x : View). x.owed) view in
     record {
       reads = reads_then k v b w (bookmarked_reads k v b about marked.reads)
           (record { later = reads.later; read = reads.read ∙ ap (λ (x : View). reads.later ++ x.read) view; none = reads.none });
@@ -83,11 +84,12 @@ evacuated k v b u w hand held frame about none marked view is g =
           ∙ ap (λ (l : List ℕ). record u { rights = l; read = w.read }) gone
           ∙ ap (λ (x : View). record x { rights = []; read = w.read }) view
           ∙ ap (λ (x : View). record x { hand = None; left = held.page ∷ x.left; rights = []; read = w.read }) marked.same
-          ∙ ap (λ (l : List ℕ). record v { hand = None; left = held.page ∷ v.left; bookmarked = b.bookmarked; known = b.known; won = b.won; rights = l; read = w.read }) (sym none)
-          ∙ ap (λ (l : List (ℕ × ℕ × ℕ)). record v { hand = None; left = held.page ∷ v.left; bookmarked = l; known = b.known; won = b.won; read = w.read }) (sym bits)
-          ∙ ap (λ (l : List (ℕ × ℕ)). record v { hand = None; left = held.page ∷ v.left; bookmarked = w.bookmarked; known = l; won = b.won; read = w.read }) (sym known)
-          ∙ ap (λ (l : List (ℕ × ℕ)). record v { hand = None; left = held.page ∷ v.left; bookmarked = w.bookmarked; known = w.known; won = l; read = w.read }) (sym won);
-      unmarked = λ turn. let was = marked.unmarked (ap (λ (x : Key). x.lanes) about ∙ turn) in (known ∙ was.0, won ∙ was.1);
+          ∙ ap (λ (l : List ℕ). record v { hand = None; left = held.page ∷ v.left; bookmarked = b.bookmarked; known = b.known; won = b.won; owed = b.owed; rights = l; read = w.read }) (sym none)
+          ∙ ap (λ (l : List (ℕ × ℕ × ℕ)). record v { hand = None; left = held.page ∷ v.left; bookmarked = l; known = b.known; won = b.won; owed = b.owed; read = w.read }) (sym bits)
+          ∙ ap (λ (l : List (ℕ × ℕ)). record v { hand = None; left = held.page ∷ v.left; bookmarked = w.bookmarked; known = l; won = b.won; owed = b.owed; read = w.read }) (sym known)
+          ∙ ap (λ (l : List (ℕ × ℕ)). record v { hand = None; left = held.page ∷ v.left; bookmarked = w.bookmarked; known = w.known; won = l; owed = b.owed; read = w.read }) (sym won)
+          ∙ ap (λ (l : List ℕ). record v { hand = None; left = held.page ∷ v.left; bookmarked = w.bookmarked; known = w.known; won = w.won; owed = l; read = w.read }) (sym owed);
+      unmarked = λ turn. let was = marked.unmarked (ap (λ (x : Key). x.lanes) about ∙ turn) in (known ∙ was.0, won ∙ was.1, owed ∙ was.2);
     }
 
 -- what was read when the page was taken, and then given up
@@ -185,10 +187,10 @@ module _ (k : Key) (behind : (q : ℕ) → pages_of k ≤ q → opened_state k q
   has-evicted v u hint seat held w nothing one f d =
       let x = f.ready in
       let all = looked-then k v u x one.looks f.looks one.looked f.looked in
-      let full : w ≡ record v { hand = None; left = held.page ∷ v.left; bookmarked = w.bookmarked; known = w.known; won = w.won; read = w.read; seen = x.seen; gone = x.gone; busy = x.busy } =
+      let full : w ≡ record v { hand = None; left = held.page ∷ v.left; bookmarked = w.bookmarked; known = w.known; won = w.won; owed = w.owed; read = w.read; seen = x.seen; gone = x.gone; busy = x.busy } =
       d.view
-      ∙ ap (λ (y : View). record y { hand = None; left = held.page ∷ y.left; bookmarked = w.bookmarked; known = w.known; won = w.won; read = w.read }) f.taken.grasps.view
-      ∙ ap (λ (y : View). record y { hand = None; left = held.page ∷ y.left; bookmarked = w.bookmarked; known = w.known; won = w.won; read = w.read }) all.view in
+      ∙ ap (λ (y : View). record y { hand = None; left = held.page ∷ y.left; bookmarked = w.bookmarked; known = w.known; won = w.won; owed = w.owed; read = w.read }) f.taken.grasps.view
+      ∙ ap (λ (y : View). record y { hand = None; left = held.page ∷ y.left; bookmarked = w.bookmarked; known = w.known; won = w.won; owed = w.owed; read = w.read }) all.view in
       let seen : w.seen ≡ x.seen = ap (λ (y : View). y.seen) full in
       let gone : w.gone ≡ x.gone = ap (λ (y : View). y.gone) full in
       let busy : w.busy ≡ x.busy = ap (λ (y : View). y.busy) full in
@@ -205,13 +207,14 @@ module _ (k : Key) (behind : (q : ℕ) → pages_of k ≤ q → opened_state k q
             inl (near, found-first f.looks one.looks q MayStayFilled (f.before q near there comes));
         took = took_after k Filled v x seat held w (f.looks ++ one.looks) all f.taken d.reads;
         view = full
-            ∙ ap (λ (h : Option Hand). record v { hand = h; left = held.page ∷ v.left; bookmarked = w.bookmarked; known = w.known; won = w.won; read = w.read; seen = x.seen; gone = x.gone; busy = x.busy }) (sym nothing)
-            ∙ ap (λ (l : List ℕ). record v { left = held.page ∷ v.left; bookmarked = w.bookmarked; known = w.known; won = w.won; read = w.read; seen = l; gone = x.gone; busy = x.busy }) (sym seen)
-            ∙ ap (λ (l : List ℕ). record v { left = held.page ∷ v.left; bookmarked = w.bookmarked; known = w.known; won = w.won; read = w.read; seen = w.seen; gone = l; busy = x.busy }) (sym gone)
-            ∙ ap (λ (l : List ℕ). record v { left = held.page ∷ v.left; bookmarked = w.bookmarked; known = w.known; won = w.won; read = w.read; seen = w.seen; gone = w.gone; busy = l }) (sym busy);
+            ∙ ap (λ (h : Option Hand). record v { hand = h; left = held.page ∷ v.left; bookmarked = w.bookmarked; known = w.known; won = w.won; owed = w.owed; read = w.read; seen = x.seen; gone = x.gone; busy = x.busy }) (sym nothing)
+            ∙ ap (λ (l : List ℕ). record v { left = held.page ∷ v.left; bookmarked = w.bookmarked; known = w.known; won = w.won; owed = w.owed; read = w.read; seen = l; gone = x.gone; busy = x.busy }) (sym seen)
+            ∙ ap (λ (l : List ℕ). record v { left = held.page ∷ v.left; bookmarked = w.bookmarked; known = w.known; won = w.won; owed = w.owed; read = w.read; seen = w.seen; gone = l; busy = x.busy }) (sym gone)
+            ∙ ap (λ (l : List ℕ). record v { left = held.page ∷ v.left; bookmarked = w.bookmarked; known = w.known; won = w.won; owed = w.owed; read = w.read; seen = w.seen; gone = w.gone; busy = l }) (sym busy);
         unmarked = λ turn.
             let was = d.unmarked turn in (
               was.0 ∙ ap (λ (y : View). y.known) f.taken.grasps.view ∙ ap (λ (y : View). y.known) all.view,
               was.1 ∙ ap (λ (y : View). y.won) f.taken.grasps.view ∙ ap (λ (y : View). y.won) all.view,
+              was.2 ∙ ap (λ (y : View). y.owed) f.taken.grasps.view ∙ ap (λ (y : View). y.owed) all.view,
             );
       }

@@ -36,9 +36,9 @@ pub record HasEvicted (k : Key) (v : View) (hint page : ℕ) (w : View) : Type 0
   pub spare : (q : ℕ) → q < all_pages k → IsBarePage k.opening q → IsAccountedFor k looks q MayStayBare
   pub before : (q : ℕ) → q < all_pages k → HasCell k.opening q → ComesBefore k hint q page → IsAccountedFor k looks q MayStayFilled
   pub took : TookAfter k v looks page w
-  pub view : w ≡ record v { left = page ∷ v.left; bookmarked = w.bookmarked; known = w.known; won = w.won; read = w.read; seen = w.seen; gone = w.gone; busy = w.busy }
+  pub view : w ≡ record v { left = page ∷ v.left; bookmarked = w.bookmarked; known = w.known; won = w.won; owed = w.owed; read = w.read; seen = w.seen; gone = w.gone; busy = w.busy }
   -- in a turn of lanes marks are as they were
-  pub unmarked : k.lanes ≡ true → (w.known ≡ v.known) × (w.won ≡ v.won)
+  pub unmarked : k.lanes ≡ true → (w.known ≡ v.known) × (w.won ≡ v.won) × (w.owed ≡ v.owed)
 
 -- each page was looked at and was Absent, Held, Remembered or Gone. Nothing was taken
 pub record HasDeclined (k : Key) (v w : View) : Type 0 where

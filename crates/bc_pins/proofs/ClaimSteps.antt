@@ -17,6 +17,7 @@ use Rattle.bc_pins.specs.Facts.{Table, word, frame_bit, is_clear, Frames}
 use Rattle.bc_pins.specs.Rule.{Rule, Ruled}
 use Rattle.bc_pins.specs.Steps.{Mine, clear_frames, claiming, Claimed}
 use Rattle.bc_pins.proofs.NoticeLemmas.{claims_aside}
+use Rattle.bc_pins.proofs.OwingLemmas.{owing_aside}
 use Rattle.bc_pins.proofs.TotalLemmas.{total_set, times_append, one_other}
 use Rattle.bc_pins.proofs.TallyLemmas.{bit_few}
 use Rattle.bc_pins.proofs.MarkedLemmas.{targets_kept}
@@ -177,6 +178,7 @@ claims_frames k slots id role me w i is lt about some_role s r size at fits = (
   record {
     facts = subst (λ (j : ℕ). Rule k (aside s j (bit_or (word s j) all_bits) id (claiming me.0 w (word s j)))) (sym is) (claim_rule k s r.facts id role me.0 at about some_role w lt);
     claims = claims_aside k s _ _ id _ _ _ at (λ e. omega arith) refl r.claims;
+    owing = λ turn. owing_aside k s i _ id me.0 _ at (omega arith) (omega arith) refl refl refl (r.owing turn);
   },
   record {
     view = λ c e.

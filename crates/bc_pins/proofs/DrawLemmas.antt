@@ -72,7 +72,7 @@ module _ (k : Key) (parts : SpaceParts) (supers : ℕ) (turn : Turn) (holders : 
       (λ r. subst (λ (rs : List ℕ). times r rs ≤ 1) (sym roles_are) (drawn.apart r))
       (ap (times 0) roles_are ∙ nobody_has roles) drawn_unheld (λ turn. drawn.markable (sym (ap (λ (a : Key). a.lanes) drawn.key) ∙ turn))
       words filled slots l in
-      record { facts = starts k words slots may; claims = claims_opened k words slots may }
+      record { facts = starts k words slots may; claims = claims_opened k words slots may; owing = may.owing }
 
   pub drawn_markable : k.lanes ≡ false → IsMarkable k.opening
   drawn_markable mark = drawn.markable (sym (ap (λ (a : Key). a.lanes) drawn.key) ∙ mark)

@@ -1,5 +1,5 @@
 -- Taking a page from Gone, by the lane that holds its domain or by any where that is frozen.
-use Rattle.std.proofs.Common.{◌≡◌, ℕ, ◌+◌, ◌<◌, ◌≤◌, ◌≢◌, ◌==◌, ◌⊎◌, Bool, List, [], ◌∷◌, length, set, None, if◌then◌else◌, inl, inr, refl, ap, sym, subst, ◌∙◌, arith, get_or-set_other}
+use Rattle.std.proofs.Common.{◌≡◌, ℕ, ◌+◌, ◌<◌, ◌≤◌, ◌≢◌, ◌==◌, ◌⊎◌, Bool, true, false, List, [], ◌∷◌, length, set, None, if◌then◌else◌, inl, inr, refl, ap, sym, subst, ◌∙◌, arith, get_or-set_other}
 use Prim.Native.Nat.{zero, suc}
 use mathlib.Core.Option.{some}
 use mathlib.Core.Option as maybe
@@ -23,6 +23,7 @@ use Rattle.bc_pins.specs.Facts.{Table, slot, IsAway, Lies, remembered_now, Recor
 use Rattle.bc_pins.specs.Rule.{Rule, Ruled}
 use Rattle.bc_pins.specs.Steps.{Mine, both_slots, fetching, without, named_below, having_read, ReadsWord, Fetches, Fetched}
 use Rattle.bc_pins.proofs.NoticeLemmas.{claims_aside}
+use Rattle.bc_pins.proofs.OwingLemmas.{owing_page}
 use Rattle.bc_pins.proofs.TotalLemmas.{total_set, total_at, one_same, one_other, one_is, one_few}
 use Rattle.bc_pins.proofs.LogLemmas.{reads-else, reads-here, reads-more, pages-else}
 use Rattle.bc_pins.proofs.MarkedLemmas.{targets_kept}
@@ -321,6 +322,20 @@ module _ (k : Key) (s : Table) (r : Rule k s) (p id frame role : ℕ) (v : View)
             ]);
       }
 
+-- nobody may take a page from Gone in a mark turn
+no_fetch : (k : Key) (s : Table) (r : Rule k s) (p id : ℕ) (v : View) → get_elem? s.views id ≡ some v → (0 < has_role v (owner k p)) ⊎ IsFrozenIn k p → k.lanes ≡ false → ⊥
+no_fetch k s r p id v at may turn = elim may [
+  | inl mine ↦
+      let none_has = r.unheld turn p in
+      let each = r.roles.each (owner k p) in
+      let own = total_at (λ (z : View). times (owner k p) z.roles) s.views id v at in
+      absurd (omega arith)
+  | inr frozen ↦ clash (sym turn ∙ frozen.0)
+]
+  where
+    clash : false ≡ true → ⊥
+    clash e = cc
+
 -- whatever the table is, a try to take a page from Gone keeps the rule and says what it found
 pub fetched : (k : Key) (slots p id frame role : ℕ) (v : View) → p < pages_of k → v.about ≡ k → v.hand ≡ None → 0 < has_role v role → (0 < has_role v (owner k p)) ⊎ IsFrozenIn k p → v.rights ≡ frame ∷ []
     → Allows (Ruled k) slots id (v, []) (page_at p) (λ n. either (n == 4) 3 n) (Fetched (step slots (page_at p) 4 3 maybe.none) (v, []))
@@ -332,7 +347,7 @@ fetched k slots p id frame role v near about nothing some_role may right s r siz
       fetching v p (r.facts.rec p) frame,
       chain (takes (store_slot k p) (Away (r.facts.rec p))) (takes (frame_slot k p) Nothing),
       (away.1, set_else s.homes (store_slot k p) (frame_slot k p) maybe.none (λ x. omega arith) ∙ away.0),
-      record { facts = fetch_rule k s r.facts p id frame role v at near e about nothing some_role may right; claims = claims_aside k s _ _ id _ _ _ at (λ e. omega arith) refl r.claims },
+      record { facts = fetch_rule k s r.facts p id frame role v at near e about nothing some_role may right; claims = claims_aside k s _ _ id _ _ _ at (λ e. omega arith) refl r.claims; owing = λ turn. owing_page k s p _ _ id v _ at near r.facts.words (λ _ _. absurd (no_fetch k s r.facts p id v at may turn)) refl refl refl (r.owing turn) },
       record {
         hit = λ q f is one _. subst
             (λ (n : ℕ). (x : List ℕ) × ◌≡◌ {A = Mine} (fetching v p (r.facts.rec p) frame, both_slots k p Nothing (Away (r.facts.rec p))) (fetching v n x f, both_slots v.about n Nothing (Away x)) × Fetches v n x) (same_page p q is)
@@ -344,7 +359,7 @@ fetched k slots p id frame role v near about nothing some_role may right s r siz
       having_read v p (page_word s p),
       keeps,
       tt,
-      record { facts = look_step k s r.facts p id role v at near about some_role; claims = claims_aside k s _ _ id _ _ _ at (λ e. omega arith) refl r.claims },
+      record { facts = look_step k s r.facts p id role v at near about some_role; claims = claims_aside k s _ _ id _ _ _ at (λ e. omega arith) refl r.claims; owing = λ turn. owing_page k s p _ _ id v _ at near r.facts.words (λ low high. (low, high)) refl refl refl (r.owing turn) },
       record {
         hit = λ q f is one e. absurd (ne e);
         miss = λ q is _. (

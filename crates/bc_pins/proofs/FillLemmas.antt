@@ -1,7 +1,9 @@
 -- Words that are added one by one.
-use Rattle.std.proofs.Common.{◌≡◌, ℕ, ◌+◌, ◌*◌, ◌/◌, ◌%◌, ◌<◌, ◌≤◌, if◌then◌else◌, nat_lt, Bool, List, [], ◌∷◌, ◌++◌, length, get_or, inl, inr, refl, ap, sym, subst, ◌∙◌, arith, length-append}
+use Rattle.std.proofs.Common.{◌≡◌, ℕ, ◌+◌, ◌*◌, ◌/◌, ◌%◌, ◌<◌, ◌≤◌, if◌then◌else◌, nat_lt, bit_and, min, Bool, List, [], ◌∷◌, ◌++◌, length, get_or, inl, inr, refl, ap, sym, subst, ◌∙◌, arith, length-append}
 use Prim.Native.Nat.{zero, suc}
 use Rattle.std.proofs.lemmas.Bool.{cases_eq, lt-ltb}
+use Rattle.std.specs.Int.{bit_at}
+use Rattle.std.proofs.lemmas.Nat.Bits.{bit_at_and, bit_at_ones}
 use Rattle.bc_superpages.specs.declared.headers.Header.{Header}
 use Rattle.bc_superpages.specs.declared.headers.PageState.TheVariants.{Absent}
 use Rattle.bc_superpages.specs.Headers.{unused_header}
@@ -10,7 +12,8 @@ use Rattle.bc_pins.specs.declared.key.Turn.{Turn}
 use Rattle.bc_pins.specs.declared.key.Turn.TheVariants.{Lanes, Mark}
 use Rattle.bc_pins.specs.Key.{page_at, table_words}
 use Rattle.bc_pins.specs.Views.{state_word}
-use Rattle.bc_pins.specs.Filling.{Extends, AddsFrames, AddsStates, IsFrameWord}
+use Rattle.bc_pins.specs.Filling.{Extends, Adds, AddsStates, AddsQueues, HasGrayBit, HasMarkWords, QueuesGray, header_in, set_word}
+use Rattle.bc_pins.specs.declared.filling.CellSet.TheVariants.{Marks, Finished}
 
 pub front_same : (xs : List ℕ) (y i : ℕ) → i < length xs → get_or (xs ++ y ∷ []) i 0 ≡ get_or xs i 0
 front_same [] y i lt = absurd (omega arith)
@@ -42,19 +45,19 @@ pub words_at_least : (s f : ℕ) (t : Turn) → 33 * s + (f + 63) / 64 + 1 ≤ t
 words_at_least s f Lanes = omega arith
 words_at_least s f Mark = omega arith
 
--- words of frames that are added one by one
-pub frames_none : (pool : List Bool) (o : List ℕ) → AddsFrames pool o o 0
-frames_none pool o = record { long = omega arith; kept = λ i _. refl; added = λ i lt. absurd (omega arith) }
+-- words that are added one by one, of which something is said
+pub adds_none : (Said : ℕ → ℕ → Type 0) (o : List ℕ) → Adds Said o o 0
+adds_none Said o = record { long = omega arith; kept = λ i _. refl; added = λ i lt. absurd (omega arith) }
 
-pub frames_more : (pool : List Bool) (o n : List ℕ) (k v : ℕ) → AddsFrames pool o n k → IsFrameWord pool k v → AddsFrames pool o (n ++ v ∷ []) (k + 1)
-frames_more pool o n k v e is =
+pub adds_more : (Said : ℕ → ℕ → Type 0) (o n : List ℕ) (k v : ℕ) → Adds Said o n k → Said k v → Adds Said o (n ++ v ∷ []) (k + 1)
+adds_more Said o n k v e is =
     let size = e.long in
     record {
       long = length-append n (v ∷ []) ∙ omega arith;
       kept = λ i lt. front_same n v i (omega arith) ∙ e.kept i lt;
       added = λ i lt. elim (cases_eq i k) [
-        | inl same ↦ subst (IsFrameWord pool i) (sym (end_is n v (length o + i) (omega arith))) (subst (λ (j : ℕ). IsFrameWord pool j v) (sym same) is)
-        | inr ne ↦ subst (IsFrameWord pool i) (sym (front_same n v (length o + i) (omega arith))) (e.added i (omega arith))
+        | inl same ↦ subst (Said i) (sym (end_is n v (length o + i) (omega arith))) (subst (λ (j : ℕ). Said j v) (sym same) is)
+        | inr ne ↦ subst (Said i) (sym (front_same n v (length o + i) (omega arith))) (e.added i (omega arith))
       ];
     }
 
@@ -72,3 +75,45 @@ filled_at hs p =
 
 pub states_added : (hs : List Header) (o n : List ℕ) (count superpages : ℕ) → count ≡ 16 * superpages → Extends o n count (filled_word hs) → AddsStates hs o n superpages
 states_added hs o n count superpages is e = record { long = e.long ∙ ap (λ (m : ℕ). length o + m) is; kept = e.kept; states = λ p lt. e.added (page_at p) (omega arith) ∙ filled_at hs p }
+
+-- in this word of the header each cell that is marked and allocated is finished
+abbrev pub IsFinishedWord : Header → ℕ → Type 0
+IsFinishedWord h j = bit_and (bit_and (get_or h.marks j 0) (get_or h.cells j 0)) (get_or h.finished j 0) ≡ bit_and (get_or h.marks j 0) (get_or h.cells j 0)
+
+pub none_gray : (h : Header) → ((j : ℕ) → j < 16 → IsFinishedWord h j) → HasGrayBit h → ⊥
+none_gray h each g =
+    let m : ℕ = get_or h.marks g.word 0 in
+    let c : ℕ = get_or h.cells g.word 0 in
+    let f : ℕ = get_or h.finished g.word 0 in
+    let one : bit_at (bit_and m c) g.bit ≡ 1 = bit_at_and m c g.bit ∙ ap (λ (n : ℕ). min n (bit_at c g.bit)) g.marked ∙ ap (λ (n : ℕ). min 1 n) g.allocated in
+    let zero : bit_at (bit_and (bit_and m c) f) g.bit ≡ 0 = bit_at_and (bit_and m c) f g.bit ∙ ap (λ (n : ℕ). min n (bit_at f g.bit)) one ∙ ap (λ (n : ℕ). min 1 n) g.unfinished in
+    let same : bit_at (bit_and (bit_and m c) f) g.bit ≡ bit_at (bit_and m c) g.bit = ap (λ (n : ℕ). bit_at n g.bit) (each g.word g.near) in
+    omega arith
+
+-- a queue word has the bits of all four pages
+pub all_queued : (i : ℕ) → i < 4 → bit_at 15 i ≡ 1
+all_queued i lt = bit_at_ones 4 i lt
+
+-- a header that is read, by another default
+pub same_header : (hs : List Header) (i : ℕ) (d : Header) → i < length hs → get_or hs i d ≡ get_or hs i unused_header
+same_header [] i d lt = absurd (omega arith)
+same_header (h ∷ hs) zero d lt = refl
+same_header (h ∷ hs) (suc i) d lt = same_header hs i d (omega arith)
+
+-- the sets and the queue words, one after another
+pub mark_words : (hs : List Header) (n : ℕ) (o a b e : List ℕ) → Extends o a (16 * n) (set_word Marks hs) → Extends a b (16 * n) (set_word Finished hs) → AddsQueues hs b e n → HasMarkWords hs n o e
+mark_words hs n o a b e marks finished queues =
+    let one = marks.long in
+    let two = finished.long in
+    let three = queues.long in
+    record {
+      long = omega arith;
+      kept = λ i lt. queues.kept i (omega arith) ∙ finished.kept i (omega arith) ∙ marks.kept i lt;
+      marks = λ w lt. queues.kept (length o + w) (omega arith) ∙ finished.kept (length o + w) (omega arith) ∙ marks.added w lt;
+      finished = λ w lt.
+          let here : length o + (16 * n + w) ≡ length a + w = omega arith in
+          queues.kept (length o + (16 * n + w)) (omega arith) ∙ ap (λ (i : ℕ). get_or b i 0) here ∙ finished.added w lt;
+      queues = λ q lt.
+          let here : length b + q ≡ length o + (32 * n + q) = omega arith in
+          subst (λ (i : ℕ). QueuesGray (header_in hs q) (get_or e i 0)) here (queues.added q lt);
+    }

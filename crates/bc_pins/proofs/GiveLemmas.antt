@@ -22,6 +22,7 @@ use Rattle.bc_pins.specs.Tidy.{IsTidy}
 use Rattle.bc_pins.specs.Rule.{Rule, Ruled}
 use Rattle.bc_pins.specs.Steps.{Mine, owns, both_slots, released, Gave}
 use Rattle.bc_pins.proofs.NoticeLemmas.{claims_aside}
+use Rattle.bc_pins.proofs.OwingLemmas.{held_word, owing_page}
 use Rattle.bc_pins.proofs.TotalLemmas.{total_set, total_at, one_same, one_other, one_is}
 use Rattle.bc_pins.proofs.WithholdLemmas.{foreign_few, foreign_own}
 use Rattle.bc_pins.proofs.PageSteps.{after, sets_marked, left_gone, PageStep, page_step}
@@ -433,6 +434,7 @@ gave k slots id x role v g h lo hi about has some_role frame fixed young flag ot
   record {
     facts = give_rule k s r.facts id x role v g h at lo hi about has some_role frame fixed young flag others uncounted unmarked;
     claims = let near = ((r.facts.seats id v at).records.in_hand g has).0 in claims_aside k s _ _ id _ _ _ at (λ e. omega arith) refl r.claims;
+    owing = λ turn. let near = ((r.facts.seats id v at).records.in_hand g has).0 in let held = held_word k s r.facts id v at g has near in owing_page k s g.page _ _ id v _ at near r.facts.words (λ _ _. (omega arith, omega arith)) refl refl refl (r.owing turn);
   },
   record {
     slots = refl;

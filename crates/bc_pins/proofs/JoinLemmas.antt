@@ -6,6 +6,7 @@ use Rattle.std.proofs.lemmas.Bool.{cases_lt, cases_Bool}
 use Rattle.atomic_table.specs.Table.{Joins}
 use Rattle.atomic_table.proofs.Lists.{at_set, set_else}
 use Rattle.bc_bits.specs.Counting.{one_if}
+use Rattle.bc_word.specs.Addresses.{page_of}
 use Rattle.bc_pins.specs.declared.views.View.{View}
 use Rattle.bc_pins.specs.Key.{Key, owner, page_at}
 use Rattle.bc_pins.specs.Totals.{total, times}
@@ -14,11 +15,13 @@ use Rattle.bc_pins.specs.Facts.{Table, has_bit_of, puts_with}
 use Rattle.bc_pins.specs.Tracing.{tells}
 use Rattle.bc_pins.specs.Rule.{SeatFacts, Rule, Ruled}
 use Rattle.bc_pins.specs.Claims.{Claims}
+use Rattle.bc_pins.specs.Owing.{covers, Owing}
 use Rattle.bc_pins.specs.Steps.{united, nobody}
 use Rattle.bc_pins.proofs.TotalLemmas.{total_set, total_two, times_append}
 use Rattle.bc_pins.proofs.WithholdLemmas.{foreign_none}
 use Rattle.bc_pins.proofs.LogLemmas.{times-reads}
 use Rattle.bc_pins.proofs.NoticeLemmas.{claims_same}
+use Rattle.bc_pins.proofs.OwingLemmas.{covers_none, covers_more, owing_views}
 use Rattle.bc_pins.proofs.TracingLemmas.{tells_append, knows_none, knows_both}
 use Rattle.bc_pins.proofs.SeatLemmas.{with_views, SameSums, now_same, same_words, views_step, seat_kept, no_hand, no_marking, no_targets}
 
@@ -305,8 +308,27 @@ module _ (k : Key) (s : Table) (r : Rule k s) (id other : ℕ) (v w : View) (at 
   pub join_claims : Claims k s → Claims k (with_views s views)
   join_claims old = claims_same k s (with_views s views) refl (sum_of (λ u. length u.notices) refl (length-append v.notices w.notices)) (λ n. sum_of (λ u. times n u.notices) refl (times_append n v.notices w.notices)) old
 
+  -- the view answers for all for which either did
+  pub join_owing : Owing k s → Owing k (with_views s views)
+  join_owing = owing_views k s views (λ a lt.
+      let one = total_set (covers k a) s.views id v (united v w) at in
+      let two = total_set (covers k a) (set s.views id (united v w)) other w nobody there in
+      let both = total_two (covers k a) s.views other id w v ne there_was at in
+      let none_left = covers_none k a nobody refl in
+      let long = times_append (page_of a) v.owed w.owed in
+      let mine : 0 < covers k a v → 0 < covers k a (united v w) = covers_more k a v (united v w) (λ owes. omega arith) (λ _. omega arith) in
+      let theirs : 0 < covers k a w → 0 < covers k a (united v w) = covers_more k a w (united v w) (λ owes. omega arith) (λ _. omega arith) in
+      elim (cases_lt 0 (covers k a v)) [
+        | inl has ↦ let now = mine has in omega arith
+        | inr none ↦ elim (cases_lt 0 (covers k a w)) [
+          | inl has ↦ let now = theirs has in omega arith
+          | inr neither ↦ omega arith
+        ]
+      ])
+
 pub unites : (k : Key) (id other : ℕ) (v w : View) → v.about ≡ k → w.about ≡ k → v.hand ≡ None → w.hand ≡ None → Joins (Ruled k) id v other w (united v w) nobody
 unites k id other v w about same_about free nothing s r at ne there = record {
   facts = join_rule k s r.facts id other v w at ne there about same_about free nothing;
   claims = join_claims k s r.facts id other v w at ne there about same_about free nothing r.claims;
+  owing = λ turn. join_owing k s r.facts id other v w at ne there about same_about free nothing (r.owing turn);
 }

@@ -6,8 +6,14 @@ pub mod WithholdLemmas
 pub mod LogLemmas
 -- The mark facts through a step
 pub mod TracingLemmas
+-- What is owed of gray cells, through a step
+pub mod OwingLemmas
+-- The pages of marks that a shade won
+pub mod WonLemmas
 -- What a step on a page word owes, and that the rule then holds after it.
 pub mod PageSteps
+-- Gray cells on pages in memory
+pub mod GrayLemmas
 -- A seat that has all roles
 pub mod AloneLemmas
 -- What was read stays so, through a step on a page word, and a word that is read alone.
@@ -54,6 +60,10 @@ pub mod MarkSteps
 pub mod FrameSteps
 -- Steps on mark words and on finished words
 pub mod ShadeSteps
+-- Steps on queue words
+pub mod QueueSteps
+-- What calls on queue words leave
+pub mod QueueLemmas
 -- A seat's slots while a box goes into its store slot
 pub mod GivingLemmas
 -- Making the page in hand Gone or Absent

@@ -34,6 +34,7 @@ use Rattle.bc_pins.specs.Facts.{Table, word, RecordsContent, Seated, Marking, po
 use Rattle.bc_pins.specs.Rule.{Rule, Ruled}
 use Rattle.bc_pins.specs.Steps.{Mine, bookmarking, counting, AreTargets, SetBits, Counted}
 use Rattle.bc_pins.proofs.NoticeLemmas.{claims_aside}
+use Rattle.bc_pins.proofs.OwingLemmas.{owing_aside}
 use Rattle.bc_pins.proofs.TotalLemmas.{total_set, total_less_at, one_same, one_other, one_few}
 use Rattle.bc_pins.proofs.SumLemmas.{sum_few_below, sum_one}
 use Rattle.bc_pins.proofs.TakeLemmas.{some_hand}
@@ -426,6 +427,7 @@ marks_from k slots id role me h w bits i is lt within about has_one some_role ta
   record {
     facts = subst (λ (j : ℕ). Rule k (aside s j (bit_or (word s j) bits) id (bookmarking me.0 h w bits (word s i)))) (sym is) (mark_rule k s r.facts id role me.0 h at about has_one some_role w bits (word s i) lt targets within);
     claims = claims_aside k s _ _ id _ _ _ at (λ e. omega arith) refl r.claims;
+    owing = λ turn. owing_aside k s i _ id me.0 _ at (omega arith) (omega arith) refl refl refl (r.owing turn);
   },
   record {
     view = λ g x e f.
@@ -444,6 +446,7 @@ counts_from k slots id role me h q i is lt about has_one some_role uncounted s r
   record {
     facts = subst (λ (j : ℕ). Rule k (aside s j ((word s j + 1) % 2 ^ 64) id (counting me.0 h q (word s i)))) (sym is) (count_rule k s r.facts id role me.0 h at about has_one some_role q (word s i) lt uncounted);
     claims = claims_aside k s _ _ id _ _ _ at (λ e. omega arith) refl r.claims;
+    owing = λ turn. owing_aside k s i _ id me.0 _ at (omega arith) (omega arith) refl refl refl (r.owing turn);
   },
   record {
     view = λ g x e f.

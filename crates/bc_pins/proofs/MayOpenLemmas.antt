@@ -34,7 +34,7 @@ use Rattle.bc_superpages.proofs.HandLemmas.{state-header, allocated-page}
 use Rattle.bc_superpages.proofs.BringLemmas.{allocated-not_absent}
 use Rattle.bc_pins.specs.declared.views.Lodged.{Lodged}
 use Rattle.bc_pins.specs.declared.views.Lodged.TheVariants.{Nothing}
-use Rattle.bc_pins.specs.Key.{Key, pages_of, bookmark_at, mark_at, finished_at, page_at, home_slot, frame_slot, store_slot}
+use Rattle.bc_pins.specs.Key.{Key, pages_of, bookmark_at, mark_at, finished_at, queue_at, page_at, home_slot, frame_slot, store_slot}
 use Rattle.bc_pins.specs.Totals.{total, times}
 use Rattle.bc_pins.specs.Views.{state_word, opened_state, opened_word, opened_content}
 use Rattle.bc_pins.specs.Facts.{frame_of, frame_lodged, IsUnheld}
@@ -42,7 +42,8 @@ use Rattle.bc_pins.specs.Lodging.{home_of, away_of}
 use Rattle.bc_pins.specs.Opening.{IsReady, IsOpenable, IsMarkable, AreLodged}
 use Rattle.bc_pins.specs.Facts.{Frames, frame_bit, is_clear, bookmark_bit, opened_bit, cell_bit, HasBookmarkBit, Summary, points, adds_to, Counters, Bits}
 use Rattle.bc_pins.specs.Tracing.{word_of, place_of, finished_bit, opened_finished, HasMarkBit, IsFinishedIn, Tracing}
-use Rattle.bc_pins.specs.Filling.{IsFilled}
+use Rattle.bc_pins.specs.Owing.{IsGray, Owing}
+use Rattle.bc_pins.specs.Filling.{HasGrayBit, QueuesGray, header_in, IsFilled}
 use Rattle.bc_pins.specs.Opening.{opened, OpensPage, MayOpen}
 use Rattle.bc_pins.proofs.SumLemmas.{sum_slots, sum_same, sum_none, sum_cut, total_sum, count_total, times_count, total_map}
 use Rattle.bc_pins.proofs.PartsLemmas.{content_fixed, slots_lie, slot_there, word_states, word_absent}
@@ -288,6 +289,36 @@ module _ (k : Key) (whole : SpaceParts) (kept : AreParts whole) (layout : parts_
     gone = λ a b went l. absurd (went.2 (sym (opens_page (page_of a) went.0).word ∙ went.1));
   }
 
+  cell_word : (w : ℕ) → w < 16 * k.supers → slice_index (header_in whole.headers.items (w / 16)).cells (w % 16) ≡ slice_index (set_of k.opening.cells (w / 16)) (w % 16)
+  cell_word w lt = sym (ap (λ (h : Header). slice_index h.cells (w % 16)) (header_is (w / 16) (omega arith)))
+
+  -- where a cell is gray its superpage's header says so, and so all pages of it are queued
+  gray_word : k.lanes ≡ false → (a : ℕ) → IsGray k (opened k words slots) a → HasGrayBit (header_in whole.headers.items (word_of k a / 16))
+  gray_word turn a gray =
+      let within = gray.marked.within in
+      let few = gray.marked.few in
+      let near : word_of k a < 16 * k.supers = omega arith in
+      let b : ℕ = place_of k a in
+      let there = (markable turn).cells a (marked_then turn a gray.marked) in
+      record {
+        word = word_of k a % 16;
+        bit = b;
+        near = omega arith;
+        few = omega arith;
+        allocated = ap (λ (n : ℕ). bit_at n b) (cell_word (word_of k a) near) ∙ is_set k k.opening.cells a few there;
+        marked = ap (λ (n : ℕ). bit_at n b) (sym (filled.marks (word_of k a) turn near)) ∙ gray.marked.bit;
+        unfinished = ap (λ (n : ℕ). bit_at n b) (sym (filled.finished (word_of k a) turn near)) ∙ gray.unfinished;
+      }
+
+  owing_open : k.lanes ≡ false → Owing k (opened k words slots)
+  owing_open turn a gray resident =
+      let within = gray.marked.within in
+      let few = gray.marked.few in
+      let here : word_of k a / 16 ≡ page_of a / 4 = omega arith in
+      let queues = subst (λ (q : ℕ). QueuesGray (header_in whole.headers.items q) (slice_index words (queue_at k q))) here (filled.queues (word_of k a / 16) turn (omega arith)) in
+      let set = queues (subst (λ (q : ℕ). HasGrayBit (header_in whole.headers.items q)) here (gray_word turn a gray)) (page_of a % 4) (omega arith) in
+      omega arith
+
   pub may_open : MayOpen k words slots
   may_open = record {
     words_long = filled.long;
@@ -302,4 +333,5 @@ module _ (k : Key) (whole : SpaceParts) (kept : AreParts whole) (layout : parts_
     bits = bits_open;
     notice = filled.notice;
     tracing = tracing_open;
+    owing = owing_open;
   }

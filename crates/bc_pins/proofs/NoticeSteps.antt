@@ -14,6 +14,7 @@ use Rattle.bc_pins.specs.Rule.{Rule, Ruled}
 use Rattle.bc_pins.specs.Steps.{Mine, taking_notice, TookNotice}
 use Rattle.bc_pins.proofs.MarkedLemmas.{targets_kept}
 use Rattle.bc_pins.proofs.NoticeLemmas.{claims_more}
+use Rattle.bc_pins.proofs.OwingLemmas.{owing_aside}
 use Rattle.bc_pins.proofs.SideSteps.{aside, SideStep, side_step, counters_same, bits_same, frames_same, keeps_aside}
 use Rattle.bc_pins.proofs.TracingLemmas.{KeepsMarks, keeps_set, knows_read, tracing_kept}
 
@@ -75,6 +76,7 @@ takes_notice k slots id role me i is about some_role s r size at fits = (
   subst (λ (j : ℕ). Ruled k (aside s j ((word s j + 1) % 2 ^ 64) id (taking_notice me.0 (word s j)))) (sym is) (record {
     facts = notice_rule k s r.facts id role me.0 at some_role ((word s (notice_at k) + 1) % 2 ^ 64) (word s (notice_at k));
     claims = claims_more k s id me.0 at (let long = r.facts.words in omega arith) r.claims;
+    owing = λ turn. owing_aside k s (notice_at k) _ id me.0 _ at (omega arith) (omega arith) refl refl refl (r.owing turn);
   }),
   record { view = λ _. refl },
 )

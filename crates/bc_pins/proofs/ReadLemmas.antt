@@ -19,6 +19,7 @@ use Rattle.bc_pins.specs.Facts.{Table, Lies, remembered_now, fetched_ever, Saw, 
 use Rattle.bc_pins.specs.Rule.{Rule, Ruled}
 use Rattle.bc_pins.specs.Steps.{Mine, owns, having_read, ReadsWord, Looked}
 use Rattle.bc_pins.proofs.NoticeLemmas.{claims_aside}
+use Rattle.bc_pins.proofs.OwingLemmas.{owing_page}
 use Rattle.bc_pins.proofs.TotalLemmas.{total_set, one_other, one_is, total_less}
 use Rattle.bc_pins.proofs.WithholdLemmas.{added_other, noted_busy}
 use Rattle.bc_pins.proofs.MarkedLemmas.{targets_kept}
@@ -274,7 +275,7 @@ looks k slots p id role me near about some_role s r size at fits = (
   having_read me.0 p (page_word s p),
   keeps,
   tt,
-  record { facts = look_step k s r.facts p id role me.0 at near about some_role; claims = claims_aside k s _ _ id _ _ _ at (λ e. omega arith) refl r.claims },
+  record { facts = look_step k s r.facts p id role me.0 at near about some_role; claims = claims_aside k s _ _ id _ _ _ at (λ e. omega arith) refl r.claims; owing = λ turn. owing_page k s p _ _ id me.0 _ at near r.facts.words (λ low high. (low, high)) refl refl refl (r.owing turn) },
   record {
     view = λ q e. ap (λ (n : ℕ). (having_read me.0 n (page_word s p), me.1)) (same_page p q e);
     reads = λ q e. subst (λ (n : ℕ). ReadsWord me.0 n (page_word s p)) (same_page p q e) (reads k s r.facts p id me.0 near at about);

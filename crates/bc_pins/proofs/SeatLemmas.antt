@@ -11,6 +11,7 @@ use Rattle.bc_pins.specs.Totals.{total, times}
 use Rattle.bc_pins.specs.Views.{grips, grips_remembered, frame_in_hand, counted_for, sets_bit, withholds, reads_as, marked_for, entries, look_up, opened_content, sets_for}
 use Rattle.bc_pins.specs.Facts.{IsIdle, Table, page_word, remembered_now, adds_to, Marking, MarksTargets, fetched_ever, puts_with}
 use Rattle.bc_pins.specs.Tracing.{tells}
+use Rattle.bc_pins.specs.Owing.{covers}
 use Rattle.bc_pins.specs.Rule.{SeatFacts, Rule, Ruled}
 use Rattle.bc_pins.specs.Steps.{dealer, dealt}
 use Rattle.bc_pins.proofs.TotalLemmas.{total_set, total_append}
@@ -18,6 +19,7 @@ use Rattle.bc_pins.proofs.MarkedLemmas.{targets_more}
 use Rattle.bc_pins.proofs.SumLemmas.{sum_same}
 use Rattle.bc_pins.proofs.WithholdLemmas.{foreign_none}
 use Rattle.bc_pins.proofs.NoticeLemmas.{claims_same}
+use Rattle.bc_pins.proofs.OwingLemmas.{covers_same, covers_none, owing_views}
 use Rattle.bc_pins.proofs.TracingLemmas.{KeepsMarks, KeepsSet, tracing_kept, knows_stay, knows_read, knows_none}
 
 -- the table with other views
@@ -262,4 +264,10 @@ deals k id v unused no_change no_gone no_busy s r at = record {
   claims = claims_same k s (with_views s (set s.views id (dealer v) ++ dealt v ∷ [])) refl
       (split_sum (λ (u : View). length u.notices) s.views id v (dealer v) (dealt v) at (omega arith))
       (λ n. split_sum (λ (u : View). times n u.notices) s.views id v (dealer v) (dealt v) at (omega arith)) r.claims;
+  owing = λ turn. owing_views k s (set s.views id (dealer v) ++ dealt v ∷ [])
+      (λ a lt.
+      let rest = covers_same k a v (dealer v) refl refl refl in
+      let new = covers_none k a (dealt v) refl in
+      let sum = split_sum (covers k a) s.views id v (dealer v) (dealt v) at (omega arith) in
+      omega arith) (r.owing turn);
 }

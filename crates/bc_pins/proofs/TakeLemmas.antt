@@ -22,6 +22,7 @@ use Rattle.bc_pins.specs.Facts.{Table, slot, IsHomed, Lies, remembered_now, Reco
 use Rattle.bc_pins.specs.Rule.{Rule, Ruled}
 use Rattle.bc_pins.specs.Steps.{Mine, both_slots, gripping, having_read, ReadsWord, Takes, Took}
 use Rattle.bc_pins.proofs.NoticeLemmas.{claims_aside}
+use Rattle.bc_pins.proofs.OwingLemmas.{owing_page}
 use Rattle.bc_pins.proofs.TotalLemmas.{total_set, total_at, total_none, total_only, total_two, one_same, one_other, one_is}
 use Rattle.bc_pins.proofs.WithholdLemmas.{foreign_none}
 use Rattle.bc_pins.proofs.MarkedLemmas.{targets_kept}
@@ -316,7 +317,7 @@ taken k slots p id old role v near lo hi about nothing some_role s r size at fit
       gripping v p (old == 2) h,
       chain (takes (store_slot k p) Nothing) (takes (frame_slot k p) (Home h)),
       (homed.2, set_else s.homes (store_slot k p) (frame_slot k p) maybe.none (λ x. omega arith) ∙ homed.1),
-      record { facts = rule; claims = claims_aside k s _ _ id _ _ _ at (λ e. omega arith) refl r.claims },
+      record { facts = rule; claims = claims_aside k s _ _ id _ _ _ at (λ e. omega arith) refl r.claims; owing = λ turn. owing_page k s p _ _ id v _ at near r.facts.words (λ _ _. (omega arith, omega arith)) refl refl refl (r.owing turn) },
       record {
         hit = λ q is _. subst (λ (n : ℕ). (x : Homed) × ◌≡◌ {A = Mine} (gripping v p (old == 2) h, both_slots k p (Home h) Nothing) (gripping v n (old == 2) x, both_slots v.about n (Home x) Nothing) × Takes v n (old == 2) x) (same_page p q is)
             (h, ap (λ (a : Key). (gripping v p (old == 2) h, both_slots a p (Home h) Nothing)) (sym about), hit_told k s r.facts p id old role v at near lo hi e about nothing some_role h homed.1 homed.2 homed.3);
@@ -327,7 +328,7 @@ taken k slots p id old role v near lo hi about nothing some_role s r size at fit
       having_read v p (page_word s p),
       keeps,
       tt,
-      record { facts = look_step k s r.facts p id role v at near about some_role; claims = claims_aside k s _ _ id _ _ _ at (λ e. omega arith) refl r.claims },
+      record { facts = look_step k s r.facts p id role v at near about some_role; claims = claims_aside k s _ _ id _ _ _ at (λ e. omega arith) refl r.claims; owing = λ turn. owing_page k s p _ _ id v _ at near r.facts.words (λ low high. (low, high)) refl refl refl (r.owing turn) },
       record {
         hit = λ q is e. absurd (ne e);
         miss = λ q is _. (

@@ -16,6 +16,7 @@ use Rattle.bc_pins.specs.Facts.{Table, word, points, adds_to, Counters, Marking,
 use Rattle.bc_pins.specs.Rule.{Rule, Ruled}
 use Rattle.bc_pins.specs.Steps.{Mine, discounting, without, Discounted}
 use Rattle.bc_pins.proofs.NoticeLemmas.{claims_aside}
+use Rattle.bc_pins.proofs.OwingLemmas.{owing_aside}
 use Rattle.bc_pins.proofs.TotalLemmas.{total_set}
 use Rattle.bc_pins.proofs.SumLemmas.{sum_one}
 use Rattle.bc_pins.proofs.MarkedLemmas.{targets_kept}
@@ -149,6 +150,7 @@ uncounts_from k slots id role me h q i is lt about has_one some_role counted s r
     facts = subst (λ (j : ℕ). Rule k (aside s j ((word s j + (2 ^ 64 - 1)) % 2 ^ 64) id (discounting me.0 h q (word s i)))) (sym is)
         (uncount_rule k s r.facts id role me.0 h at about has_one some_role q (word s i) lt counted (subst (λ (j : ℕ). word s j < 2 ^ 64) is fits));
     claims = claims_aside k s _ _ id _ _ _ at (λ e. omega arith) refl r.claims;
+    owing = λ turn. owing_aside k s i _ id me.0 _ at (omega arith) (omega arith) refl refl refl (r.owing turn);
   },
   record {
     view = λ g x e f.

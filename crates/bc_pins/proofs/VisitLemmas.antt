@@ -42,13 +42,13 @@ use Rattle.bc_pins.proofs.CallerLemmas.{clash, bare_ready, set_bare, opening_rea
 
 module _ (v : View) (seat : Seat) (page : ℕ) (held : Held) (g : Grasps v seat page held) where
   in_hand : (hand : Hand) → (view_of seat).hand ≡ Some hand
-      → hand ≡ record { page = page; remembered = held.remembered; frame = held.homed.frame; content = held.homed.page; counted = []; marked = []; looked = [] }
+      → hand ≡ record { page = page; remembered = held.remembered; frame = held.homed.frame; content = held.homed.page; counted = []; marked = [] }
   in_hand hand has = some_hand hand _ (sym has ∙ ap (λ (w : View). w.hand) g.view)
 
   -- what was taken is in hand
   pub holds_taken : page < pages_of v.about → HoldsPage seat held
   holds_taken lt = record {
-    hand = record { page = page; remembered = held.remembered; frame = held.homed.frame; content = held.homed.page; counted = []; marked = []; looked = [] };
+    hand = record { page = page; remembered = held.remembered; frame = held.homed.frame; content = held.homed.page; counted = []; marked = [] };
     has = ap (λ (w : View). w.hand) g.view;
     page = sym g.is;
     inside = subst (λ (w : View). held.page < pages_of w.about) (sym g.view) (subst (λ (p : ℕ). p < pages_of v.about) (sym g.is) lt);

@@ -1,5 +1,6 @@
 -- What the calls of a table require and return.
-use Rattle.std.specs.Prelude.{◌≡◌, ◌≢◌, ℕ, ◌-◌, ◌^◌, ◌<◌, ◌⊎◌, length, min, Bool, true, false, if◌then◌else◌, List, [], Some, None}
+use Rattle.std.specs.Prelude.{◌≡◌, ◌≢◌, ℕ, ◌-◌, ◌^◌, ◌/◌, ◌%◌, ◌<◌, ◌≤◌, ◌⊎◌, length, min, Bool, true, false, if◌then◌else◌, List, [], ◌∷◌, ◌++◌, Some, None}
+use Rattle.std.specs.Int.{bit_at}
 use Rattle.bc_bookmarks.specs.Targets.{HasCell}
 use Rattle.bc_pins.specs.declared.key.Role.{Role}
 use Rattle.bc_pins.specs.declared.key.Role.TheVariants.{Marker}
@@ -14,10 +15,10 @@ use Rattle.bc_pins.specs.declared.taking.Want.{Want}
 use Rattle.bc_pins.specs.declared.taking.Want.TheVariants.{Work, Victim}
 use Rattle.bc_pins.specs.declared.taking.TakeError.{TakeError}
 use Rattle.bc_pins.specs.declared.taking.TakeError.TheVariants.{Busy, Gone, Remembered, Absent}
-use Rattle.bc_pins.specs.Key.{Key, pages_of, owner, IsFrozenIn, role_number}
+use Rattle.bc_pins.specs.Key.{Key, pages_of, owner, IsFrozenIn, role_number, queue_at}
 use Rattle.bc_pins.specs.Totals.{times}
 use Rattle.bc_pins.specs.Contents.{IsBarePage, IsContent, RefersYoung}
-use Rattle.bc_pins.specs.Views.{has_role, opened_word}
+use Rattle.bc_pins.specs.Views.{has_role, opened_word, reads_of}
 use Rattle.bc_pins.specs.Steps.{HasAllRoles, both_slots, gripping, having_read, released}
 
 -- the key of a table
@@ -147,3 +148,18 @@ pub record MayPut (seat : Seat) (held : Held) : Type 0 where
 -- the view once the page was put back
 abbrev pub put_back : View → Held → View
 put_back v held = released v held.page held.remembered held.homed.page
+
+-- a call that clears no queue bit stepped on queue words alone: no page is owed that wasn't
+pub record OnlyQueues (v w : View) : Type 0 where
+  pub same : w ≡ record v { owed = w.owed; read = w.read }
+  pub less : (p : ℕ) → times p w.owed ≤ times p v.owed
+  pub later : List (ℕ × ℕ)
+  pub grows : w.read ≡ later ++ v.read
+  pub apart : (i : ℕ) → i < queue_at v.about 0 → reads_of i later ≡ []
+
+-- the page's queue bit was clear when the last step on a queue word was made, which was on its superpage's
+pub record WasClear (v : View) (page : ℕ) : Type 0 where
+  pub found : ℕ
+  pub clear : bit_at found (page % 4) ≡ 0
+  pub rest : List (ℕ × ℕ)
+  pub read : v.read ≡ (queue_at v.about (page / 4), found) ∷ rest

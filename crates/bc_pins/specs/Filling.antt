@@ -4,7 +4,7 @@ use Rattle.bc_superpages.specs.declared.headers.Header.{Header}
 use Rattle.bc_superpages.specs.Headers.{unused_header}
 use Rattle.bc_superpages.specs.Parts.{state_in}
 use Rattle.bc_pins.specs.declared.key.Turn.{Turn}
-use Rattle.bc_pins.specs.Key.{Key, is_lanes, pages_of, page_at, counter_at, bookmark_at, frame_at, frame_words, notice_at, mark_at, finished_at, all_words}
+use Rattle.bc_pins.specs.Key.{Key, is_lanes, pages_of, page_at, counter_at, bookmark_at, frame_at, frame_words, notice_at, mark_at, finished_at, queue_at, all_words}
 use Rattle.std.specs.Int.{bit_at}
 use Rattle.bc_bits.specs.Counting.{one_if}
 use Rattle.bc_frames.specs.Pool.{is_free}
@@ -20,11 +20,15 @@ in_use pool frame = one_if (not (is_free pool frame))
 abbrev pub IsFrameWord : List Bool → ℕ → ℕ → Type 0
 IsFrameWord pool i word = (b : ℕ) → b < 64 → bit_at word b ≡ in_use pool (64 * i + b)
 
--- a number of words of frames were added
-pub record AddsFrames (pool : List Bool) (old new : List ℕ) (count : ℕ) : Type 0 where
+-- a number of words were added, of which this is said by their number
+pub record Adds (Said : ℕ → ℕ → Type 0) (old new : List ℕ) (count : ℕ) : Type 0 where
   pub long : length new ≡ length old + count
   pub kept : (i : ℕ) → i < length old → slice_index new i ≡ slice_index old i
-  pub added : (i : ℕ) → i < count → IsFrameWord pool i (slice_index new (length old + i))
+  pub added : (i : ℕ) → i < count → Said i (slice_index new (length old + i))
+
+-- a number of words of frames were added
+abbrev pub AddsFrames : List Bool → List ℕ → List ℕ → ℕ → Type 0
+AddsFrames pool = Adds (IsFrameWord pool)
 
 -- a number of words were added, word i of them f i
 pub record Extends (old new : List ℕ) (count : ℕ) (f : ℕ → ℕ) : Type 0 where
@@ -59,12 +63,31 @@ header_in headers superpage = slice_index_or headers superpage unused_header
 abbrev pub set_word : CellSet → List Header → ℕ → ℕ
 set_word set headers w = slice_index (set_in set (header_in headers (w / 16))) (w % 16)
 
+-- the superpage with this header has a gray cell: one that is allocated, marked and not finished
+pub record HasGrayBit (h : Header) : Type 0 where
+  pub word : ℕ
+  pub bit : ℕ
+  pub near : word < 16
+  pub few : bit < 64
+  pub allocated : bit_at (slice_index h.cells word) bit ≡ 1
+  pub marked : bit_at (slice_index h.marks word) bit ≡ 1
+  pub unfinished : bit_at (slice_index h.finished word) bit ≡ 0
+
+-- a queue word of the superpage with this header: where it has a gray cell, the bits of its four pages are set
+abbrev pub QueuesGray : Header → ℕ → Type 0
+QueuesGray h queue = HasGrayBit h → (i : ℕ) → i < 4 → bit_at queue i ≡ 1
+
+-- a number of queue words were added
+abbrev pub AddsQueues : List Header → List ℕ → List ℕ → ℕ → Type 0
+AddsQueues headers = Adds (λ q queue. QueuesGray (header_in headers q) queue)
+
 -- the words of a mark turn were added
 pub record HasMarkWords (headers : List Header) (superpages : ℕ) (old new : List ℕ) : Type 0 where
-  pub long : length new ≡ length old + (32 * superpages + (4 * superpages + 63) / 64)
+  pub long : length new ≡ length old + 33 * superpages
   pub kept : (i : ℕ) → i < length old → slice_index new i ≡ slice_index old i
   pub marks : (w : ℕ) → w < 16 * superpages → slice_index new (length old + w) ≡ set_word Marks headers w
   pub finished : (w : ℕ) → w < 16 * superpages → slice_index new (length old + (16 * superpages + w)) ≡ set_word Finished headers w
+  pub queues : (q : ℕ) → q < superpages → QueuesGray (header_in headers q) (slice_index new (length old + (32 * superpages + q)))
 
 -- the words say what the headers do
 pub record IsFilled (k : Key) (headers : List Header) (words : List ℕ) : Type 0 where
@@ -76,3 +99,4 @@ pub record IsFilled (k : Key) (headers : List Header) (words : List ℕ) : Type 
   pub notice : slice_index words (notice_at k) ≡ 0
   pub marks : (w : ℕ) → k.lanes ≡ false → w < 16 * k.supers → slice_index words (mark_at k w) ≡ set_word Marks headers w
   pub finished : (w : ℕ) → k.lanes ≡ false → w < 16 * k.supers → slice_index words (finished_at k w) ≡ set_word Finished headers w
+  pub queues : (q : ℕ) → k.lanes ≡ false → q < k.supers → QueuesGray (header_in headers q) (slice_index words (queue_at k q))

@@ -61,7 +61,7 @@ IsFrozenIn k page = (k.lanes ≡ true) × (owner k page ≡ 0)
 
 -- Where the words lie: first sixteen words for each superpage, of which its pages have the first four, then by superpage its
 -- counter, then its sixteen bookmark words, then the frame words, then the next notice. A mark turn has besides by superpage
--- sixteen mark words, then sixteen finished words, then the queue words.
+-- sixteen mark words, then sixteen finished words, then its queue word, with a bit for each of its four pages.
 -- The words of a superpage's four pages stand together, and twelve that nobody uses follow them. So no two superpages have
 -- words of pages in one cache line of eight words, wherever the list begins, and the next one's are two lines away, since a
 -- processor may fetch lines in pairs
@@ -100,22 +100,18 @@ mark_at k word = notice_at k + 1 + word
 abbrev pub finished_at : Key → ℕ → ℕ
 finished_at k word = notice_at k + 1 + (16 * k.supers + word)
 
--- where a queue word stands, in a mark turn
+-- where the queue word of a superpage stands, in a mark turn
 abbrev pub queue_at : Key → ℕ → ℕ
-queue_at k word = notice_at k + 1 + (32 * k.supers + word)
-
--- how many words the queue bits have: a bit for each page
-abbrev pub queue_words : Key → ℕ
-queue_words k = (pages_of k + 63) / 64
+queue_at k superpage = notice_at k + 1 + (32 * k.supers + superpage)
 
 -- how many words the table has
 abbrev pub all_words : Key → ℕ
-all_words k = notice_at k + 1 + (if k.lanes then 0 else 32 * k.supers + queue_words k)
+all_words k = notice_at k + 1 + (if k.lanes then 0 else 33 * k.supers)
 
 -- how many words a table of so many superpages and frames has, by the kind of turn
 abbrev pub table_words : ℕ → ℕ → Turn → ℕ
 table_words supers frames Lanes = 33 * supers + (frames + 63) / 64 + 1
-table_words supers frames Mark = 33 * supers + (frames + 63) / 64 + 1 + (32 * supers + (4 * supers + 63) / 64)
+table_words supers frames Mark = 33 * supers + (frames + 63) / 64 + 1 + 33 * supers
 
 -- the slots of a page. Those of a superpage's pages stand together, first the four for frames and then the four for the store: so
 -- frame slots of two superpages lie apart too

@@ -12,6 +12,10 @@ pub mod Facts
 pub mod Tracing
 -- What the notice word says of the numbers that were claimed
 pub mod Claims
+-- What queue bits and views answer for, in a mark turn
+pub mod Owing
+-- When a view ceases to answer for what it owes
+pub mod Paid
 -- The rule
 pub mod Rule
 -- The steps, and what is known by each

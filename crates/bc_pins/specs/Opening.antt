@@ -25,6 +25,7 @@ use Rattle.bc_pins.specs.Contents.{IsContent, RefersYoung, IsBarePage}
 use Rattle.bc_pins.specs.Views.{marked_for, opened_content, opened_word, record_of}
 use Rattle.bc_pins.specs.Facts.{Table, Lies, Summary, Frames, Counters, Bits, points, Standing, IsUnheld, MarksTargets}
 use Rattle.bc_pins.specs.Tracing.{RefersToCell, Tracing, Knows}
+use Rattle.bc_pins.specs.Owing.{Owing}
 use Rattle.bc_pins.specs.Steps.{fresh}
 
 -- the table as it is opened
@@ -61,6 +62,7 @@ pub record MayOpen (k : Key) (words : List ℕ) (slots : List Lodged) : Type 0 w
   pub bits : (w b : ℕ) → w < 16 * k.supers → b < 64 → Bits k (opened k words slots) w b
   pub notice : slice_index words (notice_at k) ≡ 0
   pub tracing : k.lanes ≡ false → Tracing k (opened k words slots)
+  pub owing : k.lanes ≡ false → Owing k (opened k words slots)
 
 -- a page of a table that is closed, where v is the view that all others were joined into: its box lies as its word says, with the
 -- record as its content

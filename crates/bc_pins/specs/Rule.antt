@@ -1,4 +1,4 @@
--- The rule of a table: the turn facts of every page, seat and frame, and the claims of notices.
+-- The rule of a table: the turn facts of every page, seat and frame, the claims of notices, and what is owed of gray cells.
 use Rattle.std.specs.Prelude.{◌≡◌, ℕ, ◌+◌, ◌*◌, ◌^◌, ◌<◌, false, List, length}
 use mathlib.Core.Option.{some}
 use lib.ListN.{get_elem?}
@@ -9,6 +9,7 @@ use Rattle.bc_pins.specs.Views.{opened_content}
 use Rattle.bc_pins.specs.Facts.{Table, Place, Content, Standing, RecordsContent, Saw, Seated, Marking, MarksTargets, IsUnheld, Roles, Frames, Counters, Bits}
 use Rattle.bc_pins.specs.Tracing.{Tracing, Knows}
 use Rattle.bc_pins.specs.Claims.{Claims}
+use Rattle.bc_pins.specs.Owing.{Owing}
 
 -- what holds of one seat
 pub record SeatFacts (k : Key) (s : Table) (rec : ℕ → List ℕ) (v : View) : Type 0 where
@@ -40,7 +41,8 @@ pub record Rule (k : Key) (s : Table) : Type 0 where
   -- in a mark turn
   pub tracing : k.lanes ≡ false → Tracing k s
 
--- the rule of a table: the facts, and that each notice's number was claimed once
+-- the rule of a table: the facts, that each notice's number was claimed once, and in a mark turn that each gray cell is answered for
 pub record Ruled (k : Key) (s : Table) : Type 0 where
   pub facts : Rule k s
   pub claims : Claims k s
+  pub owing : k.lanes ≡ false → Owing k s

@@ -1,10 +1,11 @@
 -- The kinds of step: what the view is after each, and what the seat that makes it knows by it.
 use Prim.Native.Nat.{zero, suc}
-use Rattle.std.specs.Prelude.{◌≡◌, ◌≢◌, ℕ, ◌+◌, ◌*◌, ◌/◌, ◌%◌, ◌^◌, ◌<◌, ◌≤◌, ◌==◌, ◌&&◌, ◌⊎◌, bit_and, Bool, true, false, if◌then◌else◌, nat_lt, List, [], ◌∷◌, ◌++◌, take, drop, Some, None}
+use Rattle.std.specs.Prelude.{◌≡◌, ◌≢◌, ℕ, ◌+◌, ◌*◌, ◌/◌, ◌%◌, ◌^◌, ◌<◌, ◌≤◌, ◌==◌, ◌&&◌, ◌⊎◌, bit_and, Bool, true, false, if◌then◌else◌, nat_lt, List, [], ◌∷◌, ◌++◌, take, drop, slice_index, Some, None}
 use Rattle.atomic_table.specs.Table.{Me, Step, rest}
 use Rattle.bc_bits.specs.Counting.{one_if}
 use Rattle.std.specs.Int.{bit_at, bit_not, w64}
 use Rattle.bc_word.specs.Addresses.{superpage_of, page_of, cell_number}
+use Rattle.bc_word.specs.CellAddresses.{cell_address}
 use Rattle.bc_superpages.specs.LayoutAt.{IsAllocated, layout_of}
 use Rattle.bc_superpages.specs.Calls.{class_at}
 use Rattle.bc_bookmarks.specs.Targets.{is_target, has_target_in, HasCell}
@@ -13,7 +14,7 @@ use Rattle.bc_pins.specs.declared.views.Lodged.{Lodged}
 use Rattle.bc_pins.specs.declared.views.Lodged.TheVariants.{Nothing, Home, Away}
 use Rattle.bc_pins.specs.declared.views.Hand.{Hand}
 use Rattle.bc_pins.specs.declared.views.View.{View}
-use Rattle.bc_pins.specs.Key.{Key, owner, page_at, counter_at, bookmark_at, frame_at, mark_at, finished_at, notice_at, home_slot, frame_slot, store_slot}
+use Rattle.bc_pins.specs.Key.{Key, owner, page_at, counter_at, bookmark_at, frame_at, mark_at, finished_at, queue_at, notice_at, home_slot, frame_slot, store_slot}
 use Rattle.bc_pins.specs.Totals.{times}
 use Rattle.bc_pins.specs.Contents.{IsContent, RefersYoung, IsBarePage, objects_in}
 use Rattle.bc_pins.specs.Facts.{IsBitOfTarget, points}
@@ -51,7 +52,7 @@ fresh k roles = record {
   won = [];
   finished = [];
   owed = [];
-  dequeued = [];
+  looked = [];
   notices = [];
 }
 
@@ -93,7 +94,6 @@ gripping v page remembered homed = record v {
     content = homed.page;
     counted = [];
     marked = [];
-    looked = [];
   });
 }
 
@@ -168,7 +168,6 @@ fetching v page content frame = record v {
     content = content;
     counted = named_below v.about page content v.about.supers;
     marked = [];
-    looked = [];
   });
   rights = without frame v.rights;
   gone = without page v.gone;
@@ -309,17 +308,31 @@ pub record Claimed (st : Step Lodged) (m : Mine) (found : ℕ) (m' : Mine) : Typ
   pub view : (w : ℕ) → st.word ≡ frame_at m.0.about w → m' ≡ (claiming m.0 w found, m.1)
   pub frames : (w b : ℕ) → st.word ≡ frame_at m.0.about w → b < 64 → bit_at found b ≡ 0 → 64 * w + b < m.0.about.frames
 
--- bits of a mark word were set: all of them are known to be set, and those that were clear were won
+-- where the cell begins whose bit is bit b of word w, of those that a set has for all superpages
+abbrev pub bit_cell : Key → ℕ → ℕ → ℕ
+bit_cell k w b = cell_address (w / 16) (slice_index k.opening.classes (w / 16)) (64 * (w % 16) + b)
+
+-- the pages of the cells of the first n bits, in this mark word, that are set in these bits and clear in what was found
+unfoldable pub won_pages : Key → ℕ → ℕ → ℕ → ℕ → List ℕ
+won_pages k w bits found zero = []
+won_pages k w bits found (suc b) = if (bit_at bits b == 1) && (bit_at found b == 0) then page_of (bit_cell k w b) ∷ won_pages k w bits found b else won_pages k w bits found b
+
+-- bits of a mark word were set: all of them are known to be set, those that were clear were won, and their pages are owed
 abbrev pub shading : View → ℕ → ℕ → ℕ → View
 shading v w bits found = record v {
   known = (w, bits) ∷ v.known;
   won = (w, bit_and bits (bit_not w64 found)) ∷ v.won;
+  owed = won_pages v.about w bits found 64 ++ v.owed;
   read = (mark_at v.about w, found) ∷ v.read;
 }
 
--- a mark word was read: what was read is known to be set
+-- a mark word was read: what was read is known to be set, and it is one of the looks
 abbrev pub seeing : View → ℕ → ℕ → View
-seeing v w found = record v { known = (w, found) ∷ v.known; read = (mark_at v.about w, found) ∷ v.read }
+seeing v w found = record v {
+  known = (w, found) ∷ v.known;
+  looked = (w, found) ∷ v.looked;
+  read = (mark_at v.about w, found) ∷ v.read;
+}
 
 -- the view after cells were finished by these bits of a finished word
 abbrev pub finishing : View → ℕ → ℕ → ℕ → View
@@ -328,6 +341,31 @@ finishing v w bits found = record v { finished = (w, bits) ∷ v.finished; read 
 -- the view after a finished word was read
 abbrev pub having_looked : View → ℕ → ℕ → View
 having_looked v w found = record v { read = (finished_at v.about w, found) ∷ v.read }
+
+-- a page's queue bit was set: the page isn't owed any more
+abbrev pub queueing : View → ℕ → ℕ → View
+queueing v page found = record v { owed = without page v.owed; read = (queue_at v.about (page / 4), found) ∷ v.read }
+
+-- a page's queue bit was cleared: if it was set, the page is owed, and the looks begin anew
+abbrev pub dequeuing : View → ℕ → ℕ → View
+dequeuing v page found = record v {
+  owed = if bit_at found (page % 4) == 0 then v.owed else page ∷ v.owed;
+  looked = if bit_at found (page % 4) == 0 then v.looked else [];
+  read = (queue_at v.about (page / 4), found) ∷ v.read;
+}
+
+-- pages without those of a superpage whose queue bits were read as set
+abbrev pub unqueued : ℕ → ℕ → List ℕ → List ℕ
+unqueued superpage found [] = []
+unqueued superpage found (p ∷ ps) = if (p / 4 == superpage) && (bit_at found (p % 4) == 1) then unqueued superpage found ps else p ∷ unqueued superpage found ps
+
+-- a queue word was read: a page whose bit was read as set isn't owed any more
+abbrev pub peeking : View → ℕ → ℕ → View
+peeking v superpage found = record v { owed = unqueued superpage found v.owed; read = (queue_at v.about superpage, found) ∷ v.read }
+
+-- a queue word was read by a view that saw nothing gray left of what it owes: it owes nothing any more
+abbrev pub settling : View → ℕ → ℕ → View
+settling v superpage found = record v { owed = []; read = (queue_at v.about superpage, found) ∷ v.read }
 
 -- bit b of word w, of those that a set has for all superpages, is that of the allocated cell at the address
 pub record IsBitOf (k : Key) (w b address : ℕ) : Type 0 where
@@ -391,6 +429,22 @@ pub record SawFinished (st : Step Lodged) (m : Mine) (found : ℕ) (m' : Mine) :
   pub view : (w : ℕ) → st.word ≡ finished_at m.0.about w → m' ≡ (having_looked m.0 w found, m.1)
   pub own : (w b : ℕ) → st.word ≡ finished_at m.0.about w → b < 64 → 0 < opened_finished m.0.about w b + tells w b m.0.finished → bit_at found b ≡ 1
 
+-- queue bit: the bit of the page is set, and the page isn't owed
+pub record Queued (st : Step Lodged) (m : Mine) (found : ℕ) (m' : Mine) : Type 0 where
+  pub view : (page : ℕ) → st.word ≡ queue_at m.0.about (page / 4) → st.first ≡ 2 ^ (page % 4) → m' ≡ (queueing m.0 page found, m.1)
+
+-- dequeue bit: the bit of the page is clear, and the page is owed if the bit was set
+pub record Dequeued (st : Step Lodged) (m : Mine) (found : ℕ) (m' : Mine) : Type 0 where
+  pub view : (page : ℕ) → st.word ≡ queue_at m.0.about (page / 4) → st.first ≡ bit_not w64 (2 ^ (page % 4)) → m' ≡ (dequeuing m.0 page found, m.1)
+
+-- look at the queue
+pub record SawQueue (st : Step Lodged) (m : Mine) (found : ℕ) (m' : Mine) : Type 0 where
+  pub view : (superpage : ℕ) → st.word ≡ queue_at m.0.about superpage → m' ≡ (peeking m.0 superpage found, m.1)
+
+-- settle: the same look, by a view that has paid what it owes
+pub record Settled (st : Step Lodged) (m : Mine) (found : ℕ) (m' : Mine) : Type 0 where
+  pub view : (superpage : ℕ) → st.word ≡ queue_at m.0.about superpage → m' ≡ (settling m.0 superpage found, m.1)
+
 -- Frame give
 pub record GaveFrames (st : Step Lodged) (m : Mine) (found : ℕ) (m' : Mine) : Type 0 where
   pub view : (w bits : ℕ) → st.word ≡ frame_at m.0.about w → st.first ≡ bit_not w64 bits → bits < 2 ^ 64 → m' ≡ (giving m.0 w bits found, m.1)
@@ -420,7 +474,7 @@ dealer v = record v { roles = drop 1 v.roles }
 abbrev pub dealt : View → View
 dealt v = record (fresh v.about (take 1 v.roles)) { alive = v.alive }
 
--- Join: the view takes over all that the other kept
+-- Join: the view takes over all that the other kept. Its looks are none, so it answers for each gray cell of the pages that either owed
 abbrev pub united : View → View → View
 united v w = record v {
   roles = v.roles ++ w.roles;
@@ -440,6 +494,6 @@ united v w = record v {
   won = v.won ++ w.won;
   finished = v.finished ++ w.finished;
   owed = v.owed ++ w.owed;
-  dequeued = v.dequeued ++ w.dequeued;
+  looked = [];
   notices = v.notices ++ w.notices;
 }

@@ -5,12 +5,15 @@ ghost use Rattle.bc_superpages.specs.Headers.{unused_header};
 ghost use Rattle.bc_superpages.specs.declared.headers.PageState.TheVariants.{Absent};
 ghost use Rattle.bc_pins.specs.Views.{state_word};
 ghost use Rattle.bc_pins.specs.Key.{Key, table_words};
-ghost use Rattle.bc_pins.specs.Filling.{Extends, AddsFrames, AddsStates, IsSized, IsFilled, HasMarkWords, set_in};
+ghost use Rattle.bc_pins.specs.Filling.{Extends, AddsFrames, AddsStates, AddsQueues, QueuesGray, IsSized, IsFilled, HasMarkWords, set_in};
 
 use crate::key::{PAGE_ENTRIES, PAGES, SET_WORDS, Turn, bit_words, frame_entry};
 use crate::words::word_of;
 use bc_frames::FramePool;
 use bc_superpages::Header;
+
+/// A queue word with the bits of all four pages.
+const ALL_QUEUED: u64 = (1 << PAGES) - 1;
 
 /// Sets of cells that a table has words for.
 #[derive(Clone, Copy, PartialEq, Eq, Debug)]
@@ -82,6 +85,33 @@ pub(crate) fn push_sets(words: &mut Vec<u64>, headers: &[Header], superpages: us
     }
 }
 
+/// The queue word of a superpage: the bits of all its pages where it has a gray cell, and else 0. A gray cell is allocated, marked and
+/// not finished.
+fn queue_word(header: &Header) -> u64
+    ensures gray { QueuesGray header.now result }
+{
+    for word in 0..SET_WORDS {
+        let marked = header.marks[word] & header.cells[word];
+        let finished = marked & header.finished[word];
+        if finished != marked {
+            return ALL_QUEUED;
+        }
+    }
+    0
+}
+
+/// Adds the queue words of so many superpages.
+fn push_queues(words: &mut Vec<u64>, headers: &[Header], superpages: usize)
+    requires superpages { superpages ≤ length headers.now }
+    requires room { length words.old.items + superpages ≤ vec_capacity words.old }
+    ensures added { AddsQueues headers.now words.old.items words.new.items superpages }
+    ensures room { vec_capacity words.new ≡ vec_capacity words.old }
+{
+    for superpage in 0..superpages {
+        words.push_reserved(queue_word(&headers[superpage]));
+    }
+}
+
 /// Adds so many words that are 0.
 pub(crate) fn push_zeros(words: &mut Vec<u64>, count: usize)
     requires room { length words.old.items + count ≤ vec_capacity words.old }
@@ -113,7 +143,7 @@ pub(crate) fn word_count(superpages: usize, frames: usize, turn: Turn) -> usize
     let lanes = frame_entry(bit_words(frames), superpages) + 1;
     match turn {
         Turn::Lanes => lanes,
-        Turn::Mark => lanes + (2 * SET_WORDS * superpages + bit_words(PAGES * superpages)),
+        Turn::Mark => lanes + (2 * SET_WORDS + 1) * superpages,
     }
 }
 
@@ -145,10 +175,10 @@ pub(crate) fn fill_words(
 /// Adds the words that a mark turn has besides.
 fn fill_marks(words: &mut Vec<u64>, headers: &[Header], superpages: usize)
     requires size { (superpages ≤ 4096) × (superpages ≤ length headers.now) }
-    requires room { length words.old.items + (32 * superpages + (4 * superpages + 63) / 64) ≤ vec_capacity words.old }
+    requires room { length words.old.items + 33 * superpages ≤ vec_capacity words.old }
     ensures filled { HasMarkWords headers.now superpages words.old.items words.new.items }
 {
     push_sets(words, headers, superpages, CellSet::Marks);
     push_sets(words, headers, superpages, CellSet::Finished);
-    push_zeros(words, bit_words(PAGES * superpages));
+    push_queues(words, headers, superpages);
 }

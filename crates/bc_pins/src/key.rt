@@ -123,6 +123,14 @@ pub(crate) fn finished_entry(word: usize, superpages: usize, frame_words: usize)
     (FRAMES + SET_WORDS) * superpages + frame_words + 1 + word
 }
 
+/// Where the queue word of a superpage lies among them.
+pub(crate) fn queue_entry(superpage: usize, superpages: usize, frame_words: usize) -> usize
+    requires { (superpage < 2 ^ 32) × (superpages < 2 ^ 32) × (frame_words < 2 ^ 32) }
+    ensures { result ≡ 65 * superpages + frame_words + 1 + superpage }
+{
+    (FRAMES + 2 * SET_WORDS) * superpages + frame_words + 1 + superpage
+}
+
 /// How many words so many bits take.
 pub(crate) fn bit_words(bits: usize) -> usize
     ensures { result ≡ (bits + 63) / 64 }

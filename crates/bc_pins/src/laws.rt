@@ -1,13 +1,25 @@
-//! How many frames are in use in a turn.
+//! What holds at every moment of a turn: how many frames are in use, and where the pages are known that have gray cells.
 
+ghost use Rattle.std.specs.Prelude.{◌≡◌, ℕ, ◌+◌, ◌<◌, false};
+ghost use Rattle.bc_word.specs.Addresses.{page_of};
+ghost use Rattle.bc_pins.specs.declared.views.View.{View};
 ghost use Rattle.bc_pins.specs.Key.{Key};
+ghost use Rattle.bc_pins.specs.Totals.{total, times};
 ghost use Rattle.bc_pins.specs.Facts.{Table};
 ghost use Rattle.bc_pins.specs.InUse.{HasFewFramesInUse};
-ghost use Rattle.bc_pins.specs.Rule.{Rule};
+ghost use Rattle.bc_pins.specs.Owing.{queued_bit, IsGray, IsResident};
+ghost use Rattle.bc_pins.specs.Rule.{Rule, Ruled};
 
 /// Law: at every moment of a turn at most as many frames are in use, by pages in memory or in a seat's hands and by frame rights in
 /// hand, as the heap has less the nurseries' and those withheld. Each of the heap's frames is in one of these places at most. This
 /// holds of every table that keeps its rule, and each does between any two steps, whoever makes them.
 pub fn law_frames_in_use()
     ensures in_use { (k : Key) → (s : Table) → Rule k s → HasFewFramesInUse k s }
+{}
+
+/// Law: at every moment of a mark turn a page in memory or in a seat's hands that has a gray cell, which is marked and not finished, has
+/// its queue bit set, or a seat owes it: it cleared that bit or won a mark there, and neither set the bit nor saw since that nothing is
+/// left. This holds of every table that keeps its rule, and each does between any two steps, whoever makes them.
+pub fn law_gray_pages()
+    ensures owed { (k : Key) → (s : Table) → Ruled k s → k.lanes ≡ false → (a : ℕ) → IsGray k s a → IsResident s (page_of a) → 0 < queued_bit k s (page_of a) + total (λ (v : View). times (page_of a) v.owed) s.views }
 {}

@@ -32,8 +32,8 @@
 // `open` makes words and slots out of a space's headers and lists, and deals a seat for each role. `close` joins all seats into
 // one, puts the boxes back and makes states, counters and bookmarks of the words: the space is as it was opened, but that each
 // page has its record, Gone pages are summarised, and frames that were given back are free. The frame words are the pool's own: a
-// bit for each frame, set where it is in use. In a mark turn words for queues have their places too (`specs/Key.antt`); no step
-// reads or changes them.
+// bit for each frame, set where it is in use. In a mark turn each superpage has a queue word besides (`specs/Key.antt`) with a bit for each
+// of its pages. They are set where a cell of the superpage is marked and not finished.
 //
 // Pagers share the notices of a turn: they are numbered from 0 on, and the notice word has the number of the next. `claim_notice`
 // claims it in one step, so no two seats have one number and none is passed over. The table doesn't know how many notices there are:
@@ -55,11 +55,17 @@
 // cells have words of their own, so a page is put back by `put` alone. A page may leave only where the seat knows its targets to be
 // marked. No content changes in a mark turn, so what refers to what is the opening's.
 //
+// A page with a queue bit is to be scanned. `queue_bit` sets it, `dequeue_bit` clears it and `look_queue` reads it; `queue_page` sets it
+// unless it is set. Whoever cleared a bit that was set owes the page, and so does whoever won a mark there, until it sets the bit, reads it
+// as set, or asks with `settle` to be let off: it knows then that each cell is finished which it won or didn't see unmarked since. So a
+// page in memory or in hand that has a cell which is marked and not finished has its bit set, or a seat owes it (`law_gray_pages`).
+//
 // Where things are: `pins` the table and a seat, `key` what a table is made from and where its words and slots lie, `words` which word
-// each state of a page has, `views` slots and views, `rule` the rule and what steps say, `taking` the calls on pages, `giving` the steps
-// by which one is given up, `reloading` those by which one comes back, `noticing` the claim of a notice, `marking` the steps of a mark
-// turn, `joining` seats that become one, `holding` a page in hand, `reading` what everybody may read; `opening` with `room`, `filling`,
-// `lodging` and `rest`; `closing` with `gathering`. Gates, where a test may look on, are passed on from `bc_gates`.
+// each state of a page has, `views` slots and views, `rule` the rule and what steps say, `taking` the calls on pages, `giving` the
+// steps by which one is given up, `reloading` those by which one comes back, `noticing` the claim of a notice, `marking` the steps of
+// a mark turn on marks, `queueing` those on queue bits, `joining` seats that become one, `holding` a page in hand, `reading` what
+// everybody may read; `opening` with `room`, `filling`, `lodging` and `rest`; `closing` with `gathering`. Gates, where a test may look
+// on, are passed on from `bc_gates`.
 #![tactic(auto)]
 
 mod closing;
@@ -75,6 +81,7 @@ mod marking;
 mod noticing;
 mod opening;
 mod pins;
+mod queueing;
 mod reading;
 mod reloading;
 mod rest;
@@ -87,7 +94,7 @@ mod words;
 pub use bc_gates::{Gate, OpenGate};
 pub use holding::Held;
 pub use key::{About, Role, Turn};
-pub use laws::law_frames_in_use;
+pub use laws::{law_frames_in_use, law_gray_pages};
 pub use pins::{Pins, Seat};
 pub use rest::Rest;
 pub use taking::{TakeError, Want};

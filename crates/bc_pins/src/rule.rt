@@ -4,7 +4,7 @@ use crate::key::About;
 use crate::views::{Lodged, View};
 use atomic_table::{Join, Play, Split, TableRule};
 
-/// The turn facts, and the claims of notices.
+/// The turn facts, the claims of notices, and what is owed of gray cells.
 pub struct TurnRule;
 
 impl TableRule<Lodged, View, About> for TurnRule {
@@ -86,6 +86,42 @@ impl Play<Lodged, View> for SeeFinished {
     ghost use Rattle.bc_pins.specs.Steps.{SawFinished};
 
     ghost then = { SawFinished };
+}
+
+/// A page's queue bit is set.
+pub struct QueueBit;
+
+impl Play<Lodged, View> for QueueBit {
+    ghost use Rattle.bc_pins.specs.Steps.{Queued};
+
+    ghost then = { Queued };
+}
+
+/// A page's queue bit is cleared.
+pub struct DequeueBit;
+
+impl Play<Lodged, View> for DequeueBit {
+    ghost use Rattle.bc_pins.specs.Steps.{Dequeued};
+
+    ghost then = { Dequeued };
+}
+
+/// A queue word is read.
+pub struct SeeQueue;
+
+impl Play<Lodged, View> for SeeQueue {
+    ghost use Rattle.bc_pins.specs.Steps.{SawQueue};
+
+    ghost then = { SawQueue };
+}
+
+/// A queue word is read by a seat that has paid what it owes.
+pub struct SettlePages;
+
+impl Play<Lodged, View> for SettlePages {
+    ghost use Rattle.bc_pins.specs.Steps.{Settled};
+
+    ghost then = { Settled };
 }
 
 /// Rights to frames are given up.

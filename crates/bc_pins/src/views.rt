@@ -27,8 +27,6 @@ pub struct Hand {
     pub counted: LinkedList<u32>,
     /// The bookmark bits that were set for the page in this holding: in which word, and which bits.
     pub marked: LinkedList<(u32, u64)>,
-    /// The mark words of the page that were read in this holding, with what was read.
-    pub looked: LinkedList<(u32, u64)>,
 }
 
 /// What a seat has done and read.
@@ -63,9 +61,11 @@ pub struct View {
     pub known: LinkedList<(u32, u64)>,
     pub won: LinkedList<(u32, u64)>,
     pub finished: LinkedList<(u32, u64)>,
-    /// Pages that it owes a queue bit, since it won a mark there, and since it cleared theirs. No step fills these two yet.
+    /// Pages of which it answers for gray cells: it cleared their queue bit or won a mark there, and since then neither set the bit, nor
+    /// read it as set, nor saw that nothing gray is left.
     pub owed: LinkedList<u32>,
-    pub dequeued: LinkedList<u32>,
+    /// Mark words that it read since it last cleared a queue bit that was set, with what it read.
+    pub looked: LinkedList<(u32, u64)>,
     /// The numbers of the notices that it claimed.
     pub notices: LinkedList<u64>,
 }

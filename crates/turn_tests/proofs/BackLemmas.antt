@@ -54,7 +54,7 @@ module _ (v : View) (page frame : ℕ) (seat : Seat) (held : Held) (r : HasReloa
   about_now = ap (λ (w : View). w.about) r.view
 
   abbrev hand_now : Hand
-  hand_now = record { page = page; remembered = false; frame = frame; content = held.homed.page; counted = []; marked = []; looked = [] }
+  hand_now = record { page = page; remembered = false; frame = frame; content = held.homed.page; counted = []; marked = [] }
 
   in_hand : (hand : Hand) → (view_of seat).hand ≡ Some hand → hand ≡ hand_now
   in_hand hand has = same_Some hand hand_now (sym has ∙ ap (λ (w : View). w.hand) r.view)

@@ -2,7 +2,7 @@ use Rattle.std.proofs.Common.{◌≡◌, ℕ, ◌+◌, ◌*◌, ◌≤◌, Bool,
 use Rattle.core.specs.Mem.Slots.{slots_items, slots_len, IsFull}
 use Rattle.bc_frames.specs.Places.{StoreView}
 use Rattle.bc_superpages.specs.declared.parts.SpaceParts.{SpaceParts}
-use Rattle.bc_pins.specs.Key.{Key, pages_of, page_at, all_words, notice_at, queue_words}
+use Rattle.bc_pins.specs.Key.{Key, pages_of, page_at, all_words, notice_at}
 use Rattle.bc_pins.specs.Resting.{RestView}
 use Rattle.bc_pins.proofs.HeaderLemmas.{sets_are, four_states}
 use Rattle.bc_pins.proofs.ClosingLemmas.{gathered_ends, gathered_claims, words_few, ended_from, ended_parts, ended_space, ended_marks}
@@ -103,7 +103,7 @@ put_together-requires-clause-words c =
       λ mark.
           (let key : Key = self.table.shared.key in
           let turn : key.lanes ≡ false = sym self.turned ∙ mark in
-          let told : all_words key ≡ notice_at key + 1 + (32 * key.supers + queue_words key) = ap (λ (b : Bool). notice_at key + 1 + (if b then 0 else 32 * key.supers + queue_words key)) turn in
+          let told : all_words key ≡ notice_at key + 1 + 33 * key.supers = ap (λ (b : Bool). notice_at key + 1 + (if b then 0 else 33 * key.supers)) turn in
           omega arith),
     )
 

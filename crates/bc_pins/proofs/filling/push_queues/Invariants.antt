@@ -1,0 +1,6 @@
+use Rattle.std.proofs.Common.{◌≡◌, vec_capacity}
+use Rattle.bc_pins.specs.Filling.{AddsQueues}
+use Rattle.bc_pins.proofs.filling.push_queues.Given as goal
+
+abbrev pub invariant-loop-superpage : goal.invariant-loop-superpage
+invariant-loop-superpage l = record { room : vec_capacity l.words ≡ vec_capacity l.fn.words; added : AddsQueues l.headers l.fn.words.items l.words.items l.superpage }
