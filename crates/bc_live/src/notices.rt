@@ -32,7 +32,7 @@ pub struct QueueNotices<'a, W, C: ChannelName> {
     channel: &'a Channel,
     taker: Taker,
     /// How many hints are handed in at most.
-    most: usize,
+    most: u32,
     /// How many calls answered that there is none.
     ends: u64,
     named: PhantomData<C>,
@@ -56,7 +56,7 @@ impl<'a, W, C: ChannelName> QueueNotices<'a, W, C> {
         wait: &'a W,
         channel: &'a Channel,
         taker: Taker,
-        most: usize,
+        most: u32,
     ) -> QueueNotices<'a, W, C>
         requires of { taker_channel taker ≡ channel_id channel.now }
         requires named { Some (channel_id channel.now) ≡ C.channel }
@@ -118,11 +118,11 @@ impl<'a, W: Wait, C: ChannelName> Notices for QueueNotices<'a, W, C> {
             self.ends = self.ends.saturating_add(1);
             return None;
         };
-        let number = self.taker.taken().len() - 1;
+        let number = (self.taker.taken().len() - 1) as u32;
         Some(Notice { hint, number })
     }
 
     fn may_come(&self) -> bool {
-        self.taker.taken().len() < self.most
+        self.taker.taken().len() < self.most as usize
     }
 }

@@ -122,7 +122,7 @@ where
     ensures most { feeder_most feeder.new ≡ feeder_most feeder.old }
     ensures ends { (feeder_channel feeder.new ≡ channel_id channel.now) × (taker_channel result.1 ≡ channel_id channel.now) }
 {
-    let mut live = QueueNotices::<W, C>::new(wait, channel, taker, asked.count as usize);
+    let mut live = QueueNotices::<W, C>::new(wait, channel, taker, asked.count);
     let outcome = feed_beside(
         host.threads,
         wait,

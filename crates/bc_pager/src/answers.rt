@@ -2,6 +2,7 @@
 
 ghost use Rattle.std.specs.Prelude.{◌≡◌, ◌+◌, ◌≤◌, ◌++◌, length, vec_capacity};
 
+use crate::notices::MOST_NOTICES;
 use std::alloc::{AllocError, Global};
 use std::marker::Model;
 
@@ -20,29 +21,34 @@ pub enum Answer {
 #[derive(Drop)]
 pub struct Answers {
     list: Vec<Answer>,
-    numbers: Vec<usize>,
+    numbers: Vec<u32>,
     room: usize,
 }
 
 impl Model for Answers {
-    ghost use Rattle.std.specs.Prelude.{◌≡◌, ◌≤◌, length, vec_capacity};
+    ghost use Rattle.std.specs.Prelude.{◌≡◌, ◌^◌, ◌≤◌, length, vec_capacity};
     ghost use Rattle.bc_pager.specs.Serving.{KeptAnswers};
 
     ghost Value = { KeptAnswers };
 
     ghost view = { λ a. record { list = a.list.items; numbers = a.numbers.items; room = a.room } };
 
-    ghost invariant = { λ a. (length a.list.items ≤ a.room) × (length a.numbers.items ≡ length a.list.items) × (a.room ≤ vec_capacity a.list) × (a.room ≤ vec_capacity a.numbers) };
+    ghost invariant = { λ a. (length a.list.items ≤ a.room) × (length a.numbers.items ≡ length a.list.items) × (a.room ≤ 2 ^ 32) × (a.room ≤ vec_capacity a.list) × (a.room ≤ vec_capacity a.numbers) };
 }
 
 impl Answers {
-    ghost use Rattle.std.specs.Prelude.{◌≡◌, ◌+◌, ◌<◌, ◌≤◌, [], ◌∷◌, ◌++◌, length, IfOk};
+    ghost use Rattle.std.specs.Prelude.{◌≡◌, ◌+◌, ◌^◌, ◌<◌, ◌≤◌, [], ◌∷◌, ◌++◌, length, IfOk};
     ghost use Rattle.bc_pager.specs.Serving.{KeptAnswers, no_answers};
 
-    /// No answer, with room for so many.
+    /// No answer, with room for so many. There is none for more than 2^32, as notices have numbers of 32 bits: that is refused as if there
+    /// were no memory for it.
     pub fn new(alloc: Global, room: usize) -> Result<Answers, AllocError>
         ensures new { IfOk result (λ answers. answers ≡ no_answers room) }
+        ensures few { IfOk result (λ answers. room ≤ 2 ^ 32) }
     {
+        if room > MOST_NOTICES {
+            return Err(AllocError);
+        }
         Ok(Answers {
             list: Vec::with_capacity(alloc, room)?,
             numbers: Vec::with_capacity(alloc, room)?,
@@ -59,7 +65,7 @@ impl Answers {
     }
 
     /// The numbers of their notices, in the same order.
-    pub fn numbers(&self) -> &[usize]
+    pub fn numbers(&self) -> &[u32]
         ensures numbers { result.now ≡ self.now.numbers }
         ensures long { length self.now.numbers ≡ length self.now.list }
     {
@@ -69,12 +75,13 @@ impl Answers {
     /// For how many answers there is still room.
     pub(crate) fn left(&self) -> usize
         ensures left { result + length self.now.list ≡ self.now.room }
+        ensures few { self.now.room ≤ 2 ^ 32 }
     {
         self.room - self.list.len()
     }
 
     /// Keeps an answer after the others, with the number of its notice.
-    pub(crate) fn keep(&mut self, answer: Answer, number: usize)
+    pub(crate) fn keep(&mut self, answer: Answer, number: u32)
         requires room { length self.old.list < self.old.room }
         ensures kept { self.new ≡ record self.old { list = self.old.list ++ answer ∷ []; numbers = self.old.numbers ++ number ∷ [] } }
     {

@@ -11,13 +11,16 @@ use bc_pins::{Pins, Seat};
 use std::alloc::{AllocError, Global};
 use std::marker::Model;
 
+/// How many notices a list may have: their numbers have 32 bits.
+pub(crate) const MOST_NOTICES: usize = 1 << 32;
+
 /// A notice: a frame is wanted, and this page is where to begin.
 #[derive(Clone, Copy, PartialEq, Eq, Debug)]
 pub struct Notice {
     /// A page's number; one past the heap's last page is taken modulo their number.
     pub hint: u32,
     /// The notice's own number, counted from 0 in its list.
-    pub number: usize,
+    pub number: u32,
 }
 
 /// Where notices come from.
@@ -73,23 +76,27 @@ pub struct ListNotices {
 }
 
 impl Model for ListNotices {
-    ghost use Rattle.std.specs.Prelude.{◌≡◌, ◌<◌, ◌≤◌, length};
+    ghost use Rattle.std.specs.Prelude.{◌≡◌, ◌^◌, ◌<◌, ◌≤◌, length};
     ghost use Rattle.bc_pager.specs.Serving.{HintList};
 
     ghost Value = { HintList };
 
     ghost view = { λ n. record { hints = n.hints.items; given = n.given; ends = n.ends } };
 
-    ghost invariant = { λ n. (n.given ≤ length n.hints.items) × (0 < n.ends → n.given ≡ length n.hints.items) };
+    ghost invariant = { λ n. (length n.hints.items ≤ 2 ^ 32) × (n.given ≤ length n.hints.items) × (0 < n.ends → n.given ≡ length n.hints.items) };
 }
 
 impl ListNotices {
-    ghost use Rattle.std.specs.Prelude.{◌≡◌, ◌<◌, ◌≤◌, [], length, IfOk};
+    ghost use Rattle.std.specs.Prelude.{◌≡◌, ◌^◌, ◌<◌, ◌≤◌, [], length, IfOk};
 
-    /// Notices of these hints, of which none was given.
+    /// Notices of these hints, of which none was given. More than 2^32 hints are refused as if there were no memory for them.
     pub fn new(alloc: Global, hints: &[u32]) -> Result<ListNotices, AllocError>
         ensures new { IfOk result (λ notices. notices ≡ record { hints = hints.now; given = 0; ends = 0 }) }
+        ensures few { IfOk result (λ notices. length hints.now ≤ 2 ^ 32) }
     {
+        if hints.len() > MOST_NOTICES {
+            return Err(AllocError);
+        }
         Ok(ListNotices {
             hints: Vec::from_slice(alloc, hints)?,
             given: 0,
@@ -152,8 +159,8 @@ impl Notices for ListNotices {
             self.ends = self.ends.saturating_add(1);
             return None;
         }
-        let number = self.given;
-        let hint = self.hints[number];
+        let hint = self.hints[self.given];
+        let number = self.given as u32;
         self.given += 1;
         Some(Notice { hint, number })
     }
@@ -172,19 +179,24 @@ pub struct SharedNotices<'a> {
 }
 
 impl<'a> Model for SharedNotices<'a> {
+    ghost use Rattle.std.specs.Prelude.{◌^◌, ◌≤◌, length};
     ghost use Rattle.bc_pager.specs.Claiming.{SharedHints, sharing_of};
 
     ghost Value = { SharedHints };
 
     ghost view = { λ n. record { sharing = sharing_of n.pins.now n.hints.now; ends = n.ends } };
+
+    ghost invariant = { λ n. length n.hints.now ≤ 2 ^ 32 };
 }
 
 impl<'a> SharedNotices<'a> {
-    ghost use Rattle.std.specs.Prelude.{◌≡◌};
+    ghost use Rattle.std.specs.Prelude.{◌≡◌, ◌^◌, ◌≤◌, length};
     ghost use Rattle.bc_pager.specs.Claiming.{sharing_of};
 
-    /// Notices of these hints, which pagers share at this table. It takes no memory.
+    /// Notices of these hints, which pagers share at this table. It takes no memory. Who has room for the answers to so many notices knows
+    /// that they are few enough (`Answers`).
     pub fn new(pins: &'a Pins, hints: &'a [u32]) -> SharedNotices<'a>
+        requires few { length hints.now ≤ 2 ^ 32 }
         ensures new { result ≡ record { sharing = sharing_of pins.now hints.now; ends = 0 } }
     {
         SharedNotices {
@@ -218,8 +230,8 @@ impl<'a> Notices for SharedNotices<'a> {
             self.ends = self.ends.saturating_add(1);
             return None;
         }
-        let number = number as usize;
-        let hint = self.hints[number];
+        let hint = self.hints[number as usize];
+        let number = number as u32;
         Some(Notice { hint, number })
     }
 

@@ -67,7 +67,7 @@ fn place(told: &mut [Answer], answers: &Answers)
     let list = answers.list();
     let numbers = answers.numbers();
     for place in 0..list.len() {
-        told[numbers[place]] = list[place];
+        told[numbers[place] as usize] = list[place];
     }
 }
 

@@ -6,7 +6,7 @@ use Rattle.bc_pager.proofs.notices.ListNoticesNotices.next.Goals as goal
 
 pub returns-clause-some : goal.returns-clause-some
 returns-clause-some c =
-    let within = c.self.invariant.0 in
+    let within = c.self.invariant.1 in
     let left = c.if-self-len.false in
     let view = c.self.view_is in
     let ends = ap (λ (n : HintList). n.ends) view in
