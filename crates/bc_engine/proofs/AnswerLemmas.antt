@@ -9,7 +9,7 @@ use Rattle.bc_model.specs.declared.operations.Reply.{Reply}
 use Rattle.bc_marking.proofs.LineLemmas.{told-one, told-then}
 use Rattle.bc_marking.specs.Lines.{HasTold, cursor_along, cursor_at, hints_along, hints_at, line_along, line_behind}
 use Rattle.bc_marking.specs.declared.lines.Cursor.{Cursor}
-use Rattle.bc_pager.proofs.FeedingLemmas.{live-even}
+use Rattle.bc_pager.proofs.ToldLemmas.{answered-even}
 use Rattle.bc_pager.specs.Alone.{ArePlainAnswers}
 use Rattle.bc_pager.specs.Claiming.{hints_of}
 use Rattle.bc_pager.specs.declared.answers.Answer.{Answer}
@@ -168,7 +168,7 @@ turn-fed : {lanes : List (List Op)} {r q : RunningView} {before after : List (Ve
 turn-fed {lived = lived} {live = live} {fed = fed} hints turn = elim turn.way [
   | inl beside ↦
       let b = beside.1 in
-      let even : length (hints_of fed) ≡ length b.live_told = live-even b.key (hints_of fed) b.live_told _ b.live_end b.live_each in
+      let even : length (hints_of fed) ≡ length b.live_told = answered-even b.key (hints_of fed) b.live_told _ b.live_pager.end b.live_pager.each in
       let long : length (hints_of fed) ≡ length fed = length-map fed (λ (x : Notice). x.hint) in
       omega (arith, ap length b.live_kept, length-append lived b.live_told, even, long)
   | inr alone ↦ omega (arith, ap length alone.3, ap length alone.4)

@@ -12,14 +12,11 @@ const OPERATIONS_A_TABLE: u64 = 128;
 /// To start a thread and to end it takes a fraction of the time that so many operations take.
 const OPERATIONS_A_THREAD: u64 = 4_096;
 
-/// To answer so many notices takes several times as long as to start a thread for each of four pagers. With 64, four threads took from 0.93 to 1.48
-/// times as long as one.
-const NOTICES_FOR_THREADS: usize = 256;
-
 /// No lane is looked further ahead than so many operations.
 const OPERATIONS_AHEAD: u64 = 8_192;
 
-/// How the turns of an engine run. What they reply is the same.
+/// How the turns of an engine run. What they reply is the same. A turn that would have no table has one, on the caller's thread, where a notice
+/// may come from a feed: only there a live pager takes some.
 #[derive(Clone, Copy, PartialEq, Eq, Debug)]
 pub enum Pacing {
     /// Each as is likely to pay, by what earlier turns cost and by who has work where pages have to leave: at a table or on the heap itself, on
@@ -128,13 +125,32 @@ pub(crate) fn replies_told(replies: &[Vec<Reply>]) -> u64 {
     told
 }
 
-/// How the turn runs. A turn to which notices came has a table, so that pagers work beside the lanes. One to which none came has a table
-/// where it is likely to be long, and the first turn of a phase where it has some operations for what a table looks at. No turn has one
+/// How the turn runs. Where it would have no table, and a notice may come from a feed (`coming`), it has one on the caller's thread, for its live
+/// pager.
+pub(crate) fn way_of_turn(
+    setup: &Setup,
+    pace: &mut Pace,
+    crowded: bool,
+    lanes: &[Vec<Op>],
+    replies: &[Vec<Reply>],
+    hints: &[u32],
+    coming: bool,
+) -> TurnWay
+    requires { length replies.now ≡ length lanes.now }
+{
+    match way_that_pays(setup, pace, crowded, lanes, replies, hints) {
+        TurnWay::Plain if coming => TurnWay::AtTable(TurnThreads::One),
+        way => way,
+    }
+}
+
+/// How the turn runs without a feed. A turn to which notices came has a table, so that pagers work beside the lanes. One to which none came has a
+/// table where it is likely to be long, and the first turn of a phase where it has some operations for what a table looks at. No turn has one
 /// while tables of its kind are waited with, since they didn't pay; nor where pages have to leave for those that come back (`crowded`) and
 /// one lane or the pagers alone have work: on the heap its clock chooses which leave. Lanes at a table have threads where these are likely to
-/// pay, and pagers one together, or, where there are notices enough, one each. `pace` then knows of the turn what it needs to learn whether
-/// its table pays.
-pub(crate) fn way_of_turn(
+/// pay, and pagers one together: with 64 notices, four threads took from 0.93 to 1.48 times as long as one. `pace` then knows of the turn what
+/// it needs to learn whether its table pays.
+fn way_that_pays(
     setup: &Setup,
     pace: &mut Pace,
     crowded: bool,
@@ -172,19 +188,10 @@ pub(crate) fn way_of_turn(
     let costs = looked_at(setup).saturating_add(OPERATIONS_A_TABLE);
     if is_wide {
         pace.costs = costs.saturating_add(threads);
-        TurnWay::AtTable(threads_for(hints))
+        TurnWay::AtTable(TurnThreads::Lanes)
     } else {
         pace.costs = costs;
         TurnWay::AtTable(TurnThreads::One)
-    }
-}
-
-/// The threads of a turn whose lanes have one each.
-fn threads_for(hints: &[u32]) -> TurnThreads {
-    if hints.len() < NOTICES_FOR_THREADS {
-        TurnThreads::Lanes
-    } else {
-        TurnThreads::Each
     }
 }
 
@@ -201,7 +208,7 @@ fn all_ahead(setup: &Setup, lanes: &[Vec<Op>], replies: &[Vec<Reply>]) -> u64
 }
 
 /// What the threads of a turn cost, as so many operations: one for each lane that has operations left, and one for the pagers where notices
-/// came; one of them all is the caller's. Threads that pagers have besides are paid by their notices (`NOTICES_FOR_THREADS`).
+/// came; one of them all is the caller's.
 fn threads_cost(lanes: &[Vec<Op>], replies: &[Vec<Reply>], hints: &[u32]) -> u64
     requires { length replies.now ≡ length lanes.now }
 {

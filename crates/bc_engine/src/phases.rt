@@ -83,7 +83,7 @@ impl Engine {
         // Without notices memory runs out before anything is done, and else it may also before a round.
         ensures undone { IsNoMemory result → HasNoHints phase.now.turns → self.new ≡ record self.old { ended = self.new.ended; live = self.new.live } }
         ensures want { IsNoMemory result → self.old.ended ≡ None
-            → (self.new ≡ record self.old { ended = self.new.ended; live = self.new.live }) ⊎ HadTurnsToWant self.old phase.now self.new [] false }
+            → (self.new ≡ record self.old { ended = self.new.ended; live = [] }) ⊎ HadTurnsToWant self.old phase.now self.new [] false }
         ensures births { (j : ℕ) → slice_index self.new.running.serials j ≤ slice_index self.old.running.serials j + length (of_lane phase.now.lanes j) }
         ensures room { (n : ℕ) → HasRoomForOps self.old phase.now.lanes n → HasRoomForBirths self.new n }
         // No live pager takes any notice.
@@ -95,7 +95,8 @@ impl Engine {
 
     /// Does a phase as `phase` does, and in each turn of the lanes a live pager takes notices from `live` and answers them, where one more may
     /// come: until there is none, or until it answered 64 in the turn. What it leaves is there for the next turn. The answers are those of
-    /// `live_answers`, one to each notice that was taken, in order. No reply depends on them.
+    /// `live_answers`, one to each notice that was taken, in order. No reply depends on them. That a live pager asks the feed at
+    /// all is shown by tests, and no clause says it.
     ///
     /// Room for them is taken before a round, and only where one more may come; without it the phase ends out of memory, as it does without room for
     /// the answers to the lines' notices. Where the engine had ended, or there is no memory before anything is done, no notice is taken. A feed from

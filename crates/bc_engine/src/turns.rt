@@ -61,9 +61,8 @@ where
     ensures idle { N.coming live.old ≡ false → (live.new ≡ live.old) × (live_answers.new.items ≡ live_answers.old.items) }
 {
     let crowded = is_crowded(running);
-    let threads = match way_of_turn(setup, pace, crowded, lanes, replies, hints) {
+    let threads = match way_of_turn(setup, pace, crowded, lanes, replies, hints, live.may_come()) {
         TurnWay::AtTable(threads) => threads,
-        TurnWay::Plain if live.may_come() => TurnThreads::One,
         TurnWay::Plain => return turn_alone(running, lanes, replies, hints, answers),
     };
     match running.take_turn(

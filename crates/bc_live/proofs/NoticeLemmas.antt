@@ -1,12 +1,8 @@
 -- Notices that are numbered from 0 on, as one more comes.
-use Rattle.std.proofs.Common.{◌≡◌, ◌∙◌, ℕ, ◌+◌, List, [], ◌∷◌, ◌++◌, length, ap, refl, sym, arith}
+use Rattle.std.proofs.Common.{◌≡◌, ◌∙◌, ℕ, ◌+◌, List, [], ◌∷◌, ◌++◌, length, ap, arith}
 use Rattle.std.proofs.lemmas.List.{length-append}
 use Rattle.bc_pager.specs.declared.notices.Notice.{Notice}
 use Rattle.bc_pager.specs.Serving.{numbered}
-
-pub as_many : (from : ℕ) (hints : List ℕ) → length (numbered from hints) ≡ length hints
-as_many from [] = refl
-as_many from (h ∷ hs) = let rest = as_many (from + 1) hs in omega arith
 
 numbered-on : (from : ℕ) (hints : List ℕ) (hint : ℕ) → numbered from (hints ++ hint ∷ []) ≡ numbered from hints ++ record { hint = hint; number = from + length hints } ∷ []
 numbered-on from [] hint = let same : from ≡ from + 0 = omega arith in ap (λ (n : ℕ). record { hint = hint; number = n } ∷ []) same

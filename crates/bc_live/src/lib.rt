@@ -19,8 +19,9 @@
 //   with notices that borrow the queue, but for one whose result is of a type of the caller's.
 // - That the notices come through one channel is kept by a type parameter (`ChannelName`), which is for the proofs alone.
 //
-// `specs/Feeds` says what is known of the hints and the answers, `specs/Words` which words there are, `specs/Statuses` what the statuses are
-// as those of `run`. `run` itself is bc_replay's, with the definitions of its theorem.
+// `specs/Feeds` says what is known of the hints and the answers, `specs/Runs` how a run ends, `specs/Queues` what notices out of a queue keep,
+// `specs/Words` which words there are, `specs/Statuses` what the statuses are as those of `run`. How `run` ends is said by definitions of
+// bc_replay (`specs/Endings`, `specs/Outcomes`).
 //
 // Not claimed: that hints come beside the run, which tests show, and that the call returns. It waits only where `QueueNotices` meets a push
 // that is under way, and in the feeder.

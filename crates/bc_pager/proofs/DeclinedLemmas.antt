@@ -1,10 +1,11 @@
--- What the log of page words of a pager that shares notices says of one that it declined.
-use Rattle.std.proofs.Common.{◌≡◌, ℕ, ◌+◌, ◌<◌, ◌≤◌, ◌==◌, List, [], ◌∷◌, ◌++◌, slice_index, inl, inr, ap, sym, arith}
+-- What the log of page words of a pager says of a notice that it declined, and answers of one that shares notices as those of any pager.
+use Rattle.std.proofs.Common.{◌≡◌, ℕ, ◌+◌, ◌<◌, ◌≤◌, ◌==◌, List, [], ◌∷◌, ◌++◌, inl, inr, refl, ap, sym, subst, arith}
 use Rattle.std.proofs.lemmas.Bool.{cases_eq, eq-eqb}
 use Rattle.bc_bits.specs.Counting.{one_if}
-use Rattle.bc_pager.specs.Answering.{HasDeclined, IsAnswer, TookAfter, says_declined, says_discarded, says_evicted}
+use Rattle.bc_pager.specs.Answering.{AreAnswered, ButClaims, HasDeclined, IsAnswer, TookAfter, says_declined, says_discarded, says_evicted}
 use Rattle.bc_evict.specs.Looking.{IsAccountedFor, MayStay, all_pages}
 use Rattle.bc_pager.specs.Claiming.{AreAnsweredAsClaimed}
+use Rattle.bc_pager.specs.Paging.{hints_numbered}
 use Rattle.bc_pager.specs.declared.answers.Answer.{Answer}
 use Rattle.bc_pager.specs.declared.answers.Answer.TheVariants.{Declined, Discarded, Evicted}
 use Rattle.bc_pins.specs.Key.{Key, page_at, pages_of}
@@ -14,6 +15,14 @@ use Rattle.bc_pins.specs.Views.{reads_at}
 use Rattle.bc_pins.specs.declared.views.View.{View}
 use Rattle.bc_pins.proofs.LogLemmas.{pages-else, reads-here, times-reads}
 use Rattle.bc_pins.proofs.TotalLemmas.{one_other}
+
+-- answers of a pager that shares notices are answers to the notices with the numbers that it claimed
+pub claimed-answered : (k : Key) (hints ns : List ℕ) (told : List Answer) (v w : View) → AreAnsweredAsClaimed k hints ns told v w → AreAnswered k (hints_numbered hints ns) told v w
+claimed-answered k hints [] [] v w (inl is) = subst (ButClaims v) (sym is) refl
+claimed-answered k hints [] [] v w (inr past) = subst (ButClaims v) (sym past.2) refl
+claimed-answered k hints [] (answer ∷ told) v w is = absurd is
+claimed-answered k hints (n ∷ ns) [] v w is = absurd is
+claimed-answered k hints (n ∷ ns) (answer ∷ told) v w is = (taking_notice v n, is.1, refl, is.2, claimed-answered k hints ns told is.1 w is.3)
 
 -- how often a page's word was read as Home in an answer: where it was given up, and else not
 took-home : (k : Key) (v : View) (looks : List (ℕ × ℕ)) (page : ℕ) (w : View) → TookAfter k v looks page w → (p : ℕ) → p < pages_of k → times 1 (reads_at p w.read) ≡ one_if (page == p) + times 1 (reads_at p v.read)
@@ -45,15 +54,16 @@ answer-home k v hint Declined w is p near =
     let none = is.none p near in
     omega arith
 
-pub shared-home : (k : Key) (hints ns : List ℕ) (told : List Answer) (v w : View) → AreAnsweredAsClaimed k hints ns told v w → (p : ℕ) → p < pages_of k
+-- a page's word was read as Home as often as the answers name it
+pub answered-home : (k : Key) (hints : List ℕ) (told : List Answer) (v w : View) → AreAnswered k hints told v w → (p : ℕ) → p < pages_of k
     → times 1 (reads_at p w.read) ≡ (total (says_evicted p) told + total (says_discarded p) told) + times 1 (reads_at p v.read)
-shared-home k hints [] [] v w (inl is) p near = let same = ap (λ (x : View). times 1 (reads_at p x.read)) is in omega arith
-shared-home k hints [] [] v w (inr past) p near = let same = ap (λ (x : View). times 1 (reads_at p x.read)) past.2 in omega arith
-shared-home k hints [] (answer ∷ told) v w is p near = absurd is
-shared-home k hints (n ∷ ns) [] v w is p near = absurd is
-shared-home k hints (n ∷ ns) (answer ∷ told) v w is p near =
-    let one = answer-home k (taking_notice v n) (slice_index hints n) answer is.1 is.2 p near in
-    let rest = shared-home k hints ns told is.1 w is.3 p near in
+answered-home k [] [] v w but p near = let same = ap (λ (x : View). times 1 (reads_at p x.read)) but in omega arith
+answered-home k [] (answer ∷ told) v w is p near = absurd is
+answered-home k (hint ∷ hints) [] v w is p near = absurd is
+answered-home k (hint ∷ hints) (answer ∷ told) v w is p near =
+    let same = ap (λ (x : View). times 1 (reads_at p x.read)) is.2 in
+    let one = answer-home k is.0 hint answer is.1 is.3 p near in
+    let rest = answered-home k hints told is.1 w is.4 p near in
     omega arith
 
 -- what was read stays in the log
@@ -71,14 +81,14 @@ answer-more k v hint Declined w is p n =
     let both = times-reads n (page_at p) is.looks v.read in
     omega arith
 
-shared-more : (k : Key) (hints ns : List ℕ) (told : List Answer) (v w : View) → AreAnsweredAsClaimed k hints ns told v w → (p n : ℕ) → times n (reads_at p v.read) ≤ times n (reads_at p w.read)
-shared-more k hints [] [] v w (inl is) p n = let same = ap (λ (x : View). times n (reads_at p x.read)) is in omega arith
-shared-more k hints [] [] v w (inr past) p n = let same = ap (λ (x : View). times n (reads_at p x.read)) past.2 in omega arith
-shared-more k hints [] (answer ∷ told) v w is p n = absurd is
-shared-more k hints (m ∷ ns) [] v w is p n = absurd is
-shared-more k hints (m ∷ ns) (answer ∷ told) v w is p n =
-    let one = answer-more k (taking_notice v m) (slice_index hints m) answer is.1 is.2 p n in
-    let rest = shared-more k hints ns told is.1 w is.3 p n in
+answered-more : (k : Key) (hints : List ℕ) (told : List Answer) (v w : View) → AreAnswered k hints told v w → (p n : ℕ) → times n (reads_at p v.read) ≤ times n (reads_at p w.read)
+answered-more k [] [] v w but p n = let same = ap (λ (x : View). times n (reads_at p x.read)) but in omega arith
+answered-more k [] (answer ∷ told) v w is p n = absurd is
+answered-more k (hint ∷ hints) [] v w is p n = absurd is
+answered-more k (hint ∷ hints) (answer ∷ told) v w is p n =
+    let same = ap (λ (x : View). times n (reads_at p x.read)) is.2 in
+    let one = answer-more k is.0 hint answer is.1 is.3 p n in
+    let rest = answered-more k hints told is.1 w is.4 p n in
     omega arith
 
 -- where a notice was declined, each page was looked at, and what was found is in the log
@@ -99,10 +109,10 @@ declined-looks k v u w is more = record {
       omega arith;
 }
 
-pub shared-looks : (k : Key) (hints ns : List ℕ) (told : List Answer) (v w : View) → AreAnsweredAsClaimed k hints ns told v w → 0 < total says_declined told → LooksFound k w
-shared-looks k hints [] [] v w is some = absurd (omega arith)
-shared-looks k hints [] (answer ∷ told) v w is some = absurd is
-shared-looks k hints (m ∷ ns) [] v w is some = absurd is
-shared-looks k hints (m ∷ ns) (Discarded page ∷ told) v w is some = shared-looks k hints ns told is.1 w is.3 (omega arith)
-shared-looks k hints (m ∷ ns) (Evicted page ∷ told) v w is some = shared-looks k hints ns told is.1 w is.3 (omega arith)
-shared-looks k hints (m ∷ ns) (Declined ∷ told) v w is some = declined-looks k (taking_notice v m) is.1 w is.2 (shared-more k hints ns told is.1 w is.3)
+pub answered-looks : (k : Key) (hints : List ℕ) (told : List Answer) (v w : View) → AreAnswered k hints told v w → 0 < total says_declined told → LooksFound k w
+answered-looks k [] [] v w is some = absurd (omega arith)
+answered-looks k [] (answer ∷ told) v w is some = absurd is
+answered-looks k (hint ∷ hints) [] v w is some = absurd is
+answered-looks k (hint ∷ hints) (Discarded page ∷ told) v w is some = answered-looks k hints told is.1 w is.4 (omega arith)
+answered-looks k (hint ∷ hints) (Evicted page ∷ told) v w is some = answered-looks k hints told is.1 w is.4 (omega arith)
+answered-looks k (hint ∷ hints) (Declined ∷ told) v w is some = declined-looks k is.0 is.1 w is.3 (answered-more k hints told is.1 w is.4)

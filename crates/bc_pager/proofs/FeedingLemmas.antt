@@ -1,105 +1,26 @@
 -- The answers of a live pager: what it leaves as it was, which pages it names, and how its seat comes back.
-use Rattle.std.proofs.Common.{◌≡◌, ℕ, ◌+◌, ◌<◌, ◌≤◌, List, [], ◌∷◌, ◌++◌, length, Option, refl, ap, sym, subst, ◌∙◌, arith}
+use Rattle.std.proofs.Common.{◌≡◌, ℕ, ◌≤◌, List, [], ◌∷◌, ◌++◌, length, Option, ap, sym, subst, ◌∙◌, arith}
 use Rattle.std.proofs.lemmas.List.{length-map}
-use Rattle.bc_pager.specs.Answering.{AreAnswered, AreAnsweredSince, ButClaims, says_declined, says_discarded, says_evicted}
+use Rattle.bc_pager.specs.Answering.{AreAnswered, AreAnsweredSince, says_discarded, says_evicted}
 use Rattle.bc_pager.specs.Claiming.{hints_of, numbers_of, unshared}
 use Rattle.bc_pager.specs.Feeding.{HasServedLive, IsLivePagerReady}
 use Rattle.bc_pager.specs.Serving.{HasServed, KeptAnswers}
 use Rattle.bc_pager.specs.declared.answers.Answer.{Answer}
-use Rattle.bc_pager.specs.declared.answers.Answer.TheVariants.{Declined, Discarded, Evicted}
 use Rattle.bc_pager.specs.declared.notices.Notice.{Notice}
 use Rattle.bc_pager.specs.declared.paging.Paging.{Paging}
-use Rattle.bc_pager.proofs.DeclinedLemmas.{LooksFound, answer-home, answer-more, declined-looks}
+use Rattle.bc_pager.proofs.DeclinedLemmas.{answered-home}
 use Rattle.bc_pager.proofs.PagerLemmas.{dealt-view}
 use Rattle.bc_pager.proofs.SeatedLemmas.{ArePagersTold, IsPagerBack}
-use Rattle.bc_pager.proofs.ToldLemmas.{KeepsRecords, answer-keeps, names-none}
+use Rattle.bc_pager.proofs.ToldLemmas.{answered-even, answered-keep}
 use Rattle.bc_pins.specs.Calls.{IsFree, IsSameSeat, key_of, view_of}
-use Rattle.bc_pins.specs.Key.{Key, pages_of, role_number}
+use Rattle.bc_pins.specs.Key.{role_number}
 use Rattle.bc_pins.specs.Seating.{IsDealt}
 use Rattle.bc_pins.specs.Steps.{Mine, fresh}
 use Rattle.bc_pins.specs.Totals.{times, total}
-use Rattle.bc_pins.specs.Views.{reads_at}
 use Rattle.bc_pins.specs.declared.key.Role.{Role}
 use Rattle.bc_pins.specs.declared.key.Role.TheVariants.{Pager}
 use Rattle.bc_pins.specs.declared.pins.Pins.{Pins}
 use Rattle.bc_pins.specs.declared.views.View.{View}
-
--- claims of notices leave the records as they were
-claims-keep : (v w : View) → ButClaims v w → KeepsRecords v w
-claims-keep v w but = record {
-  changed = ap (λ (x : View). x.changed) but;
-  recorded = ap (λ (x : View). x.recorded) but;
-  fetched = ap (λ (x : View). x.fetched) but;
-  returned = ap (λ (x : View). x.returned) but;
-}
-
--- answers, one after another
-live-keep : (k : Key) (hints : List ℕ) (told : List Answer) (v w : View) → AreAnswered k hints told v w → KeepsRecords v w
-live-keep k [] [] v w but = claims-keep v w but
-live-keep k [] (answer ∷ told) v w is = absurd is
-live-keep k (hint ∷ hints) [] v w is = absurd is
-live-keep k (hint ∷ hints) (answer ∷ told) v w is =
-    let given = claims-keep v is.0 is.2 in
-    let one = answer-keeps k is.0 hint answer is.1 is.3 in
-    let rest = live-keep k hints told is.1 w is.4 in
-    record {
-      changed = rest.changed ∙ one.changed ∙ given.changed;
-      recorded = rest.recorded ∙ one.recorded ∙ given.recorded;
-      fetched = rest.fetched ∙ one.fetched ∙ given.fetched;
-      returned = rest.returned ∙ one.returned ∙ given.returned;
-    }
-
--- there are as many answers as hints
-pub live-even : (k : Key) (hints : List ℕ) (told : List Answer) (v w : View) → AreAnswered k hints told v w → length hints ≡ length told
-live-even k [] [] v w is = refl
-live-even k [] (answer ∷ told) v w is = absurd is
-live-even k (hint ∷ hints) [] v w is = absurd is
-live-even k (hint ∷ hints) (answer ∷ told) v w is = let rest = live-even k hints told is.1 w is.4 in omega arith
-
--- no page past the table is named
-pub live-none : (k : Key) (hints : List ℕ) (told : List Answer) (v w : View) → AreAnswered k hints told v w → (p : ℕ) → pages_of k ≤ p → (total (says_evicted p) told ≡ 0) × (total (says_discarded p) told ≡ 0)
-live-none k [] [] v w is p far = (refl, refl)
-live-none k [] (answer ∷ told) v w is p far = absurd is
-live-none k (hint ∷ hints) [] v w is p far = absurd is
-live-none k (hint ∷ hints) (answer ∷ told) v w is p far =
-    let one = names-none k is.0 hint answer is.1 is.3 p far in
-    let rest = live-none k hints told is.1 w is.4 p far in
-    let a = one.0 in
-    let b = one.1 in
-    let c = rest.0 in
-    let d = rest.1 in (omega arith, omega arith)
-
--- a page's word was read as Home as often as the answers name it
-live-home : (k : Key) (hints : List ℕ) (told : List Answer) (v w : View) → AreAnswered k hints told v w → (p : ℕ) → p < pages_of k
-    → times 1 (reads_at p w.read) ≡ (total (says_evicted p) told + total (says_discarded p) told) + times 1 (reads_at p v.read)
-live-home k [] [] v w but p near = let same = ap (λ (x : View). times 1 (reads_at p x.read)) but in omega arith
-live-home k [] (answer ∷ told) v w is p near = absurd is
-live-home k (hint ∷ hints) [] v w is p near = absurd is
-live-home k (hint ∷ hints) (answer ∷ told) v w is p near =
-    let same = ap (λ (x : View). times 1 (reads_at p x.read)) is.2 in
-    let one = answer-home k is.0 hint answer is.1 is.3 p near in
-    let rest = live-home k hints told is.1 w is.4 p near in
-    omega arith
-
--- what was read stays in the log
-live-more : (k : Key) (hints : List ℕ) (told : List Answer) (v w : View) → AreAnswered k hints told v w → (p n : ℕ) → times n (reads_at p v.read) ≤ times n (reads_at p w.read)
-live-more k [] [] v w but p n = let same = ap (λ (x : View). times n (reads_at p x.read)) but in omega arith
-live-more k [] (answer ∷ told) v w is p n = absurd is
-live-more k (hint ∷ hints) [] v w is p n = absurd is
-live-more k (hint ∷ hints) (answer ∷ told) v w is p n =
-    let same = ap (λ (x : View). times n (reads_at p x.read)) is.2 in
-    let one = answer-more k is.0 hint answer is.1 is.3 p n in
-    let rest = live-more k hints told is.1 w is.4 p n in
-    omega arith
-
--- where a notice was declined, each page was looked at
-pub live-looks : (k : Key) (hints : List ℕ) (told : List Answer) (v w : View) → AreAnswered k hints told v w → 0 < total says_declined told → LooksFound k w
-live-looks k [] [] v w is some = absurd (omega arith)
-live-looks k [] (answer ∷ told) v w is some = absurd is
-live-looks k (hint ∷ hints) [] v w is some = absurd is
-live-looks k (hint ∷ hints) (Discarded page ∷ told) v w is some = live-looks k hints told is.1 w is.4 (omega arith)
-live-looks k (hint ∷ hints) (Evicted page ∷ told) v w is some = live-looks k hints told is.1 w is.4 (omega arith)
-live-looks k (hint ∷ hints) (Declined ∷ told) v w is some = declined-looks k is.0 is.1 w is.3 (live-more k hints told is.1 w is.4)
 
 -- a live pager's seat is back with nothing in hand
 pub live-back : (pins : Pins) (told more_told : Option (List Notice)) (given more_given : Option (List View)) (number : ℕ) (old new : Paging) → IsDealt pins.table.shared.table_id (key_of pins) (Pager number) old.seat
@@ -107,7 +28,7 @@ pub live-back : (pins : Pins) (told more_told : Option (List Notice)) (given mor
 live-back pins told more_told given more_given number old new dealt served =
     let view = ap (λ (m : Mine). m.0) dealt.me in
     let each = subst (λ (r : Role). AreAnswered (key_of pins) (hints_of served.notices) new.answers.list (fresh (key_of pins) (role_number r ∷ [])) (view_of new.seat)) dealt.its_role served.each in
-    let kept = live-keep (key_of pins) (hints_of served.notices) new.answers.list (fresh (key_of pins) (role_number (Pager number) ∷ [])) (view_of new.seat) each in
+    let kept = answered-keep (key_of pins) (hints_of served.notices) new.answers.list (fresh (key_of pins) (role_number (Pager number) ∷ [])) (view_of new.seat) each in
     record {
       table = served.same.table ∙ dealt.table;
       about = served.same.about ∙ ap (λ (v : View). v.about) view;
@@ -126,7 +47,7 @@ pub live-told : (pins : Pins) (told more_told : Option (List Notice)) (given mor
 live-told pins told more_told given more_given old new served = record {
   left = λ p. let is = served.left p in omega arith;
   emptied = λ p. let is = served.emptied p in omega arith;
-  homes = λ p near. let home = live-home (key_of pins) (hints_of served.notices) new.answers.list _ (view_of new.seat) served.each p near in omega arith;
+  homes = λ p near. let home = answered-home (key_of pins) (hints_of served.notices) new.answers.list _ (view_of new.seat) served.each p near in omega arith;
 }
 
 -- what a live pager has done that served until no notice had come, or no room for an answer was left
@@ -162,7 +83,7 @@ module _ (pins : Pins) (told more_told : Option (List Notice)) (given more_given
     since = since-from new.answers.list _ list-is first;
     unclaimed = served.claims ∙ ap (λ (v : View). v.notices) first;
     few =
-        let even = live-even (key_of pins) (hints_of served.notices) served.answers (view_of old.seat) (view_of new.seat) served.each in
+        let even = answered-even (key_of pins) (hints_of served.notices) served.answers (view_of old.seat) (view_of new.seat) served.each in
         let long = length-map served.notices (λ (n : Notice). n.hint) in
         let is = ap (λ (l : List Answer). length l) list-is in
         let all = room-same ∙ ap (λ (a : KeptAnswers). a.room) ready.answers in

@@ -20,7 +20,7 @@ use Rattle.bc_superpages.specs.declared.headers.PageState.{PageState}
 use Rattle.bc_superpages.specs.declared.headers.PageState.TheVariants.{Absent, Gone, Held, Home, Remembered}
 use Rattle.bc_superpages.specs.Layout.{Layout, superpages}
 use Rattle.bc_superpages.specs.LayoutAt.{state_at}
-use Rattle.bc_pager.proofs.DeclinedLemmas.{LooksFound, shared-looks}
+use Rattle.bc_pager.proofs.DeclinedLemmas.{LooksFound, answered-looks, claimed-answered}
 use Rattle.bc_pager.proofs.ToldLemmas.{told-declined}
 
 -- a page past all superpages
@@ -100,4 +100,4 @@ declined-beside k t seats hints pagers told IsLooked closed long answered logged
     let none : Paged = record { numbers = []; answers = []; end = fresh k [] } in
     let one = told-declined k hints pagers told answered some none in
     let by : Paged = get_or pagers one.0 none in
-    looked-by k t seats IsLooked closed long fetched homes by.end (logged one.0 one.1 none) (shared-looks k hints by.numbers by.answers _ by.end (answered.each one.0 one.1 none).each one.2) p home
+    looked-by k t seats IsLooked closed long fetched homes by.end (logged one.0 one.1 none) (answered-looks k _ by.answers _ by.end (claimed-answered k hints by.numbers by.answers _ by.end (answered.each one.0 one.1 none).each) one.2) p home

@@ -5,7 +5,7 @@ use Rattle.std.proofs.lemmas.List.{get_or_default, length-take, take_more}
 use Rattle.bc_pager.specs.Serving.{HintList, given_of, numbered}
 use Rattle.bc_pager.specs.declared.notices.Notice.{Notice}
 
-numbered-long : (from : ℕ) (hints : List ℕ) → length (numbered from hints) ≡ length hints
+pub numbered-long : (from : ℕ) (hints : List ℕ) → length (numbered from hints) ≡ length hints
 numbered-long from [] = refl
 numbered-long from (h ∷ hs) = let rest = numbered-long (from + 1) hs in omega arith
 

@@ -1,26 +1,27 @@
--- The answers of pagers that share notices: what each leaves as it was and which pages it names, and what all answers are together.
+-- Answers: what each leaves as it was and which pages it names; and what the answers of pagers that share notices are together.
 use Prim.Native.Nat.{zero, suc}
 use Rattle.std.proofs.Common.{◌≡◌, ℕ, ◌+◌, ◌*◌, ◌<◌, ◌≤◌, ◌==◌, List, [], ◌∷◌, length, map, get_or, nat_lt, slice_index, inl, inr, refl, ap, sym, ◌∙◌, arith}
 use Rattle.std.specs.List.{AllByRecursion}
 use Rattle.std.proofs.lemmas.Bool.{cases_lt, lt-ltb}
+use Rattle.std.proofs.lemmas.List.{length-map}
 use Rattle.bc_bits.specs.Counting.{one_if}
-use Rattle.bc_pager.specs.Answering.{IsAnswer, says_declined, says_discarded, says_evicted}
-use Rattle.bc_pager.specs.Claiming.{AreAnsweredAsClaimed}
-use Rattle.bc_pager.specs.Paging.{seats_of}
+use Rattle.bc_pager.specs.Answering.{AreAnswered, ButClaims, IsAnswer, says_declined, says_discarded, says_evicted}
+use Rattle.bc_pager.specs.Paging.{hints_numbered, seats_of}
 use Rattle.bc_pager.specs.Placing.{AnsweredByPagers, HavePlaces, IsPagedBy, Paged, paged_of}
 use Rattle.bc_pager.specs.declared.answers.Answer.{Answer}
 use Rattle.bc_pager.specs.declared.answers.Answer.TheVariants.{Declined, Discarded, Evicted}
 use Rattle.bc_pager.specs.declared.paging.Paging.{Paging}
 use Rattle.bc_pins.specs.Calls.{view_of}
-use Rattle.bc_pins.specs.Key.{Key, pages_of}
-use Rattle.bc_pins.specs.Steps.{taking_notice}
+use Rattle.bc_pins.specs.Key.{Key, pages_of, role_number}
+use Rattle.bc_pins.specs.Steps.{fresh}
 use Rattle.bc_pins.specs.Totals.{sum_to, times, total}
 use Rattle.bc_pins.specs.Views.{reads_at}
+use Rattle.bc_pins.specs.declared.key.Role.TheVariants.{Pager}
 use Rattle.bc_pins.specs.declared.pins.Seat.{Seat}
 use Rattle.bc_pins.specs.declared.views.View.{View}
 use Rattle.bc_pins.proofs.SumLemmas.{sum_none, sum_one, sum_same, total_sum}
 use Rattle.bc_pins.proofs.TotalLemmas.{one_other, one_same, total_both}
-use Rattle.bc_pager.proofs.DeclinedLemmas.{shared-home}
+use Rattle.bc_pager.proofs.DeclinedLemmas.{answered-home, claimed-answered}
 
 -- a pager's view where it put no page back and took none from Gone
 pub record KeepsRecords (v w : View) : Type 0 where
@@ -28,9 +29,6 @@ pub record KeepsRecords (v w : View) : Type 0 where
   pub recorded : w.recorded ≡ v.recorded
   pub fetched : w.fetched ≡ v.fetched
   pub returned : w.returned ≡ v.returned
-
-same-records : (v w : View) → w ≡ v → KeepsRecords v w
-same-records v w is = record { changed = ap (λ (x : View). x.changed) is; recorded = ap (λ (x : View). x.recorded) is; fetched = ap (λ (x : View). x.fetched) is; returned = ap (λ (x : View). x.returned) is }
 
 -- an answer
 pub answer-keeps : (k : Key) (v : View) (hint : ℕ) (answer : Answer) (w : View) → IsAnswer k v hint answer w → KeepsRecords v w
@@ -41,18 +39,30 @@ answer-keeps k v hint (Evicted page) w is =
 answer-keeps k v hint Declined w is =
     record { changed = ap (λ (x : View). x.changed) is.view; recorded = ap (λ (x : View). x.recorded) is.view; fetched = ap (λ (x : View). x.fetched) is.view; returned = ap (λ (x : View). x.returned) is.view }
 
--- answers, one after another, and the claims between them
-pub shared-keep : (k : Key) (hints ns : List ℕ) (told : List Answer) (v w : View) → AreAnsweredAsClaimed k hints ns told v w → KeepsRecords v w
-shared-keep k hints [] [] v w (inl is) = same-records v w is
-shared-keep k hints [] [] v w (inr past) =
-    let is = same-records (taking_notice v past.0) w past.2 in
-    record { changed = is.changed; recorded = is.recorded; fetched = is.fetched; returned = is.returned }
-shared-keep k hints [] (answer ∷ told) v w is = absurd is
-shared-keep k hints (n ∷ ns) [] v w is = absurd is
-shared-keep k hints (n ∷ ns) (answer ∷ told) v w is =
-    let one = answer-keeps k (taking_notice v n) (slice_index hints n) answer is.1 is.2 in
-    let rest = shared-keep k hints ns told is.1 w is.3 in
-    record { changed = rest.changed ∙ one.changed; recorded = rest.recorded ∙ one.recorded; fetched = rest.fetched ∙ one.fetched; returned = rest.returned ∙ one.returned }
+-- claims of notices leave the records as they were
+claims-keep : (v w : View) → ButClaims v w → KeepsRecords v w
+claims-keep v w but = record {
+  changed = ap (λ (x : View). x.changed) but;
+  recorded = ap (λ (x : View). x.recorded) but;
+  fetched = ap (λ (x : View). x.fetched) but;
+  returned = ap (λ (x : View). x.returned) but;
+}
+
+-- answers, one after another
+pub answered-keep : (k : Key) (hints : List ℕ) (told : List Answer) (v w : View) → AreAnswered k hints told v w → KeepsRecords v w
+answered-keep k [] [] v w but = claims-keep v w but
+answered-keep k [] (answer ∷ told) v w is = absurd is
+answered-keep k (hint ∷ hints) [] v w is = absurd is
+answered-keep k (hint ∷ hints) (answer ∷ told) v w is =
+    let given = claims-keep v is.0 is.2 in
+    let one = answer-keeps k is.0 hint answer is.1 is.3 in
+    let rest = answered-keep k hints told is.1 w is.4 in
+    record {
+      changed = rest.changed ∙ one.changed ∙ given.changed;
+      recorded = rest.recorded ∙ one.recorded ∙ given.recorded;
+      fetched = rest.fetched ∙ one.fetched ∙ given.fetched;
+      returned = rest.returned ∙ one.returned ∙ given.returned;
+    }
 
 -- an answer names no page past the table
 pub names-none : (k : Key) (v : View) (hint : ℕ) (answer : Answer) (w : View) → IsAnswer k v hint answer w → (p : ℕ) → pages_of k ≤ p → (says_evicted p answer ≡ 0) × (says_discarded p answer ≡ 0)
@@ -60,24 +70,25 @@ names-none k v hint (Discarded page) w is p far = (refl, one_other page p (λ e.
 names-none k v hint (Evicted page) w is p far = (one_other page p (λ e. let near = is.inside in absurd (omega arith)), refl)
 names-none k v hint Declined w is p far = (refl, refl)
 
-pub shared-none : (k : Key) (hints ns : List ℕ) (told : List Answer) (v w : View) → AreAnsweredAsClaimed k hints ns told v w → (p : ℕ) → pages_of k ≤ p → (total (says_evicted p) told ≡ 0) × (total (says_discarded p) told ≡ 0)
-shared-none k hints [] [] v w is p far = (refl, refl)
-shared-none k hints [] (answer ∷ told) v w is p far = absurd is
-shared-none k hints (n ∷ ns) [] v w is p far = absurd is
-shared-none k hints (n ∷ ns) (answer ∷ told) v w is p far =
-    let one = names-none k (taking_notice v n) (slice_index hints n) answer is.1 is.2 p far in
-    let rest = shared-none k hints ns told is.1 w is.3 p far in
+-- no page past the table is named
+pub answered-none : (k : Key) (hints : List ℕ) (told : List Answer) (v w : View) → AreAnswered k hints told v w → (p : ℕ) → pages_of k ≤ p → (total (says_evicted p) told ≡ 0) × (total (says_discarded p) told ≡ 0)
+answered-none k [] [] v w is p far = (refl, refl)
+answered-none k [] (answer ∷ told) v w is p far = absurd is
+answered-none k (hint ∷ hints) [] v w is p far = absurd is
+answered-none k (hint ∷ hints) (answer ∷ told) v w is p far =
+    let one = names-none k is.0 hint answer is.1 is.3 p far in
+    let rest = answered-none k hints told is.1 w is.4 p far in
     let a = one.0 in
     let b = one.1 in
     let c = rest.0 in
     let d = rest.1 in (omega arith, omega arith)
 
--- there are as many answers as numbers
-pub shared-even : (k : Key) (hints ns : List ℕ) (told : List Answer) (v w : View) → AreAnsweredAsClaimed k hints ns told v w → length ns ≡ length told
-shared-even k hints [] [] v w is = refl
-shared-even k hints [] (answer ∷ told) v w is = absurd is
-shared-even k hints (n ∷ ns) [] v w is = absurd is
-shared-even k hints (n ∷ ns) (answer ∷ told) v w is = let rest = shared-even k hints ns told is.1 w is.3 in omega arith
+-- there are as many answers as hints
+pub answered-even : (k : Key) (hints : List ℕ) (told : List Answer) (v w : View) → AreAnswered k hints told v w → length hints ≡ length told
+answered-even k [] [] v w is = refl
+answered-even k [] (answer ∷ told) v w is = absurd is
+answered-even k (hint ∷ hints) [] v w is = absurd is
+answered-even k (hint ∷ hints) (answer ∷ told) v w is = let rest = answered-even k hints told is.1 w is.4 in omega arith
 
 -- a pager that began afresh put no page back and took none from Gone
 pub record KeepsNone (w : View) : Type 0 where
@@ -86,14 +97,22 @@ pub record KeepsNone (w : View) : Type 0 where
   pub fetched : w.fetched ≡ []
   pub returned : w.returned ≡ []
 
+-- its answers, as those to the notices that it claimed
+paged-answered : (k : Key) (hints : List ℕ) (i : ℕ) (p : Paged) → IsPagedBy k hints i p → AreAnswered k (hints_numbered hints p.numbers) p.answers (fresh k (role_number (Pager i) ∷ [])) p.end
+paged-answered k hints i p by = claimed-answered k hints p.numbers p.answers _ p.end by.each
+
+paged-even : (k : Key) (hints : List ℕ) (i : ℕ) (p : Paged) → IsPagedBy k hints i p → length p.numbers ≡ length p.answers
+paged-even k hints i p by =
+    sym (length-map p.numbers (λ (number : ℕ). slice_index hints number)) ∙ answered-even k (hints_numbered hints p.numbers) p.answers _ p.end (paged-answered k hints i p by)
+
 pub paged-keep : (k : Key) (hints : List ℕ) (i : ℕ) (p : Paged) → IsPagedBy k hints i p → KeepsNone p.end
 paged-keep k hints i p by =
-    let keeps = shared-keep k hints p.numbers p.answers _ p.end by.each in
+    let keeps = answered-keep k (hints_numbered hints p.numbers) p.answers _ p.end (paged-answered k hints i p by) in
     record { changed = keeps.changed; recorded = keeps.recorded; fetched = keeps.fetched; returned = keeps.returned }
 
 -- a page's word was read as Home as often as the answers name it
 pub paged-home : (k : Key) (hints : List ℕ) (i : ℕ) (p : Paged) → IsPagedBy k hints i p → (q : ℕ) → q < pages_of k → times 1 (reads_at q p.end.read) ≡ total (says_evicted q) p.answers + total (says_discarded q) p.answers
-paged-home k hints i p by q near = let home = shared-home k hints p.numbers p.answers _ p.end by.each q near in omega arith
+paged-home k hints i p by q near = let home = answered-home k (hints_numbered hints p.numbers) p.answers _ p.end (paged-answered k hints i p by) q near in omega arith
 
 -- the seats of pagers, by the views at which they ended
 pub total_paged : (f : View → ℕ) (xs : List Paging) → total (λ (s : Seat). f (view_of s)) (seats_of xs) ≡ total (λ (p : Paged). f p.end) (map paged_of xs)
@@ -179,13 +198,13 @@ module _ (k : Key) (hints : List ℕ) (pagers : List Paged) (told : List Answer)
       ∙ sym (
       sum_same (λ i. total (λ (p : Paged). times i p.numbers) pagers * g i) g (length hints) (λ i lt. ap (λ (c : ℕ). c * g i) (a.once i ∙ lt-true i (length hints) lt) ∙ omega arith))
       ∙ sym (spread g (length hints) pagers (λ i lt d. (a.each i lt d).within))
-      ∙ placed-all f told pagers a.placed (λ i lt d. let p : Paged = get_or pagers i d in shared-even k hints p.numbers p.answers _ p.end (a.each i lt d).each)
+      ∙ placed-all f told pagers a.placed (λ i lt d. paged-even k hints i (get_or pagers i d) (a.each i lt d))
 
   -- no page past the table is named
   pub told-none : (q : ℕ) → pages_of k ≤ q → (total (says_evicted q) told ≡ 0) × (total (says_discarded q) told ≡ 0)
   told-none q far =
       let none : (i : ℕ) (lt : i < length pagers) (d : Paged) → (total (says_evicted q) (get_or pagers i d).answers ≡ 0) × (total (says_discarded q) (get_or pagers i d).answers ≡ 0) =
-      λ i lt d. let p : Paged = get_or pagers i d in shared-none k hints p.numbers p.answers _ p.end (a.each i lt d).each q far in (
+      λ i lt d. let p : Paged = get_or pagers i d in answered-none k (hints_numbered hints p.numbers) p.answers _ p.end (paged-answered k hints i p (a.each i lt d)) q far in (
         told-total (says_evicted q) ∙ total_alike (λ (p : Paged). total (says_evicted q) p.answers) (λ _. 0) pagers (λ i lt d. (none i lt d).0) ∙ total_zero pagers,
         told-total (says_discarded q) ∙ total_alike (λ (p : Paged). total (says_discarded q) p.answers) (λ _. 0) pagers (λ i lt d. (none i lt d).1) ∙ total_zero pagers,
       )

@@ -227,6 +227,7 @@ where
 {
     let phase = &trace.phases[index + first];
     let end = play_phase(host, engine, phase, live);
+    // What it answers isn't used: its clause says that no more notices were taken than there is room for.
     let _ = live.may_come();
     keep_answers(answers, engine.live_answers());
     end

@@ -24,8 +24,8 @@ use Rattle.bc_pins.proofs.TallyLemmas.{ge-nat_lt}
 use Rattle.bc_pager.proofs.HomeLemmas.{state-behind}
 use Rattle.bc_pager.proofs.ToldLemmas.{told-none}
 use Rattle.bc_pins.proofs.TotalLemmas.{total_append}
-use Rattle.bc_turn.specs.Answered.{AnsweredBeside, is_in}
-use Rattle.bc_turn.proofs.LiveLemmas.{AnsweredLive, live-absent, live-far}
+use Rattle.bc_turn.specs.Answered.{AnsweredBeside, AnsweredLive, is_in}
+use Rattle.bc_turn.proofs.LiveLemmas.{live-absent, live-far}
 
 -- a state by its word
 pub is-gone : (st : PageState) → 0 < one_if (state_word st == 4) → st ≡ Gone
@@ -117,11 +117,8 @@ answered IsLooked Had k s t seats hints kept after pagers told lived fed live li
       kept = is;
       shared = shared;
       live_told = live_told;
-      live_end = lives.end;
       live_kept = live_is;
-      live_each = lives.each;
-      live_unclaimed = lives.unclaimed;
-      live_few = lives.few;
+      live_pager = lives;
       fetched = fetched;
       left = left;
       emptied = emptied;
@@ -161,11 +158,8 @@ answered-none IsLooked Had s hints kept lived small none =
       kept = append-nil kept;
       shared = subst (λ (hs : List ℕ). AnsweredByPagers k hs [] []) (sym (no-hints hints none)) (record { few = refl; each = λ i lt. absurd (omega arith); once = λ n. sym (ap one_if (ge-nat_lt n 0 (omega arith))); long = refl; placed = tt });
       live_told = [];
-      live_end = lives.end;
       live_kept = append-nil lived;
-      live_each = lives.each;
-      live_unclaimed = lives.unclaimed;
-      live_few = lives.few;
+      live_pager = lives;
       fetched = [];
       left = [];
       emptied = [];
@@ -189,11 +183,8 @@ answered-lanes IsLooked Had s hints kept after t lived fed live is = record {
   kept = is.kept;
   shared = is.shared;
   live_told = is.live_told;
-  live_end = is.live_end;
   live_kept = is.live_kept;
-  live_each = is.live_each;
-  live_unclaimed = is.live_unclaimed;
-  live_few = is.live_few;
+  live_pager = is.live_pager;
   fetched = is.fetched;
   left = is.left;
   emptied = is.emptied;

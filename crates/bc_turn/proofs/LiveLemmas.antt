@@ -12,12 +12,12 @@ use Rattle.bc_pager.specs.Serving.{told_with}
 use Rattle.bc_pager.specs.declared.answers.Answer.{Answer}
 use Rattle.bc_pager.specs.declared.notices.Notice.{Notice}
 use Rattle.bc_pager.specs.declared.paging.Paging.{Paging}
-use Rattle.bc_pager.proofs.DeclinedLemmas.{LooksFound}
-use Rattle.bc_pager.proofs.FeedingLemmas.{live-back, live-even, live-looks, live-none, live-told}
+use Rattle.bc_pager.proofs.DeclinedLemmas.{LooksFound, answered-looks}
+use Rattle.bc_pager.proofs.FeedingLemmas.{live-back, live-told}
 use Rattle.bc_pager.proofs.HomeLemmas.{declined-beside, fetches, leaves, looked-by}
 use Rattle.bc_pager.proofs.SeatedLemmas.{ArePagersBack, ArePagersTold, IsPagerBack, seats-long}
 use Rattle.bc_pager.proofs.ServeLemmas.{told-none}
-use Rattle.bc_pager.proofs.ToldLemmas.{total_paged}
+use Rattle.bc_pager.proofs.ToldLemmas.{answered-even, answered-none, total_paged}
 use Rattle.bc_pins.specs.Calls.{key_of, view_of}
 use Rattle.bc_pins.specs.Closing.{Closed}
 use Rattle.bc_pins.specs.Key.{Key, pages_of, role_number}
@@ -34,20 +34,14 @@ use Rattle.bc_pins.proofs.TotalLemmas.{total_append, total_in}
 use Rattle.bc_superpages.specs.declared.headers.PageState.TheVariants.{Home}
 use Rattle.bc_superpages.specs.Layout.{Layout, superpages}
 use Rattle.bc_superpages.specs.LayoutAt.{state_at}
-
--- what the live pager, which has this number, took and answered, by its view at the end; nothing where there is none
-pub record AnsweredLive (k : Key) (number : ℕ) (fed : List Notice) (told : List Answer) : Type 0 where
-  pub end : View
-  pub each : AreAnswered k (hints_of fed) told (fresh k (role_number (Pager number) ∷ [])) end
-  pub unclaimed : end.notices ≡ []
-  pub few : length fed ≤ live_room
+use Rattle.bc_turn.specs.Answered.{AnsweredLive}
 
 pub live-absent : (k : Key) (number : ℕ) → AnsweredLive k number [] []
 live-absent k number = record { end = fresh k (role_number (Pager number) ∷ []); each = refl; unclaimed = refl; few = omega arith }
 
 -- it names no page past the table
 pub live-far : (k : Key) (number : ℕ) (fed : List Notice) (told : List Answer) → AnsweredLive k number fed told → (p : ℕ) → pages_of k ≤ p → (total (says_evicted p) told ≡ 0) × (total (says_discarded p) told ≡ 0)
-live-far k number fed told is p far = live-none k (hints_of fed) told (fresh k (role_number (Pager number) ∷ [])) is.end is.each p far
+live-far k number fed told is p far = answered-none k (hints_of fed) told (fresh k (role_number (Pager number) ∷ [])) is.end is.each p far
 
 -- what the seats of two lists of pagers have between them
 pub seats-both : (f : Seat → ℕ) (xs ys : List Paging) → total f (seats_of (xs ++ ys)) ≡ total f (seats_of xs) + total f (seats_of ys)
@@ -106,7 +100,7 @@ module _ (pins : Pins) (told more_told : Option (List Notice)) (given more_given
   live-fits (Some old) new serves n room enough within =
       let did = serves.2 in
       let same = ap (λ (o : Option Paging). length (answers_of_live o)) serves.1 in
-      let even = live-even (key_of pins) (hints_of did.notices) serves.0.answers.list (fresh (key_of pins) (role_number old.seat.role ∷ [])) (view_of serves.0.seat) did.each in
+      let even = answered-even (key_of pins) (hints_of did.notices) serves.0.answers.list (fresh (key_of pins) (role_number old.seat.role ∷ [])) (view_of serves.0.seat) did.each in
       let long = length-map did.notices (λ (notice : Notice). notice.hint) in
       let few = did.few in
       omega arith
@@ -223,7 +217,7 @@ module _ (pins : Pins) (told more_told : Option (List Notice)) (given more_given
             let w = view_of serves.0.seat in
             let same = ap (λ (x : Option Paging). total says_declined (answers_of_live x)) serves.1 in (
               w,
-              live-looks (key_of pins) (hints_of serves.2.notices) serves.0.answers.list (fresh (key_of pins) (role_number o.seat.role ∷ [])) w serves.2.each (omega arith),
+              answered-looks (key_of pins) (hints_of serves.2.notices) serves.0.answers.list (fresh (key_of pins) (role_number o.seat.role ∷ [])) w serves.2.each (omega arith),
               λ p m.
                   let f : Seat → ℕ = λ s. reads_as p m (view_of s) in
                   let whole = both f in

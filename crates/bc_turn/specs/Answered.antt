@@ -42,6 +42,13 @@ pub record BookmarksBeside (Had : ℕ → List ℕ → Type 0) (s t : Layout) (t
 abbrev pub is_in : PageState → Layout → ℕ → ℕ
 is_in state s page = one_if (state_word (state_at s.states page) == state_word state)
 
+-- what the live pager, which has this number, took and answered, by its view at the end; nothing where there is none
+pub record AnsweredLive (k : Key) (number : ℕ) (fed : List Notice) (told : List Answer) : Type 0 where
+  pub end : View
+  pub each : AreAnswered k (hints_of fed) told (fresh k (role_number (Pager number) ∷ [])) end
+  pub unclaimed : end.notices ≡ []
+  pub few : length fed ≤ live_room
+
 -- the notices with these hints were answered by pagers that worked beside the lanes at a table that was opened over a space, and closed
 -- to another one. There are as many pagers as notices, at most four. Each notice was claimed by one of them and has one answer, by what
 -- that pager did and read since; the answers stand in the order of the notices, after those that were kept before. Where more notices
@@ -61,11 +68,8 @@ pub record AnsweredBeside (IsLooked : ℕ → Type 0) (Had : ℕ → List ℕ �
   pub shared : AnsweredByPagers key hints pagers told
   -- what the live pager took, answered and read; its number comes after those of the others
   pub live_told : List Answer
-  pub live_end : View
   pub live_kept : live ≡ lived ++ live_told
-  pub live_each : AreAnswered key (hints_of fed) live_told (fresh key (role_number (Pager (length pagers)) ∷ [])) live_end
-  pub live_unclaimed : live_end.notices ≡ []
-  pub live_few : length fed ≤ live_room
+  pub live_pager : AnsweredLive key (length pagers) fed live_told
   -- the pages that lanes reloaded, made Gone, and made Absent
   pub fetched : List ℕ
   pub left : List ℕ

@@ -29,7 +29,7 @@ pub(crate) struct Run {
 /// On which threads the seats of a turn work, but for the live pager, which always has a thread of its own. What they do is the same.
 #[derive(Clone, Copy, PartialEq, Eq, Debug)]
 pub enum TurnThreads {
-    /// One pager after another and then one lane after another work on the caller's thread. No thread is started.
+    /// One pager after another and then one lane after another work on the caller's thread.
     One,
     /// Each lane has a thread of its own, and the pagers have one together. Who works alone is on the caller's thread.
     Lanes,
@@ -179,8 +179,7 @@ fn serve_all<R: Threads + Sync, G: Gate + Sync>(
     ensures paged { HaveAllPaged pins.now hints.now pagers.old.items pagers.new.items }
 {
     let count = match threads {
-        TurnThreads::One => 1,
-        TurnThreads::Lanes => 1,
+        TurnThreads::One | TurnThreads::Lanes => 1,
         TurnThreads::Each => pagers.len().max(1),
     };
     serve_each(rt, pins, hints, gate, pagers.as_mut_slice(), count);
@@ -201,8 +200,7 @@ fn run_all<R: Threads + Sync, G: Gate + Sync>(
 {
     let count = match threads {
         TurnThreads::One => 1,
-        TurnThreads::Lanes => runs.len().max(1),
-        TurnThreads::Each => runs.len().max(1),
+        TurnThreads::Lanes | TurnThreads::Each => runs.len().max(1),
     };
     thread::for_each_mut(
         rt,

@@ -14,11 +14,11 @@ use Rattle.bc_engine.proofs.turns.lane_turn.Goals as goal
 use Rattle.bc_engine.proofs.turns.lane_turn.Goals.{In-Ok}
 
 -- no table was worth while, and no notice may come
-pub returns-in-Plain-2-clause-turn : goal.returns-in-Plain-2-clause-turn
-returns-in-Plain-2-clause-turn g c = turn-unfed refl refl (c.turn_alone.ensures.turn c.args.live_answers.now.items)
+pub returns-in-Plain-clause-turn : goal.returns-in-Plain-clause-turn
+returns-in-Plain-clause-turn g c = turn-unfed refl refl (c.turn_alone.ensures.turn c.args.live_answers.now.items)
 
-pub returns-in-Plain-2-clause-kept : goal.returns-in-Plain-2-clause-kept
-returns-in-Plain-2-clause-kept g c =
+pub returns-in-Plain-clause-kept : goal.returns-in-Plain-clause-kept
+returns-in-Plain-clause-kept g c =
     kept-later (lists_of c.args.lanes.now) (lists_of c.args.replies.now) (lists_of c.turn_alone.new.replies) c.args.room.now refl refl c.turn_alone.ensures.runs.goes.more c.requires.kept
 
 pub take_turn-requires-clause-sound : goal.take_turn-requires-clause-sound

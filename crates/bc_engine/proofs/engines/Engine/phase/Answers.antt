@@ -1,7 +1,5 @@
-use Rattle.std.proofs.Common.{◌≡◌, List, [], false, inl, inr, length, nat_lt, ap, sym, subst, ◌∙◌}
+use Rattle.std.proofs.Common.{◌≡◌, List, [], false, inl, inr, length, nat_lt, ap, subst, ◌∙◌}
 use Rattle.std.proofs.lemmas.Result.{IfOk-weaker}
-use Rattle.bc_engine.specs.EngineFacts.{with_live}
-use Rattle.bc_engine.specs.Engines.{EngineView}
 use Rattle.bc_engine.specs.PhaseTurns.{HadTurns, HadTurnsToCut, HadTurnsToWant}
 use Rattle.bc_engine.proofs.PhaseLemmas.{ended-weaker}
 use Rattle.bc_engine.proofs.TurnLemmas.{none-fed}
@@ -42,7 +40,7 @@ returns-clause-want g c = λ no going.
     let idle = none-comes g here.After-phase_with in
     let still = c.phase_with.ensures.idle idle in
     elim (c.phase_with.ensures.want no going) [
-      | inl same ↦ inl (same.0 ∙ ap (with_live (record e { ended = f.ended })) (sym (ap (λ (x : EngineView). x.live) same.0)))
+      | inl same ↦ inl same.0
       | inr all ↦ inr (
           subst (HadTurnsToWant e c.args.phase.now f []) (ap (λ (n : HintList). nat_lt n.given (length n.hints)) still ∙ idle)
           (none-fed (λ (fed : List Notice). HadTurnsToWant e c.args.phase.now f fed (nat_lt c.phase_with.new.live.given (length c.phase_with.new.live.hints))) c.none-none.result c.phase_with.new.live c.none-none.ensures.none still all))
