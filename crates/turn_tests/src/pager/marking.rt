@@ -31,8 +31,12 @@ fn what_a_page_refers_to_is_marked_when_it_leaves_in_a_mark_turn(
             steps: &[
                 Step::Pages(4),
                 Step::Look(2, (0, 0)),
+                Step::Queue(0, 0),
+                Step::Queue(0, 1),
                 Step::Serve(&[0], 1, &[Answer::Evicted(0)]),
                 Step::Look(2, (1, 0)),
+                Step::Queue(3, 3),
+                Step::Queue(1, 11),
             ],
             found: &[
                 Found::Pages(4),

@@ -41,6 +41,8 @@ pub(crate) enum Step {
     ComeBack(u32),
     /// The mark word and the finished word of this number.
     Look(u32, (u64, u64)),
+    /// The queue bits of this page's superpage. The page's bit is cleared and set again.
+    Queue(u32, u64),
 }
 
 /// Does the steps one after another. Fails at the first one that doesn't go as it says.
@@ -81,6 +83,7 @@ fn goes<R: Threads>(
         Step::Read(page) => Ok(table.is_read(page)),
         Step::ComeBack(page) => Ok(table.comes_back(page)),
         Step::Look(word, answer) => Ok(table.looks(word) == Some(answer)),
+        Step::Queue(page, answer) => Ok(table.queues(page) == Some(answer)),
         _ => Ok(table.shows(step)),
     }
 }
