@@ -13,6 +13,9 @@ use std::thread;
 /// How often the lane looks whether a pager has answered, while it is kept.
 const LOOKS: u32 = 1_000_000;
 
+/// How often it yields once one has, so that the feeder goes on.
+const RESTS: u32 = 100_000;
+
 /// The number that the first pager of a turn passes a gate with.
 const PAGER: u32 = 200;
 
@@ -44,6 +47,13 @@ struct Answering {
     given_up: AtomicU64,
 }
 
+/// Gives the feeder time to hand in the hints for which the queue had no place: its thread may be woken late.
+fn rest() {
+    for _ in 0..RESTS {
+        thread::yield_now();
+    }
+}
+
 impl Answering {
     fn new(first: u64, then: u64) -> Answering {
         Answering {
@@ -63,6 +73,7 @@ impl Answering {
         };
         for _ in 0..LOOKS {
             if self.answered.load(Ordering::SeqCst) >= wanted {
+                rest();
                 return;
             }
             thread::yield_now();
