@@ -1,12 +1,12 @@
 -- A page in memory that has a gray cell is queued or owed.
-use Rattle.std.proofs.Common.{◌≡◌, ℕ, ◌+◌, ◌<◌, ◌≤◌, ◌==◌, Bool, false, if◌then◌else◌, List, [], ◌∷◌, inl, inr, ap, arith}
+use Rattle.std.proofs.Common.{◌≡◌, ℕ, ◌+◌, ◌<◌, Bool, false, if◌then◌else◌, List, [], ◌∷◌, inl, inr, ap, arith}
 use Rattle.std.proofs.lemmas.Bool.{cases_eq, eq-eqb}
 use Rattle.bc_word.specs.Addresses.{page_of}
 use Rattle.bc_pins.specs.declared.views.View.{View}
 use Rattle.bc_pins.specs.Key.{Key}
 use Rattle.bc_pins.specs.Totals.{total, times}
 use Rattle.bc_pins.specs.Facts.{Table}
-use Rattle.bc_pins.specs.Owing.{may_be_gray, covers, queued_bit, IsGray, IsResident}
+use Rattle.bc_pins.specs.Owing.{may_be_gray, covers, queued_bit, IsGrayCell, IsResident}
 use Rattle.bc_pins.specs.Rule.{Ruled}
 
 -- a view that answers for a cell owes its page
@@ -25,7 +25,7 @@ total_some f g (v ∷ vs) each lt = elim (cases_eq (f v) 0) [
   | inr some ↦ let here = each v (omega arith) in omega arith
 ]
 
-pub gray_pages : (k : Key) (s : Table) → Ruled k s → k.lanes ≡ false → (a : ℕ) → IsGray k s a → IsResident s (page_of a) → 0 < queued_bit k s (page_of a) + total (λ (v : View). times (page_of a) v.owed) s.views
+pub gray_pages : (k : Key) (s : Table) → Ruled k s → k.lanes ≡ false → (a : ℕ) → IsGrayCell k s a → IsResident s (page_of a) → 0 < queued_bit k s (page_of a) + total (λ (v : View). times (page_of a) v.owed) s.views
 gray_pages k s r turn a gray resident =
     let due = r.owing turn a gray resident in
     elim (cases_eq (queued_bit k s (page_of a)) 0) [

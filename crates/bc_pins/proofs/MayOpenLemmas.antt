@@ -42,7 +42,7 @@ use Rattle.bc_pins.specs.Lodging.{home_of, away_of}
 use Rattle.bc_pins.specs.Opening.{IsReady, IsOpenable, IsMarkable, AreLodged}
 use Rattle.bc_pins.specs.Facts.{Frames, frame_bit, is_clear, bookmark_bit, opened_bit, cell_bit, HasBookmarkBit, Summary, points, adds_to, Counters, Bits}
 use Rattle.bc_pins.specs.Tracing.{word_of, place_of, finished_bit, opened_finished, HasMarkBit, IsFinishedIn, Tracing}
-use Rattle.bc_pins.specs.Owing.{IsGray, Owing}
+use Rattle.bc_pins.specs.Owing.{IsGrayCell, Owing}
 use Rattle.bc_pins.specs.Filling.{HasGrayBit, QueuesGray, header_in, IsFilled}
 use Rattle.bc_pins.specs.Opening.{opened, OpensPage, MayOpen}
 use Rattle.bc_pins.proofs.SumLemmas.{sum_slots, sum_same, sum_none, sum_cut, total_sum, count_total, times_count, total_map}
@@ -293,7 +293,7 @@ module _ (k : Key) (whole : SpaceParts) (kept : AreParts whole) (layout : parts_
   cell_word w lt = sym (ap (λ (h : Header). slice_index h.cells (w % 16)) (header_is (w / 16) (omega arith)))
 
   -- where a cell is gray its superpage's header says so, and so all pages of it are queued
-  gray_word : k.lanes ≡ false → (a : ℕ) → IsGray k (opened k words slots) a → HasGrayBit (header_in whole.headers.items (word_of k a / 16))
+  gray_word : k.lanes ≡ false → (a : ℕ) → IsGrayCell k (opened k words slots) a → HasGrayBit (header_in whole.headers.items (word_of k a / 16))
   gray_word turn a gray =
       let within = gray.marked.within in
       let few = gray.marked.few in

@@ -157,9 +157,9 @@ pub record OnlyQueues (v w : View) : Type 0 where
   pub grows : w.read ≡ later ++ v.read
   pub apart : (i : ℕ) → i < queue_at v.about 0 → reads_of i later ≡ []
 
--- the page's queue bit was clear when the last step on a queue word was made, which was on its superpage's
-pub record WasClear (v : View) (page : ℕ) : Type 0 where
+-- the page's queue bit, as the last step on a queue word found it, which was on its superpage's
+pub record FoundBit (v : View) (page bit : ℕ) : Type 0 where
   pub found : ℕ
-  pub clear : bit_at found (page % 4) ≡ 0
+  pub is : bit_at found (page % 4) ≡ bit
   pub rest : List (ℕ × ℕ)
   pub read : v.read ≡ (queue_at v.about (page / 4), found) ∷ rest

@@ -442,7 +442,7 @@ pub record SawQueue (st : Step Lodged) (m : Mine) (found : ℕ) (m' : Mine) : Ty
   pub view : (superpage : ℕ) → st.word ≡ queue_at m.0.about superpage → m' ≡ (peeking m.0 superpage found, m.1)
 
 -- settle: the same look, by a view that has paid what it owes
-pub record Settled (st : Step Lodged) (m : Mine) (found : ℕ) (m' : Mine) : Type 0 where
+pub record SettledPages (st : Step Lodged) (m : Mine) (found : ℕ) (m' : Mine) : Type 0 where
   pub view : (superpage : ℕ) → st.word ≡ queue_at m.0.about superpage → m' ≡ (settling m.0 superpage found, m.1)
 
 -- Frame give

@@ -7,7 +7,7 @@ ghost use Rattle.bc_pins.specs.Key.{Key};
 ghost use Rattle.bc_pins.specs.Totals.{total, times};
 ghost use Rattle.bc_pins.specs.Facts.{Table};
 ghost use Rattle.bc_pins.specs.InUse.{HasFewFramesInUse};
-ghost use Rattle.bc_pins.specs.Owing.{queued_bit, IsGray, IsResident};
+ghost use Rattle.bc_pins.specs.Owing.{queued_bit, IsGrayCell, IsResident};
 ghost use Rattle.bc_pins.specs.Rule.{Rule, Ruled};
 
 /// Law: at every moment of a turn at most as many frames are in use, by pages in memory or in a seat's hands and by frame rights in
@@ -21,5 +21,5 @@ pub fn law_frames_in_use()
 /// its queue bit set, or a seat owes it: it cleared that bit or won a mark there, and neither set the bit nor saw since that nothing is
 /// left. This holds of every table that keeps its rule, and each does between any two steps, whoever makes them.
 pub fn law_gray_pages()
-    ensures owed { (k : Key) → (s : Table) → Ruled k s → k.lanes ≡ false → (a : ℕ) → IsGray k s a → IsResident s (page_of a) → 0 < queued_bit k s (page_of a) + total (λ (v : View). times (page_of a) v.owed) s.views }
+    ensures owed { (k : Key) → (s : Table) → Ruled k s → k.lanes ≡ false → (a : ℕ) → IsGrayCell k s a → IsResident s (page_of a) → 0 < queued_bit k s (page_of a) + total (λ (v : View). times (page_of a) v.owed) s.views }
 {}

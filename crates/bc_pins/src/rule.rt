@@ -119,9 +119,9 @@ impl Play<Lodged, View> for SeeQueue {
 pub struct SettlePages;
 
 impl Play<Lodged, View> for SettlePages {
-    ghost use Rattle.bc_pins.specs.Steps.{Settled};
+    ghost use Rattle.bc_pins.specs.Steps.{SettledPages};
 
-    ghost then = { Settled };
+    ghost then = { SettledPages };
 }
 
 /// Rights to frames are given up.

@@ -1,4 +1,4 @@
-use Rattle.std.proofs.Common.{◌<◌, inl, inr, sym, subst, arith}
+use Rattle.std.proofs.Common.{inl, inr, sym, subst, arith}
 use Rattle.std.proofs.lemmas.Bool.{cases_eq}
 use Rattle.bc_pins.proofs.FillLemmas.{IsFinishedWord, none_gray, all_queued}
 use Rattle.bc_pins.proofs.filling.queue_word.Goals as goal
