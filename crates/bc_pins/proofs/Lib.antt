@@ -34,7 +34,7 @@ pub mod HeldLemmas
 pub mod OpenLemmas
 -- What a table leaves when it is closed.
 pub mod CloseLemmas
--- Words that are added one by one
+-- Words that are added
 pub mod FillLemmas
 -- Items that are replaced or added one by one
 pub mod LodgeLemmas

@@ -1,6 +1,6 @@
 //! The words of a table at its opening.
 
-ghost use Rattle.std.specs.Prelude.{◌≡◌, ◌+◌, ◌*◌, ◌/◌, ◌%◌, ◌^◌, ◌<◌, ◌≤◌, if◌then◌else◌, nat_lt, [], length, slice_index, slice_index_or, vec_capacity};
+ghost use Rattle.std.specs.Prelude.{◌≡◌, ℕ, ◌+◌, ◌*◌, ◌/◌, ◌%◌, ◌^◌, ◌<◌, ◌≤◌, ◌++◌, [], length, slice_index, slice_index_or, vec_capacity};
 ghost use Rattle.bc_superpages.specs.Headers.{unused_header};
 ghost use Rattle.bc_superpages.specs.declared.headers.PageState.TheVariants.{Absent};
 ghost use Rattle.bc_pins.specs.Views.{state_word};
@@ -23,28 +23,38 @@ pub(crate) enum CellSet {
     Finished,
 }
 
-/// A word of a set of the header.
-fn set_word(header: &Header, set: CellSet, word: usize) -> u64
-    requires { word < 16 }
-    ensures word { result ≡ slice_index (set_in set header.now) word }
+/// The words of a set of the header.
+fn set_words(header: &Header, set: CellSet) -> &[u64; 16]
+    ensures words { result.now ≡ set_in set header.now }
 {
     match set {
-        CellSet::Bookmarks => header.bookmarks[word],
-        CellSet::Marks => header.marks[word],
-        CellSet::Finished => header.finished[word],
+        CellSet::Bookmarks => &header.bookmarks,
+        CellSet::Marks => &header.marks,
+        CellSet::Finished => &header.finished,
     }
 }
 
-/// A word of those of a superpage's pages: the word of a page, or one that nobody uses.
-fn page_word(header: &Header, place: usize) -> u64
-    requires { place < 16 }
-    ensures word { result ≡ (if nat_lt place 4 then state_word (slice_index_or header.now.pages place Absent) else 0) }
+/// The words of a superpage's pages, and after them words that nobody uses.
+fn page_words(header: &Header) -> [u64; 16]
+    ensures pages { (i : ℕ) → i < 4 → slice_index result i ≡ state_word (slice_index_or header.now.pages i Absent) }
 {
-    if place < PAGES {
-        word_of(header.pages[place])
-    } else {
-        0
+    let mut words = [0; PAGE_ENTRIES];
+    for place in 0..PAGES {
+        words[place] = word_of(header.pages[place]);
     }
+    words
+}
+
+/// Adds sixteen words, for which there is room.
+fn push_block(words: &mut Vec<u64>, block: &[u64; 16])
+    requires room { length words.old.items + 16 ≤ vec_capacity words.old }
+    ensures items { words.new.items ≡ words.old.items ++ block.now }
+    ensures long { length words.new.items ≡ length words.old.items + 16 }
+    ensures room { vec_capacity words.old ≤ vec_capacity words.new }
+{
+    let Ok(()) = words.extend_from_slice(block) else {
+        unreachable!()
+    };
 }
 
 /// Adds the words of the pages of so many superpages.
@@ -53,10 +63,10 @@ pub(crate) fn push_states(words: &mut Vec<u64>, headers: &[Header], superpages: 
     requires few { superpages ≤ 4096 }
     requires room { length words.old.items + 16 * superpages ≤ vec_capacity words.old }
     ensures added { AddsStates headers.now words.old.items words.new.items superpages }
-    ensures room { vec_capacity words.new ≡ vec_capacity words.old }
+    ensures room { vec_capacity words.old ≤ vec_capacity words.new }
 {
-    for entry in 0..PAGE_ENTRIES * superpages {
-        words.push_reserved(page_word(&headers[entry / PAGE_ENTRIES], entry % PAGE_ENTRIES));
+    for superpage in 0..superpages {
+        push_block(words, &page_words(&headers[superpage]));
     }
 }
 
@@ -78,10 +88,10 @@ pub(crate) fn push_sets(words: &mut Vec<u64>, headers: &[Header], superpages: us
     requires few { superpages ≤ 4096 }
     requires room { length words.old.items + 16 * superpages ≤ vec_capacity words.old }
     ensures added { Extends words.old.items words.new.items (16 * superpages) (λ w. slice_index (set_in set (slice_index_or headers.now (w / 16) unused_header)) (w % 16)) }
-    ensures room { vec_capacity words.new ≡ vec_capacity words.old }
+    ensures room { vec_capacity words.old ≤ vec_capacity words.new }
 {
-    for word in 0..SET_WORDS * superpages {
-        words.push_reserved(set_word(&headers[word / SET_WORDS], set, word % SET_WORDS));
+    for superpage in 0..superpages {
+        push_block(words, set_words(&headers[superpage], set));
     }
 }
 

@@ -1,8 +1,9 @@
-use Rattle.std.proofs.Common.{◌≡◌, ◌≤◌, length, vec_capacity, ap, subst, arith}
+use Rattle.std.proofs.Common.{◌≡◌, ◌≤◌, ◌∙◌, Bool, List, length, vec_capacity, ap, sym, subst, arith}
 use Rattle.bc_pins.specs.declared.key.Turn.{Turn}
 use Rattle.bc_pins.specs.declared.key.Turn.TheVariants.{Mark}
-use Rattle.bc_pins.specs.Key.{table_words}
-use Rattle.bc_pins.proofs.FillLemmas.{words_at_least}
+use Rattle.bc_pins.specs.Filling.{AddsFrames}
+use Rattle.bc_pins.specs.Key.{frame_words, is_lanes, table_words}
+use Rattle.bc_pins.proofs.FillLemmas.{filled_marks, words_at_least}
 use Rattle.bc_pins.proofs.filling.fill_words.Goals as goal
 
 pub push_states-requires-clause-room : goal.push_states-requires-clause-room
@@ -82,3 +83,14 @@ fill_marks-requires-clause-room c =
     let fit = c.push_frames.ensures.room in
     let most = c.push_zeros.ensures.room in
     omega arith
+
+pub returns-in-Mark : goal.returns-in-Mark
+returns-in-Mark c = record {
+  filled = λ k sized.
+      let count = c.frames-frames.ensures.count in
+      let words = c.bit_words.ensures in
+      let all = sized.all in
+      let framed : c.bit_words.result ≡ frame_words k = omega arith in
+      filled_marks k _ _ c.bit_words.result _ _ _ _ _ _ _ (ap length c.requires.none) sized.supers (sized.lanes ∙ ap is_lanes c.in-Mark.is) framed c.push_states.ensures.added c.push_counters.ensures.added c.push_sets.ensures.added
+      (subst (λ (flags : List Bool). AddsFrames flags c.push_sets.new.words.items c.push_frames.new.words.items c.bit_words.result) (sym sized.pool) c.push_frames.ensures.added) c.push_zeros.ensures.added c.fill_marks.ensures.filled;
+}
