@@ -2,7 +2,7 @@
 
 ghost use Rattle.std.specs.Prelude.{◌≡◌, ◌≤◌};
 
-use crate::shapes::{FIELDS, HEADS, LISTS, Plan, Shape, setup_for, slot};
+use crate::shapes::{FIELDS, HEADS, LISTS, Plan, SUPERPAGE_OBJECTS, Shape, setup_for, slot};
 use anyhow::{Result, bail};
 use bc_failsafe::Need;
 use bc_model::{Op, Reply};
@@ -99,19 +99,30 @@ where
     Ok(workshop)
 }
 
+/// Adds the object of this number to a tree of which each object has so many others. Those of lower numbers are there, and the one before it
+/// was added last.
+fn add_to_tree<R>(rt: &R, mut workshop: Workshop, fan: u32, object: u32) -> Result<Workshop>
+where
+    R: AllocGlobal + Threads + Sync,
+{
+    if object == 0 {
+        return act(rt, workshop, Op::New(slot(HEADS), FIELDS));
+    }
+    let field = field_of(object, fan);
+    if field == 0 {
+        workshop = find(rt, workshop, fan, above(object, fan), FROM)?;
+    }
+    workshop = act(rt, workshop, Op::New(slot(NEW), FIELDS))?;
+    act(rt, workshop, Op::Link(slot(FROM), field, slot(NEW)))
+}
+
 /// A tree of which each object has so many others, in the order of their numbers.
 fn grow_tree<R>(rt: &R, mut workshop: Workshop, fan: u32, objects: u32) -> Result<Workshop>
 where
     R: AllocGlobal + Threads + Sync,
 {
-    workshop = act(rt, workshop, Op::New(slot(HEADS), FIELDS))?;
-    for object in 1..objects {
-        let field = field_of(object, fan);
-        if field == 0 {
-            workshop = find(rt, workshop, fan, above(object, fan), FROM)?;
-        }
-        workshop = act(rt, workshop, Op::New(slot(NEW), FIELDS))?;
-        workshop = act(rt, workshop, Op::Link(slot(FROM), field, slot(NEW)))?;
+    for object in 0..objects {
+        workshop = add_to_tree(rt, workshop, fan, object)?;
     }
     Ok(workshop)
 }
@@ -141,17 +152,44 @@ where
     Ok(workshop)
 }
 
+/// Puts a new object before the list in this slot.
+fn add_to_list<R>(rt: &R, mut workshop: Workshop, head: u32) -> Result<Workshop>
+where
+    R: AllocGlobal + Threads + Sync,
+{
+    workshop = act(rt, workshop, Op::New(slot(NEW), FIELDS))?;
+    workshop = act(rt, workshop, Op::Link(slot(NEW), 0, slot(head)))?;
+    act(rt, workshop, Op::Copy(slot(NEW), slot(head)))
+}
+
 /// So many lists, whose objects lie mixed.
 fn grow_lists<R>(rt: &R, mut workshop: Workshop, lists: u32, objects: u32) -> Result<Workshop>
 where
     R: AllocGlobal + Threads + Sync,
 {
     for object in 0..objects {
-        let head = slot(HEADS.saturating_add(object.checked_rem(lists).unwrap_or(0)));
-        workshop = act(rt, workshop, Op::New(slot(NEW), FIELDS))?;
-        workshop = act(rt, workshop, Op::Link(slot(NEW), 0, head))?;
-        workshop = act(rt, workshop, Op::Copy(slot(NEW), head))?;
+        let list = object.checked_rem(lists).unwrap_or(0);
+        workshop = add_to_list(rt, workshop, HEADS.saturating_add(list))?;
     }
+    Ok(workshop)
+}
+
+/// A tree of seven on the superpages with numbers that four divides, and on the others a list, which is dropped.
+fn grow_skewed<R>(rt: &R, mut workshop: Workshop, objects: u32) -> Result<Workshop>
+where
+    R: AllocGlobal + Threads + Sync,
+{
+    let list = HEADS + 1;
+    let mut grown: u32 = 0;
+    for object in 0..objects {
+        if object / SUPERPAGE_OBJECTS % 4 == 0 {
+            workshop = add_to_tree(rt, workshop, FIELDS, grown)?;
+            grown = grown.saturating_add(1);
+        } else {
+            workshop = add_to_list(rt, workshop, list)?;
+        }
+    }
+    workshop = act(rt, workshop, Op::Clear(slot(list)))?;
     Ok(workshop)
 }
 
@@ -171,6 +209,7 @@ where
         }
         Shape::Lists => grow_lists(rt, workshop, LISTS, objects)?,
         Shape::List => grow_lists(rt, workshop, 1, objects)?,
+        Shape::Skewed => grow_skewed(rt, workshop, objects)?,
     };
     for work in [NEW, FROM, TO] {
         workshop = act(rt, workshop, Op::Clear(slot(work)))?;

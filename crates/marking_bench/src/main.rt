@@ -1,14 +1,15 @@
 // How long a bookmark collection takes with several markers: a program for `bench/marking`, and no part of the collector.
 //
-// It makes a heap that is live from end to end, with an empty nursery, and collects it again and again. It prints a line for each way to
+// It makes a heap that is live from end to end (but for `skewed`), with an empty nursery, and collects it again and again. It prints a line for each way to
 // collect it, of words `key=value`, with the objects in cells and the pages that are gone afterwards:
 //
 //     shape=wide superpages=2 way=tables workers=2 objects=512 gone=0
 //
-// A heap has as many objects of seven fields as fill so many superpages. Its shape is a tree of which each object has seven others
+// A heap gets as many objects of seven fields as fill so many superpages. Its shape is a tree of which each object has seven others
 // (`wide`); a tree of five, and from each object two references to others drawn at random (`random`); or lists, of which the objects lie
-// mixed (`lists` for 64, `list` for one). Where `gone` is 1, every second page is evicted before. The ways are `plain`, marks made on one
-// thread without a table; `tables`, mark turns at a table whatever they cost; and `paced`, as the collector chooses. All objects stay, so
+// mixed (`lists` for 64, `list` for one); or a tree of seven that lies on every fourth superpage (`skewed`), so that one worker of four has
+// it all in its share. Where `gone` is 1, every second page is evicted before. The ways are `plain`, marks made on one
+// thread without a table; `tables`, mark turns at a table whatever they cost; and `paced`, as the collector chooses. What is live stays, so
 // each collection finds the same heap. The least time of so many collections goes to standard error, by the clock and by the processor
 // time of all threads, in nanoseconds, with the same words before it.
 //
@@ -46,6 +47,7 @@ fn shape_of(word: &str) -> Result<Shape> {
         "random" => Ok(Shape::Random),
         "lists" => Ok(Shape::Lists),
         "list" => Ok(Shape::List),
+        "skewed" => Ok(Shape::Skewed),
         _ => bail!("no such shape"),
     }
 }

@@ -13,6 +13,9 @@ const CELL_WORDS: u32 = 8;
 /// The words of a superpage.
 const SUPERPAGE_WORDS: u32 = 2048;
 
+/// How many objects fill a superpage.
+pub(crate) const SUPERPAGE_OBJECTS: u32 = SUPERPAGE_WORDS / CELL_WORDS;
+
 /// The pages of the nursery.
 const NURSERY: u32 = 16;
 
@@ -32,6 +35,8 @@ pub(crate) enum Shape {
     Lists,
     /// One list.
     List,
+    /// A tree of which each object has seven others, on every fourth superpage. What lies on the others is dropped before the first collection.
+    Skewed,
 }
 
 impl Shape {
@@ -42,6 +47,7 @@ impl Shape {
             Shape::Random => "random",
             Shape::Lists => "lists",
             Shape::List => "list",
+            Shape::Skewed => "skewed",
         }
     }
 }
@@ -57,7 +63,7 @@ pub(crate) struct Plan {
 impl Plan {
     /// How many objects it has.
     pub(crate) fn objects(&self) -> u32 {
-        self.superpages.saturating_mul(SUPERPAGE_WORDS / CELL_WORDS)
+        self.superpages.saturating_mul(SUPERPAGE_OBJECTS)
     }
 }
 
