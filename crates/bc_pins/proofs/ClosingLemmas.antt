@@ -603,12 +603,12 @@ module _ (id : TableId) (k : Key) (all : List Seat) (root : Worker Lodged View) 
     }
 
 -- it is known from what each step of a closing says
-pub ended_from : (id : TableId) (k : Key) (all : List Seat) (root : Worker Lodged View) (r : RestView) (whole parts : SpaceParts) (n : ℕ) (ws told : List ℕ) (xs out : List Lodged) (middle headers : List Header) (sup start : ℕ) (now : List Bool) (st : StoreView) (boxes : List (Option Homed)) (places : List (Option (List ℕ)))
+pub ended_from : (id : TableId) (k : Key) (all : List Seat) (root : Worker Lodged View) (r : RestView) (whole parts : SpaceParts) (n : ℕ) (ws : List ℕ) (xs : List Lodged) (middle headers : List Header) (sup start : ℕ) (now : List Bool) (st : StoreView) (boxes : List (Option Homed)) (places : List (Option (List ℕ)))
     → whole ≡ r.whole → n ≡ r.pages → IsRest whole parts n → r.pages ≡ pages_of k → parts_layout r.whole ≡ k.opening → r.whole.pool ≡ k.pool → r.whole.nursery.items ≡ k.nursery → k.frames ≡ length k.pool
-    → Gathered id k all [] root → Final (Seen (Ruled k) root.id root.me.0) ws xs → told ≡ ws → out ≡ xs → StatesSet parts.headers.items middle n told → sup ≡ k.supers → SummariesSet middle headers sup told → start ≡ frame_at k 0 → PoolSet parts.pool now (length parts.pool) start told → st.places ≡ parts.store.places
-    → Replaced None parts.boxes.items boxes n (λ p. box_of (get_or out (home_slot p) Nothing)) → Replaced None st.places places n (λ p. place_of (get_or out (home_slot p + 4) Nothing))
+    → Gathered id k all [] root → Final (Seen (Ruled k) root.id root.me.0) ws xs → StatesSet parts.headers.items middle n ws → sup ≡ k.supers → SummariesSet middle headers sup ws → start ≡ frame_at k 0 → PoolSet parts.pool now (length parts.pool) start ws → st.places ≡ parts.store.places
+    → Replaced None parts.boxes.items boxes n (λ p. box_of (get_or xs (home_slot p) Nothing)) → Replaced None st.places places n (λ p. place_of (get_or xs (home_slot p + 4) Nothing))
     → Ended id k all root whole parts ws xs headers boxes places now
-ended_from id k all root r whole parts n ws told xs out middle headers sup start now st boxes places is count rest paged layout pool nursery frames gathered final words slots set supers summed starts freed stored box place =
+ended_from id k all root r whole parts n ws xs middle headers sup start now st boxes places is count rest paged layout pool nursery frames gathered final set supers summed starts freed stored box place =
     let size : n ≡ pages_of k = count ∙ paged in
     let rest_now : IsRest whole parts (pages_of k) = subst (IsRest whole parts) size rest in
     record {
@@ -621,15 +621,13 @@ ended_from id k all root r whole parts n ws told xs out middle headers sup start
       closed = gathered_ends id k all root ws xs gathered final;
       states_are = headers_set k whole.headers.items middle headers ws
           (subst (λ (hs : List Header). StatesSet hs middle (pages_of k) ws) rest_now.emptied.headers
-          (subst (λ (m : ℕ). StatesSet parts.headers.items middle m ws) size (subst (StatesSet parts.headers.items middle n) words set)))
-          (subst (λ (m : ℕ). SummariesSet middle headers m ws) supers (subst (SummariesSet middle headers sup) words summed));
+          (subst (λ (m : ℕ). StatesSet parts.headers.items middle m ws) size set))
+          (subst (λ (m : ℕ). SummariesSet middle headers m ws) supers summed);
       pool_set = subst (λ (l : List Bool). PoolSet l now (length l) (frame_at k 0) ws) rest_now.emptied.pool
-          (subst (λ (i : ℕ). PoolSet parts.pool now (length parts.pool) i ws) starts (subst (PoolSet parts.pool now (length parts.pool) start) words freed));
-      box = subst (λ (m : ℕ). Replaced None parts.boxes.items boxes m (λ p. box_of (get_or xs (home_slot p) Nothing))) size
-          (subst (λ (l : List Lodged). Replaced None parts.boxes.items boxes n (λ p. box_of (get_or l (home_slot p) Nothing))) slots box);
+          (subst (λ (i : ℕ). PoolSet parts.pool now (length parts.pool) i ws) starts freed);
+      box = subst (λ (m : ℕ). Replaced None parts.boxes.items boxes m (λ p. box_of (get_or xs (home_slot p) Nothing))) size box;
       place = subst (λ (m : ℕ). Replaced None parts.store.places places m (λ p. place_of (get_or xs (home_slot p + 4) Nothing))) size
-          (subst (λ (l : List Lodged). Replaced None parts.store.places places n (λ p. place_of (get_or l (home_slot p + 4) Nothing))) slots
-          (subst (λ (o : List (Option (List ℕ))). Replaced None o places n (λ p. place_of (get_or out (home_slot p + 4) Nothing))) stored place));
+          (subst (λ (o : List (Option (List ℕ))). Replaced None o places n (λ p. place_of (get_or xs (home_slot p + 4) Nothing))) stored place);
     }
 
 -- and with marks

@@ -86,8 +86,8 @@ pub mod DrawLemmas
 pub mod GatherLemmas
 -- A seat into which others are joined while the table goes on
 pub mod JoiningLemmas
--- Slots that are taken out one by one, and states that are written one by one.
-pub mod DrainLemmas
+-- Words that are read, and states that are written one by one.
+pub mod StateLemmas
 -- Boxes that come out of slots
 pub mod BoxLemmas
 -- Frames that are given back to the pool

@@ -1,5 +1,5 @@
 -- Items that are replaced or added one by one.
-use Rattle.std.proofs.Common.{◌≡◌, ℕ, ◌+◌, ◌*◌, ◌/◌, ◌%◌, ◌<◌, ◌≤◌, Option, None, List, [], ◌∷◌, ◌++◌, length, get_or, set, inl, inr, refl, ap, sym, ◌∙◌, arith, length-append, get_or-set_same, get_or-set_other}
+use Rattle.std.proofs.Common.{◌≡◌, ℕ, ◌+◌, ◌*◌, ◌/◌, ◌%◌, ◌<◌, ◌≤◌, ◌≢◌, Bool, false, Option, None, List, [], ◌∷◌, ◌++◌, length, get_or, set, inl, inr, refl, ap, sym, ◌∙◌, arith, length-append, get_or-set_same, get_or-set_other}
 use Prim.Native.Nat.{zero, suc}
 use Rattle.std.proofs.lemmas.Bool.{cases_eq}
 use Rattle.std.proofs.lemmas.List.{length-set}
@@ -101,3 +101,16 @@ out_boxes bs cs ps qs slots n four o = record { long = o.boxes_long; near = λ p
 
 pub out_places : (bs cs : List (Option Homed)) (ps qs : List (Option (List ℕ))) (slots : List Lodged) (n : ℕ) → n % 4 ≡ 0 → AreOut bs ps cs qs slots (2 * n) → Replaced None ps qs n (λ p. None)
 out_places bs cs ps qs slots n four o = record { long = o.places_long; near = λ p lt. o.place_out p (omega arith); far = λ p le. o.place_left p (omega arith) }
+
+-- two slots of a list that are emptied, one after the other
+module _ (was one two : List Bool) (i j : ℕ) (first : one ≡ set was i false) (second : two ≡ set one j false) where
+  pub slot_else : (k : ℕ) → k ≢ i → k ≢ j → get_or two k false ≡ get_or was k false
+  slot_else k a b = ap (λ (l : List Bool). get_or l k false) second ∙ get_or-set_other one j k false false b ∙ ap (λ (l : List Bool). get_or l k false) first ∙ get_or-set_other was i k false false a
+
+  pub slot_one : i < length was → i ≢ j → get_or two i false ≡ false
+  slot_one lt ne = ap (λ (l : List Bool). get_or l i false) second ∙ get_or-set_other one j i false false ne ∙ ap (λ (l : List Bool). get_or l i false) first ∙ get_or-set_same was i false false lt
+
+  pub slot_two : j < length was → get_or two j false ≡ false
+  slot_two lt =
+      let same : length one ≡ length was = ap length first ∙ length-set was i false in
+      ap (λ (l : List Bool). get_or l j false) second ∙ get_or-set_same one j false false (omega arith)

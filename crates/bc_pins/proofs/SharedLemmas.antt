@@ -12,9 +12,6 @@ use Rattle.bc_pins.specs.contracts.views.Lodged as Lodged
 lodged_send : IsSend Lodged.the_row
 lodged_send = search (sendable, crosses) depth 20
 
-lodged_sync : IsSync Lodged.the_row
-lodged_sync = search (sendable, crosses) depth 20
-
 inside_sync : IsSync Inside.the_row
 inside_sync = declared_sync Inside.the_type (search (parts.the_sync) depth 4, (search (sendable, crosses) depth 8, (search sendable, tt)))
 
@@ -23,4 +20,4 @@ rest_sync = search (sendable, inside_sync) depth 8
 
 -- for a caller that shares a table by threads: a search of the whole type gives up
 pub pins_sync : IsSync Row.the_row
-pins_sync = declared_sync Row.the_type (search (sendable, crosses, table.the_sync, lodged_send) depth 20, (rest_sync, (search sendable, (search sendable, (search sendable, (search (sendable, crosses, lodged_sync) depth 20, tt))))))
+pins_sync = declared_sync Row.the_type (search (sendable, crosses, table.the_sync, lodged_send) depth 20, (rest_sync, (search sendable, (search sendable, (search sendable, tt)))))

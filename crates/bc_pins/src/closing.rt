@@ -7,7 +7,7 @@ ghost use Rattle.bc_superpages.specs.Parts.{AreParts, parts_layout};
 ghost use Rattle.bc_pins.specs.Key.{is_lanes};
 ghost use Rattle.bc_pins.specs.Closing.{AreBack, Closed, ClosedMarks, HaveClaimed, LaidSpace};
 
-use crate::gathering::{drain, lay_marks, put_frames, set_states, set_summaries, unite_all};
+use crate::gathering::{lay_marks, put_frames, set_states, set_summaries, unite_all};
 use crate::key::{Turn, frame_entry, mark_entry};
 use crate::pins::{Pins, Seat};
 use crate::rest::{Rest, put_boxes_back};
@@ -30,7 +30,6 @@ impl Pins {
             superpages,
             turn,
             frame_words,
-            spare: mut slots,
         } = self;
         let Rest {
             mut parts,
@@ -39,11 +38,10 @@ impl Pins {
         } = rest;
         let root = unite_all(&table.shared, seats, &mut parts.store);
         let mut closed = table.close_with(root);
-        drain(&mut closed, &mut slots);
         set_states(&mut parts.headers, &closed, pages);
         set_summaries(&mut parts.headers, &closed, superpages);
         put_frames(&mut parts.pool, &closed, frame_entry(0, superpages));
-        put_boxes_back(&mut parts, pages, slots);
+        put_boxes_back(&mut parts, pages, &mut closed);
         let start = mark_entry(0, superpages, frame_words as usize);
         put_together(parts, closed, superpages, start, turn)
     }

@@ -1,9 +1,9 @@
-//! All seats joined into one, and all slots taken out of a table that is closed.
+//! All seats joined into one, and what the words of a table that is closed say of headers and frames.
 
-ghost use Rattle.std.specs.Prelude.{◌≡◌, ℕ, ◌+◌, ◌-◌, ◌*◌, ◌/◌, ◌%◌, ◌^◌, ◌<◌, ◌≤◌, ◌≢◌, ◌==◌, false, [], length, min, slice_index, slice_index_or, vec_capacity};
+ghost use Rattle.std.specs.Prelude.{◌≡◌, ℕ, ◌+◌, ◌-◌, ◌*◌, ◌/◌, ◌%◌, ◌^◌, ◌<◌, ◌≤◌, ◌≢◌, ◌==◌, [], length, min, slice_index, slice_index_or};
 ghost use Rattle.std.specs.Int.{bit_at};
 ghost use Rattle.bc_frames.specs.Pool.{is_free};
-ghost use Rattle.core.specs.Mem.Slots.{slots_items, slots_filled, slots_len, IsFull};
+ghost use Rattle.core.specs.Mem.Slots.{slots_items, slots_len, IsFull};
 ghost use Rattle.bc_superpages.specs.Headers.{unused_header};
 ghost use Rattle.bc_superpages.specs.Kept.{IsCellSet};
 ghost use Rattle.bc_superpages.specs.Parts.{AreParts};
@@ -57,20 +57,6 @@ fn let_go(seat: Seat, store: &mut Store) -> Worker
     } = seat;
     store.count(opens);
     inner
-}
-
-/// Takes all values out of the slots, in their order.
-pub(crate) fn drain(closed: &mut Closed<Lodged, Global>, into: &mut Vec<Lodged>)
-    requires full { IsFull closed.old.slots }
-    requires none { into.old.items ≡ [] }
-    requires room { slots_len closed.old.slots ≤ vec_capacity into.old }
-    ensures items { into.new.items ≡ slots_items closed.old.slots }
-    ensures words { closed.new.words ≡ closed.old.words }
-    ensures emptied { (k : ℕ) → k < slots_len closed.new.slots → slice_index_or (slots_filled closed.new.slots) k false ≡ false }
-{
-    for slot in 0..closed.slot_count() {
-        into.push_reserved(closed.take(slot));
-    }
 }
 
 /// Writes into the headers what the words of so many pages say.

@@ -1,6 +1,7 @@
 //! Boxes that move from a space's lists into the slots of a table, and back.
 
-ghost use Rattle.std.specs.Prelude.{◌≡◌, ℕ, ◌+◌, ◌*◌, ◌%◌, ◌^◌, ◌<◌, ◌≤◌, [], Option, Some, None, length, slice_index_or, slice_set, vec_capacity};
+ghost use Rattle.std.specs.Prelude.{◌≡◌, ℕ, ◌+◌, ◌*◌, ◌%◌, ◌^◌, ◌<◌, ◌≤◌, [], Option, Some, None, false, length, slice_index_or, slice_set, vec_capacity};
+ghost use Rattle.core.specs.Mem.Slots.{slots_items, slots_filled, slots_len, IsFull};
 ghost use Rattle.bc_frames.specs.Places.{place_at};
 ghost use Rattle.bc_pins.specs.declared.views.Lodged.TheVariants.{Nothing};
 ghost use Rattle.bc_pins.specs.Key.{home_slot};
@@ -8,8 +9,10 @@ ghost use Rattle.bc_pins.specs.Lodging.{Replaced, AreOut, LiesOnce, home_of, awa
 
 use crate::key::{PAGE_SLOTS, PAGES, home_entry, store_entry};
 use crate::views::Lodged;
+use atomic_table::Closed;
 use bc_frames::Store;
 use bc_superpages::Homed;
+use std::alloc::Global;
 use std::mem;
 
 /// What a box becomes in a frame slot.
@@ -109,6 +112,29 @@ pub(crate) fn put_all_back(
         let slot = home_entry(page);
         let frame = mem::replace(&mut slots[slot], Lodged::Nothing);
         let away = mem::replace(&mut slots[store_entry(page)], Lodged::Nothing);
+        put_back(boxes, store, page, frame, away);
+    }
+}
+
+/// Puts all boxes back, out of the slots of a table that is closed.
+pub(crate) fn take_all_back(
+    boxes: &mut Vec<Option<Homed>>,
+    store: &mut Store,
+    pages: usize,
+    closed: &mut Closed<Lodged, Global>,
+)
+    requires pages { (pages ≤ length boxes.old.items) × (pages ≤ length store.old.places) × (pages < 2 ^ 32) × (pages % 4 ≡ 0) }
+    requires slots { IsFull closed.old.slots × (slots_len closed.old.slots ≡ pages + pages) }
+    requires empty { (p : ℕ) → p < pages → place_at store.old p ≡ None }
+    ensures boxes { Replaced None boxes.old.items boxes.new.items pages (λ p. box_of (slice_index_or (slots_items closed.old.slots) (home_slot p) Nothing)) }
+    ensures store { store.new ≡ record store.old { places = store.new.places } }
+    ensures places { Replaced None store.old.places store.new.places pages (λ p. place_of (slice_index_or (slots_items closed.old.slots) (home_slot p + 4) Nothing)) }
+    ensures words { closed.new.words ≡ closed.old.words }
+    ensures emptied { (k : ℕ) → k < slots_len closed.new.slots → slice_index_or (slots_filled closed.new.slots) k false ≡ false }
+{
+    for page in 0..pages {
+        let frame = closed.take(home_entry(page));
+        let away = closed.take(store_entry(page));
         put_back(boxes, store, page, frame, away);
     }
 }

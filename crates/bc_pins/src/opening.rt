@@ -94,7 +94,6 @@ impl Pins {
         requires drawn { IsKeyOf parts superpages turn room.holders.items room.roles.items about }
         requires words { (room.words.items ≡ []) × (table_words superpages (length parts.pool) turn ≤ vec_capacity room.words) }
         requires slots { (room.slots.items ≡ []) × (8 * superpages ≤ vec_capacity room.slots) }
-        requires spare { (room.spare.items ≡ []) × (8 * superpages ≤ vec_capacity room.spare) }
         requires seats { (seats.items ≡ []) × (length room.roles.items ≤ vec_capacity seats) }
         ensures opened { IfOk result (λ r. Opened about.opening turn room.holders.items room.roles.items r.0 r.1.items) }
         ensures refused { IfErr result (λ e. e.0 ≡ about.opening) }
@@ -102,7 +101,6 @@ impl Pins {
         let Room {
             mut words,
             mut slots,
-            spare,
             holders: _,
             roles,
         } = room;
@@ -130,7 +128,6 @@ impl Pins {
                     superpages,
                     turn,
                     frame_words: bit_words(frames) as u32,
-                    spare,
                 };
                 Ok((pins, seats))
             }

@@ -1,6 +1,6 @@
 //! The table of a turn, and a seat at it.
 
-ghost use Rattle.std.specs.Prelude.{◌≡◌, ℕ, ◌+◌, ◌^◌, ◌<◌, ◌≤◌, false, [], length, vec_capacity};
+ghost use Rattle.std.specs.Prelude.{◌≡◌, ℕ, ◌+◌, ◌^◌, ◌<◌, ◌≤◌, false, length};
 ghost use Rattle.bc_superpages.specs.Layout.{superpages as superpages_of};
 ghost use Rattle.bc_superpages.specs.Parts.{parts_layout};
 ghost use Rattle.bc_pins.specs.Facts.{IsUnheld};
@@ -26,8 +26,6 @@ pub struct Pins {
     pub(crate) superpages: usize,
     pub(crate) turn: Turn,
     pub(crate) frame_words: u32,
-    /// Room for the slots when the table is closed.
-    pub(crate) spare: Vec<Lodged>,
     ghost words: { table.shared.table_id.words ≡ all_words table.shared.key },
     ghost slots: { table.shared.table_id.slots ≡ pages_of table.shared.key + pages_of table.shared.key },
     ghost few: { pages_of table.shared.key < 2 ^ 32 },
@@ -35,7 +33,6 @@ pub struct Pins {
     ghost inside: { table.shared.key.supers ≤ superpages_of table.shared.key.opening },
     ghost turned: { is_lanes turn ≡ table.shared.key.lanes },
     ghost framed: { frame_words ≡ frame_words_of table.shared.key },
-    ghost spared: { (spare.items ≡ []) × (pages_of table.shared.key + pages_of table.shared.key ≤ vec_capacity spare) },
     ghost frames: { table.shared.key.frames ≡ length table.shared.key.pool },
     ghost unheld: { IsUnheld table.shared.key },
     ghost markable: { table.shared.key.lanes ≡ false → IsMarkable table.shared.key.opening },

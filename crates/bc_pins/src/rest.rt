@@ -1,6 +1,7 @@
 //! What is left of a space's parts while its pages are in a table.
 
-ghost use Rattle.std.specs.Prelude.{◌≡◌, ℕ, ◌+◌, ◌*◌, ◌%◌, ◌^◌, ◌<◌, ◌≤◌, [], None, length, slice_index_or, vec_capacity};
+ghost use Rattle.std.specs.Prelude.{◌≡◌, ℕ, ◌+◌, ◌*◌, ◌%◌, ◌^◌, ◌<◌, ◌≤◌, [], None, false, length, slice_index_or, vec_capacity};
+ghost use Rattle.core.specs.Mem.Slots.{slots_items, slots_filled, slots_len, IsFull};
 ghost use Rattle.bc_superpages.specs.Parts.{AreParts};
 ghost use Rattle.bc_frames.specs.Places.{place_at};
 ghost use Rattle.bc_pins.specs.declared.views.Lodged.TheVariants.{Nothing};
@@ -8,9 +9,11 @@ ghost use Rattle.bc_pins.specs.Key.{home_slot};
 ghost use Rattle.bc_pins.specs.Lodging.{Replaced, box_of, place_of};
 ghost use Rattle.bc_pins.specs.Opening.{Emptied, AreLodged, SameParts};
 
-use crate::lodging::{lodge_pages, put_all_back};
+use crate::lodging::{lodge_pages, put_all_back, take_all_back};
 use crate::views::Lodged;
+use atomic_table::Closed;
 use bc_superpages::SpaceParts;
+use std::alloc::Global;
 use std::marker::Model;
 use std::snapshot::Snapshot;
 
@@ -73,14 +76,20 @@ pub(crate) fn restore(
     put_all_back(&mut parts.boxes, &mut parts.store, pages, slots);
 }
 
-/// Puts the boxes of so many pages back into their lists, when the table is closed.
-pub(crate) fn put_boxes_back(parts: &mut SpaceParts, pages: usize, slots: Vec<Lodged>)
+/// Puts the boxes of so many pages back into their lists, out of the slots of the table that is closed.
+pub(crate) fn put_boxes_back(
+    parts: &mut SpaceParts,
+    pages: usize,
+    closed: &mut Closed<Lodged, Global>,
+)
     requires pages { (pages ≤ length parts.old.boxes.items) × (pages ≤ length parts.old.store.places) × (pages < 2 ^ 32) × (pages % 4 ≡ 0) }
-    requires slots { length slots.items ≡ pages + pages }
+    requires slots { IsFull closed.old.slots × (slots_len closed.old.slots ≡ pages + pages) }
     requires empty { (p : ℕ) → p < pages → place_at parts.old.store p ≡ None }
-    ensures boxes { Replaced None parts.old.boxes.items parts.new.boxes.items pages (λ p. box_of (slice_index_or slots.entry.items (home_slot p) Nothing)) }
-    ensures places { Replaced None parts.old.store.places parts.new.store.places pages (λ p. place_of (slice_index_or slots.entry.items (home_slot p + 4) Nothing)) }
+    ensures boxes { Replaced None parts.old.boxes.items parts.new.boxes.items pages (λ p. box_of (slice_index_or (slots_items closed.old.slots) (home_slot p) Nothing)) }
+    ensures places { Replaced None parts.old.store.places parts.new.store.places pages (λ p. place_of (slice_index_or (slots_items closed.old.slots) (home_slot p + 4) Nothing)) }
     ensures same { parts.new ≡ record parts.old { boxes = parts.new.boxes; store = record parts.old.store { places = parts.new.store.places } } }
+    ensures words { closed.new.words ≡ closed.old.words }
+    ensures emptied { (k : ℕ) → k < slots_len closed.new.slots → slice_index_or (slots_filled closed.new.slots) k false ≡ false }
 {
-    put_all_back(&mut parts.boxes, &mut parts.store, pages, slots);
+    take_all_back(&mut parts.boxes, &mut parts.store, pages, closed);
 }

@@ -19,8 +19,6 @@ use std::alloc::{AllocError, Global};
 pub(crate) struct Room {
     pub(crate) words: Vec<u64>,
     pub(crate) slots: Vec<Lodged>,
-    /// For the slots when they come back.
-    pub(crate) spare: Vec<Lodged>,
     pub(crate) holders: Vec<Holder>,
     pub(crate) roles: Vec<Role>,
 }
@@ -35,13 +33,11 @@ pub(crate) fn take_room(
 ) -> Result<Room, AllocError>
     ensures words { IfOk result (λ r. (r.words.items ≡ []) × (words ≤ vec_capacity r.words)) }
     ensures slots { IfOk result (λ r. (r.slots.items ≡ []) × (slots ≤ vec_capacity r.slots)) }
-    ensures spare { IfOk result (λ r. (r.spare.items ≡ []) × (slots ≤ vec_capacity r.spare)) }
     ensures copies { IfOk result (λ r. (r.holders.items ≡ holders.now) × (r.roles.items ≡ roles.now)) }
 {
     Ok(Room {
         words: Vec::with_capacity(alloc, words)?,
         slots: Vec::with_capacity(alloc, slots)?,
-        spare: Vec::with_capacity(alloc, slots)?,
         holders: Vec::from_slice(alloc, holders)?,
         roles: Vec::from_slice(alloc, roles)?,
     })

@@ -4,7 +4,7 @@ use Rattle.std.proofs.lemmas.List.{get_or_default}
 use Rattle.bc_superpages.specs.declared.headers.Header.{Header}
 use Rattle.bc_superpages.specs.Headers.{unused_header}
 use Rattle.bc_pins.specs.Key.{page_at}
-use Rattle.bc_pins.proofs.DrainLemmas.{at_or, states_more}
+use Rattle.bc_pins.proofs.StateLemmas.{at_or, states_more}
 use Rattle.bc_pins.proofs.gathering.set_states.Goals as goal
 
 pub state_of-requires : goal.state_of-requires

@@ -1,8 +1,8 @@
-use Rattle.std.proofs.Common.{◌≡◌, ℕ, ◌+◌, ◌*◌, ◌≤◌, Bool, false, if◌then◌else◌, List, length, get_or, vec_capacity, ap, refl, sym, subst, ◌∙◌, arith}
+use Rattle.std.proofs.Common.{◌≡◌, ◌+◌, ◌*◌, Bool, false, if◌then◌else◌, length, vec_capacity, ap, refl, sym, subst, ◌∙◌, arith}
 use Rattle.core.specs.Mem.Slots.{slots_items, slots_len, IsFull}
 use Rattle.bc_frames.specs.Places.{StoreView}
 use Rattle.bc_superpages.specs.declared.parts.SpaceParts.{SpaceParts}
-use Rattle.bc_pins.specs.Key.{Key, pages_of, page_at, all_words, notice_at}
+use Rattle.bc_pins.specs.Key.{Key, pages_of, all_words, notice_at}
 use Rattle.bc_pins.specs.Resting.{RestView}
 use Rattle.bc_pins.proofs.HeaderLemmas.{sets_are, four_states}
 use Rattle.bc_pins.proofs.ClosingLemmas.{gathered_ends, gathered_claims, words_few, ended_from, ended_parts, ended_space, ended_marks}
@@ -13,8 +13,7 @@ set_states-requires-clause-few c = λ p lt.
     let self = c.args.self in
     let final = c.close_with-closed.ensures.values in
     let count : c.rest.inside.pages ≡ pages_of self.table.shared.key = ap (λ (r : RestView). r.pages) c.rest.view_is ∙ self.paged in
-    subst (λ (l : List ℕ). get_or l (page_at p) 0 ≤ 4) (sym (ap slots_items c.drain.ensures.words))
-    (words_few self.table.shared.key _ _ _ (gathered_ends _ _ _ _ _ _ c.unite_all-root.ensures.gathered final.2) p (omega arith))
+    words_few self.table.shared.key _ _ _ (gathered_ends _ _ _ _ _ _ c.unite_all-root.ensures.gathered final.2) p (omega arith)
 
 pub set_states-requires-clause-long : goal.set_states-requires-clause-long
 set_states-requires-clause-long c = four_states _ _ _ c.rest.invariant
@@ -26,8 +25,7 @@ set_summaries-requires-clause-words c =
     let size = c.close_with-closed.ensures.counts.0 in
     let all = self.words in
     let many = self.counted in
-    let same = ap slots_len c.drain.ensures.words in
-    (subst IsFull (sym c.drain.ensures.words) full, omega arith)
+    (full, omega arith)
 
 pub set_summaries-requires-clause-sets : goal.set_summaries-requires-clause-sets
 set_summaries-requires-clause-sets c =
@@ -43,12 +41,11 @@ put_frames-requires-clause-words c =
     let size = c.close_with-closed.ensures.counts.0 in
     let all = self.words in
     let many = self.counted in
-    let same = ap slots_len c.drain.ensures.words in
     let pool : length c.rest.inside.parts.pool ≡ length self.table.shared.key.pool =
     ap length (c.rest.invariant.emptied.pool ∙ ap (λ (r : RestView). r.whole.pool) c.rest.view_is ∙ self.pooled) in
     let frames = self.frames in
     let start = c.frame_entry.ensures in
-    (subst IsFull (sym c.drain.ensures.words) full, omega arith)
+    (full, omega arith)
 
 pub put_together-requires-clause-kept : goal.put_together-requires-clause-kept
 put_together-requires-clause-kept c =
@@ -58,9 +55,9 @@ put_together-requires-clause-kept c =
     let final = c.close_with-closed.ensures.values in
     let back = c.put_boxes_back.ensures in
     let out = c.rest.invariant.emptied in
-    let ended = ended_from _ _ c.args.seats.items c.unite_all-root.result self.rest inside.whole.value inside.parts inside.pages _ _ _ _ c.set_states.new.headers.items c.set_summaries.new.headers.items _ _ c.put_frames.new.pool c.unite_all-root.new.store c.put_boxes_back.new.parts.boxes.items c.put_boxes_back.new.parts.store.places
+    let ended = ended_from _ _ c.args.seats.items c.unite_all-root.result self.rest inside.whole.value inside.parts inside.pages _ _ c.set_states.new.headers.items c.set_summaries.new.headers.items _ _ c.put_frames.new.pool c.unite_all-root.new.store c.put_boxes_back.new.parts.boxes.items c.put_boxes_back.new.parts.store.places
     (ap (λ (r : RestView). r.whole) c.rest.view_is) (ap (λ (r : RestView). r.pages) c.rest.view_is) c.rest.invariant self.paged self.opened self.pooled self.young self.frames unite.gathered final.2
-    (ap slots_items c.drain.ensures.words) c.drain.ensures.items c.set_states.ensures.set self.counted c.set_summaries.ensures.set (let many = self.counted in let start = c.frame_entry.ensures in omega arith) c.put_frames.ensures.set (ap (λ (s : StoreView). s.places) unite.store) back.boxes back.places in
+    c.set_states.ensures.set self.counted c.set_summaries.ensures.set (let many = self.counted in let start = c.frame_entry.ensures in omega arith) c.put_frames.ensures.set (ap (λ (s : StoreView). s.places) unite.store) back.boxes back.places in
     ended_parts _ _ _ _ _ _ _ _ _ _ _ _ ended _ _ (record {
       headers_are = ap (λ (p : SpaceParts). p.headers.items) back.same;
       boxes_are = refl;
@@ -98,8 +95,8 @@ put_together-requires-clause-words c =
     let many = self.counted in
     let framed = self.framed in
     let entry = c.mark_entry-start.ensures in
-    let same = ap slots_len c.drain.ensures.words in (
-      subst IsFull (sym c.drain.ensures.words) full,
+    let same = ap slots_len c.put_boxes_back.ensures.words in (
+      subst IsFull (sym c.put_boxes_back.ensures.words) full,
       λ mark.
           (let key : Key = self.table.shared.key in
           let turn : key.lanes ≡ false = sym self.turned ∙ mark in
@@ -115,9 +112,9 @@ returns-clause-closed c = λ turn.
     let final = c.close_with-closed.ensures.values in
     let back = c.put_boxes_back.ensures in
     let out = c.rest.invariant.emptied in
-    let ended = ended_from _ _ c.args.seats.items c.unite_all-root.result self.rest inside.whole.value inside.parts inside.pages _ _ _ _ c.set_states.new.headers.items c.set_summaries.new.headers.items _ _ c.put_frames.new.pool c.unite_all-root.new.store c.put_boxes_back.new.parts.boxes.items c.put_boxes_back.new.parts.store.places
+    let ended = ended_from _ _ c.args.seats.items c.unite_all-root.result self.rest inside.whole.value inside.parts inside.pages _ _ c.set_states.new.headers.items c.set_summaries.new.headers.items _ _ c.put_frames.new.pool c.unite_all-root.new.store c.put_boxes_back.new.parts.boxes.items c.put_boxes_back.new.parts.store.places
     (ap (λ (r : RestView). r.whole) c.rest.view_is) (ap (λ (r : RestView). r.pages) c.rest.view_is) c.rest.invariant self.paged self.opened self.pooled self.young self.frames unite.gathered final.2
-    (ap slots_items c.drain.ensures.words) c.drain.ensures.items c.set_states.ensures.set self.counted c.set_summaries.ensures.set (let many = self.counted in let start = c.frame_entry.ensures in omega arith) c.put_frames.ensures.set (ap (λ (s : StoreView). s.places) unite.store) back.boxes back.places in
+    c.set_states.ensures.set self.counted c.set_summaries.ensures.set (let many = self.counted in let start = c.frame_entry.ensures in omega arith) c.put_frames.ensures.set (ap (λ (s : StoreView). s.places) unite.store) back.boxes back.places in
     ended_space _ _ _ _ _ _ _ _ _ _ _ _ ended c.unite_all-root.new.store c.put_boxes_back.new.parts.store c.put_boxes_back.new.parts _ unite.store (ap (λ (p : SpaceParts). p.store) back.same) (record {
       headers_are = ap (λ (p : SpaceParts). p.headers.items) back.same;
       boxes_are = refl;
@@ -137,9 +134,9 @@ returns-clause-marked c = λ turn.
     let final = c.close_with-closed.ensures.values in
     let back = c.put_boxes_back.ensures in
     let out = c.rest.invariant.emptied in
-    let ended = ended_from _ _ c.args.seats.items c.unite_all-root.result self.rest inside.whole.value inside.parts inside.pages _ _ _ _ c.set_states.new.headers.items c.set_summaries.new.headers.items _ _ c.put_frames.new.pool c.unite_all-root.new.store c.put_boxes_back.new.parts.boxes.items c.put_boxes_back.new.parts.store.places
+    let ended = ended_from _ _ c.args.seats.items c.unite_all-root.result self.rest inside.whole.value inside.parts inside.pages _ _ c.set_states.new.headers.items c.set_summaries.new.headers.items _ _ c.put_frames.new.pool c.unite_all-root.new.store c.put_boxes_back.new.parts.boxes.items c.put_boxes_back.new.parts.store.places
     (ap (λ (r : RestView). r.whole) c.rest.view_is) (ap (λ (r : RestView). r.pages) c.rest.view_is) c.rest.invariant self.paged self.opened self.pooled self.young self.frames unite.gathered final.2
-    (ap slots_items c.drain.ensures.words) c.drain.ensures.items c.set_states.ensures.set self.counted c.set_summaries.ensures.set (let many = self.counted in let start = c.frame_entry.ensures in omega arith) c.put_frames.ensures.set (ap (λ (s : StoreView). s.places) unite.store) back.boxes back.places in
+    c.set_states.ensures.set self.counted c.set_summaries.ensures.set (let many = self.counted in let start = c.frame_entry.ensures in omega arith) c.put_frames.ensures.set (ap (λ (s : StoreView). s.places) unite.store) back.boxes back.places in
     ended_marks _ _ _ _ _ _ _ _ _ _ _ _ ended c.unite_all-root.new.store c.put_boxes_back.new.parts.store c.put_boxes_back.new.parts _ _ _ _ unite.store (ap (λ (p : SpaceParts). p.store) back.same) (record {
       headers_are = ap (λ (p : SpaceParts). p.headers.items) back.same;
       boxes_are = refl;
@@ -150,7 +147,7 @@ returns-clause-marked c = λ turn.
       room = ap (λ (p : SpaceParts). vec_capacity p.nursery) back.same ∙ out.room;
       end = ap (λ (p : SpaceParts). p.end) back.same ∙ out.end;
     })
-    turn self.unheld (self.markable turn) (ap slots_items c.drain.ensures.words) self.counted (let entry = c.mark_entry-start.ensures in let many = self.counted in let framed = self.framed in omega arith) (c.put_together.ensures.marks (self.turned ∙ turn))
+    turn self.unheld (self.markable turn) (ap slots_items c.put_boxes_back.ensures.words) self.counted (let entry = c.mark_entry-start.ensures in let many = self.counted in let framed = self.framed in omega arith) (c.put_together.ensures.marks (self.turned ∙ turn))
 
 pub returns-clause-claims : goal.returns-clause-claims
 returns-clause-claims c =

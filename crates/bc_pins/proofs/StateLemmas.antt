@@ -1,5 +1,5 @@
--- Slots that are taken out one by one, and states that are written one by one.
-use Rattle.std.proofs.Common.{◌≡◌, ℕ, ◌+◌, ◌*◌, ◌/◌, ◌%◌, ◌<◌, ◌≢◌, List, [], ◌∷◌, ◌++◌, length, get_or, set, take, inl, inr, ap, sym, subst, ◌∙◌, arith, get_or-set_same, get_or-set_other}
+-- Words that are read, and states that are written one by one.
+use Rattle.std.proofs.Common.{◌≡◌, ℕ, ◌+◌, ◌*◌, ◌/◌, ◌%◌, ◌<◌, ◌≢◌, List, [], ◌∷◌, length, get_or, set, inl, inr, ap, sym, subst, ◌∙◌, arith, get_or-set_same, get_or-set_other}
 use Prim.Native.Nat.{zero, suc}
 use mathlib.Core.Option.{some, some-injective, some-ne-none}
 use lib.ListN.{get_elem?}
@@ -18,14 +18,6 @@ pub at_or : {A : Type 0} (xs : List A) (i : ℕ) (y d : A) → get_elem? xs i �
 at_or [] i y d e = absurd (some-ne-none y (sym e))
 at_or (x ∷ xs) zero y d e = some-injective x y e
 at_or (x ∷ xs) (suc i) y d e = at_or xs i y d e
-
-take_suc : {A : Type 0} (xs : List A) (i : ℕ) (y : A) → get_elem? xs i ≡ some y → take (suc i) xs ≡ take i xs ++ y ∷ []
-take_suc [] i y e = absurd (some-ne-none y (sym e))
-take_suc (x ∷ xs) zero y e = ap (λ z. z ∷ []) (some-injective x y e)
-take_suc (x ∷ xs) (suc i) y e = ap (λ l. x ∷ l) (take_suc xs i y e)
-
-pub take_one : {A : Type 0} (xs : List A) (i : ℕ) (y : A) → get_elem? xs i ≡ some y → take (i + 1) xs ≡ take i xs ++ y ∷ []
-take_one xs i y e = let z : i + 1 ≡ suc i = omega arith in ap (λ (n : ℕ). take n xs) z ∙ take_suc xs i y e
 
 pub state_written : (hs : List Header) (p i : ℕ) (h : Header) (st : PageState) → p / 4 < length hs → h ≡ get_or hs (p / 4) h → length h.pages ≡ 4
     → state_in (set hs (p / 4) (record h { pages = set h.pages (p % 4) st })) p ≡ st
