@@ -60,7 +60,7 @@ use Rattle.bc_pins.specs.Lodging.{Replaced, box_of, place_of}
 use Rattle.bc_pins.specs.Opening.{HasClosed, IsRest}
 use Rattle.bc_pins.specs.Resting.{RestView}
 use Rattle.bc_pins.specs.Calls.{view_of}
-use Rattle.bc_pins.specs.Closing.{Gathered, StatesSet, SummariesSet, HeadersSet, PoolSet, claims_of, fetches_of, HaveClaimed, ClosedState, ClosedBit, Closed, IsOfPageLeft}
+use Rattle.bc_pins.specs.Closing.{Gathered, HeadersBelow, MarksBelow, LaysMarks, HeadersSet, PoolSet, claims_of, fetches_of, HaveClaimed, ClosedState, ClosedBit, Closed, IsOfPageLeft}
 use Rattle.bc_pins.proofs.TallyLemmas.{objects_at, GoneBy, gone_word, tally, none_behind, target_in, set_bit, bit_set, bit_in, in_bit, bit_few, few_bits, number_few}
 use Rattle.bc_pins.proofs.TotalLemmas.{one_is, total_in}
 use Rattle.bc_pins.proofs.WithholdLemmas.{foreign_none}
@@ -69,7 +69,8 @@ use Rattle.bc_pins.proofs.JoinLemmas.{look_none}
 use Rattle.bc_pins.proofs.CloseLemmas.{ends}
 use Rattle.bc_pins.proofs.GatherLemmas.{entries_none}
 use Rattle.bc_pins.proofs.OpenableLemmas.{opened_none, still_openable}
-use Rattle.bc_pins.proofs.HeaderLemmas.{headers_set}
+use Rattle.bc_pins.proofs.HeaderLemmas.{bare, headers_set}
+use Rattle.bc_pins.proofs.LayLemmas.{laid}
 use Rattle.bc_pins.proofs.SpaceLemmas.{content_near, content_far, closed_kept, closed_ends, closed_layout}
 use Rattle.bc_pins.proofs.PageSteps.{sets_marked}
 
@@ -143,6 +144,27 @@ pub record Together (whole : SpaceParts) (headers : List Header) (boxes : List (
   pub room : vec_capacity f.nursery ≡ vec_capacity whole.nursery
   pub end : f.end ≡ whole.end
 
+-- parts with other headers, as many
+abbrev pub with_headers : (f : SpaceParts) (hs : List Header) → length hs ≡ length f.headers.items → SpaceParts
+with_headers f hs size = record f { headers = record f.headers { items = hs; ok = (f.headers.ok.0 ∙ sym size, f.headers.ok.1) } }
+
+pub together_same : (whole : SpaceParts) (headers hs : List Header) (boxes : List (Option Homed)) (places : List (Option (List ℕ))) (now : List Bool) (reads : ℕ) (f : SpaceParts) → headers ≡ hs
+    → Together whole headers boxes places now reads f → Together whole hs boxes places now reads f
+together_same whole headers hs boxes places now reads f same t = subst (λ (l : List Header). Together whole l boxes places now reads f) same t
+
+pub together_with : (whole : SpaceParts) (headers hs : List Header) (boxes : List (Option Homed)) (places : List (Option (List ℕ))) (now : List Bool) (reads : ℕ) (f : SpaceParts) (size : length hs ≡ length f.headers.items)
+    → Together whole headers boxes places now reads f → Together whole hs boxes places now reads (with_headers f hs size)
+together_with whole headers hs boxes places now reads f size t = record {
+  headers_are = refl;
+  boxes_are = t.boxes_are;
+  places_are = t.places_are;
+  reads_are = t.reads_are;
+  pool = t.pool;
+  nursery = t.nursery;
+  room = t.room;
+  end = t.end;
+}
+
 module _ (id : TableId) (k : Key) (all : List Seat) (root : Worker Lodged View) (whole parts : SpaceParts) (words : List ℕ) (slots : List Lodged) (headers : List Header) (boxes : List (Option Homed)) (places : List (Option (List ℕ))) (now : List Bool)
     (e : Ended id k all root whole parts words slots headers boxes places now) where
   abbrev v : View
@@ -155,6 +177,20 @@ module _ (id : TableId) (k : Key) (all : List Seat) (root : Worker Lodged View) 
     blank = rw (t.headers_are, t.end) (λ q le. let near = e.rest.near in (e.states_are.behind q (omega arith)).0 ∙ e.rest.kept.blank q le);
     room = rw (t.pool, t.room, e.pool_set.long) e.rest.kept.room;
   }
+
+  -- headers into which marks were written besides
+  module _ (marked : List Header) (reads : ℕ) (f : SpaceParts) (sup from : ℕ) (told : List ℕ) (within : sup ≤ length headers) (size : length headers ≡ length f.headers.items) (t : Together whole marked boxes places now reads f) where
+    pub ended_laid : MarksBelow headers marked sup sup from told → LaysMarks (with_headers f headers size) f sup from told
+    ended_laid m =
+        laid (with_headers f headers size) f (ended_parts reads (with_headers f headers size) (together_with whole marked headers boxes places now reads f size t)) sup from told within
+        (subst (λ (hs : List Header). MarksBelow headers hs sup sup from told) (sym t.headers_are) m)
+        refl refl refl refl refl refl refl
+
+    pub ended_kept : (lanes : Bool) → (lanes ≡ true → marked ≡ headers) → (lanes ≡ false → MarksBelow headers marked sup sup from told) → AreParts f
+    ended_kept lanes same m = elim (cases_Bool lanes) [
+      | inl on ↦ ended_parts reads f (together_same whole marked headers boxes places now reads f (same on) t)
+      | inr off ↦ (ended_laid (m off)).kept
+    ]
 
   abbrev made : ℕ → Layout
   made reads = record k.opening {
@@ -603,12 +639,12 @@ module _ (id : TableId) (k : Key) (all : List Seat) (root : Worker Lodged View) 
     }
 
 -- it is known from what each step of a closing says
-pub ended_from : (id : TableId) (k : Key) (all : List Seat) (root : Worker Lodged View) (r : RestView) (whole parts : SpaceParts) (n : ℕ) (ws : List ℕ) (xs : List Lodged) (middle headers : List Header) (sup start : ℕ) (now : List Bool) (st : StoreView) (boxes : List (Option Homed)) (places : List (Option (List ℕ)))
+pub ended_from : (id : TableId) (k : Key) (all : List Seat) (root : Worker Lodged View) (r : RestView) (whole parts : SpaceParts) (n : ℕ) (ws : List ℕ) (xs : List Lodged) (headers : List Header) (sup start from : ℕ) (lanes : Bool) (now : List Bool) (st : StoreView) (boxes : List (Option Homed)) (places : List (Option (List ℕ)))
     → whole ≡ r.whole → n ≡ r.pages → IsRest whole parts n → r.pages ≡ pages_of k → parts_layout r.whole ≡ k.opening → r.whole.pool ≡ k.pool → r.whole.nursery.items ≡ k.nursery → k.frames ≡ length k.pool
-    → Gathered id k all [] root → Final (Seen (Ruled k) root.id root.me.0) ws xs → StatesSet parts.headers.items middle n ws → sup ≡ k.supers → SummariesSet middle headers sup ws → start ≡ frame_at k 0 → PoolSet parts.pool now (length parts.pool) start ws → st.places ≡ parts.store.places
+    → Gathered id k all [] root → Final (Seen (Ruled k) root.id root.me.0) ws xs → HeadersBelow parts.headers.items headers sup sup from lanes ws → sup ≡ k.supers → start ≡ frame_at k 0 → PoolSet parts.pool now (length parts.pool) start ws → st.places ≡ parts.store.places
     → Replaced None parts.boxes.items boxes n (λ p. box_of (get_or xs (home_slot p) Nothing)) → Replaced None st.places places n (λ p. place_of (get_or xs (home_slot p + 4) Nothing))
-    → Ended id k all root whole parts ws xs headers boxes places now
-ended_from id k all root r whole parts n ws xs middle headers sup start now st boxes places is count rest paged layout pool nursery frames gathered final set supers summed starts freed stored box place =
+    → Ended id k all root whole parts ws xs (bare parts.headers.items headers) boxes places now
+ended_from id k all root r whole parts n ws xs headers sup start from lanes now st boxes places is count rest paged layout pool nursery frames gathered final set supers starts freed stored box place =
     let size : n ≡ pages_of k = count ∙ paged in
     let rest_now : IsRest whole parts (pages_of k) = subst (IsRest whole parts) size rest in
     record {
@@ -619,10 +655,8 @@ ended_from id k all root r whole parts n ws xs middle headers sup start now st b
       frames = frames;
       gathered = gathered;
       closed = gathered_ends id k all root ws xs gathered final;
-      states_are = headers_set k whole.headers.items middle headers ws
-          (subst (λ (hs : List Header). StatesSet hs middle (pages_of k) ws) rest_now.emptied.headers
-          (subst (λ (m : ℕ). StatesSet parts.headers.items middle m ws) size set))
-          (subst (λ (m : ℕ). SummariesSet middle headers m ws) supers summed);
+      states_are = subst (λ (hs : List Header). HeadersSet k hs (bare parts.headers.items headers) ws) rest_now.emptied.headers
+          (headers_set parts.headers.items headers sup from lanes ws (let a = rest_now.within in let b = ap length rest_now.emptied.headers in omega arith) set k supers);
       pool_set = subst (λ (l : List Bool). PoolSet l now (length l) (frame_at k 0) ws) rest_now.emptied.pool
           (subst (λ (i : ℕ). PoolSet parts.pool now (length parts.pool) i ws) starts freed);
       box = subst (λ (m : ℕ). Replaced None parts.boxes.items boxes m (λ p. box_of (get_or xs (home_slot p) Nothing))) size box;

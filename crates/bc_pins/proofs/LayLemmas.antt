@@ -47,23 +47,6 @@ marks_step o n q sup start j w f ws s few is small is_f small_f =
       finished = told_more n.finished ws j f (j + 1) (λ i. start + (16 * sup + (16 * q + i))) (omega arith) refl is_f s.finished;
     }
 
-pub marks_more : (o n : List Header) (q : ℕ) (h x : Header) (ws : List ℕ) (sup start : ℕ) → MarksBelow o n q sup start ws → q < length o → h ≡ at n q → MarksSet h x q sup start ws 16 → MarksBelow o (set n q x) (q + 1) sup start ws
-marks_more o n q h x ws sup start s lt is one =
-    let long = s.long in
-    let within : q < length n = omega arith in
-    record {
-      long = length-set n q x ∙ s.long;
-      near = λ i less. elim (cases_eq i q) [
-        | inl e ↦
-            let here : at (set n q x) i ≡ x = ap (λ (a : ℕ). at (set n q x) a) e ∙ get_or-set_same n q x unused_header within in
-            let was : at o i ≡ h = sym (is ∙ s.far q (omega arith) ∙ ap (at o) (sym e)) in
-            subst (λ (a : Header). MarksSet a (at (set n q x) i) i sup start ws 16) (sym was)
-            (subst (λ (b : Header). MarksSet h b i sup start ws 16) (sym here) (subst (λ (a : ℕ). MarksSet h x a sup start ws 16) (sym e) one))
-        | inr ne ↦ subst (λ (b : Header). MarksSet (at o i) b i sup start ws 16) (sym (get_or-set_other n q i x unused_header ne)) (s.near i (omega arith))
-      ];
-      far = λ i le. get_or-set_other n q i x unused_header (λ e. omega arith) ∙ s.far i (omega arith);
-    }
-
 -- parts whose headers have these marks, and are else as they were
 module _ (old new : SpaceParts) (kept : AreParts old) (sup start : ℕ) (ws : List ℕ) (within : sup ≤ length old.headers.items) (m : MarksBelow old.headers.items new.headers.items sup sup start ws)
     (boxes : new.boxes.items ≡ old.boxes.items) (pool : new.pool ≡ old.pool) (nursery : new.nursery.items ≡ old.nursery.items) (room : vec_capacity new.nursery ≡ vec_capacity old.nursery) (places : new.store.places ≡ old.store.places) (reads : new.store.reads ≡ old.store.reads) (end : new.end ≡ old.end) where

@@ -86,8 +86,8 @@ pub mod DrawLemmas
 pub mod GatherLemmas
 -- A seat into which others are joined while the table goes on
 pub mod JoiningLemmas
--- Words that are read, and states that are written one by one.
-pub mod StateLemmas
+-- Words that are read.
+pub mod WordLemmas
 -- Boxes that come out of slots
 pub mod BoxLemmas
 -- Frames that are given back to the pool

@@ -91,13 +91,11 @@ pub record Gathered (id : TableId) (k : Key) (all front : List Seat) (root : Wor
 abbrev pub fetches_of : List Seat → ℕ
 fetches_of seats = total (λ (seat : Seat). length (view_of seat).fetched) seats
 
--- the states of the first pages are those of the words, and nothing else of the headers changed
-pub record StatesSet (old new : List Header) (pages : ℕ) (words : List ℕ) : Type 0 where
-  pub long : length new ≡ length old
-  pub near : (p : ℕ) → p < pages → state_word (state_in new p) ≡ slice_index words (page_at p)
-  pub far : (p : ℕ) → pages ≤ p → state_in new p ≡ state_in old p
-  pub else_same : (q : ℕ) → slice_index_or new q unused_header ≡ record (slice_index_or old q unused_header) { pages = (slice_index_or new q unused_header).pages }
-  pub states_long : (q : ℕ) → length (slice_index_or new q unused_header).pages ≡ length (slice_index_or old q unused_header).pages
+-- the header has the first states, of four, that words have for the pages of its superpage
+pub record PagesSet (old new : Header) (superpage : ℕ) (words : List ℕ) (count : ℕ) : Type 0 where
+  pub same : new ≡ record old { pages = new.pages }
+  pub long : length new.pages ≡ length old.pages
+  pub near : (i : ℕ) → i < count → state_word (slice_index_or new.pages i state.Absent) ≡ slice_index words (16 * superpage + i)
 
 -- the header has the counter and the first bookmark words, of sixteen, that the table's words have for its superpage
 pub record SummarySet (old new : Header) (superpage superpages : ℕ) (words : List ℕ) (count : ℕ) : Type 0 where
@@ -106,21 +104,42 @@ pub record SummarySet (old new : Header) (superpage superpages : ℕ) (words : L
   pub fits : AreWords new.bookmarks
   pub bits : (j : ℕ) → j < count → slice_index new.bookmarks j ≡ slice_index words (17 * superpages + (16 * superpage + j))
 
--- the headers below this count have their counters and bookmarks from a table of so many superpages
-pub record SummariesBelow (old new : List Header) (count superpages : ℕ) (words : List ℕ) : Type 0 where
-  pub long : length new ≡ length old
-  pub near : (q : ℕ) → q < count → SummarySet (slice_index_or old q unused_header) (slice_index_or new q unused_header) q superpages words 16
-  pub far : (q : ℕ) → count ≤ q → slice_index_or new q unused_header ≡ slice_index_or old q unused_header
-
--- all headers of the table's superpages have their counters and bookmarks from its words
-abbrev pub SummariesSet : List Header → List Header → ℕ → List ℕ → Type 0
-SummariesSet old new superpages words = SummariesBelow old new superpages superpages words
-
 -- of the first frames those are free whose bits are clear in the words from a place on
 pub record PoolSet (old new : List Bool) (count start : ℕ) (words : List ℕ) : Type 0 where
   pub long : length new ≡ length old
   pub near : (f : ℕ) → f < count → is_free new f ≡ (bit_at (slice_index words (start + f / 64)) (f % 64) == 0)
   pub far : (f : ℕ) → count ≤ f → is_free new f ≡ is_free old f
+
+-- the header has the first marks and finished words, of sixteen, that words have for its superpage from a place on
+pub record MarksSet (old new : Header) (superpage superpages start : ℕ) (words : List ℕ) (count : ℕ) : Type 0 where
+  pub same : new ≡ record old { marks = new.marks; finished = new.finished }
+  pub marks_set : IsCellSet new.marks
+  pub finished_set : IsCellSet new.finished
+  pub marks : (j : ℕ) → j < count → slice_index new.marks j ≡ slice_index words (start + (16 * superpage + j))
+  pub finished : (j : ℕ) → j < count → slice_index new.finished j ≡ slice_index words (start + (16 * superpages + (16 * superpage + j)))
+
+-- the header has what words have for its superpage: the states of its pages, its counter and bookmarks, and in a mark turn, from a place
+-- on, its marks and finished cells
+pub record HeaderSet (old new : Header) (superpage superpages start : ℕ) (lanes : Bool) (words : List ℕ) : Type 0 where
+  pub stated : Header
+  pub summed : Header
+  pub states : PagesSet old stated superpage words 4
+  pub summary : SummarySet stated summed superpage superpages words 16
+  pub unmarked : lanes ≡ true → new ≡ summed
+  pub marked : lanes ≡ false → MarksSet summed new superpage superpages start words 16
+
+-- the first headers have
+pub record HeadersBelow (old new : List Header) (count superpages start : ℕ) (lanes : Bool) (words : List ℕ) : Type 0 where
+  pub long : length new ≡ length old
+  pub near : (q : ℕ) → q < count → HeaderSet (slice_index_or old q unused_header) (slice_index_or new q unused_header) q superpages start lanes words
+  pub far : (q : ℕ) → count ≤ q → slice_index_or new q unused_header ≡ slice_index_or old q unused_header
+
+-- the header's sets of bookmarks, marks and finished cells are sets of cells, and it has four states
+pub record IsWritable (header : Header) : Type 0 where
+  pub bookmarks : IsCellSet header.bookmarks
+  pub marks : IsCellSet header.marks
+  pub finished : IsCellSet header.finished
+  pub states : length header.pages ≡ 4
 
 -- states, counters and bookmarks are those of the table's words, and nothing else of the headers changed
 pub record HeadersSet (k : Key) (old new : List Header) (words : List ℕ) : Type 0 where
@@ -195,15 +214,7 @@ pub record Closed (k : Key) (seats : List Seat) (s : Layout) : Type 0 where
   pub young : (p : ℕ) → p < pages_of k → RefersYoung k.opening p (content_at s.pages p) → state_at s.states p ≡ state.Remembered
   pub openable : IsOpenable k.opening → IsOpenable s
 
--- the header has the first marks and finished words, of sixteen, that words have for its superpage from a place on
-pub record MarksSet (old new : Header) (superpage superpages start : ℕ) (words : List ℕ) (count : ℕ) : Type 0 where
-  pub same : new ≡ record old { marks = new.marks; finished = new.finished }
-  pub marks_set : IsCellSet new.marks
-  pub finished_set : IsCellSet new.finished
-  pub marks : (j : ℕ) → j < count → slice_index new.marks j ≡ slice_index words (start + (16 * superpage + j))
-  pub finished : (j : ℕ) → j < count → slice_index new.finished j ≡ slice_index words (start + (16 * superpages + (16 * superpage + j)))
-
--- the first headers have
+-- the first headers have the marks and finished cells that words have from a place on
 pub record MarksBelow (old new : List Header) (count superpages start : ℕ) (words : List ℕ) : Type 0 where
   pub long : length new ≡ length old
   pub near : (q : ℕ) → q < count → MarksSet (slice_index_or old q unused_header) (slice_index_or new q unused_header) q superpages start words 16

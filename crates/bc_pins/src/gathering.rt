@@ -1,24 +1,25 @@
 //! All seats joined into one, and what the words of a table that is closed say of headers and frames.
 
-ghost use Rattle.std.specs.Prelude.{◌≡◌, ℕ, ◌+◌, ◌-◌, ◌*◌, ◌/◌, ◌%◌, ◌^◌, ◌<◌, ◌≤◌, ◌≢◌, ◌==◌, [], length, min, slice_index, slice_index_or};
+ghost use Rattle.std.specs.Prelude.{◌≡◌, ℕ, ◌+◌, ◌-◌, ◌*◌, ◌/◌, ◌%◌, ◌^◌, ◌<◌, ◌≤◌, ◌≢◌, ◌==◌, false, [], length, min, slice_index, slice_index_or};
 ghost use Rattle.std.specs.Int.{bit_at};
 ghost use Rattle.bc_frames.specs.Pool.{is_free};
 ghost use Rattle.core.specs.Mem.Slots.{slots_items, slots_len, IsFull};
 ghost use Rattle.bc_superpages.specs.Headers.{unused_header};
 ghost use Rattle.bc_superpages.specs.Kept.{IsCellSet};
-ghost use Rattle.bc_superpages.specs.Parts.{AreParts};
-ghost use Rattle.bc_pins.specs.Key.{page_at};
+ghost use Rattle.bc_pins.specs.Key.{page_at, is_lanes};
 ghost use Rattle.bc_pins.specs.Totals.{times};
-ghost use Rattle.bc_pins.specs.Closing.{AreBack, Gathered, StatesSet, SummarySet, SummariesSet, MarksSet, MarksBelow, LaysMarks, PoolSet, fetches_of};
+ghost use Rattle.bc_pins.specs.Closing.{AreBack, Gathered, PagesSet, SummarySet, MarksSet, HeaderSet, HeadersBelow, IsWritable, PoolSet, fetches_of};
 
-use crate::key::{About, PAGES, SET_WORDS, bit_words, bookmark_entry, counter_entry, page_entry};
+use crate::key::{
+    About, PAGES, SET_WORDS, Turn, bit_words, bookmark_entry, counter_entry, page_entry,
+};
 use crate::pins::Seat;
 use crate::rule::{TurnRule, Unite};
 use crate::views::{Lodged, View};
 use crate::words::state_of;
 use atomic_table::{Closed, Shared};
 use bc_frames::{FramePool, Store};
-use bc_superpages::{Header, SpaceParts};
+use bc_superpages::Header;
 use std::alloc::Global;
 
 type Board = Shared<Lodged, View, About, TurnRule>;
@@ -59,16 +60,17 @@ fn let_go(seat: Seat, store: &mut Store) -> Worker
     inner
 }
 
-/// Writes into the headers what the words of so many pages say.
-pub(crate) fn set_states(headers: &mut Vec<Header>, closed: &Closed<Lodged, Global>, pages: usize)
-    requires pages { (pages ≤ 4 * length headers.old.items) × (pages < 2 ^ 32) }
-    requires words { IsFull closed.now.words × (4 * pages ≤ slots_len closed.now.words) }
-    requires long { (q : ℕ) → length (slice_index_or headers.old.items q unused_header).pages ≡ 4 }
-    requires few { (p : ℕ) → p < pages → slice_index (slots_items closed.now.words) (page_at p) ≤ 4 }
-    ensures set { StatesSet headers.old.items headers.new.items pages (slots_items closed.now.words) }
+/// Writes into a header what the words say of its superpage's pages.
+fn set_states(header: &mut Header, closed: &Closed<Lodged, Global>, superpage: usize)
+    requires superpage { superpage < 4096 }
+    requires words { IsFull closed.now.words × (16 * superpage + 16 ≤ slots_len closed.now.words) }
+    requires four { length header.old.pages ≡ 4 }
+    requires few { (i : ℕ) → i < 4 → slice_index (slots_items closed.now.words) (16 * superpage + i) ≤ 4 }
+    ensures set { PagesSet header.old header.new superpage (slots_items closed.now.words) 4 }
 {
-    for page in 0..pages {
-        headers[page / PAGES].pages[page % PAGES] = state_of(closed.word(page_entry(page)));
+    let first = PAGES * superpage;
+    for place in 0..PAGES {
+        header.pages[place] = state_of(closed.word(page_entry(first + place)));
     }
 }
 
@@ -88,22 +90,6 @@ fn set_summary(
     let first = SET_WORDS * superpage;
     for word in 0..SET_WORDS {
         header.bookmarks[word] = closed.word(bookmark_entry(first + word, superpages));
-    }
-}
-
-/// Writes into the headers of so many superpages what the words say of bookmarks and counters.
-pub(crate) fn set_summaries(
-    headers: &mut Vec<Header>,
-    closed: &Closed<Lodged, Global>,
-    superpages: usize,
-)
-    requires superpages { (superpages ≤ length headers.old.items) × (superpages ≤ 4096) }
-    requires words { IsFull closed.now.words × (33 * superpages ≤ slots_len closed.now.words) }
-    requires sets { (q : ℕ) → q < superpages → IsCellSet (slice_index_or headers.old.items q unused_header).bookmarks }
-    ensures set { SummariesSet headers.old.items headers.new.items superpages (slots_items closed.now.words) }
-{
-    for superpage in 0..superpages {
-        set_summary(&mut headers[superpage], closed, superpage, superpages);
     }
 }
 
@@ -127,42 +113,54 @@ fn set_header_marks(
     }
 }
 
-/// Writes into the headers of so many superpages the marks and finished cells that the words hold from a place on.
-pub(crate) fn set_marks(
+/// Writes into a header what the words say of its superpage: of its pages, its counter and bookmarks, and in a mark turn of the marks and
+/// finished cells, which the words hold from a place on.
+fn set_header(
+    header: &mut Header,
+    closed: &Closed<Lodged, Global>,
+    superpage: usize,
+    superpages: usize,
+    start: usize,
+    turn: Turn,
+)
+    requires superpage { (superpage < superpages) × (superpages ≤ 4096) × (start < 2 ^ 33) }
+    requires words { IsFull closed.now.words × (33 * superpages ≤ slots_len closed.now.words) × (is_lanes turn ≡ false → start + 32 * superpages ≤ slots_len closed.now.words) }
+    requires few { (i : ℕ) → i < 4 → slice_index (slots_items closed.now.words) (16 * superpage + i) ≤ 4 }
+    requires writable { IsWritable header.old }
+    ensures set { HeaderSet header.old header.new superpage superpages start (is_lanes turn) (slots_items closed.now.words) }
+{
+    set_states(header, closed, superpage);
+    set_summary(header, closed, superpage, superpages);
+    match turn {
+        Turn::Lanes => {}
+        Turn::Mark => set_header_marks(header, closed, superpage, superpages, start),
+    }
+}
+
+/// Writes into the headers of so many superpages what the words say of them.
+pub(crate) fn set_headers(
     headers: &mut Vec<Header>,
     closed: &Closed<Lodged, Global>,
     superpages: usize,
     start: usize,
+    turn: Turn,
 )
     requires superpages { (superpages ≤ length headers.old.items) × (superpages ≤ 4096) × (start < 2 ^ 33) }
-    requires words { IsFull closed.now.words × (start + 32 * superpages ≤ slots_len closed.now.words) }
-    requires sets { (q : ℕ) → q < superpages → IsCellSet (slice_index_or headers.old.items q unused_header).marks × IsCellSet (slice_index_or headers.old.items q unused_header).finished }
-    ensures set { MarksBelow headers.old.items headers.new.items superpages superpages start (slots_items closed.now.words) }
+    requires words { IsFull closed.now.words × (33 * superpages ≤ slots_len closed.now.words) × (is_lanes turn ≡ false → start + 32 * superpages ≤ slots_len closed.now.words) }
+    requires few { (p : ℕ) → p < 4 * superpages → slice_index (slots_items closed.now.words) (page_at p) ≤ 4 }
+    requires writable { (q : ℕ) → q < superpages → IsWritable (slice_index_or headers.old.items q unused_header) }
+    ensures set { HeadersBelow headers.old.items headers.new.items superpages superpages start (is_lanes turn) (slots_items closed.now.words) }
 {
     for superpage in 0..superpages {
-        set_header_marks(
+        set_header(
             &mut headers[superpage],
             closed,
             superpage,
             superpages,
             start,
+            turn,
         );
     }
-}
-
-/// Lays the marks and finished cells into a space's parts that the words hold from a place on.
-pub(crate) fn lay_marks(
-    parts: &mut SpaceParts,
-    closed: &Closed<Lodged, Global>,
-    superpages: usize,
-    start: usize,
-)
-    requires kept { AreParts parts.old }
-    requires superpages { (superpages ≤ length parts.old.headers.items) × (superpages ≤ 4096) × (start < 2 ^ 33) }
-    requires words { IsFull closed.now.words × (start + 32 * superpages ≤ slots_len closed.now.words) }
-    ensures laid { LaysMarks parts.old parts.new superpages start (slots_items closed.now.words) }
-{
-    set_marks(&mut parts.headers, closed, superpages, start);
 }
 
 /// Sets in the pool which of 64 frames are free: those whose bits are clear. A word that the pool has so already is left alone.

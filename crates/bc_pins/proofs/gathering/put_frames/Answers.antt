@@ -1,7 +1,7 @@
 use Rattle.std.proofs.Common.{◌≡◌, ◌+◌, ◌*◌, ℕ, length, min, sym, subst, arith}
 use Rattle.core.specs.Mem.Slots.{slots_items}
 use Rattle.bc_pins.specs.Closing.{PoolSet}
-use Rattle.bc_pins.proofs.StateLemmas.{at_or}
+use Rattle.bc_pins.proofs.WordLemmas.{at_or}
 use Rattle.bc_pins.proofs.PoolLemmas.{pool_none, pool_more}
 use Rattle.bc_pins.proofs.gathering.put_frames.Goals as goal
 

@@ -1,6 +1,6 @@
 use Rattle.std.proofs.Common.{sym}
 use Rattle.core.specs.Mem.Slots.{slots_items}
-use Rattle.bc_pins.proofs.StateLemmas.{at_or}
+use Rattle.bc_pins.proofs.WordLemmas.{at_or}
 use Rattle.bc_pins.proofs.LayLemmas.{marks_start, marks_step}
 use Rattle.bc_pins.proofs.gathering.set_header_marks.Goals as goal
 

@@ -1,6 +1,6 @@
 use Rattle.std.proofs.Common.{ℕ, get_or, ap, sym, ◌∙◌}
 use Rattle.core.specs.Mem.Slots.{slots_items}
-use Rattle.bc_pins.proofs.StateLemmas.{at_or}
+use Rattle.bc_pins.proofs.WordLemmas.{at_or}
 use Rattle.bc_pins.proofs.HeaderLemmas.{summary_start, summary_step}
 use Rattle.bc_pins.proofs.gathering.set_summary.Goals as goal
 

@@ -7,7 +7,7 @@ use Rattle.bc_pins.specs.declared.views.Lodged.{Lodged}
 use Rattle.bc_pins.specs.declared.views.Lodged.TheVariants.{Nothing}
 use Rattle.bc_pins.specs.Key.{home_slot}
 use Rattle.bc_pins.specs.Lodging.{Replaced, box_of, place_of}
-use Rattle.bc_pins.proofs.StateLemmas.{at_or}
+use Rattle.bc_pins.proofs.WordLemmas.{at_or}
 use Rattle.bc_pins.proofs.LodgeLemmas.{replaced_more, slot_else, slot_one, slot_two}
 use Rattle.bc_pins.proofs.lodging.take_all_back.Goals as goal
 
