@@ -197,6 +197,7 @@ module _ (k : Key) (v : View) (seat : Seat) (held : Held) (t : HasTakenAny k v s
           one = inl (ap (λ (x : View). x.emptied) full, ap (λ (x : View). x.left) full);
           homes = λ p less. homes_once k t.looks held.page p t.looked.none (subst (λ (x : Key). p < pages_of x) about less);
           gone = λ p. subst (λ (l : List ℕ). times p v.gone ≤ times p l) (sym (ap (λ (x : View). x.gone) full)) (t.looked.gone p);
+          less = λ p. let same = ap (λ (x : View). times p x.owed) full in omega arith;
           unmarked = λ turn. (ap (λ (x : View). x.known) full, ap (λ (x : View). x.won) full, ap (λ (x : View). x.owed) full);
         }
 
@@ -254,6 +255,12 @@ module _ (k : Key) (v : View) (seat : Seat) (held : Held) (t : HasTakenAny k v s
             one = inr (ap (λ (x : View). x.left) full, ap (λ (x : View). x.emptied) full);
             homes = λ p less. filled_homes p (subst (λ (x : Key). p < pages_of x) about less);
             gone = λ p. subst (λ (l : List ℕ). times p v.gone ≤ times p l) (sym (ap (λ (x : View). x.gone) full)) (t.looked.gone p);
+            less = λ p.
+                let same = ap (λ (x : View). times p x.owed) full in
+                let less = marked.less p in
+                let taken = ap (λ (x : View). times p x.owed) t.grasps.view in
+                let looked = ap (λ (x : View). times p x.owed) t.looked.view in
+                omega arith;
             unmarked = λ turn.
                 let was = marked.unmarked (ap (λ (x : Key). x.lanes) (seat_about ∙ sym about) ∙ turn) in (
                   ap (λ (x : View). x.known) full ∙ was.0 ∙ ap (λ (x : View). x.known) t.grasps.view ∙ ap (λ (x : View). x.known) t.looked.view,

@@ -17,6 +17,7 @@ use Rattle.bc_pins.specs.Key.{Key, pages_of, page_at, frame_at, notice_at}
 use Rattle.bc_pins.specs.Totals.{times}
 use Rattle.bc_pins.specs.Contents.{IsContent, RefersYoung, objects_in}
 use Rattle.bc_pins.specs.Facts.{points}
+use Rattle.bc_pins.specs.Owing.{OwesNoMore}
 use Rattle.bc_pins.specs.Tracing.{tells}
 use Rattle.bc_pins.specs.Steps.{IsBookmarkedBy}
 use Rattle.bc_pins.specs.Views.{sets_bit, reads_of}
@@ -49,7 +50,7 @@ pub record HasBookmarked (v : View) (hand : Hand) (w : View) : Type 0 where
   pub knows : v.about.lanes ≡ false → (q b : ℕ) → b < 1024
       → knows_cell w q b ≡ (some_on (names_cell v.about.opening.classes q b) (objects_in v.about.opening hand.content) hand.page || knows_cell v q b)
   pub unmarked : v.about.lanes ≡ true → (w.known ≡ v.known) × (w.won ≡ v.won) × (w.owed ≡ v.owed)
-  pub less : (p : ℕ) → times p w.owed ≤ times p v.owed
+  pub less : OwesNoMore v w
   pub counted : (q : ℕ) → q < v.about.supers → times q now.counted ≡ points v.about hand.page hand.content q
   pub reads : ReadsNoPage v w
 
@@ -82,7 +83,7 @@ pub record ShadesTarget (v : View) (q n : ℕ) (w : View) : Type 0 where
   pub same : w ≡ record v { known = w.known; won = w.won; owed = w.owed; read = w.read }
   pub known : v.about.lanes ≡ false → w.known ≡ (16 * q + n / 64, 1 * 2 ^ (n % 64) % 2 ^ 64) ∷ v.known
   pub unmarked : v.about.lanes ≡ true → (w.known ≡ v.known) × (w.won ≡ v.won) × (w.owed ≡ v.owed)
-  pub less : (p : ℕ) → times p w.owed ≤ times p v.owed
+  pub less : OwesNoMore v w
   pub reads : ReadsNoPage v w
 
 -- the cells to which some words refer were bookmarked, in a mark turn marked too, and the superpages met in which they lie. The
@@ -96,7 +97,7 @@ pub record Marks (old : Seat) (met : List ℕ) (some : (Word → Bool) → Bool)
   pub bits : (q b : ℕ) → b < 1024 → sets_cell (view_of new) q b ≡ (some (names_cell (view_of old).about.opening.classes q b) || sets_cell (view_of old) q b)
   pub knows : (view_of old).about.lanes ≡ false → (q b : ℕ) → b < 1024 → knows_cell (view_of new) q b ≡ (some (names_cell (view_of old).about.opening.classes q b) || knows_cell (view_of old) q b)
   pub unmarked : (view_of old).about.lanes ≡ true → ((view_of new).known ≡ (view_of old).known) × ((view_of new).won ≡ (view_of old).won) × ((view_of new).owed ≡ (view_of old).owed)
-  pub less : (p : ℕ) → times p (view_of new).owed ≤ times p (view_of old).owed
+  pub less : OwesNoMore (view_of old) (view_of new)
   pub meets : (q : ℕ) → has more q ≡ (some (names_in q) || has met q)
   pub reads : ReadsNoPage (view_of old) (view_of new)
 

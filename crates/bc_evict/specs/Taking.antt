@@ -8,6 +8,7 @@ use Rattle.bc_pins.specs.declared.views.View.{View}
 use Rattle.bc_pins.specs.Key.{Key, pages_of, pages_end}
 use Rattle.bc_pins.specs.Totals.{times}
 use Rattle.bc_pins.specs.Contents.{IsBarePage}
+use Rattle.bc_pins.specs.Owing.{OwesNoMore}
 use Rattle.bc_pins.specs.Views.{reads_at, reads_of}
 use Rattle.bc_pins.specs.Steps.{Takes}
 use Rattle.bc_pins.specs.Calls.{Grasps}
@@ -81,9 +82,10 @@ pub record HasVacated (k : Key) (v : View) (page : ℕ) (w : View) : Type 0 wher
   pub reads : ReadNoPage k v w
   pub view : w ≡ record v { hand = None; emptied = page ∷ v.emptied; read = w.read }
 
--- the page that was in hand is Gone, and its frame was given back
+-- the page that was in hand is Gone, and its frame was given back. No page is owed that wasn't
 pub record HasEvacuated (k : Key) (v : View) (page : ℕ) (w : View) : Type 0 where
   pub reads : ReadNoPage k v w
   pub view : w ≡ record v { hand = None; left = page ∷ v.left; bookmarked = w.bookmarked; known = w.known; won = w.won; owed = w.owed; read = w.read }
+  pub less : OwesNoMore v w
   -- in a turn of lanes marks are as they were
   pub unmarked : k.lanes ≡ true → (w.known ≡ v.known) × (w.won ≡ v.won) × (w.owed ≡ v.owed)

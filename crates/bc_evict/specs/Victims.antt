@@ -8,6 +8,7 @@ use Rattle.bc_pins.specs.declared.views.View.{View}
 use Rattle.bc_pins.specs.Key.{Key, pages_of}
 use Rattle.bc_pins.specs.Totals.{times}
 use Rattle.bc_pins.specs.Views.{reads_at, state_word}
+use Rattle.bc_pins.specs.Owing.{OwesNoMore}
 use Rattle.bc_pins.specs.Steps.{Takes}
 use Rattle.bc_pins.specs.Calls.{Grasps}
 use Rattle.bc_evict.specs.Looking.{MayStay, steps_behind}
@@ -42,7 +43,8 @@ pub record HasTakenAny (k : Key) (v : View) (seat : Seat) (held : Held) : Type 0
   pub takes : Takes ready held.page false held.homed
 
 -- the seat has the right to this frame and to no other: it made one page Absent, or Gone, the one that it read as Home. What it knew to
--- be Gone it knows still, and in a turn of lanes marks are as they were. Nothing else changed that the view says
+-- be Gone it knows still, no page is owed that wasn't, and in a turn of lanes marks are as they were. Nothing else changed that the view
+-- says
 pub record HasFreed (v : View) (frame : ℕ) (w : View) : Type 0 where
   pub looks : List (ℕ × ℕ)
   pub view : w
@@ -65,4 +67,5 @@ pub record HasFreed (v : View) (frame : ℕ) (w : View) : Type 0 where
   pub one : ((w.emptied ≡ page ∷ v.emptied) × (w.left ≡ v.left)) ⊎ ((w.left ≡ page ∷ v.left) × (w.emptied ≡ v.emptied))
   pub homes : (p : ℕ) → p < pages_of v.about → times 1 (reads_at p looks) ≡ one_if (page == p)
   pub gone : (p : ℕ) → times p v.gone ≤ times p w.gone
+  pub less : OwesNoMore v w
   pub unmarked : v.about.lanes ≡ true → (w.known ≡ v.known) × (w.won ≡ v.won) × (w.owed ≡ v.owed)

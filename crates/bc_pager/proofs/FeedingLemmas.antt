@@ -21,6 +21,7 @@ use Rattle.bc_pins.specs.declared.key.Role.{Role}
 use Rattle.bc_pins.specs.declared.key.Role.TheVariants.{Pager}
 use Rattle.bc_pins.specs.declared.pins.Pins.{Pins}
 use Rattle.bc_pins.specs.declared.views.View.{View}
+use Rattle.bc_pins.proofs.AloneLemmas.{none_times}
 
 -- a live pager's seat is back with nothing in hand
 pub live-back : (pins : Pins) (told more_told : Option (List Notice)) (given more_given : Option (List View)) (number : ℕ) (old new : Paging) → IsDealt pins.table.shared.table_id (key_of pins) (Pager number) old.seat
@@ -102,4 +103,5 @@ module _ (pins : Pins) (told more_told : Option (List Notice)) (given more_given
     same = same;
     free = free;
     rights = rights;
+    none = none_times (view_of new.seat).owed (λ page. let less = served.less page in let none = ap (λ (v : View). times page v.owed) first in omega arith);
   }

@@ -4,6 +4,7 @@ use Rattle.std.proofs.lemmas.List.{map-append}
 use Rattle.bc_bits.specs.Counting.{one_if}
 use Rattle.bc_pins.specs.declared.views.View.{View}
 use Rattle.bc_pins.specs.Key.{Key}
+use Rattle.bc_pins.specs.Owing.{OwesNoMore}
 use Rattle.bc_pins.specs.Totals.{times, total}
 use Rattle.bc_pins.proofs.TotalLemmas.{total_append}
 use Rattle.bc_pager.specs.declared.answers.Answer.{Answer}
@@ -62,6 +63,12 @@ emptied_once k u hint (Discarded p) w page a = let e : times page w.emptied ≡ 
 emptied_once k u hint (Evicted p) w page a = let e : times page w.emptied ≡ times page u.emptied = ap (λ (x : View). times page x.emptied) a.view in omega arith
 emptied_once k u hint Declined w page a = let e : times page w.emptied ≡ times page u.emptied = ap (λ (x : View). times page x.emptied) a.view in omega arith
 
+-- no page is owed after an answer that wasn't before it
+less_once : (k : Key) (u : View) (hint : ℕ) (answer : Answer) (w : View) → IsAnswer k u hint answer w → OwesNoMore u w
+less_once k u hint (Discarded p) w a page = let same = ap (λ (x : View). times page x.owed) a.view in omega arith
+less_once k u hint (Evicted p) w a page = a.less page
+less_once k u hint Declined w a page = let same = ap (λ (x : View). times page x.owed) a.view in omega arith
+
 -- what was served so far, with nothing claimed since the last answer
 pub record ServedSoFar (k : Key) (shared : Option Sharing) (told more_told : Option (List Notice)) (given more_given : Option (List View)) (old new : KeptAnswers) (v w : View) : Type 0 where
   pub notices : List Notice
@@ -74,6 +81,7 @@ pub record ServedSoFar (k : Key) (shared : Option Sharing) (told more_told : Opt
   pub claims : ClaimedSoFarFor k shared notices answers v w
   pub left : (page : ℕ) → times page w.left ≡ times page v.left + total (says_evicted page) answers
   pub emptied : (page : ℕ) → times page w.emptied ≡ times page v.emptied + total (says_discarded page) answers
+  pub less : OwesNoMore v w
 
 -- nothing was served yet
 pub served-none : (k : Key) (shared : Option Sharing) (told : Option (List Notice)) (given : Option (List View)) (kept : KeptAnswers) (v : View) → ServedSoFar k shared told told given given kept kept v v
@@ -88,6 +96,7 @@ served-none k shared told given kept v = record {
   claims = claims-none k shared v;
   left = λ page. omega arith;
   emptied = λ page. omega arith;
+  less = λ page. omega arith;
 }
 
 -- one notice more was served
@@ -123,6 +132,11 @@ served-more k shared told then more given then_given more_given old middle new v
           let was = s.emptied page in
           let sum = total_append (says_discarded page) s.answers (answer ∷ []) in
           omega arith;
+      less = λ page.
+          let same = ap (λ (x : View). times page x.owed) but in
+          let one = less_once k g notice.hint answer w a page in
+          let was = s.less page in
+          omega arith;
     }
 
 -- that was all, since there was no room
@@ -140,6 +154,7 @@ served-now k shared told more given more_given old new v w s = record {
   claims = claims-now k shared s.notices s.answers v w s.claims;
   left = s.left;
   emptied = s.emptied;
+  less = s.less;
 }
 
 -- that was all, since there was no notice
@@ -160,4 +175,5 @@ served-last k shared told then more given then_given more_given old new v u w s 
       claims = claims-past k shared s.notices s.answers v u w s.claims claim;
       left = λ page. let same = ap (λ (x : View). times page x.left) but in let was = s.left page in omega arith;
       emptied = λ page. let same = ap (λ (x : View). times page x.emptied) but in let was = s.emptied page in omega arith;
+      less = λ page. let same = ap (λ (x : View). times page x.owed) but in let was = s.less page in omega arith;
     }

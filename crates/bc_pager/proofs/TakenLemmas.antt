@@ -16,6 +16,7 @@ use Rattle.bc_pins.specs.declared.pins.Seat.{Seat}
 use Rattle.bc_pins.specs.declared.views.Hand.{Hand}
 use Rattle.bc_pins.specs.declared.views.View.{View}
 use Rattle.bc_pins.specs.Key.{Key, pages_of, page_at, frame_at}
+use Rattle.bc_pins.specs.Totals.{times}
 use Rattle.bc_pins.specs.Contents.{IsBarePage}
 use Rattle.bc_pins.specs.Views.{reads_of, opened_state}
 use Rattle.bc_pins.specs.Calls.{view_of, HoldsPage}
@@ -89,6 +90,7 @@ evacuated k v b u w hand held frame about none marked view is g =
           ∙ ap (λ (l : List (ℕ × ℕ)). record v { hand = None; left = held.page ∷ v.left; bookmarked = w.bookmarked; known = l; won = b.won; owed = b.owed; read = w.read }) (sym known)
           ∙ ap (λ (l : List (ℕ × ℕ)). record v { hand = None; left = held.page ∷ v.left; bookmarked = w.bookmarked; known = w.known; won = l; owed = b.owed; read = w.read }) (sym won)
           ∙ ap (λ (l : List ℕ). record v { hand = None; left = held.page ∷ v.left; bookmarked = w.bookmarked; known = w.known; won = w.won; owed = l; read = w.read }) (sym owed);
+      less = λ p. let same = ap (times p) owed in let less = marked.less p in omega arith;
       unmarked = λ turn. let was = marked.unmarked (ap (λ (x : Key). x.lanes) about ∙ turn) in (known ∙ was.0, won ∙ was.1, owed ∙ was.2);
     }
 
@@ -211,6 +213,11 @@ module _ (k : Key) (behind : (q : ℕ) → pages_of k ≤ q → opened_state k q
             ∙ ap (λ (l : List ℕ). record v { left = held.page ∷ v.left; bookmarked = w.bookmarked; known = w.known; won = w.won; owed = w.owed; read = w.read; seen = l; gone = x.gone; busy = x.busy }) (sym seen)
             ∙ ap (λ (l : List ℕ). record v { left = held.page ∷ v.left; bookmarked = w.bookmarked; known = w.known; won = w.won; owed = w.owed; read = w.read; seen = w.seen; gone = l; busy = x.busy }) (sym gone)
             ∙ ap (λ (l : List ℕ). record v { left = held.page ∷ v.left; bookmarked = w.bookmarked; known = w.known; won = w.won; owed = w.owed; read = w.read; seen = w.seen; gone = w.gone; busy = l }) (sym busy);
+        less = λ p.
+            let less = d.less p in
+            let taken = ap (λ (y : View). times p y.owed) f.taken.grasps.view in
+            let looked = ap (λ (y : View). times p y.owed) all.view in
+            omega arith;
         unmarked = λ turn.
             let was = d.unmarked turn in (
               was.0 ∙ ap (λ (y : View). y.known) f.taken.grasps.view ∙ ap (λ (y : View). y.known) all.view,

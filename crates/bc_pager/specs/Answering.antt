@@ -6,6 +6,7 @@ use Rattle.bc_bookmarks.specs.Targets.{HasCell}
 use Rattle.bc_pins.specs.declared.views.View.{View}
 use Rattle.bc_pins.specs.Key.{Key, pages_of, page_at}
 use Rattle.bc_pins.specs.Contents.{IsBarePage}
+use Rattle.bc_pins.specs.Owing.{OwesNoMore}
 use Rattle.bc_pins.specs.Views.{reads_at}
 use Rattle.bc_pager.specs.declared.answers.Answer.{Answer}
 use Rattle.bc_pager.specs.declared.answers.Answer.TheVariants.{Discarded, Evicted, Declined}
@@ -28,7 +29,7 @@ pub record HasDiscarded (k : Key) (v : View) (page : ℕ) (w : View) : Type 0 wh
 
 -- the page had an allocated cell, and it was taken from Home and made Gone. Each page without an allocated cell was looked at before and
 -- was Absent, Held or Remembered. Each page with one that comes before it, going round from the hint, was looked at and was Held,
--- Remembered or Gone
+-- Remembered or Gone. No page is owed that wasn't
 pub record HasEvicted (k : Key) (v : View) (hint page : ℕ) (w : View) : Type 0 where
   pub looks : List (ℕ × ℕ)
   pub inside : page < pages_of k
@@ -37,6 +38,7 @@ pub record HasEvicted (k : Key) (v : View) (hint page : ℕ) (w : View) : Type 0
   pub before : (q : ℕ) → q < all_pages k → HasCell k.opening q → ComesBefore k hint q page → IsAccountedFor k looks q MayStayFilled
   pub took : TookAfter k v looks page w
   pub view : w ≡ record v { left = page ∷ v.left; bookmarked = w.bookmarked; known = w.known; won = w.won; owed = w.owed; read = w.read; seen = w.seen; gone = w.gone; busy = w.busy }
+  pub less : OwesNoMore v w
   -- in a turn of lanes marks are as they were
   pub unmarked : k.lanes ≡ true → (w.known ≡ v.known) × (w.won ≡ v.won) × (w.owed ≡ v.owed)
 

@@ -31,7 +31,7 @@ pub record IsLivePagerReady (pins : Pins) (paging : Paging) : Type 0 where
   pub answers : paging.answers ≡ no_answers live_room
 
 -- a live pager has answered the notices that it took, each once, in order, from where it was given. It claimed none at the table. It made
--- no page Gone or Absent but those that its answers name. Nothing is in its hands, and it has no right to a frame
+-- no page Gone or Absent but those that its answers name. Nothing is in its hands, it has no right to a frame, and it owes no page
 pub record HasServedLive (pins : Pins) (told more_told : Option (List Notice)) (given more_given : Option (List View)) (old new : Paging) : Type 0 where
   pub notices : List Notice
   pub views : List View
@@ -48,6 +48,7 @@ pub record HasServedLive (pins : Pins) (told more_told : Option (List Notice)) (
   pub same : IsSameSeat old.seat new.seat
   pub free : IsFree new.seat
   pub rights : (view_of new.seat).rights ≡ []
+  pub none : (view_of new.seat).owed ≡ []
 
 -- the live pager has answered, where there is one; where there is none nothing was taken
 abbrev pub ServesLive : Pins → Option (List Notice) → Option (List Notice) → Option (List View) → Option (List View) → Option Paging → Option Paging → Type 0

@@ -3,6 +3,7 @@ use Rattle.std.specs.Prelude.{◌≡◌, ℕ, ◌+◌, List, [], ◌∷◌, ◌+
 use Rattle.bc_pins.specs.declared.views.View.{View}
 use Rattle.bc_pins.specs.Key.{Key}
 use Rattle.bc_pins.specs.Totals.{total, times}
+use Rattle.bc_pins.specs.Owing.{OwesNoMore}
 use Rattle.bc_pager.specs.declared.answers.Answer.{Answer}
 use Rattle.bc_pager.specs.declared.notices.Notice.{Notice}
 use Rattle.bc_pager.specs.Answering.{AreAnswered, AreAnsweredSince, says_evicted, says_discarded}
@@ -48,7 +49,7 @@ told_with (Some before) more = Some (before ++ more)
 
 -- each of the notices that were taken in a call has its answer and its number, after those that were kept before. Each answer begins at
 -- the view that the seat had when its notice was given, where these views are known, and where notices are shared at the view that
--- claimed its number. No page was made Gone or Absent but those that the answers name, each once
+-- claimed its number. No page was made Gone or Absent but those that the answers name, each once, and no page is owed that wasn't
 pub record HasServed (k : Key) (shared : Option Sharing) (told more_told : Option (List Notice)) (given more_given : Option (List View)) (old new : KeptAnswers) (v w : View) : Type 0 where
   pub notices : List Notice
   pub answers : List Answer
@@ -61,3 +62,4 @@ pub record HasServed (k : Key) (shared : Option Sharing) (told more_told : Optio
   pub claims : ClaimedFor k shared notices answers v w
   pub left : (page : ℕ) → times page w.left ≡ times page v.left + total (says_evicted page) answers
   pub emptied : (page : ℕ) → times page w.emptied ≡ times page v.emptied + total (says_discarded page) answers
+  pub less : OwesNoMore v w

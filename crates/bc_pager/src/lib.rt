@@ -14,9 +14,11 @@
 // page's word since the notice was given, with nothing in the pager's own hands.
 //
 // That is the definition (`specs/Answering.antt`), and the theorem is the contract of `serve`: each notice that it took has one answer,
-// in order, that the definition allows (`HasServed`), and no page is made Gone or Absent but those that the answers name. An answer
-// begins where its notice was given: a source of notices may know the views that the seat had then (`Notices`), and each answer begins
-// at its own (`AreAnsweredSince`). `serve` ends where no notice is left or no room for an answer is (`ended`).
+// in order, that the definition allows (`HasServed`), and no page is made Gone or Absent but those that the answers name. In a mark turn
+// the targets of an evicted page are marked, and the pages of those that the pager marked first are queued: at the end it owes no page that
+// it didn't owe before. An answer begins where its notice was given: a source of notices may know the views that the seat had then
+// (`Notices`), and each answer begins at its own (`AreAnsweredSince`). `serve` ends where no notice is left or no room for an answer is
+// (`ended`).
 //
 // A turn has as many pagers as notices, at most four (`pagers_for`), and they share its list. A pager that wants a notice claims the next
 // number by one step at the table (`Pins::claim_notice`), and has the notice of that number (`SharedNotices`); where the number is past

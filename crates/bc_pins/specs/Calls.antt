@@ -17,6 +17,7 @@ use Rattle.bc_pins.specs.declared.taking.TakeError.{TakeError}
 use Rattle.bc_pins.specs.declared.taking.TakeError.TheVariants.{Busy, Gone, Remembered, Absent}
 use Rattle.bc_pins.specs.Key.{Key, pages_of, owner, IsFrozenIn, role_number, queue_at}
 use Rattle.bc_pins.specs.Totals.{times}
+use Rattle.bc_pins.specs.Owing.{OwesNoMore}
 use Rattle.bc_pins.specs.Contents.{IsBarePage, IsContent, RefersYoung}
 use Rattle.bc_pins.specs.Views.{has_role, opened_word, reads_of}
 use Rattle.bc_pins.specs.Steps.{HasAllRoles, both_slots, gripping, having_read, released}
@@ -152,7 +153,7 @@ put_back v held = released v held.page held.remembered held.homed.page
 -- a call that clears no queue bit stepped on queue words alone: no page is owed that wasn't
 pub record OnlyQueues (v w : View) : Type 0 where
   pub same : w ≡ record v { owed = w.owed; read = w.read }
-  pub less : (p : ℕ) → times p w.owed ≤ times p v.owed
+  pub less : OwesNoMore v w
   pub later : List (ℕ × ℕ)
   pub grows : w.read ≡ later ++ v.read
   pub apart : (i : ℕ) → i < queue_at v.about 0 → reads_of i later ≡ []

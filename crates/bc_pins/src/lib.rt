@@ -57,8 +57,9 @@
 //
 // A page with a queue bit is to be scanned. `queue_bit` sets it, `dequeue_bit` clears it and `look_queue` reads it; `queue_page` sets it
 // unless it is set. Whoever cleared a bit that was set owes the page, and so does whoever won a mark there, until it sets the bit, reads it
-// as set, or asks with `settle` to be let off: it knows then that each cell is finished which it won or didn't see unmarked since. So a
-// page in memory or in hand that has a cell which is marked and not finished has its bit set, or a seat owes it (`law_gray_pages`).
+// as set, or asks with `settle` to be let off: it knows then that each cell is finished which it won or didn't see unmarked since, or that
+// the page is Gone. So a page in memory or in hand that has a cell which is marked and not finished has its bit set, or a seat owes it
+// (`law_gray_pages`).
 //
 // Where things are: `pins` the table and a seat, `key` what a table is made from and where its words and slots lie, `words` which word
 // each state of a page has, `views` slots and views, `rule` the rule and what steps say, `taking` the calls on pages, `giving` the
@@ -96,6 +97,7 @@ pub use holding::Held;
 pub use key::{About, Role, Turn};
 pub use laws::{law_frames_in_use, law_gray_pages};
 pub use pins::{Pins, Seat};
+pub use queueing::queue_mask;
 pub use rest::Rest;
 pub use taking::{TakeError, Want};
 pub use views::{Hand, Lodged, View};
