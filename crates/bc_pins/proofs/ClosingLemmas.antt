@@ -89,7 +89,7 @@ word_gone state.Held e = absurd (omega arith)
 word_gone state.Remembered e = absurd (omega arith)
 
 -- a bit that was set was set for some page
-set_for_some : (w b : ℕ) (l : List (ℕ × ℕ × ℕ)) → 0 < sets_bit w b l → (p : ℕ) × (0 < sets_for p w b l)
+pub set_for_some : (w b : ℕ) (l : List (ℕ × ℕ × ℕ)) → 0 < sets_bit w b l → (p : ℕ) × (0 < sets_for p w b l)
 set_for_some w b [] lt = absurd (omega arith)
 set_for_some w b (x ∷ l) lt = elim (cases_lt 0 (sets_bit w b l)) [
   | inl more ↦ let rest = set_for_some w b l more in (rest.0, let on = rest.1 in omega arith)

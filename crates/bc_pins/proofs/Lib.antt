@@ -108,3 +108,5 @@ pub mod VisitLemmas
 pub mod SharedLemmas
 -- Frames in use
 pub mod InUseLemmas
+-- Who has a page in hand
+pub mod InHandLemmas

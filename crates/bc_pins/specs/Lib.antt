@@ -40,3 +40,5 @@ pub mod Opened
 pub mod Closing
 -- Frames in use
 pub mod InUse
+-- Who has a page in hand
+pub mod InHand
