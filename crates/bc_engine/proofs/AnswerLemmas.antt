@@ -59,7 +59,7 @@ turn-told : (lines : List (List ℕ)) (line : ℕ) {lanes : List (List Op)} {r q
     → (told : List Answer) × TellsAlong lines (cursor_at line) asked 1 answers told
 turn-told lines line {lanes} {r} {q} {before} {after} {asked} {answers} turn = elim turn.way [
   | inl beside ↦
-      let b = beside.1 in
+      let b = beside.answered in
       (b.told, told-one lines (cursor_at line) (cursor_along lines (cursor_at line) 1) asked answers b.told b.kept refl b.shared.long)
   | inr alone ↦
       let a = alone.2.1 in
@@ -167,7 +167,7 @@ cut-answered e f p replies fed had =
 turn-fed : {lanes : List (List Op)} {r q : RunningView} {before after : List (Vec Reply Global)} {asked answers lived live : List Answer} {fed : List Notice} (hints : List ℕ) → RanTurn lanes r before asked hints q after answers lived fed live → length live ≡ length lived + length fed
 turn-fed {lived = lived} {live = live} {fed = fed} hints turn = elim turn.way [
   | inl beside ↦
-      let b = beside.1 in
+      let b = beside.answered in
       let even : length (hints_of fed) ≡ length b.live_told = answered-even b.key (hints_of fed) b.live_told _ b.live_pager.end b.live_pager.each in
       let long : length (hints_of fed) ≡ length fed = length-map fed (λ (x : Notice). x.hint) in
       omega (arith, ap length b.live_kept, length-append lived b.live_told, even, long)

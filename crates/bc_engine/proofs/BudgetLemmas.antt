@@ -130,7 +130,7 @@ turn-unused : {lanes : List (List Op)} {r q : RunningView} {before after : List 
 turn-unused {r = r} {q = q} hints turn =
     let left : turn.mid.heap.space.nursery ≡ r.heap.space.nursery = ap (λ (l : Layout). l.nursery) turn.leaves.space in
     elim turn.way [
-      | inl beside ↦ ap (λ (l : Layout). l.nursery) beside.2.same ∙ left
+      | inl beside ↦ ap (λ (l : Layout). l.nursery) beside.settled.same ∙ left
       | inr alone ↦
           let a = alone.2.1 in
           ap (λ (l : Layout). l.nursery) alone.2.2.same ∙ answers-unused turn.mid.heap.space alone.2.0 hints a.0 a.2 ∙ left

@@ -32,7 +32,8 @@ use Rattle.bc_running.specs.Running.{RunningView}
 use Rattle.bc_running.specs.RunningFacts.{with_space}
 use Rattle.bc_superpages.specs.RootWords.{RootWords}
 use Rattle.bc_turn.specs.Answered.{AnsweredBeside}
-use Rattle.bc_turn.specs.Looked.{HadInTurn, IsLookedAtInTurn}
+use Rattle.bc_turn.specs.Beside.{RanBeside}
+use Rattle.bc_turn.specs.Looked.{HadInTurn, IsLookedAtInTurn, tried_in_turn}
 use Rattle.bc_turn.specs.Taking.{IsRoomKept}
 use Rattle.bc_turn.specs.declared.rooms.TurnRoom.{TurnRoom}
 use Rattle.bc_turn.proofs.RoomLemmas.{room-kept}
@@ -42,9 +43,9 @@ use Rattle.bc_engine.specs.Lanes.{of_lane, EachStopped, LanesRan, LeavesCells, S
 use Rattle.bc_engine.specs.Turns.{RanTurn, hints_of, line_of}
 
 -- the lanes ran side by side, beside them notices were answered, and then the heap was settled
-pub turn-together : {lanes : List (List Op)} {r q x : RunningView} {told replies : List (Vec Reply Global)} {asked answers lived live : List Answer} {hints : List ℕ} {fed : List Notice} → LanesRan lanes r told q replies → LeavesCells r q → EachStopped (StopsInTurn q.heap.space) lanes r told q replies → AnsweredBeside (IsLookedAtInTurn r.holders lanes r.heap r.serials (lists_of told) (lists_of replies)) (HadInTurn r.holders lanes r.heap r.serials (lists_of told) (lists_of replies)) r.heap.space hints asked answers q.heap.space lived fed live → Settled q.heap.space x.heap.space → x ≡ with_space q x.heap.space → RanTurn lanes r told asked hints x replies answers lived fed live
-turn-together {lanes} {r} {q} {x} ran leaves stopped answered settled rest =
-    record { mid = q; ran = ran; leaves = leaves; way = inl (stopped, answered, settled); rest = rest }
+pub turn-together : {lanes : List (List Op)} {r q x : RunningView} {told replies : List (Vec Reply Global)} {asked answers lived live : List Answer} {hints : List ℕ} {fed : List Notice} → LanesRan lanes r told q replies → LeavesCells r q → RanBeside r.holders lanes r.heap r.serials (lists_of told) q.heap q.serials (lists_of replies) → EachStopped (StopsInTurn q.heap.space) lanes r told q replies → AnsweredBeside (IsLookedAtInTurn r.holders lanes r.heap r.serials (lists_of told) (lists_of replies)) (HadInTurn r.holders lanes r.heap r.serials (lists_of told) (lists_of replies)) (tried_in_turn lanes (lists_of told) (lists_of replies)) r.heap.space hints asked answers q.heap.space lived fed live → Settled q.heap.space x.heap.space → x ≡ with_space q x.heap.space → RanTurn lanes r told asked hints x replies answers lived fed live
+turn-together {lanes} {r} {q} {x} ran leaves beside stopped answered settled rest =
+    record { mid = q; ran = ran; leaves = leaves; way = inl (record { beside = beside; stopped = stopped; answered = answered; settled = settled }); rest = rest }
 
 -- or one after another, and then notices were answered
 pub turn-alone : {lanes : List (List Op)} {r q x y : RunningView} {told replies : List (Vec Reply Global)} {asked answers : List Answer} {hints : List ℕ} (lived : List Answer) → LanesRan lanes r told q replies → LeavesCells r q → RanByAttempts lanes r (lists_of told) q (lists_of replies) → EachAlone lanes r told q replies → AnsweredAlone q.heap.space hints asked answers x.heap.space → x ≡ with_space q x.heap.space → Settled x.heap.space y.heap.space → y ≡ with_space x y.heap.space → RanTurn lanes r told asked hints y replies answers lived [] lived

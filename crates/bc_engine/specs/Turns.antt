@@ -15,7 +15,8 @@ use Rattle.bc_running.specs.Running.{RunningView}
 use Rattle.bc_running.specs.RunningFacts.{with_space}
 use Rattle.bc_superpages.specs.Layout.{Layout}
 use Rattle.bc_turn.specs.Answered.{AnsweredBeside}
-use Rattle.bc_turn.specs.Looked.{HadInTurn, IsLookedAtInTurn}
+use Rattle.bc_turn.specs.Beside.{RanBeside}
+use Rattle.bc_turn.specs.Looked.{HadInTurn, IsLookedAtInTurn, tried_in_turn}
 use Rattle.bc_engine.specs.Attempts.{EachAlone, RanByAttempts}
 use Rattle.bc_engine.specs.Lanes.{EachStopped, LanesRan, LeavesCells, StopsInTurn}
 
@@ -28,13 +29,15 @@ line_of lines turn = line_along (hints_in lines) 0 turn
 abbrev pub hints_of : List TurnLists → ℕ → List ℕ
 hints_of lines turn = hints_at (hints_in lines) (line_of lines turn)
 
--- the lanes ran side by side, and beside them pagers answered the notices with these hints, and the live pager those that it took (`fed`).
--- Its answers came after those that there were (`lived`, `live`). Each stop has a cause of that way. Then the heap was settled
-abbrev pub RanTogether : List (List Op) → RunningView → List (Vec Reply Global) → List Answer → List ℕ → RunningView → RunningView → List (Vec Reply Global) → List Answer → List Answer → List Notice → List Answer → Type 0
-RanTogether lanes r before kept hints mid q after told lived fed live =
-    EachStopped (StopsInTurn mid.heap.space) lanes r before mid after
-    × AnsweredBeside (IsLookedAtInTurn r.holders lanes r.heap r.serials (lists_of before) (lists_of after)) (HadInTurn r.holders lanes r.heap r.serials (lists_of before) (lists_of after)) r.heap.space hints kept told mid.heap.space lived fed live
-    × Settled mid.heap.space q.heap.space
+-- the lanes ran side by side, as if one had run after another, and beside them pagers answered the notices with these hints, and the live
+-- pager those that it took (`fed`). Its answers came after those that there were (`lived`, `live`). For each operation that a lane tried at
+-- most one page came back. Each stop has a cause of that way. Then the heap was settled
+pub record RanTogether (lanes : List (List Op)) (r : RunningView) (before : List (Vec Reply Global)) (kept : List Answer) (hints : List ℕ) (mid q : RunningView) (after : List (Vec Reply Global)) (told lived : List Answer) (fed : List Notice) (live : List Answer) : Type 0 where
+  pub beside : RanBeside r.holders lanes r.heap r.serials (lists_of before) mid.heap mid.serials (lists_of after)
+  pub stopped : EachStopped (StopsInTurn mid.heap.space) lanes r before mid after
+  pub answered : AnsweredBeside (IsLookedAtInTurn r.holders lanes r.heap r.serials (lists_of before) (lists_of after)) (HadInTurn r.holders lanes r.heap r.serials (lists_of before) (lists_of after))
+      (tried_in_turn lanes (lists_of before) (lists_of after)) r.heap.space hints kept told mid.heap.space lived fed live
+  pub settled : Settled mid.heap.space q.heap.space
 
 -- the lanes ran one after another, by attempts alone, and then the notices were answered where nobody worked beside. Then the heap was settled.
 -- No live pager took any

@@ -227,6 +227,7 @@ pub record HasWaited (pins : Pins) (a b : Seat) (page : ℕ) : Type 0 where
   pub reads : ReadsOn (view_of a) (view_of b)
   pub passes : (q : ℕ) → q < pages_of (view_of a).about → q ≢ page → PassesBy (view_of a) (view_of b) q
   pub changed : (view_of b).changed ≡ (view_of a).changed
+  pub fetched : (view_of b).fetched ≡ (view_of a).fetched
 
 pub waited-none : (pins : Pins) (a : Seat) (page : ℕ) → IsAt pins a → IsFree a → HasWaited pins a a page
 waited-none pins a page at free = record {
@@ -237,6 +238,7 @@ waited-none pins a page at free = record {
   reads = none-reads (view_of a);
   passes = λ q near ne. none-passes (view_of a) q;
   changed = refl;
+  fetched = refl;
 }
 
 -- once more
@@ -246,8 +248,8 @@ waited-passes pins a b c page w passes q near ne =
     passes-on (view_of a) (view_of b) (view_of c) q (w.passes q near ne) (passes q (subst (λ (k : Key). q < pages_of k) (sym w.same.worker.about) near) ne)
 
 pub waited-more : (pins : Pins) (a b c : Seat) (page : ℕ) → HasWaited pins a b page → IsAt pins c → IsFree c → IsSameLane b c → ((end : ℕ) → (s : Layout) → ShowsPages (view_of b) None end s → ShowsPages (view_of c) None end s)
-    → ReadsOn (view_of b) (view_of c) → ((q : ℕ) → q < pages_of (view_of b).about → q ≢ page → PassesBy (view_of b) (view_of c) q) → (view_of c).changed ≡ (view_of b).changed → HasWaited pins a c page
-waited-more pins a b c page w at free same still reads passes changed = record {
+    → ReadsOn (view_of b) (view_of c) → ((q : ℕ) → q < pages_of (view_of b).about → q ≢ page → PassesBy (view_of b) (view_of c) q) → (view_of c).changed ≡ (view_of b).changed → (view_of c).fetched ≡ (view_of b).fetched → HasWaited pins a c page
+waited-more pins a b c page w at free same still reads passes changed fetched = record {
   at = at;
   free = free;
   same = then-lane a b c w.same same;
@@ -255,6 +257,7 @@ waited-more pins a b c page w at free same still reads passes changed = record {
   reads = then-reads (view_of a) (view_of b) (view_of c) w.reads reads;
   passes = waited-passes pins a b c page w passes;
   changed = changed ∙ w.changed;
+  fetched = fetched ∙ w.fetched;
 }
 
 -- what is so of an answer that isn't the page

@@ -1,8 +1,8 @@
 -- A seat that takes a page that its lane may read, and puts it back.
-use Rattle.std.proofs.Common.{◌≡◌, ◌≢◌, ◌⊎◌, ℕ, ◌-◌, ◌^◌, ◌<◌, ◌≤◌, ◌&&◌, nat_lt, Bool, true, false, min, if◌then◌else◌, List, [], ◌∷◌, ◌++◌, length, Option, Some, None, inl, inr, refl, ap, sym, subst, ◌∙◌, append_assoc, arith}
+use Rattle.std.proofs.Common.{◌≡◌, ◌≢◌, ◌⊎◌, ℕ, ◌+◌, ◌-◌, ◌^◌, ◌<◌, ◌≤◌, ◌&&◌, nat_lt, Bool, true, false, min, if◌then◌else◌, List, [], ◌∷◌, ◌++◌, length, Option, Some, None, inl, inr, refl, ap, sym, subst, ◌∙◌, append_assoc, arith}
 use Rattle.std.proofs.lemmas.Bool.{cases_eq, cases_lt, lt-ltb}
 use Rattle.bc_lane.specs.Shown.{HasPage, IsFrozenPage, IsOwnPage, MayReadPage, ShowsFrozen, ShowsHeld, ShowsPages}
-use Rattle.bc_lane.specs.Turns.{HasInHand, IsLaidDown, IsNobodysPage, IsFrozenOrOwn, IsSameLane, ReadLast, ReadsFrozenHeld, ReadsHeld, ReadsOn}
+use Rattle.bc_lane.specs.Turns.{HasInHand, IsLaidDown, IsNobodysPage, IsFrozenOrOwn, IsSameLane, ReadLast, ReadsFrozenHeld, ReadsHeld, ReadsOn, ReloadsUpTo}
 use Rattle.bc_lane.proofs.PageLemmas.{held-in, owns-page, recorded-else, shows-back, shows-given, shows-read, shows-taken, shows-taken_frozen}
 use Rattle.bc_pins.specs.declared.holding.Held.{Held}
 use Rattle.bc_pins.specs.declared.key.Role.{Role}
@@ -459,3 +459,22 @@ rights-on v w on none = ap (λ (x : View). x.rights) on.same ∙ none
 pub one-page : (hand : Option Held) (p q : ℕ) → HasPage hand p → HasPage hand q → p ≡ q
 one-page None p q a b = absurd a
 one-page (Some held) p q a b = a ∙ sym b
+
+-- where nothing was fetched no page was reloaded
+pub none-reloaded : (v w : View) (most : ℕ) → w.fetched ≡ v.fetched → ReloadsUpTo most v w
+none-reloaded v w most same = let long = ap (λ (l : List ℕ). length l) same in omega arith
+
+-- and a page that was fetched was reloaded once
+pub one-reloaded : (v w : View) (page : ℕ) → w.fetched ≡ page ∷ v.fetched → ReloadsUpTo 1 v w
+one-reloaded v w page same = let long = ap (λ (l : List ℕ). length l) same in omega arith
+
+-- so many were reloaded since nothing was, or until nothing was any more
+pub reloaded-since : (u v w : View) (most : ℕ) → v.fetched ≡ u.fetched → ReloadsUpTo most v w → ReloadsUpTo most u w
+reloaded-since u v w most same more = let long = ap (λ (l : List ℕ). length l) same in omega arith
+
+pub reloaded-until : (u v w : View) (most : ℕ) → ReloadsUpTo most u v → w.fetched ≡ v.fetched → ReloadsUpTo most u w
+reloaded-until u v w most more same = let long = ap (λ (l : List ℕ). length l) same in omega arith
+
+-- first so many, and then so many more
+pub reloaded-then : (u v w : View) (m n : ℕ) → ReloadsUpTo m u v → ReloadsUpTo n v w → ReloadsUpTo (m + n) u w
+reloaded-then u v w m n x y = omega arith

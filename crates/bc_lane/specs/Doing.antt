@@ -1,5 +1,6 @@
 -- Operations of a lane, done one after another on a whole heap.
-use Rattle.std.specs.Prelude.{◌≡◌, ℕ, List, [], ◌∷◌}
+use Rattle.std.specs.Prelude.{◌≡◌, ℕ, ◌+◌, ◌-◌, nat_lt, List, [], ◌∷◌}
+use Rattle.bc_bits.specs.Counting.{one_if}
 use Rattle.bc_model.specs.declared.operations.Op.{Op}
 use Rattle.bc_model.specs.declared.operations.Reply.{Reply}
 use Rattle.bc_model.specs.declared.values.Holder.{Holder}
@@ -14,3 +15,8 @@ DidAll holders lane [] (reply ∷ replies) h serial k next = ⊥
 DidAll holders lane (op ∷ ops) [] h serial k next = ⊥
 DidAll holders lane (op ∷ ops) (reply ∷ replies) h serial k next =
     (m : HeapView) × (n : ℕ) × DidOperation h m holders lane serial n op reply × DidAll holders lane ops replies m n k next
+
+-- how many of its operations a lane tried, which has so many, and had done the first `before` of them, and `after` then: those that it did
+-- meanwhile, and the next one where there is one
+abbrev pub tried_from : ℕ → ℕ → ℕ → ℕ
+tried_from count before after = (after - before) + one_if (nat_lt after count)

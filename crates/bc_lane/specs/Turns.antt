@@ -243,6 +243,10 @@ pub record ReadsOn (v w : View) : Type 0 where
   pub far : (page : ℕ) → pages_of v.about ≤ page → (times page w.left ≡ times page v.left) × (times page w.emptied ≡ times page v.emptied) × (times page w.fetched ≡ times page v.fetched)
   pub few : (length w.left + length w.emptied) + length v.fetched ≤ length w.fetched + (length v.left + length v.emptied)
 
+-- a seat reloaded no more pages than so many
+abbrev pub ReloadsUpTo : ℕ → View → View → Type 0
+ReloadsUpTo most v w = length w.fetched ≤ most + length v.fetched
+
 -- a page that a seat left as it was: as often as it read it as Home it made it Gone or Absent, and it didn't reload it
 pub record PassesBy (v w : View) (page : ℕ) : Type 0 where
   pub home : times 1 (reads_at page w.read) + (times page v.left + times page v.emptied) ≡ times 1 (reads_at page v.read) + (times page w.left + times page w.emptied)

@@ -3,7 +3,7 @@
 ghost use Rattle.std.specs.Prelude.{◌≡◌, ◌⊎◌, ℕ, ◌+◌, ◌^◌, ◌<◌, true, None, Err, IfOk, IfErr, OnErr};
 ghost use Rattle.bc_lane.specs.declared.stops.Stop.TheVariants.{NurseryFull};
 ghost use Rattle.bc_lane.specs.Shown.{HasPage};
-ghost use Rattle.bc_lane.specs.Turns.{DoesOne, IsLaneSeat, IsLaneTable, IsSameLane, IsWhole, LooksOnIn, LooksReadable, PassesBy, PutsBack, ReadsOn, SamePart, StaysWhole, StopsOp, holder_if};
+ghost use Rattle.bc_lane.specs.Turns.{DoesOne, IsLaneSeat, IsLaneTable, IsSameLane, IsWhole, LooksOnIn, LooksReadable, PassesBy, PutsBack, ReadsOn, ReloadsUpTo, SamePart, StaysWhole, StopsOp, holder_if};
 ghost use Rattle.bc_mutator.specs.Operations.{IsOpOf, WantsMore};
 ghost use Rattle.bc_nursery.specs.Objects.{left_of};
 ghost use Rattle.bc_pins.specs.Calls.{key_of, view_of};
@@ -45,6 +45,7 @@ pub(crate) fn operate_or_stop<G: Gate>(
     ensures reads { ReadsOn (view_of seat.old) (view_of seat.new) }
     ensures looked { (q : ℕ) → q < pages_of (view_of seat.old).about → PassesBy (view_of seat.old) (view_of seat.new) q ⊎ LooksOnIn part.old (view_of seat.old) hand.old end op.now q }
     ensures puts { PutsBack (view_of seat.old) hand.old (view_of seat.new) }
+    ensures once { ReloadsUpTo 1 (view_of seat.old) (view_of seat.new) }
     ensures done { IfOk result (λ reply. DoesOne part.old (view_of seat.old) hand.old part.new (view_of seat.new) hand.new end op.now reply) }
     ensures still { OnErr result (StaysWhole part.old (view_of seat.old) hand.old part.new (view_of seat.new) hand.new end) }
     ensures why { IfErr result (λ why. StopsOp (view_of seat.old) part.new (view_of seat.new) hand.new end op.now why) }
@@ -90,6 +91,7 @@ fn operate_frozen<G: Gate>(
     ensures reads { ReadsOn (view_of seat.old) (view_of seat.new) }
     ensures looked { (q : ℕ) → q < pages_of (view_of seat.old).about → PassesBy (view_of seat.old) (view_of seat.new) q ⊎ LooksOnIn part.old (view_of seat.old) hand.old end op.now q }
     ensures puts { PutsBack (view_of seat.old) hand.old (view_of seat.new) }
+    ensures once { ReloadsUpTo 1 (view_of seat.old) (view_of seat.new) }
     ensures done { IfOk result (λ reply. DoesOne part.old (view_of seat.old) hand.old part.new (view_of seat.new) hand.new end op.now reply) }
     ensures still { OnErr result (StaysWhole part.old (view_of seat.old) hand.old part.new (view_of seat.new) hand.new end) }
     ensures why { IfErr result (λ why. StopsOp (view_of seat.old) part.new (view_of seat.new) hand.new end op.now why) }
@@ -129,6 +131,7 @@ fn operate_in_hand<G: Gate>(
     ensures reads { ReadsOn (view_of seat.old) (view_of seat.new) }
     ensures looked { (q : ℕ) → q < pages_of (view_of seat.old).about → PassesBy (view_of seat.old) (view_of seat.new) q ⊎ LooksOnIn part.old (view_of seat.old) hand.old end op.now q }
     ensures puts { PutsBack (view_of seat.old) hand.old (view_of seat.new) }
+    ensures once { ReloadsUpTo 1 (view_of seat.old) (view_of seat.new) }
     ensures done { IfOk result (λ reply. DoesOne part.old (view_of seat.old) hand.old part.new (view_of seat.new) hand.new end op.now reply) }
     ensures still { OnErr result (StaysWhole part.old (view_of seat.old) hand.old part.new (view_of seat.new) hand.new end) }
     ensures why { IfErr result (λ why. StopsOp (view_of seat.old) part.new (view_of seat.new) hand.new end op.now why) }

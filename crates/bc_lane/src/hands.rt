@@ -5,7 +5,7 @@ ghost use Rattle.std.specs.Prelude.{◌≡◌, ◌≢◌, ◌⊎◌, ℕ, ◌<�
 ghost use Rattle.bc_evict.specs.declared.reloading.ReloadError.TheVariants as refused;
 ghost use Rattle.bc_lane.specs.declared.stops.Stop.TheVariants as stop;
 ghost use Rattle.bc_lane.specs.Shown.{HasPage, IsOwnPage, ShowsPages};
-ghost use Rattle.bc_lane.specs.Turns.{FindsNoFrameAtAll, HasFrame, HasInHand, HasNoWayBack, IsLaidDown, IsNobodysPage, IsFrozenOrOwn, IsRefusedFrozen, IsRefusedOwn, IsRefusedPage, IsSameLane, PassesBy, PutsBack, ReadsHome, ReadsOn};
+ghost use Rattle.bc_lane.specs.Turns.{FindsNoFrameAtAll, HasFrame, HasInHand, HasNoWayBack, IsLaidDown, IsNobodysPage, IsFrozenOrOwn, IsRefusedFrozen, IsRefusedOwn, IsRefusedPage, IsSameLane, PassesBy, PutsBack, ReadsHome, ReadsOn, ReloadsUpTo};
 ghost use Rattle.bc_pins.specs.Calls.{HoldsPage, IsAt, IsFree, IsSameSeat, key_of, view_of};
 ghost use Rattle.bc_pins.specs.Contents.{IsBarePage};
 ghost use Rattle.bc_pins.specs.Key.{owner, pages_of};
@@ -64,6 +64,8 @@ fn take_or_reload(pins: &Pins, seat: &mut Seat, page: u32, frozen: bool) -> Resu
     ensures reads { ReadsOn (view_of seat.old) (view_of seat.new) }
     ensures passes { (q : ℕ) → q < pages_of (view_of seat.old).about → q ≢ page → PassesBy (view_of seat.old) (view_of seat.new) q }
     ensures changed { (view_of seat.new).changed ≡ (view_of seat.old).changed }
+    ensures once { ReloadsUpTo 1 (view_of seat.old) (view_of seat.new) }
+    ensures refused { OnErr result ((view_of seat.new).fetched ≡ (view_of seat.old).fetched) }
 {
     if frozen {
         take_frozen(pins, seat, page)
@@ -91,6 +93,8 @@ fn take_own(pins: &Pins, seat: &mut Seat, page: u32) -> Result<Held, Stop>
     ensures reads { ReadsOn (view_of seat.old) (view_of seat.new) }
     ensures passes { (q : ℕ) → q < pages_of (view_of seat.old).about → q ≢ page → PassesBy (view_of seat.old) (view_of seat.new) q }
     ensures changed { (view_of seat.new).changed ≡ (view_of seat.old).changed }
+    ensures once { ReloadsUpTo 1 (view_of seat.old) (view_of seat.new) }
+    ensures refused { OnErr result ((view_of seat.new).fetched ≡ (view_of seat.old).fetched) }
 {
     match pins.take(seat, page, Want::Work) {
         Ok(held) => Ok(held),
@@ -119,6 +123,8 @@ fn reload_page(pins: &Pins, seat: &mut Seat, page: u32) -> Result<Held, Stop>
     ensures reads { ReadsOn (view_of seat.old) (view_of seat.new) }
     ensures passes { (q : ℕ) → q < pages_of (view_of seat.old).about → q ≢ page → PassesBy (view_of seat.old) (view_of seat.new) q }
     ensures changed { (view_of seat.new).changed ≡ (view_of seat.old).changed }
+    ensures once { ReloadsUpTo 1 (view_of seat.old) (view_of seat.new) }
+    ensures refused { OnErr result ((view_of seat.new).fetched ≡ (view_of seat.old).fetched) }
 {
     match find_frame(pins, seat, page.saturating_add(1)) {
         Some(right) => match reload(pins, seat, page, right) {
@@ -148,6 +154,8 @@ fn take_frozen(pins: &Pins, seat: &mut Seat, page: u32) -> Result<Held, Stop>
     ensures reads { ReadsOn (view_of seat.old) (view_of seat.new) }
     ensures passes { (q : ℕ) → q < pages_of (view_of seat.old).about → q ≢ page → PassesBy (view_of seat.old) (view_of seat.new) q }
     ensures changed { (view_of seat.new).changed ≡ (view_of seat.old).changed }
+    ensures once { ReloadsUpTo 1 (view_of seat.old) (view_of seat.new) }
+    ensures refused { OnErr result ((view_of seat.new).fetched ≡ (view_of seat.old).fetched) }
 {
     for _ in 0..TRIES {
         let answer = try_frozen(pins, seat, page);
@@ -187,6 +195,8 @@ fn try_frozen(pins: &Pins, seat: &mut Seat, page: u32) -> Result<Held, Stop>
     ensures reads { ReadsOn (view_of seat.old) (view_of seat.new) }
     ensures passes { (q : ℕ) → q < pages_of (view_of seat.old).about → q ≢ page → PassesBy (view_of seat.old) (view_of seat.new) q }
     ensures changed { (view_of seat.new).changed ≡ (view_of seat.old).changed }
+    ensures once { ReloadsUpTo 1 (view_of seat.old) (view_of seat.new) }
+    ensures refused { OnErr result ((view_of seat.new).fetched ≡ (view_of seat.old).fetched) }
 {
     match pins.take(seat, page, Want::Work) {
         Ok(taken) => Ok(taken),
@@ -215,6 +225,8 @@ fn reload_frozen(pins: &Pins, seat: &mut Seat, page: u32) -> Result<Held, Stop>
     ensures reads { ReadsOn (view_of seat.old) (view_of seat.new) }
     ensures passes { (q : ℕ) → q < pages_of (view_of seat.old).about → q ≢ page → PassesBy (view_of seat.old) (view_of seat.new) q }
     ensures changed { (view_of seat.new).changed ≡ (view_of seat.old).changed }
+    ensures once { ReloadsUpTo 1 (view_of seat.old) (view_of seat.new) }
+    ensures refused { OnErr result ((view_of seat.new).fetched ≡ (view_of seat.old).fetched) }
 {
     match claim_frame(pins, seat) {
         Some(right) => match reload(pins, seat, page, right) {
@@ -285,6 +297,8 @@ pub(crate) fn take_page<G: Gate>(
     ensures reads { ReadsOn (view_of seat.old) (view_of seat.new) }
     ensures passes { (q : ℕ) → q < pages_of (view_of seat.old).about → q ≢ page → PassesBy (view_of seat.old) (view_of seat.new) q }
     ensures puts { PutsBack (view_of seat.old) hand.old (view_of seat.new) }
+    ensures once { ReloadsUpTo 1 (view_of seat.old) (view_of seat.new) }
+    ensures refused { OnErr result ((view_of seat.new).fetched ≡ (view_of seat.old).fetched) }
 {
     if has_page(hand, page) {
         return Ok(());

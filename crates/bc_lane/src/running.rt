@@ -3,7 +3,8 @@
 ghost use Rattle.std.specs.Prelude.{◌≡◌, ◌+◌, ◌<◌, [], ◌∷◌, ◌++◌, None, length, vec_capacity, IfErr, OnOk, OnErr};
 ghost use Rattle.std.specs.List.{AllByRecursion};
 ghost use Rattle.bc_lane.specs.declared.stops.Stop.TheVariants as stop;
-ghost use Rattle.bc_lane.specs.Turns.{IsGoing, IsNextOp, IsSameLane, IsWhole, LaneRan, WhyStopped};
+ghost use Rattle.bc_lane.specs.Doing.{tried_from};
+ghost use Rattle.bc_lane.specs.Turns.{IsGoing, IsNextOp, IsSameLane, IsWhole, LaneRan, ReloadsUpTo, WhyStopped};
 ghost use Rattle.bc_mutator.specs.Operations.{IsOpOf, WantsMore};
 ghost use Rattle.bc_nursery.specs.Objects.{left_of};
 ghost use Rattle.bc_pins.specs.Calls.{IsFree, view_of};
@@ -41,6 +42,7 @@ impl LaneTurn {
         ensures nursery { IsNextOp ops.now self.new.next (λ op. WantsMore self.new.part.holders.items self.new.part.lane (left_of self.new.part.chunk) op)
             → result ≡ stop.NurseryFull }
         ensures seat { IsSameLane seat.old seat.new }
+        ensures once { ReloadsUpTo (tried_from (length ops.now) self.old.next self.new.next) (view_of seat.old) (view_of seat.new) }
         ensures free { IsFree seat.new }
     {
         let end = pins.end();
@@ -71,6 +73,7 @@ fn run_to_stop<G: Gate>(
     ensures nursery { IsNextOp ops.now turn.new.next (λ op. WantsMore turn.new.part.holders.items turn.new.part.lane (left_of turn.new.part.chunk) op)
         → result ≡ stop.NurseryFull }
     ensures seat { IsSameLane seat.old seat.new }
+    ensures once { ReloadsUpTo (tried_from (length ops.now) turn.old.next turn.new.next) (view_of seat.old) (view_of seat.new) }
 {
     'operations: while turn.next < ops.len() {
         if let Err(why) = operate_next(turn, pins, seat, hand, end, ops, shared, gate) {
@@ -98,10 +101,12 @@ fn operate_next<G: Gate>(
     ensures ran { LaneRan ops.now end turn.old (view_of seat.old) hand.old turn.new (view_of seat.new) hand.new }
     ensures going { IsGoing pins.now ops.now turn.new seat.new hand.new }
     ensures further { OnOk result (turn.new.next ≡ turn.old.next + 1) }
+    ensures stays { OnErr result (turn.new.next ≡ turn.old.next) }
     ensures why { IfErr result (λ why. WhyStopped (view_of seat.old) ops.now end turn.new (view_of seat.new) hand.new why) }
     ensures nursery { OnErr result (IsNextOp ops.now turn.new.next (λ op. WantsMore turn.new.part.holders.items turn.new.part.lane (left_of turn.new.part.chunk) op))
         → IfErr result (λ why. why ≡ stop.NurseryFull) }
     ensures seat { IsSameLane seat.old seat.new }
+    ensures once { ReloadsUpTo 1 (view_of seat.old) (view_of seat.new) }
 {
     gate.at(turn.part.lane, 1);
     let op = &ops[turn.next];

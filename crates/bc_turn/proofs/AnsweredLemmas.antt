@@ -93,11 +93,11 @@ module _ (k : Key) (s t : Layout) (seats : List Seat) (opening : k.opening ≡ s
     ]
 
 -- the notices were answered beside the lanes
-pub answered : (IsLooked : ℕ → Type 0) (Had : ℕ → List ℕ → Type 0) (k : Key) (s t : Layout) (seats : List Seat) (hints : List ℕ) (kept after : List Answer) (pagers : List Paged) (told : List Answer) (lived : List Answer) (fed : List Notice) (live : List Answer) (live_told : List Answer) (fetched left emptied : List ℕ)
+pub answered : (IsLooked : ℕ → Type 0) (Had : ℕ → List ℕ → Type 0) (most : ℕ) (k : Key) (s t : Layout) (seats : List Seat) (hints : List ℕ) (kept after : List Answer) (pagers : List Paged) (told : List Answer) (lived : List Answer) (fed : List Notice) (live : List Answer) (live_told : List Answer) (fetched left emptied : List ℕ)
     → k.opening ≡ s → Closed k seats t → IsLayout s → IsLayout t
     → AreMoved k seats (told ++ live_told) fetched left emptied → after ≡ kept ++ told → AnsweredByPagers k hints pagers told → live ≡ lived ++ live_told → AnsweredLive k (length pagers) fed live_told
-    → ((p : ℕ) → 0 < times p fetched → IsLooked p) → (0 < total says_declined (told ++ live_told) → (p : ℕ) → state_at t.states p ≡ Home → IsLooked p) → ((p w b : ℕ) → 0 < total (λ (seat : Seat). puts_with k p w b (view_of seat).changed) seats → (content : List ℕ) × Had p content × (has_bit_of k p content w b ≡ true)) → AnsweredBeside IsLooked Had s hints kept after t lived fed live
-answered IsLooked Had k s t seats hints kept after pagers told lived fed live live_told fetched left emptied opening closed before layout moved is shared live_is lives own declined put =
+    → length fetched ≤ most → ((p : ℕ) → 0 < times p fetched → IsLooked p) → (0 < total says_declined (told ++ live_told) → (p : ℕ) → state_at t.states p ≡ Home → IsLooked p) → ((p w b : ℕ) → 0 < total (λ (seat : Seat). puts_with k p w b (view_of seat).changed) seats → (content : List ℕ) × Had p content × (has_bit_of k p content w b ≡ true)) → AnsweredBeside IsLooked Had most s hints kept after t lived fed live
+answered IsLooked Had most k s t seats hints kept after pagers told lived fed live live_told fetched left emptied opening closed before layout moved is shared live_is lives once own declined put =
     let none : (p : ℕ) → pages_of k ≤ p → (total (says_evicted p) (told ++ live_told) ≡ 0) × (total (says_discarded p) (told ++ live_told) ≡ 0) =
     λ p far.
     let others = told-none k hints pagers told shared p far in
@@ -122,6 +122,7 @@ answered IsLooked Had k s t seats hints kept after pagers told lived fed live li
       fetched = fetched;
       left = left;
       emptied = emptied;
+      once = once;
       few = moved.few;
       own = own;
       gone = gone-count k s t seats opening closed before layout (told ++ live_told) fetched left emptied moved none;
@@ -146,7 +147,7 @@ no-hints [] none = refl
 no-hints (h ∷ hints) none = absurd (omega arith)
 
 -- where there are no notices and no more may come, none is answered
-pub answered-none : (IsLooked : ℕ → Type 0) (Had : ℕ → List ℕ → Type 0) (s : Layout) (hints : List ℕ) (kept lived : List Answer) → s.reads < 2 ^ 64 → length hints ≡ 0 → AnsweredBeside IsLooked Had s hints kept kept s lived [] lived
+pub answered-none : (IsLooked : ℕ → Type 0) (Had : ℕ → List ℕ → Type 0) (s : Layout) (hints : List ℕ) (kept lived : List Answer) → s.reads < 2 ^ 64 → length hints ≡ 0 → AnsweredBeside IsLooked Had 0 s hints kept kept s lived [] lived
 answered-none IsLooked Had s hints kept lived small none =
     let k : Key = record no_key { opening = s } in
     let lives = live-absent k 0 in
@@ -163,6 +164,7 @@ answered-none IsLooked Had s hints kept lived small none =
       fetched = [];
       left = [];
       emptied = [];
+      once = omega arith;
       few = omega arith;
       own = λ p some. absurd (omega arith);
       gone = λ p. omega arith;
@@ -172,10 +174,10 @@ answered-none IsLooked Had s hints kept lived small none =
       reads = (let goal_is : s.reads ≡ min (s.reads + 0) (2 ^ 64 - 1) = omega arith in goal_is);
     }
 
--- where no page is looked at and none had another content, it is so whatever is said of those that are and had
-pub answered-lanes : (IsLooked : ℕ → Type 0) (Had : ℕ → List ℕ → Type 0) (s : Layout) (hints : List ℕ) (kept after : List Answer) (t : Layout) (lived : List Answer) (fed : List Notice) (live : List Answer)
-    → AnsweredBeside (λ p. ⊥) (λ p content. ⊥) s hints kept after t lived fed live → AnsweredBeside IsLooked Had s hints kept after t lived fed live
-answered-lanes IsLooked Had s hints kept after t lived fed live is = record {
+-- where no page is looked at, none had another content, and none was reloaded, it is so whatever is said of those that are and had, and were
+pub answered-lanes : (IsLooked : ℕ → Type 0) (Had : ℕ → List ℕ → Type 0) (most : ℕ) (s : Layout) (hints : List ℕ) (kept after : List Answer) (t : Layout) (lived : List Answer) (fed : List Notice) (live : List Answer)
+    → AnsweredBeside (λ p. ⊥) (λ p content. ⊥) 0 s hints kept after t lived fed live → AnsweredBeside IsLooked Had most s hints kept after t lived fed live
+answered-lanes IsLooked Had most s hints kept after t lived fed live is = record {
   key = is.key;
   opening = is.opening;
   pagers = is.pagers;
@@ -188,6 +190,7 @@ answered-lanes IsLooked Had s hints kept after t lived fed live is = record {
   fetched = is.fetched;
   left = is.left;
   emptied = is.emptied;
+  once = (let none = is.once in omega arith);
   few = is.few;
   own = λ p some. absurd (is.own p some);
   gone = is.gone;

@@ -1,11 +1,12 @@
 -- What seats have between them.
-use Rattle.std.proofs.Common.{◌≡◌, ◌≢◌, ℕ, ◌<◌, ◌≤◌, List, [], ◌∷◌, ◌++◌, length, length-append, map, get_or, inl, inr, refl, ap, arith}
+use Rattle.std.proofs.Common.{◌≡◌, ◌≢◌, ℕ, ◌+◌, ◌-◌, ◌<◌, ◌≤◌, List, [], ◌∷◌, ◌++◌, length, length-append, map, get_or, inl, inr, refl, ap, arith}
 use Prim.Native.Nat.{suc, zero}
 use Rattle.std.proofs.lemmas.Bool.{cases_lt}
 use Rattle.bc_pins.specs.Calls.{view_of}
-use Rattle.bc_pins.specs.Totals.{times, total}
+use Rattle.bc_pins.specs.Totals.{sum_to, times, total}
 use Rattle.bc_pins.specs.Views.{has_role}
 use Rattle.bc_pins.specs.declared.pins.Seat.{Seat}
+use Rattle.bc_pins.proofs.SumLemmas.{sum_cut}
 use Rattle.bc_pins.proofs.TotalLemmas.{times_append}
 
 -- what no seat of the list has, all have none of
@@ -64,3 +65,30 @@ sum-some f (s ∷ seats) some = elim (cases_lt 0 (f s)) [
   | inl here ↦ (0, omega arith, λ d. here)
   | inr none ↦ let r = sum-some f seats (omega arith) in (suc r.0, (let lt = r.1 in omega arith), r.2)
 ]
+
+-- what all have where each has no more than is said of its number
+pub sum-by : (f : Seat → ℕ) (g : ℕ → ℕ) (seats : List Seat) (xs : List ℕ) → length seats ≡ length xs → ((i : ℕ) → i < length xs → (d : Seat) → f (get_or seats i d) ≤ g (get_or xs i 0)) → total f seats ≤ total g xs
+sum-by f g [] [] long each = omega arith
+sum-by f g [] (x ∷ xs) long each = absurd (omega arith)
+sum-by f g (s ∷ seats) [] long each = absurd (omega arith)
+sum-by f g (s ∷ seats) (x ∷ xs) long each =
+    let here = each 0 (omega arith) s in
+    let rest = sum-by f g seats xs (omega arith) (λ i lt d. each (suc i) (omega arith) d) in
+    omega arith
+
+-- what numbers have together that rise from m on, and lie below n
+rising-from : (g : ℕ → ℕ) (m n : ℕ) (xs : List ℕ) → m ≤ n → ((i : ℕ) → i < length xs → (m ≤ get_or xs i 0) × (get_or xs i 0 < n)) → ((i j : ℕ) → i < j → j < length xs → get_or xs i 0 < get_or xs j 0)
+    → sum_to g m + total g xs ≤ sum_to g n
+rising-from g m n [] le within rising = let cut = sum_cut g m (n - m) n (omega arith) in omega arith
+rising-from g m n (x ∷ xs) le within rising =
+    let here = within 0 (omega arith) in
+    let low = here.0 in
+    let high = here.1 in
+    let cut = sum_cut g m (x - m) x (omega arith) in
+    let rest = rising-from g (suc x) n xs (omega arith)
+    (λ i lt. (let up = rising 0 (suc i) (omega arith) (omega arith) in omega arith, (within (suc i) (omega arith)).1))
+    (λ i j lt inside. rising (suc i) (suc j) (omega arith) (omega arith)) in
+    omega arith
+
+pub rising-sum : (g : ℕ → ℕ) (n : ℕ) (xs : List ℕ) → ((i : ℕ) → i < length xs → get_or xs i 0 < n) → ((i j : ℕ) → i < j → j < length xs → get_or xs i 0 < get_or xs j 0) → total g xs ≤ sum_to g n
+rising-sum g n xs within rising = let all = rising-from g 0 n xs (omega arith) (λ i lt. (omega arith, within i lt)) rising in omega arith

@@ -40,7 +40,7 @@ use Rattle.bc_turn.specs.declared.runs.Run.{Run}
 use Rattle.bc_turn.specs.declared.turns.OpenTurn.{OpenTurn}
 use Rattle.bc_turn.specs.UnderWay.{IsTurnUnderWay}
 use Rattle.bc_turn.specs.Answered.{AnsweredBeside}
-use Rattle.bc_turn.specs.Looked.{HadInTurn, IsLookedAtInTurn}
+use Rattle.bc_turn.specs.Looked.{HadInTurn, IsLookedAtInTurn, tried_in_turn}
 use Rattle.bc_turn.specs.Begun.{AllRan, AreBegun, AreBusyLanes, IsBegunLane, RanLane, of_lane}
 use Rattle.bc_turn.specs.Beside.{RanBeside}
 use Rattle.bc_turn.specs.Laying.{AreLaidBack}
@@ -48,7 +48,7 @@ use Rattle.bc_pager.specs.Paging.{AllPagersReady, HaveAllPaged, seats_of}
 use Rattle.bc_pager.specs.Placing.{AnsweredByPagers, ClaimAsMany, paged_of}
 use Rattle.bc_turn.specs.Taking.{AreHeldDomains, AreRunsOf, AreSparesOf, AreTaken, CanAllRun, CanRun, FitsLanes, HasBusyAmong, HasReplyRoom, HasRoomForLane, LaneHasRun, IsRoomKept, LiesRight, running_lanes, seat_at, spare_lanes, turn_at}
 use Rattle.bc_turn.proofs.AnsweredLemmas.{AreMoved, answered}
-use Rattle.bc_turn.proofs.BegunLemmas.{all-claims, all-fetched, all-homes, all-put, are-back, are-moved, are-recorded, begun-lane, may-operate, ops-each, own-fetched, own-returned}
+use Rattle.bc_turn.proofs.BegunLemmas.{all-claims, all-fetched, all-homes, all-put, are-back, are-moved, are-recorded, begun-lane, few-fetched, may-operate, ops-each, own-fetched, own-returned}
 use Rattle.bc_turn.proofs.BesideLemmas.{ran-beside, turn-table}
 use Rattle.bc_turn.proofs.LayingLemmas.{laid-space}
 use Rattle.bc_pager.proofs.SeatedLemmas.{ArePagersBack, ArePagersTold, first-of, pagers-back, pagers-told, seats-long}
@@ -412,14 +412,15 @@ module _ (hs : List Holder) (lanes : List (List Op)) (h : HeapView) (serials : L
             Had = HadInTurn hs lanes h serials (lists_of before) told
 
             pub answered-beside : (t : Layout) → Closed (key_of pins) whole-list t → IsLayout t → (kept all : List Answer) → all ≡ kept ++ answers → (lived last : List Answer) → last ≡ lived ++ answers_of_live new_live
-                → (fed : List Notice) × (taken_new ≡ told_with taken_old fed) × AnsweredBeside Looked Had h.space hints kept all t lived fed last
+                → (fed : List Notice) × (taken_new ≡ told_with taken_old fed) × AnsweredBeside Looked Had (tried_in_turn lanes (lists_of before) told) h.space hints kept all t lived fed last
             answered-beside t closed given kept all all_are lived last last_are =
                 let took =
                 live-answered pins taken_old taken_new since_old since_new (length (map paged_of later)) turn.live new_live (subst (λ (n : ℕ). IsLiveDealt pins n turn.live) (sym (length-map later paged_of)) dealt-live) serves in (
                   took.0,
                   took.1,
-                  answered Looked Had (key_of pins) h.space t whole-list hints kept all (map paged_of later) answers lived took.0 last (answers_of_live new_live) (gathered (λ s. (view_of s).fetched) back) (gathered (λ s. (view_of s).left) back) (gathered (λ s. (view_of s).emptied) back)
+                  answered Looked Had (tried_in_turn lanes (lists_of before) told) (key_of pins) h.space t whole-list hints kept all (map paged_of later) answers lived took.0 last (answers_of_live new_live) (gathered (λ s. (view_of s).fetched) back) (gathered (λ s. (view_of s).left) back) (gathered (λ s. (view_of s).emptied) back)
                       set.opened.opening closed set.layout given moved all_are shared last_are took.2
+                      (few-fetched pins h hs serials lanes (lists_of before) busy (turn_at d runs) (seat_at d runs) (turn_at d new) (seat_at d new) (begun d) (all-ran d) back through table-later back-lanes seats-are back-pagers told home.replies each-fits)
                       (own-fetched pins h hs serials lanes (lists_of before) busy (turn_at d runs) (seat_at d runs) (turn_at d new) (seat_at d new) (begun d) (all-ran d) back through table-later back-lanes seats-are back-pagers told home.replies each-fits)
                       (declined-with-live pins taken_old taken_new since_old since_new later turn.live new_live serves back hints t answers Looked closed given.long.states shared
                       (all-fetched pins h hs serials lanes (lists_of before) busy (turn_at d runs) (seat_at d runs) (turn_at d new) (seat_at d new) (begun d) (all-ran d) back through table-later back-lanes seats-are back-pagers told home.replies each-fits)

@@ -54,11 +54,12 @@ pub record AnsweredLive (k : Key) (number : ℕ) (fed : List Notice) (told : Lis
 -- that pager did and read since; the answers stand in the order of the notices, after those that were kept before. Where more notices
 -- come during the turn, one pager more took them, the live one: each of `fed` has one answer, in order, by what it did and read since
 -- the answer before; these stand in a list of their own, after those that were kept there. Besides, lanes
--- reloaded pages, each one that is looked at in the turn, and for their frames made pages Gone or Absent, no more than they reloaded.
+-- reloaded pages, each one that is looked at in the turn, and at most `most` times in all, and for their frames made pages Gone or Absent, no
+-- more than they reloaded.
 -- By these lists and all answers each page is accounted for: how often it is Gone or Absent afterwards. A notice was declined only where
 -- each page that is Home afterwards is looked at in the turn. Pages were read as often as lanes reloaded one. A page had other contents
 -- in the turn than before it only by its lane's operations
-pub record AnsweredBeside (IsLooked : ℕ → Type 0) (Had : ℕ → List ℕ → Type 0) (s : Layout) (hints : List ℕ) (before after : List Answer) (t : Layout) (lived : List Answer) (fed : List Notice) (live : List Answer) : Type 0 where
+pub record AnsweredBeside (IsLooked : ℕ → Type 0) (Had : ℕ → List ℕ → Type 0) (most : ℕ) (s : Layout) (hints : List ℕ) (before after : List Answer) (t : Layout) (lived : List Answer) (fed : List Notice) (live : List Answer) : Type 0 where
   pub key : Key
   pub opening : key.opening ≡ s
   -- what each pager claimed, answered and read
@@ -74,6 +75,7 @@ pub record AnsweredBeside (IsLooked : ℕ → Type 0) (Had : ℕ → List ℕ �
   pub fetched : List ℕ
   pub left : List ℕ
   pub emptied : List ℕ
+  pub once : length fetched ≤ most
   pub few : length left + length emptied ≤ length fetched
   pub own : (p : ℕ) → 0 < times p fetched → IsLooked p
   pub gone : (p : ℕ) → is_in Gone t p + times p fetched ≡ is_in Gone s p + (total (says_evicted p) (told ++ live_told) + times p left)

@@ -4,7 +4,8 @@ use Rattle.std.specs.Prelude.{◌≡◌, ℕ, ◌<◌, List, [], ◌∷◌, leng
 use Rattle.bc_lane.specs.Back.{heap_back}
 use Rattle.bc_lane.specs.declared.stops.Stop.{Stop}
 use Rattle.bc_lane.specs.declared.turns.LaneTurn.{LaneTurn}
-use Rattle.bc_lane.specs.Turns.{IsGoing, IsWhole, LaneRan, WhyStopped}
+use Rattle.bc_lane.specs.Doing.{tried_from}
+use Rattle.bc_lane.specs.Turns.{IsGoing, IsWhole, LaneRan, ReloadsUpTo, WhyStopped}
 use Rattle.bc_model.specs.declared.operations.Op.{Op}
 use Rattle.bc_model.specs.declared.operations.Reply.{Reply}
 use Rattle.bc_model.specs.declared.values.Holder.{Holder}
@@ -50,10 +51,12 @@ pub record AreBegun (pins : Pins) (h : HeapView) (holders : List Holder) (serial
   pub lane_is : (i : ℕ) → i < length busy → (turn i).part.lane ≡ slice_index busy i
 
 -- what a lane's run says: whatever whole heap what the lane had belonged to, what it has now belongs to that heap with its
--- operations done, and the stop has its cause there. The seat is that seat, with nothing in hand, and counts still the boxes that it opens
+-- operations done, and the stop has its cause there. It reloaded no more pages than it tried operations. The seat is that seat, with nothing in
+-- hand, and counts still the boxes that it opens
 pub record RanLane (ops : List Op) (old : LaneTurn) (seat : Seat) (new : LaneTurn) (after : Seat) (why : Stop) : Type 0 where
   pub ran : (h : HeapView) → IsWhole old.part (view_of seat) None (end_of h.space) h → LaneRan ops (end_of h.space) old (view_of seat) None new (view_of after) None
   pub stopped : (h : HeapView) → IsWhole old.part (view_of seat) None (end_of h.space) h → WhyStopped (view_of seat) ops (end_of h.space) new (view_of after) None why
+  pub once : ReloadsUpTo (tried_from (length ops) old.next new.next) (view_of seat) (view_of after)
   pub seat_is : IsSameWorker seat after
   pub counts : CountsFetches seat → CountsFetches after
   pub free : IsFree after

@@ -1,13 +1,14 @@
--- Heaps on the way of a lane's turn: pages on which an operation looks, and contents that a page had.
+-- Heaps on the way of a lane's turn: pages on which an operation looks, and contents that a page had; and how many operations all lanes try.
 use Rattle.std.specs.Prelude.{◌≡◌, ℕ, ◌+◌, ◌/◌, ◌<◌, ◌≤◌, true, List, ◌++◌, length, take, drop, slice_index, slice_index_or}
 use Rattle.bc_lane.specs.Back.{heap_back}
-use Rattle.bc_lane.specs.Doing.{DidAll}
+use Rattle.bc_lane.specs.Doing.{DidAll, tried_from}
 use Rattle.bc_lane.specs.Turns.{LooksRightOn}
 use Rattle.bc_model.specs.State.{holder_of, lets_read}
 use Rattle.bc_model.specs.declared.operations.Op.{Op}
 use Rattle.bc_model.specs.declared.operations.Reply.{Reply}
 use Rattle.bc_model.specs.declared.values.Holder.{Holder}
 use Rattle.bc_model.specs.declared.values.Holder.TheVariants.{Lane}
+use Rattle.bc_pins.specs.Totals.{sum_to}
 use Rattle.bc_superpages.specs.Layout.{content_at}
 use Rattle.bc_turn.specs.Begun.{of_lane}
 use Rattle.bc_whole_heap.specs.Heaps.{HeapView}
@@ -43,3 +44,11 @@ pub record HadInTurn (holders : List Holder) (lanes : List (List Op)) (h : HeapV
   pub heap : HeapView
   pub way : IsOnTheWay holders lanes h serials before after lane count heap
   pub is : content_at heap.space.pages page ≡ content
+
+-- how many operations a lane tried in the turn: those that it did, and the next one where there is one
+abbrev pub tried_by : List (List Op) → List (List Reply) → List (List Reply) → ℕ → ℕ
+tried_by lanes before after lane = tried_from (length (of_lane lanes lane)) (length (of_lane before lane)) (length (of_lane after lane))
+
+-- how many all lanes tried
+abbrev pub tried_in_turn : List (List Op) → List (List Reply) → List (List Reply) → ℕ
+tried_in_turn lanes before after = sum_to (tried_by lanes before after) (length lanes)

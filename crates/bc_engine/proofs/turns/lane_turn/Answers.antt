@@ -46,7 +46,7 @@ returns-in-Ok-clause-turn g c =
     let settled = c.settle.ensures in
     let side = abreast g here.In-Ok in
     let answered = c.in-Ok.ensures.answered in
-    (answered.0, answered.1, turn-together (together-runs side) (together-leaves side) (together-stopped side) answered.2 settled.settled settled.rest)
+    (answered.0, answered.1, turn-together (together-runs side) (together-leaves side) side.ran (together-stopped side) answered.2 settled.settled settled.rest)
 
 -- there was no memory for it, and nothing had changed
 pub returns-in-Err-clause-turn : goal.returns-in-Err-clause-turn

@@ -1,10 +1,11 @@
 use Rattle.std.proofs.Common.{None, ap, ◌∙◌}
 use Rattle.std.proofs.lemmas.Result.{IfErr-weaker, IfOk-weaker, on_err_weaker}
 use Rattle.bc_lane.proofs.AnswerLemmas.{frozen-unchanged, either-whole, whole-moved}
-use Rattle.bc_lane.proofs.HandLemmas.{at-lane, rights-on, somebody-lane, then-lane, then-reads}
+use Rattle.bc_lane.proofs.HandLemmas.{at-lane, reloaded-until, rights-on, somebody-lane, then-lane, then-reads}
 use Rattle.bc_lane.proofs.PassLemmas.{looked-then, puts-on}
 use Rattle.bc_lane.proofs.TurnLemmas.{stops-laid}
 use Rattle.bc_pins.specs.Calls.{view_of}
+use Rattle.bc_pins.specs.declared.views.View.{View}
 use Rattle.bc_lane.proofs.attempting.operate_frozen.Goals as goal
 
 pub put_hand_back-requires-clause-shown : goal.put_hand_back-requires-clause-shown
@@ -72,3 +73,7 @@ returns-clause-why g c =
     rw c.put_hand_back.ensures.none (stops-laid (view_of c.args.seat.now) new.part (view_of new.seat) (view_of c.put_hand_back.new.seat) new.hand c.args.end c.args.op.now why c.put_hand_back.ensures.laid
     (λ none. ap view_of (c.put_hand_back.ensures.idle none)) c.put_hand_back.ensures.back stops))
     c.operate_in_hand-answer.ensures.why
+
+pub returns-clause-once : goal.returns-clause-once
+returns-clause-once g c =
+    reloaded-until (view_of c.args.seat.now) (view_of c.operate_in_hand-answer.new.seat) (view_of c.put_hand_back.new.seat) 1 c.operate_in_hand-answer.ensures.once (ap (λ (v : View). v.fetched) c.put_hand_back.ensures.laid)

@@ -1,6 +1,6 @@
 use Rattle.std.proofs.Common.{inl, refl, ap, ◌∙◌}
 use Rattle.bc_lane.proofs.AnswerLemmas.{foreign-does, foreign-wants, hands-operated, sealed-does, sealed-wants, stays-brought, stops-operated, touches-none}
-use Rattle.bc_lane.proofs.HandLemmas.{none-reads, same-lane}
+use Rattle.bc_lane.proofs.HandLemmas.{none-reads, none-reloaded, same-lane}
 use Rattle.bc_lane.proofs.PassLemmas.{none-passes, same-puts}
 use Rattle.bc_pins.specs.Calls.{key_of, view_of}
 use Rattle.bc_pins.specs.Key.{Key}
@@ -97,3 +97,12 @@ returns-in-Sealed-clause-looked g c = λ q near. inl (none-passes (view_of c.arg
 
 pub returns-in-Sealed-clause-puts : goal.returns-in-Sealed-clause-puts
 returns-in-Sealed-clause-puts g c = same-puts (view_of c.args.seat.now) (view_of c.args.seat.now) c.args.hand.now refl
+
+pub returns-in-Nowhere-clause-once : goal.returns-in-Nowhere-clause-once
+returns-in-Nowhere-clause-once g c = none-reloaded (view_of c.args.seat.now) (view_of c.args.seat.now) 1 refl
+
+pub returns-in-Foreign-clause-once : goal.returns-in-Foreign-clause-once
+returns-in-Foreign-clause-once g c = none-reloaded (view_of c.args.seat.now) (view_of c.args.seat.now) 1 refl
+
+pub returns-in-Sealed-clause-once : goal.returns-in-Sealed-clause-once
+returns-in-Sealed-clause-once g c = none-reloaded (view_of c.args.seat.now) (view_of c.args.seat.now) 1 refl

@@ -3,7 +3,7 @@ use Rattle.bc_evict.specs.Evicting.{HasGiven}
 use Rattle.bc_evict.specs.Reloading.{reload_word}
 use Rattle.bc_lane.proofs.FrameLemmas.{claimed-frame, reloaded-holds, reloaded-lane, reloaded-reads, reloaded-shows_frozen}
 use Rattle.bc_lane.proofs.FrozenLemmas.{other-word, refused-frame-changed, refused-frame-fetched, refused-frame-home, refused-frame-lane, refused-frame-passes, refused-frame-reads, refused-frame-shows, refused-frame-way, unclaimed-passes, unclaimed-reads, unclaimed-shows, unclaimed-way}
-use Rattle.bc_lane.proofs.HandLemmas.{at-worker, nobodys-about, seat-lane}
+use Rattle.bc_lane.proofs.HandLemmas.{at-worker, nobodys-about, none-reloaded, one-reloaded, seat-lane}
 use Rattle.bc_lane.proofs.PassLemmas.{fetched-passes}
 use Rattle.bc_pins.specs.Calls.{view_of}
 use Rattle.bc_pins.specs.Key.{Key, pages_of}
@@ -133,3 +133,23 @@ returns-in-None-clause-passes c = λ q near ne. unclaimed-passes (view_of c.args
 
 pub returns-in-None-clause-changed : goal.returns-in-None-clause-changed
 returns-in-None-clause-changed c = ap (λ (v : View). v.changed) c.in-None.ensures.none.view
+
+pub returns-in-Ok-clause-once : goal.returns-in-Ok-clause-once
+returns-in-Ok-clause-once c =
+    one-reloaded (view_of c.args.seat.now) (view_of c.reload.new.seat) c.args.page
+    (ap (λ (v : View). v.fetched) c.in-Ok.ensures.ok.0.view ∙ ap (λ (v : View). c.args.page ∷ v.fetched) c.in-Some.ensures.some.view)
+
+pub returns-in-Err-clause-once : goal.returns-in-Err-clause-once
+returns-in-Err-clause-once c =
+    none-reloaded (view_of c.args.seat.now) (view_of c.give_frame.new.seat) 1
+    (refused-frame-fetched (view_of c.args.seat.now) (view_of c.claim_frame.new.seat) (view_of c.reload.new.seat) (view_of c.give_frame.new.seat) c.args.page c.in-Some.right.frame (reload_word c.in-Err.refusal) c.in-Some.ensures.some c.in-Err.ensures.err.1.view (subst (λ (f : ℕ). HasGiven (view_of c.reload.new.seat) f (view_of c.give_frame.new.seat)) c.in-Err.ensures.err.0 c.give_frame.ensures.given) c.requires.rights)
+
+pub returns-in-Err-clause-refused : goal.returns-in-Err-clause-refused
+returns-in-Err-clause-refused c =
+    refused-frame-fetched (view_of c.args.seat.now) (view_of c.claim_frame.new.seat) (view_of c.reload.new.seat) (view_of c.give_frame.new.seat) c.args.page c.in-Some.right.frame (reload_word c.in-Err.refusal) c.in-Some.ensures.some c.in-Err.ensures.err.1.view (subst (λ (f : ℕ). HasGiven (view_of c.reload.new.seat) f (view_of c.give_frame.new.seat)) c.in-Err.ensures.err.0 c.give_frame.ensures.given) c.requires.rights
+
+pub returns-in-None-clause-once : goal.returns-in-None-clause-once
+returns-in-None-clause-once c = none-reloaded (view_of c.args.seat.now) (view_of c.claim_frame.new.seat) 1 (ap (λ (v : View). v.fetched) c.in-None.ensures.none.view)
+
+pub returns-in-None-clause-refused : goal.returns-in-None-clause-refused
+returns-in-None-clause-refused c = ap (λ (v : View). v.fetched) c.in-None.ensures.none.view

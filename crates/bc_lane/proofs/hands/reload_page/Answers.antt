@@ -1,6 +1,6 @@
-use Rattle.std.proofs.Common.{◌<◌, inl, ap, sym, subst, ◌∙◌, arith}
+use Rattle.std.proofs.Common.{◌<◌, ◌∷◌, inl, ap, sym, subst, ◌∙◌, arith}
 use Rattle.bc_lane.proofs.FrameLemmas.{none-found-reads, none-found-shows, reloaded-holds, reloaded-lane, reloaded-reads, reloaded-shows}
-use Rattle.bc_lane.proofs.HandLemmas.{own-lane, seat-lane}
+use Rattle.bc_lane.proofs.HandLemmas.{none-reloaded, one-reloaded, own-lane, seat-lane}
 use Rattle.bc_lane.proofs.PassLemmas.{fetched-passes, none-found-passes}
 use Rattle.bc_pins.specs.Calls.{view_of}
 use Rattle.bc_pins.specs.Key.{Key, pages_of}
@@ -68,3 +68,14 @@ returns-in-Ok-clause-changed c = ap (λ (v : View). v.changed) c.in-Ok.ensures.o
 
 pub returns-in-None-clause-changed : goal.returns-in-None-clause-changed
 returns-in-None-clause-changed c = ap (λ (v : View). v.changed) c.in-None.ensures.none.view
+
+pub returns-in-Ok-clause-once : goal.returns-in-Ok-clause-once
+returns-in-Ok-clause-once c =
+    one-reloaded (view_of c.args.seat.now) (view_of c.reload.new.seat) c.args.page
+    (ap (λ (v : View). v.fetched) c.in-Ok.ensures.ok.0.view ∙ ap (λ (v : View). c.args.page ∷ v.fetched) c.in-Some.ensures.some.view)
+
+pub returns-in-None-clause-once : goal.returns-in-None-clause-once
+returns-in-None-clause-once c = none-reloaded (view_of c.args.seat.now) (view_of c.find_frame.new.seat) 1 (ap (λ (v : View). v.fetched) c.in-None.ensures.none.view)
+
+pub returns-in-None-clause-refused : goal.returns-in-None-clause-refused
+returns-in-None-clause-refused c = ap (λ (v : View). v.fetched) c.in-None.ensures.none.view

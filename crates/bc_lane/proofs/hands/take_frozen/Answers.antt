@@ -2,7 +2,7 @@ use Rattle.std.proofs.Common.{◌≡◌, true, sym, subst, ◌∙◌}
 use Rattle.std.proofs.lemmas.Result.{IfErr-weaker, IfOk-weaker, on_err_weaker}
 use Rattle.bc_lane.proofs.FrameLemmas.{frozen-since-then}
 use Rattle.bc_lane.proofs.FrozenLemmas.{waited-more, waited-none, waited-passes, when-busy, when-still}
-use Rattle.bc_lane.proofs.HandLemmas.{at-lane, nobodys-about, rights-on, then-lane, then-reads}
+use Rattle.bc_lane.proofs.HandLemmas.{at-lane, nobodys-about, reloaded-since, rights-on, then-lane, then-reads}
 use Rattle.bc_pins.specs.Calls.{view_of}
 use Rattle.bc_pins.specs.Contents.{IsBarePage}
 use Rattle.bc_pins.specs.Key.{Key}
@@ -59,7 +59,7 @@ loop-preserved c =
     let now = c.try_frozen-answer.ensures in
     let busy = c.is_busy.ensures.busy c.if-not-is_busy.false in
     waited-more c.args.pins.now c.args.seat.now c.loop.seat c.try_frozen-answer.new.seat c.args.page w (at-lane c.args.pins.now c.loop.seat c.try_frozen-answer.new.seat w.at now.same)
-    (when-busy c.try_frozen-answer.result _ _ busy now.err) now.same (when-still c.try_frozen-answer.result _ busy now.still) now.reads now.passes now.changed
+    (when-busy c.try_frozen-answer.result _ _ busy now.err) now.same (when-still c.try_frozen-answer.result _ busy now.still) now.reads now.passes now.changed (when-still c.try_frozen-answer.result _ busy now.refused)
 
 pub try_frozen-requires-clause-at : goal.try_frozen-requires-clause-at
 try_frozen-requires-clause-at c = c.loop.invariant.at
@@ -102,3 +102,16 @@ returns-clause-passes c = waited-passes c.args.pins.now c.args.seat.now c.loop.s
 
 pub returns-clause-changed : goal.returns-clause-changed
 returns-clause-changed c = c.try_frozen.ensures.changed ∙ c.loop.invariant.changed
+
+pub returns-then-not-is_busy-clause-once : goal.returns-then-not-is_busy-clause-once
+returns-then-not-is_busy-clause-once c =
+    reloaded-since (view_of c.args.seat.now) (view_of c.loop.seat) (view_of c.try_frozen-answer.new.seat) 1 c.loop.invariant.fetched c.try_frozen-answer.ensures.once
+
+pub returns-then-not-is_busy-clause-refused : goal.returns-then-not-is_busy-clause-refused
+returns-then-not-is_busy-clause-refused c = on_err_weaker c.try_frozen-answer.result (λ none. none ∙ c.loop.invariant.fetched) c.try_frozen-answer.ensures.refused
+
+pub returns-clause-once : goal.returns-clause-once
+returns-clause-once c = reloaded-since (view_of c.args.seat.now) (view_of c.loop.seat) (view_of c.try_frozen.new.seat) 1 c.loop.invariant.fetched c.try_frozen.ensures.once
+
+pub returns-clause-refused : goal.returns-clause-refused
+returns-clause-refused c = on_err_weaker c.try_frozen.result (λ none. none ∙ c.loop.invariant.fetched) c.try_frozen.ensures.refused

@@ -3,11 +3,12 @@ use Rattle.bc_lane.specs.Shown.{ShowsPages}
 use Rattle.bc_lane.specs.Turns.{HasInHand}
 use Rattle.bc_lane.proofs.FrameLemmas.{refused-since-then}
 use Rattle.bc_lane.proofs.PassLemmas.{none-passes, passes-on, puts-on, same-puts}
-use Rattle.bc_lane.proofs.HandLemmas.{at-lane, none-reads, page-of_lane, rights-on, same-lane, then-lane, then-reads}
+use Rattle.bc_lane.proofs.HandLemmas.{at-lane, none-reads, none-reloaded, page-of_lane, reloaded-since, rights-on, same-lane, then-lane, then-reads}
 use Rattle.bc_pins.specs.Calls.{HoldsPage, view_of}
 use Rattle.bc_pins.specs.Contents.{IsBarePage}
 use Rattle.bc_pins.specs.Key.{Key, pages_of}
 use Rattle.bc_pins.specs.declared.holding.Held.{Held}
+use Rattle.bc_pins.specs.declared.views.View.{View}
 use Rattle.bc_lane.proofs.hands.take_page.Goals as goal
 
 -- a test that is sure to hold doesn't fail
@@ -98,3 +99,17 @@ returns-in-Ok-clause-puts g c = puts-on (view_of c.args.seat.now) (view_of c.put
 
 pub returns-in-Err-clause-puts : goal.returns-in-Err-clause-puts
 returns-in-Err-clause-puts g c = puts-on (view_of c.args.seat.now) (view_of c.put_hand_back.new.seat) (view_of c.take_or_reload.new.seat) c.args.hand.now c.put_hand_back.ensures.puts c.take_or_reload.ensures.changed
+
+pub returns-then-has_page-clause-once : goal.returns-then-has_page-clause-once
+returns-then-has_page-clause-once g c = none-reloaded (view_of c.args.seat.now) (view_of c.args.seat.now) 1 refl
+
+pub returns-in-Ok-clause-once : goal.returns-in-Ok-clause-once
+returns-in-Ok-clause-once g c =
+    reloaded-since (view_of c.args.seat.now) (view_of c.put_hand_back.new.seat) (view_of c.take_or_reload.new.seat) 1 (ap (λ (v : View). v.fetched) c.put_hand_back.ensures.laid) c.take_or_reload.ensures.once
+
+pub returns-in-Err-clause-once : goal.returns-in-Err-clause-once
+returns-in-Err-clause-once g c =
+    reloaded-since (view_of c.args.seat.now) (view_of c.put_hand_back.new.seat) (view_of c.take_or_reload.new.seat) 1 (ap (λ (v : View). v.fetched) c.put_hand_back.ensures.laid) c.take_or_reload.ensures.once
+
+pub returns-in-Err-clause-refused : goal.returns-in-Err-clause-refused
+returns-in-Err-clause-refused g c = c.in-Err.ensures.refused ∙ ap (λ (v : View). v.fetched) c.put_hand_back.ensures.laid

@@ -1,7 +1,7 @@
 use Rattle.std.proofs.Common.{◌≡◌, ◌<◌, true, inl, inr, refl, ap, sym, subst, ◌∙◌}
 use Rattle.std.proofs.lemmas.Result.{IfErr-weaker, IfOk-weaker, on_err_weaker}
 use Rattle.bc_lane.proofs.FrozenLemmas.{gone-or-moved}
-use Rattle.bc_lane.proofs.HandLemmas.{holds-taken, never-absent, never-remembered, nobodys-about, refused-changed, refused-fetched, refused-frozen, refused-reads, refused-shown, rights-on, seat-lane, shown-taken_frozen, taken-reads, then-lane, then-reads, tried-changed, tried-fetched}
+use Rattle.bc_lane.proofs.HandLemmas.{holds-taken, never-absent, never-remembered, nobodys-about, none-reloaded, refused-changed, refused-fetched, refused-frozen, refused-reads, refused-shown, reloaded-since, rights-on, seat-lane, shown-taken_frozen, taken-reads, then-lane, then-reads, tried-changed, tried-fetched}
 use Rattle.bc_lane.proofs.PassLemmas.{passes-on, refused-passes, taken-passes}
 use Rattle.bc_pins.specs.Calls.{view_of}
 use Rattle.bc_pins.specs.Key.{Key, pages_of}
@@ -134,3 +134,28 @@ pub returns-in-Err-Gone-clause-changed : goal.returns-in-Err-Gone-clause-changed
 returns-in-Err-Gone-clause-changed c =
     let r = rw c.in-Err-Gone.field-0-is at c.in-Err-Gone.ensures.err in
     c.reload_frozen.ensures.changed ∙ refused-changed (view_of c.args.seat.now) (view_of c.take.new.seat) c.args.page Work Gone r.1
+
+pub returns-in-Ok-clause-once : goal.returns-in-Ok-clause-once
+returns-in-Ok-clause-once c =
+    none-reloaded (view_of c.args.seat.now) (view_of c.take.new.seat) 1
+    (ap (λ (v : View). v.fetched) c.in-Ok.ensures.ok.view ∙ tried-fetched (view_of c.args.seat.now) c.args.page c.in-Ok.taken.remembered)
+
+pub returns-in-Err-Busy-clause-once : goal.returns-in-Err-Busy-clause-once
+returns-in-Err-Busy-clause-once c =
+    let r = rw c.in-Err-Busy.field-0-is at c.in-Err-Busy.ensures.err in
+    none-reloaded (view_of c.args.seat.now) (view_of c.take.new.seat) 1 (refused-fetched (view_of c.args.seat.now) (view_of c.take.new.seat) c.args.page Work Busy r.1)
+
+pub returns-in-Err-Busy-clause-refused : goal.returns-in-Err-Busy-clause-refused
+returns-in-Err-Busy-clause-refused c =
+    let r = rw c.in-Err-Busy.field-0-is at c.in-Err-Busy.ensures.err in
+    refused-fetched (view_of c.args.seat.now) (view_of c.take.new.seat) c.args.page Work Busy r.1
+
+pub returns-in-Err-Gone-clause-once : goal.returns-in-Err-Gone-clause-once
+returns-in-Err-Gone-clause-once c =
+    let r = rw c.in-Err-Gone.field-0-is at c.in-Err-Gone.ensures.err in
+    reloaded-since (view_of c.args.seat.now) (view_of c.take.new.seat) (view_of c.reload_frozen.new.seat) 1 (refused-fetched (view_of c.args.seat.now) (view_of c.take.new.seat) c.args.page Work Gone r.1) c.reload_frozen.ensures.once
+
+pub returns-in-Err-Gone-clause-refused : goal.returns-in-Err-Gone-clause-refused
+returns-in-Err-Gone-clause-refused c =
+    let r = rw c.in-Err-Gone.field-0-is at c.in-Err-Gone.ensures.err in
+    on_err_weaker c.reload_frozen.result (λ none. none ∙ refused-fetched (view_of c.args.seat.now) (view_of c.take.new.seat) c.args.page Work Gone r.1) c.reload_frozen.ensures.refused

@@ -1,4 +1,5 @@
-use Rattle.bc_lane.proofs.HandLemmas.{same-lane, then-lane}
+use Rattle.std.proofs.Common.{◌-◌, refl, arith}
+use Rattle.bc_lane.proofs.HandLemmas.{none-reloaded, same-lane, then-lane}
 use Rattle.bc_lane.proofs.RunLemmas.{fits-all, ran-none, ran-then}
 use Rattle.bc_lane.proofs.TurnLemmas.{why-since}
 use Rattle.bc_pins.specs.Calls.{view_of}
@@ -9,6 +10,8 @@ operations-init g c = record {
   ran = ran-none c.args.ops.now c.args.end c.args.turn.now (view_of c.args.seat.now) c.args.hand.now;
   going = c.requires.going;
   seat = same-lane c.args.seat.now;
+  further = omega arith;
+  once = none-reloaded (view_of c.args.seat.now) (view_of c.args.seat.now) (c.args.turn.now.next - c.args.turn.now.next) refl;
 }
 
 pub operate_next-requires-clause-whole : goal.operate_next-requires-clause-whole
@@ -25,6 +28,8 @@ operations-preserved g c =
       ran = ran-then c.args.ops.now c.args.end c.args.turn.now c.operations.turn c.operate_next.new.turn (view_of c.args.seat.now) (view_of c.operations.seat) (view_of c.operate_next.new.seat) c.args.hand.now c.operations.hand c.operate_next.new.hand before.ran now.ran;
       going = now.going;
       seat = then-lane c.args.seat.now c.operations.seat c.operate_next.new.seat before.seat now.seat;
+      further = (let up = before.further in let one = now.further in omega arith);
+      once = (let up = before.further in let some = before.once in let one = now.once in let next = now.further in omega arith);
     }
 
 pub returns-in-Err-clause-ran : goal.returns-in-Err-clause-ran
@@ -37,3 +42,14 @@ returns-in-Err-clause-seat g c = then-lane c.args.seat.now c.operations.seat c.o
 pub returns-in-Err-clause-why : goal.returns-in-Err-clause-why
 returns-in-Err-clause-why g c =
     why-since (view_of c.args.seat.now) (view_of c.operations.seat) c.args.ops.now c.args.end c.operate_next.new.turn (view_of c.operate_next.new.seat) c.operate_next.new.hand c.in-Err.why c.operations.invariant.ran.reads c.in-Err.ensures.why
+
+pub returns-in-Err-clause-once : goal.returns-in-Err-clause-once
+returns-in-Err-clause-once g c =
+    let before = c.operations.invariant in
+    let now = c.operate_next.ensures in
+    ?
+
+pub returns-clause-once : goal.returns-clause-once
+returns-clause-once g c =
+    let before = c.operations.invariant in
+    ?

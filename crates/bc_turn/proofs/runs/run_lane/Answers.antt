@@ -1,6 +1,7 @@
-use Rattle.std.proofs.Common.{List, None, sym, subst, arith}
+use Rattle.std.proofs.Common.{List, None, length, sym, subst, arith}
 use Rattle.std.specs.List.{AllByRecursion}
-use Rattle.bc_lane.specs.Turns.{IsGoing, LaneRan, WhyStopped}
+use Rattle.bc_lane.specs.Doing.{tried_from}
+use Rattle.bc_lane.specs.Turns.{IsGoing, LaneRan, ReloadsUpTo, WhyStopped}
 use Rattle.bc_model.specs.declared.operations.Op.{Op}
 use Rattle.bc_mutator.specs.Operations.{IsOpOf}
 use Rattle.bc_pins.specs.Calls.{view_of}
@@ -38,6 +39,7 @@ returns g c =
       ran = record {
         ran = λ h whole. subst (λ (xs : List Op). LaneRan xs (end_of h.space) old.turn (view_of old.seat) None turn (view_of seat) None) ops (c.run-why.ensures.ran h whole);
         stopped = λ h whole. subst (λ (xs : List Op). WhyStopped (view_of old.seat) xs (end_of h.space) turn (view_of seat) None c.run-why.result) ops (c.run-why.ensures.why h whole);
+        once = subst (λ (xs : List Op). ReloadsUpTo (tried_from (length xs) old.turn.next turn.next) (view_of old.seat) (view_of seat)) ops c.run-why.ensures.once;
         seat_is = c.run-why.ensures.seat.worker;
         counts = c.run-why.ensures.seat.opens;
         free = c.run-why.ensures.free;

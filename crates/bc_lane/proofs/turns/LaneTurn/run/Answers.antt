@@ -1,8 +1,9 @@
 use Rattle.std.proofs.Common.{ℕ, None, ap, sym, subst}
 use Rattle.bc_lane.specs.Turns.{IsWhole, LaneRan, WhyStopped}
-use Rattle.bc_lane.proofs.HandLemmas.{then-lane}
+use Rattle.bc_lane.proofs.HandLemmas.{reloaded-until, then-lane}
 use Rattle.bc_lane.proofs.TurnLemmas.{ran-laid, same-end, why-laid}
 use Rattle.bc_pins.specs.Calls.{key_of, view_of}
+use Rattle.bc_pins.specs.declared.views.View.{View}
 use Rattle.bc_whole_heap.specs.Heaps.{end_of}
 use Rattle.bc_lane.proofs.turns.LaneTurn.run.Goals as goal
 
@@ -40,3 +41,7 @@ returns-clause-why g c = λ h w.
 
 pub returns-clause-seat : goal.returns-clause-seat
 returns-clause-seat g c = then-lane c.args.seat.now c.run_to_stop-why.new.seat c.put_hand_back.new.seat c.run_to_stop-why.ensures.seat c.put_hand_back.ensures.same
+
+pub returns-clause-once : goal.returns-clause-once
+returns-clause-once g c =
+    reloaded-until (view_of c.args.seat.now) (view_of c.run_to_stop-why.new.seat) (view_of c.put_hand_back.new.seat) _ c.run_to_stop-why.ensures.once (ap (λ (v : View). v.fetched) c.put_hand_back.ensures.laid)
