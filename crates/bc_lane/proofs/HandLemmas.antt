@@ -1,6 +1,8 @@
 -- A seat that takes a page that its lane may read, and puts it back.
 use Rattle.std.proofs.Common.{◌≡◌, ◌≢◌, ◌⊎◌, ℕ, ◌+◌, ◌-◌, ◌^◌, ◌<◌, ◌≤◌, ◌&&◌, nat_lt, Bool, true, false, min, if◌then◌else◌, List, [], ◌∷◌, ◌++◌, length, Option, Some, None, inl, inr, refl, ap, sym, subst, ◌∙◌, append_assoc, arith}
 use Rattle.std.proofs.lemmas.Bool.{cases_eq, cases_lt, lt-ltb}
+use Rattle.bc_bits.specs.Counting.{one_if}
+use Rattle.bc_lane.specs.Doing.{tried_from}
 use Rattle.bc_lane.specs.Shown.{HasPage, IsFrozenPage, IsOwnPage, MayReadPage, ShowsFrozen, ShowsHeld, ShowsPages}
 use Rattle.bc_lane.specs.Turns.{HasInHand, IsLaidDown, IsNobodysPage, IsFrozenOrOwn, IsSameLane, ReadLast, ReadsFrozenHeld, ReadsHeld, ReadsOn, ReloadsUpTo}
 use Rattle.bc_lane.proofs.PageLemmas.{held-in, owns-page, recorded-else, shows-back, shows-given, shows-read, shows-taken, shows-taken_frozen}
@@ -478,3 +480,7 @@ reloaded-until u v w most more same = let long = ap (λ (l : List ℕ). length l
 -- first so many, and then so many more
 pub reloaded-then : (u v w : View) (m n : ℕ) → ReloadsUpTo m u v → ReloadsUpTo n v w → ReloadsUpTo (m + n) u w
 reloaded-then u v w m n x y = omega arith
+
+-- where the next operation was tried and isn't done, it counts as well
+pub tried-more : (count before after : ℕ) → after < count → tried_from count before after ≡ (after - before) + 1
+tried-more count before after lt = ap (λ (b : Bool). (after - before) + one_if b) (lt-ltb after count lt)

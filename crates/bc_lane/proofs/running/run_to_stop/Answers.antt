@@ -1,5 +1,5 @@
-use Rattle.std.proofs.Common.{◌-◌, refl, arith}
-use Rattle.bc_lane.proofs.HandLemmas.{none-reloaded, same-lane, then-lane}
+use Rattle.std.proofs.Common.{◌-◌, length, refl, arith}
+use Rattle.bc_lane.proofs.HandLemmas.{none-reloaded, same-lane, then-lane, tried-more}
 use Rattle.bc_lane.proofs.RunLemmas.{fits-all, ran-none, ran-then}
 use Rattle.bc_lane.proofs.TurnLemmas.{why-since}
 use Rattle.bc_pins.specs.Calls.{view_of}
@@ -28,8 +28,8 @@ operations-preserved g c =
       ran = ran-then c.args.ops.now c.args.end c.args.turn.now c.operations.turn c.operate_next.new.turn (view_of c.args.seat.now) (view_of c.operations.seat) (view_of c.operate_next.new.seat) c.args.hand.now c.operations.hand c.operate_next.new.hand before.ran now.ran;
       going = now.going;
       seat = then-lane c.args.seat.now c.operations.seat c.operate_next.new.seat before.seat now.seat;
-      further = (let up = before.further in let one = now.further in omega arith);
-      once = (let up = before.further in let some = before.once in let one = now.once in let next = now.further in omega arith);
+      further = (let up = before.further in let next = c.in_default.ensures.further in omega arith);
+      once = (let up = before.further in let some = before.once in let one = now.once in let next = c.in_default.ensures.further in omega arith);
     }
 
 pub returns-in-Err-clause-ran : goal.returns-in-Err-clause-ran
@@ -45,11 +45,13 @@ returns-in-Err-clause-why g c =
 
 pub returns-in-Err-clause-once : goal.returns-in-Err-clause-once
 returns-in-Err-clause-once g c =
-    let before = c.operations.invariant in
-    let now = c.operate_next.ensures in
-    ?
+    let some = c.operations.invariant.once in
+    let one = c.operate_next.ensures.once in
+    let same = c.in-Err.ensures.stays in
+    let tried = tried-more (length c.args.ops.now) c.args.turn.now.next c.operate_next.new.turn.next (let more = c.operations-test.true in omega arith) in
+    omega arith
 
 pub returns-clause-once : goal.returns-clause-once
 returns-clause-once g c =
-    let before = c.operations.invariant in
-    ?
+    let some = c.operations.invariant.once in
+    omega arith
