@@ -28,3 +28,5 @@ pub mod WordLemmas
 pub mod InputLemmas
 -- The question that was found
 pub mod AskLemmas
+-- How long an answer is at most
+pub mod LengthLemmas

@@ -101,20 +101,32 @@ pub record ViewedInPart (question : Question) (left left' held held' : Option (L
 
 -- ---- the room that a sink needs
 
--- The most bytes of an answer about so many objects: 448 lines of counts with at most 96 bytes and that of the need, or a line of
--- 49 bytes and one of 39 for each object.
-abbrev pub view_bytes : ℕ → ℕ
-view_bytes objects = 43034 + 49 + 39 * objects
+-- the text is the answer about whatever state the listing pictures
+abbrev pub IsAnswerAbout : ListingLists → Question → List ℕ → Type 0
+IsAnswerAbout l question text = (s : State) → PicturesObjects l s → AnswersQuestion s question text
+
+-- The most bytes of an answer about so many objects. Counts are 448 lines of at most 96 bytes and that of the need, of at most 26. A way is
+-- a line of 49 bytes and one of 39 for each object.
+abbrev pub view_bytes : Question → ℕ → ℕ
+view_bytes Counts objects = 43034
+view_bytes (Path b) objects = 49 + 39 * objects
 
 -- the source may give these bytes up to its end: those that it has, or any where they aren't known
 abbrev pub CanGive : Option (List ℕ) → List ℕ → Type 0
 CanGive (Some left) bytes = left ≡ bytes
 CanGive None bytes = ⊤
 
--- the answer about whatever image the source may give fits the sink's room, where that is known
-abbrev pub HasViewRoom : Option (List ℕ) → Option ℕ → Type 0
-HasViewRoom left room =
-    (bytes : List ℕ) → (l : ListingLists) → CanGive left bytes → length bytes ≤ longest_image → ImageOf bytes l [] → HasRoom room (view_bytes (length l.cells))
+-- the source may give the image of this listing and nothing more, within the limit
+pub record CanGiveImage (left : Option (List ℕ)) (l : ListingLists) : Type 0 where
+  pub bytes : List ℕ
+  pub given : CanGive left bytes
+  pub short : length bytes ≤ longest_image
+  pub image : ImageOf bytes l []
+
+-- the answer to the question about whatever image the source may give fits the sink's room, where that is known
+abbrev pub HasViewRoom : Question → Option (List ℕ) → Option ℕ → Type 0
+HasViewRoom question left room =
+    (l : ListingLists) → (text : List ℕ) → CanGiveImage left l → IsAnswerAbout l question text → HasRoom room (length text)
 
 -- ---- statuses
 

@@ -21,6 +21,7 @@
 
 mod indexes;
 mod input;
+mod laws;
 mod paths;
 mod question;
 mod search;
@@ -30,6 +31,7 @@ mod tally;
 mod texts;
 pub mod view;
 
+pub use laws::{law_need, law_view_bytes};
 pub use paths::path;
 pub use question::{Question, question_of};
 pub use status::{ViewFault, ViewStatus};

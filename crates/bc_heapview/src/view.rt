@@ -1,6 +1,6 @@
 //! The call that the program makes: the words, the image, and the answer.
 
-ghost use Rattle.std.specs.Prelude.{◌≡◌, ◌≢◌, ℕ, ◌+◌, ◌<◌, ◌≤◌, List, [], Some, IfOk, length, map};
+ghost use Rattle.std.specs.Prelude.{◌≡◌, ◌≢◌, ◌⊎◌, ℕ, ◌+◌, ◌<◌, ◌≤◌, List, [], Some, IfOk, length, map};
 ghost use Rattle.bc_io.specs.Faults.{Rose};
 ghost use Rattle.bc_io.specs.Told.{GivesAtMost, GivesExactly, HasRoom, HeldGrows, IsPrefix};
 ghost use Rattle.bc_image.specs.Images.{ImageOf, IsImageListing};
@@ -10,7 +10,7 @@ ghost use Rattle.bc_image.specs.declared.fault.ImageFault.{ImageFault};
 ghost use Rattle.bc_model.specs.State.{State};
 ghost use Rattle.bc_heapview.specs.Questions.{IsQuestionOf};
 ghost use Rattle.bc_heapview.specs.Texts.{steps_in};
-ghost use Rattle.bc_heapview.specs.Views.{FaultyImage, HasViewRoom, IfBadImage, AnswersQuestion, IsAnsweredStatus, IsCountsAnswer, IsInputFault, IsPathAnswer, IsUnlessMemory, Viewed, ViewedInPart, longest_image, view_bytes};
+ghost use Rattle.bc_heapview.specs.Views.{FaultyImage, HasViewRoom, IfBadImage, AnswersQuestion, IsAnswerAbout, IsAnsweredStatus, IsCountsAnswer, IsInputFault, IsPathAnswer, IsUnlessMemory, Viewed, ViewedInPart, longest_image};
 
 use crate::input::read_image;
 use crate::paths::path;
@@ -30,9 +30,10 @@ pub fn view<S, K>(alloc: Global, words: &[&str], source: &mut S, sink: &mut K) -
 where
     S: Source,
     K: Sink,
-    // A sink whose room is known has room for the answer: 43,083 bytes are enough, and 39 for each object of the image.
+    // A sink whose room is known has room for the answer to this question. For counts 43,034 bytes are enough, and for a way 49 and 39 for
+    // each object of the image (`law_need`).
     requires room { (question : Question) → IsQuestionOf (map (λ w. w.now) words.now) question →
-        HasViewRoom (S.left source.old) (K.room sink.old) }
+        HasViewRoom question (S.left source.old) (K.room sink.old) }
 
     // Status 0: the input is an image and nothing more, and what was written is the answer about whatever state the image
     // pictures.
@@ -116,7 +117,7 @@ fn answer_to<K: Sink>(
     sink: &mut K,
 ) -> ViewStatus
     requires listing { IsImageListing listing.now }
-    requires room { HasRoom (K.room sink.old) (view_bytes (length listing.now.cells)) }
+    requires room { (text : List ℕ) → IsAnswerAbout listing.now question text → HasRoom (K.room sink.old) (length text) }
     ensures ending { IsAnsweredStatus result }
     ensures done { result ≡ ViewStatus.Done → (text : List ℕ) × ((s : State) → PicturesObjects listing.now s → AnswersQuestion s question text)
         × HeldGrows (K.held sink.old) (K.held sink.new) text }
@@ -129,7 +130,19 @@ fn answer_to<K: Sink>(
     let Ok(text) = answer(alloc, listing, question) else {
         return ViewStatus::NoMemory;
     };
-    match write_all(sink, &text) {
+    put_answer(&text, sink)
+}
+
+/// Writes an answer, for which there is room. It takes no memory.
+fn put_answer<K: Sink>(text: &[u8], sink: &mut K) -> ViewStatus
+    requires room { HasRoom (K.room sink.old) (length text.now) }
+    ensures ending { (result ≡ ViewStatus.Done) ⊎ (result ≡ ViewStatus.WriteFault) }
+    ensures done { result ≡ ViewStatus.Done → HeldGrows (K.held sink.old) (K.held sink.new) text.now }
+    ensures write_fault { result ≡ ViewStatus.WriteFault → Rose (K.faults sink.old) (K.faults sink.new)
+        × ((front : List ℕ) × IsPrefix front text.now × (length front < length text.now) × HeldGrows (K.held sink.old) (K.held sink.new) front) }
+    ensures firm { result ≢ ViewStatus.WriteFault → K.faults sink.new ≡ K.faults sink.old }
+{
+    match write_all(sink, text) {
         Ok(()) => ViewStatus::Done,
         Err(_) => ViewStatus::WriteFault,
     }
@@ -139,7 +152,6 @@ fn answer_to<K: Sink>(
 fn answer(alloc: Global, listing: &Listing, question: Question) -> Result<Vec<u8>, AllocError>
     requires listing { IsImageListing listing.now }
     ensures answer { (s : State) → PicturesObjects listing.now s → IfOk result (λ text. AnswersQuestion s question text.items) }
-    ensures long { IfOk result (λ text. length text.items ≤ view_bytes (length listing.now.cells)) }
 {
     match question {
         Question::Counts => counts_answer(alloc, listing),
@@ -151,7 +163,6 @@ fn answer(alloc: Global, listing: &Listing, question: Question) -> Result<Vec<u8
 fn counts_answer(alloc: Global, listing: &Listing) -> Result<Vec<u8>, AllocError>
     requires listing { IsImageListing listing.now }
     ensures answer { (s : State) → PicturesObjects listing.now s → IfOk result (λ text. IsCountsAnswer s text.items) }
-    ensures long { IfOk result (λ text. length text.items ≤ view_bytes (length listing.now.cells)) }
 {
     let counts = counts(alloc, listing)?;
     let need = superpages_in(&counts);
@@ -164,7 +175,6 @@ fn counts_answer(alloc: Global, listing: &Listing) -> Result<Vec<u8>, AllocError
 fn path_answer(alloc: Global, listing: &Listing, birth: Birth) -> Result<Vec<u8>, AllocError>
     requires listing { IsImageListing listing.now }
     ensures answer { (s : State) → PicturesObjects listing.now s → IfOk result (λ text. IsPathAnswer s birth text.items) }
-    ensures long { IfOk result (λ text. length text.items ≤ view_bytes (length listing.now.cells)) }
 {
     let found = path(alloc, listing, birth)?;
     let mut text = path_room(alloc, fields_of(&found))?;

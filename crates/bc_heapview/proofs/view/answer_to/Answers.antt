@@ -1,11 +1,13 @@
-use Rattle.std.proofs.Common.{◌≡◌, ℕ, List, length, ap, sym, subst, ◌∙◌, arith}
-use Rattle.bc_io.specs.Told.{HeldGrows}
-use Rattle.bc_heapview.proofs.InputLemmas.{room-less}
+use Rattle.std.proofs.Common.{◌≡◌, ◌≢◌, ◌⊎◌, ℕ, ◌<◌, List, length, sym, subst, inl, inr, arith}
+use Rattle.bc_io.specs.Told.{HasRoom, HeldGrows, IsPrefix}
+use Rattle.bc_heapview.specs.Views.{IsAnsweredStatus}
+use Rattle.bc_heapview.specs.declared.status.ViewStatus.{ViewStatus}
+use Rattle.bc_heapview.specs.declared.status.ViewStatus.TheVariants.{Done, WriteFault}
 use Rattle.bc_heapview.proofs.view.answer_to.Goals as goal
 
-pub write_all-requires : goal.write_all-requires
-write_all-requires g c = room-less _ _ _ (omega (arith, c.in-Ok.ensures.long, ap length c.deref.ensures.value)) c.requires.room
+ended : (status : ViewStatus) → (status ≡ Done) ⊎ (status ≡ WriteFault) → IsAnsweredStatus status
+ended status (inl e) = subst IsAnsweredStatus (sym e) tt
+ended status (inr e) = subst IsAnsweredStatus (sym e) tt
 
-pub returns-in-Ok-write_all-clause-done : goal.returns-in-Ok-write_all-clause-done
-returns-in-Ok-write_all-clause-done g c = λ _.
-    (c.in-Ok.text.items, c.in-Ok.ensures.answer, subst (λ (b : List ℕ). HeldGrows (g.K.Sink.held c.args.sink.now) (g.K.Sink.held c.write_all.new.sink) b) c.deref.ensures.value c.in-Ok-write_all.ensures.all)
+pub put_answer-requires : goal.put_answer-requires
+put_answer-requires g c = record { room = subst (λ (b : List ℕ). HasRoom (g.K.Sink.room c.args.sink.now) (length b)) (sym c.deref.ensures.value) (c.requires.room c.in-Ok.text.items c.in-Ok.ensures.answer) }

@@ -3,11 +3,13 @@ use Rattle.bc_heapview.proofs.ViewLemmas.{viewable}
 use Rattle.bc_heapview.specs.Texts.{path_text}
 use Rattle.bc_heapview.proofs.view.path_answer.Goals as goal
 
-pub returns-clause-answer : goal.returns-clause-answer
-returns-clause-answer c = λ s pictures. record {
-  found = c.in_ok-found.found;
-  is_found = c.in_ok-found.ensures.least s pictures;
-  text_is = c.put_path.ensures.text ∙ ap (λ (xs : List ℕ). xs ++ path_text c.in_ok-found.found) c.in_ok-text.ensures.empty;
+pub returns : goal.returns
+returns c = record {
+  answer = λ s pictures. record {
+    found = c.in_ok-found.found;
+    is_found = c.in_ok-found.ensures.least s pictures;
+    text_is = c.put_path.ensures.text ∙ ap (λ (xs : List ℕ). xs ++ path_text c.in_ok-found.found) c.in_ok-text.ensures.empty;
+  };
 }
 
 pub path_room-requires : goal.path_room-requires

@@ -14,7 +14,7 @@ answer_to-requires-clause-room g c =
     let read = c.in-Ok-read_image.ensures.found in
     let q : Question = c.in-Some.question in
     let is = asked (IsQuestionOf _) _ q c.in-Ok.ensures.question (search rules) in
-    c.requires.room q is read.bytes c.in-Ok-read_image.listing (can_give-whole _ _ _ read.whole) read.whole.short read.image
+    λ text answer. c.requires.room q is c.in-Ok-read_image.listing text (record { bytes = read.bytes; given = can_give-whole _ _ _ read.whole; short = read.whole.short; image = read.image }) answer
 
 pub returns-in-Ok-read_image-clause-done : goal.returns-in-Ok-read_image-clause-done
 returns-in-Ok-read_image-clause-done g c = λ question is e.
