@@ -1,20 +1,30 @@
 // heapview: the program that looks into the image of a heap: how many objects are reached, and the least way to one of them.
 //
-// All its work is that of `bc_heapview::view`. `main` only makes the real source and sink, calls `view`, prints the fault of its status and
-// ends with its exit status. What it does is shown by `.ci/examples` and `.ci/statuses` on the built program.
+// All its work is that of `bc_heapview::view`. `main` only starts a thread that makes the real source and sink and calls `view`, prints the
+// line that `report` gives for the status, and ends with its exit status. What it does is shown by `.ci/examples` and `.ci/statuses` on the
+// built program.
+//
+// The work has a thread of its own because of its stack. The system grows the stack of the first thread as it is touched, and ends the
+// program by a signal where there is no memory for that. The stack of another thread is there when it starts, or the start is refused.
 #![tactic(auto)]
 
 ghost use Rattle.std.specs.Prelude.{◌≡◌, ◌≢◌, IfErr, IfOk, None, map, string_bytes};
+ghost use Rattle.std.specs.Process.{exit_status};
 ghost use Rattle.bc_heapview.specs.Questions.{IsQuestionOf};
+ghost use Rattle.bc_heapview.specs.ViewStatuses.{view_exit_code, view_fault_of};
 ghost use Rattle.bc_heapview.specs.Views.{FaultyImage, IfBadImage, IsUnlessMemory, Viewed};
 
 use bc_heapview::view::view;
-use bc_heapview::{Question, ViewStatus};
+use bc_heapview::{Question, ViewFault, ViewStatus};
 use bc_io::{StdSink, StdSource};
 use std::alloc::{AllocError, Global};
 use std::env;
 use std::io::{ErrorKind, Read, Write};
 use std::process::ExitCode;
+use std::thread::Builder;
+
+/// The bytes of the stack on which all work is done: as many as most systems let the first thread's grow to.
+const STACK: usize = 8 << 20;
 
 /// The words after the program's name.
 fn words_of(rt: &HostRuntime) -> Result<Vec<String>, ViewStatus>
@@ -73,13 +83,27 @@ where
     view(rt.alloc(), &texts, &mut source, &mut sink)
 }
 
+/// What is printed of a view that ended so: the line for standard error, which says what is wrong with it, if it wasn't done, and the exit
+/// status of the program.
+fn report(status: ViewStatus) -> (Option<ViewFault>, ExitCode)
+    ensures line { result.0 ≡ view_fault_of status }
+    ensures status { exit_status result.1 ≡ view_exit_code status }
+{
+    (status.fault(), ExitCode::from(status.exit_code()))
+}
+
 fn main(rt: HostRuntime) -> ExitCode {
-    let status = match words_of(&rt) {
+    let work = move || match words_of(&rt) {
         Ok(words) => view_words(&rt, &words, rt.stdin(), rt.stdout()),
         Err(status) => status,
     };
-    if let Some(fault) = status.fault() {
-        let _ = eprintln!(rt; "{fault}");
+    let status = match Builder::new().stack_size(STACK).spawn(&rt, work) {
+        Ok(thread) => thread.join(&rt),
+        Err(_) => ViewStatus::NoMemory,
+    };
+    let (line, code) = report(status);
+    if let Some(line) = line {
+        let _ = eprintln!(rt; "{line}");
     }
-    ExitCode::from(status.exit_code())
+    code
 }
