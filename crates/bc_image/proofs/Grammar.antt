@@ -87,7 +87,7 @@ holder-small version lanes Frozen le is = omega arith
 
 -- ---- words
 
-linked-from : (cells : List CellList) (w : Word) → leads_nowhere cells w ≡ false → IsLinked cells w
+pub linked-from : (cells : List CellList) (w : Word) → leads_nowhere cells w ≡ false → IsLinked cells w
 linked-from cells Nil h = tt
 linked-from cells (Num n) h = tt
 linked-from cells (Ref a) h = by (number_at cells a.0) h

@@ -36,3 +36,5 @@ pub mod BirthLemmas
 pub mod SizeLemmas
 -- Bytes begin with one image or have one fault
 pub mod OneListing
+-- Where a fault lies
+pub mod FaultPlaceLemmas

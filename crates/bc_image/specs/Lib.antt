@@ -28,3 +28,5 @@ pub mod Homes
 pub mod Births
 -- Words by the numbers of their items
 pub mod Numbered
+-- Where a fault lies
+pub mod FaultPlaces

@@ -24,7 +24,7 @@ pub enum ImageCause {
     Rest,
 }
 
-/// Where the first item begins that fails a test, and which.
+/// Where the first item begins that fails a test, and which. `at` is how many bytes stand before that item: 8 for each item before it.
 #[derive(Clone, Copy, Debug, PartialEq, Eq)]
 pub struct ImageFault {
     pub at: u64,

@@ -1,15 +1,17 @@
 //! Laws of images. Each is the contract of a function that does nothing.
 
-ghost use Rattle.std.specs.Prelude.{◌≡◌, ◌⊎◌, ℕ, ◌≤◌, List, [], length};
+ghost use Rattle.std.specs.Prelude.{◌≡◌, ◌⊎◌, ℕ, ◌+◌, ◌≤◌, List, [], ◌++◌, length, take};
 ghost use Rattle.bc_model.specs.Consistent.{IsState};
 ghost use Rattle.bc_model.specs.Resembles.{Resembles};
 ghost use Rattle.bc_model.specs.State.{State};
+ghost use Rattle.bc_image.specs.FaultPlaces.{LiesAtItem, LeadsNowhere};
 ghost use Rattle.bc_image.specs.Faults.{IsFault};
 ghost use Rattle.bc_image.specs.ImageOrFault.{AreBytes, BeginWithImage};
 ghost use Rattle.bc_image.specs.ImageSizes.{most_image_bytes};
 ghost use Rattle.bc_image.specs.Images.{IsImageListing, ImageOf, image_bytes};
 ghost use Rattle.bc_image.specs.Listings.{ListingLists};
 ghost use Rattle.bc_image.specs.Pictures.{Pictures, PicturesObjects};
+ghost use Rattle.bc_image.specs.declared.fault.ImageCause.TheVariants.{Short, Link};
 ghost use Rattle.bc_image.specs.declared.fault.ImageFault.{ImageFault};
 
 /// Law: states that one image pictures are alike as far as their slots lead. So they give the same replies from there on
@@ -46,4 +48,14 @@ pub fn law_one_image_fault()
     ensures either { (bytes : List ℕ) → AreBytes bytes → BeginWithImage bytes ⊎ ((f : ImageFault) × IsFault bytes f) }
     ensures not_both { (bytes : List ℕ) → (f : ImageFault) → IsFault bytes f → ¬ BeginWithImage bytes }
     ensures alone { (bytes : List ℕ) → (f other : ImageFault) → IsFault bytes f → IsFault bytes other → f ≡ other }
+{}
+
+/// Law: where a fault lies. It lies at an item, which is there whole unless the cause is Short. The bytes in front of it alone are only too
+/// short, so nothing was wrong before it. The fault of an item stays whatever follows the item, unless the item is a reference to nowhere:
+/// that is the first of the words, in bytes of which all items passed.
+pub fn law_fault_place()
+    ensures item { (bytes : List ℕ) → (f : ImageFault) → IsFault bytes f → LiesAtItem bytes f }
+    ensures before { (bytes : List ℕ) → (f : ImageFault) → IsFault bytes f → IsFault (take f.at bytes) (record { at = f.at; cause = Short }) }
+    ensures stays { (bytes more : List ℕ) → (f : ImageFault) → IsFault bytes f → ¬ (f.cause ≡ Short) → ¬ (f.cause ≡ Link) → IsFault (take (f.at + 8) bytes ++ more) f }
+    ensures link { (bytes : List ℕ) → (f : ImageFault) → IsFault bytes f → f.cause ≡ Link → LeadsNowhere bytes f }
 {}
