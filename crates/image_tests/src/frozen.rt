@@ -1,6 +1,5 @@
 //! Images with frozen domains.
 
-use crate::equal::same;
 use crate::phases::goes_on_over;
 use crate::saving::{MAGIC, bytes_of, ended, saved};
 use bc_cli::Status;
