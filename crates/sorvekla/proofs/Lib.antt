@@ -8,3 +8,5 @@ pub mod PairLemmas
 pub mod RefusalLemmas
 -- One hint has one answer
 pub mod HintLemmas
+-- Why a heap isn't opened
+pub mod LimitLemmas

@@ -1,5 +1,6 @@
 -- The limits with which a heap opens, and what is wrong with them.
-use Rattle.std.specs.Prelude.{◌≡◌, ℕ, ◌+◌, ◌*◌, ◌<◌, min}
+use Rattle.std.specs.Prelude.{◌≡◌, ℕ, ◌+◌, ◌*◌, ◌≤◌, List, [], ◌∷◌, min}
+use Rattle.std.specs.List.{AllByRecursion}
 use Rattle.bc_model.specs.WellFormed.{IsWithin, IsSetup}
 use Rattle.bc_model.specs.declared.traces.Setup.{Setup}
 use Rattle.sorvekla.specs.declared.errors.OpenError.{OpenError}
@@ -26,19 +27,35 @@ setup_of l = record {
   frames = min l.frames (pages_of l);
 }
 
--- this is out of its range
-abbrev pub IsLimitFault : Limits → OpenError → Type 0
-IsLimitFault l fault.Lanes = IsWithin 1 16 l.lanes → ⊥
-IsLimitFault l fault.Domains = IsWithin 1 64 l.domains → ⊥
-IsLimitFault l fault.Slots = IsWithin 1 256 l.slots → ⊥
-IsLimitFault l fault.Superpages = IsWithin 1 4096 l.superpages → ⊥
-IsLimitFault l fault.Nursery = IsWithin 1 16 l.nursery → ⊥
-IsLimitFault l fault.Buffer = IsWithin 1 4096 l.buffer → ⊥
-IsLimitFault l fault.Frames = l.frames < l.lanes * l.nursery + 2
-IsLimitFault l fault.Workers = IsWithin 1 16 l.workers → ⊥
-IsLimitFault l fault.NoMemory = ⊥
+-- the limit that this error is of is in its range
+abbrev pub IsLimitInRange : Limits → OpenError → Type 0
+IsLimitInRange l fault.Lanes = IsWithin 1 16 l.lanes
+IsLimitInRange l fault.Domains = IsWithin 1 64 l.domains
+IsLimitInRange l fault.Slots = IsWithin 1 256 l.slots
+IsLimitInRange l fault.Superpages = IsWithin 1 4096 l.superpages
+IsLimitInRange l fault.Nursery = IsWithin 1 16 l.nursery
+IsLimitInRange l fault.Buffer = IsWithin 1 4096 l.buffer
+IsLimitInRange l fault.Frames = l.lanes * l.nursery + 2 ≤ l.frames
+IsLimitInRange l fault.Workers = IsWithin 1 16 l.workers
+IsLimitInRange l fault.NoMemory = Unit {0}
 
--- why a heap isn't opened: a limit is out of its range, or none is and memory ran out
+-- the limits before this one, in the order of the fields; before memory is asked for, all
+abbrev pub limits_before : OpenError → List OpenError
+limits_before fault.Lanes = []
+limits_before fault.Domains = fault.Lanes ∷ []
+limits_before fault.Slots = fault.Lanes ∷ fault.Domains ∷ []
+limits_before fault.Superpages = fault.Lanes ∷ fault.Domains ∷ fault.Slots ∷ []
+limits_before fault.Nursery = fault.Lanes ∷ fault.Domains ∷ fault.Slots ∷ fault.Superpages ∷ []
+limits_before fault.Buffer = fault.Lanes ∷ fault.Domains ∷ fault.Slots ∷ fault.Superpages ∷ fault.Nursery ∷ []
+limits_before fault.Frames = fault.Lanes ∷ fault.Domains ∷ fault.Slots ∷ fault.Superpages ∷ fault.Nursery ∷ fault.Buffer ∷ []
+limits_before fault.Workers = fault.Lanes ∷ fault.Domains ∷ fault.Slots ∷ fault.Superpages ∷ fault.Nursery ∷ fault.Buffer ∷ fault.Frames ∷ []
+limits_before fault.NoMemory = fault.Lanes ∷ fault.Domains ∷ fault.Slots ∷ fault.Superpages ∷ fault.Nursery ∷ fault.Buffer ∷ fault.Frames ∷ fault.Workers ∷ []
+
+-- this limit is out of its range, and it is the first: those before it are in theirs
+abbrev pub IsLimitFault : Limits → OpenError → Type 0
+IsLimitFault l error = AllByRecursion (IsLimitInRange l) (limits_before error) × (IsLimitInRange l error → ⊥)
+
+-- why a heap isn't opened: the first limit that is out of its range, or none is and memory ran out
 abbrev pub IsOpenFault : Limits → OpenError → Type 0
 IsOpenFault l fault.NoMemory = IsSetup (setup_of l) × IsWithin 1 16 l.workers
 IsOpenFault l error = IsLimitFault l error
