@@ -16,12 +16,13 @@ is_taken h p = slice_index_or h.taken (place_of h.setup.slots p) false
 abbrev pub with_taken : OpenHeap → Slot → Bool → OpenHeap
 with_taken h p b = record h { taken = slice_set h.taken (place_of h.setup.slots p) b }
 
--- a handle of the lane for a slot of the domain that wasn't handed out, and now is
+-- a handle of the lane for a slot of the domain: the first of those that weren't handed out, and now it is
 pub record HandsOut (h : OpenHeap) (lane domain : ℕ) (root : Root) (k : OpenHeap) : Type 0 where
   pub lane_is : root.lane ≡ lane
   pub domain_is : root.slot.domain ≡ domain
   pub slot : IsSlot h.setup root.slot
   pub free : is_taken h root.slot ≡ false
+  pub first : (s : ℕ) → s < root.slot.slot → is_taken h (record { domain = domain; slot = s }) ≡ true
   pub taken : k ≡ with_taken h root.slot true
 
 -- why none is handed out: nothing has changed

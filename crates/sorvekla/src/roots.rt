@@ -83,6 +83,7 @@ fn free_slot(taken: &[bool], slots: u32, domain: u32) -> Option<u32>
     requires long { slots * domain + slots ≤ length taken.now }
     ensures within { IfSome result (λ slot. slot < slots) }
     ensures free { IfSome result (λ slot. slice_index_or taken.now (place_of slots (record { domain = domain; slot = slot })) false ≡ false) }
+    ensures first { IfSome result (λ slot. (earlier : ℕ) → earlier < slot → slice_index_or taken.now (place_of slots (record { domain = domain; slot = earlier })) false ≡ true) }
     ensures none { IfNone result ((slot : ℕ) → slot < slots → slice_index_or taken.now (place_of slots (record { domain = domain; slot = slot })) false ≡ true) }
 {
     for slot in 0..slots {
