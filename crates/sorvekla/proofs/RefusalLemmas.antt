@@ -45,31 +45,31 @@ cause-told h k lane o Foreign r fault did = subst (λ (x : Reply). DidStep h lan
 cause-told h k lane o Frozen r fault did = subst (λ (x : Reply). DidStep h lane o x k) fault did
 
 -- a heap that is too small
-pub cause-short : (h k : OpenHeap) (lane : ℕ) (o : Op) (e : HeapError) → IsShortFault h.setup h.running e → StaysSame h k → IsCauseOf h lane o e k
-cause-short h k lane o (OutOfHeap need supers) short same = (same, record { there = short.there; above = short.above; needed = short.needed })
-cause-short h k lane o NoLane short same = absurd short
-cause-short h k lane o NoDomain short same = absurd short
-cause-short h k lane o NoSlot short same = absurd short
-cause-short h k lane o OutOfRange short same = absurd short
-cause-short h k lane o NoBirthLeft short same = absurd short
-cause-short h k lane o NoRootLeft short same = absurd short
-cause-short h k lane o NotObject short same = absurd short
-cause-short h k lane o NoField short same = absurd short
-cause-short h k lane o Foreign short same = absurd short
-cause-short h k lane o Frozen short same = absurd short
+pub cause-short : (h k : OpenHeap) (lane : ℕ) (o : Op) (e : HeapError) → IsShortFault h.setup h.running e → StaysSame h k → k.counts ≡ h.counts → IsCauseOf h lane o e k
+cause-short h k lane o (OutOfHeap need supers) short same uncounted = (same, record { there = short.there; above = short.above; needed = short.needed }, uncounted)
+cause-short h k lane o NoLane short same uncounted = absurd short
+cause-short h k lane o NoDomain short same uncounted = absurd short
+cause-short h k lane o NoSlot short same uncounted = absurd short
+cause-short h k lane o OutOfRange short same uncounted = absurd short
+cause-short h k lane o NoBirthLeft short same uncounted = absurd short
+cause-short h k lane o NoRootLeft short same uncounted = absurd short
+cause-short h k lane o NotObject short same uncounted = absurd short
+cause-short h k lane o NoField short same uncounted = absurd short
+cause-short h k lane o Foreign short same uncounted = absurd short
+cause-short h k lane o Frozen short same uncounted = absurd short
 
-pub none-short : (h k : OpenHeap) (e : HeapError) → IsShortFault h.setup h.running e → StaysSame h k → IsCauseOfNone h e k
-none-short h k (OutOfHeap need supers) short same = (same, record { there = short.there; above = short.above; needed = short.needed })
-none-short h k NoLane short same = absurd short
-none-short h k NoDomain short same = absurd short
-none-short h k NoSlot short same = absurd short
-none-short h k OutOfRange short same = absurd short
-none-short h k NoBirthLeft short same = absurd short
-none-short h k NoRootLeft short same = absurd short
-none-short h k NotObject short same = absurd short
-none-short h k NoField short same = absurd short
-none-short h k Foreign short same = absurd short
-none-short h k Frozen short same = absurd short
+pub none-short : (h k : OpenHeap) (e : HeapError) → IsShortFault h.setup h.running e → StaysSame h k → k.counts ≡ h.counts → IsCauseOfNone h e k
+none-short h k (OutOfHeap need supers) short same uncounted = (same, record { there = short.there; above = short.above; needed = short.needed }, uncounted)
+none-short h k NoLane short same uncounted = absurd short
+none-short h k NoDomain short same uncounted = absurd short
+none-short h k NoSlot short same uncounted = absurd short
+none-short h k OutOfRange short same uncounted = absurd short
+none-short h k NoBirthLeft short same uncounted = absurd short
+none-short h k NoRootLeft short same uncounted = absurd short
+none-short h k NotObject short same uncounted = absurd short
+none-short h k NoField short same uncounted = absurd short
+none-short h k Foreign short same uncounted = absurd short
+none-short h k Frozen short same uncounted = absurd short
 
 -- the need of the heap that is left is that of what lanes ran on before
 pub need-before : {r q : RunningView} (need : ℕ) → KeepsStanding r q → NeedOfHeap q.heap.space q.heap.roots q.heap.chunks need → (state : State) → RunningStands r state → IsNeed state need
@@ -103,35 +103,35 @@ short-after setup (Ok answer) keeps short = tt
 short-after setup (Err e) keeps short = short-before setup e keeps short
 
 -- nurseries that weren't emptied, whatever the answer is
-pub none-any : {T : Type 0} (h k : OpenHeap) (x : Result T HeapError) → IfErr x (IsShortFault h.setup h.running) → StaysSame h k → IfErr x (λ e. IsCauseOfNone h e k)
-none-any h k (Ok done) short same = tt
-none-any h k (Err e) short same = none-short h k e short same
+pub none-any : {T : Type 0} (h k : OpenHeap) (x : Result T HeapError) → IfErr x (IsShortFault h.setup h.running) → StaysSame h k → OnErr x (k.counts ≡ h.counts) → IfErr x (λ e. IsCauseOfNone h e k)
+none-any h k (Ok done) short same uncounted = tt
+none-any h k (Err e) short same uncounted = none-short h k e short same uncounted
 
-pub give-short : (h k : OpenHeap) (domain lane : ℕ) (e : HeapError) → IsShortFault h.setup h.running e → StaysSame h k → IsGiveCause h domain lane e k
-give-short h k domain lane (OutOfHeap need supers) short same = (same, record { there = short.there; above = short.above; needed = short.needed })
-give-short h k domain lane NoLane short same = absurd short
-give-short h k domain lane NoDomain short same = absurd short
-give-short h k domain lane NoSlot short same = absurd short
-give-short h k domain lane OutOfRange short same = absurd short
-give-short h k domain lane NoBirthLeft short same = absurd short
-give-short h k domain lane NoRootLeft short same = absurd short
-give-short h k domain lane NotObject short same = absurd short
-give-short h k domain lane NoField short same = absurd short
-give-short h k domain lane Foreign short same = absurd short
-give-short h k domain lane Frozen short same = absurd short
+pub give-short : (h k : OpenHeap) (domain lane : ℕ) (e : HeapError) → IsShortFault h.setup h.running e → StaysSame h k → k.counts ≡ h.counts → IsGiveCause h domain lane e k
+give-short h k domain lane (OutOfHeap need supers) short same uncounted = (same, record { there = short.there; above = short.above; needed = short.needed }, uncounted)
+give-short h k domain lane NoLane short same uncounted = absurd short
+give-short h k domain lane NoDomain short same uncounted = absurd short
+give-short h k domain lane NoSlot short same uncounted = absurd short
+give-short h k domain lane OutOfRange short same uncounted = absurd short
+give-short h k domain lane NoBirthLeft short same uncounted = absurd short
+give-short h k domain lane NoRootLeft short same uncounted = absurd short
+give-short h k domain lane NotObject short same uncounted = absurd short
+give-short h k domain lane NoField short same uncounted = absurd short
+give-short h k domain lane Foreign short same uncounted = absurd short
+give-short h k domain lane Frozen short same uncounted = absurd short
 
-pub freeze-short : (h k : OpenHeap) (domain : ℕ) (e : HeapError) → IsShortFault h.setup h.running e → StaysSame h k → IsFreezeCause h domain e k
-freeze-short h k domain (OutOfHeap need supers) short same = (same, record { there = short.there; above = short.above; needed = short.needed })
-freeze-short h k domain NoLane short same = absurd short
-freeze-short h k domain NoDomain short same = absurd short
-freeze-short h k domain NoSlot short same = absurd short
-freeze-short h k domain OutOfRange short same = absurd short
-freeze-short h k domain NoBirthLeft short same = absurd short
-freeze-short h k domain NoRootLeft short same = absurd short
-freeze-short h k domain NotObject short same = absurd short
-freeze-short h k domain NoField short same = absurd short
-freeze-short h k domain Foreign short same = absurd short
-freeze-short h k domain Frozen short same = absurd short
+pub freeze-short : (h k : OpenHeap) (domain : ℕ) (e : HeapError) → IsShortFault h.setup h.running e → StaysSame h k → k.counts ≡ h.counts → IsFreezeCause h domain e k
+freeze-short h k domain (OutOfHeap need supers) short same uncounted = (same, record { there = short.there; above = short.above; needed = short.needed }, uncounted)
+freeze-short h k domain NoLane short same uncounted = absurd short
+freeze-short h k domain NoDomain short same uncounted = absurd short
+freeze-short h k domain NoSlot short same uncounted = absurd short
+freeze-short h k domain OutOfRange short same uncounted = absurd short
+freeze-short h k domain NoBirthLeft short same uncounted = absurd short
+freeze-short h k domain NoRootLeft short same uncounted = absurd short
+freeze-short h k domain NotObject short same uncounted = absurd short
+freeze-short h k domain NoField short same uncounted = absurd short
+freeze-short h k domain Foreign short same uncounted = absurd short
+freeze-short h k domain Frozen short same uncounted = absurd short
 
 -- the reply to an operation that was done is one that it can have
 pub told-any : (lane : ℕ) (o : Op) (x : Result Reply HeapError) {r : RunningView} (q : RunningView) (state : State) → RunningStands r state → IfOk x (λ answer. IsStepOf r lane o answer q) → IfOk x (λ answer. is_reply_to o answer ≡ true)

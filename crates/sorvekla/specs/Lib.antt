@@ -1,5 +1,7 @@
 -- How large a heap is
 pub mod Limits
+-- What collections make of the heap
+pub mod Collected
 -- A heap that a runtime has open
 pub mod Heaps
 -- What operations do, and why something isn't done

@@ -1,5 +1,5 @@
 -- What an operation on a heap does, what everything else leaves as it was, and why something isn't done.
-use Rattle.std.specs.Prelude.{◌≡◌, ◌⊎◌, ℕ, ◌+◌, ◌^◌, ◌<◌, ◌≤◌, Bool, true, false, slice_index}
+use Rattle.std.specs.Prelude.{◌≡◌, ◌⊎◌, ℕ, ◌+◌, ◌^◌, ◌<◌, ◌≤◌, Bool, true, false, slice_index, slice_set}
 use Rattle.bc_model.specs.Need.{IsNeed}
 use Rattle.bc_model.specs.Slots.{AreSlots, slots_of}
 use Rattle.bc_model.specs.State.{State, frozen, given}
@@ -10,18 +10,20 @@ use Rattle.bc_model.specs.declared.operations.Op.TheVariants as op
 use Rattle.bc_model.specs.declared.operations.Reply.{Reply}
 use Rattle.bc_model.specs.declared.operations.Reply.TheVariants as reply
 use Rattle.bc_model.specs.declared.traces.Setup.{Setup}
+use Rattle.bc_model.specs.declared.values.Holder.TheVariants.{Frozen, Lane}
 use Rattle.bc_model.specs.declared.values.Value.{Value}
 use Rattle.bc_model.specs.declared.values.Value.TheVariants as value
 use Rattle.bc_running.specs.Running.{RunningView, RunningStands}
-use Rattle.sorvekla.specs.Heaps.{OpenHeap, HeapStands, one_more}
+use Rattle.sorvekla.specs.Collected.{HasEmptied}
+use Rattle.sorvekla.specs.Heaps.{Counts, OpenHeap, HeapStands, one_minor}
 use Rattle.sorvekla.specs.declared.errors.HeapError.{HeapError}
 use Rattle.sorvekla.specs.declared.errors.HeapError.TheVariants as error
 use Rattle.sorvekla.specs.declared.replies.Loaded.{Loaded}
 use Rattle.sorvekla.specs.declared.replies.Loaded.TheVariants as loaded
 
--- the nurseries were emptied once more, or weren't
-abbrev pub MayEmpty : ℕ → ℕ → Type 0
-MayEmpty before after = (after ≡ before) ⊎ (after ≡ one_more before)
+-- nothing was counted, or that the nurseries were emptied once more
+abbrev pub MayEmpty : Counts → Counts → Type 0
+MayEmpty before after = (after ≡ before) ⊎ (after ≡ one_minor before)
 
 -- the lane did the operation and was answered so: whatever state the heap stood for, that is the step of it, and the heap stands for the
 -- state after the step
@@ -29,7 +31,7 @@ pub record DidStep (h : OpenHeap) (lane : ℕ) (o : Op) (answer : Reply) (k : Op
   pub step : (state : State) → HeapStands h state → ((step state lane o).1 ≡ answer) × HeapStands k (step state lane o).0
   pub setup : k.setup ≡ h.setup
   pub taken : k.taken ≡ h.taken
-  pub minor : MayEmpty h.minor k.minor
+  pub counts : MayEmpty h.counts k.counts
 
 -- the heap stands for what it stood for, and the same root slots are handed out
 pub record StaysSame (h k : OpenHeap) : Type 0 where
@@ -65,9 +67,9 @@ IsOpFault h lane o error.NoBirthLeft = HasNoBirthLeft h lane
 IsOpFault h lane o _ = ⊥
 
 -- why an operation isn't done, and what stands then. Where it isn't begun nothing has changed. Where the heap is too small it stands for
--- what it stood for. Where the plain heap refuses it too, its reply says so
+-- what it stood for, and nothing is counted. Where the plain heap refuses it too, its reply says so
 abbrev pub IsCauseOf : OpenHeap → ℕ → Op → HeapError → OpenHeap → Type 0
-IsCauseOf h lane o (error.OutOfHeap need supers) k = StaysSame h k × IsHeapTooSmall h need supers
+IsCauseOf h lane o (error.OutOfHeap need supers) k = StaysSame h k × IsHeapTooSmall h need supers × (k.counts ≡ h.counts)
 IsCauseOf h lane o error.NotObject k = DidStep h lane o reply.NotObj k
 IsCauseOf h lane o error.NoField k = DidStep h lane o reply.Range k
 IsCauseOf h lane o error.Foreign k = DidStep h lane o reply.Foreign k
@@ -82,17 +84,19 @@ IsReplyFault r error.Foreign = r ≡ reply.Foreign
 IsReplyFault r error.Frozen = r ≡ reply.Frozen
 IsReplyFault r _ = ⊥
 
--- why the nurseries aren't emptied, and what stands then
+-- why the nurseries aren't emptied, and what stands then: nothing is counted
 abbrev pub IsCauseOfNone : OpenHeap → HeapError → OpenHeap → Type 0
-IsCauseOfNone h (error.OutOfHeap need supers) k = StaysSame h k × IsHeapTooSmall h need supers
+IsCauseOfNone h (error.OutOfHeap need supers) k = StaysSame h k × IsHeapTooSmall h need supers × (k.counts ≡ h.counts)
 IsCauseOfNone h _ k = ⊥
 
--- the lane holds the domain, in every state that the heap stood for
+-- the nurseries were emptied, and the lane holds the domain, in every state that the heap stood for
 pub record GivesTo (h : OpenHeap) (domain lane : ℕ) (k : OpenHeap) : Type 0 where
   pub stands : (state : State) → HeapStands h state → HeapStands k (given state (record { domain = domain; lane = lane }))
+  pub running : k.running ≡ record (h.running) { heap = k.running.heap; holders = slice_set h.running.holders domain (Lane lane) }
+  pub emptied : HasEmptied h.setup h.running.heap k.running.heap
   pub setup : k.setup ≡ h.setup
   pub taken : k.taken ≡ h.taken
-  pub minor : k.minor ≡ one_more h.minor
+  pub counts : k.counts ≡ one_minor h.counts
 
 -- why it doesn't, and what stands then
 abbrev pub IsGiveCause : OpenHeap → ℕ → ℕ → HeapError → OpenHeap → Type 0
@@ -100,12 +104,14 @@ IsGiveCause h domain lane error.NoDomain k = (h.setup.domains ≤ domain) × (k 
 IsGiveCause h domain lane error.NoLane k = (h.setup.lanes ≤ lane) × (k ≡ h)
 IsGiveCause h domain lane e k = IsCauseOfNone h e k
 
--- the domain is frozen, in every state that the heap stood for
+-- the nurseries were emptied, and the domain is frozen, in every state that the heap stood for
 pub record Freezes (h : OpenHeap) (domain : ℕ) (k : OpenHeap) : Type 0 where
   pub stands : (state : State) → HeapStands h state → HeapStands k (frozen state domain)
+  pub running : k.running ≡ record (h.running) { heap = k.running.heap; holders = slice_set h.running.holders domain Frozen }
+  pub emptied : HasEmptied h.setup h.running.heap k.running.heap
   pub setup : k.setup ≡ h.setup
   pub taken : k.taken ≡ h.taken
-  pub minor : k.minor ≡ one_more h.minor
+  pub counts : k.counts ≡ one_minor h.counts
 
 -- why it isn't, and what stands then
 abbrev pub IsFreezeCause : OpenHeap → ℕ → HeapError → OpenHeap → Type 0

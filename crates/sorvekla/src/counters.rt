@@ -4,8 +4,8 @@ ghost use Rattle.std.specs.Prelude.{◌≡◌, ◌≤◌, length, if◌then◌el
 ghost use Rattle.bc_bits.specs.Bits.{has};
 ghost use Rattle.bc_bits.specs.Counting.{count_below};
 ghost use Rattle.bc_whole_heap.specs.Counting.{is_of_pair};
-ghost use Rattle.sorvekla.specs.Counts.{cells_of_pair};
-ghost use Rattle.sorvekla.specs.Heaps.{one_more};
+ghost use Rattle.sorvekla.specs.Counts.{cells_of_pair, counts_of};
+ghost use Rattle.sorvekla.specs.Heaps.{no_counts, one_answer, one_by_hand, one_failsafe, one_minor};
 
 use crate::heaps::Heap;
 use bc_bits::count;
@@ -14,7 +14,8 @@ use bc_engine::{Counters as StepCounts, Tally};
 use bc_pager::Answer;
 use bc_superpages::{Header, Space};
 
-/// What was done on a heap since it was opened. Each number stays at its type's end.
+/// What was done on a heap since it was opened. Each number stays at its type's end, but for those of pages in `steps`, which go round. Each
+/// call says whether it adds one to `minor`, `by_hand`, `failsafe` or `hinted`, and `reads` is the heap's own count.
 #[derive(Clone, Copy, PartialEq, Eq, Debug)]
 pub struct Counters {
     /// Minor collections: the nurseries were emptied.
@@ -25,7 +26,7 @@ pub struct Counters {
     pub failsafe: u64,
     /// Pages that were read back.
     pub reads: u64,
-    /// Pages that left for a hint.
+    /// Hints for which a page left, with objects or without.
     pub hinted: u64,
     /// What the heap did by itself, as the engine of `bc run` counts it: collections by kind, and how many pages were read back and how many left,
     /// by whose step it was. An operation is one of a lane alone, and there are no turns. Pages of a fail-safe or a hint that a call asked for count
@@ -37,7 +38,7 @@ pub struct Counters {
 impl Counters {
     /// Nothing was done.
     pub(crate) fn none() -> Self
-        ensures none { result.minor ≡ 0 }
+        ensures none { counts_of result ≡ no_counts }
     {
         Counters {
             minor: 0,
@@ -51,21 +52,21 @@ impl Counters {
 
     /// A lane did an operation.
     pub(crate) fn count_operation(&mut self, before: Tally, after: Tally)
-        ensures minor { self.new.minor ≡ self.old.minor }
+        ensures uncounted { counts_of self.new ≡ counts_of self.old }
     {
         self.steps.count_alone(before, after);
     }
 
     /// There was a bookmark collection since frames were short, or none.
     pub(crate) fn count_early(&mut self, collected: bool)
-        ensures minor { self.new.minor ≡ self.old.minor }
+        ensures uncounted { counts_of self.new ≡ counts_of self.old }
     {
         self.steps.count_early(collected, 0);
     }
 
     /// The nurseries were emptied once more.
     pub(crate) fn count_minor(&mut self, kind: EmptyingKind, before: Tally, after: Tally)
-        ensures minor { self.new.minor ≡ one_more self.old.minor }
+        ensures counted { counts_of self.new ≡ one_minor (counts_of self.old) }
     {
         self.minor = self.minor.saturating_add(1);
         self.steps.count_emptying(kind, before, after, 0);
@@ -73,7 +74,7 @@ impl Counters {
 
     /// The nurseries couldn't be emptied, which the fail-safe found.
     pub(crate) fn count_refusal(&mut self, before: Tally, after: Tally)
-        ensures minor { self.new.minor ≡ self.old.minor }
+        ensures uncounted { counts_of self.new ≡ counts_of self.old }
     {
         self.steps
             .count_emptying(EmptyingKind::Failsafe, before, after, 0);
@@ -81,14 +82,14 @@ impl Counters {
 
     /// A call asked for a bookmark collection.
     pub(crate) fn count_by_hand(&mut self)
-        ensures minor { self.new.minor ≡ self.old.minor }
+        ensures counted { counts_of self.new ≡ one_by_hand (counts_of self.old) }
     {
         self.by_hand = self.by_hand.saturating_add(1);
     }
 
     /// A call asked for a fail-safe collection.
     pub(crate) fn count_failsafe(&mut self, before: Tally, after: Tally)
-        ensures minor { self.new.minor ≡ self.old.minor }
+        ensures counted { counts_of self.new ≡ one_failsafe (counts_of self.old) }
     {
         self.failsafe = self.failsafe.saturating_add(1);
         self.steps.count_pages(before, after, 0);
@@ -96,7 +97,7 @@ impl Counters {
 
     /// A hint was answered: counts a page that left.
     pub(crate) fn count_answer(&mut self, answer: Answer, before: Tally, after: Tally)
-        ensures minor { self.new.minor ≡ self.old.minor }
+        ensures counted { counts_of self.new ≡ one_answer answer (counts_of self.old) }
     {
         if answer != Answer::Declined {
             self.hinted = self.hinted.saturating_add(1);
@@ -109,7 +110,7 @@ impl Counters {
 impl Heap {
     /// What was done on the heap since it was opened.
     pub fn counters(&self) -> Counters
-        ensures minor { result.minor ≡ self.now.minor }
+        ensures counts { counts_of result ≡ self.now.counts }
         ensures reads { result.reads ≡ self.now.running.heap.space.reads }
     {
         Counters {
