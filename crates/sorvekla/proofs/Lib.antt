@@ -8,5 +8,3 @@ pub mod PairLemmas
 pub mod RefusalLemmas
 -- One hint has one answer
 pub mod HintLemmas
--- Why a heap isn't opened
-pub mod LimitLemmas

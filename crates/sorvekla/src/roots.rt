@@ -34,7 +34,7 @@ impl Root {
 
 impl Heap {
     /// Hands out a root slot of a domain, to a lane: the first of those that aren't handed out. It holds nil, unless it was written without
-    /// a handle. The search looks at up to 256 slots.
+    /// a handle, though no contract says so. The search looks at up to 256 slots.
     pub fn root(&mut self, lane: u32, domain: u32) -> Result<Root, HeapError>
         ensures handed { IfOk result (λ root. HandsOut self.old lane domain root self.new) }
         ensures refused { IfErr result (IsRootFault self.old lane domain) }
