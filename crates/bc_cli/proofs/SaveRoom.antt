@@ -5,4 +5,4 @@ use Rattle.bc_image.proofs.SizeLemmas.{image-few}
 use Rattle.bc_cli.specs.Saves.{HasRoomToSave}
 
 pub save_ample : (left : Option (List ℕ)) (room count : ℕ) → most_image_bytes ≤ room → HasRoomToSave left (Some room) count
-save_ample left room count wide = λ bytes t given short h l saved. omega (arith, wide, image-few l saved.image)
+save_ample left room count wide = λ bytes t given short h enough l saved. omega (arith, wide, image-few l saved.image)

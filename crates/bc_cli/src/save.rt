@@ -110,7 +110,7 @@ where
     requires trace { IsTrace trace.now }
     requires few { all_ops_of trace.now + length trace.now.phases ≤ longest_trace }
     requires workers { (1 ≤ workers) × (workers ≤ 16) }
-    requires room { (l : ListingLists) → IsSaved trace.now count l → HasRoom (K.room sink.old) (length (image_bytes l)) }
+    requires room { count ≤ length trace.now.phases → (l : ListingLists) → IsSaved trace.now count l → HasRoom (K.room sink.old) (length (image_bytes l)) }
     ensures ending { IsSaveEnding result.status }
     ensures mismatch { result.status ≡ Status.Mismatch → (length trace.now.phases < count) × (sink.new ≡ sink.old) }
     ensures enough { result.status ≢ Status.Mismatch → count ≤ length trace.now.phases }

@@ -8,9 +8,9 @@ pub save_trace-requires-clause-few : goal.save_trace-requires-clause-few
 save_trace-requires-clause-few g c κs within = omega (arith, few-read _ _ _ c.in-Ok.ensures.found)
 
 pub save_trace-requires-clause-room : goal.save_trace-requires-clause-room
-save_trace-requires-clause-room g c κs within = λ l saved.
+save_trace-requires-clause-room g c κs within = λ enough l saved.
     let read = c.in-Ok.ensures.found in
-    c.requires.room read.bytes c.in-Ok.trace (may_give-whole _ _ _ _ read.whole) read.whole.short read.spelled l saved
+    c.requires.room read.bytes c.in-Ok.trace (may_give-whole _ _ _ _ read.whole) read.whole.short read.spelled enough l saved
 
 pub returns-in-Ok-clause-done : goal.returns-in-Ok-clause-done
 returns-in-Ok-clause-done g c = λ e.
