@@ -16,3 +16,5 @@ pub mod SaveRoom
 pub mod GoingOn
 -- The first phases of a trace that were run, and the image of the heap after them.
 pub mod Saving
+-- How a command ends once all that takes memory is done
+pub mod Writing

@@ -26,7 +26,7 @@ use Rattle.bc_replay.specs.Outcomes.{IfStatusOutOfHeap, IsOrNoMemory, ReadAsTrac
 use Rattle.bc_replay.specs.declared.status.Status.{Status}
 use Rattle.bc_replay.specs.declared.status.Status.TheVariants.{Done, BadWords, BadTrace, TooLong, ReadFault, WriteFault, OutOfHeap, NoMemory, BadImage, Mismatch}
 use Rattle.bc_replay.proofs.Running.{ops-left, ops-below}
-use Rattle.bc_cli.specs.PartEndings.{IsSaveEnding}
+use Rattle.bc_cli.specs.PartEndings.{IsSaveEnding, IsUnsavedStatus}
 use Rattle.bc_cli.specs.Saves.{CutOffBelow, IsListingOf, SaveRanOutOfHeap}
 
 -- a lane that can make so many objects more has made few
@@ -79,6 +79,33 @@ fewer-save (OutOfHeap n) phases count enough fewer h = absurd (let le = enough (
 fewer-save NoMemory phases count enough fewer h = inr refl
 fewer-save (BadImage at cause) phases count enough fewer h = absurd h
 fewer-save Mismatch phases count enough fewer h = inl refl
+
+-- ---- a command that writes nothing
+
+pub unsaved-ending : (st : Status) → IsUnsavedStatus st → IsSaveEnding st
+unsaved-ending Done h = tt
+unsaved-ending BadWords h = h
+unsaved-ending (BadTrace line cause) h = h
+unsaved-ending TooLong h = h
+unsaved-ending ReadFault h = h
+unsaved-ending WriteFault h = tt
+unsaved-ending (OutOfHeap need) h = tt
+unsaved-ending NoMemory h = tt
+unsaved-ending (BadImage at cause) h = h
+unsaved-ending Mismatch h = tt
+
+-- what is said of a need, with what holds anyway
+pub need-untouched : (st : Status) (P : ℕ → Type 0) (Q : Type 0) → IfStatusOutOfHeap st P → Q → IfStatusOutOfHeap st (λ need. P need × Q)
+need-untouched Done P Q h q = tt
+need-untouched BadWords P Q h q = tt
+need-untouched (BadTrace line cause) P Q h q = tt
+need-untouched TooLong P Q h q = tt
+need-untouched ReadFault P Q h q = tt
+need-untouched WriteFault P Q h q = tt
+need-untouched (OutOfHeap need) P Q h q = (h, q)
+need-untouched NoMemory P Q h q = tt
+need-untouched (BadImage at cause) P Q h q = tt
+need-untouched Mismatch P Q h q = tt
 
 -- ---- the image that is written
 

@@ -2,6 +2,8 @@
 pub mod Limits
 -- How `save` ends
 pub mod Saves
+-- What an image can be made of
+pub mod Savable
 -- How `resume` ends
 pub mod Resumes
 -- What `churn` prints, and how the replay of a workload that was drawn ends.

@@ -21,6 +21,13 @@ IsSaveEnding NoMemory = Unit {0}
 IsSaveEnding Mismatch = Unit {0}
 IsSaveEnding _ = ⊥
 
+-- how `save` can end that has read a trace and writes nothing
+abbrev pub IsUnsavedStatus : Status → Type 0
+IsUnsavedStatus (OutOfHeap need) = Unit {0}
+IsUnsavedStatus NoMemory = Unit {0}
+IsUnsavedStatus Mismatch = Unit {0}
+IsUnsavedStatus _ = ⊥
+
 -- how `save` can end
 abbrev pub IsSaveStatus : Status → Type 0
 IsSaveStatus BadWords = ⊥

@@ -1,18 +1,18 @@
 //! The replay of a workload that is drawn: its replies are counted, and the counts are written at the end.
 
-ghost use Rattle.std.specs.Prelude.{◌≡◌, ◌≢◌, ◌+◌, ◌^◌, ◌<◌, ◌≤◌, [], None, Some, IfOk, IfSome, IsErr, OnOk, length, vec_capacity};
+ghost use Rattle.std.specs.Prelude.{◌≡◌, ◌≢◌, ◌⊎◌, ◌+◌, ◌^◌, ◌<◌, ◌≤◌, [], None, Some, IfOk, IfSome, IsErr, OnOk, length, vec_capacity};
 ghost use Rattle.bc_engine.specs.declared.engines.Ended.{Ended};
 ghost use Rattle.bc_io.specs.Faults.{Rose};
-ghost use Rattle.bc_io.specs.Told.{HasRoom};
+ghost use Rattle.bc_io.specs.Told.{HasRoom, HeldGrows};
 ghost use Rattle.bc_model.specs.Run.{replies_of};
 ghost use Rattle.bc_model.specs.RunLengths.{all_ops_of};
 ghost use Rattle.bc_model.specs.WellFormed.{IsTrace};
 ghost use Rattle.bc_churn.specs.Churn.{churn_trace};
-ghost use Rattle.bc_churn.specs.Counts.{run_counts};
+ghost use Rattle.bc_churn.specs.Counts.{churn_text, run_counts};
 ghost use Rattle.bc_churn.specs.TextRooms.{churn_bytes};
 ghost use Rattle.bc_replay.specs.Accounts.{KeepsAccount};
 ghost use Rattle.bc_replay.specs.Courses.{whole_course};
-ghost use Rattle.bc_replay.specs.Endings.{FitsThroughout};
+ghost use Rattle.bc_replay.specs.Endings.{FitsThroughout, WritesFront};
 ghost use Rattle.bc_replay.specs.BetweenPhases.{HasRun};
 ghost use Rattle.bc_replay.specs.NeedLine.{replies_before};
 ghost use Rattle.bc_cli.specs.Churns.{ChurnsDone, ChurnsInFault, HasChurned, IsChurnEnding, summary};
@@ -34,8 +34,16 @@ struct Workload {
     text: Vec<u8>,
 }
 
+/// A workload that was replayed: the heap at its end, how many replies of each kind there were, and room for its output.
+#[derive(Drop)]
+struct CountedRun {
+    engine: Engine,
+    counts: Counts,
+    text: Vec<u8>,
+}
+
 /// Replays the workload of a starting number and so many drawn operations for each lane, and writes how many replies of each
-/// kind there were. The whole text is made before any of it is written.
+/// kind there were. What takes memory is done before the first byte is written.
 pub(crate) fn churn<R, K, G>(
     host: &Host<R, G>,
     start: u64,
@@ -60,15 +68,67 @@ where
     ensures workers { IfSome result.heap (λ engine. engine.workers ≡ workers) }
     ensures account { IfSome result.heap KeepsAccount }
 {
-    let Ok(mut workload) = draw(host.alloc, start, ops, workers) else {
-        return Outcome::without_heap(Status::NoMemory);
-    };
-    let Ok(()) = replay(host, &mut workload, start, ops) else {
-        return Outcome::without_heap(Status::NoMemory);
-    };
-    match write_all(sink, &workload.text) {
-        Ok(()) => Outcome::with_heap(Status::Done, workload.engine),
-        Err(_) => Outcome::with_heap(Status::WriteFault, workload.engine),
+    match counted(host, start, ops, workers) {
+        Ok(run) => put_summary(sink, start, ops, run),
+        Err(_) => Outcome::without_heap(Status::NoMemory),
+    }
+}
+
+/// Draws the workload, replays it, and counts the replies of each kind. Room for the output was taken too.
+fn counted<R, G>(
+    host: &Host<R, G>,
+    start: u64,
+    ops: u32,
+    workers: u32,
+) -> Result<CountedRun, AllocError>
+where
+    R: Threads + Sync,
+    G: Gate + Sync,
+    requires ops { ops ≤ 100000 }
+    requires workers { (1 ≤ workers) × (workers ≤ 16) }
+    ensures counts { IfOk result (λ run. run.counts ≡ run_counts (replies_of (churn_trace start ops))) }
+    ensures heap { IfOk result (λ run. HasChurned start ops (Some run.engine)) }
+    ensures empty { IfOk result (λ run. run.text.items ≡ []) }
+    ensures room { IfOk result (λ run. churn_bytes ≤ vec_capacity run.text) }
+    ensures workers { IfOk result (λ run. run.engine.workers ≡ workers) }
+{
+    let Workload {
+        trace,
+        mut engine,
+        text,
+    } = draw(host.alloc, start, ops, workers)?;
+    let counts = replay(host, &mut engine, &trace, start, ops)?;
+    Ok(CountedRun {
+        engine,
+        counts,
+        text,
+    })
+}
+
+/// Writes how many replies of each kind there were. The whole text is made before any of it is written, in room that was taken: it takes no
+/// memory, and ends with the whole text, or with a failed write.
+fn put_summary<K: Sink>(sink: &mut K, start: u64, ops: u32, run: CountedRun) -> Outcome
+    requires empty { run.text.items ≡ [] }
+    requires text_room { churn_bytes ≤ vec_capacity run.text }
+    requires alive { run.engine.ended ≢ Some Ended.NoMemory }
+    requires room { HasRoom (K.room sink.old) (length (churn_text start ops run.counts)) }
+    ensures ending { (result.status ≡ Status.Done) ⊎ (result.status ≡ Status.WriteFault) }
+    ensures done { result.status ≡ Status.Done → HeldGrows (K.held sink.old) (K.held sink.new) (churn_text start ops run.counts) }
+    ensures write_fault { result.status ≡ Status.WriteFault → WritesFront (K.held sink.old) (K.held sink.new) (churn_text start ops run.counts) }
+    ensures cause { result.status ≡ Status.WriteFault → Rose (K.faults sink.old) (K.faults sink.new) }
+    ensures firm { result.status ≢ Status.WriteFault → K.faults sink.new ≡ K.faults sink.old }
+    ensures heap { result.heap ≡ Some run.engine }
+    ensures account { IfSome result.heap KeepsAccount }
+{
+    let CountedRun {
+        engine,
+        counts,
+        mut text,
+    } = run;
+    put_churn(&mut text, start, ops, &counts);
+    match write_all(sink, &text) {
+        Ok(()) => Outcome::with_heap(Status::Done, engine),
+        Err(_) => Outcome::with_heap(Status::WriteFault, engine),
     }
 }
 
@@ -92,30 +152,26 @@ fn draw(alloc: Global, start: u64, ops: u32, workers: u32) -> Result<Workload, A
     })
 }
 
-/// Replays the workload, and makes the text of its counts in the room that it has. Where it doesn't, the engine has run out of memory
-/// itself.
+/// Replays the trace of the workload, and counts the replies. Where it doesn't, the engine has run out of memory itself.
 fn replay<R, G>(
     host: &Host<R, G>,
-    workload: &mut Workload,
+    engine: &mut Engine,
+    trace: &Trace,
     start: u64,
     ops: u32,
-) -> Result<(), AllocError>
+) -> Result<Counts, AllocError>
 where
     R: Threads + Sync,
     G: Gate + Sync,
     requires ops { ops ≤ 100000 }
-    requires trace { workload.old.trace ≡ churn_trace start ops }
-    requires opened { HasRun (whole_course workload.old.trace) 0 workload.old.engine }
-    requires empty { workload.old.text.items ≡ [] }
-    requires room { churn_bytes ≤ vec_capacity workload.old.text }
-    ensures text { OnOk result (workload.new.text.items ≡ summary start ops) }
-    ensures heap { OnOk result (HasChurned start ops (Some workload.new.engine)) }
-    ensures no_memory { IsErr result → workload.new.engine.ended ≡ Some Ended.NoMemory }
-    ensures workers { workload.new.engine.workers ≡ workload.old.engine.workers }
+    requires trace { trace.now ≡ churn_trace start ops }
+    requires opened { HasRun (whole_course trace.now) 0 engine.old }
+    ensures counts { IfOk result (λ counts. counts ≡ run_counts (replies_of (churn_trace start ops))) }
+    ensures heap { OnOk result (HasChurned start ops (Some engine.new)) }
+    ensures no_memory { IsErr result → engine.new.ended ≡ Some Ended.NoMemory }
+    ensures workers { engine.new.workers ≡ engine.old.workers }
 {
-    let counts = count_phases(host, &mut workload.engine, &workload.trace)?;
-    put_churn(&mut workload.text, start, ops, &counts);
-    Ok(())
+    count_phases(host, engine, trace)
 }
 
 /// Runs the phases of a trace whose states all fit, and counts the replies. Where it answers no counts the engine has run out of memory

@@ -21,6 +21,9 @@
 // is made after the last one and written as a whole. No state of its run needs more than 27 of its 32 superpages. `save` drops the
 // replies too. Its image has the trace's version, and so no frozen domain in version 1. To write one takes no memory, so memory runs out
 // before the first phase or in the engine alone.
+//
+// What runs and takes memory is apart from what writes: `run_saved` and then `put_saved`, `counted` and then `put_summary`. The second of each takes
+// no allocator, and ends with all written or with a failed write, so it can't skip the writing as out of memory.
 #![tactic(auto)]
 
 mod churn;

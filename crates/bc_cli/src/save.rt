@@ -1,6 +1,6 @@
 //! `save`: the first phases of a trace are replayed, and the image of the heap after them is written in place of their texts.
 
-ghost use Rattle.std.specs.Prelude.{◌≡◌, ◌≢◌, ◌⊎◌, ℕ, ◌+◌, ◌^◌, ◌<◌, ◌≤◌, List, Some, None, Ok, length, drop, sum_by, IfSome, IsErr, OnErr, OnOk};
+ghost use Rattle.std.specs.Prelude.{◌≡◌, ◌≢◌, ◌⊎◌, ℕ, ◌+◌, ◌^◌, ◌<◌, ◌≤◌, List, Some, None, Ok, length, drop, sum_by, IfErr, IfOk, IfSome, IsErr, OnErr, OnOk};
 ghost use Rattle.std.specs.List.{AllByRecursion};
 ghost use Rattle.bc_engine.specs.EngineFacts.{HasRoomForBirths};
 ghost use Rattle.bc_engine.specs.Parts.{CanAdopt, PartsStand};
@@ -21,7 +21,8 @@ ghost use Rattle.bc_replay.specs.BetweenPhases.{HasRun};
 ghost use Rattle.bc_replay.specs.Courses.{whole_course};
 ghost use Rattle.bc_replay.specs.Endings.{FirstFit, NeedsFit, WritesFront};
 ghost use Rattle.bc_replay.specs.Outcomes.{Faulty, IfBadTrace, IfHeapless, IfStatusOutOfHeap, IsOrNoMemory, longest_trace};
-ghost use Rattle.bc_cli.specs.PartEndings.{IsSaveEnding, IsSaveStatus};
+ghost use Rattle.bc_cli.specs.PartEndings.{IsSaveEnding, IsSaveStatus, IsUnsavedStatus};
+ghost use Rattle.bc_cli.specs.Savable.{CanSave};
 ghost use Rattle.bc_cli.specs.Saves.{CutOff, CutOffBelow, HasFewerPhases, HasRoomToSave, IsListingOf, IsSaved, Saved, SavedInPart, SaveRanOutOfHeap};
 
 use bc_engine::{Engine, Parts};
@@ -95,7 +96,8 @@ where
     }
 }
 
-/// Replays the first phases of a trace, so many, and writes the image of the heap after them.
+/// Replays the first phases of a trace, so many, and writes the image of the heap after them. What takes memory is done before the first byte
+/// is written.
 fn save_trace<R, K, G>(
     host: &Host<R, G>,
     trace: &Trace,
@@ -128,24 +130,71 @@ where
     ensures workers { IfSome result.heap (λ engine. engine.workers ≡ workers) }
     ensures account { IfSome result.heap KeepsAccount }
 {
+    match run_saved(host, trace, count, workers) {
+        Ok(parts) => put_saved(sink, trace, count, parts),
+        Err(outcome) => outcome,
+    }
+}
+
+/// Replays the first phases of a trace, so many, on a new heap, and takes that apart: what the image is made of. Where there is nothing to
+/// write, it answers how the command ends.
+fn run_saved<R, G>(
+    host: &Host<R, G>,
+    trace: &Trace,
+    count: u64,
+    workers: u32,
+) -> Result<Parts, Outcome>
+where
+    R: Threads + Sync,
+    G: Gate + Sync,
+    requires trace { IsTrace trace.now }
+    requires few { all_ops_of trace.now + length trace.now.phases ≤ longest_trace }
+    requires workers { (1 ≤ workers) × (workers ≤ 16) }
+    ensures within { OnOk result (count ≤ length trace.now.phases) }
+    ensures saved { IfOk result (λ parts. CanSave trace.now count parts.holders.items parts.births.items parts.roots parts.space) }
+    ensures ending { IfErr result (λ outcome. IsUnsavedStatus outcome.status) }
+    ensures mismatch { IfErr result (λ outcome. outcome.status ≡ Status.Mismatch → length trace.now.phases < count) }
+    ensures enough { IfErr result (λ outcome. outcome.status ≢ Status.Mismatch → count ≤ length trace.now.phases) }
+    ensures out_of_heap { IfErr result (λ outcome. IfStatusOutOfHeap outcome.status (λ need.
+        CutOffBelow (whole_course trace.now) count outcome.heap need)) }
+    ensures none { IfErr result (λ outcome. IfHeapless outcome.status (outcome.heap ≡ None)) }
+    ensures workers { IfErr result (λ outcome. IfSome outcome.heap (λ engine. engine.workers ≡ workers)) }
+    ensures account { IfErr result (λ outcome. IfSome outcome.heap KeepsAccount) }
+{
     if count > trace.phases.len() as u64 {
-        return Outcome::without_heap(Status::Mismatch);
+        return Err(Outcome::without_heap(Status::Mismatch));
     }
     // In version 1 no domain is ever frozen, and no image of it says so of one.
     law_first_version();
     let Ok(mut engine) = Engine::open(host.alloc, &trace.setup, workers) else {
-        return Outcome::without_heap(Status::NoMemory);
+        return Err(Outcome::without_heap(Status::NoMemory));
     };
     match run_first(host, &mut engine, trace, count as usize) {
-        Ok(None) => {
-            let parts = engine.split();
-            match put_image(sink, trace.version, &trace.setup, count as u32, parts) {
-                Ok(()) => Outcome::without_heap(Status::Done),
-                Err(_) => Outcome::without_heap(Status::WriteFault),
-            }
-        }
-        Ok(Some(need)) => Outcome::with_heap(Status::OutOfHeap { need }, engine),
-        Err(_) => Outcome::without_heap(Status::NoMemory),
+        Ok(None) => Ok(engine.split()),
+        Ok(Some(need)) => Err(Outcome::with_heap(Status::OutOfHeap { need }, engine)),
+        Err(_) => Err(Outcome::without_heap(Status::NoMemory)),
+    }
+}
+
+/// Writes the image of the heap of an engine that has run so many phases of a trace and was taken apart. It takes no memory: it ends with the
+/// whole image, or with a failed write.
+fn put_saved<K: Sink>(sink: &mut K, trace: &Trace, count: u64, parts: Parts) -> Outcome
+    requires trace { IsTrace trace.now }
+    requires few { count < 2 ^ 32 }
+    requires saved { CanSave trace.now count parts.holders.items parts.births.items parts.roots parts.space }
+    requires room { (l : ListingLists) → IsSaved trace.now count l → HasRoom (K.room sink.old) (length (image_bytes l)) }
+    ensures ending { (result.status ≡ Status.Done) ⊎ (result.status ≡ Status.WriteFault) }
+    ensures done { result.status ≡ Status.Done → (l : ListingLists) × IsSaved trace.now count l
+        × HeldGrows (K.held sink.old) (K.held sink.new) (image_bytes l) }
+    ensures write_fault { result.status ≡ Status.WriteFault → (l : ListingLists) × IsSaved trace.now count l
+        × WritesFront (K.held sink.old) (K.held sink.new) (image_bytes l) }
+    ensures cause { result.status ≡ Status.WriteFault → Rose (K.faults sink.old) (K.faults sink.new) }
+    ensures firm { result.status ≢ Status.WriteFault → K.faults sink.new ≡ K.faults sink.old }
+    ensures unhanded { result.heap ≡ None }
+{
+    match put_image(sink, trace.version, &trace.setup, count as u32, parts) {
+        Ok(()) => Outcome::without_heap(Status::Done),
+        Err(_) => Outcome::without_heap(Status::WriteFault),
     }
 }
 
