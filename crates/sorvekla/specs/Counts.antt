@@ -7,12 +7,12 @@ use Rattle.bc_model.specs.State.{numbers_below}
 use Rattle.bc_superpages.specs.Layout.{Layout, superpages, set_of}
 use Rattle.bc_superpages.specs.LayoutAt.{header_of}
 use Rattle.bc_whole_heap.specs.Counting.{is_of_pair}
-use Rattle.sorvekla.specs.Heaps.{Counts}
+use Rattle.sorvekla.specs.Heaps.{CallCounts}
 use Rattle.sorvekla.specs.declared.counters.Counters.{Counters}
 
 -- the numbers of these that each call has a clause on
-abbrev pub counts_of : Counters → Counts
-counts_of c = record { minor = c.minor; by_hand = c.by_hand; failsafe = c.failsafe; hinted = c.hinted }
+abbrev pub call_counts : Counters → CallCounts
+call_counts c = record { minor = c.minor; by_hand = c.by_hand; failsafe = c.failsafe; hinted = c.hinted }
 
 -- the allocated cells of a superpage, if it is of the pair
 abbrev pub cells_in : Layout → ℕ → ℕ → ℕ → ℕ

@@ -9,22 +9,22 @@ use Rattle.bc_running.specs.Running.{RunningView, RunningStands}
 
 -- how often the nurseries were emptied, how many bookmark collections and how many fail-safe collections calls asked for, and how many
 -- pages left for hints. Each number stays at its type's end
-pub record Counts : Type 0 where
+pub record CallCounts : Type 0 where
   pub minor : ℕ
   pub by_hand : ℕ
   pub failsafe : ℕ
   pub hinted : ℕ
 
 -- nothing was counted
-abbrev pub no_counts : Counts
-no_counts = record { minor = 0; by_hand = 0; failsafe = 0; hinted = 0 }
+abbrev pub no_calls : CallCounts
+no_calls = record { minor = 0; by_hand = 0; failsafe = 0; hinted = 0 }
 
 -- the heap that lanes run on, the size of it, which root slots are handed out (domain after domain), and what was counted
 pub record OpenHeap : Type 0 where
   pub running : RunningView
   pub setup : Setup
   pub taken : List Bool
-  pub counts : Counts
+  pub counts : CallCounts
 
 -- the heap stands for this state of the plain heap, which never frees, moves or pages
 abbrev pub HeapStands : OpenHeap → State → Type 0
@@ -44,18 +44,18 @@ abbrev pub one_more : ℕ → ℕ
 one_more n = min (n + 1) 18446744073709551615
 
 -- the nurseries were emptied once more
-abbrev pub one_minor : Counts → Counts
+abbrev pub one_minor : CallCounts → CallCounts
 one_minor c = record c { minor = one_more c.minor }
 
 -- a call asked for one more bookmark collection
-abbrev pub one_by_hand : Counts → Counts
+abbrev pub one_by_hand : CallCounts → CallCounts
 one_by_hand c = record c { by_hand = one_more c.by_hand }
 
 -- a call asked for one more fail-safe collection
-abbrev pub one_failsafe : Counts → Counts
+abbrev pub one_failsafe : CallCounts → CallCounts
 one_failsafe c = record c { failsafe = one_more c.failsafe }
 
 -- a hint was answered: one more page left for it, unless the answer is that none could
-abbrev pub one_answer : Answer → Counts → Counts
+abbrev pub one_answer : Answer → CallCounts → CallCounts
 one_answer answer.Declined c = c
 one_answer _ c = record c { hinted = one_more c.hinted }

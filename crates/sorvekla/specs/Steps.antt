@@ -15,14 +15,14 @@ use Rattle.bc_model.specs.declared.values.Value.{Value}
 use Rattle.bc_model.specs.declared.values.Value.TheVariants as value
 use Rattle.bc_running.specs.Running.{RunningView, RunningStands}
 use Rattle.sorvekla.specs.Collected.{HasEmptied}
-use Rattle.sorvekla.specs.Heaps.{Counts, OpenHeap, HeapStands, one_minor}
+use Rattle.sorvekla.specs.Heaps.{CallCounts, OpenHeap, HeapStands, one_minor}
 use Rattle.sorvekla.specs.declared.errors.HeapError.{HeapError}
 use Rattle.sorvekla.specs.declared.errors.HeapError.TheVariants as error
 use Rattle.sorvekla.specs.declared.replies.Loaded.{Loaded}
 use Rattle.sorvekla.specs.declared.replies.Loaded.TheVariants as loaded
 
 -- nothing was counted, or that the nurseries were emptied once more
-abbrev pub MayEmpty : Counts → Counts → Type 0
+abbrev pub MayEmpty : CallCounts → CallCounts → Type 0
 MayEmpty before after = (after ≡ before) ⊎ (after ≡ one_minor before)
 
 -- the lane did the operation and was answered so: whatever state the heap stood for, that is the step of it, and the heap stands for the

@@ -4,8 +4,8 @@ ghost use Rattle.std.specs.Prelude.{◌≡◌, ◌≤◌, length, if◌then◌el
 ghost use Rattle.bc_bits.specs.Bits.{has};
 ghost use Rattle.bc_bits.specs.Counting.{count_below};
 ghost use Rattle.bc_whole_heap.specs.Counting.{is_of_pair};
-ghost use Rattle.sorvekla.specs.Counts.{cells_of_pair, counts_of};
-ghost use Rattle.sorvekla.specs.Heaps.{no_counts, one_answer, one_by_hand, one_failsafe, one_minor};
+ghost use Rattle.sorvekla.specs.Counts.{call_counts, cells_of_pair};
+ghost use Rattle.sorvekla.specs.Heaps.{no_calls, one_answer, one_by_hand, one_failsafe, one_minor};
 
 use crate::heaps::Heap;
 use bc_bits::count;
@@ -38,7 +38,7 @@ pub struct Counters {
 impl Counters {
     /// Nothing was done.
     pub(crate) fn none() -> Self
-        ensures none { counts_of result ≡ no_counts }
+        ensures none { call_counts result ≡ no_calls }
     {
         Counters {
             minor: 0,
@@ -52,21 +52,21 @@ impl Counters {
 
     /// A lane did an operation.
     pub(crate) fn count_operation(&mut self, before: Tally, after: Tally)
-        ensures uncounted { counts_of self.new ≡ counts_of self.old }
+        ensures uncounted { call_counts self.new ≡ call_counts self.old }
     {
         self.steps.count_alone(before, after);
     }
 
     /// There was a bookmark collection since frames were short, or none.
     pub(crate) fn count_early(&mut self, collected: bool)
-        ensures uncounted { counts_of self.new ≡ counts_of self.old }
+        ensures uncounted { call_counts self.new ≡ call_counts self.old }
     {
         self.steps.count_early(collected, 0);
     }
 
     /// The nurseries were emptied once more.
     pub(crate) fn count_minor(&mut self, kind: EmptyingKind, before: Tally, after: Tally)
-        ensures counted { counts_of self.new ≡ one_minor (counts_of self.old) }
+        ensures counted { call_counts self.new ≡ one_minor (call_counts self.old) }
     {
         self.minor = self.minor.saturating_add(1);
         self.steps.count_emptying(kind, before, after, 0);
@@ -74,7 +74,7 @@ impl Counters {
 
     /// The nurseries couldn't be emptied, which the fail-safe found.
     pub(crate) fn count_refusal(&mut self, before: Tally, after: Tally)
-        ensures uncounted { counts_of self.new ≡ counts_of self.old }
+        ensures uncounted { call_counts self.new ≡ call_counts self.old }
     {
         self.steps
             .count_emptying(EmptyingKind::Failsafe, before, after, 0);
@@ -82,14 +82,14 @@ impl Counters {
 
     /// A call asked for a bookmark collection.
     pub(crate) fn count_by_hand(&mut self)
-        ensures counted { counts_of self.new ≡ one_by_hand (counts_of self.old) }
+        ensures counted { call_counts self.new ≡ one_by_hand (call_counts self.old) }
     {
         self.by_hand = self.by_hand.saturating_add(1);
     }
 
     /// A call asked for a fail-safe collection.
     pub(crate) fn count_failsafe(&mut self, before: Tally, after: Tally)
-        ensures counted { counts_of self.new ≡ one_failsafe (counts_of self.old) }
+        ensures counted { call_counts self.new ≡ one_failsafe (call_counts self.old) }
     {
         self.failsafe = self.failsafe.saturating_add(1);
         self.steps.count_pages(before, after, 0);
@@ -97,7 +97,7 @@ impl Counters {
 
     /// A hint was answered: counts a page that left.
     pub(crate) fn count_answer(&mut self, answer: Answer, before: Tally, after: Tally)
-        ensures counted { counts_of self.new ≡ one_answer answer (counts_of self.old) }
+        ensures counted { call_counts self.new ≡ one_answer answer (call_counts self.old) }
     {
         if answer != Answer::Declined {
             self.hinted = self.hinted.saturating_add(1);
@@ -110,7 +110,7 @@ impl Counters {
 impl Heap {
     /// What was done on the heap since it was opened.
     pub fn counters(&self) -> Counters
-        ensures counts { counts_of result ≡ self.now.counts }
+        ensures counts { call_counts result ≡ self.now.counts }
         ensures reads { result.reads ≡ self.now.running.heap.space.reads }
     {
         Counters {

@@ -4,7 +4,7 @@ ghost use Rattle.std.specs.Prelude.{◌≡◌, IfErr, IfOk};
 ghost use Rattle.bc_model.specs.Run.{opening};
 ghost use Rattle.bc_model.specs.State.{State};
 ghost use Rattle.bc_model.specs.WellFormed.{IsSetup, IsWithin};
-ghost use Rattle.sorvekla.specs.Heaps.{IsOpen, HeapStands, no_counts, none_taken};
+ghost use Rattle.sorvekla.specs.Heaps.{IsOpen, HeapStands, no_calls, none_taken};
 ghost use Rattle.sorvekla.specs.Limits.{IsOpenFault, setup_of};
 
 use crate::emptying::Upkeep;
@@ -47,7 +47,7 @@ impl Heap {
         ensures range { IfOk result (λ heap. IsSetup (setup_of limits.now)) }
         ensures workers { IfOk result (λ heap. IsWithin 1 16 limits.now.workers) }
         ensures opening { IfOk result (λ heap. HeapStands heap (opening (setup_of limits.now))) }
-        ensures size { IfOk result (λ heap. (heap.setup ≡ setup_of limits.now) × (heap.taken ≡ none_taken (setup_of limits.now)) × (heap.counts ≡ no_counts)) }
+        ensures size { IfOk result (λ heap. (heap.setup ≡ setup_of limits.now) × (heap.taken ≡ none_taken (setup_of limits.now)) × (heap.counts ≡ no_calls)) }
         ensures refused { IfErr result (IsOpenFault limits.now) }
     {
         if let Some(error) = limit_fault(limits) {
@@ -71,7 +71,7 @@ impl Heap {
 fn open_in_range(alloc: Global, setup: &Setup, workers: u32) -> Result<Heap, AllocError>
     requires range { IsSetup setup.now }
     ensures opening { IfOk result (λ heap. HeapStands heap (opening setup.now)) }
-    ensures size { IfOk result (λ heap. (heap.setup ≡ setup.now) × (heap.taken ≡ none_taken setup.now) × (heap.counts ≡ no_counts)) }
+    ensures size { IfOk result (λ heap. (heap.setup ≡ setup.now) × (heap.taken ≡ none_taken setup.now) × (heap.counts ≡ no_calls)) }
 {
     Ok(Heap {
         running: Running::open(alloc, setup)?,

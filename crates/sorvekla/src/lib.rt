@@ -37,7 +37,7 @@
 // one (`HeapStands`), which has all objects that were ever made. Each operation's answer, and the state that the heap stands for then, are the
 // step of that state (`DidStep`). Collections, pages that leave and everything that is refused keep the state (`StaysSame`). It holds of every
 // call with no premise, and each cause of a refusal is true where it is returned (`IsCauseOf`). What a collection that a call asks for makes of
-// the heap beneath is said too: `HasEmptied`, `IsCollectedHeap` and `Packed`. So is whether a call is counted (`Counts`).
+// the heap beneath is said too: `HasEmptied`, `IsCollectedHeap` and `Packed`. So is whether a call is counted (`CallCounts`).
 //
 // Beneath is `bc_running`: this crate adds what its calls ask for. What is true of a heap between calls is `IsOpen`, by `CanRunLanes` of
 // `bc_engine`, whose lemmas the proofs cite; of the engine's code its counters alone run.
