@@ -12,7 +12,7 @@ use Rattle.bc_pins.specs.Totals.{total}
 use Rattle.bc_pins.specs.Views.{grips}
 use Rattle.bc_pins.specs.Facts.{Table, page_word}
 use Rattle.bc_pins.specs.Rule.{Rule}
-use Rattle.bc_pins.specs.InHand.{HasInHand, IsHeldByOne}
+use Rattle.bc_pins.specs.InHand.{SeatHasPage, IsHeldByOne}
 use Rattle.bc_pins.proofs.TotalLemmas.{total_at, total_two, one_few, one_is, one_same}
 
 -- where a list has more than none together, one of its items does
@@ -27,7 +27,7 @@ gripped : (page : ℕ) (hand : Option Hand) → 0 < grips page hand → (h : Han
 gripped page None lt = absurd (omega arith)
 gripped page (Some h) lt = (h, refl, one_is h.page page lt)
 
-grips_one : {s : Table} {seat page : ℕ} (h : HasInHand s seat page) → grips page h.view.hand ≡ 1
+grips_one : {s : Table} {seat page : ℕ} (h : SeatHasPage s seat page) → grips page h.view.hand ≡ 1
 grips_one {s} {seat} {page} h = ap (grips page) h.has ∙ ap (λ (n : ℕ). one_if (n == page)) h.page_is ∙ one_same page
 
 pub held_pages : (k : Key) (s : Table) → Rule k s → (page : ℕ) → page < pages_of k → IsHeldByOne s page
