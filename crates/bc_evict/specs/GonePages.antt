@@ -38,7 +38,7 @@ stored_content k s page = content_in (slot s (store_slot k page))
 
 -- a seat set the bookmark bit of the cell at the address for this page, which had a target there in the turn. That seat has the page in
 -- hand, or gave it up
-pub record IsBookmarkedFor (k : Key) (s : Table) (page a : ℕ) : Type 0 where
+pub record IsBookmarkedBySeat (k : Key) (s : Table) (page a : ℕ) : Type 0 where
   pub inside : page < pages_of k
   pub seat : ℕ
   pub view : View
@@ -49,4 +49,4 @@ pub record IsBookmarkedFor (k : Key) (s : Table) (page a : ℕ) : Type 0 where
 
 -- the cell at the address was bookmarked at the opening, or for a page in the turn
 abbrev pub HasReason : Key → Table → ℕ → Type 0
-HasReason k s a = (is_bookmarked k.opening a ≡ true) ⊎ ((page : ℕ) × IsBookmarkedFor k s page a)
+HasReason k s a = (is_bookmarked k.opening a ≡ true) ⊎ ((page : ℕ) × IsBookmarkedBySeat k s page a)
