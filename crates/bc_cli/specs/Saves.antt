@@ -73,8 +73,8 @@ pub record HasFewerPhases (left left' : Option (List ℕ)) (count : ℕ) : Type 
   pub read : ReadAsTrace left left' trace
   pub fewer : length trace.phases < count
 
--- each image of the state after the first phases, so many, fits the sink's room, where that is known. Of bytes that are no trace, or too
--- many, or a trace with fewer phases, nothing is written
+-- each image of the state after the first phases, so many, fits the sink's room, where that is known. Nothing is written of bytes that are
+-- too many or no trace, or of a trace with fewer phases
 abbrev pub HasRoomToSave : Option (List ℕ) → Option ℕ → ℕ → Type 0
 HasRoomToSave left room count =
     (bytes : List ℕ) → (t : TraceLists) → MayGive left bytes → length bytes ≤ longest_trace → Spells bytes t → count ≤ length t.phases

@@ -37,7 +37,7 @@ abbrev pub stored_content : Key → Table → ℕ → List ℕ
 stored_content k s page = content_in (slot s (store_slot k page))
 
 -- a seat set the bookmark bit of the cell at the address for this page, which had a target there in the turn. That seat has the page in
--- hand, or gave it up
+-- hand, or evicted it
 pub record IsBookmarkedBySeat (k : Key) (s : Table) (page a : ℕ) : Type 0 where
   pub inside : page < pages_of k
   pub seat : ℕ

@@ -28,7 +28,8 @@
 // is counted exactly where one lies in it, once however many they are. `reload` takes just these counts off again (`HasReloaded`),
 // and each refusal of `claim_frame`, `free_frame` and `reload` says what was read. `evict` may be called only where all of
 // this was done (`MayRelinquish`), and `law_gone_pages` says what that is for: whatever steps were made, and whoever makes one
-// next, a page whose word says Gone is summarised, and no cell is bookmarked and no page counted without a page that asks for it.
+// next, a page whose word says Gone is summarised. No bookmark comes but for a page that was evicted or is in hand, and counters count no
+// page but Gone ones and those in hand.
 //
 // What a call costs: `bookmark` looks at each word of the page once, steps once for each reference on it, in a mark turn up to four times,
 // and goes once through a bit for each superpage of the table, 4,096 at most, on the stack. `reload` does so too, and steps for

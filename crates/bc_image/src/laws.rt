@@ -50,9 +50,9 @@ pub fn law_one_image_fault()
     ensures alone { (bytes : List ℕ) → (f other : ImageFault) → IsFault bytes f → IsFault bytes other → f ≡ other }
 {}
 
-/// Law: where a fault lies. It lies at an item, which is there whole unless the cause is Short. The bytes in front of it alone are only too
-/// short, so nothing was wrong before it. The fault of an item stays whatever follows the item, unless the item is a reference to nowhere:
-/// that is the first of the words, in bytes of which all items passed.
+/// Law: where a fault lies. It lies at an item, which is there whole unless the cause is Short. The bytes before it, taken alone, are only
+/// too short, so nothing before it is wrong. The fault of an item stays whatever follows the item, unless the item is a reference to
+/// nowhere: that is the first one among the words, in bytes of which all items passed.
 pub fn law_fault_place()
     ensures item { (bytes : List ℕ) → (f : ImageFault) → IsFault bytes f → LiesAtItem bytes f }
     ensures before { (bytes : List ℕ) → (f : ImageFault) → IsFault bytes f → IsFault (take f.at bytes) (record { at = f.at; cause = Short }) }

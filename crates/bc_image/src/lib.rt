@@ -13,8 +13,8 @@
 // The bytes are read once. A birth that stands twice and a reference to nowhere are judged afterwards, among the heads and words that were
 // kept; both in time and memory linear in the objects and superpages, whatever the bytes are.
 //
-// Bytes begin with one image at most (`law_one_listing`), or else they have exactly one fault (`law_one_image_fault`), whose place
-// `law_fault_place` tells. No image has more than 100,860,624 bytes (`law_largest_image`).
+// Bytes begin with one image at most (`law_one_listing`), or else they have exactly one fault (`law_one_image_fault`; `law_fault_place`
+// says where it lies). No image has more than 100,860,624 bytes (`law_largest_image`).
 //
 // What an image pictures (`Pictures`) is a state as far as its slots lead; states that one image pictures are alike
 // (`law_one_image`).

@@ -16,7 +16,7 @@ DidAll holders lane (op ∷ ops) [] h serial k next = ⊥
 DidAll holders lane (op ∷ ops) (reply ∷ replies) h serial k next =
     (m : HeapView) × (n : ℕ) × DidOperation h m holders lane serial n op reply × DidAll holders lane ops replies m n k next
 
--- how many of its operations a lane tried, which has so many, and had done the first `before` of them, and `after` then: those that it did
--- meanwhile, and the next one where there is one
+-- how many operations a lane tried that has `count` of them, had done `before` and has now done `after`: those that it did in between, and
+-- the next one where there is one
 abbrev pub tried_from : ℕ → ℕ → ℕ → ℕ
 tried_from count before after = (after - before) + one_if (nat_lt after count)

@@ -18,12 +18,11 @@
 // frozen (`looking`). No other lane's page is ever taken.
 //
 // The theorem is the contract of `LaneTurn::run`: whatever whole heap what the lane has belonged to, it then belongs to that heap
-// with the lane's operations done, one after another, and answered so (`LaneRan`); and each stop has its cause (`WhyStopped`). For each
-// operation that it tries, which it does or stops at, it reloads at most one page, and once (`tried_from`). These
-// heaps have none of the lane's pages Gone: the first is the one that was opened, with every page back (`law_opening`). So a page
-// that comes back, and one that leaves, change nothing of them; what they change at the table `ReadsOn` says. Pages and slots of frozen
-// domains are in each of them as at the opening. What other lanes have isn't among the arguments, so lanes side by side are lanes one
-// after another.
+// with the lane's operations done, one after another, and answered so (`LaneRan`); and each stop has its cause (`WhyStopped`). It reloads
+// at most as many pages as it tries operations: those that it does, and the one that it stops at (`tried_from`). These heaps have none of
+// the lane's pages Gone: the first is the one that was opened, with every page back (`law_opening`). So a page that comes back, and one
+// that leaves, change nothing of them; what they change at the table `ReadsOn` says. Pages and slots of frozen domains are in each of them
+// as at the opening. What other lanes have isn't among the arguments, so lanes side by side are lanes one after another.
 #![tactic(auto)]
 
 mod attempting;

@@ -11,11 +11,13 @@
 // Its invariant, `IsState`, says that every reference is to an object that was born, every number and
 // number of fields is in range, and every domain is a lane's or frozen.
 //
-// The theorem stands on `Flat::step`, `Flat::give`, `Flat::freeze` and `Flat::phase`: they do exactly what the definitions say,
-// and where memory runs out nothing. The laws in `laws` say what the definitions mean: lanes commute in
-// any order, objects stay, a lane changes its own domains alone, and each operation is refused for just the
-// reasons that `specs/Refused.antt` names and has its answer everywhere else. They also say what an operation that
-// is done leaves in the slot or the field that it writes (`specs/Changes.antt`), and that all else stays as it was.
+// The theorem stands on `Flat::step`, `Flat::give`, `Flat::freeze` and `Flat::phase`: they do exactly what the definitions say.
+// Where memory runs out `step` does nothing; `phase` stops there, and promises nothing of the heap.
+//
+// The laws in `laws` say what the definitions mean: lanes commute in any order, objects stay, a lane changes its own domains
+// alone, and each operation is refused for just the reasons that `specs/Refused.antt` names and has its answer everywhere
+// else. They also say what an operation that is done leaves in the slot or the field that it writes (`specs/Changes.antt`),
+// and that all else stays as it was.
 #![tactic(auto)]
 
 mod item;

@@ -23,7 +23,8 @@ use bc_model::{Holder, Setup};
 use bc_superpages::{Roots, Space};
 
 /// Writes the image of a heap: of what the engine knows, its root slots, and all objects of the space. Pages that are Gone are
-/// read back one at a time; where they are is all that changes. At a fault a prefix of the image was written.
+/// read back one at a time. Only where pages are changes, and what is kept of that: free frames, bookmarks, counters and the count of reads.
+/// At a fault a prefix of the image was written.
 pub fn write<K: Sink>(
     sink: &mut K,
     version: u32,

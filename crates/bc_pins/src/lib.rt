@@ -10,14 +10,21 @@
 // record of a page is the content that its lane put back last, or else the opening's; its lane alone records whether it is remembered.
 // A page of a frozen domain has no lane, so its record is the opening's for the whole turn.
 //
-// The rule (`specs/Rule.antt`, made of the turn facts of `specs/Facts.antt`) holds between any two steps, whatever order the
-// threads' steps take: a page's box lies where its word says, with the record as its content; a page is in one view's hands
-// where its word says Held, and in none else (`law_held_pages`); a page whose record refers to a nursery is remembered; what was read
-// as Remembered stays so, and an own page that was read as Gone is Gone until it is taken; a page that was read as Held was taken by
-// somebody, and an own page so read is in another's hands, or that one put it back, or made it Gone or Absent; what was read as Absent,
-// Remembered or Gone isn't Home; a Gone page is summarised by the table's bookmark bits; counters count Gone pages and what is counted for those in hand; each role
-// is in one view; each frame is in one place, so that at most as many are in use as there are, less those that no page may use
-// (`law_frames_in_use`); each number of a notice below the notice word was claimed by one view, once (`specs/Claims.antt`).
+// The rule (`specs/Rule.antt`, made of the turn facts of `specs/Facts.antt`) holds between any two steps, whatever order the threads' steps
+// take:
+//
+// - A page's box lies where its word says, with the record as its content.
+// - A page is in one view's hands where its word says Held, and in none else (`law_held_pages`).
+// - A page whose record refers to a nursery is remembered.
+// - What was read as Remembered stays so. An own page that was read as Gone is Gone until it is taken. What was read as Absent, Remembered
+//   or Gone isn't Home.
+// - A page that was read as Held was taken by somebody. An own page so read is in another's hands, or that one put it back, or made it Gone
+//   or Absent.
+// - A Gone page is summarised by the table's bookmark bits. Counters count Gone pages, and what is counted for those in hand.
+// - Each role is in one view.
+// - Each frame is in one place. So at most as many are in use as there are, less those that no page may use (`law_frames_in_use`).
+// - Each number of a notice below the notice word was claimed by one view, once (`specs/Claims.antt`).
+//
 // `proofs/PageSteps.antt` has the one lemma by which every step on a page's word keeps it, and `proofs/SideSteps.antt` the one for a step
 // on another word.
 //

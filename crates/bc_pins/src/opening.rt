@@ -42,9 +42,9 @@ fn about_of(
 }
 
 impl Pins {
-    /// Opens a table over a space: each page up to the last that isn't Absent has its word and its slots, and each role its
-    /// seat, in their order. `holders` names who holds each domain; in a mark turn no lane holds one, and the list is empty. It takes all
-    /// its memory first, and where there is none it gives the space back.
+    /// Opens a table over a space. The pages of its first superpages have their words and slots; after these superpages every page is Absent.
+    /// Each role has its seat, in their order. `holders` names who holds each domain; in a mark turn no lane holds one, and the list is
+    /// empty. It takes all its memory first, and where there is none it gives the space back.
     pub fn open(
         alloc: Global,
         space: Space,

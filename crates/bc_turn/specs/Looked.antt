@@ -1,4 +1,4 @@
--- Heaps on the way of a lane's turn: pages on which an operation looks, and contents that a page had; and how many operations all lanes try.
+-- Heaps on the way of a lane's turn: pages on which an operation looks, and contents that a page had. How many operations all lanes try.
 use Rattle.std.specs.Prelude.{◌≡◌, ℕ, ◌+◌, ◌/◌, ◌<◌, ◌≤◌, true, List, ◌++◌, length, take, drop, slice_index, slice_index_or}
 use Rattle.bc_lane.specs.Back.{heap_back}
 use Rattle.bc_lane.specs.Doing.{DidAll, tried_from}

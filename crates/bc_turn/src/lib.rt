@@ -31,12 +31,12 @@
 // once all are through they are laid into the list by these numbers (`close_turn`). At the close each number is one pager's claim. The live
 // pager's answers stand in a list of their own, in the order in which it took their notices.
 //
-// Lanes reload pages of their own and of frozen domains, at most one for each operation that they try, which they do or stop at
-// (`tried_in_turn`), and for their frames make others Gone or Absent, no more than they reload. By all
-// answers and the lists of these pages each page is accounted for: how often it is Gone, or Absent, at the close. The bookmark bits that
-// came are those of targets that pages had which were made Gone in the turn, and pages were read as often as one came back. Where a
-// notice was declined, each page that is Home afterwards is looked at in the turn (`declined`), by an operation that a lane did which may
-// read it, or by the next one that it would do; and so is each page that a lane reloaded (`IsLookedAtInTurn`).
+// Lanes reload pages of their own and of frozen domains, at most one for each operation that they do or stop at (`tried_in_turn`). For
+// their frames they make others Gone or Absent, no more than they reload. By all answers and the lists of these pages each page is
+// accounted for: how often it is Gone, or Absent, at the close. The bookmark bits that came are those of targets that pages had which were
+// made Gone in the turn, and pages were read as often as one came back. Where a notice was declined, each page that is Home afterwards is
+// looked at in the turn (`declined`), by an operation that a lane did which may read it, or by the next one that it would do; and so is
+// each page that a lane reloaded (`IsLookedAtInTurn`).
 //
 // What takes memory comes first: room for what each lane takes along (`fit_room`), with a chunk, a write buffer and a list of replies
 // without words that stand in the heap's places meanwhile; then the roles, each pager's room for answers to

@@ -39,7 +39,7 @@ IsLimitInRange l fault.Frames = l.lanes * l.nursery + 2 ≤ l.frames
 IsLimitInRange l fault.Workers = IsWithin 1 16 l.workers
 IsLimitInRange l fault.NoMemory = Unit {0}
 
--- the limits before this one, in the order of the fields; before memory is asked for, all
+-- the limits before this one, in the order of the fields. Out of memory comes after all of them
 abbrev pub limits_before : OpenError → List OpenError
 limits_before fault.Lanes = []
 limits_before fault.Domains = fault.Lanes ∷ []

@@ -14,8 +14,9 @@ use bc_engine::{Counters as StepCounts, Tally};
 use bc_pager::Answer;
 use bc_superpages::{Header, Space};
 
-/// What was done on a heap since it was opened. Each number stays at its type's end, but for those of pages in `steps`, which go round. Each
-/// call says whether it adds one to `minor`, `by_hand`, `failsafe` or `hinted`, and `reads` is the heap's own count.
+/// What was done on a heap since it was opened. Each number stays at its type's end, but for those of pages in `steps`, which wrap at 2^64.
+/// Each call says what it adds to `minor`, `by_hand`, `failsafe` and `hinted`: an operation may add one to `minor`. `reads` is the heap's
+/// own count.
 #[derive(Clone, Copy, PartialEq, Eq, Debug)]
 pub struct Counters {
     /// Minor collections: the nurseries were emptied.
@@ -95,7 +96,7 @@ impl Counters {
         self.steps.count_pages(before, after, 0);
     }
 
-    /// A hint was answered: counts a page that left.
+    /// A hint was answered. It is counted, unless the answer is that no page could leave.
     pub(crate) fn count_answer(&mut self, answer: Answer, before: Tally, after: Tally)
         ensures counted { call_counts self.new ≡ one_answer answer (call_counts self.old) }
     {
