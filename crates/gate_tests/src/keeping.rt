@@ -38,26 +38,25 @@ impl Patience {
         }
     }
 
-    /// Keeps the caller until this is above 0, but not for ever.
+    /// Keeps the caller until this is above 0, but not for ever, nor where one was let go already.
     pub fn keep_until(&self, come: &AtomicU64) {
         self.keep_until_above(come, 0);
     }
 
     /// Keeps the caller until this is above a number, but not for ever, nor where one was let go already.
     pub fn keep_until_above(&self, come: &AtomicU64, number: u64) {
-        for _ in 0..LOOKS {
-            if come.load(Ordering::SeqCst) > number || self.given_up.load(Ordering::SeqCst) > 0 {
-                return;
-            }
-            thread::yield_now();
-        }
-        self.given_up.fetch_add(1, Ordering::SeqCst);
+        self.keep(come, Awaited::Above(number));
     }
 
     /// Keeps the caller until all of these bits are set, but not for ever, nor where one was let go already.
     pub fn keep_until_all(&self, come: &AtomicU64, bits: u64) {
+        self.keep(come, Awaited::All(bits));
+    }
+
+    /// Keeps the caller until what it waits for is so, but not for ever, nor where one was let go already.
+    fn keep(&self, come: &AtomicU64, awaited: Awaited) {
         for _ in 0..LOOKS {
-            if come.load(Ordering::SeqCst) & bits == bits
+            if awaited.is_so(come.load(Ordering::SeqCst))
                 || self.given_up.load(Ordering::SeqCst) > 0
             {
                 return;
@@ -65,6 +64,25 @@ impl Patience {
             thread::yield_now();
         }
         self.given_up.fetch_add(1, Ordering::SeqCst);
+    }
+}
+
+/// What a thread that is kept waits for.
+#[derive(Clone, Copy)]
+enum Awaited {
+    /// The number that it looks at is above this one.
+    Above(u64),
+    /// In the number that it looks at all of these bits are set.
+    All(u64),
+}
+
+impl Awaited {
+    /// Whether it is so with this number.
+    fn is_so(self, number: u64) -> bool {
+        match self {
+            Awaited::Above(least) => number > least,
+            Awaited::All(bits) => number & bits == bits,
+        }
     }
 }
 
