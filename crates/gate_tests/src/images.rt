@@ -5,7 +5,7 @@ use crate::keeping::Counting;
 use crate::points::AFTER;
 use bc_cli::Status;
 use bc_io::MemSource;
-use program_workshop::{Paper, followed, repeated, run_between, trace};
+use program_workshop::{ONE_SLOT_EACH, Paper, followed, repeated, run_between, trace};
 use std::alloc::{AllocError, Global};
 use std::process::Abort;
 use std::sync::atomic::{AtomicU64, Ordering};
@@ -45,7 +45,7 @@ fn lanes_run_at_tables_where_a_trace_is_saved_and_where_it_is_resumed(
     let lines = format!(in alloc;
         "phase\nlane 0\nlane 1\nend\nphase\nlane 0\n{zero}{look_at_0}lane 1\n{one}{look_at_1}end\ndone\n"
     )?;
-    let text = trace(alloc, [2, 2, 1, 2, 1, 4, 4], &lines)?;
+    let text = trace(alloc, ONE_SLOT_EACH, &lines)?;
     // A chunk holds 256 such objects: the first turn ends there, and the object after them is made between the turns.
     passes(&rt, alloc, &["save", "2"], text.as_bytes(), 6_299)?;
     let image = passes(&rt, alloc, &["save", "1"], text.as_bytes(), 0)?;

@@ -4,7 +4,7 @@ use crate::equal::same;
 use crate::keeping::{Counting, Patience};
 use crate::points::{AFTER, BEFORE};
 use bc_cli::{Gate, Status};
-use program_workshop::{repeated, run_past, trace};
+use program_workshop::{ONE_SLOT_EACH, SMALL, repeated, run_past, trace};
 use std::sync::atomic::{AtomicU64, Ordering};
 use std::test::Fail;
 
@@ -14,7 +14,7 @@ fn all_operations_but_those_that_find_the_chunk_full_are_done_in_turns(
 ) -> Result<(), Fail> {
     let news = repeated(rt.alloc(), "new 0 0 0\n", 10_000)?;
     let lines = format!(in rt.alloc(); "phase\nlane 0\n{news}end\ndone\n")?;
-    let text = trace(rt.alloc(), [1, 1, 2, 1, 1, 4, 3], &lines)?;
+    let text = trace(rt.alloc(), SMALL, &lines)?;
     let gate = Counting {
         who: 0,
         point: AFTER,
@@ -61,7 +61,7 @@ fn two_lanes_that_wait_for_each_other_in_both_orders_both_come_through(
     rt: HostRuntime,
 ) -> Result<(), Fail> {
     let lines = "phase\nlane 0\nnew 0 0 0\nlane 1\nnew 1 0 0\nwho 1 0\nend\ndone\n";
-    let text = trace(rt.alloc(), [2, 2, 1, 2, 1, 4, 4], lines)?;
+    let text = trace(rt.alloc(), ONE_SLOT_EACH, lines)?;
     let gate = Crossing {
         begun_by_1: AtomicU64::new(0),
         done_by_0: AtomicU64::new(0),

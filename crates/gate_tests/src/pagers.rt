@@ -6,7 +6,7 @@ use crate::objects::big_objects;
 use crate::points::{ANSWERED, BEFORE, PAGER, TAKEN};
 use bc_cli::{Gate, Status};
 use bc_engine::Answer;
-use program_workshop::{repeated, run_past, trace};
+use program_workshop::{ONE_SLOT_EACH, SMALL, repeated, run_past, trace};
 use std::alloc::Global;
 use std::process::Abort;
 use std::sync::atomic::{AtomicU64, Ordering};
@@ -42,7 +42,7 @@ fn a_lane_and_a_pager_that_wait_for_each_other_both_come_through(
     rt: HostRuntime,
 ) -> Result<(), Fail> {
     let lines = "phase\nturn 0\nlane 0\nnew 0 0 0\nlane 1\nnew 1 0 0\nwho 1 0\nend\ndone\n";
-    let text = trace(rt.alloc(), [2, 2, 1, 2, 1, 4, 4], lines)?;
+    let text = trace(rt.alloc(), ONE_SLOT_EACH, lines)?;
     let gate = Racing {
         begun_by_0: AtomicU64::new(0),
         answered: AtomicU64::new(0),
@@ -68,7 +68,7 @@ fn declined_together<R: Threads + Sync + Abort>(
     pagers: u64,
 ) -> Result<(), Fail> {
     let lines = format!(in alloc; "phase\nturn{hints}\nlane 0\nnew 0 0 0\nend\ndone\n")?;
-    let text = trace(alloc, [1, 1, 2, 1, 1, 4, 3], &lines)?;
+    let text = trace(alloc, SMALL, &lines)?;
     let gate = Together::of(pagers);
     let passed = run_past(rt, alloc, &text, &gate)?;
     same(rt, passed.status, Status::Done);
@@ -107,7 +107,7 @@ fn of_two_pagers_that_are_alone_one_evicts_a_page_with_an_object_and_the_other_d
     rt: HostRuntime,
 ) -> Result<(), Fail> {
     let lines = "phase\nlane 0\nnew 0 0 0\nend\nphase\nturn 3 0\nlane 0\nend\ndone\n";
-    let text = trace(rt.alloc(), [1, 1, 2, 1, 1, 4, 3], lines)?;
+    let text = trace(rt.alloc(), SMALL, lines)?;
     let gate = Together::of(3);
     let passed = run_past(&rt, rt.alloc(), &text, &gate)?;
     same(&rt, passed.status, Status::Done);

@@ -6,7 +6,7 @@ use crate::points::{AFTER, ANSWERED, BEFORE, PAGER, TAKEN};
 use bc_cli::{Gate, Status};
 use bc_engine::{Answer, Pacing};
 use bc_io::MemSource;
-use program_workshop::{Paper, repeated, run_between, run_paced, trace};
+use program_workshop::{ONE_SLOT_EACH, Paper, repeated, run_between, run_paced, trace};
 use std::alloc::{AllocError, Global};
 use std::sync::atomic::{AtomicU64, Ordering};
 use std::test::Fail;
@@ -111,7 +111,7 @@ fn in_a_long_second_turn_of_a_phase_two_lanes_wait_for_each_other(
     let lines = format!(in rt.alloc();
         "phase\nlane 0\n{zero}{look_at_0}lane 1\n{one}{look_at_1}end\ndone\n"
     )?;
-    let text = trace(rt.alloc(), [2, 2, 1, 2, 1, 4, 4], &lines)?;
+    let text = trace(rt.alloc(), ONE_SLOT_EACH, &lines)?;
     let gate = Midway {
         done_by_0: AtomicU64::new(0),
         done_by_1: AtomicU64::new(0),

@@ -6,7 +6,7 @@ use crate::objects::{big_objects, first_births};
 use crate::points::{AFTER, ANSWERED, BEFORE, PAGER};
 use bc_cli::{Gate, Status};
 use bc_engine::Answer;
-use program_workshop::{TWO_FRAMES, chain, chain_printed, run_past, trace};
+use program_workshop::{SMALL, TWO_FRAMES, chain, chain_printed, run_past, trace};
 use std::sync::atomic::{AtomicU64, Ordering};
 use std::test::Fail;
 
@@ -44,7 +44,7 @@ const LOOKED_AT_TWICE: &str =
 
 #[test]
 fn a_page_that_a_pager_evicted_comes_back_in_the_same_turn(rt: HostRuntime) -> Result<(), Fail> {
-    let text = trace(rt.alloc(), [1, 1, 2, 1, 1, 4, 3], LOOKED_AT_TWICE)?;
+    let text = trace(rt.alloc(), SMALL, LOOKED_AT_TWICE)?;
     let gate = Behind {
         come: AtomicU64::new(0),
         answered: AtomicU64::new(0),

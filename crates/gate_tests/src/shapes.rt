@@ -7,7 +7,7 @@ use crate::objects::{big_objects, first_births};
 use crate::points::{AFTER, ANSWERED, BEFORE, LANE_IN_HAND, PAGER, TAKEN};
 use bc_cli::{Gate, Status};
 use bc_engine::Answer;
-use program_workshop::{repeated, run_past, trace};
+use program_workshop::{SMALL, repeated, run_past, trace};
 use std::sync::atomic::{AtomicU64, Ordering};
 use std::test::Fail;
 
@@ -178,7 +178,7 @@ impl Gate for Holding {
 fn a_page_in_a_lanes_hands_is_declined(rt: HostRuntime) -> Result<(), Fail> {
     let lines =
         "phase\nlane 0\nnew 0 0 1\nend\nphase\nturn 0\nlane 0\nlen 0 0\nwho 0 0\nend\ndone\n";
-    let text = trace(rt.alloc(), [1, 1, 2, 1, 1, 4, 3], lines)?;
+    let text = trace(rt.alloc(), SMALL, lines)?;
     let gate = Holding {
         in_hand: AtomicU64::new(0),
         answered: AtomicU64::new(0),

@@ -1,10 +1,13 @@
 //! Devices that fail while an image is saved or resumed: what comes out, and which bytes the sink holds then.
 
 use crate::equal::same;
-use crate::saving::{FIRST, FIRST_IMAGE, bytes_of, ended, front, saved};
+use crate::saving::{FIRST_IMAGE, ended, front, saved};
 use bc_cli::Status;
 use bc_io::{Failed, MemSource, Source};
-use program_workshop::{Paper, SMALL, TWO_LANES, followed, run_on, run_over, trace};
+use program_workshop::{
+    CUT_PRINTED, CUT_SHORT, FIRST_PHASE, Paper, SMALL, TWO_LANES, bytes_of, followed, run_on,
+    run_over, trace,
+};
 use std::alloc::{AllocError, Global};
 use std::process::Abort;
 use std::test::Fail;
@@ -37,15 +40,6 @@ impl Source for Letters {
     }
 }
 
-/// Three phases of two lanes. In the third the chunk of lane 1 is full before its sixth operation, and what is reached then needs a
-/// superpage more than there are.
-const CUT_SHORT: &str =
-    "phase\nlane 0\nnew 0 0 0\nlane 1\nnew 1 0 1\nend\nphase\nlane 0\nwho 0 0\nlane 1\nlen 1 0\nend\nphase\nlane 0\nnew 0 1 1\nlane 1\nwho 1 0\nnew 1 1 127\nnew 1 1 127\nnew 1 1 127\nnew 1 1 127\nnew 1 1 127\nwho 1 1\nend\ndone\n";
-
-/// What they print from the third phase on: a text of 70 bytes, and the line of the need.
-const CUT_OUTPUT: &[u8; 84] =
-    b"phase 3\nlane 0\nobj 0.2\nlane 1\nobj 1.1\nobj 1.2\nobj 1.3\nobj 1.4\nobj 1.5\nout of heap 3\n";
-
 /// Shows that nothing is written, and no heap handed back, where the read of this number fails, of 16 bytes each.
 fn fails_at_read<R: Threads + Sync + Abort>(
     rt: &R,
@@ -69,7 +63,7 @@ fn failing(alloc: Global, number: u64) -> Paper {
 #[test]
 fn a_read_that_fails_before_an_image_is_saved_is_told(rt: HostRuntime) -> Result<(), Fail> {
     let alloc = rt.alloc();
-    let text = trace(alloc, SMALL, FIRST)?;
+    let text = trace(alloc, SMALL, FIRST_PHASE)?;
     for number in 1..=10 {
         fails_at_read(&rt, alloc, &["save", "1"], text.as_bytes(), number)?;
     }
@@ -80,7 +74,7 @@ fn a_read_that_fails_before_an_image_is_saved_is_told(rt: HostRuntime) -> Result
 #[test]
 fn a_read_that_fails_before_a_run_resumes_is_told(rt: HostRuntime) -> Result<(), Fail> {
     let alloc = rt.alloc();
-    let text = trace(alloc, SMALL, FIRST)?;
+    let text = trace(alloc, SMALL, FIRST_PHASE)?;
     let input = followed(alloc, &bytes_of(alloc, &FIRST_IMAGE)?, text.as_bytes())?;
     for number in 1..=20 {
         fails_at_read(&rt, alloc, &["resume"], &input, number)?;
@@ -96,7 +90,7 @@ fn a_read_that_fails_before_a_run_resumes_is_told(rt: HostRuntime) -> Result<(),
 #[test]
 fn a_write_that_fails_leaves_a_front_of_the_image(rt: HostRuntime) -> Result<(), Fail> {
     let alloc = rt.alloc();
-    let text = trace(alloc, SMALL, FIRST)?.into_bytes();
+    let text = trace(alloc, SMALL, FIRST_PHASE)?.into_bytes();
     let image = saved(&rt, alloc, 1, "1", &text)?;
     for number in 1..=20 {
         let mut source = MemSource::new(text.as_slice().to_vec(alloc)?, 4096, Vec::new(alloc));
@@ -154,6 +148,8 @@ fn a_write_that_fails_after_resuming_leaves_a_front_of_the_texts(
     let text = trace(alloc, TWO_LANES, CUT_SHORT)?.into_bytes();
     let image = saved(&rt, alloc, 2, "1", &text)?;
     let input = followed(alloc, &image, &text)?;
+    let [_first, _second, third] = CUT_PRINTED;
+    let output = third.as_bytes();
     for number in 1..=11 {
         let mut source = MemSource::new(input.as_slice().to_vec(alloc)?, 4096, Vec::new(alloc));
         let ran = run_on(&rt, alloc, &["resume"], &mut source, failing(alloc, number));
@@ -163,11 +159,11 @@ fn a_write_that_fails_after_resuming_leaves_a_front_of_the_texts(
         } else {
             before.saturating_sub(2)
         };
-        ended(&rt, &ran, Status::WriteFault, true, front(CUT_OUTPUT, held));
+        ended(&rt, &ran, Status::WriteFault, true, front(output, held));
     }
     let mut source = MemSource::new(input, 4096, Vec::new(alloc));
     let ran = run_on(&rt, alloc, &["resume"], &mut source, failing(alloc, 12));
-    ended(&rt, &ran, Status::OutOfHeap { need: 3 }, true, CUT_OUTPUT);
+    ended(&rt, &ran, Status::OutOfHeap { need: 3 }, true, output);
     Ok(())
 }
 

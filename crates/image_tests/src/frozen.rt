@@ -1,10 +1,12 @@
 //! Images with frozen domains.
 
 use crate::phases::goes_on_over;
-use crate::saving::{MAGIC, bytes_of, ended, saved};
+use crate::saving::{MAGIC, ended, saved};
 use bc_cli::Status;
 use bc_image::ImageCause;
-use program_workshop::{FROZEN, GIVEN, READ, TWO_LANES, followed, run_over, trace_in};
+use program_workshop::{
+    FOUR_DOMAINS, FROZEN, GIVEN, READ, TWO_LANES, bytes_of, followed, run_over, trace_in,
+};
 use std::test::Fail;
 
 #[test]
@@ -19,7 +21,7 @@ fn a_domain_that_was_frozen_stays_so_in_an_image(rt: HostRuntime) -> Result<(), 
 fn an_image_has_the_version_of_its_trace(rt: HostRuntime) -> Result<(), Fail> {
     let alloc = rt.alloc();
     for version in [1, 2, 3] {
-        let text = trace_in(alloc, version, [2, 4, 2, 2, 1, 4, 4], GIVEN)?;
+        let text = trace_in(alloc, version, FOUR_DOMAINS, GIVEN)?;
         let image = saved(&rt, alloc, 1, "1", text.as_bytes())?;
         let first = bytes_of(alloc, &[MAGIC, u64::from(version)])?;
         assert!(rt; image.as_slice().starts_with(&first));

@@ -4,8 +4,9 @@ use crate::equal::same;
 use crate::saving::{ended, saved};
 use bc_cli::Status;
 use program_workshop::{
-    SMALL, TWO_LANES, chain_printed, followed, followed_to_the_end, linked, links, repeated,
-    run_over, trace, trace_in, withheld_chain,
+    CUT_PRINTED, CUT_SHORT, FOUR_DOMAINS, GIVEN, ONE_SLOT_EACH, SMALL, TWO_LANES, chain_printed,
+    followed, followed_to_the_end, linked, links, repeated, run_over, trace, trace_in,
+    withheld_chain,
 };
 use std::alloc::{AllocError, Global};
 use std::process::Abort;
@@ -68,14 +69,12 @@ fn texts_after(alloc: Global, texts: &[&str], phases: usize) -> Result<String, A
 
 #[test]
 fn a_domain_that_was_given_away_stays_so_in_an_image(rt: HostRuntime) -> Result<(), Fail> {
-    let lines =
-        "phase\nlane 0\nnew 0 0 1\nnew 2 0 0\nlink 0 0 0 2 0\nlane 1\ngive 2 1\nend\nphase\nlane 0\nload 0 0 0 0 1\nwho 0 1\nlen 0 1\nwho 2 0\nlane 1\nwho 2 0\ngive 2 0\nend\nphase\nlane 0\nwho 0 1\nlane 1\nend\ndone\n";
     let texts = [
         "phase 1\nlane 0\nobj 0.1\nobj 0.2\nok\nlane 1\n",
         "phase 2\nlane 0\nref\nforeign\nforeign\nforeign\nlane 1\nobj 0.2\n",
         "phase 3\nlane 0\nobj 0.2\nlane 1\n",
     ];
-    goes_on(&rt, rt.alloc(), [2, 4, 2, 2, 1, 4, 4], lines, &texts)?;
+    goes_on(&rt, rt.alloc(), FOUR_DOMAINS, GIVEN, &texts)?;
     Ok(())
 }
 
@@ -107,7 +106,7 @@ fn births_go_on_where_the_image_ends(rt: HostRuntime) -> Result<(), Fail> {
         "phase 3\nlane 0\nlane 1\n",
         "phase 4\nlane 0\nlane 1\nobj 1.2\n",
     ];
-    goes_on(&rt, rt.alloc(), [2, 2, 1, 2, 1, 4, 4], lines, &texts)?;
+    goes_on(&rt, rt.alloc(), ONE_SLOT_EACH, lines, &texts)?;
     Ok(())
 }
 
@@ -214,13 +213,8 @@ fn too_small_after<R: Threads + Sync + Abort>(
 #[test]
 fn a_heap_that_is_too_small_is_so_after_resuming(rt: HostRuntime) -> Result<(), Fail> {
     let alloc = rt.alloc();
-    let lines =
-        "phase\nlane 0\nnew 0 0 0\nlane 1\nnew 1 0 1\nend\nphase\nlane 0\nwho 0 0\nlane 1\nlen 1 0\nend\nphase\nlane 0\nnew 0 1 1\nlane 1\nwho 1 0\nnew 1 1 127\nnew 1 1 127\nnew 1 1 127\nnew 1 1 127\nnew 1 1 127\nwho 1 1\nend\ndone\n";
-    let input = trace(alloc, TWO_LANES, lines)?;
-    let first = "phase 1\nlane 0\nobj 0.1\nlane 1\nobj 1.1\n";
-    let second = "phase 2\nlane 0\nobj 0.1\nlane 1\nlen 1\n";
-    let third =
-        "phase 3\nlane 0\nobj 0.2\nlane 1\nobj 1.1\nobj 1.2\nobj 1.3\nobj 1.4\nobj 1.5\nout of heap 3\n";
+    let input = trace(alloc, TWO_LANES, CUT_SHORT)?;
+    let [first, second, third] = CUT_PRINTED;
     let later = format!(in alloc; "{second}{third}")?;
     let whole = format!(in alloc; "{first}{later}")?;
     too_small_after(&rt, alloc, 0, input.as_bytes(), whole.as_bytes())?;
@@ -229,9 +223,10 @@ fn a_heap_that_is_too_small_is_so_after_resuming(rt: HostRuntime) -> Result<(), 
     Ok(())
 }
 
-/// A chain on twenty pages that is made while turns withhold frames.
 #[test]
-fn it_is_saved_after_its_phase_and_resumed(rt: HostRuntime) -> Result<(), Fail> {
+fn a_chain_made_while_turns_withhold_frames_is_saved_and_resumed(
+    rt: HostRuntime,
+) -> Result<(), Fail> {
     let alloc = rt.alloc();
     let output = chain_printed(alloc)?;
     let text = output.strip_suffix("done\n").unwrap_or("");

@@ -5,19 +5,18 @@ use bc_cli::{OpenGate, Status};
 use bc_image::ImageCause;
 use bc_io::MemSource;
 use bc_trace::Cause;
-use program_workshop::{Paper, Ran, SMALL, followed, run_between, run_over, trace, trace_in};
+use program_workshop::{
+    FIRST_PHASE, Paper, Ran, SMALL, bytes_of, followed, run_between, run_over, trace, trace_in,
+};
 use std::alloc::{AllocError, Global};
 use std::process::Abort;
 use std::test::Fail;
 use std::thread::Threads;
 
-/// A phase of one lane, which leaves a reference in the first slot and 7 in the second.
-pub const FIRST: &str = "phase\nlane 0\nnew 0 0 2\nset 0 0 1 7\nload 0 0 1 0 1\nend\ndone\n";
-
 /// The first eight letters of an image.
 pub const MAGIC: u64 = 0x6263_696D_6167_6531;
 
-/// The image after that phase, with the object in the first cell: the header, one phase done, holder, births, the slots, and a superpage of class
+/// The image after `FIRST_PHASE`, with the object in the first cell: the header, one phase done, holder, births, the slots, and a superpage of class
 /// 4 with one object of two fields.
 pub const FIRST_IMAGE: [u64; 20] = [
     MAGIC, 1, 1, 1, 2, 1, 1, 4, 3, 1, 0, 1, 2, 15, 4, 1, 0, 131_074, 0, 15,
@@ -25,15 +24,6 @@ pub const FIRST_IMAGE: [u64; 20] = [
 
 /// The image before any phase of the smallest heap with five frames.
 const OPENING_IMAGE: [u64; 15] = [MAGIC, 1, 1, 1, 2, 1, 1, 4, 5, 0, 0, 0, 0, 0, 0];
-
-/// The bytes of these items.
-pub fn bytes_of(alloc: Global, items: &[u64]) -> Result<Vec<u8>, AllocError> {
-    let mut bytes = Vec::new(alloc);
-    for item in items {
-        bytes.extend_from_slice(&item.to_be_bytes())?;
-    }
-    Ok(bytes)
-}
 
 /// The first of these bytes, so many.
 pub fn front(bytes: &[u8], length: usize) -> &[u8] {
@@ -80,7 +70,7 @@ fn the_image_of_the_first_trace_has_its_one_object_in_some_cell(
     rt: HostRuntime,
 ) -> Result<(), Fail> {
     let alloc = rt.alloc();
-    let text = trace(alloc, SMALL, FIRST)?;
+    let text = trace(alloc, SMALL, FIRST_PHASE)?;
     let image = saved(&rt, alloc, 1, "1", text.as_bytes())?;
     same(&rt, image.len(), 160);
     let mut found = false;
@@ -97,7 +87,7 @@ fn the_image_of_the_first_trace_has_its_one_object_in_some_cell(
 #[test]
 fn the_image_before_the_first_phase_has_nothing_but_the_setup(rt: HostRuntime) -> Result<(), Fail> {
     let alloc = rt.alloc();
-    let text = trace(alloc, [1, 1, 2, 1, 1, 4, 5], FIRST)?;
+    let text = trace(alloc, [1, 1, 2, 1, 1, 4, 5], FIRST_PHASE)?;
     let image = saved(&rt, alloc, 0, "1", text.as_bytes())?;
     let opening = bytes_of(alloc, &OPENING_IMAGE)?;
     same(&rt, image.as_slice(), opening.as_slice());
@@ -107,7 +97,7 @@ fn the_image_before_the_first_phase_has_nothing_but_the_setup(rt: HostRuntime) -
 #[test]
 fn resuming_behind_the_last_phase_prints_the_last_line_alone(rt: HostRuntime) -> Result<(), Fail> {
     let alloc = rt.alloc();
-    let text = trace(alloc, SMALL, FIRST)?;
+    let text = trace(alloc, SMALL, FIRST_PHASE)?;
     let input = followed(alloc, &bytes_of(alloc, &FIRST_IMAGE)?, text.as_bytes())?;
     let ran = run_over(&rt, alloc, &["resume"], input);
     ended(&rt, &ran, Status::Done, true, b"done\n");
@@ -200,7 +190,7 @@ fn a_birth_that_stands_twice_is_refused(rt: HostRuntime) -> Result<(), Fail> {
 fn no_more_phases_are_saved_than_the_trace_has(rt: HostRuntime) -> Result<(), Fail> {
     let alloc = rt.alloc();
     for phases in ["2", "4294967297", "9223372036854775807"] {
-        let text = trace(alloc, SMALL, FIRST)?.into_bytes();
+        let text = trace(alloc, SMALL, FIRST_PHASE)?.into_bytes();
         refuses(&rt, alloc, &["save", phases], text, Status::Mismatch);
     }
     let text = trace(alloc, SMALL, "done\n")?.into_bytes();
@@ -241,7 +231,7 @@ fn an_image_of_another_version_is_refused(rt: HostRuntime) -> Result<(), Fail> {
         let mut items = FIRST_IMAGE;
         items[1] = version;
         items[10] = holder;
-        let text = trace(alloc, SMALL, FIRST)?;
+        let text = trace(alloc, SMALL, FIRST_PHASE)?;
         let input = followed(alloc, &bytes_of(alloc, &items)?, text.as_bytes())?;
         refuses(&rt, alloc, &["resume"], input, Status::Mismatch);
     }
@@ -249,7 +239,7 @@ fn an_image_of_another_version_is_refused(rt: HostRuntime) -> Result<(), Fail> {
     for version in [1, 3] {
         let mut items = FIRST_IMAGE;
         items[1] = version;
-        let text = trace_in(alloc, 2, SMALL, FIRST)?;
+        let text = trace_in(alloc, 2, SMALL, FIRST_PHASE)?;
         let input = followed(alloc, &bytes_of(alloc, &items)?, text.as_bytes())?;
         refuses(&rt, alloc, &["resume"], input, Status::Mismatch);
     }
@@ -262,7 +252,7 @@ fn an_image_behind_the_end_of_the_trace_is_refused(rt: HostRuntime) -> Result<()
     for phases in [2, 4_294_967_295] {
         let mut items = FIRST_IMAGE;
         items[9] = phases;
-        let text = trace(alloc, SMALL, FIRST)?;
+        let text = trace(alloc, SMALL, FIRST_PHASE)?;
         let input = followed(alloc, &bytes_of(alloc, &items)?, text.as_bytes())?;
         refuses(&rt, alloc, &["resume"], input, Status::Mismatch);
     }
@@ -274,7 +264,7 @@ fn lines_are_counted_from_the_end_of_the_image(rt: HostRuntime) -> Result<(), Fa
     let alloc = rt.alloc();
     let image = bytes_of(alloc, &FIRST_IMAGE)?;
     let bad = |line, cause| Status::BadTrace { line, cause };
-    let frames = trace(alloc, [1, 1, 2, 1, 1, 4, 2], FIRST)?;
+    let frames = trace(alloc, [1, 1, 2, 1, 1, 4, 2], FIRST_PHASE)?;
     let input = followed(alloc, &image, frames.as_bytes())?;
     refuses(&rt, alloc, &["resume"], input, bad(8, Cause::Frames));
     refuses(&rt, alloc, &["resume"], image, bad(0, Cause::End));

@@ -3,7 +3,8 @@
 use crate::shown::{shows, shows_done};
 use bc_cli::Status;
 use program_workshop::{
-    SMALL, TWO_FRAMES, TWO_LANES, chain, chain_printed, linked, links, repeated, trace_in,
+    CUT_PRINTED, CUT_SHORT, SMALL, TWO_FRAMES, TWO_LANES, chain, chain_printed, linked, links,
+    repeated, trace_in,
 };
 use std::alloc::{AllocError, Global};
 use std::process::Abort;
@@ -87,11 +88,9 @@ fn a_chain_of_one_object_more_ends_for_want_of_a_second_superpage(
 fn an_end_in_the_third_phase_in_the_midst_of_lane_1_tells_the_replies_of_both_lanes_before_it(
     rt: HostRuntime,
 ) -> Result<(), Fail> {
-    let lines =
-        "phase\nlane 0\nnew 0 0 0\nlane 1\nnew 1 0 1\nend\nphase\nlane 0\nwho 0 0\nlane 1\nlen 1 0\nend\nphase\nlane 0\nnew 0 1 1\nlane 1\nwho 1 0\nnew 1 1 127\nnew 1 1 127\nnew 1 1 127\nnew 1 1 127\nnew 1 1 127\nwho 1 1\nend\ndone\n";
-    let output =
-        "phase 1\nlane 0\nobj 0.1\nlane 1\nobj 1.1\nphase 2\nlane 0\nobj 0.1\nlane 1\nlen 1\nphase 3\nlane 0\nobj 0.2\nlane 1\nobj 1.1\nobj 1.2\nobj 1.3\nobj 1.4\nobj 1.5\nout of heap 3\n";
-    shows_need(&rt, rt.alloc(), TWO_LANES, lines, output, 3)?;
+    let [first, second, third] = CUT_PRINTED;
+    let output = format!(in rt.alloc(); "{first}{second}{third}")?;
+    shows_need(&rt, rt.alloc(), TWO_LANES, CUT_SHORT, &output, 3)?;
     Ok(())
 }
 
@@ -134,22 +133,6 @@ fn cells_of_a_dropped_chain_make_room_for_another_size_class(rt: HostRuntime) ->
         "phase 1\nlane 0\nobj 0.1\nok\nok\n{replies}phase 2\nlane 0\nok\nobj 0.1201\nphase 3\nlane 0\nyes\nobj 0.1\nobj 0.1200\ndone\n"
     )?;
     shows_done(&rt, rt.alloc(), [1, 1, 4, 2, 1, 4, 9], &lines, &output)?;
-    Ok(())
-}
-
-#[test]
-fn a_chain_on_twenty_pages_is_followed_within_two_frames(rt: HostRuntime) -> Result<(), Fail> {
-    let news = links(rt.alloc(), 5000)?;
-    let loads = repeated(rt.alloc(), "load 0 1 0 0 1\n", 5000)?;
-    let lines = format!(in rt.alloc();
-        "phase\nturn 0\nlane 0\nnew 0 0 1\ncopy 0 0 0 1\n{news}copy 0 0 0 1\n{loads}end\ndone\n"
-    )?;
-    let replies = linked(rt.alloc(), 5000)?;
-    let references = repeated(rt.alloc(), "ref\n", 4999)?;
-    let output = format!(in rt.alloc();
-        "phase 1\nlane 0\nobj 0.1\nok\n{replies}ok\n{references}nil\ndone\n"
-    )?;
-    shows_done(&rt, rt.alloc(), TWO_FRAMES, &lines, &output)?;
     Ok(())
 }
 

@@ -1,4 +1,4 @@
-// Tests of `top` and of an engine's calls, by their public calls alone.
+// Tests of `top` and of an engine, by public calls alone.
 //
 // Nothing here is for others to call. Tests that hold threads at gates are in `gate_tests`, those of images in `image_tests`; how a trace is made
 // and run is in `program_workshop`.

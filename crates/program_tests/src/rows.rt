@@ -4,16 +4,14 @@ use crate::equal::same;
 use crate::shown::{shows, shows_done, shows_fault};
 use bc_cli::Status;
 use bc_trace::Cause;
-use program_workshop::{GIVEN, SMALL, repeated, trace};
+use program_workshop::{FIRST_PHASE, FIRST_PRINTED, FOUR_DOMAINS, GIVEN, SMALL, repeated, trace};
 use std::test::Fail;
 
 #[test]
 fn a_number_is_set_and_loaded_back(rt: HostRuntime) -> Result<(), Fail> {
-    let lines = "phase\nlane 0\nnew 0 0 2\nset 0 0 1 7\nload 0 0 1 0 1\nend\ndone\n";
-    let text = trace(rt.alloc(), SMALL, lines)?;
+    let text = trace(rt.alloc(), SMALL, FIRST_PHASE)?;
     same(&rt, text.len(), 137);
-    let output = "phase 1\nlane 0\nobj 0.1\nok\nnum 7\ndone\n";
-    shows_done(&rt, rt.alloc(), SMALL, lines, output)?;
+    shows_done(&rt, rt.alloc(), SMALL, FIRST_PHASE, FIRST_PRINTED)?;
     Ok(())
 }
 
@@ -58,7 +56,7 @@ const FOREIGN: &str =
 
 #[test]
 fn a_domain_that_was_given_away_is_foreign_to_its_old_holder(rt: HostRuntime) -> Result<(), Fail> {
-    shows_done(&rt, rt.alloc(), [2, 4, 2, 2, 1, 4, 4], GIVEN, FOREIGN)?;
+    shows_done(&rt, rt.alloc(), FOUR_DOMAINS, GIVEN, FOREIGN)?;
     Ok(())
 }
 

@@ -4,7 +4,7 @@ use crate::equal::same;
 use crate::shown::shows;
 use bc_cli::{OpenGate, Status};
 use bc_io::MemSource;
-use program_workshop::{Paper, SMALL, run_between, trace};
+use program_workshop::{FIRST_PHASE, FIRST_PRINTED, Paper, SMALL, run_between, trace};
 use std::alloc::{AllocError, Global};
 use std::process::Abort;
 use std::test::Fail;
@@ -51,16 +51,14 @@ fn run_prints_the_same_with_any_number_of_workers(rt: HostRuntime) -> Result<(),
     Ok(())
 }
 
-/// Shows what these words print over a trace of one phase.
+/// Shows what these words print over `FIRST_PHASE`.
 fn shows_first_path<R: Threads + Sync + Abort>(
     rt: &R,
     alloc: Global,
     words: &[&str],
 ) -> Result<(), AllocError> {
-    let lines = "phase\nlane 0\nnew 0 0 2\nset 0 0 1 7\nload 0 0 1 0 1\nend\ndone\n";
-    let input = trace(alloc, SMALL, lines)?.into_bytes();
-    let output = "phase 1\nlane 0\nobj 0.1\nok\nnum 7\ndone\n";
-    shows(rt, alloc, words, input, (Status::Done, true), output);
+    let input = trace(alloc, SMALL, FIRST_PHASE)?.into_bytes();
+    shows(rt, alloc, words, input, (Status::Done, true), FIRST_PRINTED);
     Ok(())
 }
 

@@ -5,7 +5,7 @@ use bc_heapview::ViewStatus;
 use bc_heapview::view::view;
 use bc_image::ImageCause;
 use bc_io::MemSource;
-use program_workshop::Paper;
+use program_workshop::{Paper, bytes_of};
 use std::alloc::{AllocError, Global};
 use std::process::Abort;
 use std::test::Fail;
@@ -66,15 +66,6 @@ const SECOND: [u64; 25] = [
     262_273,
     2,
 ];
-
-/// The bytes of these items.
-fn bytes_of(alloc: Global, items: &[u64]) -> Result<Vec<u8>, AllocError> {
-    let mut bytes = Vec::new(alloc);
-    for item in items {
-        bytes.extend_from_slice(&item.to_be_bytes())?;
-    }
-    Ok(bytes)
-}
 
 /// Shows that the words over these bytes end so, and what they write.
 fn shows<R: Abort>(
