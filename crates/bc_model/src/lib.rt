@@ -12,7 +12,7 @@
 // number of fields is in range, and every domain is a lane's or frozen.
 //
 // The theorem stands on `Flat::step`, `Flat::give`, `Flat::freeze` and `Flat::phase`: they do exactly what the definitions say.
-// Where memory runs out `step` does nothing; `phase` stops there, and promises nothing of the heap.
+// Where memory runs out `step` does nothing. A phase stops at that operation, and of the heap nothing is promised then.
 //
 // The laws in `laws` say what the definitions mean: lanes commute in any order, objects stay, a lane changes its own domains
 // alone, and each operation is refused for just the reasons that `specs/Refused.antt` names and has its answer everywhere

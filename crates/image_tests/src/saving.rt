@@ -16,8 +16,8 @@ use std::thread::Threads;
 /// The first eight letters of an image.
 pub const MAGIC: u64 = 0x6263_696D_6167_6531;
 
-/// The image after `FIRST_PHASE`, with the object in the first cell: the header, one phase done, holder, births, the slots, and a superpage of class
-/// 4 with one object of two fields.
+/// The image after `FIRST_PHASE`, with the object in the first cell: the header, one phase done, holder, births, the slots, and a superpage
+/// of class 4 with one object of two fields.
 pub const FIRST_IMAGE: [u64; 20] = [
     MAGIC, 1, 1, 1, 2, 1, 1, 4, 3, 1, 0, 1, 2, 15, 4, 1, 0, 131_074, 0, 15,
 ];

@@ -12,7 +12,7 @@ use std::test::Fail;
 
 /// A heap of one lane, one domain and two slots after a phase of `new 0 0 1`, `new 0 1 1`, `link 0 1 0 0 0`, `clear 0 0`: slot 1
 /// refers to object 0.2, whose field refers to 0.1.
-const SMALL: [u64; 22] = [
+const FIRST: [u64; 22] = [
     0x6263_696D_6167_6531,
     1,
     1,
@@ -93,7 +93,7 @@ fn view_counts(rt: HostRuntime) -> Result<(), Fail> {
         &rt,
         alloc,
         &["counts"],
-        bytes_of(alloc, &SMALL)?,
+        bytes_of(alloc, &FIRST)?,
         ViewStatus::Done,
         output,
     );
@@ -108,7 +108,7 @@ fn view_path(rt: HostRuntime) -> Result<(), Fail> {
         &rt,
         alloc,
         &["path", "0", "1"],
-        bytes_of(alloc, &SMALL)?,
+        bytes_of(alloc, &FIRST)?,
         ViewStatus::Done,
         output,
     );
@@ -123,7 +123,7 @@ fn view_root(rt: HostRuntime) -> Result<(), Fail> {
         &rt,
         alloc,
         &["path", "0", "2"],
-        bytes_of(alloc, &SMALL)?,
+        bytes_of(alloc, &FIRST)?,
         ViewStatus::Done,
         output,
     );
@@ -137,7 +137,7 @@ fn view_none(rt: HostRuntime) -> Result<(), Fail> {
         &rt,
         alloc,
         &["path", "0", "3"],
-        bytes_of(alloc, &SMALL)?,
+        bytes_of(alloc, &FIRST)?,
         ViewStatus::Done,
         "none\n",
     );
@@ -151,18 +151,18 @@ fn view_bad_input(rt: HostRuntime) -> Result<(), Fail> {
         &rt,
         alloc,
         &["path", "0", "0"],
-        bytes_of(alloc, &SMALL)?,
+        bytes_of(alloc, &FIRST)?,
         ViewStatus::BadWords,
         "",
     );
-    let mut longer = bytes_of(alloc, &SMALL)?;
+    let mut longer = bytes_of(alloc, &FIRST)?;
     longer.push(0)?;
     let rest = ViewStatus::BadImage {
         at: 176,
         cause: ImageCause::Rest,
     };
     shows(&rt, alloc, &["counts"], longer, rest, "");
-    let mut shorter = bytes_of(alloc, &SMALL)?;
+    let mut shorter = bytes_of(alloc, &FIRST)?;
     shorter.truncate(175);
     let short = ViewStatus::BadImage {
         at: 168,
@@ -200,7 +200,7 @@ fn a_way_may_begin_in_the_second_domain(rt: HostRuntime) -> Result<(), Fail> {
 #[test]
 fn a_frozen_domain_is_answered_too(rt: HostRuntime) -> Result<(), Fail> {
     let alloc = rt.alloc();
-    let mut items = SMALL;
+    let mut items = FIRST;
     items[1] = 2;
     items[10] = 1;
     let output = "root 0 1 0.2\nfield 0 0.1\n";
@@ -228,7 +228,7 @@ fn a_frozen_domain_is_answered_too(rt: HostRuntime) -> Result<(), Fail> {
 #[test]
 fn what_nothing_reaches_is_not_counted(rt: HostRuntime) -> Result<(), Fail> {
     let alloc = rt.alloc();
-    let mut items = SMALL;
+    let mut items = FIRST;
     // Slot 0 refers to 0.2 too.
     items[12] = 6;
     let output = "root 0 0 0.2\nfield 0 0.1\n";
@@ -309,7 +309,7 @@ fn words_that_are_no_question_are_refused_and_nothing_is_read(rt: HostRuntime) -
 #[test]
 fn a_read_that_fails_is_told(rt: HostRuntime) -> Result<(), Fail> {
     let alloc = rt.alloc();
-    let mut source = MemSource::new(bytes_of(alloc, &SMALL)?, 100, vec![in alloc; 2]?);
+    let mut source = MemSource::new(bytes_of(alloc, &FIRST)?, 100, vec![in alloc; 2]?);
     let mut sink = Paper::new(alloc);
     same(
         &rt,
