@@ -1,6 +1,6 @@
 -- In the theorem.
 -- How `resume` ends. The input is an image, and after it the text of a trace. What is said of the replay is said of every state that the
--- image pictures; there is one at least (`law_pictured` of bc_image).
+-- image pictures, and there is one at least.
 use Rattle.std.specs.Prelude.{◌≡◌, ℕ, ◌≤◌, List, length, Option}
 use Rattle.bc_engine.specs.Engines.{EngineView}
 use Rattle.bc_image.specs.Faults.{IsFault}
@@ -35,12 +35,13 @@ pub record GoesWith (l : ListingLists) (t : TraceLists) : Type 0 where
   pub setup : l.setup ≡ t.setup
   pub phases : l.phases ≤ length t.phases
 
--- an image and a trace were read that go together
+-- an image and a trace were read that go together, and the image pictures a state
 pub record ReadTogether (left left' : Option (List ℕ)) : Type 0 where
   pub listing : ListingLists
   pub trace : TraceLists
   pub read : ReadAsResumed left left' listing trace
   pub goes : GoesWith listing trace
+  pub pictured : (s : State) × IsState s × Pictures listing s
 
 -- of each course that may be resumed this holds: the phases of the trace after those that are done, from a state that the image
 -- pictures. Texts are numbered as in the trace

@@ -24,7 +24,9 @@ use Rattle.bc_superpages.specs.RootWords.{RootWords}
 use Rattle.bc_model.specs.declared.operations.Op.{Op}
 use Rattle.bc_model.specs.declared.operations.Reply.{Reply}
 use Rattle.bc_model.specs.declared.values.Holder.{Holder}
+use Rattle.bc_running.proofs.ShortLemmas.{short-for-more}
 use Rattle.bc_running.proofs.StartLemmas.{stands-emptied}
+use Rattle.bc_running.specs.Frames.{IsShortOfFrames}
 use Rattle.bc_running.specs.Running.{RunningView, RunningStands}
 use Rattle.bc_running.specs.RunningFacts.{running_of, IsSound}
 use Rattle.bc_whole_heap.specs.Running.{IsRunning}
@@ -142,13 +144,13 @@ ready-refused setup {r} {q} held same is sound ready =
 
 -- what came between a turn and its minor collection, as the call answers it
 pub may-collect : {few n : ℕ} {from to : Cursor} {lines : List (List ℕ)} {before after : List Answer} {r q : RunningView} {c d : Counters} (early : Bool) → few ≤ n
-    → (early ≡ true → (r.heap.space.free < few) × CollectsBeside lines r.heap from before q.heap to after)
+    → (early ≡ true → IsShortOfFrames r.heap.space few × CollectsBeside lines r.heap from before q.heap to after)
     → (early ≡ false → (q ≡ r) × (to ≡ from) × (after ≡ before)) → CountsEarly c early (left_since (length before) after) d → SameLanes r q → IsSound q
     → MayCollect n lines r from before q to after c d
 may-collect true le collected same counts lanes sound =
     let some = collected refl in
     let c = some.1 in
-    record { turns = c.turns; told = c.told; uses = c.uses; way = inr (omega (arith, some.0, le), c.collected, counts, c.marking, c.untried); lanes = lanes; sound = sound }
+    record { turns = c.turns; told = c.told; uses = c.uses; way = inr (short-for-more le some.0, c.collected, counts, c.marking, c.untried); lanes = lanes; sound = sound }
 may-collect {before = before} false le collected same counts lanes sound =
     let none = same refl in
     record {

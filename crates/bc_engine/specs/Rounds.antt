@@ -27,6 +27,7 @@ use Rattle.bc_engine.specs.Lanes.{of_lane, AreDone, EachFurther, HasMore, LanesW
 use Rattle.bc_engine.specs.Turns.{RanTurn, hints_of, line_of}
 use Rattle.bc_engine.specs.declared.counters.Counters.{Counters}
 use Rattle.bc_engine.specs.declared.engines.Ended.TheVariants.{OutOfHeap}
+use Rattle.bc_running.specs.Frames.{IsShortOfFrames}
 use Rattle.bc_running.specs.Running.{RunningView}
 use Rattle.bc_running.specs.RunningFacts.{IsSound, with_space}
 
@@ -61,7 +62,7 @@ pub record IsTooSmall (lanes : List (List Op)) (e : EngineView) (before : List (
 abbrev pub SameLanes : RunningView → RunningView → Type 0
 SameLanes r q = (q.holders ≡ r.holders) × (q.serials ≡ r.serials)
 
--- between a turn and its minor collection: nothing, or, where fewer frames were free than are wanted, a bookmark collection. That keeps
+-- between a turn and its minor collection: nothing, or, where frames were short of those that are wanted, a bookmark collection. That keeps
 -- what the heap stands for, no page is read by it, and it is counted. The answers of its mark turns came after those that there were, from one
 -- line on, and the pages left that they name
 pub record MayCollect (wanted : ℕ) (lines : List (List ℕ)) (r : RunningView) (from : Cursor) (before : List Answer) (q : RunningView) (to : Cursor) (after : List Answer) (c d : Counters) : Type 0 where
@@ -69,7 +70,7 @@ pub record MayCollect (wanted : ℕ) (lines : List (List ℕ)) (r : RunningView)
   pub told : List Answer
   pub uses : HasTold lines from before turns to after told
   pub way : ((q ≡ r) × (turns ≡ 0) × CountsEarly c false 0 d)
-      ⊎ ((r.heap.space.free < wanted) × IsCollectedHeap r.heap told q.heap × CountsEarly c true (left_since (length before) after) d
+      ⊎ (IsShortOfFrames r.heap.space wanted × IsCollectedHeap r.heap told q.heap × CountsEarly c true (left_since (length before) after) d
       × (m : HadMarking lines from.line r.heap turns told) × (m.begun ≡ m.settled))
   pub lanes : SameLanes r q
   pub sound : IsSound q

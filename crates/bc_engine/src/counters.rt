@@ -14,7 +14,7 @@ use bc_running::Running;
 /// How many pages, by whose step it was. Each number goes round at 2^64.
 #[derive(Clone, Copy, PartialEq, Eq, Debug)]
 pub struct PageCounts {
-    /// In turns, by lanes.
+    /// In turns, by lanes. Pages that leave where frames are withheld for a turn are counted here too.
     pub turns: u64,
     /// By operations of one lane alone: each lane does one after a minor collection, and some are done between phases.
     pub alone: u64,

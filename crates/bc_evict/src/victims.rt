@@ -10,8 +10,9 @@ use crate::rights::FrameRight;
 use crate::walking::{Kind, kind_of, take_any};
 use bc_pins::{Pins, Seat};
 
-/// Gives up a page that can be taken, going round from a hint, and keeps the right to its frame: without an allocated cell it becomes
-/// Absent, and else it is bookmarked and becomes Gone. Where none can be taken the word of each page was read, and nothing was taken.
+/// Gives up a page that can be taken, and keeps the right to its frame: without an allocated cell it becomes Absent, and else it is
+/// bookmarked and becomes Gone. It is looked for from the hint on, though no clause says which of those it is. Where none can be taken the
+/// word of each page was read, and nothing was taken.
 pub fn free_frame(pins: &Pins, seat: &mut Seat, hint: u32) -> Option<FrameRight>
     requires seat { IsAt pins.now seat.old }
     requires free { IsFree seat.old }

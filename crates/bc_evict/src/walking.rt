@@ -40,7 +40,7 @@ pub fn take_first(pins: &Pins, seat: &mut Seat, hint: u32, kind: Kind) -> Option
     None
 }
 
-/// Takes the first page that can be taken, whatever lies on it, going round from a hint on.
+/// Takes a page that can be taken, whatever lies on it. It is looked for from the hint on, though no clause says which of those it is.
 pub(crate) fn take_any(pins: &Pins, seat: &mut Seat, hint: u32) -> Option<Held>
     requires seat { IsAt pins.now seat.old }
     requires free { IsFree seat.old }

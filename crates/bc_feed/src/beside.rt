@@ -14,8 +14,7 @@ use std::thread::Threads;
 /// channel is for, or the feed is empty. The answer is that of `run`.
 ///
 /// `run` may take hints, and must not wait for one: where no thread can be made the feeder comes after it, and hands in none. A channel is
-/// for
-/// one run: the feeder hands in none once a run has ended.
+/// for one run: the feeder hands in none once a run has ended.
 pub fn feed_beside<R: Threads, W: Wait + Sync, F: Feed + Send, G: FnMut() -> B, B>(
     threads: &R,
     wait: &W,

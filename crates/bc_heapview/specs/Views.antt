@@ -10,6 +10,7 @@ use Rattle.bc_image.specs.declared.fault.ImageCause.{ImageCause}
 use Rattle.bc_image.specs.declared.fault.ImageCause.TheVariants.{Rest}
 use Rattle.bc_image.specs.declared.fault.ImageFault.{ImageFault}
 use Rattle.bc_io.specs.Told.{HasRoom, HeldGrows, IsPrefix, LeftFalls}
+use Rattle.bc_model.specs.Consistent.{IsState}
 use Rattle.bc_model.specs.Need.{IsNeed}
 use Rattle.bc_model.specs.State.{State}
 use Rattle.bc_model.specs.declared.values.Birth.{Birth}
@@ -80,30 +81,32 @@ abbrev pub AnswersQuestion : State → Question → List ℕ → Type 0
 AnswersQuestion s Counts text = IsCountsAnswer s text
 AnswersQuestion s (Path b) text = IsPathAnswer s b text
 
--- an image was read, and the answer about whatever state it pictures is written
+-- the text is the answer about whatever state the listing pictures
+abbrev pub IsAnswerAbout : ListingLists → Question → List ℕ → Type 0
+IsAnswerAbout l question text = (s : State) → PicturesObjects l s → AnswersQuestion s question text
+
+-- an image was read, which pictures a state, and the answer about whatever state it pictures is written
 pub record Viewed (question : Question) (left left' held held' : Option (List ℕ)) : Type 0 where
   pub listing : ListingLists
   pub read : ReadAsImage left left' listing
+  pub pictured : (s : State) × IsState s × PicturesObjects listing s
   pub text : List ℕ
-  pub answer : (s : State) → PicturesObjects listing s → AnswersQuestion s question text
+  pub answer : IsAnswerAbout listing question text
   pub written : HeldGrows held held' text
 
--- an image was read, and a prefix of the answer is written, which is not all of it
+-- an image was read, which pictures a state, and a prefix of the answer is written, which is not all of it
 pub record ViewedInPart (question : Question) (left left' held held' : Option (List ℕ)) : Type 0 where
   pub listing : ListingLists
   pub read : ReadAsImage left left' listing
+  pub pictured : (s : State) × IsState s × PicturesObjects listing s
   pub text : List ℕ
-  pub answer : (s : State) → PicturesObjects listing s → AnswersQuestion s question text
+  pub answer : IsAnswerAbout listing question text
   pub front : List ℕ
   pub prefix : IsPrefix front text
   pub not_all : length front < length text
   pub written : HeldGrows held held' front
 
 -- ---- the room that a sink needs
-
--- the text is the answer about whatever state the listing pictures
-abbrev pub IsAnswerAbout : ListingLists → Question → List ℕ → Type 0
-IsAnswerAbout l question text = (s : State) → PicturesObjects l s → AnswersQuestion s question text
 
 -- The most bytes of an answer about so many objects. Counts are 448 lines of at most 96 bytes and that of the need, of at most 26. A way is
 -- a line of 49 bytes and one of 39 for each object.

@@ -119,10 +119,10 @@ fn answer_to<K: Sink>(
     requires listing { IsImageListing listing.now }
     requires room { (text : List ℕ) → IsAnswerAbout listing.now question text → HasRoom (K.room sink.old) (length text) }
     ensures ending { IsAnsweredStatus result }
-    ensures done { result ≡ ViewStatus.Done → (text : List ℕ) × ((s : State) → PicturesObjects listing.now s → AnswersQuestion s question text)
+    ensures done { result ≡ ViewStatus.Done → (text : List ℕ) × IsAnswerAbout listing.now question text
         × HeldGrows (K.held sink.old) (K.held sink.new) text }
     ensures write_fault { result ≡ ViewStatus.WriteFault → Rose (K.faults sink.old) (K.faults sink.new)
-        × ((text : List ℕ) × ((s : State) → PicturesObjects listing.now s → AnswersQuestion s question text)
+        × ((text : List ℕ) × IsAnswerAbout listing.now question text
         × ((front : List ℕ) × IsPrefix front text × (length front < length text) × HeldGrows (K.held sink.old) (K.held sink.new) front)) }
     ensures firm { result ≢ ViewStatus.WriteFault → K.faults sink.new ≡ K.faults sink.old }
     ensures no_memory { result ≡ ViewStatus.NoMemory → sink.new ≡ sink.old }

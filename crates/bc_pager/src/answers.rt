@@ -2,9 +2,11 @@
 
 ghost use Rattle.std.specs.Prelude.{◌≡◌, ◌+◌, ◌≤◌, ◌++◌, length, vec_capacity};
 
-use crate::notices::MOST_NOTICES;
 use std::alloc::{AllocError, Global};
 use std::marker::Model;
+
+/// How many notices a list may have, and answers with their numbers: these have 32 bits.
+pub(crate) const MOST_NOTICES: usize = 1 << 32;
 
 /// The answer to a notice.
 #[derive(Clone, Copy, PartialEq, Eq, Debug)]

@@ -7,12 +7,10 @@ ghost use Rattle.bc_pins.specs.Calls.{slots_of, view_of, IsSameSeat};
 ghost use Rattle.bc_pager.specs.Claiming.{ClaimsNotice, IsSeatOf, Sharing, shared_by, unshared};
 ghost use Rattle.bc_pager.specs.Serving.{HintList, given_of, told_with, unlisted, untold};
 
+use crate::answers::MOST_NOTICES;
 use bc_pins::{Pins, Seat};
 use std::alloc::{AllocError, Global};
 use std::marker::Model;
-
-/// How many notices a list may have: their numbers have 32 bits.
-pub(crate) const MOST_NOTICES: usize = 1 << 32;
 
 /// A notice: a frame is wanted, and this page is where to begin.
 #[derive(Clone, Copy, PartialEq, Eq, Debug)]

@@ -2,7 +2,7 @@
 //
 // What is to be written is said by a listing of the heap (`heap_listing`): the objects of its space by ascending addresses, as memory
 // has them wherever their pages are, and the words of its root slots. `write` puts the image of that listing into a sink, item by
-// item. A page that is Gone is read back when its objects are due, in a frame for which another page may leave, so two frames beside
+// item. A page that is Gone is read back when its objects are due, in a frame for which one that was read may leave, so two frames beside
 // the nurseries' are enough. Objects and root slots stay as they are. Only where pages are may change, with the frames that are free, the
 // bookmarks and counters of pages that are Gone, and the count of pages that were read back. No memory is taken: items wait in 4,096 bytes
 // that lie on the stack.

@@ -14,7 +14,7 @@ ghost use Rattle.bc_superpages.specs.Layout.{superpages};
 ghost use Rattle.bc_superpages.specs.LayoutAt.{state_at};
 
 use bc_bits::contains;
-use bc_bookmarks::reload;
+use bc_bookmarks::reload_from;
 use bc_classes::cap;
 use bc_superpages::{Header, PageState, Space};
 
@@ -32,7 +32,7 @@ pub(crate) fn count_cells(header: &Header) -> u32
     count
 }
 
-/// Brings a page back, if it is Gone.
+/// Brings a page back, if it is Gone. Pages are read in the order of their numbers, so the first ones, which were read already, leave for it.
 pub(crate) fn open(space: &mut Space, page: u32)
     requires readable { CanBeRead space.old }
     requires page { page < 4 * superpages space.old }
@@ -42,7 +42,7 @@ pub(crate) fn open(space: &mut Space, page: u32)
 {
     space.facts();
     if space.state(page) == PageState::Gone {
-        let Ok(()) = reload(space, page) else {
+        let Ok(()) = reload_from(space, page, 0) else {
             unreachable!();
         };
     }

@@ -154,7 +154,7 @@ pub record RecordsContent (k : Key) (rec : ℕ → List ℕ) (v : View) : Type 0
   pub unfetched : (p : ℕ) → has_role v (owner k p) ≡ 0 → (IsFrozenIn k p → ⊥) → times p v.fetched ≡ 0
   pub in_hand : (h : Hand) → v.hand ≡ Some h → (h.page < pages_of k) × (h.content ≡ rec h.page)
 
--- Seen: a page that was read as Remembered is Remembered or in hand so, and an own page that was read as Gone is Gone until the seat
+-- Seen: a page that was read as Remembered, and not taken so, is Remembered or in hand so, and an own page that was read as Gone is Gone until the seat
 -- takes it. Own pages alone are noted as busy. A page that is in hand was read as Home or Remembered when it was taken, or was taken
 -- from Gone
 pub record Saw (k : Key) (s : Table) (v : View) : Type 0 where

@@ -26,9 +26,9 @@ pub fn law_held_pages()
 {}
 
 /// Law: at every moment of a mark turn a page in memory or in a seat's hands that has a gray cell, which is marked and not finished, has
-/// its queue bit set, or a seat owes it. That seat cleared the bit or won a mark there, and since then it neither set the bit, nor read it
-/// as set, nor settled, which takes that it saw nothing gray left there or the page Gone. This holds of every table that keeps its rule,
-/// and each does between any two steps, whoever makes them.
+/// its queue bit set, or a seat owes it. By the steps that a seat may make (`specs/Steps.antt`) it owes a page once it cleared the bit or won
+/// a mark there, until it sets the bit, reads it as set, or settles, which takes that it saw nothing gray left there or the page Gone. This
+/// holds of every table that keeps its rule, and each does between any two steps, whoever makes them.
 pub fn law_gray_pages()
     ensures owed { (k : Key) → (s : Table) → Ruled k s → k.lanes ≡ false → (a : ℕ) → IsGrayCell k s a → IsResident s (page_of a) → 0 < queued_bit k s (page_of a) + total (λ (v : View). times (page_of a) v.owed) s.views }
 {}

@@ -17,7 +17,7 @@
 // - A page is in one view's hands where its word says Held, and in none else (`law_held_pages`).
 // - A page whose record refers to a nursery is remembered.
 // - What was read as Remembered stays so. An own page that was read as Gone is Gone until it is taken. What was read as Absent, Remembered
-//   or Gone isn't Home.
+//   or Gone isn't Home, unless it was taken from Gone since.
 // - A page that was read as Held was taken by somebody. An own page so read is in another's hands, or that one put it back, or made it Gone
 //   or Absent.
 // - A Gone page is summarised by the table's bookmark bits. Counters count Gone pages, and what is counted for those in hand.

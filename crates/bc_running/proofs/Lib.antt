@@ -24,3 +24,5 @@ pub mod StartLemmas
 pub mod UnaskedLemmas
 -- Frames are kept from pages of a heap that lanes run on.
 pub mod UnusedLemmas
+-- Frames that are short for some pages are short for more.
+pub mod ShortLemmas

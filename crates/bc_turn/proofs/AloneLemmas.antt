@@ -155,7 +155,7 @@ module _ (pins : Pins) (h : HeapView) (hs : List Holder) (hints : List ℕ) (sea
             let took = live-answered pins told more_told given more_given (length (map paged_of later)) live new (subst (λ (n : ℕ). IsLiveDealt pins n live) (sym (length-map later paged_of)) dealt) serves in (
               took.0,
               took.1,
-              answered (λ p. ⊥) (λ p content. ⊥) 0 (key_of pins) h.space t all hints kept after (map paged_of later) answers lived took.0 last (answers_of_live new) [] [] [] opened.opening closed before given_back moved all_are shared last_are took.2
+              answered (λ p. ⊥) (λ p content. ⊥) 0 (key_of pins) h.space t all hints kept after (map paged_of later) answers lived took.0 last (answers_of_live new) [] [] [] opened.opening opened.frames opened.unused closed before given_back moved all_are shared last_are took.2
                   (omega arith)
                   (λ p some. absurd (omega arith))
                   (declined-with-live pins told more_told given more_given later live new serves seats hints t answers (λ p. ⊥) closed given_back.long.states shared

@@ -1,6 +1,7 @@
 -- What a closed table makes of the pages that pagers' answers name, and of those that lanes moved.
-use Rattle.std.proofs.Common.{◌≡◌, ℕ, ◌+◌, ◌-◌, ◌*◌, ◌^◌, ◌<◌, ◌≤◌, ◌==◌, true, min, List, [], ◌∷◌, ◌++◌, length, inl, inr, refl, ap, sym, subst, ◌∙◌, arith}
+use Rattle.std.proofs.Common.{◌≡◌, ℕ, ◌+◌, ◌-◌, ◌*◌, ◌^◌, ◌<◌, ◌≤◌, ◌==◌, true, min, List, [], ◌∷◌, ◌++◌, length, replicate, inl, inr, refl, ap, sym, subst, ◌∙◌, arith}
 use Rattle.std.proofs.lemmas.Bool.{cases_lt}
+use Rattle.std.proofs.lemmas.List.{length-replicate}
 use Rattle.bc_bits.specs.Counting.{one_if}
 use Rattle.bc_pager.specs.Answering.{says_declined, says_discarded, says_evicted}
 use Rattle.bc_pager.specs.Placing.{AnsweredByPagers, Paged}
@@ -94,10 +95,10 @@ module _ (k : Key) (s t : Layout) (seats : List Seat) (opening : k.opening ≡ s
 
 -- the notices were answered beside the lanes
 pub answered : (IsLooked : ℕ → Type 0) (Had : ℕ → List ℕ → Type 0) (most : ℕ) (k : Key) (s t : Layout) (seats : List Seat) (hints : List ℕ) (kept after : List Answer) (pagers : List Paged) (told : List Answer) (lived : List Answer) (fed : List Notice) (live : List Answer) (live_told : List Answer) (fetched left emptied : List ℕ)
-    → k.opening ≡ s → Closed k seats t → IsLayout s → IsLayout t
+    → k.opening ≡ s → k.frames ≡ s.frames → length k.nursery ≡ s.nursery → Closed k seats t → IsLayout s → IsLayout t
     → AreMoved k seats (told ++ live_told) fetched left emptied → after ≡ kept ++ told → AnsweredByPagers k hints pagers told → live ≡ lived ++ live_told → AnsweredLive k (length pagers) fed live_told
     → length fetched ≤ most → ((p : ℕ) → 0 < times p fetched → IsLooked p) → (0 < total says_declined (told ++ live_told) → (p : ℕ) → state_at t.states p ≡ Home → IsLooked p) → ((p w b : ℕ) → 0 < total (λ (seat : Seat). puts_with k p w b (view_of seat).changed) seats → (content : List ℕ) × Had p content × (has_bit_of k p content w b ≡ true)) → AnsweredBeside IsLooked Had most s hints kept after t lived fed live
-answered IsLooked Had most k s t seats hints kept after pagers told lived fed live live_told fetched left emptied opening closed before layout moved is shared live_is lives once own declined put =
+answered IsLooked Had most k s t seats hints kept after pagers told lived fed live live_told fetched left emptied opening frames unused closed before layout moved is shared live_is lives once own declined put =
     let none : (p : ℕ) → pages_of k ≤ p → (total (says_evicted p) (told ++ live_told) ≡ 0) × (total (says_discarded p) (told ++ live_told) ≡ 0) =
     λ p far.
     let others = told-none k hints pagers told shared p far in
@@ -112,6 +113,8 @@ answered IsLooked Had most k s t seats hints kept after pagers told lived fed li
     record {
       key = k;
       opening = opening;
+      frames = frames;
+      unused = unused;
       pagers = pagers;
       told = told;
       kept = is;
@@ -149,11 +152,13 @@ no-hints (h ∷ hints) none = absurd (omega arith)
 -- where there are no notices and no more may come, none is answered
 pub answered-none : (IsLooked : ℕ → Type 0) (Had : ℕ → List ℕ → Type 0) (s : Layout) (hints : List ℕ) (kept lived : List Answer) → s.reads < 2 ^ 64 → length hints ≡ 0 → AnsweredBeside IsLooked Had 0 s hints kept kept s lived [] lived
 answered-none IsLooked Had s hints kept lived small none =
-    let k : Key = record no_key { opening = s } in
+    let k : Key = record no_key { opening = s; frames = s.frames; nursery = replicate s.nursery 0 } in
     let lives = live-absent k 0 in
     record {
       key = k;
       opening = refl;
+      frames = refl;
+      unused = length-replicate s.nursery 0;
       pagers = [];
       told = [];
       kept = append-nil kept;
@@ -180,6 +185,8 @@ pub answered-lanes : (IsLooked : ℕ → Type 0) (Had : ℕ → List ℕ → Typ
 answered-lanes IsLooked Had most s hints kept after t lived fed live is = record {
   key = is.key;
   opening = is.opening;
+  frames = is.frames;
+  unused = is.unused;
   pagers = is.pagers;
   told = is.told;
   kept = is.kept;

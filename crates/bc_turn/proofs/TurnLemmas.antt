@@ -419,7 +419,7 @@ module _ (hs : List Holder) (lanes : List (List Op)) (h : HeapView) (serials : L
                   took.0,
                   took.1,
                   answered Looked Had (tried_in_turn lanes (lists_of before) told) (key_of pins) h.space t whole-list hints kept all (map paged_of later) answers lived took.0 last (answers_of_live new_live) (gathered (λ s. (view_of s).fetched) back) (gathered (λ s. (view_of s).left) back) (gathered (λ s. (view_of s).emptied) back)
-                      set.opened.opening closed set.layout given moved all_are shared last_are took.2
+                      set.opened.opening set.opened.frames set.opened.unused closed set.layout given moved all_are shared last_are took.2
                       (few-fetched pins h hs serials lanes (lists_of before) busy (turn_at d runs) (seat_at d runs) (turn_at d new) (seat_at d new) (begun d) (all-ran d) back through table-later back-lanes seats-are back-pagers told home.replies each-fits)
                       (own-fetched pins h hs serials lanes (lists_of before) busy (turn_at d runs) (seat_at d runs) (turn_at d new) (seat_at d new) (begun d) (all-ran d) back through table-later back-lanes seats-are back-pagers told home.replies each-fits)
                       (declined-with-live pins taken_old taken_new since_old since_new later turn.live new_live serves back hints t answers Looked closed given.long.states shared

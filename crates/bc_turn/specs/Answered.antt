@@ -62,6 +62,9 @@ pub record AnsweredLive (k : Key) (number : ℕ) (fed : List Notice) (told : Lis
 pub record AnsweredBeside (IsLooked : ℕ → Type 0) (Had : ℕ → List ℕ → Type 0) (most : ℕ) (s : Layout) (hints : List ℕ) (before after : List Answer) (t : Layout) (lived : List Answer) (fed : List Notice) (live : List Answer) : Type 0 where
   pub key : Key
   pub opening : key.opening ≡ s
+  -- no more pages may be in memory than the space has frames for them (`law_frames_in_use`)
+  pub frames : key.frames ≡ s.frames
+  pub unused : length key.nursery ≡ s.nursery
   -- what each pager claimed, answered and read
   pub pagers : List Paged
   pub told : List Answer

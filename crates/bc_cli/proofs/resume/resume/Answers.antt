@@ -1,4 +1,5 @@
 use Rattle.std.proofs.Common.{◌≡◌, inl, inr, subst, sym}
+use Rattle.bc_image.proofs.Pictured.{some-state}
 use Rattle.bc_replay.proofs.Bytes.{may_give-whole, told_or_no_memory}
 use Rattle.bc_cli.proofs.Resuming.{complete-resumed, need-resumed, same-resumed}
 use Rattle.bc_cli.proofs.resume.resume.Goals as goal
@@ -11,25 +12,25 @@ resume_trace-requires-clause-room g c κs within =
 pub returns-in-Ok-clause-done : goal.returns-in-Ok-clause-done
 returns-in-Ok-clause-done g c = λ e.
     let found = c.in-Ok.ensures.found in
-    record { found = record { listing = c.in-Ok.found.listing; trace = c.in-Ok.found.trace; read = found.0; goes = found.1 }; ending = c.resume_trace.ensures.done e }
+    record { found = record { listing = c.in-Ok.found.listing; trace = c.in-Ok.found.trace; read = found.0; goes = found.1; pictured = some-state _ found.0.image.listing }; ending = c.resume_trace.ensures.done e }
 
 pub returns-in-Ok-clause-write_fault : goal.returns-in-Ok-clause-write_fault
 returns-in-Ok-clause-write_fault g c = λ e.
     let found = c.in-Ok.ensures.found in
     let fault = c.resume_trace.ensures.write_fault e in
-    (fault.0, record { found = record { listing = c.in-Ok.found.listing; trace = c.in-Ok.found.trace; read = found.0; goes = found.1 }; ending = fault.1 })
+    (fault.0, record { found = record { listing = c.in-Ok.found.listing; trace = c.in-Ok.found.trace; read = found.0; goes = found.1; pictured = some-state _ found.0.image.listing }; ending = fault.1 })
 
 pub returns-in-Ok-clause-out_of_heap : goal.returns-in-Ok-clause-out_of_heap
 returns-in-Ok-clause-out_of_heap g c =
     let found = c.in-Ok.ensures.found in
-    need-resumed _ _ _ _ _ _ (record { listing = c.in-Ok.found.listing; trace = c.in-Ok.found.trace; read = found.0; goes = found.1 }) c.resume_trace.ensures.out_of_heap
+    need-resumed _ _ _ _ _ _ (record { listing = c.in-Ok.found.listing; trace = c.in-Ok.found.trace; read = found.0; goes = found.1; pictured = some-state _ found.0.image.listing }) c.resume_trace.ensures.out_of_heap
 
 pub returns-in-Ok-clause-no_memory : goal.returns-in-Ok-clause-no_memory
 returns-in-Ok-clause-no_memory g c = λ e.
     let found = c.in-Ok.ensures.found in
     elim (c.resume_trace.ensures.no_memory e) [
       | inl same ↦ inl same
-      | inr stops ↦ inr (record { found = record { listing = c.in-Ok.found.listing; trace = c.in-Ok.found.trace; read = found.0; goes = found.1 }; ending = stops })
+      | inr stops ↦ inr (record { found = record { listing = c.in-Ok.found.listing; trace = c.in-Ok.found.trace; read = found.0; goes = found.1; pictured = some-state _ found.0.image.listing }; ending = stops })
     ]
 
 pub returns-in-Ok-clause-complete : goal.returns-in-Ok-clause-complete

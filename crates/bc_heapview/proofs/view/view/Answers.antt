@@ -1,4 +1,5 @@
 use Rattle.std.proofs.Common.{rules, ◌≡◌, ◌∙◌, sym, ap, subst, arith}
+use Rattle.bc_image.proofs.Pictured.{some-objects}
 use Rattle.bc_heapview.specs.Questions.{IsQuestionOf}
 use Rattle.bc_heapview.specs.Views.{Viewed, ViewedInPart}
 use Rattle.bc_heapview.specs.declared.question.Question.{Question}
@@ -24,6 +25,7 @@ returns-in-Ok-read_image-clause-done g c = λ question is e.
     (c.in-Ok.ensures.the_one question is) (record {
       listing = c.in-Ok-read_image.listing;
       read = c.in-Ok-read_image.ensures.found;
+      pictured = some-objects _ c.in-Ok-read_image.ensures.found.image.listing;
       text = d.0;
       answer = d.1;
       written = d.2;
@@ -39,6 +41,7 @@ returns-in-Ok-read_image-clause-write_fault g c = λ question is e.
           (c.in-Ok.ensures.the_one question is) (record {
             listing = c.in-Ok-read_image.listing;
             read = c.in-Ok-read_image.ensures.found;
+            pictured = some-objects _ c.in-Ok-read_image.ensures.found.image.listing;
             text = d.0;
             answer = d.1;
             front = d.2.0;

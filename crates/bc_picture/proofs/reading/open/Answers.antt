@@ -5,8 +5,8 @@ use Rattle.bc_bookmarks.proofs.MovingLemmas.{MovesPages-none}
 use Rattle.bc_picture.proofs.ReadLemmas.{makes-room, is-here, home-here}
 use Rattle.bc_picture.proofs.reading.open.Goals as goal
 
-pub reload-requires-clause-targets : goal.reload-requires-clause-targets
-reload-requires-clause-targets c = λ p _ _. c.requires.readable.names p
+pub reload_from-requires-clause-targets : goal.reload_from-requires-clause-targets
+reload_from-requires-clause-targets c = λ p _ _. c.requires.readable.names p
 
 pub unreachable-requires : goal.unreachable-requires
 unreachable-requires c = c.in_default.ensures.finds (makes-room c.args.space.now c.requires.readable)
