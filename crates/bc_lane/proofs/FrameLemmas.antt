@@ -8,7 +8,7 @@ use Rattle.bc_evict.specs.Reloading.{HasReloaded}
 use Rattle.bc_evict.specs.Victims.{FindsNoVictim, HasFreed, IsPassed}
 use Rattle.bc_frames.specs.Places.{one_more}
 use Rattle.bc_lane.specs.Shown.{IsFrozenPage, IsOwnPage, MayReadPage, ShowsPages}
-use Rattle.bc_lane.specs.Turns.{FindsNoFrameAtAll, FindsNoFrameFor, HasFrame, IsRefusedFrozen, IsRefusedOwn, IsRefusedPage, IsSameLane, ReadsFrozenGone, ReadsFrozenHeld, ReadsFrozenMoved, ReadsHeld, ReadsOn, ShowsNoFrame}
+use Rattle.bc_lane.specs.Turns.{FindsNoFrameAtAll, FindsNoFrameFor, HasFrame, IsRefusedFrozen, IsRefusedOwn, IsRefusedPage, IsSameLane, ReadsFrozenGone, ReadsFrozenHeld, ReadsFrozenMoved, ReadsHeld, ReadsOn, ShowsNoFrame, full_reads}
 use Rattle.bc_lane.specs.declared.stops.Stop.{Stop}
 use Rattle.bc_lane.proofs.HandLemmas.{off-page, refused-looks, same-worker, then-worker}
 use Rattle.bc_lane.proofs.ReloadLemmas.{HasFetched, HasFetchedFrozen, besides, shows-besides, shows-fetched, shows-fetched_frozen}
@@ -26,7 +26,7 @@ use Rattle.bc_pins.specs.Steps.{both_slots}
 use Rattle.bc_pins.specs.Totals.{times}
 use Rattle.bc_pins.specs.Views.{entries, has_role, opened_content, opened_word, reads_at, reads_of, record_of, state_word}
 use Rattle.bc_pins.proofs.LogLemmas.{reads-append, times-reads}
-use Rattle.bc_pins.proofs.TotalLemmas.{one_other}
+use Rattle.bc_pins.proofs.TotalLemmas.{one_other, one_same}
 use Rattle.bc_superpages.specs.declared.headers.PageState.{PageState}
 use Rattle.bc_superpages.specs.declared.headers.PageState.TheVariants as state
 use Rattle.bc_superpages.specs.Layout.{Layout}
@@ -45,6 +45,7 @@ claimed-frame v w frame c = record {
       omega arith;
   far = λ p past. (ap (λ (x : View). times p x.left) c.view, ap (λ (x : View). times p x.emptied) c.view);
   few = (let left = ap (λ (x : View). length x.left) c.view in let emptied = ap (λ (x : View). length x.emptied) c.view in omega arith);
+  full = λ word lt. let left = ap (λ (x : View). length x.left) c.view in let emptied = ap (λ (x : View). length x.emptied) c.view in omega arith;
 }
 
 -- none was free, and a page left for its frame
@@ -92,6 +93,14 @@ module _ (v u w : View) (frame : ℕ) (lanes : v.about.lanes ≡ true) (c : Find
         | inr one ↦ let a = ap (λ (l : List ℕ). length l) one.0 in let b = ap (λ (l : List ℕ). length l) one.1 in omega arith
       ]
 
+  full : (word : ℕ) → word < frame_words v.about → length w.left + length w.emptied ≤ full_reads v.about word looks + (length v.left + length v.emptied)
+  full word lt =
+      let both = times-reads all_bits (frame_at v.about word) f.looks c.looks in
+      let once = ap (times all_bits) (c.each word lt) in
+      let one = one_same all_bits in
+      let most = few in
+      omega arith
+
   far : (p : ℕ) → pages_of v.about ≤ p → (times p w.left ≡ times p v.left) × (times p w.emptied ≡ times p v.emptied)
   far p past =
       let past_u = subst (λ (k : Key). pages_of k ≤ p) (sym (ap (λ (x : View). x.about) c.view)) past in
@@ -112,6 +121,7 @@ module _ (v u w : View) (frame : ℕ) (lanes : v.about.lanes ≡ true) (c : Find
     given = given;
     far = far;
     few = few;
+    full = full;
   }
 
 -- or no page could leave
@@ -191,6 +201,7 @@ none-found-reads v w a = record {
       let fetched = ap (λ (x : View). length x.fetched) a.view in
       omega arith
       );
+  full = λ word lt. let left = ap (λ (x : View). length x.left) a.view in let emptied = ap (λ (x : View). length x.emptied) a.view in omega arith;
 }
 
 pub none-found-shows : (v w : View) (end : ℕ) (s : Layout) → FindsNoFrameAtAll v w → ShowsPages v None end s → ShowsPages w None end s
@@ -404,6 +415,12 @@ module _ (v u : View) (seat : Seat) (page frame : ℕ) (held : Held) (f : HasFra
         let fetched = ap (λ (x : View). length x.fetched) is-now in
         omega arith
         );
+    full = λ word lt.
+        let given = f.full word lt in
+        let left = ap (λ (x : View). length x.left) is-now in
+        let emptied = ap (λ (x : View). length x.emptied) is-now in
+        let both = times-reads all_bits (frame_at v.about word) r.looks f.looks in
+        omega arith;
   }
 
 -- a box was opened, and counted

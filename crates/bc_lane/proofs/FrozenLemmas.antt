@@ -45,6 +45,7 @@ looks-reads v looks none = record {
   returned = λ q more. absurd (omega arith);
   far = λ q past. (refl, refl, refl);
   few = omega arith;
+  full = λ word lt. omega arith;
 }
 
 looks-passes : (v : View) (looks : List (ℕ × ℕ)) (q : ℕ) → times 1 (reads_at q looks) ≡ 0 → PassesBy v (having_looked v looks) q

@@ -4,7 +4,8 @@ use Rattle.std.proofs.lemmas.Bool.{cases_eq, cases_lt, lt-ltb}
 use Rattle.bc_bits.specs.Counting.{one_if}
 use Rattle.bc_lane.specs.Doing.{tried_from}
 use Rattle.bc_lane.specs.Shown.{HasPage, IsFrozenPage, IsOwnPage, MayReadPage, ShowsFrozen, ShowsHeld, ShowsPages}
-use Rattle.bc_lane.specs.Turns.{HasInHand, IsLaidDown, IsNobodysPage, IsFrozenOrOwn, IsSameLane, ReadLast, ReadsFrozenHeld, ReadsHeld, ReadsOn, ReloadsUpTo}
+use Rattle.bc_evict.specs.Claiming.{all_bits}
+use Rattle.bc_lane.specs.Turns.{HasInHand, IsLaidDown, IsNobodysPage, IsFrozenOrOwn, IsSameLane, ReadLast, ReadsFrozenHeld, ReadsHeld, ReadsOn, ReloadsUpTo, full_reads}
 use Rattle.bc_lane.proofs.PageLemmas.{held-in, owns-page, recorded-else, shows-back, shows-given, shows-read, shows-taken, shows-taken_frozen}
 use Rattle.bc_pins.specs.declared.holding.Held.{Held}
 use Rattle.bc_pins.specs.declared.key.Role.{Role}
@@ -18,7 +19,7 @@ use Rattle.bc_pins.specs.declared.views.Hand.{Hand}
 use Rattle.bc_pins.specs.declared.views.View.{View}
 use Rattle.bc_pins.specs.Calls.{Grasps, HoldsPage, IsAt, IsFree, IsSameSeat, IsSameWorker, IsTakeRefused, MayPut, put_back, refusal_word, tried, view_of}
 use Rattle.bc_pins.specs.Contents.{IsBarePage}
-use Rattle.bc_pins.specs.Key.{Key, owner, page_at, pages_of, role_number}
+use Rattle.bc_pins.specs.Key.{Key, frame_at, frame_words, owner, page_at, pages_of, role_number}
 use Rattle.bc_pins.specs.Steps.{Takes, both_slots, gripping, having_read, owns}
 use Rattle.bc_pins.specs.Totals.{times}
 use Rattle.bc_pins.specs.Views.{entries, has_role, reads_at}
@@ -95,6 +96,7 @@ none-reads v = record {
   returned = λ q more. absurd (omega arith);
   far = λ q past. (refl, refl, refl);
   few = omega arith;
+  full = λ word lt. omega arith;
 }
 
 pub then-reads : (u v w : View) → ReadsOn u v → ReadsOn v w → ReadsOn u w
@@ -125,6 +127,12 @@ then-reads u v w x y = record {
       let two = y.far q (subst (λ (k : Key). pages_of k ≤ q) (sym about) past) in
       (two.0 ∙ one.0, two.1 ∙ one.1, two.2 ∙ one.2);
   few = (let one = x.few in let two = y.few in omega arith);
+  full = λ word lt.
+      let one = x.full word lt in
+      let two = y.full word (subst (λ (k : Key). word < frame_words k) (sym about) lt) in
+      let same = ap (λ (k : Key). full_reads k word y.more) about in
+      let all = times-reads all_bits (frame_at u.about word) y.more x.more in
+      omega arith;
 }
   where
     about : v.about ≡ u.about
@@ -153,6 +161,7 @@ reads-word v page found may = record {
   returned = λ q more. absurd (omega arith);
   far = λ q past. (refl, refl, refl);
   few = omega arith;
+  full = λ word lt. omega arith;
 }
 
 -- a page was taken
@@ -200,6 +209,7 @@ gripping-reads v page remembered homed may = record {
   returned = λ q more. absurd (omega arith);
   far = λ q past. (refl, refl, refl);
   few = omega arith;
+  full = λ word lt. omega arith;
 }
 
 pub taken-reads : (v : View) (seat : Seat) (page : ℕ) (held : Held) → Grasps (tried v page Work held.remembered) seat page held → MayReadPage v page → ReadsOn v (view_of seat)
@@ -349,6 +359,7 @@ put-reads seat w held has may e =
       returned = λ q more. put-returned v held q may more;
       far = λ q past. (refl, refl, refl);
       few = omega arith;
+      full = λ word lt. omega arith;
     })
 
 pub put-laid : (v w : View) (held : Held) → w ≡ put_back v held → IsLaidDown v w

@@ -226,8 +226,12 @@ pub record FindsNoFrameFor (v w : View) (page : ℕ) : Type 0 where
   pub none : FindsNoFrameAtAll ready w
   pub noted : 0 < times page w.gone
 
+-- how often a frame word was read as full, with no clear bit: none of its frames was free
+abbrev pub full_reads : Key → ℕ → List (ℕ × ℕ) → ℕ
+full_reads k word looks = times all_bits (reads_of (frame_at k word) looks)
+
 -- a seat read on, took and put back pages of the table, reloaded pages that were Gone, own ones and those of frozen domains, and made
--- pages Gone or Absent for their frames, no more than it reloaded. A page of another lane's it made Gone or Absent as often as it read it
+-- pages Gone or Absent for their frames, no more than it reloaded, and no more than it read any frame word as full. A page of another lane's it made Gone or Absent as often as it read it
 -- as Home, and none such it reloaded; and none that isn't its own it put back as Remembered or recorded. It has the rights to frames that
 -- it had, counted no superpage, and returned no page but those of frozen domains
 pub record ReadsOn (v w : View) : Type 0 where
@@ -242,6 +246,7 @@ pub record ReadsOn (v w : View) : Type 0 where
   pub returned : (page : ℕ) → times page v.returned < times page w.returned → IsFrozenPage v page
   pub far : (page : ℕ) → pages_of v.about ≤ page → (times page w.left ≡ times page v.left) × (times page w.emptied ≡ times page v.emptied) × (times page w.fetched ≡ times page v.fetched)
   pub few : (length w.left + length w.emptied) + length v.fetched ≤ length w.fetched + (length v.left + length v.emptied)
+  pub full : (word : ℕ) → word < frame_words v.about → length w.left + length w.emptied ≤ full_reads v.about word more + (length v.left + length v.emptied)
 
 -- a seat reloaded no more pages than so many
 abbrev pub ReloadsUpTo : ℕ → View → View → Type 0
@@ -267,7 +272,8 @@ abbrev pub PutsBack : View → Option Held → View → Type 0
 PutsBack v hand w = (page : ℕ) → (content : List ℕ) → IsPutBack page content w.changed → IsPutBack page content v.changed ⊎ IsInHandAs hand page content
 
 -- a seat has the right to this frame and to no other, which it claimed, or for which it made one page Gone or Absent, the one that it
--- read as Home. What it knew to be Gone it knows still, and nothing else changed that the view says
+-- read as Home, once it had read each frame word as full. What it knew to be Gone it knows still, and nothing else changed that the view
+-- says
 pub record HasFrame (v : View) (frame : ℕ) (w : View) : Type 0 where
   pub looks : List (ℕ × ℕ)
   pub view : w ≡ record v { rights = frame ∷ []; seen = w.seen; gone = w.gone; busy = w.busy; read = looks ++ v.read; left = w.left; emptied = w.emptied; bookmarked = w.bookmarked }
@@ -275,6 +281,7 @@ pub record HasFrame (v : View) (frame : ℕ) (w : View) : Type 0 where
   pub given : (page : ℕ) → page < pages_of v.about → times page w.left + times page w.emptied ≡ times 1 (reads_at page looks) + (times page v.left + times page v.emptied)
   pub far : (page : ℕ) → pages_of v.about ≤ page → (times page w.left ≡ times page v.left) × (times page w.emptied ≡ times page v.emptied)
   pub few : length w.left + length w.emptied ≤ 1 + (length v.left + length v.emptied)
+  pub full : (word : ℕ) → word < frame_words v.about → length w.left + length w.emptied ≤ full_reads v.about word looks + (length v.left + length v.emptied)
 
 -- a call leaves the seat that seat, and it counts the boxes that it opens still, if it did
 pub record IsSameLane (old new : Seat) : Type 0 where
