@@ -15,9 +15,9 @@
 // for all commands.
 //
 // The replay keeps `HasRun`: after k phases the engine stands for the state that the plain heap has then, and the texts of
-// k phases are written. Each is written as soon as the phase has run, so memory for replies is that of a phase and not of
-// the run. Room for a phase's texts is taken before it runs, so that memory runs out before the phase, or is the engine's own,
-// and never in place of a need or of replies. A phase whose heap is too small gives its replies up to a cut of its lanes, and the
+// k phases are written. Each is written as soon as the phase has run, so memory for texts is that of the largest phase so far and not of
+// the run. Room for a phase's texts is taken before it runs, or was kept of a phase before, so that memory runs out before the phase, or is the
+// engine's own, and never in place of a need or of replies. A phase whose heap is too small gives its replies up to a cut of its lanes, and the
 // need of what is reached there. They are written, and the run ends. The heap goes back to the caller, who may look at what it stands
 // for.
 //

@@ -21,7 +21,7 @@ ghost use Rattle.bc_replay.specs.BetweenPhases.{HasRun, HasPhaseRoom, PhaseEnded
 ghost use Rattle.bc_replay.specs.Feeding.{AreAnswersTo, FedPhase, FedRun};
 
 use crate::status::Ending;
-use crate::texts::{put_texts, texts_room, write_texts};
+use crate::texts::{PhaseTexts, put_texts, texts_room, write_texts};
 use bc_engine::{Engine, PhaseError};
 use bc_gates::{Gate, Host};
 use bc_io::Sink;
@@ -87,20 +87,24 @@ where
     ensures told { AreAnswersTo (N.taken live.new) answers.new.items }
     ensures answers_room { vec_capacity answers.new ≡ vec_capacity answers.old }
 {
+    let mut kept = None;
     for index in 0..trace.phases.len() - first {
-        write_phase(host, engine, trace, first, index, live, answers, sink)?;
+        write_phase(
+            host, engine, trace, first, index, &mut kept, live, answers, sink,
+        )?;
     }
     Ok(())
 }
 
-/// Runs the phase of this index, counted from the first one, and writes its texts. Room for them is taken first, and once the phase has
-/// run nothing takes memory.
+/// Runs the phase of this index, counted from the first one, and writes its texts. Room for them is taken first, or was kept of a phase before, and
+/// once the phase has run nothing takes memory. Afterwards the room is kept for the next one.
 fn write_phase<R, G, N, K>(
     host: &Host<R, G>,
     engine: &mut Engine,
     trace: &Trace,
     first: usize,
     index: usize,
+    kept: &mut Option<PhaseTexts>,
     live: &mut N,
     answers: &mut Vec<Answer>,
     sink: &mut K,
@@ -151,7 +155,7 @@ where
     ensures told { AreAnswersTo (N.taken live.new) answers.new.items }
     ensures answers_room { vec_capacity answers.new ≡ vec_capacity answers.old }
 {
-    let mut texts = texts_room(host.alloc, &trace.phases[index + first])?;
+    let mut texts = texts_room(host.alloc, kept.take(), &trace.phases[index + first])?;
     let end = run_phase_with(host, engine, trace, first, index, live, answers)?;
     put_texts(
         &mut texts,
@@ -162,7 +166,10 @@ where
     write_texts(sink, &texts)?;
     match end.need {
         Some(need) => Err(Ending::OutOfHeap { need }),
-        None => Ok(()),
+        None => {
+            *kept = Some(texts);
+            Ok(())
+        }
     }
 }
 

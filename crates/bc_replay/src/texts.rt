@@ -17,6 +17,9 @@ use bc_model::{Op, Phase, Replies};
 use bc_trace::{need_room, phase_room, put_need, put_phase};
 use std::alloc::{AllocError, Global};
 
+/// The most bytes that the line of a need has.
+const NEED_LINE: usize = 33;
+
 /// What a phase prints, or room for it.
 #[derive(Drop)]
 pub(crate) struct PhaseTexts {
@@ -38,16 +41,41 @@ fn ops_in(lanes: &[Vec<Op>]) -> usize
     all
 }
 
-/// Room for the texts of a phase, of which nothing is known yet but its lanes and their operations. It does nothing but take
-/// memory.
-pub(crate) fn texts_room(alloc: Global, phase: &Phase) -> Result<PhaseTexts, AllocError>
+/// How many bytes the text of a phase of so many lanes may have, with so many replies in all: 27 are for its own line, and 26 for that of each lane and
+/// of each reply.
+fn text_bytes(lanes: usize, replies: usize) -> usize
+    requires lanes { lanes < 2 ^ 32 }
+    requires replies { replies < 2 ^ 32 }
+    ensures { result ≡ phase_bytes lanes replies }
+{
+    27 + 26 * (lanes + replies)
+}
+
+/// Room for the texts of a phase, of which nothing is known yet but its lanes and their operations: the room that was kept of a phase before, where
+/// there is one that is large enough, and else new room. What was kept is given back before. It does nothing but take memory.
+pub(crate) fn texts_room(
+    alloc: Global,
+    kept: Option<PhaseTexts>,
+    phase: &Phase,
+) -> Result<PhaseTexts, AllocError>
     requires lanes { length phase.now.lanes < 2 ^ 32 }
     requires ops { ops_of phase.now < 2 ^ 32 }
     ensures empty { IfOk result (λ texts. (texts.replies.items ≡ []) × (texts.need.items ≡ [])) }
     ensures replies { IfOk result (λ texts. phase_bytes (length phase.now.lanes) (ops_of phase.now) ≤ vec_capacity texts.replies) }
     ensures need { IfOk result (λ texts. need_bytes ≤ vec_capacity texts.need) }
 {
-    let replies = phase_room(alloc, phase.lanes.len(), ops_in(&phase.lanes))?;
+    let lanes = phase.lanes.len();
+    let ops = ops_in(&phase.lanes);
+    if let Some(mut texts) = kept {
+        if text_bytes(lanes, ops) <= texts.replies.capacity()
+            && NEED_LINE <= texts.need.capacity()
+        {
+            texts.replies.clear();
+            texts.need.clear();
+            return Ok(texts);
+        }
+    }
+    let replies = phase_room(alloc, lanes, ops)?;
     let need = need_room(alloc)?;
     Ok(PhaseTexts { replies, need })
 }

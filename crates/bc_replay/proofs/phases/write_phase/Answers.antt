@@ -44,19 +44,19 @@ returns-in-Some-clause-out_of_heap g c =
     let some : end.end.need ≡ Some need = cc (c.in-Some.is, told) in
     need-written _ _ _ _ _ _ _ _ _ _ _ _ some (end.ensures.ran s run) texts c.in_ok-write_texts.ensures.all held
 
-pub returns-clause-run : goal.returns-clause-run
-returns-clause-run g c =
+pub returns-in-None-clause-run : goal.returns-in-None-clause-run
+returns-in-None-clause-run g c =
     let end = c.in_ok-end in
     λ s run. ran-on _ _ _ _ _ _ c.in-None.is (end.ensures.ran s run)
 
-pub returns-clause-written : goal.returns-clause-written
-returns-clause-written g c =
+pub returns-in-None-clause-written : goal.returns-in-None-clause-written
+returns-in-None-clause-written g c =
     let end = c.in_ok-end in
     let texts : HasTexts (c.args.index + c.args.first) end.end.replies end.end.need c.put_texts.new.texts.replies.items c.put_texts.new.texts.need.items = record { told = c.put_texts.ensures.replies; line = c.put_texts.ensures.need } in
     λ s run start held. texts-written _ _ _ _ _ _ _ _ _ _ _ c.in-None.is (end.ensures.ran s run) texts c.in_ok-write_texts.ensures.all held
 
-pub returns-clause-filled : goal.returns-clause-filled
-returns-clause-filled g c =
+pub returns-in-None-clause-filled : goal.returns-in-None-clause-filled
+returns-in-None-clause-filled g c =
     let end = c.in_ok-end in
     let texts : HasTexts (c.args.index + c.args.first) end.end.replies end.end.need c.put_texts.new.texts.replies.items c.put_texts.new.texts.need.items = record { told = c.put_texts.ensures.replies; line = c.put_texts.ensures.need } in
     λ s run start room. texts-filled _ _ _ _ _ _ _ _ _ _ _ c.in-None.is (end.ensures.ran s run) texts c.in_ok-write_texts.ensures.filled room
@@ -75,5 +75,5 @@ returns-in_err-write_texts-clause-fed g c = let h = c.in_ok-end.ensures.fed in (
 pub returns-in-Some-clause-fed : goal.returns-in-Some-clause-fed
 returns-in-Some-clause-fed g c = let h = c.in_ok-end.ensures.fed in (h.0, h.1, inl (h.2, h.3))
 
-pub returns-clause-fed : goal.returns-clause-fed
-returns-clause-fed g c = let h = c.in_ok-end.ensures.fed in (h.0, h.1, inl (h.2, h.3))
+pub returns-in-None-clause-fed : goal.returns-in-None-clause-fed
+returns-in-None-clause-fed g c = let h = c.in_ok-end.ensures.fed in (h.0, h.1, inl (h.2, h.3))
