@@ -228,5 +228,8 @@ returns-in-None-clause-resume_longer g c = λ workers bytes is _ _ _.
 pub returns-in-Some-Save-clause-save_faulty : goal.returns-in-Some-Save-clause-save_faulty
 returns-in-Some-Save-clause-save_faulty g c = λ phases workers bytes f is told short fault firm. c.save.ensures.faulty bytes f told short fault firm
 
+pub returns-in-Some-Resume-clause-image_faulty : goal.returns-in-Some-Resume-clause-image_faulty
+returns-in-Some-Resume-clause-image_faulty g c = λ workers bytes f is told short fault firm. c.resume.ensures.image_faulty bytes f told short fault firm
+
 pub returns-in-Some-Resume-clause-resume_faulty : goal.returns-in-Some-Resume-clause-resume_faulty
 returns-in-Some-Resume-clause-resume_faulty g c = λ workers bytes rest l f is told short image fault firm. c.resume.ensures.faulty bytes rest l f told short image fault firm
