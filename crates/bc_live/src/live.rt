@@ -168,6 +168,11 @@ where
     ensures fed { (result.answers.items ≡ []) ⊎ ((asked : LiveWords) × IsLiveWords (map (λ w. w.now) words.now) asked
         × FedLive (S.left source.old) (S.left source.new) asked.workers result.taken.items result.answers.items result.heap) }
 
+    // At statuses 0, 5 and 6 a trace was read, and its replay took these hints and no others, and gave these answers, also where there are
+    // none. The heap that is handed back is the one that it left.
+    ensures fed_run { (asked : LiveWords) → IsLiveWords (map (λ w. w.now) words.now) asked → IfRan result.status
+        (FedLive (S.left source.old) (S.left source.new) asked.workers result.taken.items result.answers.items result.heap) }
+
     // At statuses 2, 3 and 4 the feed is untouched, and the four lists are empty.
     ensures untouched { IfUnread result.status ((feed.new ≡ feed.old)
         × (result.handed.items ≡ []) × (result.taken.items ≡ []) × (result.answers.items ≡ []) × (result.left.items ≡ [])) }
@@ -228,6 +233,7 @@ where
     ensures split { result.handed.items ≡ result.taken.items ++ result.left.items }
     ensures answers { length result.answers.items ≡ length result.taken.items }
     ensures fed { (result.answers.items ≡ []) ⊎ FedTrace trace.now asked.now.workers result.taken.items result.answers.items result.heap }
+    ensures fed_run { IfRan result.status (FedTrace trace.now asked.now.workers result.taken.items result.answers.items result.heap) }
 {
     let Ok((mut answers, channel, ends)) = room_for(host.alloc, asked.count as usize) else {
         return LiveOutcome::unfed(host.alloc, LiveStatus::NoMemory);
