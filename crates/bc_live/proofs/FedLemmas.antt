@@ -12,6 +12,7 @@ use Rattle.bc_live.specs.Feeds.{FedLive, FedTrace, RunsFed}
 use Rattle.bc_live.specs.Statuses.{IfRan}
 use Rattle.bc_live.specs.declared.status.LiveStatus.{LiveStatus}
 use Rattle.bc_live.specs.declared.status.LiveStatus.TheVariants.{Done, BadWords, BadTrace, TooLong, ReadFault, WriteFault, OutOfHeap, NoMemory}
+use Rattle.bc_live.specs.declared.words.LiveWords.{LiveWords}
 use Rattle.bc_pager.proofs.NumberLemmas.{numbered-long}
 
 -- what such a run took and answered, where there are as many answers as notices
@@ -46,3 +47,9 @@ fed-live ReadFault left left' t workers taken answers heap read h = tt
 fed-live WriteFault left left' t workers taken answers heap read h = record { trace = t; read = read; fed = h }
 fed-live (OutOfHeap need) left left' t workers taken answers heap read h = record { trace = t; read = read; fed = h }
 fed-live NoMemory left left' t workers taken answers heap read h = tt
+
+-- the same with the workers that were asked for
+pub fed-asked : (st : LiveStatus) (left left' : Option (List ℕ)) (t : TraceLists) (found asked : LiveWords) (taken : List ℕ) (answers : List Answer) (heap : Option EngineView)
+    → found ≡ asked → ReadAsTrace left left' t → IfRan st (FedTrace t found.workers taken answers heap) → IfRan st (FedLive left left' asked.workers taken answers heap)
+fed-asked st left left' t found asked taken answers heap same read h =
+    subst (λ (w : LiveWords). IfRan st (FedLive left left' w.workers taken answers heap)) same (fed-live st left left' t found.workers taken answers heap read h)

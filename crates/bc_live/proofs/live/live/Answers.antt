@@ -1,12 +1,9 @@
-use Rattle.std.proofs.Common.{rules, ◌≡◌, ◌+◌, ◌<◌, ◌≤◌, ◌∙◌, Some, length, sym, subst, arith}
+use Rattle.std.proofs.Common.{rules, ◌≡◌, ◌+◌, ◌<◌, ◌≤◌, length, sym, subst, arith}
 use Rattle.bc_replay.specs.Endings.{FitsThroughout}
 use Rattle.bc_replay.proofs.Bytes.{few-read, may_give-whole, told_or_no_memory}
 use Rattle.bc_replay.proofs.Finishing.{complete-ending}
-use Rattle.bc_live.specs.Feeds.{FedLive}
-use Rattle.bc_live.specs.Statuses.{IfRan}
 use Rattle.bc_live.specs.Words.{IsLiveWords}
-use Rattle.bc_live.specs.declared.words.LiveWords.{LiveWords}
-use Rattle.bc_live.proofs.FedLemmas.{fed-live}
+use Rattle.bc_live.proofs.FedLemmas.{fed-asked}
 use Rattle.bc_live.proofs.Asking.{given}
 use Rattle.bc_live.proofs.live.live.Goals as goal
 
@@ -41,5 +38,4 @@ returns-in-Ok-read_trace-clause-fed_run g c = λ asked is.
     let one = c.in-Ok.ensures.the_one asked is in
     let same : found ≡ asked = cc in
     let out = c.run_fed.result in
-    subst (λ (w : LiveWords). IfRan out.status (FedLive (g.S.Source.left c.args.source.now) (g.S.Source.left c.in-Ok-read_trace.new.source) w.workers out.taken.items out.answers.items out.heap)) same
-    (fed-live out.status _ _ c.in-Ok-read_trace.trace found.workers out.taken.items out.answers.items out.heap c.in-Ok-read_trace.ensures.found c.run_fed.ensures.fed_run)
+    fed-asked out.status _ _ c.in-Ok-read_trace.trace found asked out.taken.items out.answers.items out.heap same c.in-Ok-read_trace.ensures.found c.run_fed.ensures.fed_run
