@@ -231,9 +231,9 @@ abbrev pub full_reads : Key → ℕ → List (ℕ × ℕ) → ℕ
 full_reads k word looks = times all_bits (reads_of (frame_at k word) looks)
 
 -- a seat read on, took and put back pages of the table, reloaded pages that were Gone, own ones and those of frozen domains, and made
--- pages Gone or Absent for their frames, no more than it reloaded, and no more than it read any frame word as full. A page of another lane's it made Gone or Absent as often as it read it
--- as Home, and none such it reloaded; and none that isn't its own it put back as Remembered or recorded. It has the rights to frames that
--- it had, counted no superpage, and returned no page but those of frozen domains
+-- pages Gone or Absent for their frames, no more than it reloaded, and no more than it read any frame word as full. A page of another
+-- lane's it made Gone or Absent as often as it read it as Home, and none such it reloaded; and none that isn't its own it put back as
+-- Remembered or recorded. It has the rights to frames that it had, counted no superpage, and returned no page but those of frozen domains
 pub record ReadsOn (v w : View) : Type 0 where
   pub same : w ≡ record v { hand = w.hand; changed = w.changed; recorded = w.recorded; returned = w.returned; seen = w.seen; gone = w.gone; busy = w.busy; read = w.read; left = w.left; emptied = w.emptied; fetched = w.fetched; bookmarked = w.bookmarked }
   pub more : List (ℕ × ℕ)
@@ -272,8 +272,8 @@ abbrev pub PutsBack : View → Option Held → View → Type 0
 PutsBack v hand w = (page : ℕ) → (content : List ℕ) → IsPutBack page content w.changed → IsPutBack page content v.changed ⊎ IsInHandAs hand page content
 
 -- a seat has the right to this frame and to no other, which it claimed, or for which it made one page Gone or Absent, the one that it
--- read as Home, once it had read each frame word as full. What it knew to be Gone it knows still, and nothing else changed that the view
--- says
+-- read as Home; then it read each frame word as full besides. What it knew to be Gone it knows still, and nothing else changed that the
+-- view says
 pub record HasFrame (v : View) (frame : ℕ) (w : View) : Type 0 where
   pub looks : List (ℕ × ℕ)
   pub view : w ≡ record v { rights = frame ∷ []; seen = w.seen; gone = w.gone; busy = w.busy; read = looks ++ v.read; left = w.left; emptied = w.emptied; bookmarked = w.bookmarked }

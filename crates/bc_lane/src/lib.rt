@@ -21,9 +21,9 @@
 // with the lane's operations done, one after another, and answered so (`LaneRan`); and each stop has its cause (`WhyStopped`). It reloads
 // at most as many pages as it tries operations: those that it does, and the one that it stops at (`tried_from`). These heaps have none of
 // the lane's pages Gone: the first is the one that was opened, with every page back (`law_opening`). So a page that comes back, and one
-// that leaves, change nothing of them; what they change at the table `ReadsOn` says. No more pages leave than come back, and none before
-// each frame word was read as full, once for each that leaves. Pages and slots of frozen domains are in each of these heaps as at the
-// opening. What other lanes have isn't among the arguments, so lanes side by side are lanes one after another.
+// that leaves, change nothing of them; what they change at the table `ReadsOn` says. No more pages leave than come back, and no more than
+// any frame word was read as full. Pages and slots of frozen domains are in each of these heaps as at the opening. What other lanes have
+// isn't among the arguments, so lanes side by side are lanes one after another.
 #![tactic(auto)]
 
 mod attempting;
